@@ -16,7 +16,7 @@ use Rattle.jvm_model.specs.Profiling.Revealed.{mark_of}
 use Rattle.jvm_model.specs.Soundness.Sound.{IsFit}
 use Rattle.jvm_model.specs.Profiling.Targets.{operations_of}
 use Rattle.jvm_named.specs.Numbers.{AreNumbers}
-use Rattle.jvm_steps.specs.Codes.Prepared.{HasShortCodes}
+use Rattle.prepared_code.specs.Prepared.{HasShortCodes}
 use Rattle.call_revelation.specs.declared.reveal.Reveal.{Reveal}
 use Rattle.call_revelation.specs.Books.{IsBookOf}
 use Rattle.call_revelation.specs.CalledClasses.{AreHanded}

@@ -5,11 +5,11 @@ use Rattle.std.specs.Option.{option_and_then, option_map}
 use Rattle.const_pool.specs.declared.class.ClassFile.{ClassFile}
 use Rattle.code_model.specs.declared.instr.Instr.{Instr}
 use Rattle.jvm_model.specs.Codes.Lines.{operation_of}
-use Rattle.jvm_steps.specs.declared.prepare.line.Line.{Line}
+use Rattle.prepared_code.specs.declared.line.Line.{Line}
 use Rattle.jvm_model.specs.Basis.Data.{Operation, Within, Named, Athrow, Monitor, Newarray, Arraylength, LoadElement, StoreElement, LdcString, Local, Return}
 use Rattle.jvm_model.specs.Instructions.Naming.{New, Getfield, Putfield, Getstatic, Putstatic, Invokevirtual, Invokespecial, Invokestatic, Invokeinterface, Checkcast, Instanceof, Anewarray, Multianewarray, LdcClass}
 use Rattle.jvm_model.specs.Profiling.Revelation.{naming_in}
-use Rattle.jvm_steps.specs.Codes.Lines.{action_of, line_of, line_with, local_action}
+use Rattle.prepared_code.specs.Lines.{action_of, line_of, line_with, local_action}
 use Rattle.call_revelation.specs.Namings.{begins_by}
 
 -- what a line names that can begin methods is what its operation names

@@ -15,7 +15,7 @@ use Rattle.jvm_model.specs.Profiling.Revelation.{IsLoadOrder}
 use Rattle.jvm_model.specs.Soundness.Sound.{HasClass, IsFit}
 use Rattle.jvm_model.specs.Profiling.Swaps.{same_mark}
 use Rattle.jvm_model.specs.Profiling.Targets.{operations_of}
-use Rattle.jvm_steps.specs.Codes.Prepared.{HasShortCodes}
+use Rattle.prepared_code.specs.Prepared.{HasShortCodes}
 use Rattle.class_linker.specs.Linkers.{IsLoaded, LinkerView}
 use Rattle.jvm_named.specs.Numbers.{AreNumbers}
 use Rattle.call_revelation.specs.declared.reveal.Reveal.{Reveal}

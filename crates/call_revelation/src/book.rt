@@ -8,7 +8,7 @@ ghost use Rattle.jvm_model.specs.Basis.Programs.{class_named};
 ghost use Rattle.jvm_model.specs.Profiling.Revelation.{is_named, namings_of};
 ghost use Rattle.jvm_model.specs.Profiling.Targets.{operations_of};
 ghost use Rattle.jvm_named.specs.Names.{naming_view};
-ghost use Rattle.jvm_steps.specs.Codes.Prepared.{HasShortCodes};
+ghost use Rattle.prepared_code.specs.Prepared.{HasShortCodes};
 ghost use Rattle.call_revelation.specs.Books.{HasMore, IsBookOf, code_at, is_noted, naming_at};
 ghost use Rattle.call_revelation.specs.Books.{with_noted, with_use, with_uses};
 ghost use Rattle.call_revelation.specs.Tables.{list_at};

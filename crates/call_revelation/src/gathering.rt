@@ -11,7 +11,7 @@ ghost use Rattle.class_index.specs.Orders.{with_classes};
 ghost use Rattle.class_linker.specs.Linkers.{IsLoaded};
 ghost use Rattle.jvm_named.specs.Names.{naming_view};
 ghost use Rattle.jvm_named.specs.Numbers.{all_coded};
-ghost use Rattle.jvm_steps.specs.Codes.Prepared.{HasShortCodes};
+ghost use Rattle.prepared_code.specs.Prepared.{HasShortCodes};
 ghost use Rattle.call_revelation.specs.Lineages.{AreKnown, IsLineage};
 ghost use Rattle.call_revelation.specs.Tables.{Adds, IsRising};
 

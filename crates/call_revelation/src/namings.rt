@@ -6,7 +6,7 @@ ghost use Rattle.std.specs.Option.{option_and_then, option_map, option_to_list};
 ghost use Rattle.code_model.specs.Instructions.{end_of};
 ghost use Rattle.jvm_model.specs.Codes.Lines.{operation_of};
 ghost use Rattle.jvm_named.specs.Names.{naming_view};
-ghost use Rattle.jvm_steps.specs.Codes.Prepared.{HasShortCode, HasShortCodes};
+ghost use Rattle.prepared_code.specs.Prepared.{HasShortCode, HasShortCodes};
 ghost use Rattle.call_revelation.specs.Namings.{begins_by, code_namings, member_namings};
 ghost use Rattle.jvm_model.specs.Profiling.Revelation.{naming_in, namings_of};
 ghost use Rattle.jvm_model.specs.Profiling.Targets.{operations_of};
@@ -17,7 +17,7 @@ use const_pool::{ClassFile, Member};
 use jf_bytes::{NoMemory, Seq};
 use jvm_model::Program;
 use jvm_named::Naming;
-use jvm_steps::{Action, Line, code_of, line_of};
+use prepared_code::{Action, Line, code_of, line_of};
 use std::alloc::Global;
 
 /// What names something and can begin a method.

@@ -9,7 +9,7 @@ ghost use Rattle.jvm_model.specs.Profiling.Points.{is_empty};
 ghost use Rattle.jvm_model.specs.Basis.Programs.{numbered};
 ghost use Rattle.jvm_model.specs.Profiling.Revealed.{mark_of};
 ghost use Rattle.jvm_model.specs.Soundness.Sound.{IsFit};
-ghost use Rattle.jvm_steps.specs.Codes.Prepared.{HasShortCodes};
+ghost use Rattle.prepared_code.specs.Prepared.{HasShortCodes};
 ghost use Rattle.call_revelation.specs.Ranks.{flag_at};
 ghost use Rattle.call_revelation.specs.Reveals.{IsRevelation, mark_kept};
 ghost use Rattle.call_revelation.specs.Reveals.{nothing_revealed, now_of, owned_from};

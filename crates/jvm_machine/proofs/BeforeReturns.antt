@@ -23,9 +23,9 @@ use Rattle.jvm_model.specs.Turns.Told.{held_by, helds}
 use Rattle.jvm_steps.specs.declared.turns.hands.Gone.{Gone}
 use Rattle.jvm_steps.specs.declared.turns.hands.Hand.{Hand}
 use Rattle.jvm_steps.specs.Moves.Hands.{HasInHand, IsLeft, todo_of, versioned_in}
-use Rattle.jvm_steps.specs.Machine.Ready.{IsSoundEntryIn, IsSoundIn}
-use Rattle.jvm_steps.specs.Machine.Standing.{places_of}
-use Rattle.jvm_steps.specs.Codes.Versions.{Setup, mark_of, method_of}
+use Rattle.prepared_code.specs.Ready.{IsSoundEntryIn, IsSoundIn}
+use Rattle.prepared_code.specs.Standing.{places_of}
+use Rattle.prepared_code.specs.Versions.{Setup, mark_of, method_of}
 use Rattle.jvm_machine.specs.declared.advancing.Telling.TheVariants as telling
 use Rattle.jvm_machine.specs.Advances.{left_in}
 use Rattle.jvm_machine.specs.Machine.{IsMachine, IsSoundOnce, seen}

@@ -3,13 +3,13 @@ use Rattle.std.proofs.Common.{◌≡◌, ℕ, Bool, true, false, List, [], refl,
 use Rattle.std.specs.Prelude.{is_some, ◌&&◌, ◌||◌}
 use Rattle.jvm_model.specs.declared.state.State.{State}
 use Rattle.jvm_model.specs.Running.Run.{starts_with}
-use Rattle.jvm_steps.specs.declared.initialize.markers.Marker.{Marker}
+use Rattle.prepared_code.specs.declared.markers.Marker.{Marker}
 use Rattle.jvm_steps.specs.declared.turns.hands.Gone.{Gone}
 use Rattle.jvm_steps.specs.declared.turns.hands.Hand.{Hand}
-use Rattle.jvm_steps.specs.declared.turns.parts.Parts.{Parts}
-use Rattle.jvm_steps.specs.Codes.Versions.{Setup}
-use Rattle.jvm_steps.specs.Machine.Markers.{state_of}
-use Rattle.jvm_steps.specs.Machine.Ready.{IsSoundIn}
+use Rattle.prepared_code.specs.declared.parts.Parts.{Parts}
+use Rattle.prepared_code.specs.Versions.{Setup}
+use Rattle.prepared_code.specs.Markers.{state_of}
+use Rattle.prepared_code.specs.Ready.{IsSoundIn}
 use Rattle.jvm_steps.specs.Moves.Calmly.{GoesCalmly}
 use Rattle.jvm_steps.specs.Moves.Hands.{IsLeft}
 use Rattle.jvm_steps.specs.Moves.Turning.{loads_none}

@@ -10,12 +10,12 @@ use Rattle.jvm_model.specs.Turns.Told.{Held, helds}
 use Rattle.jvm_steps.specs.declared.turns.hands.Gone.{Gone}
 use Rattle.jvm_steps.specs.declared.turns.hands.Hand.{Hand}
 use Rattle.jvm_steps.specs.Moves.Hands.{HasGoneOn, HasInHand, IsLeft}
-use Rattle.jvm_steps.specs.Machine.Ready.{CanRun, IsSoundIn}
-use Rattle.jvm_steps.specs.Machine.Standing.{HasVersions, IsPinned}
-use Rattle.jvm_steps.specs.Codes.Tables.{Releases}
+use Rattle.prepared_code.specs.Ready.{CanRun, IsSoundIn}
+use Rattle.prepared_code.specs.Standing.{HasVersions, IsPinned}
+use Rattle.prepared_code.specs.Tables.{Releases}
 use Rattle.jvm_steps.specs.Moves.Turning.{loads_in, loads_none}
-use Rattle.jvm_steps.specs.Codes.Versions.{Setup, mark_of}
-use Rattle.jvm_steps.proofs.Moves.StandingSteps.{set-up-runs}
+use Rattle.prepared_code.specs.Versions.{Setup, mark_of}
+use Rattle.prepared_code.proofs.StandingSteps.{set-up-runs}
 use Rattle.jvm_machine.specs.Advances.{Stops, TellsClasses, broken_in, clock_in, left_in, taken_hand, taken_loads, taken_state}
 use Rattle.jvm_machine.specs.Machine.{IsMachine, IsSoundOnce, seen}
 use Rattle.jvm_machine.specs.View.{View, advanced, is_resting}

@@ -14,10 +14,10 @@ use Rattle.jvm_model.specs.Running.Run.{before}
 use Rattle.jvm_model.specs.Turns.Told.{helds}
 use Rattle.jvm_steps.specs.declared.turns.hands.Hand.{Hand}
 use Rattle.jvm_steps.specs.Machine.Before.{IsAtStart}
-use Rattle.jvm_steps.specs.Codes.Entries.{no_version, original_slot, original_version, original_versions, version_entry, version_in, version_of}
-use Rattle.jvm_steps.specs.Machine.Standing.{IsSetUp}
-use Rattle.jvm_steps.specs.Codes.Tables.{Version, Versions}
-use Rattle.jvm_steps.specs.Codes.Versions.{Setup, mark_of}
+use Rattle.prepared_code.specs.Entries.{no_version, original_slot, original_version, original_versions, version_entry, version_in, version_of}
+use Rattle.prepared_code.specs.Standing.{IsSetUp}
+use Rattle.prepared_code.specs.Tables.{Version, Versions}
+use Rattle.prepared_code.specs.Versions.{Setup, mark_of}
 use Rattle.jvm_machine.specs.Machine.{IsMachine, marks_of, seen}
 use Rattle.jvm_machine.specs.View.{View, made}
 

@@ -29,11 +29,11 @@ use Rattle.jvm_model.proofs.Turns.RestTells.{NoLoads, no-first, rest-no}
 use Rattle.jvm_steps.specs.declared.turns.hands.Gone.{Gone}
 use Rattle.jvm_steps.specs.declared.turns.hands.Hand.{Hand}
 use Rattle.jvm_steps.specs.Moves.Hands.{HasGoneOn, HasInHand, IsLeft, todo_of, versioned_in}
-use Rattle.jvm_steps.specs.Machine.Standing.{HasVersions, places_of}
-use Rattle.jvm_steps.specs.Codes.Tables.{Version}
+use Rattle.prepared_code.specs.Standing.{HasVersions, places_of}
+use Rattle.prepared_code.specs.Tables.{Version}
 use Rattle.jvm_steps.specs.Moves.Turning.{loads_in, loads_none}
-use Rattle.jvm_steps.specs.Codes.Versions.{Setup, current_of, mark_of, method_of, text_of}
-use Rattle.jvm_steps.proofs.Codes.VersionsAgree.{versions-agree}
+use Rattle.prepared_code.specs.Versions.{Setup, current_of, mark_of, method_of, text_of}
+use Rattle.prepared_code.proofs.VersionsAgree.{versions-agree}
 use Rattle.jvm_machine.specs.Advances.{left_in, passed_then, told_in}
 use Rattle.jvm_machine.specs.Machine.{Stands, marks_of, seen}
 use Rattle.jvm_machine.specs.View.{View, loads_next, next_stop, to_come}

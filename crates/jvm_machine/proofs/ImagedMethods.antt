@@ -43,11 +43,11 @@ use Rattle.jvm_model.proofs.Soundness.MoreEntries.{operation-more}
 use Rattle.jvm_model.proofs.Images.NumbersOfMethods.{place-behind}
 use Rattle.jvm_model.proofs.Soundness.PoolTexts.{have-texts, named-there}
 use Rattle.jvm_model.specs.Codes.ProgramPlaces.{HasClosedCodes}
-use Rattle.jvm_steps.specs.Codes.ClassVersions.{AreRising, FitsImage, class_version, homes_at, version_by}
-use Rattle.jvm_steps.specs.Codes.LaidMethods.{NamesClass}
-use Rattle.jvm_steps.specs.Codes.Prepared.{HasShortCode, HasShortCodes}
-use Rattle.jvm_steps.specs.Machine.Standing.{AreMethodImages, IsMethodImage}
-use Rattle.jvm_steps.proofs.Codes.MethodImages.{code-is}
+use Rattle.prepared_code.specs.ClassVersions.{AreRising, FitsImage, class_version, homes_at, version_by}
+use Rattle.prepared_code.specs.LaidMethods.{NamesClass}
+use Rattle.prepared_code.specs.Prepared.{HasShortCode, HasShortCodes}
+use Rattle.prepared_code.specs.Standing.{AreMethodImages, IsMethodImage}
+use Rattle.prepared_code.proofs.MethodImages.{code-is}
 use Rattle.jvm_machine.specs.Installs.{IsFormed, IsImageOf}
 use Rattle.jvm_machine.proofs.EntryMarks.{rewritten-pool, version-mark}
 use Rattle.jvm_machine.proofs.Fresh.{original-plain}

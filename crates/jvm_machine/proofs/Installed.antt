@@ -13,16 +13,16 @@ use Rattle.jvm_model.specs.Basis.Data.{World}
 use Rattle.jvm_model.specs.Running.Run.{turn}
 use Rattle.jvm_model.specs.Turns.Told.{helds}
 use Rattle.jvm_steps.specs.declared.turns.hands.Hand.{Hand}
-use Rattle.jvm_steps.specs.Codes.ClassVersions.{class_versions}
+use Rattle.prepared_code.specs.ClassVersions.{class_versions}
 use Rattle.jvm_steps.specs.Moves.Hands.{HasInHand}
-use Rattle.jvm_steps.specs.Machine.Ready.{IsKept}
-use Rattle.jvm_steps.specs.Machine.Standing.{IsOfProgram, IsPinned, places_of}
-use Rattle.jvm_steps.specs.Codes.Tables.{Adds, IsAdded, Version, Versions, version_at}
-use Rattle.jvm_steps.specs.Codes.Versions.{Setup, mark_of}
-use Rattle.jvm_steps.specs.Codes.VersionTexts.{homes_with}
-use Rattle.jvm_steps.proofs.Codes.ClassVersionLaws.{versions-of}
-use Rattle.jvm_steps.proofs.Moves.StandingSteps.{has-one}
-use Rattle.jvm_steps.proofs.Codes.VersionsRun.{count-added, same-added}
+use Rattle.prepared_code.specs.Ready.{IsKept}
+use Rattle.prepared_code.specs.Standing.{IsOfProgram, IsPinned, places_of}
+use Rattle.prepared_code.specs.Tables.{Adds, IsAdded, Version, Versions, version_at}
+use Rattle.prepared_code.specs.Versions.{Setup, mark_of}
+use Rattle.prepared_code.specs.VersionTexts.{homes_with}
+use Rattle.prepared_code.proofs.ClassVersionLaws.{versions-of}
+use Rattle.prepared_code.proofs.StandingSteps.{has-one}
+use Rattle.prepared_code.proofs.VersionsRun.{count-added, same-added}
 use Rattle.jvm_machine.specs.Installs.{IsFormed, IsImageOf, marks_over, with_class}
 use Rattle.jvm_machine.specs.Machine.{IsMachine, marks_of, seen}
 use Rattle.jvm_machine.specs.View.{View, is_resting, run_state}

@@ -19,11 +19,11 @@ use Rattle.jvm_model.specs.Turns.Told.{Held, helds}
 use Rattle.jvm_model.proofs.Turns.HandBegins.{hand-kept}
 use Rattle.jvm_steps.specs.declared.turns.hands.Hand.{Hand}
 use Rattle.jvm_steps.specs.Moves.Hands.{HasInHand, todo_of, versioned_in}
-use Rattle.jvm_steps.specs.Machine.Ready.{IsKept, IsSoundIn, RunsIn}
-use Rattle.jvm_steps.specs.Machine.Standing.{HasVersions, IsPinned, places_of}
-use Rattle.jvm_steps.specs.Codes.Tables.{Version, Versions, version_at}
-use Rattle.jvm_steps.specs.Codes.Versions.{Setup, mark_of, method_of}
-use Rattle.jvm_steps.proofs.Codes.VersionsRun.{kept-entries, kept-stands}
+use Rattle.prepared_code.specs.Ready.{IsKept, IsSoundIn, RunsIn}
+use Rattle.prepared_code.specs.Standing.{HasVersions, IsPinned, places_of}
+use Rattle.prepared_code.specs.Tables.{Version, Versions, version_at}
+use Rattle.prepared_code.specs.Versions.{Setup, mark_of, method_of}
+use Rattle.prepared_code.proofs.VersionsRun.{kept-entries, kept-stands}
 use Rattle.jvm_machine.specs.Machine.{IsSoundOnce, Stands}
 
 -- each frame runs a version that is held, or none that will ever be

@@ -25,12 +25,12 @@ use Rattle.jvm_model.proofs.Soundness.SoundRuns.{with-loaded-is}
 use Rattle.jvm_model.proofs.Soundness.SoundTextRuns.{at-goes}
 use Rattle.jvm_steps.specs.declared.turns.hands.Hand.{Hand}
 use Rattle.jvm_steps.specs.Moves.Hands.{HasInHand, todo_of, versioned_in}
-use Rattle.jvm_steps.specs.Machine.Ready.{IsSoundIn, RunsIn}
-use Rattle.jvm_steps.specs.Machine.Standing.{HasVersions, places_of}
+use Rattle.prepared_code.specs.Ready.{IsSoundIn, RunsIn}
+use Rattle.prepared_code.specs.Standing.{HasVersions, places_of}
 use Rattle.jvm_steps.specs.Moves.Turning.{loads_in}
-use Rattle.jvm_steps.specs.Codes.Versions.{Setup, mark_of, text_of}
-use Rattle.jvm_steps.proofs.Moves.StandingSteps.{set-up-runs}
-use Rattle.jvm_steps.proofs.Codes.VersionsRun.{step-stands}
+use Rattle.prepared_code.specs.Versions.{Setup, mark_of, text_of}
+use Rattle.prepared_code.proofs.StandingSteps.{set-up-runs}
+use Rattle.prepared_code.proofs.VersionsRun.{step-stands}
 use Rattle.jvm_machine.specs.Machine.{IsMachine, IsSoundOnce, Stands, seen}
 use Rattle.jvm_machine.specs.View.{View, is_resting, run_state}
 use Rattle.jvm_machine.proofs.Going.{in-hand-loads}

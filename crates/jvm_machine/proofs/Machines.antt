@@ -15,11 +15,11 @@ use Rattle.jvm_model.specs.Turns.Told.{Held, helds}
 use Rattle.jvm_steps.specs.declared.turns.hands.Gone.{Gone}
 use Rattle.jvm_steps.specs.declared.turns.hands.Hand.{Hand}
 use Rattle.jvm_steps.specs.Moves.Hands.{HasGoneOn, HasInHand, IsLeft}
-use Rattle.jvm_steps.specs.Machine.Ready.{IsSoundIn}
-use Rattle.jvm_steps.specs.Machine.Standing.{HasVersions, IsPinned}
-use Rattle.jvm_steps.specs.Codes.Tables.{Releases, Versions}
+use Rattle.prepared_code.specs.Ready.{IsSoundIn}
+use Rattle.prepared_code.specs.Standing.{HasVersions, IsPinned}
+use Rattle.prepared_code.specs.Tables.{Releases, Versions}
 use Rattle.jvm_steps.specs.Moves.Turning.{loads_in, loads_none}
-use Rattle.jvm_steps.specs.Codes.Versions.{Setup, mark_of}
+use Rattle.prepared_code.specs.Versions.{Setup, mark_of}
 use Rattle.jvm_machine.specs.Advances.{Stops, TellsClasses, clock_in, left_in, passed_then, taken_hand, taken_loads, taken_state, told_in}
 use Rattle.jvm_machine.specs.Machine.{IsMachine, IsSoundOnce, IsWhole, Stands, seen}
 use Rattle.jvm_machine.specs.View.{View, advanced, begun, is_resting, loads_next, next_stop}

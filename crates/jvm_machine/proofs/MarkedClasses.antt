@@ -19,14 +19,14 @@ use Rattle.jvm_model.specs.declared.program.Program.{Program}
 use Rattle.jvm_model.specs.Basis.Methods.{code_of, method_code}
 use Rattle.jvm_model.specs.Basis.Programs.{class_at, number_of_method, numbered, place_of_method}
 use Rattle.jvm_model.specs.Rewriting.StandsFor.{mark_at}
-use Rattle.jvm_steps.specs.Codes.ClassVersions.{alone, class_version, class_versions, homes_at, member_version, version_by, versions_from}
-use Rattle.jvm_steps.specs.Codes.Entries.{no_version, original_version, version_entry, version_in, version_of}
-use Rattle.jvm_steps.specs.Machine.Standing.{HasVersions, IsOfProgram}
-use Rattle.jvm_steps.specs.Codes.Tables.{Adds, IsAdded, Version, Versions, version_at}
-use Rattle.jvm_steps.specs.Codes.Versions.{Setup, current_of, mark_of}
-use Rattle.jvm_steps.specs.Codes.VersionTexts.{HasCurrent}
-use Rattle.jvm_steps.proofs.Codes.ClassVersionLaws.{place-of}
-use Rattle.jvm_steps.proofs.Moves.StandingSteps.{has-one}
+use Rattle.prepared_code.specs.ClassVersions.{alone, class_version, class_versions, homes_at, member_version, version_by, versions_from}
+use Rattle.prepared_code.specs.Entries.{no_version, original_version, version_entry, version_in, version_of}
+use Rattle.prepared_code.specs.Standing.{HasVersions, IsOfProgram}
+use Rattle.prepared_code.specs.Tables.{Adds, IsAdded, Version, Versions, version_at}
+use Rattle.prepared_code.specs.Versions.{Setup, current_of, mark_of}
+use Rattle.prepared_code.specs.VersionTexts.{HasCurrent}
+use Rattle.prepared_code.proofs.ClassVersionLaws.{place-of}
+use Rattle.prepared_code.proofs.StandingSteps.{has-one}
 use Rattle.jvm_machine.specs.Installs.{mark_over, marks_over}
 use Rattle.jvm_machine.specs.Machine.{marks_of}
 use Rattle.jvm_machine.proofs.Numbered.{method-there, number-of}

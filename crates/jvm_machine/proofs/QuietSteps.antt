@@ -19,15 +19,15 @@ use Rattle.jvm_model.proofs.Turns.RestStands.{rest-same_changes}
 use Rattle.jvm_model.proofs.Turns.RestTells.{no-first, rest-no}
 use Rattle.jvm_model.proofs.Turns.StepPausing.{step-paused}
 use Rattle.jvm_steps.specs.declared.turns.hands.Hand.{Hand}
-use Rattle.jvm_steps.specs.declared.initialize.markers.Marker.{Marker}
-use Rattle.jvm_steps.specs.declared.turns.parts.Parts.{Parts}
-use Rattle.jvm_steps.specs.Machine.Markers.{state_of}
+use Rattle.prepared_code.specs.declared.markers.Marker.{Marker}
+use Rattle.prepared_code.specs.declared.parts.Parts.{Parts}
+use Rattle.prepared_code.specs.Markers.{state_of}
 use Rattle.jvm_steps.specs.Instructions.Passing.{AreSilent, IsSilent, Passes as Silent, runs}
-use Rattle.jvm_steps.specs.Machine.Runs.{Leads, steps_from, steps_from-suc, steps_from-zero}
-use Rattle.jvm_steps.specs.Machine.Standing.{IsRunOf, places_of}
-use Rattle.jvm_steps.specs.Codes.Versions.{Setup, current_of, mark_of, method_of, text_of}
-use Rattle.jvm_steps.proofs.Moves.StandingSteps.{run-of-more}
-use Rattle.jvm_steps.proofs.Codes.VersionsAgree.{versions-agree}
+use Rattle.prepared_code.specs.Runs.{Leads, steps_from, steps_from-suc, steps_from-zero}
+use Rattle.prepared_code.specs.Standing.{IsRunOf, places_of}
+use Rattle.prepared_code.specs.Versions.{Setup, current_of, mark_of, method_of, text_of}
+use Rattle.prepared_code.proofs.StandingSteps.{run-of-more}
+use Rattle.prepared_code.proofs.VersionsAgree.{versions-agree}
 use Rattle.jvm_machine.specs.Machine.{IsMachine, IsTidy, Stands, marks_of, seen}
 use Rattle.jvm_machine.proofs.Going.{marks-same}
 use Rattle.jvm_machine.specs.Several.{Passes, more, none}

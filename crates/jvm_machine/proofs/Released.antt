@@ -11,13 +11,13 @@ use Rattle.jvm_model.specs.Basis.Data.{Turn}
 use Rattle.jvm_model.specs.Turns.Told.{Held, helds}
 use Rattle.jvm_steps.specs.declared.turns.hands.Hand.{Hand}
 use Rattle.jvm_steps.specs.Moves.Hands.{HasInHand}
-use Rattle.jvm_steps.specs.Machine.Ready.{IsKept, IsSoundIn}
-use Rattle.jvm_steps.specs.Machine.Standing.{HasVersions, IsPinned, places_of}
-use Rattle.jvm_steps.specs.Codes.Tables.{Releases, Version, Versions, version_at}
-use Rattle.jvm_steps.specs.Codes.Versions.{Setup, current_of, mark_of}
-use Rattle.jvm_steps.specs.Codes.VersionTexts.{HasCurrent, homes_left}
-use Rattle.jvm_steps.proofs.Moves.StandingSteps.{has-left}
-use Rattle.jvm_steps.proofs.Codes.VersionsRun.{same-left}
+use Rattle.prepared_code.specs.Ready.{IsKept, IsSoundIn}
+use Rattle.prepared_code.specs.Standing.{HasVersions, IsPinned, places_of}
+use Rattle.prepared_code.specs.Tables.{Releases, Version, Versions, version_at}
+use Rattle.prepared_code.specs.Versions.{Setup, current_of, mark_of}
+use Rattle.prepared_code.specs.VersionTexts.{HasCurrent, homes_left}
+use Rattle.prepared_code.proofs.StandingSteps.{has-left}
+use Rattle.prepared_code.proofs.VersionsRun.{same-left}
 use Rattle.jvm_machine.specs.Machine.{Stands, marks_of}
 use Rattle.jvm_machine.proofs.Kept.{AreKept, hand-stays, same-helds, sound-stays, stands-stays}
 

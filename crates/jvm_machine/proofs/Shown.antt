@@ -12,7 +12,7 @@ use Rattle.jvm_model.specs.Rewriting.StandsForRun.{at_homes, forgotten}
 use Rattle.jvm_model.specs.Turns.Told.{helds}
 use Rattle.jvm_model.proofs.Elsewhere.AppliesMoves.{live-moves}
 use Rattle.jvm_steps.specs.declared.turns.hands.Hand.{Hand}
-use Rattle.jvm_steps.specs.Codes.Versions.{Setup, mark_of, method_of}
+use Rattle.prepared_code.specs.Versions.{Setup, mark_of, method_of}
 use Rattle.jvm_machine.specs.Machine.{IsMachine, Stands, seen}
 use Rattle.jvm_machine.specs.Turns.{Ends}
 use Rattle.jvm_machine.specs.View.{View, begun, has_ended, is_resting, rested, run_state}

@@ -8,11 +8,11 @@ use Rattle.jvm_model.specs.declared.event.Mark.{Mark}
 use Rattle.jvm_model.specs.declared.state.Entry.{Entry}
 use Rattle.jvm_model.specs.Turns.Pauses.{begin_kind, told_at}
 use Rattle.jvm_model.specs.Turns.Told.{helds, held_by}
-use Rattle.jvm_steps.specs.declared.initialize.markers.Marker.{Marker}
-use Rattle.jvm_steps.specs.declared.turns.parts.Here.{Here}
-use Rattle.jvm_steps.specs.declared.turns.parts.Parts.{Parts}
-use Rattle.jvm_steps.specs.Machine.Markers.{above, beneath, initializing, stack_of, state_of}
-use Rattle.jvm_steps.specs.Machine.States.{active, frame_in, here_of}
+use Rattle.prepared_code.specs.declared.markers.Marker.{Marker}
+use Rattle.prepared_code.specs.declared.parts.Here.{Here}
+use Rattle.prepared_code.specs.declared.parts.Parts.{Parts}
+use Rattle.prepared_code.specs.Markers.{above, beneath, initializing, stack_of, state_of}
+use Rattle.prepared_code.specs.States.{active, frame_in, here_of}
 
 held-markers : (v : ℕ → Mark) (ms : List Marker) (rest : List Entry) → helds v (map initializing ms ++ rest) ≡ helds v rest
 held-markers v [] rest = refl

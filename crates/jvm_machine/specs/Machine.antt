@@ -12,10 +12,10 @@ use Rattle.jvm_steps.specs.declared.turns.hands.Hand.{Hand}
 use Rattle.jvm_steps.specs.Machine.Before.{IsAtStart}
 use Rattle.jvm_steps.specs.Moves.Hands.{HasInHand}
 use Rattle.jvm_steps.specs.Instructions.Passing.{runs}
-use Rattle.jvm_steps.specs.Machine.Ready.{IsSoundIn}
-use Rattle.jvm_steps.specs.Machine.Standing.{HasVersions, places_of}
-use Rattle.jvm_steps.specs.Codes.Tables.{Versions}
-use Rattle.jvm_steps.specs.Codes.Versions.{Setup, mark_of, method_of}
+use Rattle.prepared_code.specs.Ready.{IsSoundIn}
+use Rattle.prepared_code.specs.Standing.{HasVersions, places_of}
+use Rattle.prepared_code.specs.Tables.{Versions}
+use Rattle.prepared_code.specs.Versions.{Setup, mark_of, method_of}
 use Rattle.jvm_machine.specs.View.{View, is_resting, run_state}
 
 -- ---- what is seen

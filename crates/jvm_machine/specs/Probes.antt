@@ -21,7 +21,7 @@ use Rattle.jvm_model.specs.Basis.Programs.{code_of_method}
 use Rattle.jvm_model.specs.Turns.StepPauses.{is_return}
 use Rattle.jvm_model.specs.Turns.Told.{Held}
 use Rattle.jvm_model.specs.Rewriting.Versions.{IsVersion, probe_bytes}
-use Rattle.jvm_steps.specs.Machine.Standing.{places_of}
+use Rattle.prepared_code.specs.Standing.{places_of}
 use Rattle.jvm_machine.specs.declared.advancing.Telling.{Telling}
 use Rattle.jvm_machine.specs.declared.advancing.Telling.TheVariants as telling
 use Rattle.jvm_machine.specs.View.{View}

@@ -6,13 +6,14 @@ ghost use Rattle.jvm_model.specs.Turns.InHand.{behind_load};
 ghost use Rattle.jvm_model.specs.Running.Run.{main_loads, starts_with};
 ghost use Rattle.jvm_model.specs.Soundness.Sound.{IsFit};
 ghost use Rattle.jvm_steps.specs.Machine.Before.{IsAtStart};
-ghost use Rattle.jvm_steps.specs.Machine.Markers.{state_of};
+ghost use Rattle.prepared_code.specs.Markers.{state_of};
 ghost use Rattle.jvm_machine.specs.Advances.{clock_in, left_in};
 ghost use Rattle.jvm_machine.specs.Advances.{taken_hand, taken_loads, taken_state};
 
 use jf_bytes::{NoMemory, Seq, Stack};
 use jvm_model::{Due, Shared};
-use jvm_steps::{Gone, Hand, Marker, Originals, Parts, begin_start};
+use jvm_steps::{Gone, Hand, begin_start};
+use prepared_code::{Marker, Originals, Parts};
 use std::alloc::Global;
 
 /// What a call of `step` has come to: classes were loaded, or something is due, or nothing more of the step.

@@ -7,8 +7,8 @@ ghost use Rattle.jvm_model.specs.Turns.Pauses.{told_at};
 ghost use Rattle.jvm_model.specs.Codes.ProgramPlaces.{HasClosedCodes};
 ghost use Rattle.jvm_model.specs.Soundness.Sound.{IsFit};
 ghost use Rattle.jvm_steps.specs.Machine.Before.{CanStart};
-ghost use Rattle.jvm_steps.specs.Codes.Prepared.{FitsOriginals};
-ghost use Rattle.jvm_steps.specs.Machine.Runs.{IsCalm};
+ghost use Rattle.prepared_code.specs.Prepared.{FitsOriginals};
+ghost use Rattle.prepared_code.specs.Runs.{IsCalm};
 ghost use Rattle.jvm_machine.specs.declared.advancing.Telling.TheVariants as telling;
 ghost use Rattle.jvm_machine.specs.Advances.{Advances, Stops, broken_in};
 ghost use Rattle.jvm_machine.specs.Installs.{IsFormed, IsImageOf, with_class};
@@ -25,7 +25,8 @@ use code_model::Homes;
 use const_pool::ClassFile;
 use jf_bytes::{NoMemory, Seq, Stack};
 use jvm_model::{Due, Ending, Event, Mark, Program};
-use jvm_steps::{Hand, Marker, Originals, Parts, go, go_calmly, parts_before, pass_steps};
+use jvm_steps::{Hand, go, go_calmly, parts_before, pass_steps};
+use prepared_code::{Marker, Originals, Parts};
 use std::alloc::Global;
 use std::marker::Model;
 
@@ -44,7 +45,7 @@ pub struct Vm {
 }
 
 impl Model for Vm {
-    ghost use Rattle.jvm_steps.specs.Machine.Markers.{state_of};
+    ghost use Rattle.prepared_code.specs.Markers.{state_of};
     ghost use Rattle.jvm_machine.specs.Machine.{Keeps, viewed};
     ghost use Rattle.jvm_machine.specs.View.{View};
 
@@ -66,7 +67,7 @@ fn is_settled(turn: &Turn) -> bool
 }
 
 /// Whether the run goes on, nothing is thrown, and no initialization stands on the current frame.
-#[tactic(auto, unfolding(jvm_steps::specs::Machine::Markers::marker_on))]
+#[tactic(auto, unfolding(prepared_code::specs::Markers::marker_on))]
 #[inline(always)]
 fn is_calm(parts: &Parts, markers: &Stack<Marker>) -> bool
     ensures { result ≡ true → IsCalm (length parts.now.frames.frames) markers.now parts.now }

@@ -3,12 +3,12 @@
 ghost use Rattle.std.specs.Prelude.{◌≡◌};
 ghost use Rattle.jvm_model.specs.Turns.Pauses.{begin_kind, told_at};
 ghost use Rattle.jvm_model.specs.Turns.Told.{helds};
-ghost use Rattle.jvm_steps.specs.Machine.Markers.{state_of};
-ghost use Rattle.jvm_steps.specs.Codes.Versions.{mark_of};
+ghost use Rattle.prepared_code.specs.Markers.{state_of};
+ghost use Rattle.prepared_code.specs.Versions.{mark_of};
 
 use jf_bytes::Stack;
 use jvm_model::{Due, Event, EventKind, Mark};
-use jvm_steps::{Marker, Originals, Parts, where_now};
+use prepared_code::{Marker, Originals, Parts, where_now};
 
 /// The probe at the entry of a version with this mark.
 fn begin_kind(mark: Mark) -> EventKind

@@ -1,4 +1,3 @@
-pub mod Codes
 pub mod Instructions
 pub mod Silent
 pub mod Loads

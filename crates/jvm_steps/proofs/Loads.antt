@@ -1,5 +1,4 @@
 pub mod MovesLoad
-pub mod BuiltInLoads
 pub mod ActsLoad
 pub mod Starts
 pub mod Above

@@ -1,5 +1,3 @@
-pub mod MarkedStacks
 pub mod Carried
-pub mod MarkedParts
 pub mod Beneath
 pub mod Behind

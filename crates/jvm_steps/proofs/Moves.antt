@@ -1,5 +1,4 @@
 pub mod MovesOn
-pub mod StandingSteps
 pub mod LineSteps
 pub mod Sounded
 pub mod TurnsCarried

@@ -1,4 +1,3 @@
-pub mod Codes
 pub mod Machine
 pub mod Instructions
 pub mod Moves

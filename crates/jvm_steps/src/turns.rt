@@ -2,9 +2,7 @@
 
 pub mod calmly;
 pub mod hands;
-pub mod parts;
 pub mod pausing;
-pub mod probes;
 pub mod stepping;
 pub mod trying;
 pub mod turning;

@@ -4,7 +4,7 @@ use Rattle.std.specs.List.{AllByRecursion}
 use Rattle.jvm_model.specs.declared.program.Program.{Program}
 use Rattle.jvm_model.specs.Profiling.Revealed.{marks_of}
 use Rattle.jvm_model.specs.Soundness.Whole.{IsWhole}
-use Rattle.jvm_steps.specs.Codes.Prepared.{HasShortCodes}
+use Rattle.prepared_code.specs.Prepared.{HasShortCodes}
 use Rattle.jvm_machine.specs.View.{View, world}
 use Rattle.call_revelation.specs.declared.reveal.Reveal.{Reveal}
 use Rattle.call_revelation.specs.Reveals.{IsRevelation, now_of}

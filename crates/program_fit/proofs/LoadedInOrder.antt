@@ -14,7 +14,7 @@ use Rattle.jvm_model.specs.Classes.Lookup.{is_interface}
 use Rattle.jvm_model.specs.Basis.Methods.{has_flag}
 use Rattle.jvm_model.specs.Basis.Programs.{class_at, class_named, has_built_in_name, has_name, name_of}
 use Rattle.jvm_model.specs.Basis.SharedState.{built_in_from}
-use Rattle.jvm_steps.specs.Codes.Prepared.{load_built_in, with_built_in}
+use Rattle.prepared_code.specs.Prepared.{load_built_in, with_built_in}
 use Rattle.admit_check.proofs.FitNames.{IsOwnClass}
 use Rattle.admit_check.proofs.FitPlaces.{AreOrdered, is_before}
 use Rattle.program_fit.proofs.Loads.{load-fresh, load-there}

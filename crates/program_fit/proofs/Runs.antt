@@ -6,7 +6,7 @@ use Rattle.const_pool.specs.declared.class.ClassFile.{ClassFile}
 use Rattle.base_classes.specs.BuiltInFiles.{built_in_files}
 use Rattle.jvm_model.specs.declared.program.Program.{Program}
 use Rattle.jvm_model.proofs.Soundness.SoundAnswers.{closed-codes}
-use Rattle.jvm_steps.specs.Codes.Prepared.{FitsOriginals}
+use Rattle.prepared_code.specs.Prepared.{FitsOriginals}
 use Rattle.admit_check.specs.Admission.{IsAdmittedProgram}
 use Rattle.admit_check.proofs.FitNames.{IsOwnClass, own-classes}
 use Rattle.admit_check.proofs.FitPlaces.{files-ordered}

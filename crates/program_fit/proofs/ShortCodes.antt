@@ -11,7 +11,7 @@ use Rattle.const_pool.specs.declared.class.Attribute.TheVariants.{ConstantValue,
 use Rattle.const_pool.specs.declared.class.ClassFile.{ClassFile}
 use Rattle.const_pool.specs.ClassFile.{IsClassFile, IsCode, IsMember, IsMethodAttribute}
 use Rattle.jvm_model.specs.Basis.Methods.{code_among, code_of}
-use Rattle.jvm_steps.specs.Codes.Prepared.{HasShortCode, HasShortCodes}
+use Rattle.prepared_code.specs.Prepared.{HasShortCode, HasShortCodes}
 
 -- what holds of each element holds of the one at a place
 pub AllByRecursion-at : {X : Type 0} (P : X → Type 0) (xs : List X) (i : ℕ) (x : X) → AllByRecursion P xs → slice_get xs i ≡ Some x → P x

@@ -8,12 +8,12 @@ use Rattle.jvm_model.specs.Instructions.LocalRules.{by_zero}
 use Rattle.jvm_basic.specs.declared.effect.Effect.TheVariants.{Next, Throws, Bad, Other}
 use Rattle.jvm_basic.specs.Outcomes.{Outcome, GoesOn, Raises, Breaks, Leaves, effect_in, frames_in, with_top, asked, effect_of, after}
 use Rattle.jvm_basic.specs.Rules.{rule_of}
-use Rattle.jvm_steps.specs.declared.prepare.line.Line.{Line}
-use Rattle.jvm_steps.specs.declared.turns.parts.Parts.{Parts}
-use Rattle.jvm_steps.specs.declared.prepare.originals.Exception.TheVariants.{Arithmetic}
+use Rattle.prepared_code.specs.declared.line.Line.{Line}
+use Rattle.prepared_code.specs.declared.parts.Parts.{Parts}
+use Rattle.prepared_code.specs.declared.originals.Exception.TheVariants.{Arithmetic}
 use Rattle.jvm_steps.specs.Instructions.Acts.{IsTop, comes_to, acts_alone, on_top, on_parts, ended, raising}
-use Rattle.jvm_steps.specs.Machine.States.{frame_in, state_with, state_in}
-use Rattle.jvm_steps.specs.Codes.Versions.{Setup}
+use Rattle.prepared_code.specs.States.{frame_in, state_with, state_in}
+use Rattle.prepared_code.specs.Versions.{Setup}
 
 module _ (w : Setup) (line : Line) (p : Parts) where
   pub next-is : (x : Outcome) (f : PlacedFrame) (fs : List PlacedFrame) → effect_in x (f ∷ fs) ≡ Next

@@ -17,18 +17,18 @@ use Rattle.jvm_model.specs.Basis.Programs.{max_locals_of, max_stack_of, params_o
 use Rattle.jvm_model.specs.Basis.Values.{data_of, datum_of, spread}
 use Rattle.jvm_model.specs.Instructions.Rules.{invokes as invokes_outcome}
 use Rattle.jvm_model.specs.Running.Applies.{still, breaks, begins, live_in, most_live, with_frame, applies}
-use Rattle.jvm_steps.specs.declared.turns.parts.Parts.{Parts}
-use Rattle.jvm_steps.specs.declared.prepare.line.Line.{Line}
-use Rattle.jvm_steps.specs.declared.prepare.originals.Exception.TheVariants.{StackOverflow}
-use Rattle.jvm_steps.specs.declared.turns.parts.Here.{Here}
+use Rattle.prepared_code.specs.declared.parts.Parts.{Parts}
+use Rattle.prepared_code.specs.declared.line.Line.{Line}
+use Rattle.prepared_code.specs.declared.originals.Exception.TheVariants.{StackOverflow}
+use Rattle.prepared_code.specs.declared.parts.Here.{Here}
 use Rattle.jvm_steps.specs.Instructions.Acts.{ended, placed_line, raising}
 use Rattle.jvm_steps.specs.Instructions.Invoking.{called, may_begin}
 use Rattle.jvm_steps.specs.Moves.Settling.{own_of}
-use Rattle.jvm_steps.specs.Machine.States.{active, frame_in, state_with, state_in}
+use Rattle.prepared_code.specs.States.{active, frame_in, state_with, state_in}
 use Rattle.jvm_steps.specs.Instructions.Arguments.{arguments_of, can_begin, fits_with, fits_params, slots_for, with_begun}
 use Rattle.jvm_steps.proofs.Instructions.NamedLaws.{Takes}
 use Rattle.jvm_steps.proofs.Instructions.Arguments.{spread-data, length-slots, height-reverse, height-kinds, enough-data, too-many}
-use Rattle.jvm_steps.specs.Codes.Versions.{Setup, text_of, current_of, first_of}
+use Rattle.prepared_code.specs.Versions.{Setup, text_of, current_of, first_of}
 
 pub live-is : (fs : List PlacedFrame) → live_in (map active fs) ≡ length fs
 live-is [] = refl

@@ -14,22 +14,23 @@ use Rattle.jvm_named.specs.declared.asked.Asked.TheVariants as asked
 use Rattle.jvm_named.specs.declared.asked.Refusal.{Refusal}
 use Rattle.jvm_named.specs.declared.asked.Refusal.TheVariants as refusal
 use Rattle.jvm_named.specs.Answers.{Answer, Continues, Exceeds, Stops, answer_in, answer_view, frames_in, refusal_view}
-use Rattle.jvm_steps.specs.declared.prepare.line.Line.{Line}
-use Rattle.jvm_steps.specs.declared.initialize.markers.Marker.{Marker}
-use Rattle.jvm_steps.specs.declared.turns.parts.Here.{Here}
-use Rattle.jvm_steps.specs.declared.turns.parts.Parts.{Parts}
+use Rattle.prepared_code.specs.declared.line.Line.{Line}
+use Rattle.prepared_code.specs.declared.markers.Marker.{Marker}
+use Rattle.prepared_code.specs.declared.parts.Here.{Here}
+use Rattle.prepared_code.specs.declared.parts.Parts.{Parts}
 use Rattle.jvm_steps.specs.Instructions.Acts.{acts_asked, acts_named, ended, placed_line}
 use Rattle.jvm_steps.specs.Instructions.Asked.{concluded, done_top, starts_in}
 use Rattle.jvm_steps.specs.Instructions.Initializing.{begins_class}
-use Rattle.jvm_steps.specs.Machine.Markers.{marker_on, state_of, with_markers}
+use Rattle.prepared_code.specs.Markers.{marker_on, state_of, with_markers}
 use Rattle.jvm_steps.specs.Moves.Settling.{own_of}
-use Rattle.jvm_steps.specs.Machine.States.{frame_in, here_of, state_in, state_with}
+use Rattle.prepared_code.specs.States.{frame_in, here_of, state_in, state_with}
 use Rattle.jvm_steps.proofs.Instructions.Callees.{calls-is}
-use Rattle.jvm_steps.proofs.Marked.Carried.{applies-carried, length-active}
+use Rattle.jvm_steps.proofs.Marked.Carried.{applies-carried}
+use Rattle.prepared_code.proofs.MarkedStacks.{length-active}
 use Rattle.jvm_steps.proofs.Instructions.LineActs.{starts-some, stays}
 use Rattle.jvm_steps.proofs.Moves.LineSteps.{top-frame}
 use Rattle.jvm_steps.proofs.Instructions.NamedLaws.{Asks, IsNamed, is-named}
-use Rattle.jvm_steps.specs.Codes.Versions.{Setup, text_of, line_at, instruction_in}
+use Rattle.prepared_code.specs.Versions.{Setup, text_of, line_at, instruction_in}
 
 -- ---- answers that are given
 

@@ -12,12 +12,12 @@ use Rattle.jvm_model.specs.Basis.Data.{Locals, Operands, Next, GoesOn}
 use Rattle.jvm_model.specs.Instructions.LocalRules.{replaces}
 use Rattle.jvm_model.specs.Instructions.ObjectRules.{Access, ToNull, ToAnother, Outside, Inside, access_to, index_in, loads_at, loads_element, place_of, serves_object}
 use Rattle.jvm_model.specs.Basis.Values.{as_value}
-use Rattle.jvm_steps.specs.declared.prepare.line.Line.{Line}
-use Rattle.jvm_steps.specs.declared.turns.parts.Parts.{Parts}
+use Rattle.prepared_code.specs.declared.line.Line.{Line}
+use Rattle.prepared_code.specs.declared.parts.Parts.{Parts}
 use Rattle.jvm_steps.specs.Instructions.Acts.{acts_asked, acts_load, on_parts, on_top}
 use Rattle.jvm_steps.specs.Instructions.Elements.{acts_loaded, element_at}
-use Rattle.jvm_steps.specs.Machine.States.{frame_in, state_with}
-use Rattle.jvm_steps.specs.Codes.Versions.{Setup}
+use Rattle.prepared_code.specs.States.{frame_in, state_with}
+use Rattle.prepared_code.specs.Versions.{Setup}
 
 -- ---- where an element is found
 

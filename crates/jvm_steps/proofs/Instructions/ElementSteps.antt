@@ -21,19 +21,19 @@ use Rattle.jvm_model.specs.Basis.Values.{as_value, ref_of}
 use Rattle.jvm_basic.specs.declared.effect.Effect.TheVariants.{Next}
 use Rattle.jvm_basic.specs.Outcomes.{GoesOn as Goes, Rule, after, asked, effect_of, frames_in}
 use Rattle.jvm_basic.specs.Rules.{replaces, rule_of}
-use Rattle.jvm_steps.specs.declared.prepare.line.Action.TheVariants as action
-use Rattle.jvm_steps.specs.declared.prepare.line.Line.{Line}
-use Rattle.jvm_steps.specs.declared.initialize.markers.Marker.{Marker}
-use Rattle.jvm_steps.specs.declared.turns.parts.Here.{Here}
-use Rattle.jvm_steps.specs.declared.turns.parts.Parts.{Parts}
+use Rattle.prepared_code.specs.declared.line.Action.TheVariants as action
+use Rattle.prepared_code.specs.declared.line.Line.{Line}
+use Rattle.prepared_code.specs.declared.markers.Marker.{Marker}
+use Rattle.prepared_code.specs.declared.parts.Here.{Here}
+use Rattle.prepared_code.specs.declared.parts.Parts.{Parts}
 use Rattle.jvm_steps.specs.Instructions.Acts.{acts, acts_asked, acts_by, acts_done, attempts_on, is_named, named_in, on_parts, on_top}
 use Rattle.jvm_steps.specs.Instructions.Elements.{IsLoaded, IsMeasured, IsStored, drops_three, is_number}
-use Rattle.jvm_steps.specs.Machine.Markers.{marker_on, stack_of, state_of, with_markers}
-use Rattle.jvm_steps.specs.Machine.Ready.{CanRun}
-use Rattle.jvm_steps.specs.Machine.Runs.{IsCalm, IsLineIn, IsPlainLine, LeadsAlone, RunsVersion, top_version}
-use Rattle.jvm_steps.specs.Machine.States.{active, frame_in, here_of, state_in, state_with}
-use Rattle.jvm_steps.specs.Codes.Tables.{Version}
-use Rattle.jvm_steps.specs.Codes.Versions.{Setup, instruction_in, line_at, line_in, text_of}
+use Rattle.prepared_code.specs.Markers.{marker_on, stack_of, state_of, with_markers}
+use Rattle.prepared_code.specs.Ready.{CanRun}
+use Rattle.prepared_code.specs.Runs.{IsCalm, IsLineIn, IsPlainLine, LeadsAlone, RunsVersion, top_version}
+use Rattle.prepared_code.specs.States.{active, frame_in, here_of, state_in, state_with}
+use Rattle.prepared_code.specs.Tables.{Version}
+use Rattle.prepared_code.specs.Versions.{Setup, instruction_in, line_at, line_in, text_of}
 use Rattle.jvm_steps.proofs.Instructions.Alone.{next-is}
 use Rattle.jvm_steps.proofs.Marked.Beneath.{awaits-unnamed, does-beneath, does-there, top-there}
 use Rattle.jvm_steps.proofs.Marked.Carried.{goes_within}

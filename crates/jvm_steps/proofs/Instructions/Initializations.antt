@@ -26,7 +26,7 @@ use Rattle.heap_objects.specs.Heaps.{next_number}
 use Rattle.jvm_model.specs.Running.Applies.{still, with_frame, goes, breaks, new_frame, live_in, most_live}
 use Rattle.jvm_model.specs.Running.Moves.{handler_for, own_at, caught, wrapped, fails, at_part, raises, with_constants, after_super, with_super, runs_initializer, initializes, move, then_turn, settled}
 use Rattle.jvm_model.proofs.Running.Settles.{constants-phases, settled-keeps, settled-stops}
-use Rattle.jvm_steps.specs.Codes.Versions.{Setup}
+use Rattle.prepared_code.specs.Versions.{Setup}
 
 -- ---- phases
 

@@ -13,16 +13,16 @@ use Rattle.jvm_model.specs.Basis.Data.{Began, Text, Turn}
 use Rattle.jvm_model.specs.Running.Moves.{at_part, raises, runs_initializer}
 use Rattle.jvm_model.specs.Basis.Programs.{initializer_of, max_locals_of, max_stack_of}
 use Rattle.jvm_model.specs.Basis.SharedState.{stack_overflow}
-use Rattle.jvm_steps.specs.declared.initialize.markers.Marker.{Marker}
-use Rattle.jvm_steps.specs.declared.turns.parts.Parts.{Parts}
-use Rattle.jvm_steps.specs.Machine.Markers.{marker_on, stack_of, state_of}
-use Rattle.jvm_steps.specs.Machine.States.{active, state_in}
+use Rattle.prepared_code.specs.declared.markers.Marker.{Marker}
+use Rattle.prepared_code.specs.declared.parts.Parts.{Parts}
+use Rattle.prepared_code.specs.Markers.{marker_on, stack_of, state_of}
+use Rattle.prepared_code.specs.States.{active, state_in}
 use Rattle.jvm_steps.specs.Moves.Turning.{begun_in}
 use Rattle.jvm_steps.proofs.Instructions.Callees.{live-is}
-use Rattle.jvm_steps.proofs.Marked.Carried.{length-active}
-use Rattle.jvm_steps.proofs.Marked.MarkedStacks.{live-stack, stack-frame}
+use Rattle.prepared_code.proofs.MarkedStacks.{length-active}
+use Rattle.prepared_code.proofs.MarkedStacks.{live-stack, stack-frame}
 use Rattle.jvm_steps.specs.Instructions.Arguments.{begun as placed, with_version_frame}
-use Rattle.jvm_steps.specs.Codes.Versions.{Setup, text_of}
+use Rattle.prepared_code.specs.Versions.{Setup, text_of}
 
 -- a frame that takes nothing
 begun-frames : (w : Setup) (m locals stack : ℕ) (fs : List PlacedFrame) (room : Option ℕ)

@@ -32,15 +32,15 @@ use Rattle.jvm_model.specs.Basis.StackForms.{forms_of}
 use Rattle.jvm_model.specs.Basis.Values.{datum_of, loaded, local_in, int_of, ref_of, arranged}
 use Rattle.jvm_basic.specs.Rules.{goes_at, placed}
 use Rattle.jvm_basic.proofs.Asked.{is_simple, pushes-simple, replaces-simple, leaves-simple, stores-simple, increments-simple}
-use Rattle.jvm_steps.specs.declared.prepare.line.Action.{Action}
-use Rattle.jvm_steps.specs.declared.prepare.line.Action.TheVariants as action
-use Rattle.jvm_steps.specs.declared.prepare.line.Line.{Line}
+use Rattle.prepared_code.specs.declared.line.Action.{Action}
+use Rattle.prepared_code.specs.declared.line.Action.TheVariants as action
+use Rattle.prepared_code.specs.declared.line.Line.{Line}
 use Rattle.jvm_steps.specs.Instructions.Acts.{placed_line, comes_to, acts_alone, acts_asked, acts_done, acts_named, resumes_line, gives_back_line, returns_or_ends, acts_return, acts_by, acts, awaited, named_done, ready_for, with_done}
 use Rattle.jvm_named.specs.Names.{naming_view}
-use Rattle.jvm_steps.specs.Codes.Lines.{action_of, local_action, named_as}
-use Rattle.jvm_steps.specs.Machine.Ready.{IsRuleOf, IsTied}
-use Rattle.jvm_steps.specs.Codes.Tables.{Versions}
-use Rattle.jvm_steps.specs.Codes.Versions.{Setup, text_of, line_at, instruction_by, instruction_in}
+use Rattle.prepared_code.specs.Lines.{action_of, local_action, named_as}
+use Rattle.prepared_code.specs.Ready.{IsRuleOf, IsTied}
+use Rattle.prepared_code.specs.Tables.{Versions}
+use Rattle.prepared_code.specs.Versions.{Setup, text_of, line_at, instruction_by, instruction_in}
 
 -- ---- what an instruction asks for that its frame does by itself
 

@@ -12,23 +12,23 @@ use Rattle.jvm_named.specs.declared.naming.Naming.{Naming as Kept}
 use Rattle.jvm_named.specs.Answers.{answer_by, answer_in, answer_view, frames_by, shared_by, wrote_by}
 use Rattle.jvm_named.specs.Attempts.{attempts, loaded_for}
 use Rattle.jvm_named.specs.Names.{naming_view}
-use Rattle.jvm_steps.specs.declared.prepare.line.Action.{Action}
-use Rattle.jvm_steps.specs.declared.prepare.line.Action.TheVariants as action
-use Rattle.jvm_steps.specs.declared.prepare.line.Line.{Line}
-use Rattle.jvm_steps.specs.declared.initialize.markers.Marker.{Marker}
-use Rattle.jvm_steps.specs.declared.turns.parts.Here.{Here}
-use Rattle.jvm_steps.specs.declared.turns.parts.Parts.{Parts}
+use Rattle.prepared_code.specs.declared.line.Action.{Action}
+use Rattle.prepared_code.specs.declared.line.Action.TheVariants as action
+use Rattle.prepared_code.specs.declared.line.Line.{Line}
+use Rattle.prepared_code.specs.declared.markers.Marker.{Marker}
+use Rattle.prepared_code.specs.declared.parts.Here.{Here}
+use Rattle.prepared_code.specs.declared.parts.Parts.{Parts}
 use Rattle.jvm_steps.specs.Instructions.Acts.{acts, acts_by, attempts_on, awaited, awaited_by, awaited_in, awaited_on, becomes_beneath, is_named, named_in}
 use Rattle.jvm_steps.specs.Instructions.Asked.{concluded, done_top, starts_in}
 use Rattle.jvm_steps.specs.Instructions.Initializing.{begins_class}
-use Rattle.jvm_steps.specs.Codes.Lines.{IfNamed, IfNamedBy}
-use Rattle.jvm_steps.specs.Machine.Markers.{marker_on, stack_of, state_of, with_markers}
-use Rattle.jvm_steps.specs.Machine.States.{active, frame_in, here_of, state_in, state_with}
+use Rattle.prepared_code.specs.Lines.{IfNamed, IfNamedBy}
+use Rattle.prepared_code.specs.Markers.{marker_on, stack_of, state_of, with_markers}
+use Rattle.prepared_code.specs.States.{active, frame_in, here_of, state_in, state_with}
 use Rattle.jvm_steps.proofs.Loads.ActsLoad.{named-loads}
 use Rattle.jvm_steps.proofs.Marked.Beneath.{does-there}
 use Rattle.jvm_steps.proofs.Instructions.Concluded.{CanAnswer, begins-by, can-answer, concludes-by, named_beneath, starts-same}
 use Rattle.jvm_steps.proofs.Moves.LineSteps.{top-frame}
-use Rattle.jvm_steps.specs.Codes.Versions.{Setup, line_at}
+use Rattle.prepared_code.specs.Versions.{Setup, line_at}
 
 -- ---- the world stays
 

@@ -42,7 +42,7 @@ use Rattle.jvm_model.specs.Instructions.Rules.{initialized, when_ready}
 use Rattle.jvm_model.specs.Classes.Selection.{is_abstract, is_static}
 use Rattle.jvm_model.specs.Basis.SharedState.{class_of, class_of_kind, null_pointer, phase_of}
 use Rattle.jvm_model.specs.Basis.Values.{arguments, data_of, int_of, ref_of}
-use Rattle.jvm_steps.specs.Codes.Versions.{Setup}
+use Rattle.prepared_code.specs.Versions.{Setup}
 
 -- ---- what is asked for
 

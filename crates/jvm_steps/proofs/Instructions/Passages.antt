@@ -8,15 +8,15 @@ use Rattle.heap_objects.specs.declared.datum.Datum.{Datum}
 use Rattle.jvm_model.specs.Basis.Data.{Instruction}
 use Rattle.jvm_model.specs.declared.state.Frame.{Frame}
 use Rattle.jvm_model.specs.declared.state.State.{State}
-use Rattle.jvm_steps.specs.declared.prepare.line.Line.{Line}
-use Rattle.jvm_steps.specs.declared.prepare.passage.Passage.{Passage}
-use Rattle.jvm_steps.specs.declared.turns.parts.Here.{Here}
-use Rattle.jvm_steps.specs.Codes.Making.{passage_of}
-use Rattle.jvm_steps.specs.Codes.Tables.{Versions}
-use Rattle.jvm_steps.specs.Codes.Versions.{instruction_in, line_at}
+use Rattle.prepared_code.specs.declared.line.Line.{Line}
+use Rattle.prepared_code.specs.declared.passage.Passage.{Passage}
+use Rattle.prepared_code.specs.declared.parts.Here.{Here}
+use Rattle.prepared_code.specs.Making.{passage_of}
+use Rattle.prepared_code.specs.Tables.{Versions}
+use Rattle.prepared_code.specs.Versions.{instruction_in, line_at}
 use Rattle.jvm_steps.specs.Instructions.Acts.{gives_back_line, resumes_line}
 use Rattle.jvm_steps.specs.Instructions.Returning.{gives_back_by, resumes_by}
-use Rattle.jvm_steps.specs.Machine.States.{active, frame_in, here_of}
+use Rattle.prepared_code.specs.States.{active, frame_in, here_of}
 
 resumes-so : (s : State) (f : Frame) (d : Option Datum) (l : Option Line) → resumes_by s f d (option_map passage_of l) ≡ resumes_line s f d l
 resumes-so s f d None = refl

@@ -22,13 +22,13 @@ use Rattle.jvm_model.specs.Basis.SharedState.{null, raised, stack_overflow}
 use Rattle.jvm_model.specs.Basis.Values.{as_value, int_of, ref_of, with_value}
 use Rattle.jvm_basic.specs.Outcomes.{Outcome as Comes, GoesOn as Goes, Raises as Divides, Breaks as Fails, Leaves}
 use Rattle.jvm_basic.specs.Rules.{rule_of}
-use Rattle.jvm_steps.specs.declared.prepare.line.Action.{Action}
-use Rattle.jvm_steps.specs.declared.prepare.line.Action.TheVariants as action
-use Rattle.jvm_steps.specs.declared.prepare.line.Line.{Line}
+use Rattle.prepared_code.specs.declared.line.Action.{Action}
+use Rattle.prepared_code.specs.declared.line.Action.TheVariants as action
+use Rattle.prepared_code.specs.declared.line.Line.{Line}
 use Rattle.jvm_steps.specs.Instructions.Acts.{acts_by, acts_named, attempts_line, comes_to, gives_back_line, is_named, named_done, placed_line, ready_for, resumes_line, returns_or_ends, with_done}
 use Rattle.jvm_steps.proofs.Loads.MovesLoad.{made-loaded}
 use Rattle.jvm_steps.proofs.Instructions.NamedLaws.{is-named}
-use Rattle.jvm_steps.specs.Codes.Versions.{Setup, text_of, line_at, next_in}
+use Rattle.prepared_code.specs.Versions.{Setup, text_of, line_at, next_in}
 
 -- what is loaded stays
 abbrev pub Keeps : State → State → Type 0

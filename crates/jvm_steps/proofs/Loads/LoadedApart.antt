@@ -16,20 +16,20 @@ use Rattle.jvm_named.specs.declared.asked.Asked.{Asked}
 use Rattle.jvm_named.specs.Answers.{answer_by, answer_view, frames_by, shared_by, wrote_by}
 use Rattle.jvm_named.specs.Attempts.{attempts, is_loaded, loaded_for, shared_loaded}
 use Rattle.jvm_named.specs.Names.{naming_view}
-use Rattle.jvm_steps.specs.declared.prepare.line.Action.{Action}
-use Rattle.jvm_steps.specs.declared.prepare.line.Action.TheVariants as action
-use Rattle.jvm_steps.specs.declared.prepare.line.Line.{Line}
-use Rattle.jvm_steps.specs.declared.initialize.markers.Marker.{Marker}
-use Rattle.jvm_steps.specs.declared.turns.parts.Here.{Here}
-use Rattle.jvm_steps.specs.declared.turns.parts.Parts.{Parts}
+use Rattle.prepared_code.specs.declared.line.Action.{Action}
+use Rattle.prepared_code.specs.declared.line.Action.TheVariants as action
+use Rattle.prepared_code.specs.declared.line.Line.{Line}
+use Rattle.prepared_code.specs.declared.markers.Marker.{Marker}
+use Rattle.prepared_code.specs.declared.parts.Here.{Here}
+use Rattle.prepared_code.specs.declared.parts.Parts.{Parts}
 use Rattle.jvm_steps.specs.Instructions.Acts.{attempts_on, awaited_in, is_named, named_in}
 use Rattle.jvm_steps.specs.Instructions.Asked.{concluded, starts_in}
 use Rattle.jvm_steps.specs.Instructions.Initializing.{begins_class}
-use Rattle.jvm_steps.specs.Codes.Lines.{IfNamed}
-use Rattle.jvm_steps.specs.Machine.Markers.{marker_on, stack_of, state_of}
-use Rattle.jvm_steps.specs.Machine.States.{active, frame_in, here_of, state_in}
+use Rattle.prepared_code.specs.Lines.{IfNamed}
+use Rattle.prepared_code.specs.Markers.{marker_on, stack_of, state_of}
+use Rattle.prepared_code.specs.States.{active, frame_in, here_of, state_in}
 use Rattle.jvm_steps.specs.Moves.Turning.{loads_in, loads_none}
-use Rattle.jvm_steps.specs.Codes.Versions.{Setup, instruction_in, line_at, operation_as, text_of}
+use Rattle.prepared_code.specs.Versions.{Setup, instruction_in, line_at, operation_as, text_of}
 use Rattle.jvm_steps.proofs.Marked.Beneath.{nothing-there}
 use Rattle.jvm_steps.proofs.Instructions.LineActs.{with-loaded}
 use Rattle.jvm_steps.proofs.Moves.LineSteps.{top-frame}

@@ -28,7 +28,7 @@ use Rattle.jvm_model.specs.Running.Moves.{after_super, argument_array, at_part, 
 use Rattle.jvm_model.specs.Basis.Programs.{class_at, initializer_of, name_at, super_of}
 use Rattle.jvm_model.specs.Basis.SharedState.{Allocated, Field, class_of, error, in_initializer, made_with, message_cost, no_class_definition, null, phase_of, stack_overflow, with_exception, with_message}
 use Rattle.jvm_model.proofs.Running.Settles.{settled-keeps}
-use Rattle.jvm_steps.specs.Codes.Versions.{Setup}
+use Rattle.prepared_code.specs.Versions.{Setup}
 
 -- ---- an object is made
 

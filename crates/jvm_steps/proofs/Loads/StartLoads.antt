@@ -6,10 +6,10 @@ use Rattle.jvm_model.specs.Classes.Load.{Fault, error_of}
 use Rattle.jvm_model.specs.Instructions.Naming.{message_of}
 use Rattle.jvm_model.specs.Running.Run.{arguments_made, before, loads_if, main_classes, main_loading, main_loads, opened, starts_if, starts_unless}
 use Rattle.jvm_model.specs.Basis.SharedState.{arguments_fit, null}
-use Rattle.jvm_steps.specs.declared.initialize.markers.Marker.{Marker}
-use Rattle.jvm_steps.specs.declared.turns.parts.Parts.{Parts}
-use Rattle.jvm_steps.specs.Machine.Markers.{state_of}
-use Rattle.jvm_steps.specs.Codes.Versions.{Setup}
+use Rattle.prepared_code.specs.declared.markers.Marker.{Marker}
+use Rattle.prepared_code.specs.declared.parts.Parts.{Parts}
+use Rattle.prepared_code.specs.Markers.{state_of}
+use Rattle.prepared_code.specs.Versions.{Setup}
 use Rattle.jvm_steps.proofs.Instructions.LineActs.{with-loaded}
 use Rattle.jvm_steps.proofs.Loads.MovesLoad.{made-loaded}
 

@@ -26,9 +26,9 @@ use Rattle.jvm_model.proofs.Turns.LoopOfPauses.{paused-move}
 use Rattle.jvm_model.proofs.Soundness.SoundClasses.{load-supertypes, load-there, plain-element}
 use Rattle.jvm_model.proofs.Soundness.SoundObjects.{arguments-sound, before-sound, exception-sound, with-heap}
 use Rattle.jvm_model.proofs.Soundness.SoundRuns.{shared-more, with-loaded-is}
-use Rattle.jvm_steps.specs.Machine.Ready.{CanRun, IsSoundIn, RunsIn}
+use Rattle.prepared_code.specs.Ready.{CanRun, IsSoundIn, RunsIn}
 use Rattle.jvm_steps.specs.Moves.Turning.{paused_in}
-use Rattle.jvm_steps.specs.Codes.Versions.{Setup, text_of, mark_of}
+use Rattle.prepared_code.specs.Versions.{Setup, text_of, mark_of}
 use Rattle.jvm_steps.proofs.Moves.PausesSound.{paused-sound}
 
 module _ (Runs : ℕ → ℕ → Type 0) (w : World) (fit : IsFit w.program) where

@@ -21,10 +21,10 @@ use Rattle.jvm_model.proofs.Loading.LoadsAgain.{newly-loaded}
 use Rattle.jvm_model.proofs.Soundness.SoundKinds.{has-root}
 use Rattle.jvm_steps.specs.Machine.Before.{begun_by}
 use Rattle.jvm_steps.specs.Instructions.Initializing.{begins_class}
-use Rattle.jvm_steps.specs.Codes.Prepared.{main_name}
+use Rattle.prepared_code.specs.Prepared.{main_name}
 use Rattle.jvm_steps.proofs.Instructions.LineActs.{with-loaded}
 use Rattle.jvm_steps.proofs.Moves.LineSteps.{behind}
-use Rattle.jvm_steps.specs.Codes.Versions.{Setup, text_of}
+use Rattle.prepared_code.specs.Versions.{Setup, text_of}
 
 -- by the fault that stopped the loading, on an empty stack
 fault-begins : (w : Setup) (fault : Option Fault) (kind : Option ℕ) (s : State) → s.stack ≡ []

@@ -10,16 +10,16 @@ use Rattle.jvm_model.specs.Running.Run.{is_ready, step}
 use Rattle.jvm_model.specs.Basis.SharedState.{phase_of}
 use Rattle.jvm_model.proofs.Soundness.SoundTextRuns.{sound-step}
 use Rattle.jvm_model.proofs.Soundness.SoundTextSteps.{sound-settled}
-use Rattle.jvm_steps.specs.declared.initialize.markers.Marker.{Marker}
-use Rattle.jvm_steps.specs.declared.turns.parts.Parts.{Parts}
+use Rattle.prepared_code.specs.declared.markers.Marker.{Marker}
+use Rattle.prepared_code.specs.declared.parts.Parts.{Parts}
 use Rattle.jvm_steps.specs.Instructions.Acts.{attempts_on, awaited_in, goes_on_in}
-use Rattle.jvm_steps.specs.Machine.Markers.{is_unmarked, marker_on, state_of}
-use Rattle.jvm_steps.specs.Machine.Runs.{Leads, steps_from, steps_from-zero, steps_from-suc}
+use Rattle.prepared_code.specs.Markers.{is_unmarked, marker_on, state_of}
+use Rattle.prepared_code.specs.Runs.{Leads, steps_from, steps_from-zero, steps_from-suc}
 use Rattle.jvm_steps.proofs.Moves.LineSteps.{IsGoing, behind, going-again, going-on, none-of, step-again, step-attempts, step-awaits, unmarked}
 use Rattle.jvm_steps.proofs.Loads.MovesLoad.{settled-loaded}
 use Rattle.jvm_steps.proofs.Moves.Sounded.{attempted-sound}
-use Rattle.jvm_steps.specs.Codes.Versions.{Setup, text_of}
-use Rattle.jvm_steps.specs.Machine.Ready.{CanRun, IsSoundIn, RunsIn}
+use Rattle.prepared_code.specs.Versions.{Setup, text_of}
+use Rattle.prepared_code.specs.Ready.{CanRun, IsSoundIn, RunsIn}
 
 both : (a b : Bool) → (a && b) ≡ true → (a ≡ true) × (b ≡ true)
 both true b e = (refl, e)

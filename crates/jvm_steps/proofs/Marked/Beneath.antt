@@ -9,20 +9,21 @@ use Rattle.frame_stack.specs.FrameLists.{PlacedFrame}
 use Rattle.jvm_model.specs.declared.ending.Ending.TheVariants.{Unverifiable}
 use Rattle.jvm_model.specs.declared.state.Frame.{Frame}
 use Rattle.jvm_model.specs.declared.state.State.{State}
-use Rattle.jvm_steps.specs.declared.prepare.line.Action.{Action}
-use Rattle.jvm_steps.specs.declared.prepare.line.Action.TheVariants as action
-use Rattle.jvm_steps.specs.declared.prepare.line.Line.{Line}
-use Rattle.jvm_steps.specs.declared.initialize.markers.Marker.{Marker}
-use Rattle.jvm_steps.specs.declared.turns.parts.Here.{Here}
-use Rattle.jvm_steps.specs.declared.turns.parts.Parts.{Parts}
+use Rattle.prepared_code.specs.declared.line.Action.{Action}
+use Rattle.prepared_code.specs.declared.line.Action.TheVariants as action
+use Rattle.prepared_code.specs.declared.line.Line.{Line}
+use Rattle.prepared_code.specs.declared.markers.Marker.{Marker}
+use Rattle.prepared_code.specs.declared.parts.Here.{Here}
+use Rattle.prepared_code.specs.declared.parts.Parts.{Parts}
 use Rattle.jvm_steps.specs.Instructions.Acts.{BecomesBeneath, IsTop, acts, acts_by, acts_end, attempts_line, attempts_on, awaited, awaited_by, awaited_in, awaited_on, becomes_beneath, ended, is_named, named_in, on_top}
-use Rattle.jvm_steps.specs.Machine.Markers.{initializing, marker_on, stack_of, state_of, with_markers}
-use Rattle.jvm_steps.specs.Machine.States.{active, frame_in, here_of, state_in, state_with}
+use Rattle.prepared_code.specs.Markers.{initializing, marker_on, stack_of, state_of, with_markers}
+use Rattle.prepared_code.specs.States.{active, frame_in, here_of, state_in, state_with}
 use Rattle.jvm_steps.proofs.Loads.ActsLoad.{attempts-keep}
-use Rattle.jvm_steps.proofs.Marked.Carried.{end-carried, goes_within, length-active, line-carried}
+use Rattle.jvm_steps.proofs.Marked.Carried.{end-carried, goes_within, line-carried}
+use Rattle.prepared_code.proofs.MarkedStacks.{length-active}
 use Rattle.jvm_steps.proofs.Moves.LineSteps.{top-frame}
-use Rattle.jvm_steps.proofs.Marked.MarkedStacks.{none-left, stack-empty, stack-on}
-use Rattle.jvm_steps.specs.Codes.Versions.{Setup, line_at}
+use Rattle.prepared_code.proofs.MarkedStacks.{none-left, stack-empty, stack-on}
+use Rattle.prepared_code.specs.Versions.{Setup, line_at}
 
 module _ (w : Setup) (line : Line) (ms : List Marker) (p new : Parts) (method : ℕ) where
   pub does-beneath : (fs : List PlacedFrame) → IsTop method fs → marker_on (length fs) ms ≡ None → is_named line.action ≡ false

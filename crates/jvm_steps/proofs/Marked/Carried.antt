@@ -25,23 +25,19 @@ use Rattle.jvm_model.specs.Basis.SharedState.{Allocated, class_of, raised, stack
 use Rattle.jvm_model.specs.Basis.Values.{as_value, int_of, ref_of, with_value}
 use Rattle.jvm_basic.specs.Outcomes.{Outcome as Comes, GoesOn as Goes, Raises as Divides, Breaks as Fails, Leaves}
 use Rattle.jvm_basic.specs.Rules.{rule_of}
-use Rattle.jvm_steps.specs.declared.prepare.line.Action.{Action}
-use Rattle.jvm_steps.specs.declared.prepare.line.Action.TheVariants as action
-use Rattle.jvm_steps.specs.declared.prepare.line.Line.{Line}
-use Rattle.jvm_steps.specs.declared.initialize.markers.Marker.{Marker}
-use Rattle.jvm_steps.specs.declared.turns.parts.Parts.{Parts}
+use Rattle.prepared_code.specs.declared.line.Action.{Action}
+use Rattle.prepared_code.specs.declared.line.Action.TheVariants as action
+use Rattle.prepared_code.specs.declared.line.Line.{Line}
+use Rattle.prepared_code.specs.declared.markers.Marker.{Marker}
+use Rattle.prepared_code.specs.declared.parts.Parts.{Parts}
 use Rattle.jvm_steps.specs.Instructions.Acts.{placed_line, comes_to, resumes_line, gives_back_line, returns_or_ends, acts_return, acts_by, acts, is_named, acts_end, ends_initializer}
-use Rattle.jvm_steps.specs.Machine.Markers.{initializing, marker_on, stack_of, with_markers}
+use Rattle.prepared_code.specs.Markers.{initializing, marker_on, stack_of, with_markers}
 use Rattle.jvm_steps.specs.Moves.Settling.{after_move}
-use Rattle.jvm_steps.specs.Machine.States.{active, frame_in, state_in}
+use Rattle.prepared_code.specs.States.{active, frame_in, state_in}
 use Rattle.jvm_steps.proofs.Instructions.LineActs.{stays, throws-stays, watches-stays, measures-stays, loads-stays, makes-silent, stores-silent, string-silent}
-use Rattle.jvm_steps.proofs.Marked.MarkedStacks.{none-more, none-left, stack-empty, stack-plain, stack-frame, live-stack}
-use Rattle.jvm_steps.specs.Codes.Tables.{Versions}
-use Rattle.jvm_steps.specs.Codes.Versions.{Setup, text_of, line_at, next_in}
-
-pub length-active : (fs : List PlacedFrame) → length (map active fs) ≡ length fs
-length-active [] = refl
-length-active (f ∷ fs) = ap suc (length-active fs)
+use Rattle.prepared_code.proofs.MarkedStacks.{length-active, none-more, none-left, stack-empty, stack-plain, stack-frame, live-stack}
+use Rattle.prepared_code.specs.Tables.{Versions}
+use Rattle.prepared_code.specs.Versions.{Setup, text_of, line_at, next_in}
 
 -- no marker stands above the frame that is taken off
 abbrev pub IsFree : List Marker → State → Type 0

@@ -7,15 +7,15 @@ use Rattle.jvm_model.specs.declared.state.State.{State}
 use Rattle.jvm_model.specs.Basis.Data.{Turn}
 use Rattle.jvm_model.specs.Running.Run.{starts_with}
 use Rattle.jvm_model.specs.Turns.Told.{Held}
-use Rattle.jvm_steps.specs.declared.initialize.markers.Marker.{Marker}
+use Rattle.prepared_code.specs.declared.markers.Marker.{Marker}
 use Rattle.jvm_steps.specs.declared.turns.hands.Gone.{Gone}
 use Rattle.jvm_steps.specs.declared.turns.hands.Hand.{Hand}
-use Rattle.jvm_steps.specs.declared.turns.parts.Parts.{Parts}
-use Rattle.jvm_steps.specs.Codes.Versions.{Setup, text_of}
+use Rattle.prepared_code.specs.declared.parts.Parts.{Parts}
+use Rattle.prepared_code.specs.Versions.{Setup, text_of}
 use Rattle.jvm_steps.specs.Instructions.Acts.{is_at_rest}
-use Rattle.jvm_steps.specs.Machine.Markers.{state_of}
-use Rattle.jvm_steps.specs.Machine.Ready.{CanRun, IsSoundIn}
-use Rattle.jvm_steps.specs.Machine.Standing.{HasVersions}
+use Rattle.prepared_code.specs.Markers.{state_of}
+use Rattle.prepared_code.specs.Ready.{CanRun, IsSoundIn}
+use Rattle.prepared_code.specs.Standing.{HasVersions}
 use Rattle.jvm_steps.specs.Moves.Calmly.{GoesCalmly, TriesCalmly, passed_there}
 use Rattle.jvm_steps.specs.Moves.Hands.{HasGoneOn, HasInHand, IsLeft, goes_as}
 use Rattle.jvm_steps.specs.Moves.Trying.{tried_in}

@@ -7,17 +7,17 @@ use Rattle.jvm_model.specs.declared.due.Due.TheVariants.{Begins, Ends, Nothing}
 use Rattle.jvm_model.specs.declared.event.EventKind.TheVariants as kind
 use Rattle.jvm_model.specs.declared.state.State.{State}
 use Rattle.jvm_model.specs.Rewriting.Images.{is_off}
-use Rattle.jvm_steps.specs.declared.initialize.markers.Marker.{Marker}
-use Rattle.jvm_steps.specs.declared.prepare.line.Line.{Line}
-use Rattle.jvm_steps.specs.declared.turns.parts.Here.{Here}
-use Rattle.jvm_steps.specs.declared.turns.parts.Parts.{Parts}
-use Rattle.jvm_steps.specs.Codes.Versions.{Setup, current_of, line_at, mark_of, text_of}
+use Rattle.prepared_code.specs.declared.markers.Marker.{Marker}
+use Rattle.prepared_code.specs.declared.line.Line.{Line}
+use Rattle.prepared_code.specs.declared.parts.Here.{Here}
+use Rattle.prepared_code.specs.declared.parts.Parts.{Parts}
+use Rattle.prepared_code.specs.Versions.{Setup, current_of, line_at, mark_of, text_of}
 use Rattle.jvm_steps.specs.Instructions.Acts.{goes_on_in}
 use Rattle.jvm_steps.specs.Instructions.Arguments.{with_begun}
-use Rattle.jvm_steps.specs.Machine.Markers.{marker_on, state_of}
-use Rattle.jvm_steps.specs.Machine.Ready.{CanRun}
-use Rattle.jvm_steps.specs.Machine.Runs.{IsCalm}
-use Rattle.jvm_steps.specs.Machine.States.{here_of}
+use Rattle.prepared_code.specs.Markers.{marker_on, state_of}
+use Rattle.prepared_code.specs.Ready.{CanRun}
+use Rattle.prepared_code.specs.Runs.{IsCalm}
+use Rattle.prepared_code.specs.States.{here_of}
 use Rattle.jvm_steps.specs.Moves.Calmly.{Attempted, TriesCalmly}
 use Rattle.jvm_steps.specs.Moves.Trying.{is_return_line, leaves_at, leaves_in, returns_by}
 use Rattle.jvm_steps.specs.Moves.Turning.{loads_none, pause_at, paused_in}

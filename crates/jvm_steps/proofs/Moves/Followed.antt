@@ -19,13 +19,13 @@ use Rattle.jvm_model.specs.Turns.Told.{mark_now}
 use Rattle.jvm_model.specs.Turns.Pauses.{Pause, changes_due, passed_by, paused, unless_off}
 use Rattle.jvm_model.specs.Turns.StepPauses.{pause_behind}
 use Rattle.jvm_model.proofs.Turns.Pausing.{paused-is}
-use Rattle.jvm_steps.specs.declared.initialize.markers.Marker.{Marker}
-use Rattle.jvm_steps.specs.declared.turns.parts.Parts.{Parts}
-use Rattle.jvm_steps.specs.Machine.Markers.{above, beneath, initializing, stack_of, state_of}
-use Rattle.jvm_steps.specs.Machine.States.{active}
+use Rattle.prepared_code.specs.declared.markers.Marker.{Marker}
+use Rattle.prepared_code.specs.declared.parts.Parts.{Parts}
+use Rattle.prepared_code.specs.Markers.{above, beneath, initializing, stack_of, state_of}
+use Rattle.prepared_code.specs.States.{active}
 use Rattle.jvm_steps.specs.Moves.Turning.{pause_at, paused_in}
 use Rattle.jvm_steps.specs.Moves.Trying.{changes_since, enters_by, is_begins, pause_behind_attempt, top_frame_method}
-use Rattle.jvm_steps.specs.Codes.Versions.{Setup, current_of, text_of, mark_of}
+use Rattle.prepared_code.specs.Versions.{Setup, current_of, text_of, mark_of}
 use Rattle.jvm_steps.proofs.Instructions.InitializerFrames.{live-of}
 use Rattle.jvm_steps.proofs.Loads.MovesLoad.{settled-loaded}
 

@@ -16,16 +16,16 @@ use Rattle.jvm_model.proofs.Running.OnlyReturns.{ends-by-return}
 use Rattle.jvm_steps.specs.declared.turns.hands.Gone.{Gone}
 use Rattle.jvm_steps.specs.declared.turns.hands.Hand.{Hand}
 use Rattle.jvm_steps.specs.Moves.Hands.{HasGoneOn, HasInHand, goes_as, goes_in, todo_of, versioned_in}
-use Rattle.jvm_steps.specs.Machine.Ready.{CanRun, IsSoundIn}
-use Rattle.jvm_steps.specs.Machine.Standing.{HasVersions, places_of}
+use Rattle.prepared_code.specs.Ready.{CanRun, IsSoundIn}
+use Rattle.prepared_code.specs.Standing.{HasVersions, places_of}
 use Rattle.jvm_steps.specs.Moves.Turning.{goes_by_moves, loads_in, loads_none, pause_at}
 use Rattle.jvm_steps.specs.Moves.Trying.{tried_in}
-use Rattle.jvm_steps.specs.Codes.Versions.{Setup, current_of, text_of, mark_of}
+use Rattle.prepared_code.specs.Versions.{Setup, current_of, text_of, mark_of}
 use Rattle.jvm_steps.proofs.Moves.Followed.{paused-loaded}
 use Rattle.jvm_steps.proofs.Moves.PausesSound.{loaded-sound, moved-sound, tried-sound}
 use Rattle.jvm_steps.proofs.Loads.StartSound.{starts-sound}
 use Rattle.jvm_steps.proofs.Moves.TriedSteps.{no-classes}
-use Rattle.jvm_steps.proofs.Codes.VersionsAgree.{versions-agree}
+use Rattle.prepared_code.proofs.VersionsAgree.{versions-agree}
 
 -- ---- the rest of the same step is in hand
 

@@ -24,21 +24,21 @@ use Rattle.jvm_model.specs.Basis.SharedState.{phase_of, with_phase}
 use Rattle.jvm_model.proofs.Running.Attempts.{loaded-after}
 use Rattle.jvm_model.proofs.Loading.LoadsAgain.{newly-again}
 use Rattle.jvm_model.proofs.Running.QuietSettles.{stops}
-use Rattle.jvm_steps.specs.declared.prepare.line.Line.{Line}
-use Rattle.jvm_steps.specs.declared.initialize.markers.Marker.{Marker}
-use Rattle.jvm_steps.specs.declared.turns.parts.Parts.{Parts}
+use Rattle.prepared_code.specs.declared.line.Line.{Line}
+use Rattle.prepared_code.specs.declared.markers.Marker.{Marker}
+use Rattle.prepared_code.specs.declared.parts.Parts.{Parts}
 use Rattle.jvm_steps.specs.Instructions.Acts.{acts, acts_asked, acts_by, acts_named, attempts_line, attempts_on, awaited, awaited_by, awaited_in, awaited_on, is_at_rest, goes_on_in, named_done, ready_for, with_done}
-use Rattle.jvm_steps.specs.Machine.Markers.{initializing, marker_on, stack_of, state_of}
-use Rattle.jvm_steps.specs.Machine.States.{active, frame_in}
-use Rattle.jvm_steps.proofs.Marked.Carried.{length-active}
+use Rattle.prepared_code.specs.Markers.{initializing, marker_on, stack_of, state_of}
+use Rattle.prepared_code.specs.States.{active, frame_in}
+use Rattle.prepared_code.proofs.MarkedStacks.{length-active}
 use Rattle.jvm_steps.proofs.Instructions.Initializations.{IsReadyAgain, ready-again, set-there}
 use Rattle.jvm_steps.proofs.Instructions.LineActs.{awaits-named, done_there, readied, starts-some, steps-as, viewed, with-loaded}
-use Rattle.jvm_steps.proofs.Marked.MarkedStacks.{stack-empty, stack-frame, stack-on}
+use Rattle.prepared_code.proofs.MarkedStacks.{stack-empty, stack-frame, stack-on}
 use Rattle.jvm_steps.proofs.Loads.MovesLoad.{settled-loaded}
 use Rattle.jvm_steps.proofs.Instructions.NamedLaws.{Asks, IsNamed, is-named}
-use Rattle.jvm_steps.proofs.Codes.Tied.{Tie, tied-there}
-use Rattle.jvm_steps.specs.Machine.Ready.{CanRun, IsTied}
-use Rattle.jvm_steps.specs.Codes.Versions.{Setup, text_of, line_at, instruction_by}
+use Rattle.prepared_code.proofs.Tied.{Tie, tied-there}
+use Rattle.prepared_code.specs.Ready.{CanRun, IsTied}
+use Rattle.prepared_code.specs.Versions.{Setup, text_of, line_at, instruction_by}
 
 -- ---- the top of a stack
 

@@ -8,7 +8,7 @@ use Rattle.jvm_model.specs.Running.Applies.{still}
 use Rattle.jvm_model.specs.Running.Moves.{left, move, settled, settles, then_turn}
 use Rattle.jvm_model.proofs.Running.LoopOfMoves.{moved-less, moved-same, moved-end}
 use Rattle.jvm_steps.specs.Moves.Settling.{after_move}
-use Rattle.jvm_steps.specs.Codes.Versions.{Setup, text_of}
+use Rattle.prepared_code.specs.Versions.{Setup, text_of}
 
 -- the state that is reached is the same, whatever the changes before
 settles-after : (w : Setup) (t : Text) (n : ℕ) (s : State) (c d : List Change)

@@ -16,7 +16,7 @@ use Rattle.jvm_model.proofs.Turns.Pausing.{OneAtMost, none, one, move-one}
 use Rattle.jvm_model.proofs.Turns.LoopOfPauses.{paused-move, begun-stops}
 use Rattle.jvm_steps.specs.declared.turns.turning.Moved.{Moved}
 use Rattle.jvm_steps.specs.declared.turns.turning.Moved.TheVariants as moved
-use Rattle.jvm_steps.specs.Codes.Versions.{Setup, text_of, mark_of}
+use Rattle.prepared_code.specs.Versions.{Setup, text_of, mark_of}
 use Rattle.jvm_steps.specs.Moves.Turning.{changes_of, due_by, moved_by, moved_if, moved_as, state_by, moved_to, paused_in}
 
 abbrev pub Means : Setup → ℕ → State → State → Moved → Type 0

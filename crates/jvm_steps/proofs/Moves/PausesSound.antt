@@ -26,10 +26,10 @@ use Rattle.jvm_model.proofs.Turns.AttemptPauses.{settled-there}
 use Rattle.jvm_model.proofs.Soundness.SoundTextRuns.{sound-loaded}
 use Rattle.jvm_model.proofs.Soundness.SoundTextSteps.{GoesTo, moves-go}
 use Rattle.jvm_steps.specs.Instructions.Acts.{attempts_on, awaited_in}
-use Rattle.jvm_steps.specs.Machine.Ready.{CanRun, IsSoundIn, RunsIn}
+use Rattle.prepared_code.specs.Ready.{CanRun, IsSoundIn, RunsIn}
 use Rattle.jvm_steps.specs.Moves.Turning.{goes_by_moves, loads_in, paused_in}
 use Rattle.jvm_steps.specs.Moves.Trying.{leaves_at, pause_behind_attempt, tried_in, tries_again}
-use Rattle.jvm_steps.specs.Codes.Versions.{Setup, text_of, mark_of}
+use Rattle.prepared_code.specs.Versions.{Setup, text_of, mark_of}
 use Rattle.jvm_steps.proofs.Moves.LineSteps.{IsGoing, behind, going-again}
 use Rattle.jvm_steps.proofs.Moves.Sounded.{attempted-sound}
 use Rattle.jvm_steps.proofs.Moves.TriedSteps.{again-nothing, again-ready, told-first, told-silent, tried-again, tried-once, tried-stays}

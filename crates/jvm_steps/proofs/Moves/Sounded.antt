@@ -20,22 +20,22 @@ use Rattle.jvm_model.proofs.Soundness.SoundKinds.{has-root}
 use Rattle.jvm_model.proofs.Soundness.SoundRuns.{loads-again}
 use Rattle.jvm_model.proofs.Soundness.SoundTextRuns.{sound-loaded}
 use Rattle.jvm_model.proofs.Soundness.SoundTextSteps.{entry-grows, sound-applied}
-use Rattle.jvm_steps.specs.Machine.Ready.{CanRun, IsSoundEntryIn, IsSoundIn, IsTied, RunsIn}
+use Rattle.prepared_code.specs.Ready.{CanRun, IsSoundEntryIn, IsSoundIn, IsTied, RunsIn}
 use Rattle.class_linker.specs.Linkers.{LinkerView}
 use Rattle.jvm_named.specs.Natives.{HasBuiltIn}
 use Rattle.jvm_named.specs.Objects.{AreLoaded, HasLoadedCaller, IsOfLoaded}
-use Rattle.jvm_steps.specs.declared.prepare.line.Line.{Line}
-use Rattle.jvm_steps.specs.declared.initialize.markers.Marker.{Marker}
-use Rattle.jvm_steps.specs.declared.turns.parts.Here.{Here}
-use Rattle.jvm_steps.specs.declared.turns.parts.Parts.{Parts}
+use Rattle.prepared_code.specs.declared.line.Line.{Line}
+use Rattle.prepared_code.specs.declared.markers.Marker.{Marker}
+use Rattle.prepared_code.specs.declared.parts.Here.{Here}
+use Rattle.prepared_code.specs.declared.parts.Parts.{Parts}
 use Rattle.jvm_steps.specs.Instructions.Acts.{acts, attempts_line, attempts_on, with_done}
-use Rattle.jvm_steps.specs.Codes.Lines.{IfNamed, IfNamedBy, action_of, local_action}
-use Rattle.jvm_steps.specs.Machine.Markers.{marker_on, stack_of, state_of}
-use Rattle.jvm_steps.specs.Machine.States.{active, here_of}
+use Rattle.prepared_code.specs.Lines.{IfNamed, IfNamedBy, action_of, local_action}
+use Rattle.prepared_code.specs.Markers.{marker_on, stack_of, state_of}
+use Rattle.prepared_code.specs.States.{active, here_of}
 use Rattle.jvm_steps.proofs.Instructions.LineActs.{readied, done_there, steps-as, viewed, with-loaded}
 use Rattle.jvm_steps.proofs.Moves.LineSteps.{IsGoing, top-frame}
-use Rattle.jvm_steps.proofs.Codes.Tied.{Tie, tied-there}
-use Rattle.jvm_steps.specs.Codes.Versions.{Setup, text_of, line_at, instruction_by}
+use Rattle.prepared_code.proofs.Tied.{Tie, tied-there}
+use Rattle.prepared_code.specs.Versions.{Setup, text_of, line_at, instruction_by}
 
 -- ---- what the linker asks for
 

@@ -30,27 +30,27 @@ use Rattle.jvm_model.specs.Turns.StepPauses.{again_pause, attempted, frame_pause
 use Rattle.jvm_model.proofs.Turns.AttemptPauses.{breaks-pause, goes-again, goes-once, leaves, settled-there, stays-once}
 use Rattle.jvm_model.proofs.Running.ChangesBetween.{applies-tell}
 use Rattle.jvm_model.proofs.Turns.LoopOfPauses.{paused-move}
-use Rattle.jvm_steps.specs.declared.prepare.line.Action.TheVariants as action
-use Rattle.jvm_steps.specs.declared.prepare.line.Line.{Line}
-use Rattle.jvm_steps.specs.declared.initialize.markers.Marker.{Marker}
-use Rattle.jvm_steps.specs.declared.turns.parts.Parts.{Parts}
+use Rattle.prepared_code.specs.declared.line.Action.TheVariants as action
+use Rattle.prepared_code.specs.declared.line.Line.{Line}
+use Rattle.prepared_code.specs.declared.markers.Marker.{Marker}
+use Rattle.prepared_code.specs.declared.parts.Parts.{Parts}
 use Rattle.jvm_steps.specs.Instructions.Acts.{acts, acts_by, acts_named, attempts_line, attempts_on, awaited, awaited_by, awaited_in, awaited_on, goes_on_in}
-use Rattle.jvm_steps.specs.Codes.Lines.{action_of, local_action}
-use Rattle.jvm_steps.specs.Machine.Markers.{initializing, marker_on, stack_of, state_of}
-use Rattle.jvm_steps.specs.Machine.Ready.{CanRun, IsSoundIn, IsTied}
-use Rattle.jvm_steps.specs.Machine.States.{active, frame_in}
+use Rattle.prepared_code.specs.Lines.{action_of, local_action}
+use Rattle.prepared_code.specs.Markers.{initializing, marker_on, stack_of, state_of}
+use Rattle.prepared_code.specs.Ready.{CanRun, IsSoundIn, IsTied}
+use Rattle.prepared_code.specs.States.{active, frame_in}
 use Rattle.jvm_steps.specs.Moves.Turning.{loads_in, loads_none, pause_at}
 use Rattle.jvm_steps.specs.Moves.Trying.{is_return_line, leaves_at, leaves_in, pause_behind_attempt, returns_by, tried_in, tries_again}
-use Rattle.jvm_steps.specs.Codes.Versions.{Setup, instruction_by, line_at, text_of, mark_of}
+use Rattle.prepared_code.specs.Versions.{Setup, instruction_by, line_at, text_of, mark_of}
 use Rattle.jvm_steps.proofs.Loads.ActsLoad.{named-loads}
 use Rattle.jvm_steps.proofs.Marked.Behind.{sound-again, unmarked-again}
-use Rattle.jvm_steps.proofs.Marked.Carried.{length-active}
+use Rattle.prepared_code.proofs.MarkedStacks.{length-active}
 use Rattle.jvm_steps.proofs.Moves.Followed.{followed-loaded}
 use Rattle.jvm_steps.proofs.Instructions.InitializerFrames.{live-of}
 use Rattle.jvm_steps.proofs.Instructions.LineActs.{awaits-named, readied, steps-as, viewed}
 use Rattle.jvm_steps.proofs.Moves.LineSteps.{IsGoing, behind, going-on, stack-again, none-of, top-frame}
-use Rattle.jvm_steps.proofs.Marked.MarkedStacks.{stack-empty, stack-on}
-use Rattle.jvm_steps.proofs.Codes.Tied.{Tie, tied-there}
+use Rattle.prepared_code.proofs.MarkedStacks.{stack-empty, stack-on}
+use Rattle.prepared_code.proofs.Tied.{Tie, tied-there}
 
 -- ---- what an operation loads
 

@@ -18,18 +18,19 @@ use Rattle.jvm_model.specs.Running.Moves.{caught, handler_for, moves}
 use Rattle.jvm_model.specs.Basis.SharedState.{class_of}
 use Rattle.jvm_model.specs.Turns.Told.{Held, held_by, helds, mark_now}
 use Rattle.jvm_model.specs.Turns.Pauses.{changes_due}
-use Rattle.jvm_steps.specs.declared.initialize.markers.Marker.{Marker}
-use Rattle.jvm_steps.specs.declared.turns.parts.Here.{Here}
-use Rattle.jvm_steps.specs.declared.turns.parts.Parts.{Parts}
-use Rattle.jvm_steps.specs.Machine.Markers.{initializing, marker_on, above, beneath, stack_of, state_of, with_markers}
+use Rattle.prepared_code.specs.declared.markers.Marker.{Marker}
+use Rattle.prepared_code.specs.declared.parts.Here.{Here}
+use Rattle.prepared_code.specs.declared.parts.Parts.{Parts}
+use Rattle.prepared_code.specs.Markers.{initializing, marker_on, above, beneath, stack_of, state_of, with_markers}
 use Rattle.jvm_steps.specs.Moves.Settling.{after_move}
 use Rattle.jvm_steps.specs.declared.turns.turning.Moved.{Moved}
-use Rattle.jvm_steps.specs.Machine.States.{active, frame_in, here_of, state_in}
+use Rattle.prepared_code.specs.States.{active, frame_in, here_of, state_in}
 use Rattle.jvm_steps.specs.Moves.Turning.{changes_of, due_by, found_move, moved_as, moved_if, moved_to, state_by}
-use Rattle.jvm_steps.specs.Codes.Versions.{Setup, text_of, mark_of}
-use Rattle.jvm_steps.proofs.Marked.Carried.{IsCarried, length-active, move-carried}
+use Rattle.prepared_code.specs.Versions.{Setup, text_of, mark_of}
+use Rattle.jvm_steps.proofs.Marked.Carried.{IsCarried, move-carried}
+use Rattle.prepared_code.proofs.MarkedStacks.{length-active}
 use Rattle.jvm_steps.proofs.Moves.LineSteps.{top-frame}
-use Rattle.jvm_steps.proofs.Marked.MarkedStacks.{none-left, stack-empty, stack-frame}
+use Rattle.prepared_code.proofs.MarkedStacks.{none-left, stack-empty, stack-frame}
 
 -- ---- the live activations do not see the markers
 

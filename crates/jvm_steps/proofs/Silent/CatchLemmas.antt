@@ -21,16 +21,16 @@ use Rattle.jvm_model.specs.Basis.SharedState.{class_of, null_pointer, throwable}
 use Rattle.jvm_model.specs.Classes.Lookup.{is_below, is_subtype}
 use Rattle.jvm_model.specs.Running.Moves.{handler_for}
 use Rattle.jvm_model.specs.Basis.Programs.{class_named, has_name, name_at, name_of}
-use Rattle.jvm_steps.specs.declared.initialize.markers.Marker.{Marker}
-use Rattle.jvm_steps.specs.declared.turns.parts.Here.{Here}
-use Rattle.jvm_steps.specs.declared.turns.parts.Parts.{Parts}
+use Rattle.prepared_code.specs.declared.markers.Marker.{Marker}
+use Rattle.prepared_code.specs.declared.parts.Here.{Here}
+use Rattle.prepared_code.specs.declared.parts.Parts.{Parts}
 use Rattle.jvm_steps.specs.Instructions.Passing.{caller_target, caught_back, caught_if, fits_caught}
 use Rattle.jvm_steps.specs.Moves.Settling.{with_alone}
-use Rattle.jvm_steps.specs.Codes.Versions.{Setup, text_of}
+use Rattle.prepared_code.specs.Versions.{Setup, text_of}
 use Rattle.method_versions.specs.Tables.{is_superseded_in}
-use Rattle.jvm_steps.specs.Machine.Markers.{marker_on}
+use Rattle.prepared_code.specs.Markers.{marker_on}
 use Rattle.jvm_steps.specs.Instructions.Passing.{CatchesBelow}
-use Rattle.jvm_steps.specs.Codes.Versions.{mark_of}
+use Rattle.prepared_code.specs.Versions.{mark_of}
 
 -- ---- a class below another one that has this name, where each name stands for the class that has it
 

@@ -4,11 +4,11 @@ use Rattle.std.specs.Prelude.{is_some}
 use Rattle.std.proofs.lemmas.Bool.{cases_lt}
 use Rattle.jvm_model.specs.declared.state.State.{State}
 use Rattle.jvm_model.specs.Running.Run.{step}
-use Rattle.jvm_steps.specs.declared.initialize.markers.Marker.{Marker}
-use Rattle.jvm_steps.specs.declared.turns.parts.Parts.{Parts}
-use Rattle.jvm_steps.specs.Machine.Markers.{marker_on, state_of}
-use Rattle.jvm_steps.specs.Machine.Runs.{AreQuiet, IsCalm, Leads, LeadsAlone, steps_from, steps_from-zero, steps_from-suc}
-use Rattle.jvm_steps.specs.Codes.Versions.{Setup, text_of}
+use Rattle.prepared_code.specs.declared.markers.Marker.{Marker}
+use Rattle.prepared_code.specs.declared.parts.Parts.{Parts}
+use Rattle.prepared_code.specs.Markers.{marker_on, state_of}
+use Rattle.prepared_code.specs.Runs.{AreQuiet, IsCalm, Leads, LeadsAlone, steps_from, steps_from-zero, steps_from-suc}
+use Rattle.prepared_code.specs.Versions.{Setup, text_of}
 
 module _ (w : Setup) where
   abbrev next : State → State

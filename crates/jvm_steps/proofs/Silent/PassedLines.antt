@@ -15,15 +15,15 @@ use Rattle.jvm_basic.specs.Outcomes.{after, effect_of}
 use Rattle.jvm_basic.specs.Rules.{rule_of}
 use Rattle.jvm_basic.proofs.Exact.{kept-unless-next}
 use Rattle.jvm_basic.proofs.HotLines.{hot-after, hot-effect, no-element}
-use Rattle.jvm_steps.specs.declared.prepare.line.Action.{Action}
-use Rattle.jvm_steps.specs.declared.prepare.line.Action.TheVariants as action
-use Rattle.jvm_steps.specs.declared.prepare.line.Line.{Line}
-use Rattle.jvm_steps.specs.declared.turns.parts.Parts.{Parts}
+use Rattle.prepared_code.specs.declared.line.Action.{Action}
+use Rattle.prepared_code.specs.declared.line.Action.TheVariants as action
+use Rattle.prepared_code.specs.declared.line.Line.{Line}
+use Rattle.prepared_code.specs.declared.parts.Parts.{Parts}
 use Rattle.jvm_steps.specs.Instructions.Elements.{IsLoaded, IsPassed, IsStored, is_plain}
-use Rattle.jvm_steps.specs.Codes.Lines.{hot_in}
-use Rattle.jvm_steps.specs.Machine.Ready.{CanRun}
-use Rattle.jvm_steps.specs.Machine.Runs.{IsPlainLine, LeadsAlone, top_version}
-use Rattle.jvm_steps.specs.Codes.Versions.{IsPrepared, Setup}
+use Rattle.prepared_code.specs.Lines.{hot_in}
+use Rattle.prepared_code.specs.Ready.{CanRun}
+use Rattle.prepared_code.specs.Runs.{IsPlainLine, LeadsAlone, top_version}
+use Rattle.prepared_code.specs.Versions.{IsPrepared, Setup}
 use Rattle.jvm_steps.proofs.Instructions.ElementSteps.{StandsAt, load-alone, load-stays, plain-alone, store-alone, store-stays}
 use Rattle.jvm_steps.proofs.Silent.PlainSteps.{stays-in}
 

@@ -35,28 +35,28 @@ use Rattle.jvm_named.specs.Answers.{Calls, answer_in, done_on, frames_in}
 use Rattle.jvm_named.specs.Attempts.{attempts}
 use Rattle.jvm_named.specs.Names.{naming_view}
 use Rattle.jvm_named.specs.Passing.{IsCall}
-use Rattle.jvm_steps.specs.declared.prepare.line.Action.TheVariants as action
-use Rattle.jvm_steps.specs.declared.prepare.line.Line.{Line}
-use Rattle.jvm_steps.specs.declared.initialize.markers.Marker.{Marker}
-use Rattle.jvm_steps.specs.declared.turns.parts.Here.{Here}
-use Rattle.jvm_steps.specs.declared.turns.parts.Parts.{Parts}
+use Rattle.prepared_code.specs.declared.line.Action.TheVariants as action
+use Rattle.prepared_code.specs.declared.line.Line.{Line}
+use Rattle.prepared_code.specs.declared.markers.Marker.{Marker}
+use Rattle.prepared_code.specs.declared.parts.Here.{Here}
+use Rattle.prepared_code.specs.declared.parts.Parts.{Parts}
 use Rattle.jvm_steps.specs.Instructions.Arguments.{begun_frame, can_begin, with_begun}
 use Rattle.jvm_steps.specs.Instructions.Asked.{concluded, done_top}
 use Rattle.jvm_steps.specs.Instructions.Invoking.{called, may_begin}
-use Rattle.jvm_steps.specs.Machine.Markers.{marker_on, stack_of, state_of, with_markers}
+use Rattle.prepared_code.specs.Markers.{marker_on, stack_of, state_of, with_markers}
 use Rattle.jvm_steps.specs.Instructions.Passing.{AreKeptBy, Passes, on_frames, runs, steps_if}
-use Rattle.jvm_steps.specs.Machine.Ready.{CanRun}
+use Rattle.prepared_code.specs.Ready.{CanRun}
 use Rattle.jvm_steps.specs.Moves.Calmly.{Attempted, TriesCalmly, TriesIf}
 use Rattle.jvm_steps.specs.Moves.Trying.{returns_by}
 use Rattle.jvm_steps.proofs.Moves.CalmSteps.{begins-calmly, has-here, no-return}
-use Rattle.jvm_steps.specs.Machine.Runs.{IsCalm, steps_from-zero}
-use Rattle.jvm_steps.specs.Machine.States.{active, frame_in, here_of, state_in, state_with}
-use Rattle.jvm_steps.specs.Codes.Versions.{Setup, current_of, instruction_in, line_at, mark_of, operation_as, text_of}
+use Rattle.prepared_code.specs.Runs.{IsCalm, steps_from-zero}
+use Rattle.prepared_code.specs.States.{active, frame_in, here_of, state_in, state_with}
+use Rattle.prepared_code.specs.Versions.{Setup, current_of, instruction_in, line_at, mark_of, operation_as, text_of}
 use Rattle.jvm_steps.proofs.Instructions.Arguments.{height-reverse, length-slots, spread-data}
 use Rattle.jvm_steps.proofs.Instructions.Callees.{live-is, same-length}
 use Rattle.jvm_steps.proofs.Silent.Leading.{leads-one}
 use Rattle.jvm_steps.proofs.Moves.LineSteps.{top-frame}
-use Rattle.jvm_steps.proofs.Marked.MarkedStacks.{live-stack, none-more}
+use Rattle.prepared_code.proofs.MarkedStacks.{live-stack, none-more}
 use Rattle.jvm_steps.proofs.Instructions.NamedLaws.{Asks, Takes, is-named}
 use Rattle.jvm_steps.proofs.Silent.PassingSteps.{follows, is-attempt, is-awaited, is-step, reached, step-turn, under}
 use Rattle.jvm_steps.proofs.Silent.PlainSteps.{at-rest, framed}

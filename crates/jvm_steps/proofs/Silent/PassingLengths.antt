@@ -3,17 +3,17 @@ use Rattle.std.proofs.Common.{◌≡◌, Bool, true, false, List, [], ◌∷◌,
 use Rattle.std.proofs.lemmas.Option.{none-some, same_Some}
 use Rattle.const_pool.specs.declared.descriptor.Kind.TheVariants as kind
 use Rattle.frame_stack.specs.FrameLists.{PlacedFrame}
-use Rattle.jvm_steps.specs.declared.prepare.line.Action.TheVariants as action
-use Rattle.jvm_steps.specs.declared.prepare.line.Line.{Line}
-use Rattle.jvm_steps.specs.declared.initialize.markers.Marker.{Marker}
-use Rattle.jvm_steps.specs.declared.turns.parts.Here.{Here}
-use Rattle.jvm_steps.specs.declared.turns.parts.Parts.{Parts}
+use Rattle.prepared_code.specs.declared.line.Action.TheVariants as action
+use Rattle.prepared_code.specs.declared.line.Line.{Line}
+use Rattle.prepared_code.specs.declared.markers.Marker.{Marker}
+use Rattle.prepared_code.specs.declared.parts.Here.{Here}
+use Rattle.prepared_code.specs.declared.parts.Parts.{Parts}
 use Rattle.jvm_steps.specs.Instructions.Elements.{IsMeasured}
 use Rattle.jvm_steps.specs.Instructions.Passing.{Passes, steps_if}
-use Rattle.jvm_steps.specs.Machine.Ready.{CanRun}
-use Rattle.jvm_steps.specs.Machine.Runs.{IsCalm}
-use Rattle.jvm_steps.specs.Machine.States.{here_of}
-use Rattle.jvm_steps.specs.Codes.Versions.{Setup, line_at}
+use Rattle.prepared_code.specs.Ready.{CanRun}
+use Rattle.prepared_code.specs.Runs.{IsCalm}
+use Rattle.prepared_code.specs.States.{here_of}
+use Rattle.prepared_code.specs.Versions.{Setup, line_at}
 use Rattle.jvm_steps.proofs.Instructions.ElementSteps.{StandsAt, length-alone}
 use Rattle.jvm_steps.proofs.Silent.SilentSteps.{passes-alone, passes_none}
 

@@ -26,19 +26,19 @@ use Rattle.jvm_model.specs.Running.Run.{goes_again, starts, step, steps_at, step
 use Rattle.jvm_model.specs.Turns.Told.{Held, helds, mark_now}
 use Rattle.jvm_model.specs.Basis.Values.{as_value, with_value}
 use Rattle.jvm_model.proofs.Running.QuietSettles.{stops}
-use Rattle.jvm_steps.specs.declared.prepare.line.Action.TheVariants as action
-use Rattle.jvm_steps.specs.declared.prepare.line.Line.{Line}
-use Rattle.jvm_steps.specs.declared.initialize.markers.Marker.{Marker}
-use Rattle.jvm_steps.specs.declared.turns.parts.Here.{Here}
-use Rattle.jvm_steps.specs.declared.turns.parts.Parts.{Parts}
+use Rattle.prepared_code.specs.declared.line.Action.TheVariants as action
+use Rattle.prepared_code.specs.declared.line.Line.{Line}
+use Rattle.prepared_code.specs.declared.markers.Marker.{Marker}
+use Rattle.prepared_code.specs.declared.parts.Here.{Here}
+use Rattle.prepared_code.specs.declared.parts.Parts.{Parts}
 use Rattle.jvm_steps.specs.Instructions.Acts.{acts, acts_by, attempts_on, is_named, named_in, on_top, resumes_line, returns_or_ends}
-use Rattle.jvm_steps.specs.Machine.Markers.{marker_on, stack_of, state_of, with_markers}
+use Rattle.prepared_code.specs.Markers.{marker_on, stack_of, state_of, with_markers}
 use Rattle.jvm_steps.specs.Instructions.Passing.{AreKeptBy, Passes, caller_line, fits_given, gone_back, on_frames, runs}
-use Rattle.jvm_steps.specs.Machine.Ready.{CanRun}
+use Rattle.prepared_code.specs.Ready.{CanRun}
 use Rattle.jvm_steps.specs.Moves.Calmly.{Attempted}
-use Rattle.jvm_steps.specs.Machine.Runs.{IsCalm}
-use Rattle.jvm_steps.specs.Machine.States.{active, frame_in, here_of, state_with}
-use Rattle.jvm_steps.specs.Codes.Versions.{Setup, instruction_in, line_at, mark_of, next_in, operation_as, text_of}
+use Rattle.prepared_code.specs.Runs.{IsCalm}
+use Rattle.prepared_code.specs.States.{active, frame_in, here_of, state_with}
+use Rattle.prepared_code.specs.Versions.{Setup, instruction_in, line_at, mark_of, next_in, operation_as, text_of}
 use Rattle.jvm_steps.proofs.Marked.Beneath.{awaits-unnamed, does-beneath, does-there, top-there}
 use Rattle.jvm_steps.proofs.Silent.Leading.{leads-one}
 use Rattle.jvm_steps.proofs.Moves.LineSteps.{going-on, rests, step-attempts, top-frame}

@@ -25,20 +25,20 @@ use Rattle.jvm_named.specs.Attempts.{attempts, loaded_for, loads_nothing, shared
 use Rattle.jvm_named.specs.Names.{naming_view}
 use Rattle.jvm_named.specs.Does.{Changed, IsDone, changed}
 use Rattle.jvm_named.specs.Passing.{HasPassed, IfPassed, IfRan}
-use Rattle.jvm_steps.specs.declared.prepare.line.Action.TheVariants as action
-use Rattle.jvm_steps.specs.declared.prepare.line.Line.{Line}
-use Rattle.jvm_steps.specs.declared.initialize.markers.Marker.{Marker}
-use Rattle.jvm_steps.specs.declared.turns.parts.Here.{Here}
-use Rattle.jvm_steps.specs.declared.turns.parts.Parts.{Parts}
+use Rattle.prepared_code.specs.declared.line.Action.TheVariants as action
+use Rattle.prepared_code.specs.declared.line.Line.{Line}
+use Rattle.prepared_code.specs.declared.markers.Marker.{Marker}
+use Rattle.prepared_code.specs.declared.parts.Here.{Here}
+use Rattle.prepared_code.specs.declared.parts.Parts.{Parts}
 use Rattle.jvm_steps.specs.Instructions.Acts.{attempts_on, awaited_in, is_at_rest, is_named, named_in}
 use Rattle.jvm_steps.specs.Instructions.Asked.{concluded, done_top, starts_in}
-use Rattle.jvm_steps.specs.Codes.Lines.{IfNamed, IfNamedBy}
-use Rattle.jvm_steps.specs.Machine.Markers.{marker_on, stack_of, state_of, with_markers}
+use Rattle.prepared_code.specs.Lines.{IfNamed, IfNamedBy}
+use Rattle.prepared_code.specs.Markers.{marker_on, stack_of, state_of, with_markers}
 use Rattle.jvm_steps.specs.Instructions.Passing.{Passes, changed_in, steps_if, with_changed}
-use Rattle.jvm_steps.specs.Machine.Ready.{CanRun}
-use Rattle.jvm_steps.specs.Machine.Runs.{IsCalm, steps_from}
-use Rattle.jvm_steps.specs.Machine.States.{active, frame_in, here_of, state_in, state_with}
-use Rattle.jvm_steps.specs.Codes.Versions.{Setup, instruction_in, line_at, operation_as, text_of}
+use Rattle.prepared_code.specs.Ready.{CanRun}
+use Rattle.prepared_code.specs.Runs.{IsCalm, steps_from}
+use Rattle.prepared_code.specs.States.{active, frame_in, here_of, state_in, state_with}
+use Rattle.prepared_code.specs.Versions.{Setup, instruction_in, line_at, operation_as, text_of}
 use Rattle.jvm_steps.proofs.Silent.Leading.{leads-one, quiet-one}
 use Rattle.jvm_steps.proofs.Moves.LineSteps.{IsGoing, going-on, rests, step-attempts, top-frame}
 use Rattle.jvm_steps.proofs.Instructions.NamedAttempts.{awaits-told, goes-on}

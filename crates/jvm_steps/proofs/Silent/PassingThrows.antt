@@ -28,18 +28,18 @@ use Rattle.jvm_model.specs.Basis.SharedState.{class_of}
 use Rattle.jvm_model.specs.Turns.Told.{Held, helds, mark_now}
 use Rattle.jvm_model.specs.Basis.Values.{ref_of}
 use Rattle.jvm_model.proofs.Running.LoopOfMoves.{moved-end, moved-same}
-use Rattle.jvm_steps.specs.declared.prepare.line.Action.TheVariants as action
-use Rattle.jvm_steps.specs.declared.prepare.line.Line.{Line}
-use Rattle.jvm_steps.specs.declared.initialize.markers.Marker.{Marker}
-use Rattle.jvm_steps.specs.declared.turns.parts.Here.{Here}
-use Rattle.jvm_steps.specs.declared.turns.parts.Parts.{Parts}
+use Rattle.prepared_code.specs.declared.line.Action.TheVariants as action
+use Rattle.prepared_code.specs.declared.line.Line.{Line}
+use Rattle.prepared_code.specs.declared.markers.Marker.{Marker}
+use Rattle.prepared_code.specs.declared.parts.Here.{Here}
+use Rattle.prepared_code.specs.declared.parts.Parts.{Parts}
 use Rattle.jvm_steps.specs.Instructions.Acts.{acts, acts_asked, acts_by, attempts_on, is_named, named_in, on_top}
-use Rattle.jvm_steps.specs.Machine.Markers.{marker_on, stack_of, state_of, with_markers}
+use Rattle.prepared_code.specs.Markers.{marker_on, stack_of, state_of, with_markers}
 use Rattle.jvm_steps.specs.Instructions.Passing.{AreKeptBy, CatchesBelow, Passes, caught_back, caught_if, fits_caught, on_frames, runs, steps_if}
-use Rattle.jvm_steps.specs.Machine.Ready.{CanRun}
-use Rattle.jvm_steps.specs.Machine.Runs.{IsCalm, steps_from-zero}
-use Rattle.jvm_steps.specs.Machine.States.{active, frame_in, here_of, state_with}
-use Rattle.jvm_steps.specs.Codes.Versions.{Setup, instruction_in, line_at, mark_of, operation_as, text_of}
+use Rattle.prepared_code.specs.Ready.{CanRun}
+use Rattle.prepared_code.specs.Runs.{IsCalm, steps_from-zero}
+use Rattle.prepared_code.specs.States.{active, frame_in, here_of, state_with}
+use Rattle.prepared_code.specs.Versions.{Setup, instruction_in, line_at, mark_of, operation_as, text_of}
 use Rattle.jvm_steps.proofs.Marked.Beneath.{awaits-unnamed, does-beneath, does-there, top-there}
 use Rattle.jvm_steps.proofs.Silent.Leading.{leads-one}
 use Rattle.jvm_steps.proofs.Moves.LineSteps.{behind, going-on, step-attempts, top-frame}

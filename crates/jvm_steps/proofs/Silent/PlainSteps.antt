@@ -11,23 +11,24 @@ use Rattle.jvm_model.specs.Running.Run.{step}
 use Rattle.jvm_basic.specs.declared.effect.Effect.TheVariants.{Next}
 use Rattle.jvm_basic.specs.Outcomes.{Outcome, GoesOn, Raises, Breaks, Leaves, frames_in, with_top, asked, effect_of, after}
 use Rattle.jvm_basic.specs.Rules.{rule_of}
-use Rattle.jvm_steps.specs.declared.prepare.line.Action.TheVariants as action
-use Rattle.jvm_steps.specs.declared.prepare.line.Line.{Line}
-use Rattle.jvm_steps.specs.declared.initialize.markers.Marker.{Marker}
-use Rattle.jvm_steps.specs.declared.turns.parts.Here.{Here}
-use Rattle.jvm_steps.specs.declared.turns.parts.Parts.{Parts}
+use Rattle.prepared_code.specs.declared.line.Action.TheVariants as action
+use Rattle.prepared_code.specs.declared.line.Line.{Line}
+use Rattle.prepared_code.specs.declared.markers.Marker.{Marker}
+use Rattle.prepared_code.specs.declared.parts.Here.{Here}
+use Rattle.prepared_code.specs.declared.parts.Parts.{Parts}
 use Rattle.jvm_steps.specs.Instructions.Acts.{acts_by, attempts_line, attempts_on, awaited, awaited_by, awaited_on}
-use Rattle.jvm_steps.specs.Machine.Markers.{marker_on, state_of, with_markers}
-use Rattle.jvm_steps.specs.Machine.Runs.{IsCalm, IsLineIn, IsPlainLine, LeadsPlainly, RunsVersion, top_version}
-use Rattle.jvm_steps.specs.Codes.Tables.{Version, version_at}
-use Rattle.jvm_steps.specs.Machine.States.{active, frame_in, here_of, state_with}
+use Rattle.prepared_code.specs.Markers.{marker_on, state_of, with_markers}
+use Rattle.prepared_code.specs.Runs.{IsCalm, IsLineIn, IsPlainLine, LeadsPlainly, RunsVersion, top_version}
+use Rattle.prepared_code.specs.Tables.{Version, version_at}
+use Rattle.prepared_code.specs.States.{active, frame_in, here_of, state_with}
 use Rattle.jvm_steps.proofs.Instructions.Alone.{goes-next}
 use Rattle.jvm_steps.proofs.Silent.Leading.{leads-one, quiet-one}
 use Rattle.jvm_steps.proofs.Silent.QuietLines.{quiet-step}
-use Rattle.jvm_steps.proofs.Marked.Carried.{comes-carried, length-active}
+use Rattle.jvm_steps.proofs.Marked.Carried.{comes-carried}
+use Rattle.prepared_code.proofs.MarkedStacks.{length-active}
 use Rattle.jvm_steps.proofs.Moves.LineSteps.{going-on, rests, step-attempts, top-frame}
-use Rattle.jvm_steps.specs.Codes.Versions.{Setup, text_of, line_at, line_in}
-use Rattle.jvm_steps.specs.Machine.Ready.{CanRun}
+use Rattle.prepared_code.specs.Versions.{Setup, text_of, line_at, line_in}
+use Rattle.prepared_code.specs.Ready.{CanRun}
 
 -- ---- nothing follows
 

@@ -23,15 +23,15 @@ use Rattle.jvm_model.proofs.Running.QuietSettles.{stops}
 use Rattle.jvm_basic.specs.declared.effect.Effect.TheVariants.{Next}
 use Rattle.jvm_basic.specs.Outcomes.{effect_in}
 use Rattle.jvm_basic.specs.Rules.{placed, rule_of}
-use Rattle.jvm_steps.specs.declared.prepare.line.Action.TheVariants as action
-use Rattle.jvm_steps.specs.declared.prepare.line.Line.{Line}
-use Rattle.jvm_steps.specs.declared.initialize.markers.Marker.{Marker}
-use Rattle.jvm_steps.specs.declared.turns.parts.Parts.{Parts}
-use Rattle.jvm_steps.specs.Machine.Markers.{stack_of, with_markers}
-use Rattle.jvm_steps.specs.Machine.Ready.{CanRun, IsOwnLine}
-use Rattle.jvm_steps.specs.Machine.Runs.{IsCalm, IsPlainLine}
-use Rattle.jvm_steps.specs.Machine.States.{active, frame_in, state_with}
-use Rattle.jvm_steps.specs.Codes.Versions.{Setup, instruction_in, line_at, local_in, operation_as, operation_in, text_of}
+use Rattle.prepared_code.specs.declared.line.Action.TheVariants as action
+use Rattle.prepared_code.specs.declared.line.Line.{Line}
+use Rattle.prepared_code.specs.declared.markers.Marker.{Marker}
+use Rattle.prepared_code.specs.declared.parts.Parts.{Parts}
+use Rattle.prepared_code.specs.Markers.{stack_of, with_markers}
+use Rattle.prepared_code.specs.Ready.{CanRun, IsOwnLine}
+use Rattle.prepared_code.specs.Runs.{IsCalm, IsPlainLine}
+use Rattle.prepared_code.specs.States.{active, frame_in, state_with}
+use Rattle.prepared_code.specs.Versions.{Setup, instruction_in, line_at, local_in, operation_as, operation_in, text_of}
 use Rattle.jvm_steps.proofs.Moves.LineSteps.{top-frame}
 
 module _ (w : Setup) where

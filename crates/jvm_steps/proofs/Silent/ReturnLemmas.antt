@@ -1,6 +1,6 @@
 -- What the code of a return finds is what its law asks.
 use Rattle.std.proofs.Common.{◌≡◌, ℕ, ◌+◌, ◌-◌, Bool, true, false, List, [], ◌∷◌, length, Option, Some, None, refl, sym, ap, subst, ◌∙◌, arith}
-use Rattle.std.specs.Prelude.{not, nat_le, ◌==◌}
+use Rattle.std.specs.Prelude.{nat_le, ◌==◌}
 use Rattle.std.specs.Option.{IfSome, option_map}
 use Rattle.std.proofs.lemmas.Bool.{false≢true, le-leb}
 use Rattle.std.proofs.lemmas.Option.{none-some, same_Some}
@@ -11,35 +11,28 @@ use Rattle.const_pool.specs.declared.descriptor.Kind.{Kind}
 use Rattle.frame_stack.specs.FrameLists.{AreSound, FramesView, PlacedFrame, top_operands}
 use Rattle.frame_stack.specs.FrameLists.{caller_of, can_give, given, with_given, with_result}
 use Rattle.frame_stack.specs.Widths.{height_of, width}
-use Rattle.method_versions.specs.Tables.{current_in, held_in, is_number, is_old, is_superseded_in}
+use Rattle.method_versions.specs.Tables.{is_superseded_in}
 use Rattle.jvm_model.specs.declared.due.Due.TheVariants.{Nothing}
 use Rattle.jvm_model.specs.declared.event.Mark.TheVariants.{Off}
 use Rattle.jvm_model.specs.Basis.Data.{Operands, Returns}
 use Rattle.jvm_model.specs.Instructions.LocalRules.{returns}
 use Rattle.jvm_model.specs.Basis.Values.{as_value, with_value}
-use Rattle.jvm_steps.specs.declared.prepare.line.Action.TheVariants as action
-use Rattle.jvm_steps.specs.declared.prepare.line.Line.{Line}
-use Rattle.jvm_steps.specs.declared.initialize.markers.Marker.{Marker}
-use Rattle.jvm_steps.specs.declared.turns.parts.Here.{Here}
-use Rattle.jvm_steps.specs.declared.turns.parts.Parts.{Parts}
-use Rattle.jvm_steps.specs.Machine.Markers.{marker_on, state_of}
+use Rattle.prepared_code.specs.declared.line.Action.TheVariants as action
+use Rattle.prepared_code.specs.declared.line.Line.{Line}
+use Rattle.prepared_code.specs.declared.markers.Marker.{Marker}
+use Rattle.prepared_code.specs.declared.parts.Here.{Here}
+use Rattle.prepared_code.specs.declared.parts.Parts.{Parts}
+use Rattle.prepared_code.specs.Markers.{marker_on, state_of}
 use Rattle.jvm_steps.specs.Instructions.Passing.{Passes, ReturnsTo, caller_line, fits_given, gone_back, on_frames, steps_if}
-use Rattle.jvm_steps.specs.Machine.Ready.{CanRun}
+use Rattle.prepared_code.specs.Ready.{CanRun}
 use Rattle.jvm_steps.specs.Moves.Calmly.{GoesBack, TriesIf}
-use Rattle.jvm_steps.specs.Machine.Runs.{IsCalm}
-use Rattle.jvm_steps.specs.Machine.States.{here_of}
-use Rattle.jvm_steps.specs.Codes.Tables.{Version, Versions}
-use Rattle.jvm_steps.specs.Codes.Versions.{Setup, line_at, mark_of, next_in}
+use Rattle.prepared_code.specs.Runs.{IsCalm}
+use Rattle.prepared_code.specs.States.{here_of}
+use Rattle.prepared_code.specs.Tables.{Versions}
+use Rattle.prepared_code.specs.Versions.{Setup, line_at, mark_of, next_in}
 use Rattle.jvm_steps.proofs.Moves.CalmSteps.{has-here, leaves-calmly}
 use Rattle.jvm_steps.proofs.Silent.PassingReturns.{GivesBack, fewer, has-caller, return-attempted, return-passes}
 use Rattle.jvm_steps.proofs.Silent.SilentSteps.{passes_none}
-
--- a version that is held, and in which its method begins, is not superseded
-pub is_current : (slots : List (Option Version)) (current : List ℕ) (version : ℕ) (held : Version) (now : ℕ) → held_in slots version ≡ Some held
-    → current_in current held.method ≡ Some now → (now == version) ≡ true → is_superseded_in slots current version ≡ false
-is_current slots current version held now there begins same =
-    ap (λ o. is_old current version (option_map (λ (x : Version). x.method) o)) there
-    ∙ (ap (λ o. not (is_number version o)) begins ∙ ap not same)
 
 -- where the caller stands
 pub caller-there : (v : Versions) (fs : List PlacedFrame) (version place : ℕ) (line : Line) → caller_of fs ≡ Some (version, place) → line_at v version place ≡ Some line

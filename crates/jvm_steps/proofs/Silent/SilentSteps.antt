@@ -17,12 +17,12 @@ use Rattle.jvm_model.specs.Turns.Told.{Held, helds, mark_now}
 use Rattle.jvm_model.proofs.Running.OnlyReturns.{ends-by-return}
 use Rattle.jvm_model.proofs.Turns.Rests.{step-loads}
 use Rattle.jvm_model.proofs.Turns.StepPausing.{step-paused}
-use Rattle.jvm_steps.specs.declared.initialize.markers.Marker.{Marker}
-use Rattle.jvm_steps.specs.declared.turns.parts.Parts.{Parts}
-use Rattle.jvm_steps.specs.Machine.Markers.{marker_on, state_of}
+use Rattle.prepared_code.specs.declared.markers.Marker.{Marker}
+use Rattle.prepared_code.specs.declared.parts.Parts.{Parts}
+use Rattle.prepared_code.specs.Markers.{marker_on, state_of}
 use Rattle.jvm_steps.specs.Instructions.Passing.{AreSilent, IsSilent, Passes, runs}
-use Rattle.jvm_steps.specs.Machine.Runs.{IsCalm, LeadsAlone, steps_from, steps_from-zero}
-use Rattle.jvm_steps.specs.Codes.Versions.{Setup, mark_of, text_of}
+use Rattle.prepared_code.specs.Runs.{IsCalm, LeadsAlone, steps_from, steps_from-zero}
+use Rattle.prepared_code.specs.Versions.{Setup, mark_of, text_of}
 use Rattle.jvm_steps.proofs.Silent.Leading.{leads-none, leads-on, steps-parts}
 
 -- ---- a step without changes

@@ -27,17 +27,17 @@ use Rattle.jvm_basic.specs.declared.effect.Effect.TheVariants.{Next, Throws, Bad
 use Rattle.jvm_basic.specs.Outcomes.{Outcome as Comes, GoesOn, Raises, Breaks, Leaves}
 use Rattle.jvm_basic.specs.Rules.{rule_of}
 use Rattle.jvm_named.specs.Names.{naming_view}
-use Rattle.jvm_steps.specs.declared.prepare.line.Action.{Action}
-use Rattle.jvm_steps.specs.declared.prepare.line.Action.TheVariants as action
-use Rattle.jvm_steps.specs.declared.prepare.line.Line.{Line}
-use Rattle.jvm_steps.specs.declared.initialize.markers.Marker.{Marker}
-use Rattle.jvm_steps.specs.declared.prepare.originals.Exception.{Exception}
-use Rattle.jvm_steps.specs.declared.turns.parts.Parts.{Parts}
-use Rattle.jvm_steps.specs.Machine.Markers.{is_unmarked, state_of, with_markers}
-use Rattle.jvm_steps.specs.Codes.Prepared.{exception_name}
-use Rattle.jvm_steps.specs.Machine.States.{frame_in, state_with, state_in}
-use Rattle.jvm_steps.specs.Codes.Versions.{Setup, next_in, text_of, line_at}
-use Rattle.jvm_steps.specs.Codes.Tables.{Versions}
+use Rattle.prepared_code.specs.declared.line.Action.{Action}
+use Rattle.prepared_code.specs.declared.line.Action.TheVariants as action
+use Rattle.prepared_code.specs.declared.line.Line.{Line}
+use Rattle.prepared_code.specs.declared.markers.Marker.{Marker}
+use Rattle.prepared_code.specs.declared.originals.Exception.{Exception}
+use Rattle.prepared_code.specs.declared.parts.Parts.{Parts}
+use Rattle.prepared_code.specs.Markers.{is_unmarked, state_of, with_markers}
+use Rattle.prepared_code.specs.Prepared.{exception_name}
+use Rattle.prepared_code.specs.States.{frame_in, state_with, state_in}
+use Rattle.prepared_code.specs.Versions.{Setup, next_in, text_of, line_at}
+use Rattle.prepared_code.specs.Tables.{Versions}
 
 -- ---- a line in its place
 

@@ -8,8 +8,8 @@ use Rattle.frame_stack.specs.Widths.{height_of}
 use Rattle.jvm_model.specs.Basis.Data.{Operands}
 use Rattle.jvm_model.specs.Basis.Programs.{max_stack_of, max_locals_of, params_of_method}
 use Rattle.jvm_model.specs.Basis.Values.{data_of}
-use Rattle.jvm_steps.specs.Codes.Tables.{Versions}
-use Rattle.jvm_steps.specs.Codes.Versions.{Setup, current_of, first_of}
+use Rattle.prepared_code.specs.Tables.{Versions}
+use Rattle.prepared_code.specs.Versions.{Setup, current_of, first_of}
 
 -- so many of the topmost operands, the deepest first
 abbrev pub arguments_of : ℕ → List PlacedFrame → List Value

@@ -10,14 +10,14 @@ use Rattle.jvm_model.specs.Instructions.Naming.{newly_loaded}
 use Rattle.jvm_model.specs.Instructions.NamingRules.{does_named}
 use Rattle.jvm_model.specs.Running.Run.{starts}
 use Rattle.jvm_named.specs.Answers.{Answer, Continues, Exceeds, Calls, Stops, frames_in}
-use Rattle.jvm_steps.specs.declared.turns.parts.Here.{Here}
-use Rattle.jvm_steps.specs.declared.turns.parts.Parts.{Parts}
+use Rattle.prepared_code.specs.declared.parts.Here.{Here}
+use Rattle.prepared_code.specs.declared.parts.Parts.{Parts}
 use Rattle.jvm_steps.specs.Instructions.Acts.{ended, raised_in}
 use Rattle.jvm_steps.specs.Instructions.Arguments.{can_begin}
 use Rattle.jvm_steps.specs.Instructions.Invoking.{called, may_begin}
 use Rattle.jvm_steps.specs.Moves.Settling.{own_of}
-use Rattle.jvm_steps.specs.Machine.States.{state_in}
-use Rattle.jvm_steps.specs.Codes.Versions.{Setup}
+use Rattle.prepared_code.specs.States.{state_in}
+use Rattle.prepared_code.specs.Versions.{Setup}
 
 -- the class that is initialized before
 abbrev pub starts_in : Answer → Option ℕ

@@ -18,12 +18,12 @@ use Rattle.jvm_steps.specs.declared.execute.elements.Led.{Led}
 use Rattle.jvm_steps.specs.declared.execute.elements.Led.TheVariants as led
 use Rattle.jvm_steps.specs.declared.execute.elements.Place.{Place}
 use Rattle.jvm_steps.specs.declared.execute.elements.Storing.{Storing as TheStoring}
-use Rattle.jvm_steps.specs.declared.prepare.line.Action.{Action}
-use Rattle.jvm_steps.specs.declared.prepare.line.Action.TheVariants as action
-use Rattle.jvm_steps.specs.declared.prepare.line.Line.{Line}
-use Rattle.jvm_steps.specs.declared.turns.parts.Parts.{Parts}
+use Rattle.prepared_code.specs.declared.line.Action.{Action}
+use Rattle.prepared_code.specs.declared.line.Action.TheVariants as action
+use Rattle.prepared_code.specs.declared.line.Line.{Line}
+use Rattle.prepared_code.specs.declared.parts.Parts.{Parts}
 use Rattle.jvm_steps.specs.Instructions.Acts.{acts_asked}
-use Rattle.jvm_steps.specs.Codes.Versions.{Setup}
+use Rattle.prepared_code.specs.Versions.{Setup}
 
 abbrev pub access_of : Led → Access
 access_of led.ToNull = ToNull

@@ -6,9 +6,9 @@ use Rattle.jvm_model.specs.declared.state.Phase.TheVariants.{Erroneous, Running}
 use Rattle.jvm_model.specs.declared.state.State.{State}
 use Rattle.jvm_model.specs.Running.Moves.{at_part, fails, initializes, wrapped}
 use Rattle.jvm_model.specs.Basis.SharedState.{with_phase}
-use Rattle.jvm_steps.specs.declared.turns.parts.Parts.{Parts}
+use Rattle.prepared_code.specs.declared.parts.Parts.{Parts}
 use Rattle.jvm_steps.specs.Moves.Turning.{begun_in}
-use Rattle.jvm_steps.specs.Codes.Versions.{Setup, text_of}
+use Rattle.prepared_code.specs.Versions.{Setup, text_of}
 
 -- it begins
 abbrev pub begins_class : ℕ → State → State

@@ -3,14 +3,14 @@ use Rattle.std.specs.Prelude.{ℕ, Bool, List, None, length, nat_lt, if◌then�
 use Rattle.frame_stack.specs.FrameLists.{PlacedFrame}
 use Rattle.jvm_model.specs.declared.state.State.{State}
 use Rattle.jvm_model.specs.Running.Applies.{most_live}
-use Rattle.jvm_steps.specs.declared.prepare.originals.Exception.TheVariants.{StackOverflow}
-use Rattle.jvm_steps.specs.declared.turns.parts.Here.{Here}
-use Rattle.jvm_steps.specs.declared.turns.parts.Parts.{Parts}
+use Rattle.prepared_code.specs.declared.originals.Exception.TheVariants.{StackOverflow}
+use Rattle.prepared_code.specs.declared.parts.Here.{Here}
+use Rattle.prepared_code.specs.declared.parts.Parts.{Parts}
 use Rattle.jvm_steps.specs.Instructions.Acts.{ended, raising}
 use Rattle.jvm_steps.specs.Instructions.Arguments.{with_begun}
 use Rattle.jvm_steps.specs.Moves.Settling.{own_of}
-use Rattle.jvm_steps.specs.Machine.States.{state_with}
-use Rattle.jvm_steps.specs.Codes.Versions.{Setup}
+use Rattle.prepared_code.specs.States.{state_with}
+use Rattle.prepared_code.specs.Versions.{Setup}
 
 -- one more activation may be live beside these
 abbrev pub may_begin : List PlacedFrame → Bool

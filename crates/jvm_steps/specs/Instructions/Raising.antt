@@ -3,7 +3,7 @@ use Rattle.std.specs.Prelude.{ℕ, ◌+◌, Bool, List, [], ◌∷◌, length, n
 use Rattle.heap_objects.specs.declared.datum.Datum.TheVariants.{Ref}
 use Rattle.heap_objects.specs.Heaps.{HeapView, next_number, with_instance, with_text}
 use Rattle.jvm_model.specs.Basis.SharedState.{null}
-use Rattle.jvm_steps.specs.declared.turns.parts.Parts.{Parts}
+use Rattle.prepared_code.specs.declared.parts.Parts.{Parts}
 
 -- of this kind, without a message
 abbrev pub reference_made : HeapView → ℕ

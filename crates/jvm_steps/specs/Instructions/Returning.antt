@@ -5,18 +5,18 @@ use Rattle.heap_objects.specs.declared.datum.Datum.{Datum}
 use Rattle.const_pool.specs.declared.descriptor.Kind.{Kind}
 use Rattle.frame_stack.specs.FrameLists.{top_operands, without_frame}
 use Rattle.jvm_model.specs.Basis.Data.{Operands}
-use Rattle.jvm_steps.specs.Codes.Tables.{Versions}
+use Rattle.prepared_code.specs.Tables.{Versions}
 use Rattle.jvm_model.specs.Basis.Values.{as_value, with_value}
 use Rattle.jvm_model.specs.Running.Applies.{breaks, goes}
 use Rattle.jvm_model.specs.declared.state.Entry.{Entry}
 use Rattle.jvm_model.specs.declared.state.Entry.TheVariants.{Active, Initializing}
 use Rattle.jvm_model.specs.declared.state.Frame.{Frame}
 use Rattle.jvm_model.specs.declared.state.State.{State}
-use Rattle.jvm_steps.specs.declared.prepare.passage.Passage.{Passage}
-use Rattle.jvm_steps.specs.declared.turns.parts.Parts.{Parts}
+use Rattle.prepared_code.specs.declared.passage.Passage.{Passage}
+use Rattle.prepared_code.specs.declared.parts.Parts.{Parts}
 use Rattle.jvm_steps.specs.Instructions.Acts.{ended, gives_back_line}
 use Rattle.jvm_steps.specs.Instructions.Going.{top_datum}
-use Rattle.jvm_steps.specs.Machine.States.{state_in}
+use Rattle.prepared_code.specs.States.{state_in}
 
 -- a caller goes on, by what is known of its line
 abbrev pub resumes_by : State → Frame → Option Datum → Option Passage → State

@@ -3,16 +3,16 @@ use Rattle.std.specs.Prelude.{◌≡◌, ℕ, ◌-◌, Bool, true, false, List, 
 use Rattle.frame_stack.specs.FrameLists.{PlacedFrame}
 use Rattle.jvm_model.specs.declared.due.Due.{Due}
 use Rattle.jvm_model.specs.declared.due.Due.TheVariants.{Nothing, Ends, Begins}
-use Rattle.jvm_steps.specs.declared.initialize.markers.Marker.{Marker}
-use Rattle.jvm_steps.specs.declared.prepare.line.Line.{Line}
+use Rattle.prepared_code.specs.declared.markers.Marker.{Marker}
+use Rattle.prepared_code.specs.declared.line.Line.{Line}
 use Rattle.jvm_steps.specs.declared.turns.hands.Gone.{Gone}
 use Rattle.jvm_steps.specs.declared.turns.hands.Hand.{Hand}
-use Rattle.jvm_steps.specs.declared.turns.parts.Parts.{Parts}
-use Rattle.jvm_steps.specs.Codes.Versions.{Setup, next_in}
+use Rattle.prepared_code.specs.declared.parts.Parts.{Parts}
+use Rattle.prepared_code.specs.Versions.{Setup, next_in}
 use Rattle.jvm_steps.specs.Instructions.Acts.{attempts_on, awaited_in}
 use Rattle.jvm_steps.specs.Instructions.Passing.{AreKeptBy, caller_line}
-use Rattle.jvm_steps.specs.Machine.Markers.{marker_on, state_of}
-use Rattle.jvm_steps.specs.Machine.Runs.{IsCalm}
+use Rattle.prepared_code.specs.Markers.{marker_on, state_of}
+use Rattle.prepared_code.specs.Runs.{IsCalm}
 use Rattle.jvm_steps.specs.Moves.Hands.{IsLeft, goes_in}
 use Rattle.jvm_steps.specs.Moves.Trying.{tried_in}
 use Rattle.jvm_steps.specs.Moves.Turning.{loads_in, loads_none, pause_at}

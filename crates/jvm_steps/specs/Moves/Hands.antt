@@ -9,10 +9,10 @@ use Rattle.jvm_model.specs.Turns.Rest.{Todo, Attempt, Moves}
 use Rattle.jvm_model.specs.Turns.Told.{Held}
 use Rattle.jvm_steps.specs.declared.turns.hands.Gone.{Gone}
 use Rattle.jvm_steps.specs.declared.turns.hands.Hand.{Hand}
-use Rattle.jvm_steps.specs.Machine.Standing.{places_of}
+use Rattle.prepared_code.specs.Standing.{places_of}
 use Rattle.jvm_steps.specs.Moves.Trying.{tried_in}
 use Rattle.jvm_steps.specs.Moves.Turning.{goes_by_moves, pause_at}
-use Rattle.jvm_steps.specs.Codes.Versions.{Setup, current_of, method_of, mark_of}
+use Rattle.prepared_code.specs.Versions.{Setup, current_of, method_of, mark_of}
 
 abbrev pub todo_of : Bool → Todo
 todo_of true = Moves

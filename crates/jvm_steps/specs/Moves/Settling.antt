@@ -10,10 +10,10 @@ use Rattle.jvm_model.specs.Basis.Data.{Instruction, Turn}
 use Rattle.jvm_model.specs.Running.Applies.{goes, new_frame}
 use Rattle.jvm_model.specs.Running.Moves.{argument_array, caught, handler_for, move, own_at}
 use Rattle.jvm_model.specs.Basis.SharedState.{class_of}
-use Rattle.jvm_steps.specs.declared.turns.parts.Parts.{Parts}
-use Rattle.jvm_steps.specs.declared.turns.parts.Here.{Here}
-use Rattle.jvm_steps.specs.Machine.States.{frame_in, state_in, state_with}
-use Rattle.jvm_steps.specs.Codes.Versions.{Setup, text_of}
+use Rattle.prepared_code.specs.declared.parts.Parts.{Parts}
+use Rattle.prepared_code.specs.declared.parts.Here.{Here}
+use Rattle.prepared_code.specs.States.{frame_in, state_in, state_with}
+use Rattle.prepared_code.specs.Versions.{Setup, text_of}
 
 -- ---- the operands of the current frame
 

@@ -12,10 +12,10 @@ use Rattle.jvm_model.specs.Turns.Told.{mark_now}
 use Rattle.jvm_model.specs.Running.Between.{changes_between, compared, followed}
 use Rattle.jvm_model.specs.Turns.Pauses.{Pause, changes_due}
 use Rattle.jvm_model.specs.Turns.StepPauses.{is_nothing, step_pause}
-use Rattle.jvm_steps.specs.declared.prepare.line.Action.{Action}
-use Rattle.jvm_steps.specs.declared.prepare.line.Action.TheVariants as action
-use Rattle.jvm_steps.specs.declared.prepare.line.Line.{Line}
-use Rattle.jvm_steps.specs.Codes.Versions.{Setup, line_at, text_of, mark_of}
+use Rattle.prepared_code.specs.declared.line.Action.{Action}
+use Rattle.prepared_code.specs.declared.line.Action.TheVariants as action
+use Rattle.prepared_code.specs.declared.line.Line.{Line}
+use Rattle.prepared_code.specs.Versions.{Setup, line_at, text_of, mark_of}
 
 -- ---- before an attempt
 

@@ -14,9 +14,9 @@ use Rattle.jvm_model.specs.declared.event.EventKind.TheVariants as kind
 use Rattle.jvm_model.specs.Turns.Pauses.{changes_due, end_due, unless_off, Pause, paused}
 use Rattle.jvm_steps.specs.declared.turns.turning.Moved.{Moved}
 use Rattle.jvm_steps.specs.declared.turns.turning.Moved.TheVariants as moved
-use Rattle.jvm_steps.specs.Machine.States.{active}
+use Rattle.prepared_code.specs.States.{active}
 use Rattle.jvm_steps.specs.Moves.Settling.{after_move}
-use Rattle.jvm_steps.specs.Codes.Versions.{Setup, text_of, mark_of}
+use Rattle.prepared_code.specs.Versions.{Setup, text_of, mark_of}
 
 abbrev pub helds_in : Setup → List PlacedFrame → List Held
 helds_in w fs = helds (mark_of w.versions) (map active fs)

@@ -5,14 +5,11 @@ ghost use Rattle.jvm_model.specs.Instructions.ObjectRules.{array_length};
 ghost use Rattle.jvm_steps.specs.Instructions.Elements.{IsMeasured};
 ghost use Rattle.jvm_steps.specs.Instructions.Acts.{IsTop, Becomes, acts_arraylength, acts_newarray};
 
-use crate::initialize::objects::ARRAY;
-use crate::prepare::line::Line;
-use crate::prepare::originals::{Exception, Originals};
-use crate::turns::parts::Parts;
 use crate::unwind::raising::{RESERVED, break_off, end_unless, raise};
 use heap_objects::{Datum, Heap, HeapError, Value};
 use jf_bytes::NoMemory;
 use jvm_basic::{Effect, int_of, ref_of, replace};
+use prepared_code::{ARRAY, Exception, Line, Originals, Parts};
 
 /// The greatest int.
 const GREATEST: u32 = 2_147_483_647;

@@ -7,16 +7,15 @@ ghost use Rattle.jvm_model.specs.Running.Run.{starts};
 ghost use Rattle.jvm_named.specs.Answers.{answer_view, exception_name, refusal_view};
 ghost use Rattle.jvm_steps.specs.Instructions.Acts.{raised_in};
 ghost use Rattle.jvm_steps.specs.Instructions.Asked.{concluded, refused_in, starts_in};
-ghost use Rattle.jvm_steps.specs.Machine.States.{state_in};
+ghost use Rattle.prepared_code.specs.States.{state_in};
 
 use crate::execute::invoking::call;
-use crate::prepare::originals::Originals;
-use crate::turns::parts::{Here, Parts};
 use crate::unwind::exceptions::kind_raised;
 use crate::unwind::raising::{break_at, throw_kind, throw_kind_with};
 use jf_bytes::{NoMemory, Text16};
 use jvm_model::Ending;
 use jvm_named::{Asked, Exception, Refusal};
+use prepared_code::{Here, Originals, Parts};
 use std::alloc::Global;
 
 /// Throws an exception that the instruction raises, with its message.

@@ -9,12 +9,12 @@ ghost use Rattle.jvm_named.specs.Objects.{AreLoaded};
 ghost use Rattle.jvm_steps.specs.Instructions.Acts.{IsTop, Becomes, ended};
 ghost use Rattle.jvm_steps.specs.Instructions.Acts.{acts, acts_alone, attempts_on};
 ghost use Rattle.jvm_steps.specs.Instructions.Acts.{BecomesBeneath, awaited_in, is_named, named_in};
-ghost use Rattle.jvm_steps.specs.Codes.Linked.{IsReady, linker_in};
-ghost use Rattle.jvm_steps.specs.Machine.Ready.{CanRun, IsSoundIn};
-ghost use Rattle.jvm_steps.specs.Machine.Markers.{marker_on, state_of};
-ghost use Rattle.jvm_steps.specs.Machine.States.{here_of};
+ghost use Rattle.prepared_code.specs.Linked.{IsReady, linker_in};
+ghost use Rattle.prepared_code.specs.Ready.{CanRun, IsSoundIn};
+ghost use Rattle.prepared_code.specs.Markers.{marker_on, state_of};
+ghost use Rattle.prepared_code.specs.States.{here_of};
 ghost use Rattle.jvm_steps.specs.Moves.Turning.{loads_in, loads_none};
-ghost use Rattle.jvm_steps.specs.Codes.Versions.{line_at};
+ghost use Rattle.prepared_code.specs.Versions.{line_at};
 
 use crate::execute::arrays::{make_array, measure};
 use crate::execute::asking::conclude;
@@ -24,13 +24,12 @@ use crate::execute::returning::{end_initializer, return_by};
 use crate::execute::strings::push_string;
 use crate::execute::throwing::throw_object;
 use crate::initialize::initializing::initialize;
-use crate::initialize::markers::{Marker, marker_on};
-use crate::prepare::line::{Action, Line};
-use crate::prepare::originals::{Exception, Originals};
-use crate::turns::parts::{Here, Parts, where_now};
 use crate::unwind::raising::{break_off, raise_with};
 use jf_bytes::{NoMemory, Stack};
 use jvm_basic::{Effect, basic_by};
+use prepared_code::{
+    Action, Exception, Here, Line, Marker, Originals, Parts, marker_on, where_now,
+};
 use std::alloc::Global;
 
 /// The message of a division by zero.

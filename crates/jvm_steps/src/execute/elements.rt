@@ -16,21 +16,18 @@ ghost use Rattle.jvm_steps.specs.Instructions.Acts.{IsTop, Becomes, acts_load, a
 ghost use Rattle.jvm_steps.specs.Instructions.Elements.{access_of, acts_loaded, acts_refused, acts_stored};
 ghost use Rattle.jvm_named.specs.Objects.{AreLoaded};
 ghost use Rattle.jvm_steps.specs.Instructions.Elements.{IsLoaded, IsStored, drops_three, element_at, is_number, place_by, storing_by};
-ghost use Rattle.jvm_steps.specs.Codes.Linked.{linker_in};
-ghost use Rattle.jvm_steps.specs.Machine.States.{state_in};
-ghost use Rattle.jvm_steps.specs.Codes.Versions.{text_of};
+ghost use Rattle.prepared_code.specs.Linked.{linker_in};
+ghost use Rattle.prepared_code.specs.States.{state_in};
+ghost use Rattle.prepared_code.specs.Versions.{text_of};
 
 use crate::execute::going::datum_of;
-use crate::prepare::kinds::fits_array;
-use crate::prepare::line::Line;
-use crate::prepare::originals::{Exception, Originals};
-use crate::turns::parts::Parts;
 use crate::unwind::raising::{break_off, end_unless, raise, raise_with};
 use const_pool::Kind;
 use frame_stack::Frames;
 use heap_objects::{Datum, Element, Heap, Value, element_of};
 use jf_bytes::{NoMemory, Seq};
 use jvm_basic::{Effect, drop_narrow, drop_three, exchange_two, recall, replace_two, value_of};
+use prepared_code::{Exception, Line, Originals, Parts, fits_array, units_of};
 use std::alloc::Global;
 
 /// Where an array and an index lead: the array is null, or the object none that the instruction
@@ -122,17 +119,6 @@ fn led_to(heap: &Heap, kind: Kind, place: &Place) -> Led
     } else {
         Led::ToAnother
     }
-}
-
-/// The units of a text in ASCII.
-pub fn units_of(alloc: Global, bytes: &[u8]) -> Result<Seq<u16>, NoMemory>
-    ensures { IfOk result (λ units. units ≡ bytes.now) }
-{
-    let mut units = Seq::with_capacity(alloc, bytes.len())?;
-    for byte in bytes {
-        units.push(u16::from(*byte))?;
-    }
-    Ok(units)
 }
 
 /// A number in decimal.

@@ -6,8 +6,8 @@ ghost use Rattle.heap_objects.specs.Changes.{changed_if};
 ghost use Rattle.frame_stack.specs.FrameLists.{can_enter, has_room};
 ghost use Rattle.jvm_steps.specs.Instructions.Arguments.{with_version_frame};
 
-use crate::prepare::originals::Originals;
 use frame_stack::Frames;
+use prepared_code::Originals;
 
 /// Begins a frame of a method's current version, at its first place, which takes so many of the
 /// topmost operands. False, with nothing changed, where they are fewer or do not fit.

@@ -5,48 +5,13 @@ ghost use Rattle.const_pool.specs.declared.descriptor.Kind.TheVariants.{Int, Ref
 ghost use Rattle.frame_stack.specs.FrameLists.{top_operands};
 ghost use Rattle.jvm_basic.specs.Outcomes.{GoesOn, effect_of, after};
 ghost use Rattle.jvm_model.specs.Basis.Values.{as_value, datum_of};
-ghost use Rattle.jvm_model.specs.Basis.Families.{family_of};
-ghost use Rattle.jvm_steps.specs.Codes.Versions.{is_athrow, is_last_family, next_in};
 ghost use Rattle.jvm_steps.specs.Instructions.Going.{takes_result, resume_effect, resume_frames, top_datum};
 
-use crate::prepare::line::{Action, Line};
 use const_pool::Kind;
 use frame_stack::Frames;
 use heap_objects::{Datum, Value};
 use jvm_basic::{Effect, go_on, put, recall};
-use jvm_model::Family;
-
-/// Whether control never goes on behind an instruction of this family.
-fn is_last(family: Family) -> bool
-    ensures { result ≡ is_last_family family }
-{
-    match family {
-        Family::Goto | Family::Switch | Family::Ret | Family::Return(_) => true,
-        _ => false,
-    }
-}
-
-/// Whether it is athrow.
-fn is_athrow(action: &Action) -> bool
-    ensures { result ≡ is_athrow action.now }
-{
-    match action {
-        Action::Athrow => true,
-        _ => false,
-    }
-}
-
-/// The offset behind a line, unless control never goes on there.
-pub fn next_in(line: &Line) -> Option<u16>
-    requires { line.now.family ≡ family_of line.now.instr.op }
-    ensures { result ≡ next_in line.now }
-{
-    if is_athrow(&line.action) || is_last(line.family) {
-        None
-    } else {
-        Some(line.next)
-    }
-}
+use prepared_code::{Action, Line};
 
 /// Goes on as it is.
 fn keep(frames: &mut Frames, next: u16) -> Effect

@@ -5,23 +5,21 @@ ghost use Rattle.frame_stack.specs.FrameLists.{top_operands};
 ghost use Rattle.frame_stack.specs.Widths.{width};
 ghost use Rattle.jvm_model.specs.Basis.Values.{data_of, datum_of};
 ghost use Rattle.jvm_model.specs.Basis.Programs.{name_at};
-ghost use Rattle.jvm_steps.specs.declared.prepare.originals.Exception.TheVariants.{NoClassDefinition};
+ghost use Rattle.prepared_code.specs.declared.originals.Exception.TheVariants.{NoClassDefinition};
 ghost use Rattle.jvm_steps.specs.Instructions.Acts.{raising};
 ghost use Rattle.jvm_steps.specs.Instructions.Arguments.{arguments_of, can_begin, with_begun};
 ghost use Rattle.jvm_steps.specs.Instructions.Arguments.{fits_params, is_long_kind, slots_for, taken_slots};
 ghost use Rattle.jvm_steps.specs.Instructions.Invoking.{called, may_begin};
-ghost use Rattle.jvm_steps.specs.Machine.States.{state_in};
+ghost use Rattle.prepared_code.specs.States.{state_in};
 
 use crate::execute::entering::enter;
 use crate::execute::going::datum_of;
-use crate::prepare::lookup::name_at;
-use crate::prepare::originals::{Exception, Originals};
-use crate::turns::parts::{Here, Parts};
 use crate::unwind::raising::{break_at, raise, raise_with};
 use const_pool::Kind;
 use frame_stack::Frames;
 use heap_objects::Value;
 use jf_bytes::NoMemory;
+use prepared_code::{Exception, Here, Originals, Parts, name_at};
 use std::alloc::Global;
 
 /// How many activations are live at most.

@@ -4,12 +4,10 @@
 ghost use Rattle.std.specs.Prelude.{◌≡◌, OnOk};
 ghost use Rattle.jvm_steps.specs.Instructions.Acts.{IsTop, Becomes, acts_monitor};
 
-use crate::prepare::line::Line;
-use crate::prepare::originals::{Exception, Originals};
-use crate::turns::parts::Parts;
 use crate::unwind::raising::{break_off, end_unless, raise};
 use jf_bytes::NoMemory;
 use jvm_basic::{drop_one, ref_of};
+use prepared_code::{Exception, Line, Originals, Parts};
 
 /// Takes the object off.
 pub fn watch(

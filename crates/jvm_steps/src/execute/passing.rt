@@ -13,27 +13,23 @@ ghost use Rattle.jvm_model.specs.declared.event.Mark.TheVariants.{Off};
 ghost use Rattle.jvm_named.specs.Known.{IsKnown};
 ghost use Rattle.jvm_named.specs.Names.{naming_view};
 ghost use Rattle.jvm_named.specs.Passing.{IfRan, runs_native_call};
-ghost use Rattle.jvm_steps.specs.declared.prepare.line.Action.TheVariants as action;
+ghost use Rattle.prepared_code.specs.declared.line.Action.TheVariants as action;
 ghost use Rattle.jvm_steps.specs.Instructions.Arguments.{can_begin, with_begun};
 ghost use Rattle.jvm_steps.specs.Instructions.Invoking.{may_begin};
-ghost use Rattle.jvm_steps.specs.Codes.Linked.{linker_in};
-ghost use Rattle.jvm_steps.specs.Machine.Markers.{state_of};
+ghost use Rattle.prepared_code.specs.Linked.{linker_in};
+ghost use Rattle.prepared_code.specs.Markers.{state_of};
 ghost use Rattle.jvm_steps.specs.Instructions.Passing.{Passes, ReturnsTo, is_method, is_probed, is_told, on_frames};
 ghost use Rattle.jvm_steps.specs.Instructions.Passing.{changed_in, steps_if, with_changed};
-ghost use Rattle.jvm_steps.specs.Machine.Ready.{CanRun, IsSoundIn};
-ghost use Rattle.jvm_steps.specs.Machine.Runs.{IsCalm};
-ghost use Rattle.jvm_steps.specs.Machine.States.{here_of};
+ghost use Rattle.prepared_code.specs.Ready.{CanRun, IsSoundIn};
+ghost use Rattle.prepared_code.specs.Runs.{IsCalm};
+ghost use Rattle.prepared_code.specs.States.{here_of};
 ghost use Rattle.jvm_steps.specs.Moves.Calmly.{GoesBack};
-ghost use Rattle.jvm_steps.specs.Codes.Versions.{current_of, line_at, mark_of};
+ghost use Rattle.prepared_code.specs.Versions.{current_of, line_at, mark_of};
 
 use crate::execute::arrays::pass_length;
-use crate::execute::going::{next_in, top_datum, value_of};
+use crate::execute::going::{top_datum, value_of};
 use crate::execute::invoking::{begin_frame, may_begin};
 use crate::execute::plain::plain_steps;
-use crate::initialize::markers::{Marker, marker_on};
-use crate::prepare::line::{Action, Line};
-use crate::prepare::originals::Originals;
-use crate::turns::parts::{Here, Parts, where_now};
 use crate::turns::turning::is_marked;
 use crate::unwind::catching::{catch_below, caught_below, thrown_object};
 use crate::unwind::handlers::class_of;
@@ -46,6 +42,7 @@ use jvm_model::Mark;
 use jvm_named::{
     Call, Callee, Found, Invoked, Known, Naming, NativeCall, known_call, pass_field, pass_native,
 };
+use prepared_code::{Action, Here, Line, Marker, Originals, Parts, marker_on, next_in, where_now};
 use std::alloc::Global;
 
 // ---- a call

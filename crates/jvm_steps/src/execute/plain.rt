@@ -11,15 +11,11 @@ ghost use Rattle.jvm_basic.specs.Outcomes.{effect_of, after};
 ghost use Rattle.jvm_basic.specs.Rules.{rule_of};
 ghost use Rattle.jvm_model.specs.Basis.Families.{family_of};
 ghost use Rattle.jvm_steps.specs.Instructions.Elements.{IsLoaded, IsPassed, IsStored};
-ghost use Rattle.jvm_steps.specs.Machine.Ready.{CanRun};
-ghost use Rattle.jvm_steps.specs.Machine.Runs.{LeadsAlone, RunsVersion, IsLineIn, top_version};
-ghost use Rattle.jvm_steps.specs.Codes.Versions.{ArePrepared, IsPrepared, Setup};
+ghost use Rattle.prepared_code.specs.Ready.{CanRun};
+ghost use Rattle.prepared_code.specs.Runs.{LeadsAlone, RunsVersion, IsLineIn, top_version};
+ghost use Rattle.prepared_code.specs.Versions.{ArePrepared, IsPrepared, Setup};
 
 use crate::execute::elements::{pass_load, pass_store};
-use crate::prepare::line::{Action, Line};
-use crate::prepare::originals::Originals;
-use crate::prepare::versions::{Version, line_in};
-use crate::turns::parts::{Parts, where_now};
 use const_pool::Kind;
 use frame_stack::Frames;
 use heap_objects::Value;
@@ -28,6 +24,7 @@ use jvm_basic::{
     store_int, store_to,
 };
 use jvm_model::Test;
+use prepared_code::{Action, Line, Originals, Parts, Version, line_in, where_now};
 
 /// The line of a version at which the current frame stands.
 #[inline(always)]

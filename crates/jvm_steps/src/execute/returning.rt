@@ -4,18 +4,15 @@ ghost use Rattle.std.specs.Prelude.{◌≡◌, OnOk};
 ghost use Rattle.frame_stack.specs.FrameLists.{top_operands};
 ghost use Rattle.jvm_steps.specs.Instructions.Acts.{IsTop, acts_end, acts_return, gives_back_line, on_parts};
 ghost use Rattle.jvm_steps.specs.Instructions.Returning.{gives_back_by, has_result, left_by, returns_given};
-ghost use Rattle.jvm_steps.specs.Machine.States.{state_in};
+ghost use Rattle.prepared_code.specs.States.{state_in};
 
 use crate::execute::going::{resume, top_datum};
-use crate::prepare::line::Line;
-use crate::prepare::originals::Originals;
-use crate::prepare::passage::Passage;
-use crate::turns::parts::{Parts, where_now};
 use crate::unwind::raising::{break_off, end_unless};
 use const_pool::Kind;
 use frame_stack::Frames;
 use heap_objects::Datum;
 use jf_bytes::NoMemory;
+use prepared_code::{Line, Originals, Parts, Passage, where_now};
 use std::alloc::Global;
 
 /// What is on top goes on behind its line, with the result.

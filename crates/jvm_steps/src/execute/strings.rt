@@ -3,13 +3,11 @@
 ghost use Rattle.std.specs.Prelude.{◌≡◌, OnOk};
 ghost use Rattle.jvm_steps.specs.Instructions.Acts.{IsTop, Becomes, acts_string};
 
-use crate::prepare::line::Line;
-use crate::prepare::originals::Originals;
-use crate::turns::parts::Parts;
 use crate::unwind::raising::{RESERVED, end_unless};
 use heap_objects::{HeapError, Value};
 use jf_bytes::{NoMemory, Text16};
 use jvm_basic::put;
+use prepared_code::{Line, Originals, Parts};
 
 /// Pushes the one String of these units, which is made where there is none yet.
 pub fn push_string(

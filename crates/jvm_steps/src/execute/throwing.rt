@@ -5,15 +5,13 @@ ghost use Rattle.jvm_model.specs.Classes.Lookup.{is_below};
 ghost use Rattle.jvm_model.specs.Basis.SharedState.{class_of, throwable};
 ghost use Rattle.jvm_steps.specs.Instructions.Acts.{IsTop, Becomes, acts_athrow};
 
-use crate::prepare::line::Line;
-use crate::prepare::originals::{Exception, Originals};
-use crate::turns::parts::Parts;
 use crate::unwind::handlers::class_of;
 use crate::unwind::raising::{break_off, raise};
 use crate::unwind::supertypes::is_below_bytes;
 use jf_bytes::NoMemory;
 use jvm_basic::ref_of;
 use jvm_model::Shared;
+use prepared_code::{Exception, Line, Originals, Parts};
 
 /// Whether an object is a Throwable.
 fn is_throwable(originals: &Originals, shared: &Shared, object: u32) -> bool

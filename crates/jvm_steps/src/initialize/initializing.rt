@@ -11,21 +11,18 @@ ghost use Rattle.jvm_model.specs.Basis.SharedState.{class_of, error, phase_of, w
 ghost use Rattle.jvm_steps.specs.Instructions.Initializing.{begins_class, failing};
 ghost use Rattle.jvm_steps.specs.Instructions.Invoking.{may_begin};
 ghost use Rattle.jvm_steps.specs.Moves.Turning.{begun_in};
-ghost use Rattle.jvm_steps.specs.Machine.Markers.{marker_on, state_of};
-ghost use Rattle.jvm_steps.specs.Codes.Versions.{text_of};
+ghost use Rattle.prepared_code.specs.Markers.{marker_on, state_of};
+ghost use Rattle.prepared_code.specs.Versions.{text_of};
 
 use crate::execute::entering::enter;
 use crate::execute::invoking::{may_begin, raise_unusable};
-use crate::initialize::markers::{Marker, mark};
-use crate::prepare::lookup::{initializer_of, super_of};
-use crate::prepare::originals::{Exception, Originals};
-use crate::turns::parts::Parts;
 use crate::unwind::handlers::class_of;
 use crate::unwind::raising::{make, raise};
 use crate::unwind::supertypes::is_below_bytes;
 use jf_bytes::{NoMemory, Stack};
 use jvm_model::{Part, Phase, Shared};
 use jvm_named::set_constants;
+use prepared_code::{Exception, Marker, Originals, Parts, initializer_of, mark, super_of};
 use std::alloc::Global;
 
 /// Gives a class this phase.

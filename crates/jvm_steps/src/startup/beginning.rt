@@ -8,23 +8,19 @@ ghost use Rattle.jvm_model.specs.Soundness.Sound.{IsFit};
 ghost use Rattle.jvm_model.specs.Classes.Starting.{ready_in, unmade_in};
 ghost use Rattle.jvm_named.specs.Answers.{found_view};
 ghost use Rattle.jvm_steps.specs.Machine.Before.{IsAtStart, begun_by, with_first};
-ghost use Rattle.jvm_steps.specs.Machine.Markers.{state_of};
-ghost use Rattle.jvm_steps.specs.Machine.Standing.{IsRunOf, IsSetUp};
-ghost use Rattle.jvm_steps.specs.Machine.States.{state_in};
-ghost use Rattle.jvm_steps.specs.Codes.Versions.{text_of};
+ghost use Rattle.prepared_code.specs.Markers.{state_of};
+ghost use Rattle.prepared_code.specs.Standing.{IsRunOf, IsSetUp};
+ghost use Rattle.prepared_code.specs.States.{state_in};
+ghost use Rattle.prepared_code.specs.Versions.{text_of};
 
 use crate::execute::asking::raise_named;
 use crate::initialize::initializing::{initialize, set_phase};
-use crate::initialize::markers::Marker;
-use crate::initialize::objects::{arguments_fit, make_arguments};
-use crate::prepare::lookup::main_class;
-use crate::prepare::originals::Originals;
-use crate::turns::parts::Parts;
 use crate::unwind::handlers::class_of;
 use crate::unwind::settling::settle;
 use jf_bytes::{NoMemory, Stack};
 use jvm_model::{Ending, Phase, Shared};
 use jvm_named::Refusal;
+use prepared_code::{Marker, Originals, Parts, arguments_fit, main_class, make_arguments};
 use std::alloc::Global;
 
 /// The OutOfMemoryError that the machine throws.

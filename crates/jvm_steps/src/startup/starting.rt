@@ -6,18 +6,15 @@ ghost use Rattle.const_pool.specs.References.{named_text};
 ghost use Rattle.jvm_model.specs.Basis.SharedState.{built_in_from, phase_before, shared_before, static_zeros};
 ghost use Rattle.jvm_model.specs.Basis.SharedState.{system_static, system_stream, zero_for, zeros};
 ghost use Rattle.jvm_steps.specs.Machine.Before.{BeforeEach};
-ghost use Rattle.jvm_steps.specs.Machine.States.{state_in};
+ghost use Rattle.prepared_code.specs.States.{state_in};
 
-use crate::initialize::loading::has_built_in_name;
-use crate::initialize::objects::heap_before;
-use crate::prepare::lookup::has_bytes;
-use crate::turns::parts::Parts;
 use const_pool::{ClassFile, Member, Pool};
 use frame_stack::Frames;
 use heap_objects::Datum;
 use jf_bytes::{NoMemory, Seq, Text16};
 use jvm_model::{Phase, Program, Shared};
 use native_ops::Made;
+use prepared_code::{Parts, has_built_in_name, has_bytes, heap_before};
 use std::alloc::Global;
 
 /// The letters with which the descriptors of longs, objects and arrays begin.

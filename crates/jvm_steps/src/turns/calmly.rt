@@ -9,27 +9,23 @@ ghost use Rattle.jvm_model.specs.Turns.Told.{Held};
 ghost use Rattle.jvm_model.specs.declared.due.Due.TheVariants as due;
 ghost use Rattle.jvm_named.specs.Known.{IsKnown};
 ghost use Rattle.jvm_named.specs.Names.{naming_view};
-ghost use Rattle.jvm_steps.specs.declared.prepare.line.Action.TheVariants as action;
-ghost use Rattle.jvm_steps.specs.Codes.Linked.{linker_in};
-ghost use Rattle.jvm_steps.specs.Codes.Versions.{current_of, line_at, mark_of};
+ghost use Rattle.prepared_code.specs.declared.line.Action.TheVariants as action;
+ghost use Rattle.prepared_code.specs.Linked.{linker_in};
+ghost use Rattle.prepared_code.specs.Versions.{current_of, line_at, mark_of};
 ghost use Rattle.jvm_steps.specs.Instructions.Arguments.{can_begin, with_begun};
 ghost use Rattle.jvm_steps.specs.Instructions.Invoking.{may_begin};
 ghost use Rattle.jvm_steps.specs.Instructions.Passing.{on_frames};
-ghost use Rattle.jvm_steps.specs.Machine.Markers.{state_of};
-ghost use Rattle.jvm_steps.specs.Machine.Ready.{CanRun, IsSoundIn};
-ghost use Rattle.jvm_steps.specs.Machine.Runs.{IsCalm};
-ghost use Rattle.jvm_steps.specs.Machine.Standing.{HasVersions};
-ghost use Rattle.jvm_steps.specs.Machine.States.{here_of};
+ghost use Rattle.prepared_code.specs.Markers.{state_of};
+ghost use Rattle.prepared_code.specs.Ready.{CanRun, IsSoundIn};
+ghost use Rattle.prepared_code.specs.Runs.{IsCalm};
+ghost use Rattle.prepared_code.specs.Standing.{HasVersions};
+ghost use Rattle.prepared_code.specs.States.{here_of};
 ghost use Rattle.jvm_steps.specs.Moves.Calmly.{GoesCalmly, TriesCalmly, TriesIf, passed_there};
 ghost use Rattle.jvm_steps.specs.Moves.Hands.{HasGoneOn, HasInHand};
 
 use crate::execute::invoking::{begin_frame, may_begin};
 use crate::execute::passing::{goes_back, is_method, result_of, value_given};
-use crate::initialize::markers::Marker;
-use crate::prepare::line::{Action, Line};
-use crate::prepare::originals::Originals;
 use crate::turns::hands::{Gone, Hand, gone_to};
-use crate::turns::parts::{Here, Parts, where_now};
 use crate::turns::stepping::is_at_rest;
 use crate::turns::turning::is_marked;
 use const_pool::Kind;
@@ -37,6 +33,7 @@ use jf_bytes::Stack;
 use jvm_basic::recall;
 use jvm_model::{Due, EventKind};
 use jvm_named::{Call, Invoked, Known, Naming, known_call};
+use prepared_code::{Action, Here, Line, Marker, Originals, Parts, where_now};
 
 // ---- a call
 

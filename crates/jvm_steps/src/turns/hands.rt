@@ -7,18 +7,16 @@ ghost use Rattle.jvm_model.specs.Turns.Pauses.{is_end, later_of};
 ghost use Rattle.jvm_model.specs.Running.Run.{starts_with, with_loaded};
 ghost use Rattle.jvm_model.specs.Turns.Told.{Held};
 ghost use Rattle.jvm_steps.specs.Moves.Hands.{HasGoneOn, HasInHand, IsLeft, goes_in, todo_of};
-ghost use Rattle.jvm_steps.specs.Machine.Markers.{state_of};
-ghost use Rattle.jvm_steps.specs.Machine.Ready.{CanRun, IsSoundIn};
-ghost use Rattle.jvm_steps.specs.Machine.Standing.{HasVersions};
+ghost use Rattle.prepared_code.specs.Markers.{state_of};
+ghost use Rattle.prepared_code.specs.Ready.{CanRun, IsSoundIn};
+ghost use Rattle.prepared_code.specs.Standing.{HasVersions};
 ghost use Rattle.jvm_steps.specs.Moves.Turning.{loads_in, loads_none, pause_at};
 
-use crate::initialize::markers::Marker;
-use crate::prepare::originals::Originals;
-use crate::turns::parts::Parts;
 use crate::turns::pausing::go_by_moves;
 use crate::turns::trying::go_by_attempt;
 use jf_bytes::{NoMemory, Stack};
 use jvm_model::{Due, EventKind};
+use prepared_code::{Marker, Originals, Parts};
 use std::alloc::Global;
 
 /// What is in hand of a step: whether moves alone are left of it, or an attempt before them; whether the probe of the end that

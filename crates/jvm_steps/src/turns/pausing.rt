@@ -2,17 +2,15 @@
 
 ghost use Rattle.std.specs.Prelude.{◌≡◌, suc, OnOk, IfOk};
 ghost use Rattle.jvm_model.specs.Turns.InHand.{popped};
-ghost use Rattle.jvm_steps.specs.Machine.Markers.{state_of};
+ghost use Rattle.prepared_code.specs.Markers.{state_of};
 ghost use Rattle.jvm_steps.specs.Moves.Turning.{goes_by_moves, pause_at, paused_in};
 ghost use Rattle.jvm_steps.specs.Moves.Turning.{resumed, resumed_count};
 
-use crate::initialize::markers::{Marker, marker_on};
-use crate::prepare::originals::Originals;
-use crate::turns::parts::{Parts, where_now};
 use crate::turns::stepping::is_at_rest;
 use crate::turns::turning::{Moved, make_move};
 use jf_bytes::{NoMemory, Stack};
 use jvm_model::{Due, EventKind};
+use prepared_code::{Marker, Originals, Parts, marker_on, where_now};
 use std::alloc::Global;
 
 /// One change more. (More changes than fit do not come.)

@@ -6,21 +6,19 @@ ghost use Rattle.jvm_model.specs.Running.Moves.{settled};
 ghost use Rattle.jvm_model.specs.Running.Run.{is_ready, step};
 ghost use Rattle.jvm_model.specs.Basis.SharedState.{phase_of};
 ghost use Rattle.jvm_steps.specs.Instructions.Acts.{is_at_rest, goes_on_in};
-ghost use Rattle.jvm_steps.specs.Machine.Ready.{CanRun, IsSoundIn};
-ghost use Rattle.jvm_steps.specs.Machine.Markers.{is_unmarked, state_of};
-ghost use Rattle.jvm_steps.specs.Machine.Runs.{Leads};
-ghost use Rattle.jvm_steps.specs.Machine.Standing.{IsRunOf};
-ghost use Rattle.jvm_steps.specs.Codes.Tables.{AreAllCurrent, Releases};
-ghost use Rattle.jvm_steps.specs.Codes.Versions.{text_of};
+ghost use Rattle.prepared_code.specs.Ready.{CanRun, IsSoundIn};
+ghost use Rattle.prepared_code.specs.Markers.{is_unmarked, state_of};
+ghost use Rattle.prepared_code.specs.Runs.{Leads};
+ghost use Rattle.prepared_code.specs.Standing.{IsRunOf};
+ghost use Rattle.prepared_code.specs.Tables.{AreAllCurrent, Releases};
+ghost use Rattle.prepared_code.specs.Versions.{text_of};
 
 use crate::execute::attempting::attempt;
 use crate::execute::passing::pass_steps;
-use crate::initialize::markers::{Marker, marker_on};
-use crate::prepare::originals::Originals;
-use crate::turns::parts::Parts;
 use crate::unwind::settling::settle;
 use jf_bytes::{NoMemory, Stack};
 use jvm_model::{Phase, Shared};
+use prepared_code::{Marker, Originals, Parts, marker_on};
 use std::alloc::Global;
 
 /// Whether no marker stands on the current frame.

@@ -10,23 +10,20 @@ ghost use Rattle.jvm_model.specs.Running.Run.{goes_on, is_ready, with_loaded};
 ghost use Rattle.jvm_model.specs.Basis.SharedState.{phase_of};
 ghost use Rattle.jvm_model.specs.Turns.StepPauses.{is_nothing};
 ghost use Rattle.jvm_steps.specs.Instructions.Acts.{attempts_on, goes_on_in};
-ghost use Rattle.jvm_steps.specs.Machine.Markers.{marker_on, state_of};
-ghost use Rattle.jvm_steps.specs.Machine.Ready.{CanRun, IsSoundIn};
+ghost use Rattle.prepared_code.specs.Markers.{marker_on, state_of};
+ghost use Rattle.prepared_code.specs.Ready.{CanRun, IsSoundIn};
 ghost use Rattle.jvm_steps.specs.Moves.Turning.{loads_in, loads_none, pause_at};
 ghost use Rattle.jvm_steps.specs.Moves.Trying.{changes_since, enters_by, leaves_in};
 ghost use Rattle.jvm_steps.specs.Moves.Trying.{pause_behind_attempt, tried_in};
 
 use crate::execute::attempting::{attempt, attempt_loaded};
-use crate::initialize::markers::Marker;
-use crate::prepare::line::Action;
-use crate::prepare::originals::Originals;
-use crate::turns::parts::{Parts, where_now};
 use crate::turns::pausing::{one_more, pause};
 use crate::turns::stepping::{goes_on, is_ready};
 use crate::turns::turning::is_marked;
 use frame_stack::Frames;
 use jf_bytes::{NoMemory, Stack};
 use jvm_model::{Due, EventKind};
+use prepared_code::{Action, Marker, Originals, Parts, where_now};
 use std::alloc::Global;
 
 // ---- behind an attempt

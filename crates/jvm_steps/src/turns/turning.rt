@@ -3,20 +3,18 @@
 ghost use Rattle.std.specs.Prelude.{◌≡◌, [], ◌∷◌, not, None, Some, IfOk, OnOk};
 ghost use Rattle.jvm_model.specs.Rewriting.Images.{is_off};
 ghost use Rattle.jvm_model.specs.Basis.Data.{Unwound};
-ghost use Rattle.jvm_steps.specs.Machine.Markers.{state_of};
-ghost use Rattle.jvm_steps.specs.Machine.States.{here_of, state_in};
+ghost use Rattle.prepared_code.specs.Markers.{state_of};
+ghost use Rattle.prepared_code.specs.States.{here_of, state_in};
 ghost use Rattle.jvm_steps.specs.Moves.Turning.{begun_as, moved_as, moved_by, moved_to};
 ghost use Rattle.jvm_steps.specs.Moves.Turning.{unwind_due, unwound_by};
-ghost use Rattle.jvm_steps.specs.Codes.Versions.{mark_of};
+ghost use Rattle.prepared_code.specs.Versions.{mark_of};
 
-use crate::initialize::markers::{Marker, take_marker};
-use crate::prepare::originals::Originals;
-use crate::turns::parts::{Here, Parts, where_now};
 use crate::unwind::handlers::{class_of, handler_for};
 use crate::unwind::settling::{begin_main, go_to_handler, move_marker};
 use frame_stack::Frames;
 use jf_bytes::{NoMemory, Stack};
 use jvm_model::{Ending, Mark};
+use prepared_code::{Here, Marker, Originals, Parts, take_marker, where_now};
 use std::alloc::Global;
 
 /// What one move has done.
@@ -147,11 +145,7 @@ fn begin_or_end(originals: &Originals, parts: &mut Parts) -> Result<Moved, NoMem
 }
 
 /// A move of the frames, where no marker stands on the current one.
-fn move_frame(
-    alloc: Global,
-    originals: &Originals,
-    parts: &mut Parts,
-) -> Result<Moved, NoMemory>
+fn move_frame(alloc: Global, originals: &Originals, parts: &mut Parts) -> Result<Moved, NoMemory>
     ensures answer { IfOk result
         (λ m. m ≡ moved_as originals.now.setup (state_in parts.old)) }
     ensures state { OnOk result (state_in parts.new

@@ -8,14 +8,10 @@ ghost use Rattle.jvm_model.specs.Instructions.ObjectRules.{throws};
 ghost use Rattle.jvm_model.specs.Basis.SharedState.{throwable};
 ghost use Rattle.jvm_model.specs.Basis.Values.{ref_of};
 ghost use Rattle.jvm_steps.specs.Instructions.Passing.{CatchesBelow, caught_if, fits_caught};
-ghost use Rattle.jvm_steps.specs.Machine.Ready.{CanRun};
+ghost use Rattle.prepared_code.specs.Ready.{CanRun};
 
-use crate::unwind::handlers::{class_of, handler_for};
-use crate::prepare::lookup::has_bytes;
-use crate::initialize::markers::{Marker, marker_on};
-use crate::prepare::originals::Originals;
-use crate::turns::parts::Here;
 use crate::execute::passing::is_off;
+use crate::unwind::handlers::{class_of, handler_for};
 use crate::unwind::settling::put_alone;
 use crate::unwind::supertypes::is_subtype;
 use frame_stack::Frames;
@@ -23,6 +19,7 @@ use heap_objects::Value;
 use jf_bytes::Stack;
 use jvm_basic::{recall, ref_of};
 use jvm_model::Shared;
+use prepared_code::{Here, Marker, Originals, has_bytes, marker_on};
 
 /// How many classes of a program stand from java/lang/Throwable on.
 const FROM_THROWABLE: usize = 33;

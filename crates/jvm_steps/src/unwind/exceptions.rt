@@ -4,9 +4,9 @@ ghost use Rattle.std.specs.Prelude.{◌≡◌, IfOk};
 ghost use Rattle.jvm_model.specs.Basis.SharedState.{kind_for};
 ghost use Rattle.jvm_named.specs.Answers.{exception_name};
 
-use crate::prepare::originals::{Exception, Originals};
 use jf_bytes::NoMemory;
 use jvm_named::Exception as Raised;
+use prepared_code::{Exception, Originals};
 use std::alloc::Global;
 
 /// The kind of the class of such an exception. What a native method throws is found by its name.

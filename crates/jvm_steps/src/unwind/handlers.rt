@@ -6,15 +6,13 @@ ghost use Rattle.jvm_model.specs.Classes.Lookup.{is_below};
 ghost use Rattle.jvm_model.specs.Running.Moves.{covers, handler_for};
 ghost use Rattle.heap_objects.specs.Heaps.{kind_at};
 ghost use Rattle.jvm_model.specs.Basis.SharedState.{class_of_kind};
-ghost use Rattle.jvm_steps.specs.Codes.Versions.{catcher_in, text_of};
+ghost use Rattle.prepared_code.specs.Versions.{catcher_in, text_of};
 
-use crate::initialize::objects::class_of_kind;
-use crate::prepare::originals::Originals;
-use crate::prepare::versions::Catching;
 use crate::unwind::supertypes::is_below;
 use class_linker::Linker;
 use heap_objects::Heap;
 use jvm_model::Program;
+use prepared_code::{Catching, Originals, class_of_kind};
 
 // ---- handlers
 

@@ -8,12 +8,11 @@ ghost use Rattle.jvm_steps.specs.Instructions.Raising.{heap_made, heap_with_both
 ghost use Rattle.jvm_steps.specs.Instructions.Raising.{reference_of_both, throwing, throwing_with, with_both};
 ghost use Rattle.jvm_steps.specs.Moves.Settling.{own_of};
 
-use crate::prepare::originals::{Exception, Originals};
-use crate::turns::parts::{Here, Parts};
 use heap_objects::{Datum, Heap, HeapError};
 use jf_bytes::NoMemory;
 use jvm_basic::Effect;
 use jvm_model::Ending;
+use prepared_code::{Exception, Here, Originals, Parts};
 use std::alloc::Global;
 
 /// The object that is thrown where an exception does not fit into the heap.

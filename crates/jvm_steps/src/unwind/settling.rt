@@ -6,24 +6,22 @@ ghost use Rattle.std.specs.Prelude.{◌≡◌, [], false, map, None, Some, is_so
 ghost use Rattle.jvm_model.specs.Running.Applies.{has_room, still};
 ghost use Rattle.jvm_model.specs.Running.Moves.{argument_array, main_or_end, move, settled};
 ghost use Rattle.jvm_steps.specs.Instructions.Initializing.{after_marker, marker_begins};
-ghost use Rattle.jvm_steps.specs.Machine.Markers.{state_of};
-ghost use Rattle.jvm_steps.specs.Machine.States.{active, here_of, state_in};
+ghost use Rattle.prepared_code.specs.Markers.{state_of};
+ghost use Rattle.prepared_code.specs.States.{active, here_of, state_in};
 ghost use Rattle.jvm_steps.specs.Moves.Settling.{emptied, fits_alone, with_alone};
 ghost use Rattle.jvm_steps.specs.Moves.Settling.{after_move, caught_at, caught_top, main_entries};
 ghost use Rattle.jvm_steps.specs.Moves.Turning.{begun_in};
-ghost use Rattle.jvm_steps.specs.Codes.Versions.{text_of};
+ghost use Rattle.prepared_code.specs.Versions.{text_of};
 
 use crate::execute::entering::enter;
 use crate::initialize::initializing::{fail, go_on};
-use crate::initialize::markers::{Marker, take_marker};
-use crate::prepare::originals::Originals;
-use crate::turns::parts::{Here, Parts, where_now};
 use crate::unwind::handlers::{class_of, handler_for};
 use crate::unwind::raising::break_at;
 use frame_stack::Frames;
 use heap_objects::Value;
 use jf_bytes::{NoMemory, Stack};
 use jvm_model::Ending;
+use prepared_code::{Here, Marker, Originals, Parts, take_marker, where_now};
 use std::alloc::Global;
 
 /// The argument array's object.
@@ -169,11 +167,7 @@ fn begin_or_end(originals: &Originals, parts: &mut Parts) -> Result<(), NoMemory
 
 /// A move of the frames, where no marker stands on the current one. False, with nothing changed,
 /// where none applies.
-fn move_frame(
-    alloc: Global,
-    originals: &Originals,
-    parts: &mut Parts,
-) -> Result<bool, NoMemory>
+fn move_frame(alloc: Global, originals: &Originals, parts: &mut Parts) -> Result<bool, NoMemory>
     ensures answer { let w = originals.now.setup in
         IfOk result (λ b. b ≡ is_some (move w.world (text_of w.versions) (state_in parts.old))) }
     ensures state { OnOk result

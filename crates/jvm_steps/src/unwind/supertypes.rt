@@ -7,11 +7,11 @@ ghost use Rattle.const_pool.specs.References.{named_class};
 ghost use Rattle.jvm_model.specs.Classes.Lookup.{is_below, is_subtype, supertypes_within};
 ghost use Rattle.jvm_model.specs.Basis.Programs.{class_named};
 
-use crate::prepare::lookup::{position_of, position_of_bytes};
 use class_linker::Linker;
 use const_pool::ClassFile;
 use jf_bytes::Text16;
 use jvm_model::Program;
+use prepared_code::{position_of, position_of_bytes};
 
 /// The position of the class that an entry of a class file names.
 #[inline(never)]

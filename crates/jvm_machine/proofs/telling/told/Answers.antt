@@ -1,6 +1,6 @@
 use Rattle.std.proofs.Common.{Some, None, sym, ap, ◌∙◌}
 use Rattle.jvm_model.specs.Turns.Pauses.{begin_kind}
-use Rattle.jvm_steps.specs.Codes.Versions.{mark_of}
+use Rattle.prepared_code.specs.Versions.{mark_of}
 use Rattle.jvm_machine.proofs.ToldFrames.{told-by, told_here}
 use Rattle.jvm_machine.proofs.telling.told.Goals as goal
 

@@ -2,7 +2,7 @@ use Rattle.std.proofs.Common.{◌≡◌, ap, sym, subst, ◌∙◌, arith, lengt
 use Rattle.std.specs.List.{AllByRecursion}
 use Rattle.jvm_model.specs.Basis.Programs.{numbered}
 use Rattle.jvm_model.specs.Soundness.Sound.{IsFit}
-use Rattle.jvm_steps.specs.Codes.Prepared.{HasShortCodes}
+use Rattle.prepared_code.specs.Prepared.{HasShortCodes}
 use Rattle.call_revelation.specs.Reveals.{IsRevelation}
 use Rattle.jvm_model.specs.declared.program.Program.{Program}
 use Rattle.profile_session.proofs.FirstParts.{ahead-first, first-of, front-first, order-first}

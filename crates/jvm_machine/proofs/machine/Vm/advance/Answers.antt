@@ -1,10 +1,10 @@
 use Rattle.std.proofs.Common.{◌≡◌, true, false, drop, sym, ap, subst, ◌∙◌}
 use Rattle.jvm_model.specs.declared.state.State.{State}
-use Rattle.jvm_steps.specs.Machine.Markers.{state_of}
+use Rattle.prepared_code.specs.Markers.{state_of}
 use Rattle.jvm_steps.specs.Moves.Turning.{loads_in}
-use Rattle.jvm_steps.specs.Codes.Versions.{Setup}
-use Rattle.jvm_steps.specs.Codes.Tables.{Releases}
-use Rattle.jvm_steps.proofs.Moves.StandingSteps.{parts-pinned}
+use Rattle.prepared_code.specs.Versions.{Setup}
+use Rattle.prepared_code.specs.Tables.{Releases}
+use Rattle.prepared_code.proofs.StandingSteps.{parts-pinned}
 use Rattle.jvm_machine.specs.declared.advancing.Telling.TheVariants as telling
 use Rattle.jvm_machine.specs.Advances.{Stops, TellsClasses}
 use Rattle.jvm_machine.specs.Machine.{IsMachine, seen}

@@ -2,10 +2,10 @@ use Rattle.std.proofs.Common.{◌≡◌, true, false, refl, sym, ap, subst, ◌�
 use Rattle.std.specs.Prelude.{IfNone}
 use Rattle.std.specs.Option.{IfSome}
 use Rattle.jvm_model.specs.Running.Run.{starts_with}
-use Rattle.jvm_steps.specs.Machine.Markers.{state_of}
-use Rattle.jvm_steps.specs.Machine.Ready.{IsSoundIn}
+use Rattle.prepared_code.specs.Markers.{state_of}
+use Rattle.prepared_code.specs.Ready.{IsSoundIn}
 use Rattle.jvm_steps.specs.Moves.Calmly.{GoesCalmly}
-use Rattle.jvm_steps.proofs.Moves.StandingSteps.{set-up-runs}
+use Rattle.prepared_code.proofs.StandingSteps.{set-up-runs}
 use Rattle.jvm_machine.specs.Advances.{Stops}
 use Rattle.jvm_machine.specs.declared.advancing.Telling.TheVariants as telling
 use Rattle.jvm_machine.specs.Machine.{Keeps}

@@ -1,4 +1,4 @@
-use Rattle.jvm_steps.specs.Machine.Markers.{state_of}
+use Rattle.prepared_code.specs.Markers.{state_of}
 use Rattle.jvm_machine.proofs.Shown.{rest-shows}
 use Rattle.jvm_machine.proofs.HeldVersions.{seen-is}
 use Rattle.jvm_machine.proofs.machine.Vm.ending.Goals as goal

@@ -1,10 +1,10 @@
 use Rattle.std.proofs.Common.{◌≡◌, sym, ap, ap₂, subst, ◌∙◌}
-use Rattle.jvm_steps.specs.Codes.ClassVersions.{class_versions}
-use Rattle.jvm_steps.specs.Machine.Markers.{state_of}
-use Rattle.jvm_steps.specs.Codes.Tables.{Adds, AreOfMethods, Versions}
-use Rattle.jvm_steps.specs.Codes.Versions.{Setup}
-use Rattle.jvm_steps.proofs.Codes.ClassVersionLaws.{versions-below}
-use Rattle.jvm_steps.proofs.Moves.StandingSteps.{parts-pinned}
+use Rattle.prepared_code.specs.ClassVersions.{class_versions}
+use Rattle.prepared_code.specs.Markers.{state_of}
+use Rattle.prepared_code.specs.Tables.{Adds, AreOfMethods, Versions}
+use Rattle.prepared_code.specs.Versions.{Setup}
+use Rattle.prepared_code.proofs.ClassVersionLaws.{versions-below}
+use Rattle.prepared_code.proofs.StandingSteps.{parts-pinned}
 use Rattle.jvm_machine.specs.Installs.{IsFormed, IsImageOf, with_class}
 use Rattle.jvm_machine.specs.Machine.{IsMachine, IsTidy, seen, viewed}
 use Rattle.jvm_machine.specs.View.{View}

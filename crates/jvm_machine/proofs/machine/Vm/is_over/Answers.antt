@@ -1,5 +1,5 @@
 use Rattle.std.proofs.Common.{sym, ◌∙◌}
-use Rattle.jvm_steps.specs.Machine.Markers.{state_of}
+use Rattle.prepared_code.specs.Markers.{state_of}
 use Rattle.jvm_machine.proofs.Shown.{over-is}
 use Rattle.jvm_machine.proofs.HeldVersions.{seen-is}
 use Rattle.jvm_machine.proofs.machine.Vm.is_over.Goals as goal

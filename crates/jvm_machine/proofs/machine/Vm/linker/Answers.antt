@@ -1,6 +1,6 @@
 use Rattle.std.proofs.Common.{ap, ◌∙◌}
 use Rattle.class_linker.specs.Linkers.{LinkerView}
-use Rattle.jvm_steps.specs.Machine.Markers.{state_of}
+use Rattle.prepared_code.specs.Markers.{state_of}
 use Rattle.jvm_machine.proofs.Loaded.{run-loaded}
 use Rattle.jvm_machine.proofs.HeldVersions.{seen-is}
 use Rattle.jvm_machine.proofs.machine.Vm.linker.Goals as goal

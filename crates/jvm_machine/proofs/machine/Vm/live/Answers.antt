@@ -1,6 +1,6 @@
 use Rattle.std.proofs.Common.{length, sym, ap, ◌∙◌}
-use Rattle.jvm_steps.specs.Machine.Markers.{state_of}
-use Rattle.jvm_steps.specs.Codes.Versions.{mark_of}
+use Rattle.prepared_code.specs.Markers.{state_of}
+use Rattle.prepared_code.specs.Versions.{mark_of}
 use Rattle.jvm_machine.specs.View.{View}
 use Rattle.jvm_machine.proofs.Shown.{rest-live}
 use Rattle.jvm_machine.proofs.ToldFrames.{live-frames}

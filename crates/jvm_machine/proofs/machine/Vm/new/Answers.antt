@@ -2,10 +2,10 @@ use Rattle.std.proofs.Common.{◌≤◌, false, sym, ap, subst, ◌∙◌}
 use Rattle.jvm_model.specs.declared.program.Program.{Program}
 use Rattle.jvm_model.specs.Running.Run.{before}
 use Rattle.jvm_model.specs.Basis.SharedState.{built_in_from}
-use Rattle.jvm_steps.specs.Machine.Markers.{state_of}
-use Rattle.jvm_steps.specs.Codes.Tables.{AreAllCurrent}
-use Rattle.jvm_steps.proofs.Marked.MarkedParts.{plain-state}
-use Rattle.jvm_steps.proofs.Codes.OriginalsRun.{original-current}
+use Rattle.prepared_code.specs.Markers.{state_of}
+use Rattle.prepared_code.specs.Tables.{AreAllCurrent}
+use Rattle.prepared_code.proofs.MarkedParts.{plain-state}
+use Rattle.prepared_code.proofs.OriginalsRun.{original-current}
 use Rattle.jvm_machine.proofs.HeldVersions.{plain-view, tidy-current}
 use Rattle.jvm_machine.proofs.Fresh.{fresh-machine, fresh-seen}
 use Rattle.jvm_machine.proofs.machine.Vm.new.Goals as goal

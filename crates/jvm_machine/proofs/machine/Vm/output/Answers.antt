@@ -1,5 +1,5 @@
 use Rattle.std.proofs.Common.{◌∙◌}
-use Rattle.jvm_steps.specs.Machine.Markers.{state_of}
+use Rattle.prepared_code.specs.Markers.{state_of}
 use Rattle.jvm_machine.proofs.Shown.{rest-shows}
 use Rattle.jvm_machine.proofs.HeldVersions.{seen-is}
 use Rattle.jvm_machine.proofs.machine.Vm.output.Goals as goal

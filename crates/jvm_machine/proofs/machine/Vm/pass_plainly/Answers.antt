@@ -1,6 +1,6 @@
 use Rattle.std.proofs.Common.{◌+◌, sym, ap, subst, ◌∙◌}
-use Rattle.jvm_steps.specs.Machine.Markers.{state_of}
-use Rattle.jvm_steps.proofs.Moves.StandingSteps.{set-up-runs}
+use Rattle.prepared_code.specs.Markers.{state_of}
+use Rattle.prepared_code.proofs.StandingSteps.{set-up-runs}
 use Rattle.jvm_machine.specs.Several.{Passes, none}
 use Rattle.jvm_machine.specs.View.{is_resting}
 use Rattle.jvm_machine.proofs.QuietSteps.{plain-machine, plain-passes, plain-tidy}

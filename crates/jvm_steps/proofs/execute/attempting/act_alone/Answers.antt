@@ -1,9 +1,9 @@
 use Rattle.std.proofs.Common.{Some, sym, ap, ◌∙◌}
 use Rattle.std.proofs.lemmas.Result.{on_ok_weaker}
 use Rattle.jvm_model.specs.Instructions.LocalRules.{by_zero}
-use Rattle.jvm_steps.specs.declared.prepare.originals.Exception.TheVariants.{Arithmetic}
+use Rattle.prepared_code.specs.declared.originals.Exception.TheVariants.{Arithmetic}
 use Rattle.jvm_steps.specs.Instructions.Acts.{acts_alone, on_parts, raising}
-use Rattle.jvm_steps.specs.Machine.States.{state_in}
+use Rattle.prepared_code.specs.States.{state_in}
 use Rattle.jvm_steps.proofs.Instructions.Alone.{goes-next, goes-bad, goes-other, goes-throws}
 use Rattle.jvm_steps.proofs.Instructions.Callees.{came-to}
 use Rattle.jvm_steps.proofs.execute.attempting.act_alone.Goals as goal

@@ -1,7 +1,7 @@
 use Rattle.std.proofs.Common.{◌-◌, length, sym, ap, ◌∙◌}
 use Rattle.std.specs.Prelude.{is_some}
 use Rattle.std.proofs.lemmas.Result.{on_ok_weaker}
-use Rattle.jvm_steps.specs.Machine.Markers.{marker_on}
+use Rattle.prepared_code.specs.Markers.{marker_on}
 use Rattle.jvm_steps.proofs.Marked.Beneath.{does-beneath, not-some}
 use Rattle.jvm_steps.proofs.execute.attempting.act_marked.Goals as goal
 

@@ -2,10 +2,10 @@ use Rattle.std.proofs.Common.{◌≡◌, sym, subst, ap, ◌∙◌}
 use Rattle.std.specs.Prelude.{IfNone, IfOk, OnOk, is_some}
 use Rattle.std.specs.Option.{IfSome}
 use Rattle.jvm_model.specs.Running.Run.{with_loaded}
-use Rattle.jvm_steps.specs.Codes.Versions.{Setup}
+use Rattle.prepared_code.specs.Versions.{Setup}
 use Rattle.jvm_steps.specs.Instructions.Acts.{attempts_on, awaited_in, awaited_on}
-use Rattle.jvm_steps.specs.Machine.Markers.{state_of}
-use Rattle.jvm_steps.specs.Machine.Ready.{CanRun, IsSoundIn}
+use Rattle.prepared_code.specs.Markers.{state_of}
+use Rattle.prepared_code.specs.Ready.{CanRun, IsSoundIn}
 use Rattle.jvm_steps.specs.Moves.Turning.{loads_in, loads_none}
 use Rattle.jvm_steps.proofs.Marked.Beneath.{nothing-there}
 use Rattle.jvm_steps.proofs.Loads.LoadedApart.{nothing-loads}

@@ -1,5 +1,5 @@
 use Rattle.std.proofs.Common.{sym, ap, ◌∙◌}
-use Rattle.jvm_steps.specs.Machine.Markers.{state_of}
+use Rattle.prepared_code.specs.Markers.{state_of}
 use Rattle.jvm_steps.proofs.Marked.Beneath.{breaks-there, done-there}
 use Rattle.jvm_steps.proofs.execute.attempting.attempt_line.Goals as goal
 

@@ -1,6 +1,6 @@
 use Rattle.std.proofs.Common.{sym, ap, ◌∙◌}
 use Rattle.jvm_steps.specs.Instructions.Acts.{attempts_on, awaited_on}
-use Rattle.jvm_steps.specs.Machine.Markers.{state_of}
+use Rattle.prepared_code.specs.Markers.{state_of}
 use Rattle.jvm_steps.proofs.Marked.Beneath.{awaits-unnamed, loads-unnamed, nothing-there}
 use Rattle.jvm_steps.proofs.Loads.LoadedApart.{nothing-loads, silent-loads}
 use Rattle.jvm_steps.proofs.Moves.Sounded.{objects-linked}

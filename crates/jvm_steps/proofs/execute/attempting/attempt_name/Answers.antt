@@ -1,5 +1,5 @@
 use Rattle.std.proofs.Common.{sym, ◌∙◌}
-use Rattle.jvm_steps.specs.Machine.Markers.{state_of}
+use Rattle.prepared_code.specs.Markers.{state_of}
 use Rattle.jvm_steps.proofs.Instructions.NamedAttempts.{awaits-told, begins-on, concluded-in, goes-on, loads-told}
 use Rattle.jvm_steps.proofs.Moves.Sounded.{built-in-linked, caller-linked, objects-linked}
 use Rattle.jvm_steps.proofs.execute.attempting.attempt_name.Goals as goal

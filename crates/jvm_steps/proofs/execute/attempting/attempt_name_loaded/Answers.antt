@@ -1,6 +1,6 @@
 use Rattle.std.proofs.Common.{sym, ap, ◌∙◌}
 use Rattle.std.specs.Prelude.{is_some}
-use Rattle.jvm_steps.specs.Machine.Markers.{state_of}
+use Rattle.prepared_code.specs.Markers.{state_of}
 use Rattle.jvm_steps.proofs.Loads.LoadedApart.{apart-loads, awaits-apart, begins-apart, goes-apart, linked-apart, loaded-apart, loads-apart}
 use Rattle.jvm_steps.proofs.Moves.Sounded.{built-in-linked, caller-linked, objects-linked}
 use Rattle.jvm_steps.proofs.execute.attempting.attempt_name_loaded.Goals as goal

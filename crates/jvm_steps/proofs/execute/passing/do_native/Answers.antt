@@ -3,7 +3,7 @@ use Rattle.class_linker.specs.Linkers.{LinkerView}
 use Rattle.jvm_named.specs.Attempts.{world_over}
 use Rattle.jvm_named.specs.Does.{changed}
 use Rattle.jvm_named.specs.Passing.{IfRan, runs_native_call}
-use Rattle.jvm_steps.specs.Codes.Linked.{linker_in}
+use Rattle.prepared_code.specs.Linked.{linker_in}
 use Rattle.jvm_steps.proofs.execute.passing.do_native.Goals as goal
 
 pub pass_native-requires-clause-linked : goal.pass_native-requires-clause-linked

@@ -1,5 +1,5 @@
 use Rattle.std.proofs.Common.{◌-◌, sym, ap, ◌∙◌}
-use Rattle.jvm_steps.specs.Machine.Markers.{marker_on}
+use Rattle.prepared_code.specs.Markers.{marker_on}
 use Rattle.jvm_steps.proofs.Marked.Beneath.{not-some}
 use Rattle.jvm_steps.proofs.Silent.ReturnLemmas.{caller-there, goes-there}
 use Rattle.jvm_steps.proofs.execute.passing.goes_back.Goals as goal

@@ -1,5 +1,5 @@
 use Rattle.std.proofs.Common.{◌≡◌, ◌+◌, sym, subst, ◌∙◌, arith}
-use Rattle.jvm_steps.specs.Machine.Markers.{state_of}
+use Rattle.prepared_code.specs.Markers.{state_of}
 use Rattle.jvm_steps.specs.Instructions.Passing.{Passes, steps_if}
 use Rattle.jvm_steps.proofs.Marked.Behind.{leads-sound}
 use Rattle.jvm_steps.proofs.Silent.SilentSteps.{passes-alone, passes-on}

@@ -1,6 +1,6 @@
 use Rattle.std.proofs.Common.{ap}
 use Rattle.frame_stack.specs.FrameLists.{FramesView}
-use Rattle.jvm_steps.specs.declared.turns.parts.Parts.{Parts}
+use Rattle.prepared_code.specs.declared.parts.Parts.{Parts}
 use Rattle.jvm_steps.proofs.Silent.PassedLines.{passed-alone, passed-load, passed-store}
 use Rattle.jvm_steps.proofs.execute.plain.pass_cold.Goals as goal
 

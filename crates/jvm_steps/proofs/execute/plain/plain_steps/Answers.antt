@@ -1,8 +1,8 @@
 use Rattle.std.proofs.Common.{sym, subst, ap, ◌∙◌, refl, arith}
 use Rattle.std.specs.Option.{option_and_then}
-use Rattle.jvm_steps.specs.declared.turns.parts.Parts.{Parts}
-use Rattle.jvm_steps.specs.Machine.Runs.{LeadsAlone, RunsVersion}
-use Rattle.jvm_steps.specs.Codes.Tables.{version_at}
+use Rattle.prepared_code.specs.declared.parts.Parts.{Parts}
+use Rattle.prepared_code.specs.Runs.{LeadsAlone, RunsVersion}
+use Rattle.prepared_code.specs.Tables.{version_at}
 use Rattle.jvm_steps.proofs.Silent.Leading.{alone-none, alone-on}
 use Rattle.jvm_steps.proofs.Silent.PlainSteps.{runs-here}
 use Rattle.jvm_steps.proofs.execute.plain.plain_steps.Goals as goal

@@ -1,6 +1,6 @@
 -- so many steps lead to the frames, and the current one stays in its version
 use Rattle.std.proofs.Common.{◌≡◌}
-use Rattle.jvm_steps.specs.Machine.Runs.{LeadsAlone, top_version}
+use Rattle.prepared_code.specs.Runs.{LeadsAlone, top_version}
 use Rattle.jvm_steps.proofs.execute.plain.plain_steps.Given as goal
 
 abbrev pub invariant-loop-made : goal.invariant-loop-made

@@ -1,5 +1,5 @@
 use Rattle.std.proofs.Common.{sym, ◌∙◌}
-use Rattle.jvm_steps.specs.Machine.States.{state_in}
+use Rattle.prepared_code.specs.States.{state_in}
 use Rattle.jvm_steps.proofs.Instructions.Passages.{gives-back-so}
 use Rattle.jvm_steps.proofs.execute.returning.give_back.Goals as goal
 

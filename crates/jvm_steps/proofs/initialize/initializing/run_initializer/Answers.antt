@@ -3,10 +3,10 @@ use Rattle.jvm_model.specs.Running.Applies.{most_live, new_frame, with_frame}
 use Rattle.jvm_model.specs.Running.Moves.{raises}
 use Rattle.jvm_model.specs.Basis.Programs.{initializer_of}
 use Rattle.jvm_model.specs.Basis.SharedState.{stack_overflow}
-use Rattle.jvm_steps.specs.Machine.Markers.{state_of}
+use Rattle.prepared_code.specs.Markers.{state_of}
 use Rattle.jvm_steps.proofs.Instructions.InitializerFrames.{live-of, method-begun, method-none, runs-begun, runs-over}
 use Rattle.jvm_steps.proofs.initialize.initializing.run_initializer.Goals as goal
-use Rattle.jvm_steps.specs.Codes.Versions.{text_of}
+use Rattle.prepared_code.specs.Versions.{text_of}
 
 -- one activation too many
 pub returns-then-not-may_begin-clause-begun : goal.returns-then-not-may_begin-clause-begun

@@ -3,7 +3,7 @@ use Rattle.jvm_model.specs.declared.program.Program.{Program}
 use Rattle.jvm_model.specs.Running.Run.{main_class}
 use Rattle.jvm_model.specs.Basis.SharedState.{arguments_cost, with_arguments}
 use Rattle.jvm_named.specs.Answers.{found_view}
-use Rattle.jvm_steps.specs.Machine.Markers.{state_of}
+use Rattle.prepared_code.specs.Markers.{state_of}
 use Rattle.jvm_steps.proofs.Loads.Starts.{begins-all, fits-room, root-before}
 use Rattle.jvm_steps.proofs.startup.beginning.load_main.Goals as goal
 

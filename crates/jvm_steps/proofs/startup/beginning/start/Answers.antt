@@ -1,7 +1,7 @@
 use Rattle.std.proofs.lemmas.Result.{on_ok_weaker}
-use Rattle.jvm_steps.specs.Machine.Markers.{state_of}
+use Rattle.prepared_code.specs.Markers.{state_of}
 use Rattle.jvm_steps.proofs.Marked.Behind.{loaded-behind}
-use Rattle.jvm_steps.proofs.Moves.StandingSteps.{run-of-starts}
+use Rattle.prepared_code.proofs.StandingSteps.{run-of-starts}
 use Rattle.jvm_steps.proofs.Loads.Starts.{start-is}
 use Rattle.jvm_steps.proofs.startup.beginning.start.Goals as goal
 

@@ -1,7 +1,7 @@
 use Rattle.std.proofs.Common.{refl}
 use Rattle.jvm_named.specs.Known.{IsKnown}
-use Rattle.jvm_steps.specs.Codes.Linked.{linker_in}
-use Rattle.jvm_steps.specs.Codes.Versions.{line_at}
+use Rattle.prepared_code.specs.Linked.{linker_in}
+use Rattle.prepared_code.specs.Versions.{line_at}
 use Rattle.jvm_steps.proofs.Silent.PassingSteps.{held-there}
 use Rattle.jvm_steps.proofs.turns.calmly.invoke.Goals as goal
 

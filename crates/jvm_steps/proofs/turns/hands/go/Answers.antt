@@ -1,6 +1,6 @@
 use Rattle.std.proofs.Common.{sym, ◌∙◌}
 use Rattle.std.proofs.lemmas.Bool.{false≢true}
-use Rattle.jvm_steps.specs.Machine.Markers.{state_of}
+use Rattle.prepared_code.specs.Markers.{state_of}
 use Rattle.jvm_steps.proofs.Moves.HandLaws.{attempt-sound, hands-on, moves-linked, moves-sound, reaches-attempt, reaches-moves, start-sound}
 use Rattle.jvm_steps.proofs.turns.hands.go.Goals as goal
 

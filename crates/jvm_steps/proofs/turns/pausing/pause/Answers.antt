@@ -1,6 +1,6 @@
 use Rattle.std.proofs.Common.{sym, ◌∙◌}
-use Rattle.jvm_steps.specs.Machine.Markers.{state_of}
-use Rattle.jvm_steps.specs.Codes.Versions.{text_of}
+use Rattle.prepared_code.specs.Markers.{state_of}
+use Rattle.prepared_code.specs.Versions.{text_of}
 use Rattle.jvm_steps.proofs.Moves.LineSteps.{rest-moves}
 use Rattle.jvm_steps.proofs.Moves.OneMove.{rest-pauses}
 use Rattle.jvm_steps.proofs.turns.pausing.pause.Goals as goal

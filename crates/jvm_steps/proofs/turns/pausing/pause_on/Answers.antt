@@ -2,7 +2,7 @@ use Rattle.std.proofs.Common.{sym, ap, ◌∙◌}
 use Rattle.jvm_model.specs.declared.due.Due.TheVariants.{Nothing, Ends, Begins}
 use Rattle.jvm_model.specs.declared.event.EventKind.TheVariants.{Unwind}
 use Rattle.jvm_steps.specs.declared.turns.turning.Moved.TheVariants as moved
-use Rattle.jvm_steps.specs.Machine.Markers.{state_of}
+use Rattle.prepared_code.specs.Markers.{state_of}
 use Rattle.jvm_steps.specs.Moves.Turning.{pause_at, paused_in}
 use Rattle.jvm_steps.proofs.Moves.OneMove.{means-as}
 use Rattle.jvm_steps.proofs.turns.pausing.pause_on.Goals as goal

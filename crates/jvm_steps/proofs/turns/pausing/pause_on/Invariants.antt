@@ -1,7 +1,7 @@
 -- the pause is that of the state at the start
 use Rattle.std.proofs.Common.{◌≡◌}
 use Rattle.jvm_model.specs.Running.Moves.{left}
-use Rattle.jvm_steps.specs.Machine.Markers.{state_of}
+use Rattle.prepared_code.specs.Markers.{state_of}
 use Rattle.jvm_steps.specs.Moves.Turning.{paused_in}
 use Rattle.jvm_steps.proofs.turns.pausing.pause_on.Given as goal
 

@@ -1,7 +1,7 @@
 use Rattle.std.proofs.Common.{sym, ◌∙◌}
 use Rattle.jvm_steps.proofs.Moves.LineSteps.{rests}
 use Rattle.jvm_steps.proofs.turns.stepping.finish.Goals as goal
-use Rattle.jvm_steps.specs.Codes.Versions.{text_of}
+use Rattle.prepared_code.specs.Versions.{text_of}
 
 pub returns-then-is_at_rest : goal.returns-then-is_at_rest
 returns-then-is_at_rest c =

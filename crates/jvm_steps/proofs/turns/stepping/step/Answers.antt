@@ -1,9 +1,9 @@
 use Rattle.std.proofs.Common.{◌≡◌, suc, ◌+◌, sym, ap, subst, ◌∙◌, arith}
-use Rattle.jvm_steps.specs.Machine.Markers.{state_of}
-use Rattle.jvm_steps.specs.Machine.Standing.{IsRunOf}
-use Rattle.jvm_steps.specs.Codes.Tables.{AreAllCurrent, Releases}
-use Rattle.jvm_steps.specs.Codes.Versions.{Setup}
-use Rattle.jvm_steps.proofs.Moves.StandingSteps.{run-of-released, run-of-steps}
+use Rattle.prepared_code.specs.Markers.{state_of}
+use Rattle.prepared_code.specs.Standing.{IsRunOf}
+use Rattle.prepared_code.specs.Tables.{AreAllCurrent, Releases}
+use Rattle.prepared_code.specs.Versions.{Setup}
+use Rattle.prepared_code.proofs.StandingSteps.{run-of-released, run-of-steps}
 use Rattle.jvm_steps.proofs.turns.stepping.step.Goals as goal
 
 pub returns-clause-released : goal.returns-clause-released

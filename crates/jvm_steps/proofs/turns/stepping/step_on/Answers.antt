@@ -1,6 +1,6 @@
 use Rattle.std.proofs.Common.{ap}
 use Rattle.std.specs.Prelude.{is_some}
-use Rattle.jvm_steps.specs.Machine.Markers.{state_of}
+use Rattle.prepared_code.specs.Markers.{state_of}
 use Rattle.jvm_steps.proofs.Marked.Behind.{leads-sound}
 use Rattle.jvm_steps.proofs.Silent.Leading.{leads-one, leads-on}
 use Rattle.jvm_steps.proofs.turns.stepping.step_on.Goals as goal

@@ -1,7 +1,7 @@
 use Rattle.std.proofs.Common.{sym, subst, ◌∙◌}
 use Rattle.std.proofs.lemmas.Result.{on_ok_weaker}
-use Rattle.jvm_steps.specs.Machine.Ready.{CanRun, IsSoundIn}
-use Rattle.jvm_steps.specs.Machine.Markers.{state_of}
+use Rattle.prepared_code.specs.Ready.{CanRun, IsSoundIn}
+use Rattle.prepared_code.specs.Markers.{state_of}
 use Rattle.jvm_steps.proofs.Marked.Behind.{again-done, attempted-in, attempts-all, loaded-behind, none-there, not-ready, settled-in, sound-again, unmarked-again}
 use Rattle.jvm_steps.proofs.Moves.LineSteps.{step-stays}
 use Rattle.jvm_steps.proofs.turns.stepping.step_once.Goals as goal

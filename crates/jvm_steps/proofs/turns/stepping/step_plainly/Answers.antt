@@ -1,5 +1,5 @@
 use Rattle.std.proofs.Common.{sym, ◌∙◌}
-use Rattle.jvm_steps.specs.Machine.Markers.{state_of}
+use Rattle.prepared_code.specs.Markers.{state_of}
 use Rattle.jvm_steps.proofs.Marked.Beneath.{not-some}
 use Rattle.jvm_steps.proofs.Silent.Leading.{leads-none}
 use Rattle.jvm_steps.proofs.Moves.LineSteps.{none-of}

@@ -1,7 +1,7 @@
 use Rattle.std.proofs.Common.{sym, subst, refl, ◌∙◌, arith}
-use Rattle.jvm_steps.specs.Machine.Ready.{CanRun, IsSoundIn}
-use Rattle.jvm_steps.specs.Machine.Markers.{state_of}
-use Rattle.jvm_steps.specs.Machine.Runs.{Leads}
+use Rattle.prepared_code.specs.Ready.{CanRun, IsSoundIn}
+use Rattle.prepared_code.specs.Markers.{state_of}
+use Rattle.prepared_code.specs.Runs.{Leads}
 use Rattle.jvm_steps.proofs.Marked.Behind.{leads-sound}
 use Rattle.jvm_steps.proofs.Silent.Leading.{leads-none, leads-on}
 use Rattle.jvm_steps.proofs.turns.stepping.steps_on.Goals as goal

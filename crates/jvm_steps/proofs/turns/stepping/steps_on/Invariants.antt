@@ -1,7 +1,7 @@
 -- so many steps lead to the state, in the same world, and the linker has loaded what the state has
 use Rattle.std.proofs.Common.{◌≡◌, ◌≤◌, ◌-◌}
-use Rattle.jvm_steps.specs.Machine.Markers.{state_of}
-use Rattle.jvm_steps.specs.Machine.Runs.{Leads}
+use Rattle.prepared_code.specs.Markers.{state_of}
+use Rattle.prepared_code.specs.Runs.{Leads}
 use Rattle.jvm_steps.proofs.turns.stepping.steps_on.Given as goal
 
 pub record Loops (l : goal.Live-loop-made) : Type 0 where

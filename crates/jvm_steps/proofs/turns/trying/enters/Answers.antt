@@ -1,7 +1,7 @@
 use Rattle.std.proofs.Common.{sym, ap, ◌∙◌, arith}
 use Rattle.std.specs.Prelude.{not}
 use Rattle.jvm_model.specs.Rewriting.Images.{is_off}
-use Rattle.jvm_steps.specs.Codes.Versions.{mark_of}
+use Rattle.prepared_code.specs.Versions.{mark_of}
 use Rattle.jvm_steps.proofs.Moves.Followed.{enters_top}
 use Rattle.jvm_steps.proofs.turns.trying.enters.Goals as goal
 

@@ -1,8 +1,8 @@
 use Rattle.std.proofs.Common.{◌≡◌, sym, subst, ◌∙◌}
 use Rattle.std.specs.Prelude.{IfOk}
-use Rattle.jvm_steps.specs.Machine.Markers.{state_of}
+use Rattle.prepared_code.specs.Markers.{state_of}
 use Rattle.jvm_steps.specs.Moves.Turning.{pause_at, paused_in}
-use Rattle.jvm_steps.specs.Codes.Versions.{text_of, mark_of}
+use Rattle.prepared_code.specs.Versions.{text_of, mark_of}
 use Rattle.jvm_steps.proofs.Moves.Followed.{follows-on, follows-told, left-loaded, paused-loaded}
 use Rattle.jvm_steps.proofs.turns.trying.follow.Goals as goal
 

@@ -1,7 +1,7 @@
 use Rattle.std.proofs.Common.{◌≡◌, sym, subst, ◌∙◌}
 use Rattle.std.specs.Prelude.{IfOk}
 use Rattle.std.specs.Option.{IfSome}
-use Rattle.jvm_steps.specs.Machine.Markers.{state_of}
+use Rattle.prepared_code.specs.Markers.{state_of}
 use Rattle.jvm_steps.specs.Moves.Turning.{pause_at}
 use Rattle.jvm_steps.proofs.Moves.TriedSteps.{leaves-loads, leaves-pause, stopped-loads, stopped-pause, tries-silently}
 use Rattle.jvm_steps.proofs.turns.trying.go_by_attempt.Goals as goal

@@ -1,5 +1,5 @@
 use Rattle.jvm_steps.specs.Instructions.Acts.{attempts_on}
-use Rattle.jvm_steps.specs.Machine.Markers.{state_of}
+use Rattle.prepared_code.specs.Markers.{state_of}
 use Rattle.jvm_steps.proofs.Moves.Followed.{follows-in}
 use Rattle.jvm_steps.proofs.turns.trying.try_again.Goals as goal
 

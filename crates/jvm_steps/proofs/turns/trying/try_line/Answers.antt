@@ -1,6 +1,6 @@
 use Rattle.std.proofs.Common.{sym, subst, ◌∙◌}
-use Rattle.jvm_steps.specs.Machine.Markers.{state_of}
-use Rattle.jvm_steps.specs.Machine.Ready.{CanRun}
+use Rattle.prepared_code.specs.Markers.{state_of}
+use Rattle.prepared_code.specs.Ready.{CanRun}
 use Rattle.jvm_steps.specs.Moves.Turning.{pause_at}
 use Rattle.jvm_steps.proofs.Marked.Behind.{none-there}
 use Rattle.jvm_steps.proofs.Moves.TriedSteps.{line-no-more, line-once, line-sound, line-twice, line-unmarked}

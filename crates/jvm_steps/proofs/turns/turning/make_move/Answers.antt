@@ -1,5 +1,5 @@
 use Rattle.std.proofs.lemmas.Result.{on_ok_weaker}
-use Rattle.jvm_steps.proofs.Marked.MarkedParts.{not-taken}
+use Rattle.prepared_code.proofs.MarkedParts.{not-taken}
 use Rattle.jvm_steps.proofs.Moves.TurnsCarried.{carried-as, carried-to}
 use Rattle.jvm_steps.proofs.turns.turning.make_move.Goals as goal
 

@@ -2,7 +2,7 @@
 use Rattle.std.proofs.Common.{◌≡◌, drop}
 use Rattle.std.specs.Prelude.{map}
 use Rattle.jvm_model.specs.Running.Moves.{handler_for}
-use Rattle.jvm_steps.specs.Codes.Versions.{catcher_in}
+use Rattle.prepared_code.specs.Versions.{catcher_in}
 use Rattle.jvm_steps.proofs.unwind.handlers.target_among.Given as goal
 
 abbrev pub invariant-loop-handler : goal.invariant-loop-handler

@@ -1,8 +1,8 @@
 use Rattle.std.proofs.Common.{sym, ap, ◌∙◌}
 use Rattle.std.specs.Prelude.{Option}
 use Rattle.std.specs.Option.{option_map_or}
-use Rattle.jvm_steps.specs.declared.prepare.passage.Passage.{Passage}
-use Rattle.jvm_steps.specs.Codes.Versions.{line_at}
+use Rattle.prepared_code.specs.declared.passage.Passage.{Passage}
+use Rattle.prepared_code.specs.Versions.{line_at}
 use Rattle.jvm_steps.proofs.Instructions.Passages.{own-so}
 use Rattle.jvm_steps.proofs.unwind.raising.own_of.Goals as goal
 

@@ -1,9 +1,9 @@
 use Rattle.std.proofs.Common.{◌≡◌, subst, ap, ◌∙◌}
 use Rattle.std.specs.Prelude.{IfOk}
 use Rattle.std.proofs.lemmas.Result.{on_ok_weaker}
-use Rattle.jvm_steps.specs.Machine.Markers.{state_of, with_markers}
+use Rattle.prepared_code.specs.Markers.{state_of, with_markers}
 use Rattle.jvm_steps.proofs.Marked.Carried.{move-carried}
-use Rattle.jvm_steps.proofs.Marked.MarkedParts.{not-taken}
+use Rattle.prepared_code.proofs.MarkedParts.{not-taken}
 use Rattle.jvm_steps.proofs.unwind.settling.make_move.Goals as goal
 
 pub returns-in_default-clause-answer : goal.returns-in_default-clause-answer

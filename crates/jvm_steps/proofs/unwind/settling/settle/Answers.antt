@@ -3,10 +3,10 @@ use Rattle.std.specs.Prelude.{◌<◌}
 use Rattle.jvm_model.specs.declared.state.State.{State}
 use Rattle.jvm_model.specs.Running.Applies.{still}
 use Rattle.jvm_model.specs.Running.Moves.{left, settled}
-use Rattle.jvm_steps.specs.Machine.Markers.{state_of}
+use Rattle.prepared_code.specs.Markers.{state_of}
 use Rattle.jvm_steps.proofs.Moves.MovesOn.{moved_on, fewer_left}
 use Rattle.jvm_steps.proofs.unwind.settling.settle.Goals as goal
-use Rattle.jvm_steps.specs.Codes.Versions.{text_of}
+use Rattle.prepared_code.specs.Versions.{text_of}
 
 pub loop-smaller : goal.loop-smaller
 loop-smaller c =

@@ -2,9 +2,9 @@
 use Rattle.std.proofs.Common.{◌≡◌}
 use Rattle.jvm_model.specs.Running.Applies.{still}
 use Rattle.jvm_model.specs.Running.Moves.{left, settled}
-use Rattle.jvm_steps.specs.Machine.Markers.{state_of}
+use Rattle.prepared_code.specs.Markers.{state_of}
 use Rattle.jvm_steps.proofs.unwind.settling.settle.Given as goal
-use Rattle.jvm_steps.specs.Codes.Versions.{text_of}
+use Rattle.prepared_code.specs.Versions.{text_of}
 
 abbrev pub invariant-loop : goal.invariant-loop
 invariant-loop l =

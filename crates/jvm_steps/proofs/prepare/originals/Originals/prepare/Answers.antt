@@ -1,9 +1,0 @@
-use Rattle.std.proofs.Common.{subst, sym, ◌∙◌}
-use Rattle.jvm_steps.specs.Codes.Linked.{Linked, IsReady}
-use Rattle.jvm_steps.proofs.Codes.Made.{lines-made}
-use Rattle.jvm_steps.proofs.prepare.originals.Originals.prepare.Goals as goal
-
-pub returns-then-has_lines-clause-ready : goal.returns-then-has_lines-clause-ready
-returns-then-has_lines-clause-ready c =
-    subst (λ (o : Linked). IsReady o c.args.version) c.self.view_is
-    (lines-made c.self.inside.linker.program c.self.inside.versions c.args.version (sym c.has_lines.ensures ∙ c.if-has_lines.true))

@@ -1,8 +1,0 @@
-use Rattle.std.proofs.Common.{Some, ap}
-use Rattle.jvm_steps.specs.Codes.Making.{bare_slot}
-use Rattle.jvm_steps.proofs.Codes.Tabled.{tabled-more}
-use Rattle.jvm_steps.proofs.prepare.preparing.all_versions.Goals as goal
-
-pub loop-method-preserved : goal.loop-method-preserved
-loop-method-preserved c =
-    rw c.in_ok-push.ensures.items (tabled-more (bare_slot c.args.program.now) c.loop-method.method c.loop-method.all (Some c.in_ok-version.version) c.loop-method.invariant (ap Some c.in_ok-version.ensures))

@@ -1,0 +1,342 @@
+-- What stands at an offset of the prepared code is what the text of original code has there.
+use Rattle.std.proofs.Common.{◌≡◌, ℕ, Bool, true, false, cond, List, [], ◌∷◌, Option, Some, None, refl, sym, ap, subst, ◌∙◌, arith}
+use Rattle.std.proofs.lemmas.Bool.{false≢true}
+use Rattle.std.specs.Prelude.{slice_get, unwrap_or, ◌==◌, ◌&&◌}
+use Rattle.std.specs.Int.{is_in_range}
+use Rattle.std.specs.Option.{IfSome, option_and_then, option_map}
+use Rattle.std.proofs.lemmas.Option.{same_Some, none-some}
+use Rattle.heap_objects.specs.declared.datum.Datum.{Datum}
+use Rattle.heap_objects.specs.declared.datum.Datum.TheVariants as datum
+use Rattle.const_pool.specs.declared.class.ClassFile.{ClassFile}
+use Rattle.const_pool.specs.declared.pool.Const.{Const}
+use Rattle.const_pool.specs.declared.pool.Const.TheVariants as const
+use Rattle.const_pool.specs.References.{named_text}
+use Rattle.code_model.specs.declared.instr.Arg.{Arg}
+use Rattle.code_model.specs.declared.instr.Arg.TheVariants as arg
+use Rattle.code_model.specs.declared.instr.Instr.{Instr}
+use Rattle.code_model.specs.Instructions.{instruction_at, end_of}
+use Rattle.jvm_model.specs.declared.family.Family.{Family}
+use Rattle.jvm_model.specs.declared.family.Family.TheVariants as family
+use Rattle.jvm_model.specs.declared.program.Program.{Program}
+use Rattle.jvm_model.specs.Basis.Data.{Locals, Operands, Local, Nop, Constant, Load, Store, Arrange, BinaryOfInts, BinaryOfLongs, DivisionOfInts, DivisionOfLongs, ShiftOfLong, UnaryOfInt, UnaryOfLong, Lcmp, Iinc, Branch, Goto, Switch, Jsr, Ret, Return, Naming, New, Getfield, Putfield, Getstatic, Putstatic, Invokevirtual, Invokespecial, Invokestatic, Invokeinterface, Checkcast, Instanceof, Anewarray, Multianewarray, LdcClass, Operation, Within, Named, Athrow, Monitor, Newarray, Arraylength, LoadElement, StoreElement, LdcString, Instruction}
+use Rattle.jvm_model.specs.Basis.Families.{family_of}
+use Rattle.jvm_model.specs.Codes.Lines.{value_in, slot_in, increment_in, target_in, keys_in, local_of, constant_in, given_operation, has_dimensions, interface_naming, multi_naming, named_by, naming_of, ObjectRow, object_among, object_constant, object_constant_in, object_rows, other_operation, operation_by, is_last, next_of, targets_of, instruction_of}
+use Rattle.jvm_model.specs.Instructions.LocalRules.{within}
+use Rattle.jvm_model.specs.Basis.Methods.{method_code}
+use Rattle.jvm_model.specs.Codes.Originals.{original}
+use Rattle.jvm_model.specs.Basis.Programs.{class_at, place_of_method}
+use Rattle.jvm_model.specs.Basis.Values.{as_value}
+use Rattle.jvm_basic.specs.Rules.{datum_in, placed, going, needs, rule_by, rule_of}
+use Rattle.prepared_code.specs.declared.line.Line.{Line}
+use Rattle.prepared_code.specs.Ready.{CanRun, HasLocal, IsOwnLine, IsRuleOf, IsTied}
+use Rattle.prepared_code.specs.Versions.{Setup, instruction_by, instruction_in, is_athrow, is_last_family, next_in, operation_as, operation_in, text_of}
+use Rattle.prepared_code.specs.Versions as versions
+use Rattle.jvm_named.specs.Names.{naming_view}
+use Rattle.prepared_code.specs.Lines.{local_action, action_of, line_with, line_of, line_at, named_as}
+
+-- ---- a line and what it does
+
+-- with its operation
+pub record Stands (line : Line) (i : Instruction) : Type 0 where
+  pub op : Operation
+  pub is : i ≡ instruction_by op line
+  pub tied : IsTied line op
+
+abbrev pub Tie : Option Line → Option Instruction → Type 0
+Tie None None = Unit {0}
+Tie None (Some i) = ⊥
+Tie (Some line) None = ⊥
+Tie (Some line) (Some i) = Stands line i
+
+-- ---- instructions that see their frame alone
+
+made-last : {A : Type 0} (make : A → Local) (b : Bool) → ((x : A) → is_last (make x) ≡ b) → (o : Option A) (l : Local) → option_map make o ≡ Some l → is_last l ≡ b
+made-last make b each None l e = absurd (none-some l e)
+made-last make b each (Some x) l e = ap is_last (sym (same_Some (make x) l e)) ∙ each x
+
+known-last : (k l : Local) (b : Bool) → is_last k ≡ b → Some k ≡ Some l → is_last l ≡ b
+known-last k l b is e = ap is_last (sym (same_Some k l e)) ∙ is
+
+-- control goes on behind an instruction as behind its family
+last-same : (f : Family) (a : Arg) (c : Option Datum) (l : Local) → local_of f a c ≡ Some l → is_last l ≡ is_last_family f
+last-same family.Nop a c l e = known-last Nop l false refl e
+last-same (family.Constant d) a c l e = known-last (Constant d) l false refl e
+last-same family.Given a c l e = made-last Constant false (λ d. refl) c l e
+last-same family.Immediate a c l e = made-last Constant false (λ d. refl) (value_in a) l e
+last-same (family.Load k) a c l e = made-last (Load k) false (λ n. refl) (slot_in a) l e
+last-same (family.LoadFrom k slot) a c l e = known-last (Load k slot) l false refl e
+last-same (family.Store k) a c l e = made-last (Store k) false (λ n. refl) (slot_in a) l e
+last-same (family.StoreTo k slot) a c l e = known-last (Store k slot) l false refl e
+last-same (family.Arrange op) a c l e = known-last (Arrange op) l false refl e
+last-same (family.BinaryOfInts op) a c l e = known-last (BinaryOfInts op) l false refl e
+last-same (family.BinaryOfLongs op) a c l e = known-last (BinaryOfLongs op) l false refl e
+last-same (family.DivisionOfInts op) a c l e = known-last (DivisionOfInts op) l false refl e
+last-same (family.DivisionOfLongs op) a c l e = known-last (DivisionOfLongs op) l false refl e
+last-same (family.ShiftOfLong op) a c l e = known-last (ShiftOfLong op) l false refl e
+last-same (family.UnaryOfInt op) a c l e = known-last (UnaryOfInt op) l false refl e
+last-same (family.UnaryOfLong op) a c l e = known-last (UnaryOfLong op) l false refl e
+last-same family.Lcmp a c l e = known-last Lcmp l false refl e
+last-same family.Iinc a c l e = made-last (λ p. Iinc p.0 p.1) false (λ p. refl) (increment_in a) l e
+last-same (family.Branch test) a c l e = made-last (λ target. Branch test) false (λ t. refl) (target_in a) l e
+last-same family.Goto a c l e = made-last (λ target. Goto) true (λ t. refl) (target_in a) l e
+last-same family.Jsr a c l e = made-last (λ target. Jsr) false (λ t. refl) (target_in a) l e
+last-same family.Ret a c l e = made-last Ret true (λ n. refl) (slot_in a) l e
+last-same family.Switch a c l e = made-last Switch true (λ keys. refl) (keys_in a) l e
+last-same (family.Return k) a c l e = known-last (Return k) l true refl e
+last-same family.Elsewhere a c l e = absurd (none-some l e)
+
+-- none of them is athrow
+local-throws : (l : Local) → is_athrow (local_action l) ≡ false
+local-throws (Return k) = refl
+local-throws l = refl
+
+-- a datum as a value is that datum
+datum-back : (c : Option Datum) → option_and_then datum_in (option_map as_value c) ≡ c
+datum-back None = refl
+datum-back (Some (datum.Int n)) = refl
+datum-back (Some (datum.Long n)) = refl
+datum-back (Some (datum.Ref r)) = refl
+
+rule-by-is : (f : Family) → (f ≡ family.Elsewhere → ⊥) → (a : Arg) (c : Option Datum) (next : ℕ) (m : Locals) (o : Operands)
+    → rule_by f a c next m o ≡ needs (local_of f a c) (λ l. going (within l) next (targets_of a)) m o
+rule-by-is family.Elsewhere apart a c next m o = absurd (apart refl)
+rule-by-is f apart a c next m o = refl
+
+-- ---- operations that see objects
+
+abbrev is_object : Operation → Bool
+is_object Athrow = true
+is_object Monitor = true
+is_object (Newarray code) = true
+is_object Arraylength = true
+is_object (LoadElement k) = true
+is_object (StoreElement k) = true
+is_object _ = false
+
+abbrev are_objects : List ObjectRow → Bool
+are_objects [] = true
+are_objects (r ∷ rest) = cond (is_object r.operation) (are_objects rest) false
+
+both : (a b : Bool) → cond a b false ≡ true → (a ≡ true) × (b ≡ true)
+both true b h = (refl, h)
+both false b h = absurd (false≢true h)
+
+-- ---- the line of an instruction
+
+module _ (c : ClassFile) (i : Instr) where
+  abbrev constant : Option Datum
+  constant = constant_in c.pool i.arg
+
+  -- the line and the instruction of an operation
+  abbrev the_line : Option Operation → Option Line
+  the_line o = option_map (line_with c i) (option_map action_of o)
+
+  abbrev the_instruction : Option Operation → Option Instruction
+  the_instruction o = option_map (λ op. record { operation = op; own = i.at; next = next_of op (end_of i); targets = targets_of i.arg }) o
+
+  next-same : (f : Family) → family_of i.op ≡ f → (l : Local) → local_of f i.arg constant ≡ Some l
+      → next_of (Within l) (end_of i) ≡ cond (is_athrow (local_action l)) None (cond (is_last_family (family_of i.op)) None (Some (end_of i)))
+  next-same f is l e =
+      ap (λ b. cond b None (Some (end_of i))) (last-same f i.arg constant l e)
+      ∙ ap (λ x. cond (is_last_family x) None (Some (end_of i))) (sym is)
+      ∙ ap (λ b. cond b None (cond (is_last_family (family_of i.op)) None (Some (end_of i)))) (sym (local-throws l))
+
+  rule-same : (f : Family) → (f ≡ family.Elsewhere → ⊥) → family_of i.op ≡ f → (l : Local) → local_of f i.arg constant ≡ Some l → (m : Locals) (o : Operands)
+      → rule_of i (option_map as_value constant) (end_of i) m o ≡ placed (end_of i) (targets_of i.arg) m o (within l m o)
+  rule-same f apart is l e m o =
+      ap (λ x. rule_by x i.arg (option_and_then datum_in (option_map as_value constant)) (end_of i) m o) is
+      ∙ (ap (λ d. rule_by f i.arg d (end_of i) m o) (datum-back constant)
+      ∙ (rule-by-is f apart i.arg constant (end_of i) m o
+      ∙ ap (λ x. needs x (λ k. going (within k) (end_of i) (targets_of i.arg)) m o) e))
+
+  local-same : (f : Family) → family_of i.op ≡ f → (l : Local) → local_of f i.arg constant ≡ Some l → HasLocal (line_with c i (local_action l)) l
+  local-same f is l e =
+      ap (λ x. local_of x i.arg (option_and_then datum_in (option_map as_value constant))) is ∙ (ap (local_of f i.arg) (datum-back constant) ∙ e)
+
+  within-is : (l k : Local) (P : Local → Type 0) → P l → Within l ≡ Within k → P k
+  within-is l k P h e = subst P (ap local e) h where
+    local : Operation → Local
+    local (Within x) = x
+    local _ = l
+
+  tied-local : (f : Family) → (f ≡ family.Elsewhere → ⊥) → family_of i.op ≡ f → (x : Option Local) → local_of f i.arg constant ≡ x
+      → Tie (the_line (option_map Within x)) (the_instruction (option_map Within x))
+  tied-local f apart is None e = tt
+  tied-local f apart is (Some l) e = record {
+    op = Within l;
+    is = refl;
+    tied = record {
+      action = refl;
+      next = next-same f is l e;
+      alone = λ k same. within-is l k (IsRuleOf (line_with c i (local_action l))) (rule-same f apart is l e) same;
+      within = λ k same. within-is l k (HasLocal (line_with c i (local_action l))) (local-same f is l e) same;
+    };
+  }
+
+  -- ---- instructions with names
+
+  -- control goes on behind an instruction of no family, but for athrow
+  behind : family_of i.op ≡ family.Elsewhere → Some (end_of i) ≡ cond (is_last_family (family_of i.op)) None (Some (end_of i))
+  behind is = ap (λ x. cond (is_last_family x) None (Some (end_of i))) (sym is)
+
+  abbrev TiedOperation : Option Operation → Type 0
+  TiedOperation o = Tie (the_line o) (the_instruction o)
+
+  either : (b : Bool) (x y : Option Operation) → TiedOperation x → TiedOperation y → TiedOperation (cond b x y)
+  either true x y tx ty = tx
+  either false x y tx ty = ty
+
+  tied-naming : family_of i.op ≡ family.Elsewhere → (o : Option Naming) → TiedOperation (option_and_then named_by o)
+  tied-naming is None = tt
+  tied-naming is (Some n) =
+      either (has_dimensions n) (Some (Named n)) None
+      (record { op = Named n; is = refl; tied = record { action = refl; next = behind is; alone = λ k same. absurd cc; within = λ k same. absurd cc } }) tt
+
+  -- ---- instructions that see objects
+
+  tied-object : family_of i.op ≡ family.Elsewhere → (op : Operation) → is_object op ≡ true → TiedOperation (Some op)
+  tied-object is Athrow object = record { op = Athrow; is = refl; tied = record { action = refl; next = refl; alone = λ k same. absurd cc; within = λ k same. absurd cc } }
+  tied-object is Monitor object = record { op = Monitor; is = refl; tied = record { action = refl; next = behind is; alone = λ k same. absurd cc; within = λ k same. absurd cc } }
+  tied-object is (Newarray code) object = record { op = Newarray code; is = refl; tied = record { action = refl; next = behind is; alone = λ k same. absurd cc; within = λ k same. absurd cc } }
+  tied-object is Arraylength object = record { op = Arraylength; is = refl; tied = record { action = refl; next = behind is; alone = λ k same. absurd cc; within = λ k same. absurd cc } }
+  tied-object is (LoadElement k) object = record { op = LoadElement k; is = refl; tied = record { action = refl; next = behind is; alone = λ k same. absurd cc; within = λ k same. absurd cc } }
+  tied-object is (StoreElement k) object = record { op = StoreElement k; is = refl; tied = record { action = refl; next = behind is; alone = λ k same. absurd cc; within = λ k same. absurd cc } }
+  tied-object is (Within l) object = absurd (false≢true object)
+  tied-object is (Named n) object = absurd (false≢true object)
+  tied-object is (LdcString units) object = absurd (false≢true object)
+
+  tied-rows : family_of i.op ≡ family.Elsewhere → (rows : List ObjectRow) → are_objects rows ≡ true → TiedOperation (object_among rows i.op)
+  tied-rows is [] objects = tt
+  tied-rows is (r ∷ rest) objects =
+      let all = both (is_object r.operation) (are_objects rest) objects in
+      either (i.op == r.op) _ _ (tied-object is r.operation all.0) (tied-rows is rest all.1)
+
+  tied-other : family_of i.op ≡ family.Elsewhere → (a : Arg) → TiedOperation (other_operation c i.op a)
+  tied-other is (arg.Pool index) = tied-naming is (naming_of c i.op index)
+  tied-other is (arg.Interface index count zero) = tied-naming is (interface_naming c i.op index)
+  tied-other is (arg.Multi index dimensions) = tied-naming is (multi_naming c i.op index dimensions)
+  tied-other is (arg.Array code) = either (i.op == 188 && is_in_range 4 11 code) _ _ (tied-object is (Newarray code) refl) tt
+  tied-other is arg.Plain = tied-rows is object_rows refl
+  tied-other is _ = tt
+
+  -- ---- ldc: of a String or a Class where it is of no number
+
+  behind-ldc : family_of i.op ≡ family.Given → Some (end_of i) ≡ cond (is_last_family (family_of i.op)) None (Some (end_of i))
+  behind-ldc is = ap (λ x. cond (is_last_family x) None (Some (end_of i))) (sym is)
+
+  tied-string : family_of i.op ≡ family.Given → (text : Option (List ℕ)) → TiedOperation (option_map LdcString text)
+  tied-string is None = tt
+  tied-string is (Some units) = record { op = LdcString units; is = refl; tied = record { action = refl; next = behind-ldc is; alone = λ k same. absurd cc; within = λ k same. absurd cc } }
+
+  tied-class : family_of i.op ≡ family.Given → (text : Option (List ℕ)) → TiedOperation (option_map (λ name. Named (LdcClass name)) text)
+  tied-class is None = tt
+  tied-class is (Some name) = record { op = Named (LdcClass name); is = refl; tied = record { action = refl; next = behind-ldc is; alone = λ k same. absurd cc; within = λ k same. absurd cc } }
+
+  tied-entry : family_of i.op ≡ family.Given → (entry : Const) → TiedOperation (object_constant c.pool entry)
+  tied-entry is (const.Text index) = tied-string is (named_text c.pool index)
+  tied-entry is (const.Class index) = tied-class is (named_text c.pool index)
+  tied-entry is _ = tt
+
+  tied-constant : family_of i.op ≡ family.Given → (a : Arg) → TiedOperation (object_constant_in c.pool a)
+  tied-constant is (arg.Pool index) = by (slice_get c.pool index) where
+    by : (o : Option Const) → TiedOperation (option_and_then (object_constant c.pool) o)
+    by None = tt
+    by (Some entry) = tied-entry is entry
+  tied-constant is _ = tt
+
+  tied-given : family_of i.op ≡ family.Given → (x : Option Local) → local_of family.Given i.arg constant ≡ x
+      → TiedOperation (given_operation (option_map Within x) (object_constant_in c.pool i.arg))
+  tied-given is None e = tied-constant is i.arg
+  tied-given is (Some l) e = tied-local family.Given (λ same. absurd cc) is (Some l) e
+
+  -- ---- every instruction
+
+  tied-by : (f : Family) → family_of i.op ≡ f → TiedOperation (operation_by c i.op i.arg f)
+  tied-by family.Elsewhere is = tied-other is i.arg
+  tied-by family.Given is = tied-given is (local_of family.Given i.arg constant) refl
+  tied-by f is = tied-local f (λ e. absurd cc) is (local_of f i.arg constant) refl
+
+  pub tied-instruction : Tie (line_of c i) (instruction_of c i)
+  tied-instruction = tied-by (family_of i.op) refl
+
+-- ---- at an offset
+
+lifted : {A : Type 0} (o : Option A) (f : A → Option Line) (g : A → Option Instruction) → ((x : A) → Tie (f x) (g x)) → Tie (option_and_then f o) (option_and_then g o)
+lifted None f g each = tt
+lifted (Some x) f g each = each x
+
+pub tied-at : (p : Program) (method at : ℕ) → Tie (line_at p method at) ((original p).at method at)
+tied-at p method at =
+    lifted (place_of_method p method) _ _
+    (λ place. lifted (class_at p place.class) _ _
+    (λ c. lifted (method_code c place.position) _ _
+    (λ code. lifted (instruction_at code.code at) _ _
+    (λ i. tied-instruction c i))))
+
+-- ---- the operation that a line shows
+
+-- the names that a line keeps are those of its instruction
+pub viewed : (n : Naming) → naming_view (named_as n) ≡ n
+viewed (New name) = refl
+viewed (Getfield r) = refl
+viewed (Putfield r) = refl
+viewed (Getstatic r) = refl
+viewed (Putstatic r) = refl
+viewed (Invokevirtual r) = refl
+viewed (Invokespecial caller r interface) = refl
+viewed (Invokestatic r) = refl
+viewed (Invokeinterface r) = refl
+viewed (Checkcast name) = refl
+viewed (Instanceof name) = refl
+viewed (Anewarray name) = refl
+viewed (Multianewarray name dimensions) = refl
+viewed (LdcClass name) = refl
+
+local-shown : (line : Line) (l : Local) → HasLocal line l → operation_as line (local_action l) ≡ Within l
+local-shown line (Return k) e = refl
+local-shown line l e = ap (λ o. Within (unwrap_or o Nop)) e
+
+shown-by : (line : Line) (op : Operation) → ((l : Local) → op ≡ Within l → HasLocal line l) → operation_as line (action_of op) ≡ op
+shown-by line (Within l) within = local-shown line l (within l refl)
+shown-by line (Named n) within = ap Named (viewed n)
+shown-by line Athrow within = refl
+shown-by line Monitor within = refl
+shown-by line (Newarray code) within = ap Newarray (omega arith)
+shown-by line Arraylength within = refl
+shown-by line (LoadElement k) within = refl
+shown-by line (StoreElement k) within = refl
+shown-by line (LdcString units) within = refl
+
+pub operation-is : (line : Line) (op : Operation) → IsTied line op → operation_in line ≡ op
+operation-is line op tied = ap (operation_as line) (sym tied.action) ∙ shown-by line op tied.within
+
+pub tied-own : (line : Line) (op : Operation) → IsTied line op → IsOwnLine line
+tied-own line op tied = subst (IsTied line) (sym (operation-is line op tied)) tied
+
+pub own-tie : (lo : Option Line) (io : Option Instruction) → Tie lo io → IfSome lo IsOwnLine
+own-tie None io tie = tt
+own-tie (Some line) None tie = absurd tie
+own-tie (Some line) (Some i) tie = tied-own line tie.op tie.tied
+
+-- a line shows its instruction
+pub shown : (lo : Option Line) (io : Option Instruction) → Tie lo io → option_map instruction_in lo ≡ io
+shown None None tie = refl
+shown None (Some i) tie = absurd tie
+shown (Some line) None tie = absurd tie
+shown (Some line) (Some i) tie =
+    ap (λ (op : Operation). Some (record { operation = op; own = line.instr.at; next = next_in line; targets = targets_of line.instr.arg })) (operation-is line tie.op tie.tied)
+    ∙ (ap (λ (next : Option ℕ). Some (record { operation = tie.op; own = line.instr.at; next = next; targets = targets_of line.instr.arg })) (sym tie.tied.next)
+    ∙ ap Some (sym tie.is))
+
+-- ---- at a place of a version
+
+stands-by : (lo : Option Line) → IfSome lo IsOwnLine → Tie lo (option_map instruction_in lo)
+stands-by None h = tt
+stands-by (Some line) h = record {
+  op = operation_in line;
+  is = ap (λ (next : Option ℕ). record { operation = operation_in line; own = line.instr.at; next = next; targets = targets_of line.instr.arg }) (sym h.next);
+  tied = h;
+}
+
+pub tied-there : (w : Setup) → CanRun w → (version place : ℕ) → Tie (versions.line_at w.versions version place) ((text_of w.versions).at version place)
+tied-there w run version place = stands-by (versions.line_at w.versions version place) (run.lines version place)

@@ -1,0 +1,10 @@
+use Rattle.std.proofs.Common.{ap, ◌∙◌}
+use Rattle.prepared_code.specs.Linked.{Linked}
+use Rattle.prepared_code.specs.Versions.{first_of}
+use Rattle.prepared_code.proofs.Made.{first-made}
+use Rattle.prepared_code.proofs.originals.Originals.first.Goals as goal
+
+pub returns : goal.returns
+returns c =
+    c.first_of.ensures
+    ∙ (first-made c.self.inside.linker.program c.self.inside.versions c.self.invariant.bare c.args.version ∙ ap (λ (o : Linked). first_of o.setup.versions c.args.version) c.self.view_is)

@@ -1,0 +1,50 @@
+use Rattle.std.proofs.Common.{◌≡◌, Some, sym, subst, ap, ◌∙◌}
+use Rattle.std.specs.Option.{option_copied, option_map}
+use Rattle.jvm_model.specs.declared.program.Program.{Program}
+use Rattle.prepared_code.specs.Entries.{original_version}
+use Rattle.prepared_code.specs.Kept.{AreKnown}
+use Rattle.prepared_code.specs.Linked.{Linked}
+use Rattle.prepared_code.specs.Making.{with_lines}
+use Rattle.prepared_code.specs.Prepared.{IsPrepared, world_in}
+use Rattle.prepared_code.specs.Tables.{Version, Versions, version_at}
+use Rattle.prepared_code.specs.Versions.{Setup}
+use Rattle.prepared_code.proofs.Made.{lines-made, original-method, replaced-bare, replaced-lines, replaced-same}
+use Rattle.prepared_code.proofs.originals.Originals.make_lines.Goals as goal
+
+pub replace-requires : goal.replace-requires
+replace-requires c =
+    let p : Program = c.self.inside.linker.program in
+    let x : Version = c.in-Some.held.now in
+    let there : version_at c.self.inside.versions c.args.version ≡ Some x = sym c.version_at.ensures ∙ ap option_copied c.in-Some.is in
+    let is : c.in_ok-made.made ≡ original_version p x.method = c.in_ok-made.ensures ∙ ap (λ (q : Program). original_version q x.method) c.program.ensures in
+    ap (option_map (λ (y : Version). y.method)) there ∙ ap Some (sym (ap (λ (y : Version). y.method) is ∙ original-method p x.method))
+
+pub invariant_of-self : goal.invariant_of-self
+invariant_of-self c =
+    let p : Program = c.self.inside.linker.program in
+    let x : Version = c.in-Some.held.now in
+    let old = c.self.inside.versions in
+    let new = c.replace.new.self in
+    let y = c.in_ok-made.made in
+    let there : version_at old c.args.version ≡ Some x = sym c.version_at.ensures ∙ ap option_copied c.in-Some.is in
+    let is : y ≡ original_version p x.method = c.in_ok-made.ensures ∙ ap (λ (q : Program). original_version q x.method) c.program.ensures in
+    let same : with_lines p new ≡ with_lines p old = replaced-same p c.args.version x y old new there c.if-held.false is c.replace.ensures in
+    record {
+      prepared = subst (λ (v : Versions). IsPrepared p c.self.inside.methods v c.self.inside.exceptions c.self.inside.numbers) (sym same) c.self.invariant.prepared;
+      known = subst (λ (v : Versions). AreKnown c.self.inside.linker v c.self.inside.cells) (sym same) c.self.invariant.known;
+      selected = c.self.invariant.selected;
+      bare = replaced-bare p c.args.version x y old new there c.if-held.false is c.replace.ensures c.self.invariant.bare;
+    }
+
+pub returns-clause-setup : goal.returns-clause-setup
+returns-clause-setup c =
+    let p : Program = c.self.inside.linker.program in
+    let x : Version = c.in-Some.held.now in
+    let old = c.self.inside.versions in
+    let new = c.replace.new.self in
+    let y = c.in_ok-made.made in
+    let there : version_at old c.args.version ≡ Some x = sym c.version_at.ensures ∙ ap option_copied c.in-Some.is in
+    let is : y ≡ original_version p x.method = c.in_ok-made.ensures ∙ ap (λ (q : Program). original_version q x.method) c.program.ensures in
+    ap (λ (v : Versions). let w : Setup = record { world = world_in p c.self.inside.input; versions = v } in w)
+    (replaced-same p c.args.version x y old new there c.if-held.false is c.replace.ensures)
+    ∙ ap (λ (o : Linked). o.setup) c.self.view_is

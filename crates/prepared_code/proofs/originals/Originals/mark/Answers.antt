@@ -1,0 +1,10 @@
+use Rattle.std.proofs.Common.{ap, ◌∙◌}
+use Rattle.prepared_code.specs.Linked.{Linked}
+use Rattle.prepared_code.specs.Versions.{mark_of}
+use Rattle.prepared_code.proofs.Made.{mark-made}
+use Rattle.prepared_code.proofs.originals.Originals.mark.Goals as goal
+
+pub returns : goal.returns
+returns c =
+    c.mark_of.ensures
+    ∙ (mark-made c.self.inside.linker.program c.self.inside.versions c.self.invariant.bare c.args.version ∙ ap (λ (o : Linked). mark_of o.setup.versions c.args.version) c.self.view_is)

@@ -1,0 +1,127 @@
+-- What is kept of a program's original code: at each number and offset, what the definitions look up there.
+use Rattle.std.specs.Prelude.{◌≡◌, ℕ, ◌<◌, ◌^◌, length, slice_get, unwrap_or, List, [], ◌∷◌, if◌then◌else◌}
+use Rattle.std.specs.Option.{option_and_then, option_map_or}
+use Rattle.std.specs.Option.{IfSome}
+use Rattle.std.specs.List.{AllByRecursion}
+use Rattle.const_pool.specs.BuiltIn.{built_in_names}
+use Rattle.const_pool.specs.declared.class.ClassFile.{ClassFile}
+use Rattle.const_pool.specs.declared.class.Member.{Member}
+use Rattle.class_index.specs.Indices.{IsLinkable}
+use Rattle.jvm_model.specs.declared.program.Program.{Program}
+use Rattle.jvm_model.specs.Instructions.CreationRules.{class_cast, instantiation_error}
+use Rattle.jvm_model.specs.Basis.Data.{World}
+use Rattle.jvm_model.specs.Instructions.InvocationRules.{abstract_method, unsatisfied_link}
+use Rattle.jvm_model.specs.Classes.Load.{circular_class, load_of}
+use Rattle.jvm_model.specs.Instructions.LocalRules.{arithmetic_exception}
+use Rattle.jvm_model.specs.Classes.Lookup.{incompatible_change}
+use Rattle.jvm_model.specs.Basis.Methods.{code_of}
+use Rattle.jvm_model.specs.Basis.Programs.{class_at, has_built_in_name, name_at, name_of, numbered, params_of_method, max_stack_of, max_locals_of}
+use Rattle.jvm_model.specs.Running.Run.{main_class}
+use Rattle.jvm_model.specs.Basis.SharedState.{built_in_from, kind_for, string, array_store, in_initializer, index_outside, negative_array_size, no_class_definition, no_such_field, no_such_method, null_pointer, stack_overflow}
+use Rattle.jvm_named.specs.Numbers.{AreNumbers, Row}
+use Rattle.prepared_code.specs.declared.originals.Method.{Method}
+use Rattle.prepared_code.specs.declared.originals.Exception.{Exception}
+use Rattle.prepared_code.specs.declared.originals.Exception.TheVariants.{AbstractMethod, Arithmetic, ArrayStore, ClassCast, ClassCircularity, IncompatibleClassChange, InInitializer, IndexOutside, Instantiation, NegativeArraySize, NoClassDefinition, NoSuchField, NoSuchMethod, NullPointer, StackOverflow, UnsatisfiedLink}
+use Rattle.prepared_code.specs.declared.originals.Exceptions.{Exceptions}
+use Rattle.prepared_code.specs.Versions.{HasLines}
+use Rattle.prepared_code.specs.Tables.{Versions}
+
+-- ---- programs whose code can be prepared
+
+-- the offsets in its code are u2s, as the format demands (JVM Specification 4.7.3)
+abbrev pub HasShortCode : Member → Type 0
+HasShortCode m = IfSome (code_of m) (λ code. length code.code < 2 ^ 16)
+
+abbrev pub HasShortCodes : ClassFile → Type 0
+HasShortCodes c = AllByRecursion HasShortCode c.methods
+
+-- Loading the built-in classes among these by their names, one after the other (5.3).
+abbrev pub with_built_in : Program → ClassFile → List ℕ → List ℕ
+with_built_in p c loaded = if has_built_in_name c then (load_of p loaded (unwrap_or (name_of c) [])).loaded else loaded
+
+-- the class at a position, where it is a built-in one
+abbrev pub built_in_then : Program → ℕ → List ℕ → List ℕ
+built_in_then p class loaded = option_map_or (λ c. with_built_in p c loaded) (class_at p class) loaded
+
+abbrev pub load_built_in : Program → List ClassFile → List ℕ → List ℕ
+load_built_in p [] loaded = loaded
+load_built_in p (c ∷ rest) loaded = load_built_in p rest (with_built_in p c loaded)
+
+-- Its classes can be linked, and its methods are those that have Code, which a u32 numbers. Each of the built-in classes is loaded alone, since
+-- what it names above itself stands in front of it.
+pub record FitsOriginals (p : Program) : Type 0 where
+  pub linkable : IsLinkable p
+  pub numbered : p.methods ≡ numbered p.classes
+  pub methods : length p.methods < 2 ^ 32
+  pub codes : AllByRecursion HasShortCodes p.classes
+  pub built_in : load_built_in p p.classes [] ≡ built_in_from 0 p.classes
+
+-- ---- what is run
+
+abbrev pub world_in : Program → List ℕ → World
+world_in p input = record { program = p; input = input }
+
+-- the name of the main class; nothing where there is none
+abbrev pub main_name : Program → List ℕ
+main_name p = unwrap_or (name_at p (main_class p)) []
+
+-- ---- exceptions that instructions raise
+
+abbrev pub exception_name : Exception → List ℕ
+exception_name AbstractMethod = abstract_method
+exception_name Arithmetic = arithmetic_exception
+exception_name ArrayStore = array_store
+exception_name ClassCast = class_cast
+exception_name ClassCircularity = circular_class
+exception_name IncompatibleClassChange = incompatible_change
+exception_name InInitializer = in_initializer
+exception_name IndexOutside = index_outside
+exception_name Instantiation = instantiation_error
+exception_name NegativeArraySize = negative_array_size
+exception_name NoClassDefinition = no_class_definition
+exception_name NoSuchField = no_such_field
+exception_name NoSuchMethod = no_such_method
+exception_name NullPointer = null_pointer
+exception_name StackOverflow = stack_overflow
+exception_name UnsatisfiedLink = unsatisfied_link
+
+-- the kind of its class's instances
+abbrev pub exception_kind : Program → Exception → ℕ
+exception_kind p e = kind_for p (exception_name e)
+
+-- the name of the built-in class at this place of their order, as native methods tell what they throw; nothing where there is none
+abbrev pub built_in_named : ℕ → List ℕ
+built_in_named place = unwrap_or (slice_get built_in_names place) []
+
+abbrev pub exception_in : Exceptions → Exception → ℕ
+exception_in x AbstractMethod = x.abstract_method
+exception_in x Arithmetic = x.arithmetic
+exception_in x ArrayStore = x.array_store
+exception_in x ClassCast = x.class_cast
+exception_in x ClassCircularity = x.class_circularity
+exception_in x IncompatibleClassChange = x.incompatible_change
+exception_in x InInitializer = x.in_initializer
+exception_in x IndexOutside = x.index_outside
+exception_in x Instantiation = x.instantiation
+exception_in x NegativeArraySize = x.negative_array_size
+exception_in x NoClassDefinition = x.no_class_definition
+exception_in x NoSuchField = x.no_such_field
+exception_in x NoSuchMethod = x.no_such_method
+exception_in x NullPointer = x.null_pointer
+exception_in x StackOverflow = x.stack_overflow
+exception_in x UnsatisfiedLink = x.unsatisfied_link
+
+-- ---- what is kept
+
+pub record IsPrepared (p : Program) (methods : List Method) (versions : Versions) (exceptions : Exceptions) (rows : List Row) : Type 0 where
+  pub fits : FitsOriginals p
+  pub few : length p.classes < 2 ^ 24
+  pub numbered : length p.methods < 2 ^ 32
+  pub params : (k : ℕ) → option_and_then (λ m. m.params) (slice_get methods k) ≡ params_of_method p k
+  pub max_stack : (k : ℕ) → option_map_or (λ m. m.max_stack) (slice_get methods k) 0 ≡ max_stack_of (world_in p []) k
+  pub max_locals : (k : ℕ) → option_map_or (λ m. m.max_locals) (slice_get methods k) 0 ≡ max_locals_of (world_in p []) k
+  pub lines : HasLines versions
+  pub count : length versions.current ≡ length p.methods
+  pub raised : (e : Exception) → exception_in exceptions e ≡ exception_kind p e
+  pub string : exceptions.string ≡ kind_for p string
+  pub numbers : AreNumbers p rows

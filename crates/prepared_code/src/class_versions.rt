@@ -1,0 +1,151 @@
+//! The versions of a class's methods for an image of the class.
+
+ghost use Rattle.std.specs.Prelude.{◌≡◌, ◌<◌, ◌^◌, ◌++◌, length, slice_get, IfOk, OnOk};
+ghost use Rattle.std.specs.Option.{option_and_then, option_copied, option_flatten, IfSome};
+ghost use Rattle.jvm_model.specs.Basis.Methods.{code_of, method_code};
+ghost use Rattle.jvm_named.specs.Numbers.{AreNumbers};
+ghost use Rattle.prepared_code.specs.ClassVersions.{AreRising, FitsImage, class_version, class_versions};
+ghost use Rattle.prepared_code.specs.ClassVersions.{alone, homes_at, member_version};
+ghost use Rattle.prepared_code.specs.ClassVersions.{versions_from};
+ghost use Rattle.prepared_code.specs.Prepared.{FitsOriginals, HasShortCodes};
+
+use crate::members::code_of;
+use crate::preparing::original_version;
+use crate::rewritten::rewritten_version;
+use crate::versions::Version;
+use code_model::Homes;
+use const_pool::{ClassFile, CodeAttribute, Member};
+use jf_bytes::{NoMemory, Seq};
+use jvm_model::Program;
+use jvm_named::MethodNumbers;
+use std::alloc::Global;
+
+// ---- one method
+
+/// The homes of the method at a position, where there are some.
+fn homes_at(homes: &[Option<Homes>], at: usize) -> Option<&Homes>
+    ensures { option_copied result ≡ homes_at homes.now at }
+{
+    homes.get(at)?.as_ref()
+}
+
+/// The code of the method at a position of an image.
+fn image_code(image: &ClassFile, at: usize) -> Option<&CodeAttribute>
+    ensures { option_copied result ≡ method_code image.now at }
+{
+    code_of(image.methods.get(at)?)
+}
+
+/// The version of a method, which has this original code.
+fn class_version(
+    alloc: Global,
+    program: &Program,
+    image: &ClassFile,
+    homes: &[Option<Homes>],
+    at: usize,
+    old: &CodeAttribute,
+    method: u32,
+) -> Result<Version, NoMemory>
+    requires fits { FitsOriginals program.now }
+    requires image { FitsImage image.now homes.now }
+    requires short { length old.now.code < 2 ^ 16 }
+    ensures { IfOk result (λ version. version
+        ≡ class_version program.now image.now homes.now at old.now method) }
+{
+    let Some(homes) = homes_at(homes, at) else {
+        return original_version(alloc, program, method);
+    };
+    let Some(code) = image_code(image, at) else {
+        return original_version(alloc, program, method);
+    };
+    rewritten_version(alloc, method, image, code, homes, old.code.len() as u16)
+}
+
+/// The same of the method at a position of a class, where it has Code.
+fn member_version(
+    alloc: Global,
+    program: &Program,
+    numbers: &MethodNumbers,
+    class: u32,
+    image: &ClassFile,
+    homes: &[Option<Homes>],
+    at: u16,
+    member: &Member,
+) -> Result<Option<Version>, NoMemory>
+    requires fits { FitsOriginals program.now }
+    requires numbers { AreNumbers program.now numbers.now }
+    requires image { FitsImage image.now homes.now }
+    requires short { IfSome (code_of member.now) (λ code. length code.code < 2 ^ 16) }
+    ensures { IfOk result (λ version. version
+        ≡ member_version program.now class image.now homes.now at member.now) }
+{
+    let Some(old) = code_of(member) else {
+        return Ok(None);
+    };
+    let Some(method) = numbers.number(class, at) else {
+        return Ok(None);
+    };
+    let version = class_version(alloc, program, image, homes, at as usize, old, method)?;
+    Ok(Some(version))
+}
+
+// ---- all that have Code
+
+/// Adds a version, where there is one.
+fn push_some(all: &mut Seq<Version>, version: Option<Version>) -> Result<(), NoMemory>
+    ensures { OnOk result (all.new ≡ all.old ++ alone version) }
+{
+    if let Some(version) = version {
+        all.push(version)?;
+    }
+    Ok(())
+}
+
+/// The versions of a class's methods.
+fn versions_of(
+    alloc: Global,
+    program: &Program,
+    numbers: &MethodNumbers,
+    class: u32,
+    file: &ClassFile,
+    image: &ClassFile,
+    homes: &[Option<Homes>],
+) -> Result<Seq<Version>, NoMemory>
+    requires fits { FitsOriginals program.now }
+    requires numbers { AreNumbers program.now numbers.now }
+    requires image { FitsImage image.now homes.now }
+    requires short { HasShortCodes file.now }
+    requires few { length file.now.methods < 2 ^ 16 }
+    ensures { IfOk result (λ versions. versions
+        ≡ versions_from program.now class image.now homes.now 0 file.now.methods) }
+{
+    let mut versions = Seq::new(alloc);
+    for (at, member) in file.methods.as_slice().iter().enumerate() {
+        let version = member_version(
+            alloc, program, numbers, class, image, homes, at as u16, member,
+        )?;
+        push_some(&mut versions, version)?;
+    }
+    Ok(versions)
+}
+
+/// The versions of the methods of the class at a position of a program.
+pub fn class_versions(
+    alloc: Global,
+    program: &Program,
+    numbers: &MethodNumbers,
+    class: u32,
+    image: &ClassFile,
+    homes: &[Option<Homes>],
+) -> Result<Seq<Version>, NoMemory>
+    requires fits { FitsOriginals program.now }
+    requires numbers { AreNumbers program.now numbers.now }
+    requires image { FitsImage image.now homes.now }
+    ensures { IfOk result (λ versions. versions
+        ≡ class_versions program.now class image.now homes.now) }
+{
+    let Some(file) = program.classes.get(class as usize) else {
+        return Ok(Seq::new(alloc));
+    };
+    versions_of(alloc, program, numbers, class, file, image, homes)
+}

@@ -1,0 +1,240 @@
+//! Instructions with the names that they give, as lines keep them (JVM Specification 4.4, 6.5): the texts are copied once.
+
+ghost use Rattle.std.specs.Prelude.{◌≡◌, IfOk};
+ghost use Rattle.std.specs.Option.{option_and_then, option_map};
+ghost use Rattle.const_pool.specs.Members.{reference_view};
+ghost use Rattle.const_pool.specs.References.{named_class, named_field, named_method, named_text};
+ghost use Rattle.jvm_model.specs.Basis.Data.{LdcClass, Named};
+ghost use Rattle.jvm_model.specs.Codes.Lines.{has_dimensions, interface_naming, multi_naming};
+ghost use Rattle.jvm_model.specs.Codes.Lines.{named_interface_method, naming_of, special_of};
+ghost use Rattle.jvm_model.specs.Basis.Programs.{name_of};
+ghost use Rattle.jvm_named.specs.Members.{params_by};
+ghost use Rattle.jvm_named.specs.Names.{naming_view};
+ghost use Rattle.prepared_code.specs.Lines.{action_of, member_as, named_action, named_as};
+
+use crate::descriptor::shape_of;
+use crate::line::Action;
+use crate::members::{field_at, interface_method_at, method_at};
+use class_index::meaning_of;
+use const_pool::{ClassFile, Kind, MemberRef, Pool};
+use jf_bytes::{NoMemory, Seq, Text16};
+use jvm_named::{MemberName, MethodName, Naming};
+use std::alloc::Global;
+
+// ---- names
+
+/// The same text.
+pub fn copy_of(alloc: Global, text: &Text16) -> Result<Text16, NoMemory>
+    ensures { IfOk result (λ copy. copy ≡ text.now) }
+{
+    Ok(Text16::new(Vec::from_slice(alloc, text.units())?))
+}
+
+/// A member with its names.
+fn member_as(alloc: Global, member: &MemberRef<'_>) -> Result<MemberName, NoMemory>
+    ensures { IfOk result (λ name. name ≡ member_as (reference_view member.now)) }
+{
+    Ok(MemberName {
+        class: copy_of(alloc, member.class)?,
+        name: copy_of(alloc, member.name)?,
+        descriptor: copy_of(alloc, member.descriptor)?,
+    })
+}
+
+/// The kinds of the parameters that a method's descriptor tells.
+fn params_by(alloc: Global, descriptor: &Text16) -> Result<Option<Seq<Kind>>, NoMemory>
+    ensures { IfOk result (λ params. params ≡ params_by descriptor.now) }
+{
+    match shape_of(alloc, descriptor)? {
+        Some(shape) => Ok(Some(shape.params)),
+        None => Ok(None),
+    }
+}
+
+/// A method with its names and the kinds of its parameters.
+fn method_as(alloc: Global, method: &MemberRef<'_>) -> Result<MethodName, NoMemory>
+    ensures { IfOk result (λ name. name ≡ reference_view method.now) }
+{
+    let params = params_by(alloc, method.descriptor)?;
+    Ok(MethodName::new(member_as(alloc, method)?, params))
+}
+
+/// The names of what a Fieldref names.
+fn field_in(alloc: Global, pool: &Pool, index: u16) -> Result<Option<MemberName>, NoMemory>
+    ensures { IfOk result (λ name. name ≡ option_map member_as (named_field pool.now index)) }
+{
+    match field_at(pool, index) {
+        Some(field) => Ok(Some(member_as(alloc, &field)?)),
+        None => Ok(None),
+    }
+}
+
+/// The names of what a Methodref names.
+fn method_in(alloc: Global, pool: &Pool, index: u16) -> Result<Option<MethodName>, NoMemory>
+    ensures { IfOk result (λ name. name ≡ named_method pool.now index) }
+{
+    match method_at(pool, index) {
+        Some(method) => Ok(Some(method_as(alloc, &method)?)),
+        None => Ok(None),
+    }
+}
+
+/// The names of what an InterfaceMethodref names.
+fn interface_method_in(
+    alloc: Global,
+    pool: &Pool,
+    index: u16,
+) -> Result<Option<MethodName>, NoMemory>
+    ensures { IfOk result (λ name. name ≡ named_interface_method pool.now index) }
+{
+    match interface_method_at(pool, index) {
+        Some(method) => Ok(Some(method_as(alloc, &method)?)),
+        None => Ok(None),
+    }
+}
+
+/// The name of the class at an index.
+pub fn class_in(alloc: Global, pool: &Pool, index: u16) -> Result<Option<Text16>, NoMemory>
+    ensures { IfOk result (λ name. name ≡ named_class pool.now index) }
+{
+    match pool.class_name(index) {
+        Ok(name) => Ok(Some(copy_of(alloc, name)?)),
+        Err(_) => Ok(None),
+    }
+}
+
+/// The text of the entry at an index.
+pub fn text_in(alloc: Global, pool: &Pool, index: u16) -> Result<Option<Text16>, NoMemory>
+    ensures { IfOk result (λ text. text ≡ named_text pool.now index) }
+{
+    match pool.text(index) {
+        Ok(text) => Ok(Some(copy_of(alloc, text)?)),
+        Err(_) => Ok(None),
+    }
+}
+
+// ---- instructions
+
+/// invokespecial in a class.
+fn special_in(alloc: Global, class: &ClassFile, index: u16) -> Result<Option<Naming>, NoMemory>
+    ensures { let method = named_method class.now.pool index in IfOk result (λ n. n
+        ≡ option_map named_as (option_and_then (λ caller. option_map (special_of caller) method)
+        (name_of class.now))) }
+{
+    let Some(caller) = class_in(alloc, &class.pool, class.this_class)? else {
+        return Ok(None);
+    };
+    match method_in(alloc, &class.pool, index)? {
+        Some(method) => Ok(Some(Naming::Invokespecial(caller, method, false))),
+        None => Ok(None),
+    }
+}
+
+/// An instruction with a pool index alone.
+pub fn naming_of(
+    alloc: Global,
+    class: &ClassFile,
+    op: u8,
+    index: u16,
+) -> Result<Option<Naming>, NoMemory>
+    ensures { IfOk result (λ n. n ≡ option_map named_as (naming_of class.now op index)) }
+{
+    let pool = &class.pool;
+    match op {
+        178 => Ok(field_in(alloc, pool, index)?.map(Naming::Getstatic)),
+        179 => Ok(field_in(alloc, pool, index)?.map(Naming::Putstatic)),
+        180 => Ok(field_in(alloc, pool, index)?.map(Naming::Getfield)),
+        181 => Ok(field_in(alloc, pool, index)?.map(Naming::Putfield)),
+        182 => Ok(method_in(alloc, pool, index)?.map(Naming::Invokevirtual)),
+        183 => special_in(alloc, class, index),
+        184 => Ok(method_in(alloc, pool, index)?.map(Naming::Invokestatic)),
+        187 => Ok(class_in(alloc, pool, index)?.map(Naming::New)),
+        189 => Ok(class_in(alloc, pool, index)?.map(Naming::Anewarray)),
+        192 => Ok(class_in(alloc, pool, index)?.map(Naming::Checkcast)),
+        193 => Ok(class_in(alloc, pool, index)?.map(Naming::Instanceof)),
+        _ => Ok(None),
+    }
+}
+
+/// invokeinterface.
+pub fn interface_naming(
+    alloc: Global,
+    class: &ClassFile,
+    op: u8,
+    index: u16,
+) -> Result<Option<Naming>, NoMemory>
+    ensures { IfOk result (λ n. n ≡ option_map named_as (interface_naming class.now op index)) }
+{
+    match op {
+        185 => Ok(interface_method_in(alloc, &class.pool, index)?.map(Naming::Invokeinterface)),
+        _ => Ok(None),
+    }
+}
+
+/// multianewarray, with so many dimensions that are given.
+pub fn multi_naming(
+    alloc: Global,
+    class: &ClassFile,
+    op: u8,
+    index: u16,
+    dimensions: u8,
+) -> Result<Option<Naming>, NoMemory>
+    ensures { IfOk result
+        (λ n. n ≡ option_map named_as (multi_naming class.now op index dimensions)) }
+{
+    if op != 197 {
+        return Ok(None);
+    }
+    match class_in(alloc, &class.pool, index)? {
+        Some(name) => Ok(Some(Naming::Multianewarray(name, dimensions))),
+        None => Ok(None),
+    }
+}
+
+/// ldc of a Class of this name.
+pub fn class_action(name: Option<Text16>) -> Option<Action>
+    ensures { let operation = option_map (λ units. Named (LdcClass units)) name in
+        result ≡ option_map action_of operation }
+{
+    Some(Action::Named(Naming::LdcClass(name?)))
+}
+
+// ---- dimensions of array types
+
+/// Whether an array type that is named has the dimensions that the format asks (4.9.1).
+fn has_dimensions(naming: &Naming) -> bool
+    ensures { result ≡ has_dimensions (naming_view naming.now) }
+{
+    match naming {
+        Naming::Anewarray(name) => meaning_of(name.units()).dimensions < 255,
+        Naming::Multianewarray(name, dimensions) => {
+            *dimensions >= 1 && *dimensions <= meaning_of(name.units()).dimensions
+        }
+        _ => true,
+    }
+}
+
+/// What an instruction with names does; none where it is none for its dimensions.
+pub fn named_action(naming: Option<Naming>) -> Option<Action>
+    ensures { result ≡ option_and_then named_action naming }
+{
+    let naming = naming?;
+    if has_dimensions(&naming) {
+        Some(Action::Named(naming))
+    } else {
+        None
+    }
+}
+
+// ---- text in ASCII
+
+/// The units of a text in ASCII.
+pub fn units_of(alloc: Global, bytes: &[u8]) -> Result<Seq<u16>, NoMemory>
+    ensures { IfOk result (λ units. units ≡ bytes.now) }
+{
+    let mut units = Seq::with_capacity(alloc, bytes.len())?;
+    for byte in bytes {
+        units.push(u16::from(*byte))?;
+    }
+    Ok(units)
+}

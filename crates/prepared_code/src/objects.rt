@@ -1,0 +1,222 @@
+//! Objects that the machine makes and their classes (JVM Specification 2.10, 5.2), by the numbers of kinds.
+
+ghost use Rattle.std.specs.Prelude.{◌≡◌, ◌<◌, ◌≤◌, ◌+◌, ◌^◌, ◌==◌, false, length, nat_le};
+ghost use Rattle.std.specs.Prelude.{IfOk, OnOk, unwrap_or};
+ghost use Rattle.heap_objects.specs.Heaps.{with_instance};
+ghost use Rattle.jvm_model.specs.Basis.KindNumbers.{base_of_class, class_of_base, user_count};
+ghost use Rattle.jvm_model.specs.Basis.Programs.{class_named};
+ghost use Rattle.jvm_model.specs.Basis.SharedState.{arguments_cost, arguments_fit, texts_cost};
+ghost use Rattle.jvm_model.specs.Basis.SharedState.{class_of_kind, heap_before, kind_for};
+ghost use Rattle.jvm_model.specs.Basis.SharedState.{with_arguments, with_text_in, with_texts};
+
+use crate::lookup::class_of_bytes;
+use class_index::Index;
+use heap_objects::{Datum, Heap};
+use jf_bytes::{NoMemory, Text16};
+use jvm_model::Program;
+use std::alloc::Global;
+
+/// How many built-in classes there are.
+const BUILT_IN: usize = 53;
+
+/// The number from which on kinds are arrays'.
+pub const ARRAY: u32 = 16_777_216;
+
+/// How many classes stand before the built-in ones.
+fn user_count(program: &Program) -> u32
+    requires { length program.now.classes < 2 ^ 24 }
+    ensures count { result ≡ user_count program.now }
+    ensures most { result < 2 ^ 24 }
+{
+    program.classes.len().saturating_sub(BUILT_IN) as u32
+}
+
+/// The kind of the instances of a class.
+fn kind_of_class(program: &Program, class: u32) -> u32
+    requires few { length program.now.classes < 2 ^ 24 }
+    requires class { class < 2 ^ 24 }
+    ensures kind { result ≡ base_of_class program.now class }
+    ensures most { result < 2 ^ 25 }
+{
+    let users = user_count(program);
+    if class < users {
+        256 + class
+    } else {
+        16 + (class - users)
+    }
+}
+
+/// The position of the class of a base of kinds; a primitive element has none.
+pub fn class_of_base(program: &Program, base: u32) -> Option<u32>
+    requires { length program.now.classes < 2 ^ 24 }
+    ensures { result ≡ class_of_base program.now base }
+{
+    if base < 16 {
+        return None;
+    }
+    if base < 256 {
+        Some(user_count(program) + (base - 16))
+    } else {
+        Some(base - 256)
+    }
+}
+
+/// The position of the class of objects of a kind: java/lang/Object's for arrays.
+pub fn class_of_kind(program: &Program, kind: u32) -> u32
+    requires { length program.now.classes < 2 ^ 24 }
+    ensures { result ≡ class_of_kind program.now kind }
+{
+    if kind >= ARRAY {
+        return user_count(program);
+    }
+    match class_of_base(program, kind) {
+        Some(class) => class,
+        None => 0,
+    }
+}
+
+/// The position of the class whose name is these bytes; 0 where there is none.
+fn class_named(program: &Program, name: &[u8]) -> u32
+    requires { length program.now.classes < 2 ^ 24 }
+    ensures class { result ≡ unwrap_or (class_named program.now name.now) 0 }
+    ensures most { result < 2 ^ 24 }
+{
+    match class_of_bytes(program, name) {
+        Some(class) => class,
+        None => 0,
+    }
+}
+
+/// The kind of the instances of the class whose name is these bytes.
+pub fn kind_for(program: &Program, name: &[u8]) -> u32
+    requires { length program.now.classes < 2 ^ 24 }
+    ensures kind { result ≡ kind_for program.now name.now }
+    ensures most { result < 2 ^ 25 }
+{
+    kind_of_class(program, class_named(program, name))
+}
+
+/// The position of the class of this name, found by hashing; 0 where there is none.
+#[tactic(auto, using(crate::proofs::Positions::position_within))]
+fn position_named(index: &Index, name: &[u16]) -> u32
+    requires { length index.now.classes < 2 ^ 24 }
+    ensures class { result ≡ unwrap_or (class_named index.now name.now) 0 }
+    ensures most { result < 2 ^ 24 }
+{
+    match index.class_named(name) {
+        Some(class) => class,
+        None => 0,
+    }
+}
+
+/// The kind of the instances of the class of this name, found by hashing.
+pub fn kind_named(index: &Index, name: &[u16]) -> u32
+    requires { length index.now.classes < 2 ^ 24 }
+    ensures { result ≡ kind_for index.now name.now }
+{
+    kind_of_class(index.program(), position_named(index, name))
+}
+
+/// Makes an object that there is room for.
+fn make(heap: &mut Heap, kind: u32, fields: &[Datum]) -> Result<(), NoMemory>
+    requires { heap.old.used + (1 + length fields.now) ≤ heap.old.limit }
+    ensures { OnOk result (heap.new ≡ with_instance kind fields.now heap.old) }
+{
+    match heap.instance(kind, fields) {
+        Ok(_) => Ok(()),
+        Err(_) => Err(NoMemory),
+    }
+}
+
+/// Objects 1 to 4: the OutOfMemoryError that the machine throws, System.in, System.out and System.err.
+pub fn heap_before(alloc: Global, program: &Program) -> Result<Heap, NoMemory>
+    requires few { length program.now.classes < 2 ^ 24 }
+    requires room { 1024 ≤ program.now.heap }
+    ensures { IfOk result (λ heap. heap ≡ heap_before program.now) }
+{
+    let error = kind_for(program, b"java/lang/OutOfMemoryError");
+    let input = kind_for(program, b"java/io/InputStream");
+    let print = kind_for(program, b"java/io/PrintStream");
+    let mut heap = Heap::new(alloc, program.heap);
+    make(&mut heap, error, &[Datum::Ref(0), Datum::Ref(0)])?;
+    make(&mut heap, input, &[])?;
+    make(&mut heap, print, &[])?;
+    make(&mut heap, print, &[])?;
+    Ok(heap)
+}
+
+/// A text goes into an element of an array. There is room for it.
+fn put_text(kind: u32, array: u32, at: u32, units: &[u16], heap: &mut Heap) -> Result<(), NoMemory>
+    requires array { (array == 0) ≡ false }
+    requires room { heap.old.used + (1 + length units.now) ≤ heap.old.limit }
+    ensures { OnOk result (heap.new
+        ≡ with_text_in kind array at units.now heap.old) }
+{
+    match heap.text(kind, units) {
+        Ok(text) => {
+            heap.put(array, at, Datum::Ref(text));
+            Ok(())
+        }
+        Err(_) => Err(NoMemory),
+    }
+}
+
+/// The texts of the arguments of `main` go into their array. There is room for them.
+fn put_texts(program: &Program, array: u32, heap: &mut Heap) -> Result<(), NoMemory>
+    requires few { length program.now.classes < 2 ^ 24 }
+    requires array { (array == 0) ≡ false }
+    requires short { length program.now.args < 2 ^ 32 }
+    requires room { heap.old.used + texts_cost program.now.args ≤ heap.old.limit }
+    ensures { OnOk result (heap.new
+        ≡ with_texts program.now array 0 program.now.args heap.old) }
+{
+    let kind = kind_for(program, b"java/lang/String");
+    for (at, arg) in program.args.as_slice().iter().enumerate() {
+        put_text(kind, array, at as u32, arg.units(), heap)?;
+    }
+    Ok(())
+}
+
+/// The array of the arguments of `main`, and then their texts. There is room for them.
+pub fn make_arguments(program: &Program, heap: &mut Heap) -> Result<(), NoMemory>
+    requires few { length program.now.classes < 2 ^ 24 }
+    requires room { heap.old.used + arguments_cost program.now.args ≤ heap.old.limit }
+    requires limit { heap.old.limit ≡ program.now.heap }
+    ensures { OnOk result (heap.new ≡ with_arguments program.now heap.old) }
+{
+    let _limit = program.heap;
+    let kind = ARRAY + kind_for(program, b"java/lang/String");
+    match heap.array(kind, Datum::Ref(0), program.args.len() as u32) {
+        Ok(array) => put_texts(program, array, heap),
+        Err(_) => Err(NoMemory),
+    }
+}
+
+/// How many slots the objects take that are there before the start.
+const BEFORE: usize = 6;
+
+/// Whether so many slots are enough for these texts.
+fn texts_fit(args: &[Text16], room: usize) -> bool
+    ensures { result ≡ nat_le (texts_cost args.now) room }
+{
+    let mut left = room;
+    for arg in args {
+        let units = arg.units().len();
+        if units >= left {
+            return false;
+        }
+        left -= units + 1;
+    }
+    true
+}
+
+/// Whether there is room for the array of the arguments of `main` and for their texts.
+pub fn arguments_fit(program: &Program) -> bool
+    ensures { result ≡ arguments_fit program.now }
+{
+    let args = program.args.as_slice();
+    let Some(room) = (program.heap as usize).checked_sub(BEFORE + 1) else {
+        return false;
+    };
+    args.len() <= room && texts_fit(args, room - args.len())
+}
