@@ -7,7 +7,7 @@ use Rattle.std.proofs.lemmas.List.{append-nil}
 use Rattle.std.proofs.lemmas.Option.{same_Some, none-some}
 use Rattle.jvm_model.specs.declared.event.Act.{Act}
 use Rattle.jvm_model.specs.Soundness.Calls.{AreFrom}
-use Rattle.jvm_model.specs.Basis.Data.{Change, Loads, Began, Left, Unwound, Text, World}
+use Rattle.jvm_model.specs.Basis.Data.{Change, Loads, Began, Left, Unwound, Listing, World}
 use Rattle.jvm_model.specs.Classes.Load.{is_among}
 use Rattle.jvm_model.specs.Codes.Originals.{original}
 use Rattle.jvm_model.specs.Profiling.Points.{Standing, acts_at, acts_behind, after_act, after_acts, after_change, after_changes, chosen, is_quiet, nothing, settled, standing_in, standing_in-suc, standing_in-zero}
@@ -47,7 +47,7 @@ abbrev front : List Act → ℕ → List Act
 front acts zero = acts_at 0 acts
 front acts (suc n) = front acts n ++ acts_behind n acts
 
-standing-chosen : (acts : List Act) (w : World) (t : Text) (n : ℕ) → (standing_in acts w t n).selected ≡ chosen_by [] (front acts n)
+standing-chosen : (acts : List Act) (w : World) (t : Listing) (n : ℕ) → (standing_in acts w t n).selected ≡ chosen_by [] (front acts n)
 standing-chosen acts w t zero =
     ap (λ (s : Standing). s.selected) (standing_in-zero acts w t) ∙ acts-selected acts (acts_at 0 acts) (nothing w)
 standing-chosen acts w t (suc n) =
@@ -144,7 +144,7 @@ front-is (suc k) acts order =
     ap (λ (xs : List Act). xs ++ filter (at (suc k)) acts) (front-is k acts order) ∙ sym (one-moment-more k 0 acts order)
 
 -- where no action is later than the step, it comes to all of them
-pub standing-all : (acts : List Act) (w : World) (t : Text) (k : ℕ) → AreFrom 0 acts → AllByRecursion (λ (a : Act). a.moment ≤ k) acts
+pub standing-all : (acts : List Act) (w : World) (t : Listing) (k : ℕ) → AreFrom 0 acts → AllByRecursion (λ (a : Act). a.moment ≤ k) acts
     → (standing_in acts w t (suc k)).selected ≡ chosen_by [] acts
 standing-all acts w t k order early =
     standing-chosen acts w t (suc k)
@@ -153,7 +153,7 @@ standing-all acts w t k order early =
     ∙ keeps-all (up-to k) acts (all-weaken (λ (a : Act). a.moment ≤ k) (λ a. up-to k a ≡ true) acts (λ a le. within-yes k a le) early))
 
 -- before the start, where all are of moment 0
-pub standing-first : (acts : List Act) (w : World) (t : Text) → AllByRecursion (λ (a : Act). a.moment ≤ 0) acts
+pub standing-first : (acts : List Act) (w : World) (t : Listing) → AllByRecursion (λ (a : Act). a.moment ≤ 0) acts
     → (standing_in acts w t 0).selected ≡ chosen_by [] acts
 standing-first acts w t early =
     standing-chosen acts w t 0

@@ -9,7 +9,7 @@ use Rattle.jvm_model.specs.declared.event.Mark.{Mark}
 use Rattle.jvm_model.specs.declared.event.Mark.TheVariants.{Off}
 use Rattle.jvm_model.specs.declared.state.State.{State}
 use Rattle.jvm_model.specs.Running.Applies.{still}
-use Rattle.jvm_model.specs.Basis.Data.{Change, Text, Turn, World}
+use Rattle.jvm_model.specs.Basis.Data.{Change, Listing, Turn, World}
 use Rattle.jvm_model.specs.Turns.InHand.{InHand, behind_load, original_of}
 use Rattle.jvm_model.specs.Classes.Load.{Fault}
 use Rattle.jvm_model.specs.Running.Moves.{settled}
@@ -32,7 +32,7 @@ use Rattle.jvm_steps.specs.Moves.Hands.{HasGoneOn, HasInHand, IsLeft, todo_of, v
 use Rattle.prepared_code.specs.Standing.{HasVersions, places_of}
 use Rattle.prepared_code.specs.Tables.{Version}
 use Rattle.jvm_steps.specs.Moves.Turning.{loads_in, loads_none}
-use Rattle.prepared_code.specs.Versions.{Setup, current_of, mark_of, method_of, text_of}
+use Rattle.prepared_code.specs.Versions.{Setup, current_of, mark_of, method_of, listing_of}
 use Rattle.prepared_code.proofs.VersionsAgree.{versions-agree}
 use Rattle.jvm_machine.specs.Advances.{left_in, passed_then, told_in}
 use Rattle.jvm_machine.specs.Machine.{Stands, marks_of, seen}
@@ -73,7 +73,7 @@ stop-begins marks true n live [] e = begins-in marks n live [] e
 stop-begins marks true n live (c ∷ more) e = begins-in marks (suc n) (held_after marks live c) more e
 
 module _ (w : Setup) (homes : ℕ → ℕ → ℕ) (has : HasVersions w homes) where
-  abbrev t : Text
+  abbrev t : Listing
   t = original w.world.program
 
   abbrev marked : ℕ → Mark
@@ -149,7 +149,7 @@ module _ (w : Setup) (homes : ℕ → ℕ → ℕ) (has : HasVersions w homes) w
       let stands : StandsFor (places_of w.world.program) (method_of w.versions) homes s (original_of (versioned_in w homes) h.between) =
       record { between = h.between; versioned_is = h.versioned; original_is = refl; at_places = h.placed } in
       ap (λ (l : List ℕ). length l == 0)
-      (step_loads-same (places_of w.world.program) w.world t (program-agrees w.world.program has.closed) (method_of w.versions) (current_of w.versions) homes (text_of w.versions)
+      (step_loads-same (places_of w.world.program) w.world t (program-agrees w.world.program has.closed) (method_of w.versions) (current_of w.versions) homes (listing_of w.versions)
       (versions-agree w.world.program (places_of w.world.program) homes w.versions has.are) s (original_of (versioned_in w homes) h.between) stands
       ∙ loaded-by hand.moves attempt h.loaded)
     where
@@ -165,7 +165,7 @@ module _ (w : Setup) (homes : ℕ → ℕ → ℕ) (has : HasVersions w homes) w
 
     pub step-hand : HasInHand w homes (turn w.world (clock + 1)) begun_hand (helds marked (with_loaded (loads_in w s) s).stack) (with_loaded (loads_in w s) s)
     step-hand =
-        let begun = hand-begins w.world t (versioned_in w homes) (program-agrees w.world.program has.closed) (current_of w.versions) (text_of w.versions)
+        let begun = hand-begins w.world t (versioned_in w homes) (program-agrees w.world.program has.closed) (current_of w.versions) (listing_of w.versions)
         (versions-agree w.world.program (places_of w.world.program) homes w.versions has.are) s (run w.world clock) stands in
         subst (λ (a : Turn). HasInHand w homes a begun_hand (helds marked (with_loaded (loads_in w s) s).stack) (with_loaded (loads_in w s) s)) (sym (turn_in-more w.world t clock))
         (subst (λ live. HasInHand w homes (step w.world t (run w.world clock)) begun_hand live (with_loaded (loads_in w s) s)) (sym (loaded-held marked (loads_in w s) s)) begun)
@@ -174,7 +174,7 @@ module _ (w : Setup) (homes : ℕ → ℕ → ℕ) (has : HasVersions w homes) w
     pub step-first : (c : ℕ) (more : List ℕ) → loads_in w s ≡ c ∷ more → loads_first (turn w.world (clock + 1)).changes ≡ c ∷ more
     step-first c more loads =
         ap (λ (a : Turn). loads_first a.changes) (turn_in-more w.world t clock)
-        ∙ (ap loads_first (begin-loads w.world t (versioned_in w homes) (program-agrees w.world.program has.closed) (current_of w.versions) (text_of w.versions)
+        ∙ (ap loads_first (begin-loads w.world t (versioned_in w homes) (program-agrees w.world.program has.closed) (current_of w.versions) (listing_of w.versions)
         (versions-agree w.world.program (places_of w.world.program) homes w.versions has.are) s (run w.world clock) stands)
         ∙ ap (λ cs. loads_first (loaded_turn cs (step w.world t (with_loaded (step_loads w.world t (run w.world clock)) (run w.world clock)))).changes) loads)
 

@@ -19,7 +19,7 @@ use Rattle.prepared_code.specs.Ready.{IsKept}
 use Rattle.prepared_code.specs.Standing.{IsOfProgram, IsPinned, places_of}
 use Rattle.prepared_code.specs.Tables.{Adds, IsAdded, Version, Versions, version_at}
 use Rattle.prepared_code.specs.Versions.{Setup, mark_of}
-use Rattle.prepared_code.specs.VersionTexts.{homes_with}
+use Rattle.prepared_code.specs.VersionListings.{homes_with}
 use Rattle.prepared_code.proofs.ClassVersionLaws.{versions-of}
 use Rattle.prepared_code.proofs.StandingSteps.{has-one}
 use Rattle.prepared_code.proofs.VersionsRun.{count-added, same-added}

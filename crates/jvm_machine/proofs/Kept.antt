@@ -13,7 +13,7 @@ use Rattle.jvm_model.specs.Classes.Load.{Fault}
 use Rattle.jvm_model.specs.Codes.Originals.{original}
 use Rattle.jvm_model.specs.Running.Run.{arguments_made, before, main_classes, main_loading, opened, starts_if, starts_unless, starts_with, with_loaded}
 use Rattle.jvm_model.specs.Basis.SharedState.{arguments_fit}
-use Rattle.jvm_model.specs.Soundness.SoundTexts.{IsSoundEntry}
+use Rattle.jvm_model.specs.Soundness.SoundListings.{IsSoundEntry}
 use Rattle.jvm_model.specs.Rewriting.StandsForRun.{KeepVersions}
 use Rattle.jvm_model.specs.Turns.Told.{Held, helds}
 use Rattle.jvm_model.proofs.Turns.HandBegins.{hand-kept}

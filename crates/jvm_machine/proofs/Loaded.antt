@@ -9,7 +9,7 @@ use Rattle.jvm_model.specs.declared.state.Entry.TheVariants.{Active, Initializin
 use Rattle.jvm_model.specs.declared.state.State.{State}
 use Rattle.jvm_model.specs.Running.Applies.{still}
 use Rattle.jvm_model.specs.declared.state.Frame.{Frame}
-use Rattle.jvm_model.specs.Basis.Data.{Instruction, Text, Turn, World}
+use Rattle.jvm_model.specs.Basis.Data.{Instruction, Listing, Turn, World}
 use Rattle.jvm_model.specs.Instructions.Does.{does, loads}
 use Rattle.jvm_model.specs.Turns.InHand.{original_of}
 use Rattle.jvm_model.specs.Codes.Originals.{original}
@@ -17,18 +17,18 @@ use Rattle.jvm_model.specs.Turns.Rest.{loads_at, loads_on, rest, step_loads}
 use Rattle.jvm_model.specs.Running.Run.{before, run, step, steps_at, steps_by, steps_on, turn, with_loaded}
 use Rattle.jvm_model.specs.Soundness.Sound.{IsFit}
 use Rattle.jvm_model.specs.Turns.Told.{Held, helds}
-use Rattle.jvm_model.specs.Soundness.SoundTexts.{IsSound, IsSoundEntry, IsSoundText}
+use Rattle.jvm_model.specs.Soundness.SoundListings.{IsSound, IsSoundEntry, IsSoundListing}
 use Rattle.jvm_model.proofs.Running.Attempts.{loaded-after}
 use Rattle.jvm_model.proofs.Elsewhere.ClosedPrograms.{program-agrees}
 use Rattle.jvm_model.proofs.Loading.LoadedMoves.{settled-loaded}
 use Rattle.jvm_model.proofs.Soundness.SoundRuns.{with-loaded-is}
-use Rattle.jvm_model.proofs.Soundness.SoundTextRuns.{at-goes}
+use Rattle.jvm_model.proofs.Soundness.SoundListingRuns.{at-goes}
 use Rattle.jvm_steps.specs.declared.turns.hands.Hand.{Hand}
 use Rattle.jvm_steps.specs.Moves.Hands.{HasInHand, todo_of, versioned_in}
 use Rattle.prepared_code.specs.Ready.{IsSoundIn, RunsIn}
 use Rattle.prepared_code.specs.Standing.{HasVersions, places_of}
 use Rattle.jvm_steps.specs.Moves.Turning.{loads_in}
-use Rattle.prepared_code.specs.Versions.{Setup, mark_of, text_of}
+use Rattle.prepared_code.specs.Versions.{Setup, mark_of, listing_of}
 use Rattle.prepared_code.proofs.StandingSteps.{set-up-runs}
 use Rattle.prepared_code.proofs.VersionsRun.{step-stands}
 use Rattle.jvm_machine.specs.Machine.{IsMachine, IsSoundOnce, Stands, seen}
@@ -39,7 +39,7 @@ use Rattle.jvm_machine.proofs.Shown.{rest-shows, stands-shows}
 
 -- ---- a step loads what it loads first, and no more
 
-module _ (Runs : ℕ → ℕ → Type 0) (w : World) (fit : IsFit w.program) (t : Text) (text : IsSoundText Runs w.program t) where
+module _ (Runs : ℕ → ℕ → Type 0) (w : World) (fit : IsFit w.program) (t : Listing) (text : IsSoundListing Runs w.program t) where
   at-loaded : (s : State) (f : Frame) (o : Option Instruction) → IsSound Runs w.program s → IsSoundEntry Runs w.program s.shared.loaded (Active f) → t.at f.version f.place ≡ o
       → (steps_at w t s f o).after.shared.loaded ≡ s.shared.loaded ++ loads_at w s f o
   at-loaded s f None is entry e = with-loaded-is [] s
@@ -79,7 +79,7 @@ module _ (w : Setup) (homes : ℕ → ℕ → ℕ) (has : HasVersions w homes) (
   stands_now = record { between = h.between; versioned_is = h.versioned; original_is = refl; at_places = h.placed }
 
   abbrev versions_step : State
-  versions_step = (step w.world (text_of w.versions) s).after
+  versions_step = (step w.world (listing_of w.versions) s).after
 
   step-there : Stands w homes versions_step (step w.world (original w.world.program) from_original).after
   step-there =
@@ -92,7 +92,7 @@ module _ (w : Setup) (homes : ℕ → ℕ → ℕ) (has : HasVersions w homes) (
       let nothing : loads_in w s ≡ [] = none-front (loads_in w s) (in-hand-loads w homes has whole hand live s h e) in
       ap (λ (z : State). z.shared.loaded) (sym same)
       ∙ (sym (stands-shows w homes versions_step (step w.world (original w.world.program) from_original).after step-there).loaded
-      ∙ (step-loaded (RunsIn w.versions) w.world has.fit (text_of w.versions) (set-up-runs w homes has).text s (attempt-sound hand once e)
+      ∙ (step-loaded (RunsIn w.versions) w.world has.fit (listing_of w.versions) (set-up-runs w homes has).text s (attempt-sound hand once e)
       ∙ (ap (λ l. s.shared.loaded ++ l) nothing ∙ append-nil s.shared.loaded)))
 
   pub hand-loaded : whole.after.shared.loaded ≡ s.shared.loaded

@@ -24,7 +24,7 @@ use Rattle.prepared_code.specs.Entries.{no_version, original_version, version_en
 use Rattle.prepared_code.specs.Standing.{HasVersions, IsOfProgram}
 use Rattle.prepared_code.specs.Tables.{Adds, IsAdded, Version, Versions, version_at}
 use Rattle.prepared_code.specs.Versions.{Setup, current_of, mark_of}
-use Rattle.prepared_code.specs.VersionTexts.{HasCurrent}
+use Rattle.prepared_code.specs.VersionListings.{HasCurrent}
 use Rattle.prepared_code.proofs.ClassVersionLaws.{place-of}
 use Rattle.prepared_code.proofs.StandingSteps.{has-one}
 use Rattle.jvm_machine.specs.Installs.{mark_over, marks_over}

@@ -5,7 +5,7 @@ use Rattle.std.proofs.lemmas.Bool.{and_parts}
 use Rattle.jvm_model.specs.declared.due.Due.TheVariants.{Nothing}
 use Rattle.jvm_model.specs.declared.event.Mark.{Mark}
 use Rattle.jvm_model.specs.declared.state.State.{State}
-use Rattle.jvm_model.specs.Basis.Data.{Change, Text, Turn}
+use Rattle.jvm_model.specs.Basis.Data.{Change, Listing, Turn}
 use Rattle.jvm_model.specs.Codes.Originals.{original}
 use Rattle.jvm_model.specs.Turns.Pauses.{Pause, Stop, stop_from, stop_in}
 use Rattle.jvm_model.specs.Turns.Rest.{Attempt, loads_first}
@@ -25,7 +25,7 @@ use Rattle.prepared_code.specs.Markers.{state_of}
 use Rattle.jvm_steps.specs.Instructions.Passing.{AreSilent, IsSilent, Passes as Silent, runs}
 use Rattle.prepared_code.specs.Runs.{Leads, steps_from, steps_from-suc, steps_from-zero}
 use Rattle.prepared_code.specs.Standing.{IsRunOf, places_of}
-use Rattle.prepared_code.specs.Versions.{Setup, current_of, mark_of, method_of, text_of}
+use Rattle.prepared_code.specs.Versions.{Setup, current_of, mark_of, method_of, listing_of}
 use Rattle.prepared_code.proofs.StandingSteps.{run-of-more}
 use Rattle.prepared_code.proofs.VersionsAgree.{versions-agree}
 use Rattle.jvm_machine.specs.Machine.{IsMachine, IsTidy, Stands, marks_of, seen}
@@ -75,8 +75,8 @@ module _ (v : View) (resting : is_resting v ≡ true) (nothing : TellsNothing (m
 -- ---- over versions
 
 module _ (w : Setup) (s : State) (silent : IsSilent w s) where
-  abbrev u : Text
-  u = text_of w.versions
+  abbrev u : Listing
+  u = listing_of w.versions
 
   abbrev marks : ℕ → Mark
   marks = mark_of w.versions

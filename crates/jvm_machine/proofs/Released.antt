@@ -15,7 +15,7 @@ use Rattle.prepared_code.specs.Ready.{IsKept, IsSoundIn}
 use Rattle.prepared_code.specs.Standing.{HasVersions, IsPinned, places_of}
 use Rattle.prepared_code.specs.Tables.{Releases, Version, Versions, version_at}
 use Rattle.prepared_code.specs.Versions.{Setup, current_of, mark_of}
-use Rattle.prepared_code.specs.VersionTexts.{HasCurrent, homes_left}
+use Rattle.prepared_code.specs.VersionListings.{HasCurrent, homes_left}
 use Rattle.prepared_code.proofs.StandingSteps.{has-left}
 use Rattle.prepared_code.proofs.VersionsRun.{same-left}
 use Rattle.jvm_machine.specs.Machine.{Stands, marks_of}

@@ -7,6 +7,6 @@ pub mod MethodsOfImages
 pub mod ImageSizes
 pub mod NumbersOfMethods
 pub mod HomedLines
-pub mod HomedTexts
+pub mod HomedListings
 pub mod HomesRise
 pub mod LaidHomes

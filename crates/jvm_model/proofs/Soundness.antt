@@ -5,8 +5,8 @@ pub mod SoundRules
 pub mod SoundAttempts
 pub mod SoundLines
 pub mod SoundRuns
-pub mod SoundTextSteps
-pub mod SoundTextRuns
+pub mod SoundListingSteps
+pub mod SoundListingRuns
 pub mod Ranked
 pub mod PoolTexts
 pub mod MoreEntries

@@ -1,5 +1,5 @@
 pub mod Sound
-pub mod SoundTexts
+pub mod SoundListings
 pub mod Suited
 pub mod Calls
 pub mod Climbing

@@ -13,13 +13,13 @@ use Rattle.prepared_code.specs.Tables.{IsAdded, Version, Versions}
 use Rattle.prepared_code.specs.Entries.{original_versions}
 use Rattle.jvm_model.specs.Codes.ProgramPlaces.{HasClosedCodes, is_place_in}
 use Rattle.prepared_code.specs.Ready.{RunsIn}
-use Rattle.jvm_model.specs.Soundness.SoundTexts.{IsSoundEntry}
-use Rattle.prepared_code.specs.Versions.{current_of, method_of, text_of}
+use Rattle.jvm_model.specs.Soundness.SoundListings.{IsSoundEntry}
+use Rattle.prepared_code.specs.Versions.{current_of, method_of, listing_of}
 use Rattle.frame_stack.specs.FrameLists.{PlacedFrame}
 use Rattle.prepared_code.specs.Standing.{IsPinned}
-use Rattle.prepared_code.specs.VersionTexts.{AreVersions, IsVersionOf, homes_with}
+use Rattle.prepared_code.specs.VersionListings.{AreVersions, IsVersionOf, homes_with}
 use Rattle.jvm_model.proofs.Elsewhere.ClosedPrograms.{program-agrees}
-use Rattle.prepared_code.proofs.OriginalTexts.{original-are}
+use Rattle.prepared_code.proofs.OriginalListings.{original-are}
 use Rattle.prepared_code.proofs.VersionsAgree.{versions-agree}
 use Rattle.prepared_code.proofs.VersionsRun.{added-versions, count-added, kept-stands, same-added, step-stands}
 
@@ -38,19 +38,19 @@ module _ (w : World) (closed : HasClosedCodes w.program) where
 
   -- the start over original code as versions
   pub starts : (few : length p.methods ≤ 4294967296)
-      → StandsFor norm (method_of (original_versions p)) still (start w (text_of (original_versions p))).after (start w (original p)).after
+      → StandsFor norm (method_of (original_versions p)) still (start w (listing_of (original_versions p))).after (start w (original p)).after
   starts few =
       let v : Versions = original_versions p in
-      start-stands_for norm w (original p) (program-agrees p closed) (method_of v) (current_of v) still (text_of v) (versions-agree p norm still v (at-first few))
+      start-stands_for norm w (original p) (program-agrees p closed) (method_of v) (current_of v) still (listing_of v) (versions-agree p norm still v (at-first few))
 
   module _ (homes : ℕ → ℕ → ℕ) (v : Versions) (are : AreVersions p norm homes v) (versioned from_original : State) (stands : StandsFor norm (method_of v) homes versioned from_original) where
     -- a step
-    pub steps : (after : State) → after ≡ (step w (text_of v) versioned).after → StandsFor norm (method_of v) homes after (step w (original p) from_original).after
+    pub steps : (after : State) → after ≡ (step w (listing_of v) versioned).after → StandsFor norm (method_of v) homes after (step w (original p) from_original).after
     steps after made = step-stands p norm homes v are w refl (program-agrees p closed) versioned from_original after stands made
 
     -- a version more, and a step
     pub adds : (fs : List PlacedFrame) (number : ℕ) (x : Version) (home : ℕ → ℕ) (more : Versions) → IsAdded fs number x v more → IsVersionOf p norm x home → x.method < length p.methods
-        → AllByRecursion (IsSoundEntry (RunsIn v) p versioned.shared.loaded) versioned.stack → IsPinned fs versioned.stack → (after : State) → after ≡ (step w (text_of more) versioned).after
+        → AllByRecursion (IsSoundEntry (RunsIn v) p versioned.shared.loaded) versioned.stack → IsPinned fs versioned.stack → (after : State) → after ≡ (step w (listing_of more) versioned).after
         → StandsFor norm (method_of more) (homes_with more number home homes) after (step w (original p) from_original).after
     adds fs number x home more added is own each pinned after made =
         let news : ℕ → ℕ → ℕ = homes_with more number home homes in

@@ -24,7 +24,7 @@ use Rattle.prepared_code.specs.Versions.{HasOwnLines, IsPrepared, line_in}
 use Rattle.prepared_code.proofs.Dimensions.{Fits}
 use Rattle.prepared_code.proofs.Made.{original-has-lines}
 use Rattle.prepared_code.proofs.MethodImages.{code-is, method-image}
-use Rattle.prepared_code.proofs.OriginalTexts.{is-original, own}
+use Rattle.prepared_code.proofs.OriginalListings.{is-original, own}
 use Rattle.prepared_code.proofs.OriginalVersions.{original-lines, original-own}
 use Rattle.prepared_code.proofs.OriginalsRun.{there}
 use Rattle.prepared_code.proofs.RewrittenLines.{rewritten-lines, rewritten-own}

@@ -18,7 +18,7 @@ use Rattle.jvm_model.specs.Rewriting.Versions.{IsVersion, catch_all, entry_probe
 use Rattle.jvm_model.proofs.Images.ImageLines.{instrs-groups}
 use Rattle.prepared_code.specs.LaidMethods.{CanBeLaid, NamesClass}
 use Rattle.prepared_code.specs.Rewritten.{rewritten_version}
-use Rattle.prepared_code.specs.VersionTexts.{IsVersionOf}
+use Rattle.prepared_code.specs.VersionListings.{IsVersionOf}
 use Rattle.prepared_code.proofs.LaidRewritten.{laid-rewritten}
 use Rattle.jvm_model.specs.Codes.ProgramPlaces.{IsStartOrEnd}
 use Rattle.prepared_code.proofs.RewrittenVersions.{rewritten-is}

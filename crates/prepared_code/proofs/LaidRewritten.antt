@@ -27,8 +27,8 @@ use Rattle.jvm_model.specs.Rewriting.Versions.{group_of, moved_handler}
 use Rattle.jvm_model.proofs.Events.Chains.{slice_get_at}
 use Rattle.jvm_model.proofs.Images.ImageLines.{instrs-groups}
 use Rattle.jvm_model.specs.Codes.Homed.{IsHomed, homed_instruction, instruction_for, start_in, with_own}
-use Rattle.prepared_code.specs.VersionTexts.{HasOperation}
-use Rattle.jvm_model.proofs.Images.HomedTexts.{homed-at, nth-all, nth-map}
+use Rattle.prepared_code.specs.VersionListings.{HasOperation}
+use Rattle.jvm_model.proofs.Images.HomedListings.{homed-at, nth-all, nth-map}
 use Rattle.jvm_model.proofs.Images.HomesRise.{home-rises}
 use Rattle.jvm_model.proofs.Images.LaidHomes.{is-homed}
 use Rattle.prepared_code.specs.LaidMethods.{NamesClass}

@@ -5,7 +5,7 @@ pub mod ImageVersions
 pub mod LaidRewritten
 pub mod Halves
 pub mod VersionsRun
-pub mod OriginalTexts
+pub mod OriginalListings
 pub mod Tabled
 pub mod Added
 pub mod VersionsAgree

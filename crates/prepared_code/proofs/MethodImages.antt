@@ -18,7 +18,7 @@ use Rattle.jvm_model.specs.Basis.Programs.{class_at, code_of_method, place_of_me
 use Rattle.jvm_model.specs.Rewriting.Versions.{IsVersion}
 use Rattle.jvm_model.specs.Codes.ProgramPlaces.{IsClosedCode, is_place_in}
 use Rattle.prepared_code.specs.Rewritten.{rewritten_version}
-use Rattle.prepared_code.specs.VersionTexts.{IsVersionOf}
+use Rattle.prepared_code.specs.VersionListings.{IsVersionOf}
 use Rattle.prepared_code.proofs.ImageVersions.{image-version}
 use Rattle.jvm_model.proofs.Elsewhere.PlacesOf.{places-of}
 use Rattle.prepared_code.specs.LaidMethods.{CanBeLaid, NamesClass}

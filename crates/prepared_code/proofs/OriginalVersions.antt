@@ -18,7 +18,7 @@ use Rattle.prepared_code.specs.Entries.{code_line, lines_of, no_version, origina
 use Rattle.prepared_code.specs.Lines.{method_line}
 use Rattle.prepared_code.specs.Lines as originals
 use Rattle.prepared_code.specs.Ready.{IsOwnLine}
-use Rattle.prepared_code.specs.Versions.{HasLines, IsPrepared, line_at, line_in, text_of}
+use Rattle.prepared_code.specs.Versions.{HasLines, IsPrepared, line_at, line_in, listing_of}
 use Rattle.prepared_code.proofs.Dimensions.{Fits, fits-at}
 use Rattle.prepared_code.proofs.LineFamilies.{prepared-at}
 use Rattle.prepared_code.proofs.Tabled.{slotted-at, slotted-past, tabled-place}
@@ -74,5 +74,5 @@ original-own p k at =
     subst (λ (o : Option Line). IfSome o IsOwnLine) (sym (original-line p k at)) (own-tie (originals.line_at p k at) ((original p).at k at) (tied-at p k at))
 
 -- as a text they are original code
-pub original-at : (p : Program) (k at : ℕ) → (text_of (original_versions p)).at k at ≡ (original p).at k at
+pub original-at : (p : Program) (k at : ℕ) → (listing_of (original_versions p)).at k at ≡ (original p).at k at
 original-at p k at = shown (line_at (original_versions p) k at) ((original p).at k at) (subst (λ (o : Option Line). Tie o ((original p).at k at)) (sym (original-line p k at)) (tied-at p k at))

@@ -18,7 +18,7 @@ use Rattle.prepared_code.specs.Tables.{AreAllCurrent, Version, Versions, version
 use Rattle.prepared_code.specs.Entries.{no_version, original_slot, original_version, original_versions, own_number, version_entry, version_in, version_of}
 use Rattle.prepared_code.specs.Prepared.{world_in}
 use Rattle.prepared_code.specs.Ready.{CanRun, RunsIn}
-use Rattle.prepared_code.specs.Versions.{current_of, instruction_in, line_in, method_of, text_of}
+use Rattle.prepared_code.specs.Versions.{current_of, instruction_in, line_in, method_of, listing_of}
 use Rattle.prepared_code.proofs.OriginalVersions.{original-at, original-own}
 use Rattle.prepared_code.proofs.Tabled.{slotted-at, slotted-past, tabled-at, tabled-past}
 
@@ -60,12 +60,12 @@ module _ (p : Program) where
       ∙ (ap (λ (o : Option Version). option_map_or (λ x. x.method) o (max (4294967296 + k - 4294967296) (length v.current))) (past (4294967296 + k) (omega (arith, few)))
       ∙ (ap (max (4294967296 + k - 4294967296)) (length-map-range_with_len own_number 0 n) ∙ omega arith))
 
-  nothing-past : (version place : ℕ) (i : Instruction) → n ≤ version → (text_of v).at version place ≡ Some i → ⊥
+  nothing-past : (version place : ℕ) (i : Instruction) → n ≤ version → (listing_of v).at version place ≡ Some i → ⊥
   nothing-past version place i le e = none-some i (sym (ap (λ (o : Option Version). option_map_at o) (past version le)) ∙ e) where
     option_map_at : Option Version → Option Instruction
     option_map_at o = option_map instruction_in (option_and_then (line_in place) o)
 
-  attempts-there : IsFit p → (loaded : List ℕ) (version method place : ℕ) (i : Instruction) → RunsIn v version method → HasClass p loaded method → (text_of v).at version place ≡ Some i
+  attempts-there : IsFit p → (loaded : List ℕ) (version method place : ℕ) (i : Instruction) → RunsIn v version method → HasClass p loaded method → (listing_of v).at version place ≡ Some i
       → CanAttempt p loaded i.operation
   attempts-there fit loaded version method place i runs has e =
       ⊎_elim
@@ -87,7 +87,7 @@ module _ (p : Program) where
   original-can-run input fit few = record {
     fit = fit;
     lines = original-own p;
-    text = record {
+    listing = record {
       begins = λ k. ⊎_elim (λ (lt : k < n). runs-there k lt) (λ (le : n ≤ k). runs-past k few le) (cases_lt k n);
       attempts = attempts-there fit;
     };

@@ -29,8 +29,8 @@ use Rattle.prepared_code.specs.LaidMethods.{NamesClass}
 use Rattle.prepared_code.specs.Lines.{line_of}
 use Rattle.prepared_code.specs.Rewritten.{homed_line, homed_lines, line_for, own_handlers, own_line, placed_line, rewritten_version}
 use Rattle.prepared_code.specs.Versions.{catcher_in, instruction_in, line_in}
-use Rattle.prepared_code.specs.VersionTexts.{HasOperation, IsVersionOf}
-use Rattle.jvm_model.proofs.Images.HomedTexts.{homed-at}
+use Rattle.prepared_code.specs.VersionListings.{HasOperation, IsVersionOf}
+use Rattle.jvm_model.proofs.Images.HomedListings.{homed-at}
 use Rattle.prepared_code.proofs.Tabled.{tabled-at, tabled-past}
 use Rattle.prepared_code.proofs.Tied.{shown, tied-instruction}
 

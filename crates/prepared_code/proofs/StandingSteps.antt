@@ -29,14 +29,14 @@ use Rattle.prepared_code.specs.Markers.{above, beneath, initializing, stack_of, 
 use Rattle.prepared_code.specs.States.{active}
 use Rattle.prepared_code.specs.Runs.{steps_from, steps_from-zero, steps_from-suc}
 use Rattle.prepared_code.specs.Standing.{AreMethodImages, HasVersions, IsPinned, IsOfProgram, IsRunOf, IsSetUp, places_of}
-use Rattle.prepared_code.specs.Versions.{Setup, current_of, method_of, text_of}
-use Rattle.prepared_code.specs.VersionTexts.{homes_left, homes_with}
+use Rattle.prepared_code.specs.Versions.{Setup, current_of, method_of, listing_of}
+use Rattle.prepared_code.specs.VersionListings.{homes_left, homes_with}
 use Rattle.prepared_code.proofs.Added.{lines-added, lines-left}
 use Rattle.prepared_code.proofs.Assembled.{at-first}
 use Rattle.jvm_model.proofs.Elsewhere.ClosedPrograms.{program-agrees}
 use Rattle.prepared_code.proofs.ClassVersionLaws.{versions-of}
 use Rattle.prepared_code.proofs.OriginalVersions.{original-own}
-use Rattle.jvm_model.proofs.Soundness.SoundTextRuns.{sound-start, sound-step}
+use Rattle.jvm_model.proofs.Soundness.SoundListingRuns.{sound-start, sound-step}
 use Rattle.prepared_code.proofs.VersionsAgree.{versions-agree}
 use Rattle.prepared_code.proofs.VersionsRun.{added-versions, count-added, kept-entries, kept-stands, left-versions, same-added, same-left, step-stands, versions-can-run}
 
@@ -53,22 +53,22 @@ original-set_up w fit closed few = record {
 pub set-up-runs : (w : Setup) (homes : ℕ → ℕ → ℕ) → HasVersions w homes → CanRun w
 set-up-runs w homes has = versions-can-run w.world.program (places_of w.world.program) homes w.versions has.are w.world.input has.fit has.lines
 
-pub run-of-starts : (w : Setup) → IsSetUp w → (after : State) → after ≡ (start w.world (text_of w.versions)).after → IsRunOf w 0 after
+pub run-of-starts : (w : Setup) → IsSetUp w → (after : State) → after ≡ (start w.world (listing_of w.versions)).after → IsRunOf w 0 after
 run-of-starts w set after made =
     let p : Program = w.world.program in
     let v : Versions = w.versions in
-    let started : StandsFor (places_of p) (method_of v) set.homes (start w.world (text_of v)).after (start w.world (original p)).after =
-    start-stands_for (places_of p) w.world (original p) (program-agrees p set.has.closed) (method_of v) (current_of v) set.homes (text_of v)
+    let started : StandsFor (places_of p) (method_of v) set.homes (start w.world (listing_of v)).after (start w.world (original p)).after =
+    start-stands_for (places_of p) w.world (original p) (program-agrees p set.has.closed) (method_of v) (current_of v) set.homes (listing_of v)
     (versions-agree p (places_of p) set.homes v set.has.are) in
     record {
       homes = set.homes;
       has = set.has;
       stands = subst (λ s. StandsFor (places_of p) (method_of v) set.homes s (run w.world 0)) (sym made)
-          (subst (λ (a : Turn). StandsFor (places_of p) (method_of v) set.homes (start w.world (text_of v)).after a.after) (sym (turn_in-zero w.world (original p))) started);
-      sound = subst (IsSoundIn w) (sym made) (sound-start (RunsIn v) w.world set.has.fit (text_of v) (set-up-runs w set.homes set.has).text);
+          (subst (λ (a : Turn). StandsFor (places_of p) (method_of v) set.homes (start w.world (listing_of v)).after a.after) (sym (turn_in-zero w.world (original p))) started);
+      sound = subst (IsSoundIn w) (sym made) (sound-start (RunsIn v) w.world set.has.fit (listing_of v) (set-up-runs w set.homes set.has).text);
     }
 
-pub run-of-steps : (w : Setup) (clock : ℕ) (s after : State) → IsRunOf w clock s → after ≡ (step w.world (text_of w.versions) s).after → IsRunOf w (suc clock) after
+pub run-of-steps : (w : Setup) (clock : ℕ) (s after : State) → IsRunOf w clock s → after ≡ (step w.world (listing_of w.versions) s).after → IsRunOf w (suc clock) after
 run-of-steps w clock s after is made =
     let p : Program = w.world.program in
     let v : Versions = w.versions in
@@ -77,7 +77,7 @@ run-of-steps w clock s after is made =
       has = is.has;
       stands = subst (λ (a : Turn). StandsFor (places_of p) (method_of v) is.homes after a.after) (sym (turn_in-suc w.world (original p) clock))
           (step-stands p (places_of p) is.homes v is.has.are w.world refl (program-agrees p is.has.closed) s (run w.world clock) after is.stands made);
-      sound = subst (IsSoundIn w) (sym made) (sound-step (RunsIn v) w.world is.has.fit (text_of v) (set-up-runs w is.homes is.has).text s is.sound);
+      sound = subst (IsSoundIn w) (sym made) (sound-step (RunsIn v) w.world is.has.fit (listing_of v) (set-up-runs w is.homes is.has).text s is.sound);
     }
 
 pub run-of-more : (w : Setup) (clock n : ℕ) (s : State) → IsRunOf w clock s → IsRunOf w (clock + n) (steps_from w n s)

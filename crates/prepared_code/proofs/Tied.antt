@@ -29,7 +29,7 @@ use Rattle.jvm_model.specs.Basis.Values.{as_value}
 use Rattle.jvm_basic.specs.Rules.{datum_in, placed, going, needs, rule_by, rule_of}
 use Rattle.prepared_code.specs.declared.line.Line.{Line}
 use Rattle.prepared_code.specs.Ready.{CanRun, HasLocal, IsOwnLine, IsRuleOf, IsTied}
-use Rattle.prepared_code.specs.Versions.{Setup, instruction_by, instruction_in, is_athrow, is_last_family, next_in, operation_as, operation_in, text_of}
+use Rattle.prepared_code.specs.Versions.{Setup, instruction_by, instruction_in, is_athrow, is_last_family, next_in, operation_as, operation_in, listing_of}
 use Rattle.prepared_code.specs.Versions as versions
 use Rattle.jvm_named.specs.Names.{naming_view}
 use Rattle.prepared_code.specs.Lines.{local_action, action_of, line_with, line_of, line_at, named_as}
@@ -338,5 +338,5 @@ stands-by (Some line) h = record {
   tied = h;
 }
 
-pub tied-there : (w : Setup) → CanRun w → (version place : ℕ) → Tie (versions.line_at w.versions version place) ((text_of w.versions).at version place)
+pub tied-there : (w : Setup) → CanRun w → (version place : ℕ) → Tie (versions.line_at w.versions version place) ((listing_of w.versions).at version place)
 tied-there w run version place = stands-by (versions.line_at w.versions version place) (run.lines version place)

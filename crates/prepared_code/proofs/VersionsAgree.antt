@@ -6,15 +6,15 @@ use Rattle.std.proofs.lemmas.Bool.{cases_lt}
 use Rattle.std.proofs.lemmas.Option.{slice_get_past}
 use Rattle.jvm_model.specs.declared.program.Program.{Program}
 use Rattle.jvm_model.specs.declared.program.MethodPlace.{MethodPlace}
-use Rattle.jvm_model.specs.Basis.Data.{Text}
+use Rattle.jvm_model.specs.Basis.Data.{Listing}
 use Rattle.jvm_model.specs.Codes.Lines.{method_instruction}
 use Rattle.jvm_model.specs.Codes.Moved.{IsPlace, moved_catcher, moved_instruction}
 use Rattle.jvm_model.specs.Codes.Originals.{method_handlers, original}
 use Rattle.jvm_model.specs.Basis.Programs.{class_at}
 use Rattle.jvm_model.specs.Rewriting.StandsForRun.{IsOfVersions, named}
 use Rattle.prepared_code.specs.Tables.{Version, Versions, version_at}
-use Rattle.prepared_code.specs.Versions.{catcher_in, current_of, first_of, handlers_in, instruction_in, line_in, method_of, text_of}
-use Rattle.prepared_code.specs.VersionTexts.{AreVersions}
+use Rattle.prepared_code.specs.Versions.{catcher_in, current_of, first_of, handlers_in, instruction_in, line_in, method_of, listing_of}
+use Rattle.prepared_code.specs.VersionListings.{AreVersions}
 
 -- past the methods there is no code
 none-at : (p : Program) (k at : ℕ) → length p.methods ≤ k → (original p).at k at ≡ None
@@ -26,7 +26,7 @@ none-handled p k le =
     ap (λ o. unwrap_or (option_and_then (λ (place : MethodPlace). option_and_then (λ c. method_handlers c place.position) (class_at p place.class)) o) []) (slice_get_past p.methods k le)
 
 module _ (p : Program) (norm : ℕ → ℕ → ℕ) (homes : ℕ → ℕ → ℕ) (v : Versions) (are : AreVersions p norm homes v) where
-  abbrev t : Text
+  abbrev t : Listing
   t = named (method_of v) (current_of v) (original p)
 
   pub method-held : (k : ℕ) (x : Version) → version_at v k ≡ Some x → method_of v k ≡ x.method
@@ -53,7 +53,7 @@ module _ (p : Program) (norm : ℕ → ℕ → ℕ) (homes : ℕ → ℕ → ℕ
   first-by k (Some x) is = ap (λ (o : Option Version). option_map_or (λ y. y.prepared.first) o 0) is ∙ (are.each k x is).first
 
   lines-by : (k at : ℕ) (o : Option Version) → version_at v k ≡ o → IsPlace norm (method_of v k) at
-      → (text_of v).at k (homes k at) ≡ option_map (moved_instruction (homes k)) ((original p).at (method_of v k) at)
+      → (listing_of v).at k (homes k at) ≡ option_map (moved_instruction (homes k)) ((original p).at (method_of v k) at)
   lines-by k at None is here =
       ap (λ (o : Option Version). option_map instruction_in (option_and_then (line_in (homes k at)) o)) is
       ∙ sym (ap (option_map (moved_instruction (homes k))) (none-at p (method_of v k) at (method-unheld k is)))
@@ -78,7 +78,7 @@ module _ (p : Program) (norm : ℕ → ℕ → ℕ) (homes : ℕ → ℕ → ℕ
       let own : method_of v k ≡ x.method = method-held k x is in
       (are.each k x is).rises a b (λ none. some (ap (original p).handlers own ∙ none)) (subst (λ m. IsPlace norm m a) own pa) (subst (λ m. IsPlace norm m b) own pb) less
 
-  pub versions-agree : IsOfVersions norm (method_of v) (current_of v) homes (original p) (text_of v)
+  pub versions-agree : IsOfVersions norm (method_of v) (current_of v) homes (original p) (listing_of v)
   versions-agree = record {
     begins = begins-by;
     agrees = record {

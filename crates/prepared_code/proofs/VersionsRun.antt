@@ -20,9 +20,9 @@ use Rattle.jvm_model.proofs.Soundness.SoundLines.{can-attempt}
 use Rattle.jvm_model.proofs.Elsewhere.StandsForRun.{stands_for-kept, step-stands_for}
 use Rattle.prepared_code.specs.Tables.{IsAdded, Releases, Version, Versions, version_at}
 use Rattle.prepared_code.specs.Ready.{CanRun, IsKept, IsOwnLine, RunsIn}
-use Rattle.jvm_model.specs.Soundness.SoundTexts.{IsSoundEntry}
-use Rattle.prepared_code.specs.Versions.{current_of, instruction_in, line_at, line_in, method_of, text_of}
-use Rattle.prepared_code.specs.VersionTexts.{AreVersions, HasCurrent, IsVersionOf, homes_left, homes_where, homes_with}
+use Rattle.jvm_model.specs.Soundness.SoundListings.{IsSoundEntry}
+use Rattle.prepared_code.specs.Versions.{current_of, instruction_in, line_at, line_in, method_of, listing_of}
+use Rattle.prepared_code.specs.VersionListings.{AreVersions, HasCurrent, IsVersionOf, homes_left, homes_where, homes_with}
 use Rattle.prepared_code.specs.Standing.{IsPinned}
 use Rattle.frame_stack.specs.FrameLists.{PlacedFrame, pins_of}
 use Rattle.method_versions.specs.Tables.{held_besides, is_number, is_old, is_superseded_in}
@@ -50,7 +50,7 @@ module _ (p : Program) (norm : ℕ → ℕ → ℕ) (homes : ℕ → ℕ → ℕ
       (cases_lt k (length p.methods))
 
   attempts-by : IsFit p → (loaded : List ℕ) (version method place : ℕ) (i : Instruction) (o : Option Version) → version_at v version ≡ o → RunsIn v version method → HasClass p loaded method
-      → (text_of v).at version place ≡ Some i → CanAttempt p loaded i.operation
+      → (listing_of v).at version place ≡ Some i → CanAttempt p loaded i.operation
   attempts-by fit loaded version method place i None is runs has e =
       absurd (none-some i (sym (ap (λ (o : Option Version). option_map instruction_in (option_and_then (line_in place) o)) is) ∙ e))
   attempts-by fit loaded version method place i (Some x) is runs has e =
@@ -63,7 +63,7 @@ module _ (p : Program) (norm : ℕ → ℕ → ℕ) (homes : ℕ → ℕ → ℕ
   versions-can-run input fit lines = record {
     fit = fit;
     lines = lines;
-    text = record {
+    listing = record {
       begins = λ k. (sym (begins-by p norm homes v are k), kept-current k);
       attempts = λ loaded version method place i runs has e. attempts-by fit loaded version method place i (version_at v version) refl runs has e;
     };
@@ -72,11 +72,11 @@ module _ (p : Program) (norm : ℕ → ℕ → ℕ) (homes : ℕ → ℕ → ℕ
   -- ---- they stand for the run: where original code stays within its places
 
   pub step-stands : (w : World) → w.program ≡ p → Agrees norm (self norm) (original p) (original p) → (versioned from_original after : State)
-      → StandsFor norm (method_of v) homes versioned from_original → after ≡ (step w (text_of v) versioned).after
+      → StandsFor norm (method_of v) homes versioned from_original → after ≡ (step w (listing_of v) versioned).after
       → StandsFor norm (method_of v) homes after (step w (original p) from_original).after
   step-stands w same own versioned from_original after stands made =
       subst (λ s. StandsFor norm (method_of v) homes s (step w (original p) from_original).after) (sym made)
-      (step-stands_for norm w (original p) own (method_of v) (current_of v) homes (text_of v) (versions-agree p norm homes v are) versioned from_original stands)
+      (step-stands_for norm w (original p) own (method_of v) (current_of v) homes (listing_of v) (versions-agree p norm homes v are) versioned from_original stands)
 
   -- ---- another table, which holds what these frames run
 

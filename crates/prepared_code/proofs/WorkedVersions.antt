@@ -26,7 +26,7 @@ use Rattle.jvm_model.specs.Basis.SharedState.{shared_before}
 use Rattle.prepared_code.specs.Tables.{Versions}
 use Rattle.prepared_code.specs.Entries.{original_version}
 use Rattle.prepared_code.specs.Rewritten.{rewritten_version}
-use Rattle.prepared_code.specs.Versions.{text_of}
+use Rattle.prepared_code.specs.Versions.{listing_of}
 
 -- ---- a class W with the static method m()V
 
@@ -78,7 +78,7 @@ state_of old stack = record {
 
 -- the stack behind a step over both
 abbrev stack_behind : CodeAttribute → CodeAttribute → Homes → List Entry → List Entry
-stack_behind old new homes stack = (step (world_of old) (text_of (both old new homes)) (state_of old stack)).after.stack
+stack_behind old new homes stack = (step (world_of old) (listing_of (both old new homes)) (state_of old stack)).after.stack
 
 abbrev probe : ℕ → List ℕ
 probe index = 17 ∷ 0 ∷ 0 ∷ 184 ∷ 0 ∷ index ∷ []
@@ -117,11 +117,11 @@ unfolding instruction_at read_instruction behind_opcode_at operand_at value_at i
 ret-original = refl
 
 -- the handler goes to the return by its home, and ends where the code does; the one that takes what leaves the code is none of the version's
-handlers-homed : (text_of (both calls_back calls_back_image calls_back_homes)).handlers 1 ≡ record { start = 16; finish = 19; target = 9; catches = None } ∷ []
+handlers-homed : (listing_of (both calls_back calls_back_image calls_back_homes)).handlers 1 ≡ record { start = 16; finish = 19; target = 9; catches = None } ∷ []
 unfolding instruction_at read_instruction behind_opcode_at operand_at value_at index_at signed_at number_at branch_at target_at local_at table_at run_at high_at many_at row_of groups family_of rows int_wrap
 handlers-homed = refl
 
-handlers-original : (text_of (both calls_back calls_back_image calls_back_homes)).handlers 0 ≡ record { start = 4; finish = 7; target = 3; catches = None } ∷ []
+handlers-original : (listing_of (both calls_back calls_back_image calls_back_homes)).handlers 0 ≡ record { start = 4; finish = 7; target = 3; catches = None } ∷ []
 unfolding instruction_at read_instruction behind_opcode_at operand_at value_at index_at signed_at number_at branch_at target_at local_at table_at run_at high_at many_at row_of groups family_of rows int_wrap
 handlers-original = refl
 

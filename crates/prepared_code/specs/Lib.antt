@@ -2,7 +2,7 @@ pub mod Prepared
 pub mod Versions
 pub mod Kept
 pub mod ClassVersions
-pub mod VersionTexts
+pub mod VersionListings
 pub mod Tables
 pub mod Entries
 pub mod LaidMethods

@@ -12,8 +12,8 @@ use Rattle.jvm_model.specs.declared.state.State.{State}
 use Rattle.jvm_basic.specs.Rules.{datum_in, placed, rule_of}
 use Rattle.prepared_code.specs.declared.line.Line.{Line}
 use Rattle.prepared_code.specs.Lines.{action_of}
-use Rattle.jvm_model.specs.Soundness.SoundTexts.{IsSound, IsSoundEntry, IsSoundText}
-use Rattle.prepared_code.specs.Versions.{Setup, line_at, method_of, next_in, operation_in, text_of}
+use Rattle.jvm_model.specs.Soundness.SoundListings.{IsSound, IsSoundEntry, IsSoundListing}
+use Rattle.prepared_code.specs.Versions.{Setup, line_at, method_of, next_in, operation_in, listing_of}
 
 -- the rule of jvm_basic is that of the model with the line's places put in
 abbrev pub IsRuleOf : Line → Local → Type 0
@@ -46,7 +46,7 @@ RunsIn v version method = (method_of v version ≡ method) × IsKept v version
 pub record CanRun (w : Setup) : Type 0 where
   pub fit : IsFit w.world.program
   pub lines : (version place : ℕ) → IfSome (line_at w.versions version place) IsOwnLine
-  pub text : IsSoundText (RunsIn w.versions) w.world.program (text_of w.versions)
+  pub listing : IsSoundListing (RunsIn w.versions) w.world.program (listing_of w.versions)
 
 -- all that is there is of classes that are loaded, and each frame's version is of its method
 abbrev pub IsSoundIn : Setup → State → Type 0

@@ -11,18 +11,18 @@ use Rattle.prepared_code.specs.declared.parts.Parts.{Parts}
 use Rattle.prepared_code.specs.Markers.{marker_on, state_of, with_markers}
 use Rattle.prepared_code.specs.States.{state_with}
 use Rattle.prepared_code.specs.Tables.{Version, version_at}
-use Rattle.prepared_code.specs.Versions.{Setup, text_of, line_at, line_in}
+use Rattle.prepared_code.specs.Versions.{Setup, listing_of, line_at, line_in}
 
 -- the state after so many steps
 unfoldable pub steps_from : Setup → ℕ → State → State
 steps_from w zero s = s
-steps_from w (suc n) s = (step w.world (text_of w.versions) (steps_from w n s)).after
+steps_from w (suc n) s = (step w.world (listing_of w.versions) (steps_from w n s)).after
 
 pub steps_from-zero : (w : Setup) (s : State) → steps_from w 0 s ≡ s
 unfolding steps_from
 steps_from-zero w s = refl
 
-pub steps_from-suc : (w : Setup) (n : ℕ) (s : State) → steps_from w (suc n) s ≡ (step w.world (text_of w.versions) (steps_from w n s)).after
+pub steps_from-suc : (w : Setup) (n : ℕ) (s : State) → steps_from w (suc n) s ≡ (step w.world (listing_of w.versions) (steps_from w n s)).after
 unfolding steps_from
 steps_from-suc w n s = refl
 
@@ -60,7 +60,7 @@ pub record IsCalm (n : ℕ) (ms : List Marker) (p : Parts) : Type 0 where
 
 -- none of so many steps has a change: nothing is loaded, nothing begins and nothing ends
 abbrev pub AreQuiet : Setup → State → ℕ → Type 0
-AreQuiet w s n = (k : ℕ) → k < n → (step w.world (text_of w.versions) (steps_from w k s)).changes ≡ []
+AreQuiet w s n = (k : ℕ) → k < n → (step w.world (listing_of w.versions) (steps_from w k s)).changes ≡ []
 
 -- So many steps change the frames to these, which are as many, and nothing else, whatever else there is.
 pub record LeadsPlainly (w : Setup) (old : List PlacedFrame) (n : ℕ) (new : List PlacedFrame) : Type 0 where

@@ -24,7 +24,7 @@ use Rattle.prepared_code.specs.LaidMethods.{CanBeLaid, NamesClass}
 use Rattle.jvm_model.specs.Codes.ProgramPlaces.{HasClosedCodes, is_place_in}
 use Rattle.prepared_code.specs.Ready.{IsOwnLine, IsSoundIn}
 use Rattle.prepared_code.specs.Versions.{Setup, line_at, line_in, method_of}
-use Rattle.prepared_code.specs.VersionTexts.{AreVersions, IsVersionOf}
+use Rattle.prepared_code.specs.VersionListings.{AreVersions, IsVersionOf}
 
 -- the places of the program's codes
 abbrev pub places_of : Program → ℕ → ℕ → ℕ

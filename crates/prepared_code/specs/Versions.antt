@@ -5,7 +5,7 @@ use Rattle.std.specs.Option.{IfSome, option_and_then, option_flatten, option_map
 use Rattle.method_versions.specs.Tables.{current_in}
 use Rattle.jvm_model.specs.declared.event.Mark.{Mark}
 use Rattle.jvm_model.specs.declared.event.Mark.TheVariants.{Off}
-use Rattle.jvm_model.specs.Basis.Data.{Catcher, Instruction, Local, Nop, Return, Operation, Within, Named, Athrow, Monitor, Newarray, Arraylength, LoadElement, StoreElement, LdcString, Text, World}
+use Rattle.jvm_model.specs.Basis.Data.{Catcher, Instruction, Local, Nop, Return, Operation, Within, Named, Athrow, Monitor, Newarray, Arraylength, LoadElement, StoreElement, LdcString, Listing, World}
 use Rattle.jvm_model.specs.Basis.Families.{family_of}
 use Rattle.jvm_model.specs.Codes.Lines.{local_of, next_of, targets_of}
 use Rattle.jvm_model.specs.declared.family.Family.{Family}
@@ -118,7 +118,7 @@ instruction_by op line = record { operation = op; own = line.instr.at; next = ne
 abbrev pub instruction_in : Line → Instruction
 instruction_in line = record { operation = operation_in line; own = line.instr.at; next = next_in line; targets = targets_of line.instr.arg }
 
--- ---- the versions as a text
+-- ---- the versions as a listing
 
 abbrev pub catcher_in : Catching → Catcher
 catcher_in h = record { start = h.start; finish = h.end; target = h.target; catches = h.catches }
@@ -126,8 +126,8 @@ catcher_in h = record { start = h.start; finish = h.end; target = h.target; catc
 abbrev pub handlers_in : Versions → ℕ → List Catcher
 handlers_in v version = option_map_or (λ (x : Version). map catcher_in x.prepared.handlers) (version_at v version) []
 
-abbrev pub text_of : Versions → Text
-text_of v = record {
+abbrev pub listing_of : Versions → Listing
+listing_of v = record {
   current = current_of v;
   first = first_of v;
   at = λ version place. option_map instruction_in (line_at v version place);

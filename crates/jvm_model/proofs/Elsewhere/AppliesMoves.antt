@@ -5,7 +5,7 @@ use Rattle.std.proofs.lemmas.Option.{slice_get-map}
 use Rattle.std.proofs.lemmas.List.{map-append}
 use Rattle.heap_objects.specs.declared.datum.Datum.TheVariants as datum
 use Rattle.heap_objects.specs.declared.Value.TheVariants.{Int, Long, Ref, Addr}
-use Rattle.jvm_model.specs.Basis.Data.{Datum, Locals, Operands, Frame, Entry, Active, Initializing, State, Began, Left, Turn, Instruction, Text, Where, Next, Target, Back, Outcome, GoesOn, Subroutine, Invokes, Returns, Throws, Raises, Initializes, Exits, Breaks, World}
+use Rattle.jvm_model.specs.Basis.Data.{Datum, Locals, Operands, Frame, Entry, Active, Initializing, State, Began, Left, Turn, Instruction, Listing, Where, Next, Target, Back, Outcome, GoesOn, Subroutine, Invokes, Returns, Throws, Raises, Initializes, Exits, Breaks, World}
 use Rattle.frame_stack.specs.Widths.{width, height_of}
 use Rattle.jvm_model.specs.Basis.Values.{as_value, spread, locals_with, with_value}
 use Rattle.jvm_model.specs.Basis.Programs.{max_stack_of, max_locals_of}
@@ -89,7 +89,7 @@ module _ (w : World) (m : Moving) where
 
   -- ---- invocation and return
 
-  module _ (norm : ℕ → ℕ → ℕ) (t u : Text) (agrees : Agrees norm m t u) where
+  module _ (norm : ℕ → ℕ → ℕ) (t u : Listing) (agrees : Agrees norm m t u) where
     pub frame-moves : (k : ℕ) (args : List Datum) → new_frame w u k args ≡ moved_frame m (new_frame w t k args)
     frame-moves k args =
         let v : ℕ = t.current k in

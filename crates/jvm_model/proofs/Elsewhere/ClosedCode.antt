@@ -2,7 +2,7 @@
 use Rattle.std.proofs.Common.{◌≡◌, ℕ, ◌<◌, map, Bool, true, false, List, [], ◌∷◌, Option, Some, None, if◌then◌else◌, refl, sym, ap, subst, ◌∙◌}
 use Rattle.std.specs.List.{AllByRecursion}
 use Rattle.std.specs.Option.{IfSome, option_map, option_and_then}
-use Rattle.jvm_model.specs.Basis.Data.{Instruction, Catcher, Text, World}
+use Rattle.jvm_model.specs.Basis.Data.{Instruction, Catcher, Listing, World}
 use Rattle.jvm_model.specs.Running.Run.{turn_in}
 use Rattle.jvm_model.specs.Codes.Moved.{moved_instruction, moved_catcher, IsPlace, HaveBounds, Agrees, self, IsPlaced}
 use Rattle.jvm_model.specs.Codes.Closed.{IsWithin, IsClosed, norm_of, laid_out}
@@ -35,7 +35,7 @@ module _ (is_place : ℕ → ℕ → Bool) where
       ap (λ (n : Option ℕ). record i { next = n; targets = map (norm_of is_place v) i.targets }) (next-fixed v i.next next)
       ∙ ap (λ (ks : List ℕ). record i { targets = ks }) (targets-fixed v i.targets targets)
 
-  lines-fixed : (t : Text) → IsClosed is_place t → (v at : ℕ) → is_place v at ≡ true → (found : Option Instruction) → t.at v at ≡ found
+  lines-fixed : (t : Listing) → IsClosed is_place t → (v at : ℕ) → is_place v at ≡ true → (found : Option Instruction) → t.at v at ≡ found
       → found ≡ option_map (moved_instruction (norm_of is_place v)) found
   lines-fixed t closed v at here None e = refl
   lines-fixed t closed v at here (Some i) e = ap Some (sym (instruction-fixed v i (closed.next v at i here e) (closed.targets v at i here e)))
@@ -58,10 +58,10 @@ module _ (is_place : ℕ → ℕ → Bool) where
 
   -- ---- the text
 
-  closed-place : (t : Text) → IsClosed is_place t → (v at : ℕ) → IsPlace (norm_of is_place) v at → is_place v at ≡ true
+  closed-place : (t : Listing) → IsClosed is_place t → (v at : ℕ) → IsPlace (norm_of is_place) v at → is_place v at ≡ true
   closed-place t closed v at is = fixed-place v at (is_place v at) (closed.start v) refl is
 
-  pub closed-agrees : (t : Text) → IsClosed is_place t → Agrees (norm_of is_place) (self (norm_of is_place)) t t
+  pub closed-agrees : (t : Listing) → IsClosed is_place t → Agrees (norm_of is_place) (self (norm_of is_place)) t t
   closed-agrees t closed =
       let n : ℕ → ℕ → ℕ = norm_of is_place in
       record {
@@ -74,11 +74,11 @@ module _ (is_place : ℕ → ℕ → Bool) where
       }
 
   -- frames stand at places, and return addresses are places, in every state of the run
-  pub closed-placed : (w : World) (t : Text) → IsClosed is_place t → (n : ℕ) → IsPlaced (norm_of is_place) (turn_in w t n).after
+  pub closed-placed : (w : World) (t : Listing) → IsClosed is_place t → (n : ℕ) → IsPlaced (norm_of is_place) (turn_in w t n).after
   closed-placed w t closed n = turn_in-placed (norm_of is_place) w t (closed-agrees t closed) n
 
   -- code laid out anew agrees with it, where homes rise over the places and are read backwards
-  pub laid_out-agrees : (home : ℕ → ℕ → ℕ) (origin : ℕ → ℕ → Option ℕ) (t : Text) → IsClosed is_place t
+  pub laid_out-agrees : (home : ℕ → ℕ → ℕ) (origin : ℕ → ℕ → Option ℕ) (t : Listing) → IsClosed is_place t
       → ((v at : ℕ) → is_place v at ≡ true → origin v (home v at) ≡ Some at)
       → ((v a b : ℕ) → is_place v a ≡ true → is_place v b ≡ true → a < b → home v a < home v b)
       → Agrees (norm_of is_place) (record { version = λ v. v; home = home }) t (laid_out home origin t)

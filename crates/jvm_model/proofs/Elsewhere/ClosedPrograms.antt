@@ -23,7 +23,7 @@ use Rattle.jvm_model.specs.Codes.Places.{is_start_in}
 use Rattle.jvm_model.specs.Basis.Programs.{class_at, code_of_method, place_of_method}
 use Rattle.jvm_model.proofs.Elsewhere.ClosedCode.{closed-agrees}
 use Rattle.jvm_model.specs.Codes.ProgramPlaces.{HasClosedCodes, HasPlaces, IsClosedCode, is_place_in, is_place_of, reading_of}
-use Rattle.jvm_model.proofs.Images.HomedTexts.{nth-all}
+use Rattle.jvm_model.proofs.Images.HomedListings.{nth-all}
 
 or-first : (a b : Bool) → a ≡ true → (a || b) ≡ true
 or-first a b e = ap (λ x. x || b) e

@@ -3,7 +3,7 @@ use Rattle.std.proofs.Common.{◌≡◌, ℕ, ◌+◌, ◌*◌, ◌≤◌, inl, 
 use Rattle.std.specs.Option.{option_map, option_map_or}
 use Rattle.std.proofs.lemmas.Bool.{cases_lt, lt-ltb, le-ltb, le-leb, lt-leb}
 use Rattle.heap_objects.specs.declared.Value.TheVariants.{Ref}
-use Rattle.jvm_model.specs.Basis.Data.{Frame, Entry, Active, Initializing, Part, Constants, Superclass, Initializer, Finish, Phase, Fresh, Erroneous, Ending, Unverifiable, State, Began, Turn, Catcher, Instruction, Text, World}
+use Rattle.jvm_model.specs.Basis.Data.{Frame, Entry, Active, Initializing, Part, Constants, Superclass, Initializer, Finish, Phase, Fresh, Erroneous, Ending, Unverifiable, State, Began, Turn, Catcher, Instruction, Listing, World}
 use Rattle.jvm_model.specs.Classes.Lookup.{is_below}
 use Rattle.jvm_model.specs.Basis.Programs.{super_of, initializer_of}
 use Rattle.jvm_model.specs.Basis.SharedState.{phase_of, class_of, stack_overflow}
@@ -16,7 +16,7 @@ chosen_target-moves : (h : ℕ → ℕ) (b : Bool) (x : ℕ) (y : Option ℕ) �
 chosen_target-moves h true x y = refl
 chosen_target-moves h false x y = refl
 
-module _ (w : World) (m : Moving) (norm : ℕ → ℕ → ℕ) (t u : Text) (agrees : Agrees norm m t u) where
+module _ (w : World) (m : Moving) (norm : ℕ → ℕ → ℕ) (t u : Listing) (agrees : Agrees norm m t u) where
   -- ---- handlers
 
   -- homes stand in the order of their places

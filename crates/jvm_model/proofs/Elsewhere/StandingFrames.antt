@@ -20,7 +20,7 @@ use Rattle.jvm_model.proofs.Elsewhere.ClosedCode.{closed-placed}
 use Rattle.jvm_model.specs.Codes.Places.{is_place, is_start_in, method_reading, read_from}
 use Rattle.jvm_model.specs.Basis.Programs.{class_at, place_of_method}
 use Rattle.jvm_model.specs.Soundness.Sound.{IsFit}
-use Rattle.jvm_model.specs.Soundness.SoundTexts.{IsSoundEntry, RunsOriginal}
+use Rattle.jvm_model.specs.Soundness.SoundListings.{IsSoundEntry, RunsOriginal}
 use Rattle.jvm_model.specs.Soundness.Climbing.{HasBareObject}
 use Rattle.jvm_model.proofs.Revealing.CalledSteps.{Has}
 use Rattle.jvm_model.proofs.Revealing.CalledRuns.{IsAt, StandsAt}

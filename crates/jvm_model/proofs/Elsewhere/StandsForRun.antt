@@ -2,7 +2,7 @@
 use Rattle.std.proofs.Common.{◌≡◌, ℕ, map, List, [], ◌∷◌, Option, Some, None, refl, sym, ap, ◌∙◌}
 use Rattle.std.specs.Option.{option_map}
 use Rattle.std.proofs.lemmas.List.{map-id}
-use Rattle.jvm_model.specs.Basis.Data.{Entry, Active, Initializing, State, Turn, Instruction, Catcher, Text, World}
+use Rattle.jvm_model.specs.Basis.Data.{Entry, Active, Initializing, State, Turn, Instruction, Catcher, Listing, World}
 use Rattle.jvm_model.specs.Running.Applies.{still}
 use Rattle.jvm_model.specs.Running.Moves.{settled}
 use Rattle.jvm_model.specs.Running.Run.{step, start}
@@ -23,7 +23,7 @@ same-handlers : (hs : List Catcher) → hs ≡ map (moved_catcher (λ place. pla
 same-handlers [] = refl
 same-handlers (h ∷ hs) = ap (λ (l : List Catcher). h ∷ l) (same-handlers hs)
 
-module _ (norm : ℕ → ℕ → ℕ) (w : World) (t : Text) (own : Agrees norm (self norm) t t) (method_of current : ℕ → ℕ) where
+module _ (norm : ℕ → ℕ → ℕ) (w : World) (t : Listing) (own : Agrees norm (self norm) t t) (method_of current : ℕ → ℕ) where
   -- the original code under versions is placed where the original is
   pub named-own : Agrees (norm_by method_of norm) (self (norm_by method_of norm)) (named method_of current t) (named method_of current t)
   named-own = record {
@@ -46,7 +46,7 @@ module _ (norm : ℕ → ℕ → ℕ) (w : World) (t : Text) (own : Agrees norm 
     rises = λ v a b some here there less. less;
   }
 
-  module _ (homes : ℕ → ℕ → ℕ) (u : Text) (is : IsOfVersions norm method_of current homes t u) where
+  module _ (homes : ℕ → ℕ → ℕ) (u : Listing) (is : IsOfVersions norm method_of current homes t u) where
     -- ---- a step
 
     module _ (versioned original : State) (stands : StandsFor norm method_of homes versioned original) where

@@ -3,7 +3,7 @@
 use Rattle.std.proofs.Common.{◌≡◌, ℕ, zero, suc, Bool, true, false, List, [], ◌∷◌, ◌++◌, Option, Some, None, ◌&&◌, refl, sym, ap, subst, ◌∙◌}
 use Rattle.std.specs.Option.{option_map, option_map_or}
 use Rattle.std.proofs.lemmas.Option.{same_Some}
-use Rattle.jvm_model.specs.Basis.Data.{Locals, Operands, Frame, Entry, Active, Initializing, Shared, Ending, State, Turn, Operation, Instruction, Text, Outcome, Initializes, Done, World}
+use Rattle.jvm_model.specs.Basis.Data.{Locals, Operands, Frame, Entry, Active, Initializing, Shared, Ending, State, Turn, Operation, Instruction, Listing, Outcome, Initializes, Done, World}
 use Rattle.jvm_model.specs.Basis.SharedState.{arguments_fit, phase_of}
 use Rattle.jvm_model.specs.Instructions.Does.{does, loads}
 use Rattle.jvm_model.specs.Classes.Load.{Fault}
@@ -54,7 +54,7 @@ module _ (norm : ℕ → ℕ → ℕ) where
 pub done-placed : (h : ℕ → ℕ) (w : World) (op : Operation) (s : Shared) (l : Locals) (o : Operands) → moved_locals h l ≡ l → moved_operands h o ≡ o → moved_done h (does w op s l o) ≡ does w op s l o
 done-placed h w op s l o ls os = sym (does-moves h w op s l o) ∙ (ap (λ x. does w op s x (moved_operands h o)) ls ∙ ap (does w op s l) os)
 
-module _ (norm : ℕ → ℕ → ℕ) (w : World) (t : Text) (own : Agrees norm (self norm) t t) where
+module _ (norm : ℕ → ℕ → ℕ) (w : World) (t : Listing) (own : Agrees norm (self norm) t t) where
   -- what a move of a placed state gives is placed
   pub next-placed : (s : State) (next : Turn) → IsPlaced norm s → move w t s ≡ Some next → IsPlaced norm next.after
   next-placed s next placed e =
@@ -75,7 +75,7 @@ module _ (norm : ℕ → ℕ → ℕ) (w : World) (t : Text) (own : Agrees norm 
       ∙ ap (applies w t i outcome s) at.frame)) in
       ap (λ (a : Turn). a.after.stack) (sym law ∙ here)
 
-  module _ (m : Moving) (u : Text) (agrees : Agrees norm m t u) where
+  module _ (m : Moving) (u : Listing) (agrees : Agrees norm m t u) where
     -- ---- the moves
 
     settles_on-moves : (n : ℕ) → ((a : Turn) → IsPlaced norm a.after → settles w u n (moved_turn m a) ≡ moved_turn m (settles w t n a))
@@ -176,16 +176,16 @@ module _ (norm : ℕ → ℕ → ℕ) (w : World) (t : Text) (own : Agrees norm 
 
 -- ---- a step elsewhere is the step, and leaves a placed state
 
-pub step-moves : (norm : ℕ → ℕ → ℕ) (w : World) (m : Moving) (t u : Text) → Agrees norm (self norm) t t → Agrees norm m t u → (s : State) → IsPlaced norm s
+pub step-moves : (norm : ℕ → ℕ → ℕ) (w : World) (m : Moving) (t u : Listing) → Agrees norm (self norm) t t → Agrees norm m t u → (s : State) → IsPlaced norm s
     → step w u (moved m s) ≡ moved_turn m (step w t s)
 step-moves norm w m t u own agrees s placed = steps_on-moves norm w t own m u agrees s s.ending s.stack placed
 
-pub settled-placed : (norm : ℕ → ℕ → ℕ) (w : World) (t : Text) → Agrees norm (self norm) t t → (a : Turn) → IsPlaced norm a.after → IsPlaced norm (settled w t a).after
+pub settled-placed : (norm : ℕ → ℕ → ℕ) (w : World) (t : Listing) → Agrees norm (self norm) t t → (a : Turn) → IsPlaced norm a.after → IsPlaced norm (settled w t a).after
 settled-placed norm w t own a placed =
     ap (λ (b : Turn). b.after.stack) (sym (settled-moves norm w t own (self norm) t own a placed)
     ∙ ap (λ s. settled w t (record a { after = s })) (placed-state norm a.after placed))
 
-pub step-placed : (norm : ℕ → ℕ → ℕ) (w : World) (t : Text) → Agrees norm (self norm) t t → (s : State) → IsPlaced norm s → IsPlaced norm (step w t s).after
+pub step-placed : (norm : ℕ → ℕ → ℕ) (w : World) (t : Listing) → Agrees norm (self norm) t t → (s : State) → IsPlaced norm s → IsPlaced norm (step w t s).after
 step-placed norm w t own s placed =
     ap (λ (a : Turn). a.after.stack) (sym (step-moves norm w (self norm) t t own own s placed) ∙ ap (step w t) (placed-state norm s placed))
 
@@ -208,7 +208,7 @@ module _ (m : Moving) (w : World) where
   pub starts-still : moved m (starts_with w) ≡ starts_with w
   starts-still = if-still (arguments_fit w.program)
 
-pub start-moves : (norm : ℕ → ℕ → ℕ) (w : World) (m : Moving) (t u : Text) → Agrees norm (self norm) t t → Agrees norm m t u → start w u ≡ moved_turn m (start w t)
+pub start-moves : (norm : ℕ → ℕ → ℕ) (w : World) (m : Moving) (t u : Listing) → Agrees norm (self norm) t t → Agrees norm m t u → start w u ≡ moved_turn m (start w t)
 start-moves norm w m t u own agrees =
     let classes : List ℕ = main_loads w in
     let begun : Turn = still (starts_with w) in
@@ -216,17 +216,17 @@ start-moves norm w m t u own agrees =
     ∙ (ap (loaded_turn classes) (settled-moves norm w t own m u agrees begun (ap (λ (s : State). s.stack) (starts-still (self norm) w)))
     ∙ loaded_turn-moves norm w t own m u agrees classes (settled w t begun))
 
-pub start-placed : (norm : ℕ → ℕ → ℕ) (w : World) (t : Text) → Agrees norm (self norm) t t → IsPlaced norm (start w t).after
+pub start-placed : (norm : ℕ → ℕ → ℕ) (w : World) (t : Listing) → Agrees norm (self norm) t t → IsPlaced norm (start w t).after
 start-placed norm w t own = sym (ap (λ (a : Turn). a.after.stack) (start-moves norm w (self norm) t t own own))
 
 -- ---- and of the run
 
-pub turn_in-placed : (norm : ℕ → ℕ → ℕ) (w : World) (t : Text) → Agrees norm (self norm) t t → (n : ℕ) → IsPlaced norm (turn_in w t n).after
+pub turn_in-placed : (norm : ℕ → ℕ → ℕ) (w : World) (t : Listing) → Agrees norm (self norm) t t → (n : ℕ) → IsPlaced norm (turn_in w t n).after
 turn_in-placed norm w t own zero = subst (λ (a : Turn). IsPlaced norm a.after) (sym (turn_in-zero w t)) (start-placed norm w t own)
 turn_in-placed norm w t own (suc n) =
     subst (λ (a : Turn). IsPlaced norm a.after) (sym (turn_in-suc w t n)) (step-placed norm w t own (turn_in w t n).after (turn_in-placed norm w t own n))
 
-pub turn_in-moves : (norm : ℕ → ℕ → ℕ) (w : World) (m : Moving) (t u : Text) → Agrees norm (self norm) t t → Agrees norm m t u → (n : ℕ) → turn_in w u n ≡ moved_turn m (turn_in w t n)
+pub turn_in-moves : (norm : ℕ → ℕ → ℕ) (w : World) (m : Moving) (t u : Listing) → Agrees norm (self norm) t t → Agrees norm m t u → (n : ℕ) → turn_in w u n ≡ moved_turn m (turn_in w t n)
 turn_in-moves norm w m t u own agrees zero = turn_in-zero w u ∙ (start-moves norm w m t u own agrees ∙ ap (moved_turn m) (sym (turn_in-zero w t)))
 turn_in-moves norm w m t u own agrees (suc n) =
     turn_in-suc w u n

@@ -4,7 +4,7 @@ use Rattle.std.specs.Option.{IfSome, option_map}
 use Rattle.std.proofs.lemmas.Option.{IfSome_then}
 use Rattle.heap_objects.specs.declared.Value.TheVariants.{Ref, Addr}
 use Rattle.jvm_model.specs.declared.event.Mark.{Mark}
-use Rattle.jvm_model.specs.Basis.Data.{Datum, Locals, Operands, Frame, Entry, Active, Initializing, Constants, Superclass, Initializer, Finish, Phase, Fresh, Erroneous, Ending, State, Change, Turn, Instruction, Text, Outcome, GoesOn, Subroutine, Invokes, Returns, Throws, Raises, Initializes, Exits, Breaks, Done, World}
+use Rattle.jvm_model.specs.Basis.Data.{Datum, Locals, Operands, Frame, Entry, Active, Initializing, Constants, Superclass, Initializer, Finish, Phase, Fresh, Erroneous, Ending, State, Change, Turn, Instruction, Listing, Outcome, GoesOn, Subroutine, Invokes, Returns, Throws, Raises, Initializes, Exits, Breaks, Done, World}
 use Rattle.frame_stack.specs.Widths.{height_of}
 use Rattle.jvm_model.specs.Basis.Values.{as_value, with_value}
 use Rattle.jvm_model.specs.Basis.Programs.{super_of, initializer_of}
@@ -24,13 +24,13 @@ all_held-append marks ms (c ∷ more) b = all_held-append marks (held_after mark
 
 module _ (v : ℕ → Mark) where
   -- from these live activations the changes lead to those of the state
-  abbrev Tells : Text → List Held → Turn → Type 0
+  abbrev Tells : Listing → List Held → Turn → Type 0
   Tells t ms a = helds v a.after.stack ≡ all_held (mark_now v t) ms a.changes
 
-  then-tells : (t : Text) (ms : List Held) (a b : Turn) → Tells t ms a → Tells t (helds v a.after.stack) b → Tells t ms (then_turn a b)
+  then-tells : (t : Listing) (ms : List Held) (a b : Turn) → Tells t ms a → Tells t (helds v a.after.stack) b → Tells t ms (then_turn a b)
   then-tells t ms a b p q = q ∙ (ap (λ k. all_held (mark_now v t) k b.changes) p ∙ sym (all_held-append (mark_now v t) ms a.changes b.changes))
 
-  chosen-tells : (t : Text) (ms : List Held) (test : Bool) (x y : Turn) → Tells t ms x → Tells t ms y → Tells t ms (if test then x else y)
+  chosen-tells : (t : Listing) (ms : List Held) (test : Bool) (x y : Turn) → Tells t ms x → Tells t ms y → Tells t ms (if test then x else y)
   chosen-tells t ms true x y p q = p
   chosen-tells t ms false x y p q = q
 
@@ -54,16 +54,16 @@ module _ (v : ℕ → Mark) where
   resumes-helds s f d None = refl
   resumes-helds s f d (Some i) = goes-helds s f i.own f.locals (with_value (option_map as_value d) f.operands) i.next
 
-  gives_back-helds : (t : Text) (s : State) (d : Option Datum) (stack : List Entry) → s.stack ≡ stack → helds v (gives_back t s d stack).stack ≡ helds v stack
+  gives_back-helds : (t : Listing) (s : State) (d : Option Datum) (stack : List Entry) → s.stack ≡ stack → helds v (gives_back t s d stack).stack ≡ helds v stack
   gives_back-helds t s d [] e = ap (helds v) e
   gives_back-helds t s d (Initializing c part ∷ below) e = ap (helds v) e
   gives_back-helds t s d (Active f ∷ below) e = resumes-helds (record s { stack = below }) f d (t.at f.version f.place)
 
-  beside-tells : (w : World) (t : Text) (s : State) (f : Frame) (m : ℕ) (args : List Datum) (below : Operands) (live : ℕ)
+  beside-tells : (w : World) (t : Listing) (s : State) (f : Frame) (m : ℕ) (args : List Datum) (below : Operands) (live : ℕ)
       → Tells t (held_by v f ∷ helds v s.stack) (begins_beside w t s f m args below live)
   beside-tells w t s f m args below live = chosen-tells t (held_by v f ∷ helds v s.stack) (nat_lt live most_live) _ _ refl refl
 
-  pub applies-tells : (w : World) (t : Text) (i : Instruction) (outcome : Outcome) (s : State) (f : Frame) → Tells t (held_by v f ∷ helds v s.stack) (applies w t i outcome s f)
+  pub applies-tells : (w : World) (t : Listing) (i : Instruction) (outcome : Outcome) (s : State) (f : Frame) → Tells t (held_by v f ∷ helds v s.stack) (applies w t i outcome s f)
   applies-tells w t i (GoesOn l o to) s f = goes-helds s f i.own l o (place_of i to)
   applies-tells w t i Subroutine s f = enters-helds s f i i.next
   applies-tells w t i (Invokes m args below) s f = chosen-tells t (held_by v f ∷ helds v s.stack) (has_room w m args) _ _ (beside-tells w t s f m args below (suc (live_in s.stack))) refl
@@ -77,7 +77,7 @@ module _ (v : ℕ → Mark) where
 
   -- ---- moves
 
-  caught-tells : (w : World) (t : Text) (s : State) (r : ℕ) (f : Frame) (h : Option ℕ) → Tells t (held_by v f ∷ helds v s.stack) (caught w t s r f h)
+  caught-tells : (w : World) (t : Listing) (s : State) (r : ℕ) (f : Frame) (h : Option ℕ) → Tells t (held_by v f ∷ helds v s.stack) (caught w t s r f h)
   caught-tells w t s r f None = refl
   caught-tells w t s r f (Some target) = goes-helds (record s { thrown = None }) f (own_at t f) f.locals (Ref r ∷ []) (Some target)
 
@@ -90,15 +90,15 @@ module _ (v : ℕ → Mark) where
   with_super-helds w s c None = refl
   with_super-helds w s c (Some d) = super-helds w s c d (phase_of s.shared d)
 
-  runs-tells : (w : World) (t : Text) (s : State) (c : ℕ) (m : Option ℕ) → Tells t (helds v s.stack) (runs_initializer w t s c m)
+  runs-tells : (w : World) (t : Listing) (s : State) (c : ℕ) (m : Option ℕ) → Tells t (helds v s.stack) (runs_initializer w t s c m)
   runs-tells w t s c None = refl
   runs-tells w t s c (Some m) = chosen-tells t (helds v s.stack) (nat_lt (live_in s.stack) most_live) _ _ refl refl
 
-  main-tells : (w : World) (t : Text) (s : State) (begun : Bool) → helds v s.stack ≡ [] → Tells t [] (main_or_end w t s begun)
+  main-tells : (w : World) (t : Listing) (s : State) (begun : Bool) → helds v s.stack ≡ [] → Tells t [] (main_or_end w t s begun)
   main-tells w t s true e = e
   main-tells w t s false e = chosen-tells t [] (has_room w w.program.main argument_array) _ _ refl e
 
-  pub moves-tell : (w : World) (t : Text) (s : State) (ending : Option Ending) (thrown : Option ℕ) (stack : List Entry) → s.stack ≡ stack → IfSome (moves w t s ending thrown stack) (Tells t (helds v stack))
+  pub moves-tell : (w : World) (t : Listing) (s : State) (ending : Option Ending) (thrown : Option ℕ) (stack : List Entry) → s.stack ≡ stack → IfSome (moves w t s ending thrown stack) (Tells t (helds v stack))
   moves-tell w t s (Some e) thrown stack same = tt
   moves-tell w t s None (Some r) [] same = ap (helds v) same
   moves-tell w t s None (Some r) (Active f ∷ below) same = caught-tells w t (record s { stack = below }) r f (handler_for w (class_of w.program s.shared r) f.place (t.handlers f.version))
@@ -110,25 +110,25 @@ module _ (v : ℕ → Mark) where
   moves-tell w t s None None (Initializing c Initializer ∷ below) same = runs-tells w t (record s { stack = below }) c (initializer_of w.program c)
   moves-tell w t s None None (Initializing c Finish ∷ below) same = refl
 
-  pub settled-tells : (w : World) (t : Text) (ms : List Held) (a : Turn) → Tells t ms a → Tells t ms (settled w t a)
+  pub settled-tells : (w : World) (t : Listing) (ms : List Held) (a : Turn) → Tells t ms a → Tells t ms (settled w t a)
   settled-tells w t ms a p = settled-keeps w t (Tells t ms)
       (λ b q. IfSome_then (move w t b.after) {P = Tells t (helds v b.after.stack)} {Q = λ next. Tells t ms (then_turn b next)}
       (moves-tell w t b.after b.after.ending b.after.thrown b.after.stack refl) (λ next r. then-tells t ms b next q r)) a p
 
   -- ---- a step
 
-  attempt-tells : (w : World) (t : Text) (i : Instruction) (s : State) (f : Frame) → Tells t (held_by v f ∷ helds v s.stack) (attempt w t i s f)
+  attempt-tells : (w : World) (t : Listing) (i : Instruction) (s : State) (f : Frame) → Tells t (held_by v f ∷ helds v s.stack) (attempt w t i s f)
   attempt-tells w t i s f =
       let d : Done = does w i.operation s.shared f.locals f.operands in
       let after : State = record s { shared = d.shared; output = s.output ++ d.wrote } in
       settled-tells w t (held_by v f ∷ helds v s.stack) (applies w t i d.outcome after f) (applies-tells w t i d.outcome after f)
 
   -- without changes they are the same
-  quiet-same : (t : Text) (ms : List Held) (changes : List Change) → is_quiet changes ≡ true → all_held (mark_now v t) ms changes ≡ ms
+  quiet-same : (t : Listing) (ms : List Held) (changes : List Change) → is_quiet changes ≡ true → all_held (mark_now v t) ms changes ≡ ms
   quiet-same t ms [] e = refl
   quiet-same t ms (c ∷ more) e = absurd (let f : false ≡ true = e in cc)
 
-  by-tells : (w : World) (t : Text) (i : Instruction) (s : State) (f : Frame) → Tells t (held_by v f ∷ helds v s.stack) (steps_by w t i s f (does w i.operation s.shared f.locals f.operands))
+  by-tells : (w : World) (t : Listing) (i : Instruction) (s : State) (f : Frame) → Tells t (held_by v f ∷ helds v s.stack) (steps_by w t i s f (does w i.operation s.shared f.locals f.operands))
   by-tells w t i s f =
       let ms = held_by v f ∷ helds v s.stack in
       let a = attempt w t i s f in
@@ -138,11 +138,11 @@ module _ (v : ℕ → Mark) where
       (λ quiet on. then-tells t ms a second first (subst (λ k. Tells t k second) (sym (first ∙ quiet-same t ms a.changes quiet)) (attempt-tells w t i (record a.after { stack = s.stack }) f)))
 
   -- loading changes no frame
-  loaded-tells : (t : Text) (classes : List ℕ) (ms : List Held) (a : Turn) → Tells t ms a → Tells t ms (loaded_turn classes a)
+  loaded-tells : (t : Listing) (classes : List ℕ) (ms : List Held) (a : Turn) → Tells t ms a → Tells t ms (loaded_turn classes a)
   loaded-tells t [] ms a p = p
   loaded-tells t (c ∷ more) ms a p = p
 
-  at-tells : (w : World) (t : Text) (s : State) (f : Frame) (found : Option Instruction) → Tells t (held_by v f ∷ helds v s.stack) (steps_at w t s f found)
+  at-tells : (w : World) (t : Listing) (s : State) (f : Frame) (found : Option Instruction) → Tells t (held_by v f ∷ helds v s.stack) (steps_at w t s f found)
   at-tells w t s f None = refl
   at-tells w t s f (Some i) =
       let classes = loads w i.operation s.shared f.operands in
@@ -151,11 +151,11 @@ module _ (v : ℕ → Mark) where
       let same : ready.stack ≡ s.stack = ap (λ (x : State). x.stack) (with_loaded-shared classes s) in
       loaded-tells t classes (held_by v f ∷ helds v s.stack) turn (subst (λ stack. Tells t (held_by v f ∷ helds v stack) turn) same (by-tells w t i ready f))
 
-  on-tells : (w : World) (t : Text) (s : State) (ending : Option Ending) (stack : List Entry) → s.stack ≡ stack → Tells t (helds v stack) (steps_on w t s ending stack)
+  on-tells : (w : World) (t : Listing) (s : State) (ending : Option Ending) (stack : List Entry) → s.stack ≡ stack → Tells t (helds v stack) (steps_on w t s ending stack)
   on-tells w t s None (Active f ∷ below) e = at-tells w t (record s { stack = below }) f (t.at f.version f.place)
   on-tells w t s _ stack e = ap (helds v) e
 
-  pub step-tells : (w : World) (t : Text) (s : State) → helds v (step w t s).after.stack ≡ all_held (mark_now v t) (helds v s.stack) (step w t s).changes
+  pub step-tells : (w : World) (t : Listing) (s : State) → helds v (step w t s).after.stack ≡ all_held (mark_now v t) (helds v s.stack) (step w t s).changes
   step-tells w t s = on-tells w t s s.ending s.stack refl
 
   -- no frame is there in the start
@@ -163,7 +163,7 @@ module _ (v : ℕ → Mark) where
   starts_unless-helds w None s e = refl
   starts_unless-helds w (Some fault) s e = e
 
-  pub start-tells : (w : World) (t : Text) → helds v (start w t).after.stack ≡ all_held (mark_now v t) [] (start w t).changes
+  pub start-tells : (w : World) (t : Listing) → helds v (start w t).after.stack ≡ all_held (mark_now v t) [] (start w t).changes
   start-tells w t = by (arguments_fit w.program) where
     by : (b : Bool) → Tells t [] (loaded_turn (loads_if w b) (settled w t (still (starts_if w b))))
     by true =

@@ -10,7 +10,7 @@ use Rattle.jvm_model.specs.declared.event.Event.{Event}
 use Rattle.jvm_model.specs.declared.event.EventKind.{EventKind}
 use Rattle.jvm_model.specs.declared.event.EventKind.TheVariants as kind
 use Rattle.jvm_model.specs.Profiling.Activations.{Activation, Trace, no_trace, current, without_current, with_end, changed, all_changed, trace, trace_in-zero, trace_in-suc}
-use Rattle.jvm_model.specs.Basis.Data.{Change, Loads, Began, Left, Unwound, Operation, Text, World}
+use Rattle.jvm_model.specs.Basis.Data.{Change, Loads, Began, Left, Unwound, Operation, Listing, World}
 use Rattle.jvm_model.specs.Profiling.EventLists.{Marking, all_told, begin_events, end_events, end_of, events_of, events_of-zero, events_of-suc, told}
 use Rattle.jvm_model.specs.Codes.Originals.{original}
 use Rattle.jvm_model.specs.Profiling.Paths.{contexts_of, is_inside}
@@ -195,7 +195,7 @@ module _ (acts : List Act) (x : Act) (behind : 1 ≤ x.moment) where
       (sym (acts-trace acts todo (settled acts (after_changes acts step s changes)) ∙ settled-trace acts (after_changes acts step s changes)))
       (changes-early acts step s changes le each)
 
-  module _ (w : World) (t : Text) where
+  module _ (w : World) (t : Listing) where
     pub standing-early : (k : ℕ) → k ≤ suc x.moment → IsEarly (standing_in acts w t k)
     standing-early zero le =
         subst IsEarly (sym (standing_in-zero acts w t)) (subst (λ (r : Trace). Early x.moment r.activations) (sym (acts-trace acts (acts_at 0 acts) (nothing w))) tt)
@@ -359,7 +359,7 @@ module _ (acts : List Act) (x : Act) (behind : 1 ≤ x.moment) where
   act_points-last step s [] y = refl
   act_points-last step s (act ∷ todo) y = ap (λ l. point step (after_act acts s act) ∷ l) (act_points-last step (after_act acts s act) todo y)
 
-  module _ (w : World) (t : Text) where
+  module _ (w : World) (t : Listing) where
     -- what ends a step, and the points of its changes
     ended-same : (n : ℕ) → n ≤ x.moment
         → settled more (after_changes more n (standing_in acts w t n) (turn_in w t n).changes) ≡ settled acts (after_changes acts n (standing_in acts w t n) (turn_in w t n).changes)

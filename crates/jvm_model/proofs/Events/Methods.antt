@@ -3,7 +3,7 @@ use Rattle.std.proofs.Common.{◌≡◌, ℕ, suc, slice_get, Bool, true, false,
 use Rattle.std.specs.Option.{IfSome, option_map}
 use Rattle.std.proofs.lemmas.Option.{IfSome_then}
 use Rattle.heap_objects.specs.declared.Value.TheVariants.{Ref, Addr}
-use Rattle.jvm_model.specs.Basis.Data.{Datum, Locals, Operands, Frame, Entry, Active, Initializing, Constants, Superclass, Initializer, Finish, Phase, Fresh, Erroneous, Ending, State, Change, Turn, Instruction, Text, Outcome, GoesOn, Subroutine, Invokes, Returns, Throws, Raises, Initializes, Exits, Breaks, Done, World}
+use Rattle.jvm_model.specs.Basis.Data.{Datum, Locals, Operands, Frame, Entry, Active, Initializing, Constants, Superclass, Initializer, Finish, Phase, Fresh, Erroneous, Ending, State, Change, Turn, Instruction, Listing, Outcome, GoesOn, Subroutine, Invokes, Returns, Throws, Raises, Initializes, Exits, Breaks, Done, World}
 use Rattle.frame_stack.specs.Widths.{height_of}
 use Rattle.jvm_model.specs.Basis.Values.{as_value, with_value}
 use Rattle.jvm_model.specs.Basis.Programs.{super_of, initializer_of}
@@ -52,16 +52,16 @@ resumes-methods : (s : State) (f : Frame) (d : Option Datum) (found : Option Ins
 resumes-methods s f d None = refl
 resumes-methods s f d (Some i) = goes-methods s f i.own f.locals (with_value (option_map as_value d) f.operands) i.next
 
-gives_back-methods : (t : Text) (s : State) (d : Option Datum) (stack : List Entry) → s.stack ≡ stack → methods (gives_back t s d stack).stack ≡ methods stack
+gives_back-methods : (t : Listing) (s : State) (d : Option Datum) (stack : List Entry) → s.stack ≡ stack → methods (gives_back t s d stack).stack ≡ methods stack
 gives_back-methods t s d [] e = ap methods e
 gives_back-methods t s d (Initializing c part ∷ below) e = ap methods e
 gives_back-methods t s d (Active f ∷ below) e = resumes-methods (record s { stack = below }) f d (t.at f.version f.place)
 
-beside-tells : (w : World) (t : Text) (s : State) (f : Frame) (m : ℕ) (args : List Datum) (below : Operands) (live : ℕ)
+beside-tells : (w : World) (t : Listing) (s : State) (f : Frame) (m : ℕ) (args : List Datum) (below : Operands) (live : ℕ)
     → Tells (f.method ∷ methods s.stack) (begins_beside w t s f m args below live)
 beside-tells w t s f m args below live = chosen-tells (f.method ∷ methods s.stack) (nat_lt live most_live) _ _ refl refl
 
-pub applies-tells : (w : World) (t : Text) (i : Instruction) (outcome : Outcome) (s : State) (f : Frame) → Tells (f.method ∷ methods s.stack) (applies w t i outcome s f)
+pub applies-tells : (w : World) (t : Listing) (i : Instruction) (outcome : Outcome) (s : State) (f : Frame) → Tells (f.method ∷ methods s.stack) (applies w t i outcome s f)
 applies-tells w t i (GoesOn l o to) s f = goes-methods s f i.own l o (place_of i to)
 applies-tells w t i Subroutine s f = enters-methods s f i i.next
 applies-tells w t i (Invokes m args below) s f = chosen-tells (f.method ∷ methods s.stack) (has_room w m args) _ _ (beside-tells w t s f m args below (suc (live_in s.stack))) refl
@@ -75,7 +75,7 @@ applies-tells w t i (Breaks false) s f = refl
 
 -- ---- moves
 
-caught-tells : (w : World) (t : Text) (s : State) (r : ℕ) (f : Frame) (h : Option ℕ) → Tells (f.method ∷ methods s.stack) (caught w t s r f h)
+caught-tells : (w : World) (t : Listing) (s : State) (r : ℕ) (f : Frame) (h : Option ℕ) → Tells (f.method ∷ methods s.stack) (caught w t s r f h)
 caught-tells w t s r f None = refl
 caught-tells w t s r f (Some target) = goes-methods (record s { thrown = None }) f (own_at t f) f.locals (Ref r ∷ []) (Some target)
 
@@ -88,15 +88,15 @@ with_super-methods : (w : World) (s : State) (c : ℕ) (d : Option ℕ) → meth
 with_super-methods w s c None = refl
 with_super-methods w s c (Some d) = super-methods w s c d (phase_of s.shared d)
 
-runs-tells : (w : World) (t : Text) (s : State) (c : ℕ) (m : Option ℕ) → Tells (methods s.stack) (runs_initializer w t s c m)
+runs-tells : (w : World) (t : Listing) (s : State) (c : ℕ) (m : Option ℕ) → Tells (methods s.stack) (runs_initializer w t s c m)
 runs-tells w t s c None = refl
 runs-tells w t s c (Some m) = chosen-tells (methods s.stack) (nat_lt (live_in s.stack) most_live) _ _ refl refl
 
-main-tells : (w : World) (t : Text) (s : State) (begun : Bool) → methods s.stack ≡ [] → Tells [] (main_or_end w t s begun)
+main-tells : (w : World) (t : Listing) (s : State) (begun : Bool) → methods s.stack ≡ [] → Tells [] (main_or_end w t s begun)
 main-tells w t s true e = e
 main-tells w t s false e = chosen-tells [] (has_room w w.program.main argument_array) _ _ refl e
 
-pub moves-tell : (w : World) (t : Text) (s : State) (ending : Option Ending) (thrown : Option ℕ) (stack : List Entry) → s.stack ≡ stack → IfSome (moves w t s ending thrown stack) (Tells (methods stack))
+pub moves-tell : (w : World) (t : Listing) (s : State) (ending : Option Ending) (thrown : Option ℕ) (stack : List Entry) → s.stack ≡ stack → IfSome (moves w t s ending thrown stack) (Tells (methods stack))
 moves-tell w t s (Some e) thrown stack same = tt
 moves-tell w t s None (Some r) [] same = ap methods same
 moves-tell w t s None (Some r) (Active f ∷ below) same = caught-tells w t (record s { stack = below }) r f (handler_for w (class_of w.program s.shared r) f.place (t.handlers f.version))
@@ -108,14 +108,14 @@ moves-tell w t s None None (Initializing c Superclass ∷ below) same = with_sup
 moves-tell w t s None None (Initializing c Initializer ∷ below) same = runs-tells w t (record s { stack = below }) c (initializer_of w.program c)
 moves-tell w t s None None (Initializing c Finish ∷ below) same = refl
 
-pub settled-tells : (w : World) (t : Text) (ms : List ℕ) (a : Turn) → Tells ms a → Tells ms (settled w t a)
+pub settled-tells : (w : World) (t : Listing) (ms : List ℕ) (a : Turn) → Tells ms a → Tells ms (settled w t a)
 settled-tells w t ms a p = settled-keeps w t (Tells ms)
     (λ b q. IfSome_then (move w t b.after) {P = Tells (methods b.after.stack)} {Q = λ next. Tells ms (then_turn b next)}
     (moves-tell w t b.after b.after.ending b.after.thrown b.after.stack refl) (λ next r. then-tells ms b next q r)) a p
 
 -- ---- a step
 
-attempt-tells : (w : World) (t : Text) (i : Instruction) (s : State) (f : Frame) → Tells (f.method ∷ methods s.stack) (attempt w t i s f)
+attempt-tells : (w : World) (t : Listing) (i : Instruction) (s : State) (f : Frame) → Tells (f.method ∷ methods s.stack) (attempt w t i s f)
 attempt-tells w t i s f =
     let d : Done = does w i.operation s.shared f.locals f.operands in
     let after : State = record s { shared = d.shared; output = s.output ++ d.wrote } in
@@ -126,7 +126,7 @@ quiet-same : (ms : List ℕ) (changes : List Change) → is_quiet changes ≡ tr
 quiet-same ms [] e = refl
 quiet-same ms (c ∷ more) e = absurd (let f : false ≡ true = e in cc)
 
-by-tells : (w : World) (t : Text) (i : Instruction) (s : State) (f : Frame) → Tells (f.method ∷ methods s.stack) (steps_by w t i s f (does w i.operation s.shared f.locals f.operands))
+by-tells : (w : World) (t : Listing) (i : Instruction) (s : State) (f : Frame) → Tells (f.method ∷ methods s.stack) (steps_by w t i s f (does w i.operation s.shared f.locals f.operands))
 by-tells w t i s f =
     let ms = f.method ∷ methods s.stack in
     let a = attempt w t i s f in
@@ -140,7 +140,7 @@ loaded-tells : (classes ms : List ℕ) (a : Turn) → Tells ms a → Tells ms (l
 loaded-tells [] ms a p = p
 loaded-tells (c ∷ more) ms a p = p
 
-at-tells : (w : World) (t : Text) (s : State) (f : Frame) (found : Option Instruction) → Tells (f.method ∷ methods s.stack) (steps_at w t s f found)
+at-tells : (w : World) (t : Listing) (s : State) (f : Frame) (found : Option Instruction) → Tells (f.method ∷ methods s.stack) (steps_at w t s f found)
 at-tells w t s f None = refl
 at-tells w t s f (Some i) =
     let classes = loads w i.operation s.shared f.operands in
@@ -149,11 +149,11 @@ at-tells w t s f (Some i) =
     let same : ready.stack ≡ s.stack = ap (λ (x : State). x.stack) (with_loaded-shared classes s) in
     loaded-tells classes (f.method ∷ methods s.stack) turn (subst (λ stack. Tells (f.method ∷ methods stack) turn) same (by-tells w t i ready f))
 
-on-tells : (w : World) (t : Text) (s : State) (ending : Option Ending) (stack : List Entry) → s.stack ≡ stack → Tells (methods stack) (steps_on w t s ending stack)
+on-tells : (w : World) (t : Listing) (s : State) (ending : Option Ending) (stack : List Entry) → s.stack ≡ stack → Tells (methods stack) (steps_on w t s ending stack)
 on-tells w t s None (Active f ∷ below) e = at-tells w t (record s { stack = below }) f (t.at f.version f.place)
 on-tells w t s _ stack e = ap methods e
 
-pub step-tells : (w : World) (t : Text) (s : State) → methods (step w t s).after.stack ≡ after_changes (methods s.stack) (step w t s).changes
+pub step-tells : (w : World) (t : Listing) (s : State) → methods (step w t s).after.stack ≡ after_changes (methods s.stack) (step w t s).changes
 step-tells w t s = on-tells w t s s.ending s.stack refl
 
 -- no frame is there in the start
@@ -161,7 +161,7 @@ starts_unless-methods : (w : World) (fault : Option Fault) (s : State) → metho
 starts_unless-methods w None s e = refl
 starts_unless-methods w (Some fault) s e = e
 
-pub start-tells : (w : World) (t : Text) → methods (start w t).after.stack ≡ after_changes [] (start w t).changes
+pub start-tells : (w : World) (t : Listing) → methods (start w t).after.stack ≡ after_changes [] (start w t).changes
 start-tells w t = by (arguments_fit w.program) where
   by : (b : Bool) → Tells [] (loaded_turn (loads_if w b) (settled w t (still (starts_if w b))))
   by true =
@@ -173,9 +173,9 @@ start-tells w t = by (arguments_fit w.program) where
 -- ---- the run
 
 -- the frames' methods after a step are those before it, changed as the step tells
-pub run-tells : (w : World) (t : Text) (n : ℕ) → methods (turn_in w t (suc n)).after.stack ≡ after_changes (methods (turn_in w t n).after.stack) (turn_in w t (suc n)).changes
+pub run-tells : (w : World) (t : Listing) (n : ℕ) → methods (turn_in w t (suc n)).after.stack ≡ after_changes (methods (turn_in w t n).after.stack) (turn_in w t (suc n)).changes
 run-tells w t n = subst (Tells (methods (turn_in w t n).after.stack)) (sym (turn_in-suc w t n)) (step-tells w t (turn_in w t n).after)
 
 -- and after the start they are those that it tells of
-pub run-tells-first : (w : World) (t : Text) → methods (turn_in w t 0).after.stack ≡ after_changes [] (turn_in w t 0).changes
+pub run-tells-first : (w : World) (t : Listing) → methods (turn_in w t 0).after.stack ≡ after_changes [] (turn_in w t 0).changes
 run-tells-first w t = subst (Tells []) (sym (turn_in-zero w t)) (start-tells w t)

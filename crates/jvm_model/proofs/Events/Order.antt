@@ -3,7 +3,7 @@
 use Rattle.std.proofs.Common.{◌≡◌, ℕ, zero, suc, ◌≤◌, ◌⊎◌, inl, inr, Bool, true, false, List, [], ◌∷◌, ◌++◌, Option, Some, None, nat_lt, if◌then◌else◌, refl, sym, ap, subst, ◌∙◌, arith}
 use Rattle.std.specs.Option.{IfSome}
 use Rattle.std.proofs.lemmas.Option.{none-some, IfSome_then}
-use Rattle.jvm_model.specs.Basis.Data.{Datum, Operands, Frame, Entry, Active, Initializing, Part, Constants, Superclass, Initializer, Finish, Ending, State, Change, Loads, Began, Left, Unwound, Turn, Instruction, Text, Outcome, GoesOn, Subroutine, Invokes, Returns, Throws, Raises, Initializes, Exits, Breaks, Done, World}
+use Rattle.jvm_model.specs.Basis.Data.{Datum, Operands, Frame, Entry, Active, Initializing, Part, Constants, Superclass, Initializer, Finish, Ending, State, Change, Loads, Began, Left, Unwound, Turn, Instruction, Listing, Outcome, GoesOn, Subroutine, Invokes, Returns, Throws, Raises, Initializes, Exits, Breaks, Done, World}
 use Rattle.jvm_model.specs.Basis.Programs.{initializer_of}
 use Rattle.jvm_model.specs.Basis.SharedState.{class_of}
 use Rattle.jvm_model.specs.Instructions.Does.{does, loads}
@@ -68,37 +68,37 @@ ordered-once (Began m ∷ more) o = begin-once (Began m ∷ more) o
 -- ---- moves
 
 -- nothing has begun so far, or no move applies any more
-abbrev pub GoesWell : World → Text → Turn → Type 0
+abbrev pub GoesWell : World → Listing → Turn → Type 0
 GoesWell w t a = OnlyEnd a.changes ⊎ EndThenBegin a.changes × (move w t a.after ≡ None)
 
-chosen-well : (w : World) (t : Text) (test : Bool) (x y : Turn) → GoesWell w t x → GoesWell w t y → GoesWell w t (if test then x else y)
+chosen-well : (w : World) (t : Listing) (test : Bool) (x y : Turn) → GoesWell w t x → GoesWell w t y → GoesWell w t (if test then x else y)
 chosen-well w t true x y p q = p
 chosen-well w t false x y p q = q
 
-caught-well : (w : World) (t : Text) (s : State) (r : ℕ) (f : Frame) (h : Option ℕ) → GoesWell w t (caught w t s r f h)
+caught-well : (w : World) (t : Listing) (s : State) (r : ℕ) (f : Frame) (h : Option ℕ) → GoesWell w t (caught w t s r f h)
 caught-well w t s r f None = inl tt
 caught-well w t s r f (Some target) = inl tt
 
 -- with a frame on top and nothing thrown no move applies
-calm-stops : (w : World) (t : Text) (s : State) (f : Frame) (below : List Entry) → s.ending ≡ None → s.thrown ≡ None → s.stack ≡ Active f ∷ below → move w t s ≡ None
+calm-stops : (w : World) (t : Listing) (s : State) (f : Frame) (below : List Entry) → s.ending ≡ None → s.thrown ≡ None → s.stack ≡ Active f ∷ below → move w t s ≡ None
 calm-stops w t s f below open' calm top =
     ap (λ e. moves w t s e s.thrown s.stack) open' ∙ (ap (λ thrown. moves w t s None thrown s.stack) calm ∙ ap (moves w t s None None) top)
 
-runs-well : (w : World) (t : Text) (s : State) → s.ending ≡ None → s.thrown ≡ None → (c : ℕ) (m : Option ℕ) → GoesWell w t (runs_initializer w t s c m)
+runs-well : (w : World) (t : Listing) (s : State) → s.ending ≡ None → s.thrown ≡ None → (c : ℕ) (m : Option ℕ) → GoesWell w t (runs_initializer w t s c m)
 runs-well w t s open' calm c None = inl tt
 runs-well w t s open' calm c (Some m) =
     let after : State = with_frame (at_part s c Finish) (new_frame w t m []) in
     chosen-well w t (nat_lt (live_in s.stack) most_live) (record { after = after; changes = Began m ∷ [] }) _
     (inr (tt, calm-stops w t after (new_frame w t m []) (Initializing c Finish ∷ s.stack) open' calm refl)) (inl tt)
 
-main-well : (w : World) (t : Text) (s : State) → s.ending ≡ None → s.thrown ≡ None → (b : Bool) → GoesWell w t (main_or_end w t s b)
+main-well : (w : World) (t : Listing) (s : State) → s.ending ≡ None → s.thrown ≡ None → (b : Bool) → GoesWell w t (main_or_end w t s b)
 main-well w t s open' calm true = inl tt
 main-well w t s open' calm false =
     let f : Frame = new_frame w t w.program.main argument_array in
     let after : State = record s { begun = true; stack = Active f ∷ [] } in
     chosen-well w t (has_room w w.program.main argument_array) _ _ (inr (tt, calm-stops w t after f [] open' calm refl)) (inl tt)
 
-pub moves-well : (w : World) (t : Text) (s : State) (ending : Option Ending) (thrown : Option ℕ) (stack : List Entry) → s.ending ≡ ending → s.thrown ≡ thrown
+pub moves-well : (w : World) (t : Listing) (s : State) (ending : Option Ending) (thrown : Option ℕ) (stack : List Entry) → s.ending ≡ ending → s.thrown ≡ thrown
     → IfSome (moves w t s ending thrown stack) (GoesWell w t)
 moves-well w t s (Some e) thrown stack open' calm = tt
 moves-well w t s None (Some r) [] open' calm = inl tt
@@ -111,33 +111,33 @@ moves-well w t s None None (Initializing c Superclass ∷ below) open' calm = in
 moves-well w t s None None (Initializing c Initializer ∷ below) open' calm = runs-well w t (record s { stack = below }) open' calm c (initializer_of w.program c)
 moves-well w t s None None (Initializing c Finish ∷ below) open' calm = inl tt
 
-then-well : (w : World) (t : Text) (a next : Turn) → OnlyEnd a.changes → GoesWell w t next → GoesWell w t (then_turn a next)
+then-well : (w : World) (t : Listing) (a next : Turn) → OnlyEnd a.changes → GoesWell w t next → GoesWell w t (then_turn a next)
 then-well w t a next p (inl q) = inl (end-append a.changes next.changes p q)
 then-well w t a next p (inr q) = inr (begin-append a.changes next.changes p q.0, q.1)
 
-goes-well : (w : World) (t : Text) (a : Turn) → GoesWell w t a → IfSome (move w t a.after) (λ next. GoesWell w t (then_turn a next))
+goes-well : (w : World) (t : Listing) (a : Turn) → GoesWell w t a → IfSome (move w t a.after) (λ next. GoesWell w t (then_turn a next))
 goes-well w t a (inl p) =
     IfSome_then (move w t a.after) {P = GoesWell w t} {Q = λ next. GoesWell w t (then_turn a next)}
     (moves-well w t a.after a.after.ending a.after.thrown a.after.stack refl refl) (λ next q. then-well w t a next p q)
 goes-well w t a (inr p) = subst (λ found. IfSome found (λ next. GoesWell w t (then_turn a next))) (sym p.1) tt
 
-well-begins : (w : World) (t : Text) (a : Turn) → GoesWell w t a → EndThenBegin a.changes
+well-begins : (w : World) (t : Listing) (a : Turn) → GoesWell w t a → EndThenBegin a.changes
 well-begins w t a (inl p) = end-begin a.changes p
 well-begins w t a (inr p) = p.0
 
-settled-begins : (w : World) (t : Text) (a : Turn) → GoesWell w t a → EndThenBegin (settled w t a).changes
+settled-begins : (w : World) (t : Listing) (a : Turn) → GoesWell w t a → EndThenBegin (settled w t a).changes
 settled-begins w t a p = well-begins w t (settled w t a) (settled-keeps w t (GoesWell w t) (goes-well w t) a p)
 
 -- ---- a step
 
-beside-well : (w : World) (t : Text) (s : State) (f : Frame) (m : ℕ) (args : List Datum) (below : Operands) (live : ℕ) → s.ending ≡ None → s.thrown ≡ None
+beside-well : (w : World) (t : Listing) (s : State) (f : Frame) (m : ℕ) (args : List Datum) (below : Operands) (live : ℕ) → s.ending ≡ None → s.thrown ≡ None
     → GoesWell w t (begins_beside w t s f m args below live)
 beside-well w t s f m args below live open' calm =
     let after : State = (begins w t s f m args below).after in
     chosen-well w t (nat_lt live most_live) (begins w t s f m args below) _
     (inr (tt, calm-stops w t after (new_frame w t m args) (Active (record f { operands = below }) ∷ s.stack) open' calm refl)) (inl tt)
 
-applies-well : (w : World) (t : Text) (i : Instruction) (outcome : Outcome) (s : State) (f : Frame) → s.ending ≡ None → s.thrown ≡ None → GoesWell w t (applies w t i outcome s f)
+applies-well : (w : World) (t : Listing) (i : Instruction) (outcome : Outcome) (s : State) (f : Frame) → s.ending ≡ None → s.thrown ≡ None → GoesWell w t (applies w t i outcome s f)
 applies-well w t i (GoesOn l o to) s f open' calm = inl tt
 applies-well w t i Subroutine s f open' calm = inl tt
 applies-well w t i (Invokes m args below) s f open' calm =
@@ -151,7 +151,7 @@ applies-well w t i (Exits n) s f open' calm = inl tt
 applies-well w t i (Breaks true) s f open' calm = inl tt
 applies-well w t i (Breaks false) s f open' calm = inl tt
 
-attempt-begins : (w : World) (t : Text) (i : Instruction) (s : State) (f : Frame) → s.ending ≡ None → s.thrown ≡ None → EndThenBegin (attempt w t i s f).changes
+attempt-begins : (w : World) (t : Listing) (i : Instruction) (s : State) (f : Frame) → s.ending ≡ None → s.thrown ≡ None → EndThenBegin (attempt w t i s f).changes
 attempt-begins w t i s f open' calm =
     let d : Done = does w i.operation s.shared f.locals f.operands in
     let after : State = record s { shared = d.shared; output = s.output ++ d.wrote } in
@@ -171,7 +171,7 @@ quiet-end : (cs : List Change) → is_quiet cs ≡ true → OnlyEnd cs
 quiet-end [] e = tt
 quiet-end (c ∷ cs) e = absurd (let f : false ≡ true = e in cc)
 
-pub by-begins : (w : World) (t : Text) (i : Instruction) (s : State) (f : Frame) → s.ending ≡ None → s.thrown ≡ None → EndThenBegin (steps_by w t i s f (does w i.operation s.shared f.locals f.operands)).changes
+pub by-begins : (w : World) (t : Listing) (i : Instruction) (s : State) (f : Frame) → s.ending ≡ None → s.thrown ≡ None → EndThenBegin (steps_by w t i s f (does w i.operation s.shared f.locals f.operands)).changes
 by-begins w t i s f open' calm =
     let a = attempt w t i s f in
     let again : State = record a.after { stack = s.stack } in
@@ -179,7 +179,7 @@ by-begins w t i s f open' calm =
     (λ quiet on. begin-append a.changes (attempt w t i again f).changes (quiet-end a.changes quiet)
     (attempt-begins w t i again f (open-ended a.after.ending a.after.thrown on) (open-thrown a.after.ending a.after.thrown on)))
 
-at-ordered : (w : World) (t : Text) (s : State) (f : Frame) (found : Option Instruction) → s.ending ≡ None → s.thrown ≡ None → AreOrdered (steps_at w t s f found).changes
+at-ordered : (w : World) (t : Listing) (s : State) (f : Frame) (found : Option Instruction) → s.ending ≡ None → s.thrown ≡ None → AreOrdered (steps_at w t s f found).changes
 at-ordered w t s f None open' calm = tt
 at-ordered w t s f (Some i) open' calm =
     let classes = loads w i.operation s.shared f.operands in
@@ -191,11 +191,11 @@ at-ordered w t s f (Some i) open' calm =
     loaded-ordered classes turn (by-begins w t i ready f (ending ∙ open') (thrown ∙ calm))
 
 -- where no move applies and a frame is on top, nothing is thrown
-pub stopped-calm : (w : World) (t : Text) (s : State) (thrown : Option ℕ) (f : Frame) (below : List Entry) → moves w t s None thrown (Active f ∷ below) ≡ None → thrown ≡ None
+pub stopped-calm : (w : World) (t : Listing) (s : State) (thrown : Option ℕ) (f : Frame) (below : List Entry) → moves w t s None thrown (Active f ∷ below) ≡ None → thrown ≡ None
 stopped-calm w t s None f below e = refl
 stopped-calm w t s (Some r) f below e = absurd (none-some _ (sym e))
 
-on-ordered : (w : World) (t u : Text) (s : State) (ending : Option Ending) (stack : List Entry) → s.ending ≡ ending → moves w t s ending s.thrown stack ≡ None
+on-ordered : (w : World) (t u : Listing) (s : State) (ending : Option Ending) (stack : List Entry) → s.ending ≡ ending → moves w t s ending s.thrown stack ≡ None
     → AreOrdered (steps_on w u s ending stack).changes
 on-ordered w t u s None (Active f ∷ below) open' stop = at-ordered w u (record s { stack = below }) f (u.at f.version f.place) open' (stopped-calm w t s s.thrown f below stop)
 on-ordered w t u s None [] open' stop = tt
@@ -203,30 +203,30 @@ on-ordered w t u s None (Initializing c part ∷ below) open' stop = tt
 on-ordered w t u s (Some e) stack open' stop = tt
 
 -- from a normal state; the text may be another one than the one before
-pub step-ordered : (w : World) (t u : Text) (s : State) → move w t s ≡ None → AreOrdered (step w u s).changes
+pub step-ordered : (w : World) (t u : Listing) (s : State) → move w t s ≡ None → AreOrdered (step w u s).changes
 step-ordered w t u s stop = on-ordered w t u s s.ending s.stack refl stop
 
-pub step-begins : (w : World) (t u : Text) (s : State) → move w t s ≡ None → begun (step w u s).changes ≤ 1
+pub step-begins : (w : World) (t u : Listing) (s : State) → move w t s ≡ None → begun (step w u s).changes ≤ 1
 step-begins w t u s stop = ordered-once (step w u s).changes (step-ordered w t u s stop)
 
 -- behind what the start loads
-pub started-begins : (w : World) (t : Text) → EndThenBegin (settled w t (still (starts_with w))).changes
+pub started-begins : (w : World) (t : Listing) → EndThenBegin (settled w t (still (starts_with w))).changes
 started-begins w t = settled-begins w t (still (starts_with w)) (inl tt)
 
-pub start-ordered : (w : World) (t : Text) → AreOrdered (start w t).changes
+pub start-ordered : (w : World) (t : Listing) → AreOrdered (start w t).changes
 start-ordered w t = loaded-ordered (main_loads w) (settled w t (still (starts_with w))) (started-begins w t)
 
-pub start-begins : (w : World) (t : Text) → begun (start w t).changes ≤ 1
+pub start-begins : (w : World) (t : Listing) → begun (start w t).changes ≤ 1
 start-begins w t = ordered-once (start w t).changes (start-ordered w t)
 
 -- ---- a step ends in a normal state
 
-attempt-stops : (w : World) (t : Text) (i : Instruction) (s : State) (f : Frame) → move w t (attempt w t i s f).after ≡ None
+attempt-stops : (w : World) (t : Listing) (i : Instruction) (s : State) (f : Frame) → move w t (attempt w t i s f).after ≡ None
 attempt-stops w t i s f =
     let d : Done = does w i.operation s.shared f.locals f.operands in
     settled-stops w t (applies w t i d.outcome (record s { shared = d.shared; output = s.output ++ d.wrote }) f)
 
-at-stops : (w : World) (t : Text) (s : State) (f : Frame) (found : Option Instruction) → move w t (steps_at w t s f found).after ≡ None
+at-stops : (w : World) (t : Listing) (s : State) (f : Frame) (found : Option Instruction) → move w t (steps_at w t s f found).after ≡ None
 at-stops w t s f None = refl
 at-stops w t s f (Some i) =
     let classes = loads w i.operation s.shared f.operands in
@@ -237,15 +237,15 @@ at-stops w t s f (Some i) =
     ∙ again-by (λ b. move w t b.after ≡ None) w t i ready f (starts d.outcome) a (attempt-stops w t i ready f) (λ quiet on. attempt-stops w t i (record a.after { stack = ready.stack }) f)
 
 -- without a frame on top some move applies, or the run has ended
-moving : (w : World) (t : Text) (s : State) (thrown : Option ℕ) → moves w t s None thrown [] ≡ None → ⊥
+moving : (w : World) (t : Listing) (s : State) (thrown : Option ℕ) → moves w t s None thrown [] ≡ None → ⊥
 moving w t s None e = none-some _ (sym e)
 moving w t s (Some r) e = none-some _ (sym e)
 
-initializing : (w : World) (t : Text) (s : State) (thrown : Option ℕ) (c : ℕ) (part : Part) (below : List Entry) → moves w t s None thrown (Initializing c part ∷ below) ≡ None → ⊥
+initializing : (w : World) (t : Listing) (s : State) (thrown : Option ℕ) (c : ℕ) (part : Part) (below : List Entry) → moves w t s None thrown (Initializing c part ∷ below) ≡ None → ⊥
 initializing w t s None c part below e = none-some _ (sym e)
 initializing w t s (Some r) c part below e = none-some _ (sym e)
 
-on-stops : (w : World) (t u : Text) (s : State) (ending : Option Ending) (stack : List Entry) → s.ending ≡ ending → moves w t s ending s.thrown stack ≡ None
+on-stops : (w : World) (t u : Listing) (s : State) (ending : Option Ending) (stack : List Entry) → s.ending ≡ ending → moves w t s ending s.thrown stack ≡ None
     → move w u (steps_on w u s ending stack).after ≡ None
 on-stops w t u s None (Active f ∷ below) same stop = at-stops w u (record s { stack = below }) f (u.at f.version f.place)
 on-stops w t u s None [] same stop = absurd (moving w t s s.thrown stop)
@@ -253,7 +253,7 @@ on-stops w t u s None (Initializing c part ∷ below) same stop = absurd (initia
 on-stops w t u s (Some e) stack same stop = ap (λ x. moves w u s x s.thrown s.stack) same
 
 -- whether a state is normal does not depend on the text
-pub normal-anywhere : (w : World) (t u : Text) (s : State) → move w t s ≡ None → move w u s ≡ None
+pub normal-anywhere : (w : World) (t u : Listing) (s : State) → move w t s ≡ None → move w u s ≡ None
 normal-anywhere w t u s = by s.ending s.thrown s.stack where
   by : (ending : Option Ending) (thrown : Option ℕ) (stack : List Entry) → moves w t s ending thrown stack ≡ None → moves w u s ending thrown stack ≡ None
   by (Some e) thrown stack stop = refl
@@ -262,10 +262,10 @@ normal-anywhere w t u s = by s.ending s.thrown s.stack where
   by None thrown [] stop = absurd (moving w t s thrown stop)
   by None thrown (Initializing c part ∷ below) stop = absurd (initializing w t s thrown c part below stop)
 
-pub step-stops : (w : World) (t u : Text) (s : State) → move w t s ≡ None → move w u (step w u s).after ≡ None
+pub step-stops : (w : World) (t u : Listing) (s : State) → move w t s ≡ None → move w u (step w u s).after ≡ None
 step-stops w t u s stop = on-stops w t u s s.ending s.stack refl stop
 
-pub start-stops : (w : World) (t : Text) → move w t (start w t).after ≡ None
+pub start-stops : (w : World) (t : Listing) → move w t (start w t).after ≡ None
 start-stops w t =
     let first = still (starts_with w) in
     ap (move w t) (loaded-after (main_loads w) (settled w t first)) ∙ settled-stops w t first
@@ -273,14 +273,14 @@ start-stops w t =
 -- ---- the run
 
 -- every state of a run is normal
-pub run-stops : (w : World) (t : Text) (n : ℕ) → move w t (turn_in w t n).after ≡ None
+pub run-stops : (w : World) (t : Listing) (n : ℕ) → move w t (turn_in w t n).after ≡ None
 run-stops w t zero = ap (λ (a : Turn). move w t a.after) (turn_in-zero w t) ∙ start-stops w t
 run-stops w t (suc n) = ap (λ (a : Turn). move w t a.after) (turn_in-suc w t n) ∙ step-stops w t t (turn_in w t n).after (run-stops w t n)
 
-pub run-ordered : (w : World) (t : Text) (n : ℕ) → AreOrdered (turn_in w t n).changes
+pub run-ordered : (w : World) (t : Listing) (n : ℕ) → AreOrdered (turn_in w t n).changes
 run-ordered w t zero = subst (λ (a : Turn). AreOrdered a.changes) (sym (turn_in-zero w t)) (start-ordered w t)
 run-ordered w t (suc n) = subst (λ (a : Turn). AreOrdered a.changes) (sym (turn_in-suc w t n)) (step-ordered w t t (turn_in w t n).after (run-stops w t n))
 
 -- in each step one activation begins at most
-pub run-begins : (w : World) (t : Text) (n : ℕ) → begun (turn_in w t n).changes ≤ 1
+pub run-begins : (w : World) (t : Listing) (n : ℕ) → begun (turn_in w t n).changes ≤ 1
 run-begins w t n = ordered-once (turn_in w t n).changes (run-ordered w t n)

@@ -7,7 +7,7 @@ use Rattle.std.proofs.lemmas.Bool.{cases_eq}
 use Rattle.std.proofs.lemmas.Option.{slice_get_within, same_Some}
 use Rattle.jvm_model.specs.declared.event.EventKind.{EventKind}
 use Rattle.jvm_model.specs.declared.event.Mark.{Mark}
-use Rattle.jvm_model.specs.Basis.Data.{Text, World, Change, Loads, Began, Left, Unwound, State}
+use Rattle.jvm_model.specs.Basis.Data.{Listing, World, Change, Loads, Began, Left, Unwound, State}
 use Rattle.jvm_model.specs.Running.Run.{start, step, turn_in, turn_in-zero, turn_in-suc}
 use Rattle.jvm_model.specs.Running.Changes.{methods, without_first, after_change, after_changes}
 use Rattle.jvm_model.specs.Profiling.Activations.{Activation, Trace, no_trace, current, with_begin, ended_at, without_current, with_end, changed, all_changed, trace_in, trace_in-zero, trace_in-suc}
@@ -128,7 +128,7 @@ all_changed-keeps step t (c ∷ more) is = all_changed-keeps step (changed step 
 pub no_trace-is : IsTrace no_trace
 no_trace-is = tt
 
-pub trace_in-is : (w : World) (t : Text) (n : ℕ) → IsTrace (trace_in w t n)
+pub trace_in-is : (w : World) (t : Listing) (n : ℕ) → IsTrace (trace_in w t n)
 trace_in-is w t zero = subst IsTrace (sym (trace_in-zero w t)) (all_changed-keeps 0 no_trace (turn_in w t 0).changes no_trace-is)
 trace_in-is w t (suc n) = subst IsTrace (sym (trace_in-suc w t n)) (all_changed-keeps (suc n) (trace_in w t n) (turn_in w t (suc n)).changes (trace_in-is w t n))
 
@@ -188,12 +188,12 @@ all_changed-methods step t (c ∷ more) is =
     all_changed-methods step (changed step t c) more (changed-keeps step t c is) ∙ ap (λ ms. after_changes ms more) (changed-methods step t c is)
 
 -- That frames are changed as told, at the start and in each step over a text.
-pub record FramesFollow (w : World) (t : Text) : Type 0 where
+pub record FramesFollow (w : World) (t : Listing) : Type 0 where
   pub starts : methods (start w t).after.stack ≡ after_changes [] (start w t).changes
   pub steps : (s : State) → methods (step w t s).after.stack ≡ after_changes (methods s.stack) (step w t s).changes
 
 -- Then the live activations are the frames, one for one, each of its frame's method.
-pub live-follow : (w : World) (t : Text) → FramesFollow w t → (n : ℕ) → live_methods (trace_in w t n) ≡ methods (turn_in w t n).after.stack
+pub live-follow : (w : World) (t : Listing) → FramesFollow w t → (n : ℕ) → live_methods (trace_in w t n) ≡ methods (turn_in w t n).after.stack
 live-follow w t follow zero =
     ap live_methods (trace_in-zero w t)
     ∙ (all_changed-methods 0 no_trace (turn_in w t 0).changes no_trace-is

@@ -1,7 +1,7 @@
 -- Each frame is one live activation of its method; and the events of a step are told by the methods of its frames.
 use Rattle.std.proofs.Common.{◌≡◌, ℕ, suc, ◌+◌, sym, subst, add-one}
 use Rattle.jvm_model.specs.declared.event.Mark.{Mark}
-use Rattle.jvm_model.specs.Basis.Data.{Text, World}
+use Rattle.jvm_model.specs.Basis.Data.{Listing, World}
 use Rattle.jvm_model.specs.Running.Run.{turn_in, turn, run}
 use Rattle.jvm_model.specs.Codes.Originals.{original}
 use Rattle.jvm_model.specs.Running.Changes.{methods}
@@ -11,11 +11,11 @@ use Rattle.jvm_model.proofs.Events.Methods.{step-tells, start-tells}
 use Rattle.jvm_model.proofs.Events.Traces.{live_methods, FramesFollow, live-follow}
 use Rattle.jvm_model.proofs.Events.TracesEvents.{IsAlways, all_told_of, events-follow}
 
-pub frames-follow : (w : World) (t : Text) → FramesFollow w t
+pub frames-follow : (w : World) (t : Listing) → FramesFollow w t
 frames-follow w t = record { starts = start-tells w t; steps = step-tells w t }
 
 -- The live activations are the frames, one for one, each of its frame's method.
-pub live-frames : (w : World) (t : Text) (n : ℕ) → live_methods (trace_in w t n) ≡ methods (turn_in w t n).after.stack
+pub live-frames : (w : World) (t : Listing) (n : ℕ) → live_methods (trace_in w t n) ≡ methods (turn_in w t n).after.stack
 live-frames w t n = live-follow w t (frames-follow w t) n
 
 -- what a step tells, by the methods of the frames before it and by its changes

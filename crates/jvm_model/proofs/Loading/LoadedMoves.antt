@@ -8,7 +8,7 @@ use Rattle.heap_objects.specs.Heaps.{next_number}
 use Rattle.frame_stack.specs.Widths.{height_of}
 use Rattle.const_pool.specs.declared.class.ClassFile.{ClassFile}
 use Rattle.const_pool.specs.declared.class.Member.{Member}
-use Rattle.jvm_model.specs.Basis.Data.{Ending, Unverifiable, Program, Entry, Active, Initializing, Frame, Part, Constants, Superclass, Initializer, Finish, Phase, Fresh, Running, Ready, Erroneous, Shared, State, Began, Text, Turn, World}
+use Rattle.jvm_model.specs.Basis.Data.{Ending, Unverifiable, Program, Entry, Active, Initializing, Frame, Part, Constants, Superclass, Initializer, Finish, Phase, Fresh, Running, Ready, Erroneous, Shared, State, Began, Listing, Turn, World}
 use Rattle.jvm_model.specs.Running.Applies.{has_room, live_in, most_live, new_frame, still, with_frame}
 use Rattle.jvm_model.specs.Running.Constants.{FieldConstant, Number, Units, Setting, can_intern, constant_for, set, sets_constants, sets_field, sets_fields, then_sets}
 use Rattle.jvm_model.specs.Classes.Lookup.{is_below}
@@ -70,7 +70,7 @@ constants-loaded p class s = by (class_at p class) where
 
 -- ---- each move
 
-module _ (w : World) (t : Text) (s : State) where
+module _ (w : World) (t : Listing) (s : State) where
   -- what is loaded stays
   abbrev Keeps : State → Type 0
   Keeps x = x.shared.loaded ≡ s.shared.loaded
@@ -114,7 +114,7 @@ module _ (w : World) (t : Text) (s : State) where
     by true = refl
     by false = refl
 
-moves-keep : (w : World) (t : Text) (s : State) (ending : Option Ending) (thrown : Option ℕ) (stack : List Entry)
+moves-keep : (w : World) (t : Listing) (s : State) (ending : Option Ending) (thrown : Option ℕ) (stack : List Entry)
     → IfSome (moves w t s ending thrown stack) (λ next. next.after.shared.loaded ≡ s.shared.loaded)
 moves-keep w t s (Some e) thrown stack = tt
 moves-keep w t s None (Some r) [] = refl
@@ -131,7 +131,7 @@ next-keeps turn None loaded same kept = tt
 next-keeps turn (Some next) loaded same kept = kept ∙ same
 
 -- all moves
-pub settled-loaded : (w : World) (t : Text) (turn : Turn) → (settled w t turn).after.shared.loaded ≡ turn.after.shared.loaded
+pub settled-loaded : (w : World) (t : Listing) (turn : Turn) → (settled w t turn).after.shared.loaded ≡ turn.after.shared.loaded
 settled-loaded w t turn =
     settled-keeps w t (λ x. x.after.shared.loaded ≡ turn.after.shared.loaded)
     (λ x same. next-keeps x (move w t x.after) turn.after.shared.loaded same (moves-keep w t x.after x.after.ending x.after.thrown x.after.stack)) turn refl

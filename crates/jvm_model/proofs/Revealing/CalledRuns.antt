@@ -7,7 +7,7 @@ use Rattle.std.specs.List.{AllByRecursion}
 use Rattle.std.specs.Option.{IfSome, option_map_or}
 use Rattle.heap_objects.specs.declared.Value.TheVariants.{Ref}
 use Rattle.frame_stack.specs.Widths.{height_of}
-use Rattle.jvm_model.specs.Basis.Data.{Ending, MethodPlace, Program, Frame, Entry, Active, Initializing, Part, Constants, Superclass, Initializer, Finish, Phase, Fresh, Running, Ready, Erroneous, Shared, State, Locals, Operands, Change, Loads, Began, Left, Unwound, Turn, Instruction, Text, Operation, Outcome, Done, World}
+use Rattle.jvm_model.specs.Basis.Data.{Ending, MethodPlace, Program, Frame, Entry, Active, Initializing, Part, Constants, Superclass, Initializer, Finish, Phase, Fresh, Running, Ready, Erroneous, Shared, State, Locals, Operands, Change, Loads, Began, Left, Unwound, Turn, Instruction, Listing, Operation, Outcome, Done, World}
 use Rattle.jvm_model.specs.Basis.Data as operation
 use Rattle.jvm_model.specs.Running.Applies.{still, with_frame, breaks, goes, new_frame, has_room, live_in, most_live, applies}
 use Rattle.jvm_model.specs.Running.Changes.{methods, without_first, after_changes, EndThenBegin, AreOrdered}
@@ -21,7 +21,7 @@ use Rattle.jvm_model.specs.Basis.Programs.{initializer_of, place_of_method, supe
 use Rattle.jvm_model.specs.Running.Run.{arguments_made, attempt, before, is_quiet, loaded_turn, loads_if, main_class, main_classes, main_loading, main_loads, opened, run, start, starts, starts_if, starts_unless, starts_with, step, steps_at, steps_by, steps_on, turn, turn_in-zero, turn_in-suc, with_loaded}
 use Rattle.jvm_model.specs.Basis.SharedState.{arguments_fit, class_of, null, phase_of}
 use Rattle.jvm_model.specs.Soundness.Sound.{CanAttempt, HasClass, HasSupertypes, IsFit, IsLoaded, IsSoundOutcome}
-use Rattle.jvm_model.specs.Soundness.SoundTexts.{IsSound, IsSoundEntry, RunsOriginal}
+use Rattle.jvm_model.specs.Soundness.SoundListings.{IsSound, IsSoundEntry, RunsOriginal}
 use Rattle.jvm_model.proofs.Running.Attempts.{again-by, loaded-after, with_loaded-shared}
 use Rattle.jvm_model.proofs.Events.Order.{run-ordered, started-begins}
 use Rattle.jvm_model.proofs.Running.Settles.{settled-keeps}
@@ -30,8 +30,8 @@ use Rattle.jvm_model.proofs.Soundness.SoundClasses.{among-front, supertypes-load
 use Rattle.jvm_model.proofs.Soundness.SoundLines.{can-attempt}
 use Rattle.jvm_model.proofs.Soundness.SoundObjects.{KeepsShared}
 use Rattle.jvm_model.proofs.Soundness.SoundRuns.{loads-again, with-loaded-is}
-use Rattle.jvm_model.proofs.Soundness.SoundTextRuns.{original-sound, at-goes, sound-loaded, sound-start, sound-step}
-use Rattle.jvm_model.proofs.Soundness.SoundTextSteps.{GoesTo, applied-goes, entry-grows, moves-go}
+use Rattle.jvm_model.proofs.Soundness.SoundListingRuns.{original-sound, at-goes, sound-loaded, sound-start, sound-step}
+use Rattle.jvm_model.proofs.Soundness.SoundListingSteps.{GoesTo, applied-goes, entry-grows, moves-go}
 use Rattle.jvm_model.proofs.Revealing.Callees.{does-due, initializer-place}
 use Rattle.jvm_model.proofs.Loading.LoadedMoves.{made-loaded, settled-loaded}
 use Rattle.jvm_model.proofs.Revealing.Growing.{targets-grow}
@@ -53,7 +53,7 @@ module _ (w : World) (fit : IsFit w.program) (bare : HasBareObject w.program) (c
   abbrev p : Program
   p = w.program
 
-  abbrev t : Text
+  abbrev t : Listing
   t = original w.program
 
   -- ---- an attempt

@@ -6,7 +6,7 @@ use Rattle.std.specs.Option.{IfSome, option_map}
 use Rattle.heap_objects.specs.declared.datum.Datum.{Datum}
 use Rattle.heap_objects.specs.declared.Value.TheVariants.{Ref, Addr}
 use Rattle.frame_stack.specs.Widths.{height_of}
-use Rattle.jvm_model.specs.Basis.Data.{Ending, Program, Frame, Entry, Active, Initializing, Part, Constants, Superclass, Initializer, Finish, Phase, Fresh, Running, Ready, Erroneous, State, Locals, Operands, Change, Loads, Began, Left, Unwound, Turn, Instruction, Text, Operation, Outcome, GoesOn, Subroutine, Invokes, Returns, Throws, Raises, Initializes, Exits, Breaks, World}
+use Rattle.jvm_model.specs.Basis.Data.{Ending, Program, Frame, Entry, Active, Initializing, Part, Constants, Superclass, Initializer, Finish, Phase, Fresh, Running, Ready, Erroneous, State, Locals, Operands, Change, Loads, Began, Left, Unwound, Turn, Instruction, Listing, Operation, Outcome, GoesOn, Subroutine, Invokes, Returns, Throws, Raises, Initializes, Exits, Breaks, World}
 use Rattle.jvm_model.specs.Running.Applies.{still, with_frame, breaks, goes, new_frame, place_of, enters_subroutine, has_room, live_in, most_live, begins, begins_beside, resumes, gives_back, applies}
 use Rattle.jvm_model.specs.Running.Changes.{methods, without_first, after_changes}
 use Rattle.jvm_model.specs.Classes.Load.{is_among}
@@ -15,7 +15,7 @@ use Rattle.jvm_model.specs.Codes.Originals.{original}
 use Rattle.jvm_model.specs.Basis.Programs.{initializer_of, place_of_method, super_of}
 use Rattle.jvm_model.specs.Basis.SharedState.{class_of, phase_of}
 use Rattle.jvm_model.specs.Soundness.Sound.{IsLoaded}
-use Rattle.jvm_model.specs.Soundness.SoundTexts.{IsSoundEntry, RunsOriginal}
+use Rattle.jvm_model.specs.Soundness.SoundListings.{IsSoundEntry, RunsOriginal}
 use Rattle.jvm_model.specs.Basis.Values.{as_value, with_value}
 use Rattle.jvm_model.proofs.Revealing.Callees.{among-first, among-second, due-above, initializer-place}
 use Rattle.jvm_model.proofs.Events.Methods.{Tells, applies-tells, moves-tell, then-tells}
@@ -111,7 +111,7 @@ module _ (w : World) (code : ℕ → List Operation) where
   abbrev p : Program
   p = w.program
 
-  abbrev t : Text
+  abbrev t : Listing
   t = original w.program
 
   -- the initialization of a class is due on the current one of these methods

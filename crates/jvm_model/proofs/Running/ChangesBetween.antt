@@ -8,7 +8,7 @@ use Rattle.jvm_model.specs.declared.event.EventKind.{EventKind}
 use Rattle.jvm_model.specs.declared.event.EventKind.TheVariants as kind
 use Rattle.jvm_model.specs.declared.event.Mark.{Mark}
 use Rattle.jvm_model.specs.declared.event.Mark.TheVariants.{Off, Plain, Root}
-use Rattle.jvm_model.specs.Basis.Data.{Locals, Operands, Change, Loads, Began, Left, Unwound, Turn, Instruction, Text, World, Outcome, GoesOn, Subroutine, Invokes, Returns, Throws, Raises, Initializes, Exits, Breaks}
+use Rattle.jvm_model.specs.Basis.Data.{Locals, Operands, Change, Loads, Began, Left, Unwound, Turn, Instruction, Listing, World, Outcome, GoesOn, Subroutine, Invokes, Returns, Throws, Raises, Initializes, Exits, Breaks}
 use Rattle.jvm_model.specs.declared.due.Due.TheVariants.{Ends, Begins}
 use Rattle.jvm_model.specs.declared.state.Entry.{Entry}
 use Rattle.jvm_model.specs.declared.state.Entry.TheVariants.{Active, Initializing}
@@ -56,7 +56,7 @@ resumes-live : (s : State) (f : Frame) (d : Option Datum) (i : Option Instructio
 resumes-live s f d None = refl
 resumes-live s f d (Some i) = goes-live s f i.own f.locals _ i.next
 
-back-live : (t : Text) (s : State) (d : Option Datum) (stack : List Entry) → s.stack ≡ stack → live_in (gives_back t s d stack).stack ≡ live_in stack
+back-live : (t : Listing) (s : State) (d : Option Datum) (stack : List Entry) → s.stack ≡ stack → live_in (gives_back t s d stack).stack ≡ live_in stack
 back-live t s d [] e = ap live_in e
 back-live t s d (Initializing c part ∷ below) e = ap live_in e
 back-live t s d (Active caller ∷ below) e = resumes-live (record s { stack = below }) caller d (t.at caller.version caller.place)
@@ -69,7 +69,7 @@ Tells n a = a.changes ≡ changes_between n a.after.stack
 stays : (n : ℕ) (x : State) → live_in x.stack ≡ n → Tells n (still x)
 stays n x e = sym (same-live n x.stack e)
 
-pub applies-tell : (w : World) (t : Text) (i : Instruction) (q : Outcome) (s : State) (f : Frame)
+pub applies-tell : (w : World) (t : Listing) (i : Instruction) (q : Outcome) (s : State) (f : Frame)
     → (applies w t i q s f).changes ≡ changes_between (suc (live_in s.stack)) (applies w t i q s f).after.stack
 applies-tell w t i (GoesOn l o to) s f = stays (suc (live_in s.stack)) (goes s f i.own l o (place_of i to)) (goes-live s f i.own l o (place_of i to))
 applies-tell w t i Subroutine s f = stays (suc (live_in s.stack)) (enters_subroutine s f i i.next) (enters-live s f i i.next)
@@ -92,7 +92,7 @@ applies-tell w t i (Breaks false) s f = stays (suc (live_in s.stack)) (breaks s 
 
 -- ---- the pause behind it does not ask who was live
 
-module _ (w : World) (t : Text) (v : ℕ → Mark) (n : ℕ) where
+module _ (w : World) (t : Listing) (v : ℕ → Mark) (n : ℕ) where
   behind-end : (k : EventKind) (live : List Held) (b l : Pause) → pause_behind (end_due k live) b l ≡ l
   behind-end k [] b l = refl
   behind-end k (h ∷ more) b l = by h.mark where

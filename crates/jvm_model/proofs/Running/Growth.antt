@@ -7,7 +7,7 @@ use Rattle.std.proofs.lemmas.Option.{IfSome_then}
 use Rattle.std.proofs.lemmas.Bool.{both_ways, cases_lt, false_from_ne_true}
 use Rattle.std.proofs.lemmas.List.{append-nil, take_at}
 use Rattle.heap_objects.specs.declared.Value.TheVariants.{Ref, Addr}
-use Rattle.jvm_model.specs.Basis.Data.{Datum, Locals, Operands, Frame, Entry, Active, Initializing, Constants, Superclass, Initializer, Finish, Phase, Fresh, Erroneous, Ending, State, Turn, Instruction, Text, Outcome, GoesOn, Subroutine, Invokes, Returns, Throws, Raises, Initializes, Exits, Breaks, Done, World}
+use Rattle.jvm_model.specs.Basis.Data.{Datum, Locals, Operands, Frame, Entry, Active, Initializing, Constants, Superclass, Initializer, Finish, Phase, Fresh, Erroneous, Ending, State, Turn, Instruction, Listing, Outcome, GoesOn, Subroutine, Invokes, Returns, Throws, Raises, Initializes, Exits, Breaks, Done, World}
 use Rattle.frame_stack.specs.Widths.{height_of}
 use Rattle.jvm_model.specs.Basis.Values.{as_value, with_value}
 use Rattle.jvm_model.specs.Basis.Programs.{super_of, initializer_of}
@@ -57,16 +57,16 @@ resumes-keeps : (s : State) (f : Frame) (d : Option Datum) (found : Option Instr
 resumes-keeps s f d None = refl
 resumes-keeps s f d (Some i) = goes-keeps s f i.own f.locals (with_value (option_map as_value d) f.operands) i.next
 
-gives_back-keeps : (t : Text) (s : State) (d : Option Datum) (stack : List Entry) → (gives_back t s d stack).output ≡ s.output
+gives_back-keeps : (t : Listing) (s : State) (d : Option Datum) (stack : List Entry) → (gives_back t s d stack).output ≡ s.output
 gives_back-keeps t s d [] = refl
 gives_back-keeps t s d (Initializing c part ∷ below) = refl
 gives_back-keeps t s d (Active f ∷ below) = resumes-keeps (record s { stack = below }) f d (t.at f.version f.place)
 
-beside-keeps : (w : World) (t : Text) (s : State) (f : Frame) (m : ℕ) (args : List Datum) (below : Operands) (live : ℕ)
+beside-keeps : (w : World) (t : Listing) (s : State) (f : Frame) (m : ℕ) (args : List Datum) (below : Operands) (live : ℕ)
     → (begins_beside w t s f m args below live).after.output ≡ s.output
 beside-keeps w t s f m args below live = chosen_turn-keeps s.output (nat_lt live most_live) _ _ refl refl
 
-pub applies-keeps : (w : World) (t : Text) (i : Instruction) (outcome : Outcome) (s : State) (f : Frame) → (applies w t i outcome s f).after.output ≡ s.output
+pub applies-keeps : (w : World) (t : Listing) (i : Instruction) (outcome : Outcome) (s : State) (f : Frame) → (applies w t i outcome s f).after.output ≡ s.output
 applies-keeps w t i (GoesOn l o to) s f = goes-keeps s f i.own l o (place_of i to)
 applies-keeps w t i Subroutine s f = enters-keeps s f i i.next
 applies-keeps w t i (Invokes m args below) s f = chosen_turn-keeps s.output (has_room w m args) _ _ (beside-keeps w t s f m args below (suc (live_in s.stack))) refl
@@ -80,7 +80,7 @@ applies-keeps w t i (Breaks false) s f = refl
 
 -- ---- moves leave the output
 
-caught-keeps : (w : World) (t : Text) (s : State) (r : ℕ) (f : Frame) (h : Option ℕ) → (caught w t s r f h).after.output ≡ s.output
+caught-keeps : (w : World) (t : Listing) (s : State) (r : ℕ) (f : Frame) (h : Option ℕ) → (caught w t s r f h).after.output ≡ s.output
 caught-keeps w t s r f None = refl
 caught-keeps w t s r f (Some target) = goes-keeps (record s { thrown = None }) f (own_at t f) f.locals (Ref r ∷ []) (Some target)
 
@@ -93,15 +93,15 @@ with_super-keeps : (w : World) (s : State) (c : ℕ) (d : Option ℕ) → (with_
 with_super-keeps w s c None = refl
 with_super-keeps w s c (Some d) = super-keeps w s c d (phase_of s.shared d)
 
-runs-keeps : (w : World) (t : Text) (s : State) (c : ℕ) (m : Option ℕ) → (runs_initializer w t s c m).after.output ≡ s.output
+runs-keeps : (w : World) (t : Listing) (s : State) (c : ℕ) (m : Option ℕ) → (runs_initializer w t s c m).after.output ≡ s.output
 runs-keeps w t s c None = refl
 runs-keeps w t s c (Some m) = chosen_turn-keeps s.output (nat_lt (live_in s.stack) most_live) _ _ refl refl
 
-main-keeps : (w : World) (t : Text) (s : State) (begun : Bool) → (main_or_end w t s begun).after.output ≡ s.output
+main-keeps : (w : World) (t : Listing) (s : State) (begun : Bool) → (main_or_end w t s begun).after.output ≡ s.output
 main-keeps w t s true = refl
 main-keeps w t s false = chosen_turn-keeps s.output (has_room w w.program.main argument_array) _ _ refl refl
 
-moves-keep : (w : World) (t : Text) (s : State) (ending : Option Ending) (thrown : Option ℕ) (stack : List Entry) → IfSome (moves w t s ending thrown stack) (λ next. next.after.output ≡ s.output)
+moves-keep : (w : World) (t : Listing) (s : State) (ending : Option Ending) (thrown : Option ℕ) (stack : List Entry) → IfSome (moves w t s ending thrown stack) (λ next. next.after.output ≡ s.output)
 moves-keep w t s (Some e) thrown stack = tt
 moves-keep w t s None (Some r) [] = refl
 moves-keep w t s None (Some r) (Active f ∷ below) = caught-keeps w t (record s { stack = below }) r f (handler_for w (class_of w.program s.shared r) f.place (t.handlers f.version))
@@ -113,27 +113,27 @@ moves-keep w t s None None (Initializing c Superclass ∷ below) = with_super-ke
 moves-keep w t s None None (Initializing c Initializer ∷ below) = runs-keeps w t (record s { stack = below }) c (initializer_of w.program c)
 moves-keep w t s None None (Initializing c Finish ∷ below) = refl
 
-pub settled-output : (w : World) (t : Text) (kept : List ℕ) (a : Turn) → a.after.output ≡ kept → (settled w t a).after.output ≡ kept
+pub settled-output : (w : World) (t : Listing) (kept : List ℕ) (a : Turn) → a.after.output ≡ kept → (settled w t a).after.output ≡ kept
 settled-output w t kept a e = settled-keeps w t (λ b. b.after.output ≡ kept)
     (λ b p. IfSome_then (move w t b.after) {P = λ next. next.after.output ≡ b.after.output} {Q = λ next. next.after.output ≡ kept}
     (moves-keep w t b.after b.after.ending b.after.thrown b.after.stack) (λ next q. q ∙ p)) a e
 
 -- ---- a step
 
-attempt-grows : (w : World) (t : Text) (i : Instruction) (s : State) (f : Frame) → Extends s.output (attempt w t i s f).after.output
+attempt-grows : (w : World) (t : Listing) (i : Instruction) (s : State) (f : Frame) → Extends s.output (attempt w t i s f).after.output
 attempt-grows w t i s f =
     let d : Done = does w i.operation s.shared f.locals f.operands in
     let after : State = record s { shared = d.shared; output = s.output ++ d.wrote } in
     record { more = d.wrote; longer = settled-output w t after.output (applies w t i d.outcome after f) (applies-keeps w t i d.outcome after f) }
 
-by-grows : (w : World) (t : Text) (i : Instruction) (s : State) (f : Frame) → Extends s.output (steps_by w t i s f (does w i.operation s.shared f.locals f.operands)).after.output
+by-grows : (w : World) (t : Listing) (i : Instruction) (s : State) (f : Frame) → Extends s.output (steps_by w t i s f (does w i.operation s.shared f.locals f.operands)).after.output
 by-grows w t i s f =
     let a = attempt w t i s f in
     let first = attempt-grows w t i s f in
     again-by (λ b. Extends s.output b.after.output) w t i s f (starts (does w i.operation s.shared f.locals f.operands).outcome) a first
     (λ quiet on. Extends-trans first (attempt-grows w t i (record a.after { stack = s.stack }) f))
 
-at-grows : (w : World) (t : Text) (s : State) (f : Frame) (found : Option Instruction) → Extends s.output (steps_at w t s f found).after.output
+at-grows : (w : World) (t : Listing) (s : State) (f : Frame) (found : Option Instruction) → Extends s.output (steps_at w t s f found).after.output
 at-grows w t s f None = Extends-same s.output
 at-grows w t s f (Some i) =
     let classes = loads w i.operation s.shared f.operands in
@@ -142,11 +142,11 @@ at-grows w t s f (Some i) =
     let same : ready.output ≡ s.output = ap (λ (x : State). x.output) (with_loaded-shared classes s) in
     subst (λ (x : State). Extends s.output x.output) (sym (loaded-after classes turn)) (subst (λ old. Extends old turn.after.output) same (by-grows w t i ready f))
 
-on-grows : (w : World) (t : Text) (s : State) (ending : Option Ending) (stack : List Entry) → Extends s.output (steps_on w t s ending stack).after.output
+on-grows : (w : World) (t : Listing) (s : State) (ending : Option Ending) (stack : List Entry) → Extends s.output (steps_on w t s ending stack).after.output
 on-grows w t s None (Active f ∷ below) = at-grows w t (record s { stack = below }) f (t.at f.version f.place)
 on-grows w t s _ _ = Extends-same s.output
 
-pub step-grows : (w : World) (t : Text) (s : State) → Extends s.output (step w t s).after.output
+pub step-grows : (w : World) (t : Listing) (s : State) → Extends s.output (step w t s).after.output
 step-grows w t s = on-grows w t s s.ending s.stack
 
 -- ---- the run
@@ -160,37 +160,37 @@ from_on P n here more (suc m) le = elim (cases_lt m n) as (λ _. P (suc m)) [
 ]
 
 -- what is written stays, and more comes behind it
-pub run-grows : (w : World) (t : Text) (m n : ℕ) → m ≤ n → Extends (turn_in w t m).after.output (turn_in w t n).after.output
+pub run-grows : (w : World) (t : Listing) (m n : ℕ) → m ≤ n → Extends (turn_in w t m).after.output (turn_in w t n).after.output
 run-grows w t m n le = from_on (λ k. Extends (turn_in w t m).after.output (turn_in w t k).after.output) m (Extends-same (turn_in w t m).after.output)
     (λ k so_far. subst (λ (x : Turn). Extends (turn_in w t m).after.output x.after.output) (sym (turn_in-suc w t k))
     (Extends-trans so_far (step-grows w t (turn_in w t k).after))) n le
 
 -- what was written first stays in front
-pub output-is-front : (w : World) (t : Text) (m n : ℕ) → m ≤ n → take (length (turn_in w t m).after.output) (turn_in w t n).after.output ≡ (turn_in w t m).after.output
+pub output-is-front : (w : World) (t : Listing) (m n : ℕ) → m ≤ n → take (length (turn_in w t m).after.output) (turn_in w t n).after.output ≡ (turn_in w t m).after.output
 output-is-front w t m n le =
     let grown = run-grows w t m n le in
     ap (take (length (turn_in w t m).after.output)) grown.longer ∙ take_at (turn_in w t m).after.output grown.more (length (turn_in w t m).after.output) refl
 
 -- ---- the end
 
-on-ended : (w : World) (t : Text) (s : State) (ending : Option Ending) → is_some ending ≡ true → steps_on w t s ending s.stack ≡ still s
+on-ended : (w : World) (t : Listing) (s : State) (ending : Option Ending) → is_some ending ≡ true → steps_on w t s ending s.stack ≡ still s
 on-ended w t s (Some e) ended = refl
 on-ended w t s None ended = absurd (let f : false ≡ true = ended in cc)
 
 -- a step of a run that has ended does nothing
-pub step-ended : (w : World) (t : Text) (s : State) → is_some s.ending ≡ true → step w t s ≡ still s
+pub step-ended : (w : World) (t : Listing) (s : State) → is_some s.ending ≡ true → step w t s ≡ still s
 step-ended w t s ended = on-ended w t s s.ending ended
 
-pub run-stays : (w : World) (t : Text) (m n : ℕ) → m ≤ n → is_some (turn_in w t m).after.ending ≡ true → (turn_in w t n).after ≡ (turn_in w t m).after
+pub run-stays : (w : World) (t : Listing) (m n : ℕ) → m ≤ n → is_some (turn_in w t m).after.ending ≡ true → (turn_in w t n).after ≡ (turn_in w t m).after
 run-stays w t m n le ended = from_on (λ k. (turn_in w t k).after ≡ (turn_in w t m).after) m refl
     (λ k so_far. ap (λ (x : Turn). x.after) (turn_in-suc w t k) ∙ (ap (λ s. (step w t s).after) so_far ∙ ap (λ (x : Turn). x.after) (step-ended w t (turn_in w t m).after ended))) n le
 
 -- and tells of no change
-pub run-quiet : (w : World) (t : Text) (m n : ℕ) → m ≤ n → is_some (turn_in w t m).after.ending ≡ true → (turn_in w t (suc n)).changes ≡ []
+pub run-quiet : (w : World) (t : Listing) (m n : ℕ) → m ≤ n → is_some (turn_in w t m).after.ending ≡ true → (turn_in w t (suc n)).changes ≡ []
 run-quiet w t m n le ended =
     ap (λ (x : Turn). x.changes) (turn_in-suc w t n)
     ∙ (ap (λ s. (step w t s).changes) (run-stays w t m n le ended) ∙ ap (λ (x : Turn). x.changes) (step-ended w t (turn_in w t m).after ended))
 
-pub ending-earlier : (w : World) (t : Text) (m n : ℕ) → m ≤ n → is_some (turn_in w t n).after.ending ≡ false → is_some (turn_in w t m).after.ending ≡ false
+pub ending-earlier : (w : World) (t : Listing) (m n : ℕ) → m ≤ n → is_some (turn_in w t n).after.ending ≡ false → is_some (turn_in w t m).after.ending ≡ false
 ending-earlier w t m n le on = false_from_ne_true (is_some (turn_in w t m).after.ending)
     (λ ended. both_ways (is_some (turn_in w t n).after.ending) on (ap (λ (s : State). is_some s.ending) (run-stays w t m n le ended) ∙ ended))

@@ -4,27 +4,27 @@ use Rattle.std.specs.Prelude.{is_none, ◌&&◌}
 use Rattle.std.specs.Option.{option_map_or}
 use Rattle.std.proofs.lemmas.List.{append-nil}
 use Rattle.const_pool.specs.declared.class.ClassFile.{ClassFile}
-use Rattle.jvm_model.specs.Basis.Data.{Entry, Active, Initializing, Ending, Returned, State, Change, Turn, Text, World}
+use Rattle.jvm_model.specs.Basis.Data.{Entry, Active, Initializing, Ending, Returned, State, Change, Turn, Listing, World}
 use Rattle.jvm_model.specs.Rewriting.Attempts.{is_empty, closed}
 use Rattle.jvm_model.specs.Running.Moves.{main_or_end, moves, move, fresh, left, then_turn, settles, settled}
 use Rattle.jvm_model.specs.Running.Applies.{still}
 use Rattle.jvm_model.specs.Small.Quiet.{AreCoded, IsQuiet}
 
-pub stops : (w : World) (t : Text) (n : ℕ) (a : Turn) → move w t a.after ≡ None → settles w t n a ≡ a
+pub stops : (w : World) (t : Listing) (n : ℕ) (a : Turn) → move w t a.after ≡ None → settles w t n a ≡ a
 stops w t zero a none = refl
 stops w t (suc n) a none = ap (λ o. option_map_or (λ next. settles w t n (then_turn a next)) o a) none
 
-pub one-move : (w : World) (t : Text) (n : ℕ) (a next : Turn) → move w t a.after ≡ Some next → settles w t (suc n) a ≡ settles w t n (then_turn a next)
+pub one-move : (w : World) (t : Listing) (n : ℕ) (a next : Turn) → move w t a.after ≡ Some next → settles w t (suc n) a ≡ settles w t n (then_turn a next)
 one-move w t n a next some = ap (λ o. option_map_or (λ x. settles w t n (then_turn a x)) o a) some
 
 -- with nothing thrown
-abbrev unthrown : (w : World) (t : Text) (s : State) → s.thrown ≡ None → move w t s ≡ moves w t s s.ending None s.stack
+abbrev unthrown : (w : World) (t : Listing) (s : State) → s.thrown ≡ None → move w t s ≡ moves w t s s.ending None s.stack
 unthrown w t s thrown = ap (λ r. moves w t s s.ending r s.stack) thrown
 
 abbrev with_state : Turn → State → Turn
 with_state a s = record a { after = s }
 
-by-parts : (c : ClassFile) (w : World) (t : Text) (a : Turn) (ending : Option Ending) (stack : List Entry) → IsQuiet c w.program a.after → a.after.ending ≡ ending → a.after.stack ≡ stack → settled w t a ≡ closed a
+by-parts : (c : ClassFile) (w : World) (t : Listing) (a : Turn) (ending : Option Ending) (stack : List Entry) → IsQuiet c w.program a.after → a.after.ending ≡ ending → a.after.stack ≡ stack → settled w t a ≡ closed a
 by-parts c w t a (Some e) stack quiet ended is =
     stops w t (left a.after) a (unthrown w t a.after quiet.thrown ∙ ap (λ x. moves w t a.after x None a.after.stack) ended)
     ∙ sym (ap (with_state a) (ap (λ x. cond (is_empty a.after.stack && is_none x) (record a.after { ending = Some Returned }) a.after) ended ∙ no-end (is_empty a.after.stack)))
@@ -52,5 +52,5 @@ by-parts c w t a None [] quiet ended is =
     begun-moves s begun = ap (λ b. Some (main_or_end w t s b)) begun
 
 -- the normal form of a quiet state
-pub settled-quiet : (c : ClassFile) (w : World) (t : Text) (a : Turn) → IsQuiet c w.program a.after → settled w t a ≡ closed a
+pub settled-quiet : (c : ClassFile) (w : World) (t : Listing) (a : Turn) → IsQuiet c w.program a.after → settled w t a ≡ closed a
 settled-quiet c w t a quiet = by-parts c w t a a.after.ending a.after.stack quiet refl refl

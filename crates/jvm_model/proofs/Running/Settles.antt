@@ -3,7 +3,7 @@ use Rattle.std.proofs.Common.{◌≡◌, ℕ, zero, suc, ◌+◌, ◌*◌, ◌<�
 use Rattle.std.specs.Option.{IfSome, option_map_or}
 use Rattle.heap_objects.specs.declared.datum.Datum.TheVariants as datum
 use Rattle.heap_objects.specs.declared.Value.TheVariants.{Ref}
-use Rattle.jvm_model.specs.Basis.Data.{Datum, Locals, Operands, Frame, Entry, Active, Initializing, Part, Constants, Superclass, Initializer, Finish, Phase, Fresh, Running, Ready, Erroneous, Program, Shared, Ending, State, Turn, Text, World}
+use Rattle.jvm_model.specs.Basis.Data.{Datum, Locals, Operands, Frame, Entry, Active, Initializing, Part, Constants, Superclass, Initializer, Finish, Phase, Fresh, Running, Ready, Erroneous, Program, Shared, Ending, State, Turn, Listing, World}
 use Rattle.frame_stack.specs.Widths.{height_of}
 use Rattle.const_pool.specs.declared.class.ClassFile.{ClassFile}
 use Rattle.const_pool.specs.declared.class.Member.{Member}
@@ -115,7 +115,7 @@ goes-left s f own l o place = by (nat_le (height_of o) f.max_stack) where
   by true = omega arith
   by false = omega arith
 
-caught-less : (w : World) (t : Text) (below : List Entry) (r : ℕ) (begun : Bool) (output : List ℕ) (shared : Shared) (f : Frame) (h : Option ℕ)
+caught-less : (w : World) (t : Listing) (below : List Entry) (r : ℕ) (begun : Bool) (output : List ℕ) (shared : Shared) (f : Frame) (h : Option ℕ)
     → left (caught w t (state below (Some r) begun output shared None) r f h).after < left (state (Active f ∷ below) (Some r) begun output shared None)
 caught-less w t below r begun output shared f None = omega arith
 caught-less w t below r begun output shared f (Some target) =
@@ -146,7 +146,7 @@ with_super-less : (w : World) (stack : List Entry) (begun : Bool) (output : List
 with_super-less w stack begun output shared c None = omega arith
 with_super-less w stack begun output shared c (Some d) = after_super-less w stack begun output shared c d (phase_of shared d) refl
 
-runs-less : (w : World) (t : Text) (stack : List Entry) (begun : Bool) (output : List ℕ) (shared : Shared) (c : ℕ) (m : Option ℕ)
+runs-less : (w : World) (t : Listing) (stack : List Entry) (begun : Bool) (output : List ℕ) (shared : Shared) (c : ℕ) (m : Option ℕ)
     → left (runs_initializer w t (state stack None begun output shared None) c m).after < left (state (Initializing c Initializer ∷ stack) None begun output shared None)
 runs-less w t stack begun output shared c None = omega arith
 runs-less w t stack begun output shared c (Some m) =
@@ -160,7 +160,7 @@ constants-less : (stack : List Entry) (begun : Bool) (output : List ℕ) (shared
 constants-less stack begun output shared c None after same = let h : fresh after.phases ≡ fresh shared.phases = ap fresh same in omega arith
 constants-less stack begun output shared c (Some r) after same = let h : fresh after.phases ≡ fresh shared.phases = ap fresh same in omega arith
 
-initializes-less : (w : World) (t : Text) (stack : List Entry) (begun : Bool) (output : List ℕ) (shared : Shared) (c : ℕ) (part : Part)
+initializes-less : (w : World) (t : Listing) (stack : List Entry) (begun : Bool) (output : List ℕ) (shared : Shared) (c : ℕ) (part : Part)
     → left (initializes w t (state stack None begun output shared None) c part).after < left (state (Initializing c part ∷ stack) None begun output shared None)
 initializes-less w t stack begun output shared c Constants =
     let setting : Setting = sets_constants w.program c shared in
@@ -169,11 +169,11 @@ initializes-less w t stack begun output shared c Superclass = with_super-less w 
 initializes-less w t stack begun output shared c Initializer = runs-less w t stack begun output shared c (initializer_of w.program c)
 initializes-less w t stack begun output shared c Finish = let h = started-fewer shared.phases c Ready ready in omega arith
 
-main-less : (w : World) (t : Text) (begun : Bool) (output : List ℕ) (shared : Shared) → left (main_or_end w t (state [] None begun output shared None) begun).after < left (state [] None begun output shared None)
+main-less : (w : World) (t : Listing) (begun : Bool) (output : List ℕ) (shared : Shared) → left (main_or_end w t (state [] None begun output shared None) begun).after < left (state [] None begun output shared None)
 main-less w t true output shared = omega arith
 main-less w t false output shared = chosen-less (left (state [] None false output shared None)) (has_room w w.program.main (argument_array)) _ _ (omega arith) (omega arith)
 
-moves-less : (w : World) (t : Text) (stack : List Entry) (thrown : Option ℕ) (begun : Bool) (output : List ℕ) (shared : Shared) (ending : Option Ending)
+moves-less : (w : World) (t : Listing) (stack : List Entry) (thrown : Option ℕ) (begun : Bool) (output : List ℕ) (shared : Shared) (ending : Option Ending)
     → IfSome (moves w t (state stack thrown begun output shared ending) ending thrown stack) (λ next. left next.after < left (state stack thrown begun output shared ending))
 moves-less w t stack thrown begun output shared (Some e) = tt
 moves-less w t [] (Some r) begun output shared None = omega arith
@@ -186,41 +186,41 @@ moves-less w t [] None begun output shared None = main-less w t begun output sha
 moves-less w t (Active f ∷ below) None begun output shared None = tt
 moves-less w t (Initializing c part ∷ below) None begun output shared None = initializes-less w t below begun output shared c part
 
-pub move-less : (w : World) (t : Text) (s : State) → IfSome (move w t s) (λ next. left next.after < left s)
+pub move-less : (w : World) (t : Listing) (s : State) → IfSome (move w t s) (λ next. left next.after < left s)
 move-less w t s = moves-less w t s.stack s.thrown s.begun s.output s.shared s.ending
 
 -- ---- the end of the moves
 
-none-left : (w : World) (t : Text) (s : State) (o : Option Turn) → IfSome o (λ next. left next.after < left s) → left s ≤ 0 → o ≡ None
+none-left : (w : World) (t : Listing) (s : State) (o : Option Turn) → IfSome o (λ next. left next.after < left s) → left s ≤ 0 → o ≡ None
 none-left w t s None less le = refl
 none-left w t s (Some next) less le = absurd (omega arith)
 
-stops-by : (w : World) (t : Text) (n : ℕ) → ((turn : Turn) → left turn.after ≤ n → move w t (settles w t n turn).after ≡ None)
+stops-by : (w : World) (t : Listing) (n : ℕ) → ((turn : Turn) → left turn.after ≤ n → move w t (settles w t n turn).after ≡ None)
     → (turn : Turn) (o : Option Turn) → move w t turn.after ≡ o → IfSome o (λ next. left next.after < left turn.after) → left turn.after ≤ suc n
     → move w t (option_map_or (λ next. settles w t n (then_turn turn next)) o turn).after ≡ None
 stops-by w t n before turn None e less le = e
 stops-by w t n before turn (Some next) e less le = before (then_turn turn next) (omega arith)
 
-settles-stops : (w : World) (t : Text) (n : ℕ) (turn : Turn) → left turn.after ≤ n → move w t (settles w t n turn).after ≡ None
+settles-stops : (w : World) (t : Listing) (n : ℕ) (turn : Turn) → left turn.after ≤ n → move w t (settles w t n turn).after ≡ None
 settles-stops w t zero turn le = none-left w t turn.after (move w t turn.after) (move-less w t turn.after) le
 settles-stops w t (suc n) turn le = stops-by w t n (settles-stops w t n) turn (move w t turn.after) refl (move-less w t turn.after) le
 
 -- no move applies to a settled state
-pub settled-stops : (w : World) (t : Text) (turn : Turn) → move w t (settled w t turn).after ≡ None
+pub settled-stops : (w : World) (t : Listing) (turn : Turn) → move w t (settled w t turn).after ≡ None
 settled-stops w t turn = settles-stops w t (left turn.after) turn (omega arith)
 
 -- ---- what each move keeps
 
-keeps-by : (w : World) (t : Text) (P : Turn → Type 0) (n : ℕ) → ((turn : Turn) → P turn → P (settles w t n turn))
+keeps-by : (w : World) (t : Listing) (P : Turn → Type 0) (n : ℕ) → ((turn : Turn) → P turn → P (settles w t n turn))
     → (turn : Turn) (o : Option Turn) → P turn → IfSome o (λ next. P (then_turn turn next)) → P (option_map_or (λ next. settles w t n (then_turn turn next)) o turn)
 keeps-by w t P n before turn None p q = p
 keeps-by w t P n before turn (Some next) p q = before (then_turn turn next) q
 
-settles-keeps : (w : World) (t : Text) (P : Turn → Type 0) → ((turn : Turn) → P turn → IfSome (move w t turn.after) (λ next. P (then_turn turn next)))
+settles-keeps : (w : World) (t : Listing) (P : Turn → Type 0) → ((turn : Turn) → P turn → IfSome (move w t turn.after) (λ next. P (then_turn turn next)))
     → (n : ℕ) (turn : Turn) → P turn → P (settles w t n turn)
 settles-keeps w t P one zero turn p = p
 settles-keeps w t P one (suc n) turn p = keeps-by w t P n (settles-keeps w t P one n) turn (move w t turn.after) p (one turn p)
 
-pub settled-keeps : (w : World) (t : Text) (P : Turn → Type 0) → ((turn : Turn) → P turn → IfSome (move w t turn.after) (λ next. P (then_turn turn next)))
+pub settled-keeps : (w : World) (t : Listing) (P : Turn → Type 0) → ((turn : Turn) → P turn → IfSome (move w t turn.after) (λ next. P (then_turn turn next)))
     → (turn : Turn) → P turn → P (settled w t turn)
 settled-keeps w t P one turn p = settles-keeps w t P one (left turn.after) turn p

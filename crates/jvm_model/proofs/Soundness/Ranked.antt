@@ -8,7 +8,7 @@ use Rattle.std.specs.List.{AllByRecursion, cons_option}
 use Rattle.std.specs.Option.{option_and_then, option_map_or, option_to_list}
 use Rattle.const_pool.specs.declared.class.ClassFile.{ClassFile}
 use Rattle.const_pool.specs.References.{named_class}
-use Rattle.jvm_model.specs.Basis.Data.{Ending, Program, Entry, Active, Initializing, Frame, Shared, State, Operation, Operands, Instruction, Text, Turn, World}
+use Rattle.jvm_model.specs.Basis.Data.{Ending, Program, Entry, Active, Initializing, Frame, Shared, State, Operation, Operands, Instruction, Listing, Turn, World}
 use Rattle.jvm_model.specs.Basis.Data as operation
 use Rattle.jvm_model.specs.Instructions.Does.{does, loads}
 use Rattle.jvm_model.specs.Classes.Load.{is_among, load_of, needs_of}
@@ -19,12 +19,12 @@ use Rattle.jvm_model.specs.Basis.Programs.{class_at, class_named, has_name, name
 use Rattle.jvm_model.specs.Running.Run.{before, loads_if, main_class, main_loads, run, start, steps_at, steps_by, steps_on, turn_in-zero, turn_in-suc, with_loaded}
 use Rattle.jvm_model.specs.Basis.SharedState.{arguments_fit}
 use Rattle.jvm_model.specs.Soundness.Sound.{IsFit, IsLoaded}
-use Rattle.jvm_model.specs.Soundness.SoundTexts.{IsSound, IsSoundEntry, RunsOriginal}
+use Rattle.jvm_model.specs.Soundness.SoundListings.{IsSound, IsSoundEntry, RunsOriginal}
 use Rattle.jvm_model.proofs.Running.Attempts.{loaded-after}
 use Rattle.jvm_model.proofs.Loading.LoadsAgain.{newly-loaded}
 use Rattle.jvm_model.proofs.Soundness.SoundKinds.{named-class}
 use Rattle.jvm_model.proofs.Soundness.SoundRuns.{with-loaded-is}
-use Rattle.jvm_model.proofs.Soundness.SoundTextRuns.{original-sound, at-goes}
+use Rattle.jvm_model.proofs.Soundness.SoundListingRuns.{original-sound, at-goes}
 use Rattle.jvm_model.proofs.Soundness.SoundClasses.{HasLoaded, among-either, directs, named-load}
 use Rattle.jvm_model.specs.Soundness.Climbing.{Climbs}
 

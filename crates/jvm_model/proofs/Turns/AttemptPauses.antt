@@ -8,7 +8,7 @@ use Rattle.jvm_model.specs.declared.state.Entry.{Entry}
 use Rattle.jvm_model.specs.declared.state.Entry.TheVariants.{Active}
 use Rattle.jvm_model.specs.declared.state.Frame.{Frame}
 use Rattle.jvm_model.specs.declared.state.State.{State}
-use Rattle.jvm_model.specs.Basis.Data.{Change, Turn, Instruction, Outcome, Text, World}
+use Rattle.jvm_model.specs.Basis.Data.{Change, Turn, Instruction, Outcome, Listing, World}
 use Rattle.jvm_model.specs.Running.Applies.{breaks, still, live_in}
 use Rattle.jvm_model.specs.Instructions.Does.{does}
 use Rattle.jvm_model.specs.Running.Moves.{settled}
@@ -25,7 +25,7 @@ use Rattle.jvm_model.proofs.Running.ChangesBetween.{attempted-pause}
 -- ---- where nothing is due behind it
 
 -- all moves were made
-pub settled-there : (w : World) (t : Text) (v : ℕ → Mark) (n : ℕ) (changes : List Change) (s : State)
+pub settled-there : (w : World) (t : Listing) (v : ℕ → Mark) (n : ℕ) (changes : List Change) (s : State)
     → (followed w t v n changes s).due ≡ Nothing → (followed w t v n changes s).state ≡ (settled w t (still s)).after
 settled-there w t v n changes s nothing = by (changes_due (mark_now v t) [] changes) nothing where
   later : Pause
@@ -46,7 +46,7 @@ settled-there w t v n changes s nothing = by (changes_due (mark_now v t) [] chan
 abbrev pub goes_twice : ℕ → ℕ → Pause → Bool
 goes_twice n c p = is_nothing p.due && p.passed == n && is_ready (phase_of p.state.shared c) && goes_on p.state.ending p.state.thrown
 
-module _ (w : World) (t : Text) (v : ℕ → Mark) (told : Bool) (n : ℕ) (s : State) (f : Frame) (below : List Entry)
+module _ (w : World) (t : Listing) (v : ℕ → Mark) (told : Bool) (n : ℕ) (s : State) (f : Frame) (below : List Entry)
     (going : s.ending ≡ None) (top : s.stack ≡ Active f ∷ below) where
   -- without the current frame
   abbrev pub under : State

@@ -2,7 +2,7 @@
 use Rattle.std.proofs.Common.{◌≡◌, ℕ, Bool, true, false, List, [], ◌∷◌, drop, Option, Some, None, nat_lt, if◌then◌else◌, refl, sym, ap, subst, ◌∙◌}
 use Rattle.std.specs.Option.{option_map}
 use Rattle.std.proofs.lemmas.Option.{same_Some}
-use Rattle.jvm_model.specs.Basis.Data.{Frame, Entry, Active, Initializing, Constants, Superclass, Initializer, Finish, Ending, State, Change, Began, Unwound, Turn, Text, World}
+use Rattle.jvm_model.specs.Basis.Data.{Frame, Entry, Active, Initializing, Constants, Superclass, Initializer, Finish, Ending, State, Change, Began, Unwound, Turn, Listing, World}
 use Rattle.jvm_model.specs.Basis.Programs.{initializer_of}
 use Rattle.jvm_model.specs.Basis.SharedState.{class_of}
 use Rattle.jvm_model.specs.Running.Applies.{has_room, live_in, most_live}
@@ -33,7 +33,7 @@ no-change c more e = cc
 began-unwound : (m : ℕ) → Began m ∷ [] ≡ Unwound ∷ [] → ⊥
 began-unwound m e = cc
 
-module _ (w : World) (t : Text) (s : State) where
+module _ (w : World) (t : Listing) (s : State) where
   caught-pops : (below : List Entry) (r : ℕ) (f : Frame) (h : Option ℕ) → s.stack ≡ Active f ∷ below → Pops s (caught w t (record s { stack = below }) r f h)
   caught-pops below r f None top e = ap (λ stack. record s { stack = drop 1 stack }) (sym top)
   caught-pops below r f (Some target) top e = absurd (no-change Unwound [] e)
@@ -64,11 +64,11 @@ module _ (w : World) (t : Text) (s : State) where
 
 -- ---- all three
 
-module _ (w : World) (t : Text) (x : Versioned) (own : Agrees x.norm (self x.norm) t t) (current : ℕ → ℕ) (u : Text) (is : IsOfVersions x.norm x.method_of current x.homes t u)
+module _ (w : World) (t : Listing) (x : Versioned) (own : Agrees x.norm (self x.norm) t t) (current : ℕ → ℕ) (u : Listing) (is : IsOfVersions x.norm x.method_of current x.homes t u)
     (only : EndsByReturn w) (turn : Turn) (passed : ℕ) (live : List Held) where
   unwinds-here-too : (s : State) (hand : InHand w t x turn passed true live Moves s) → move w u s ≡ Some (record { after = popped s; changes = Unwound ∷ [] })
   unwinds-here-too s hand =
-      let mid : Text = named x.method_of current t in
+      let mid : Listing = named x.method_of current t in
       let b : State = hand.between in
       let next = unwinds-here w t x own current is.begins b hand.placed (hand.awaits refl) in
       let there : move w u s ≡ Some (moved_turn (at_homes x.homes) (record { after = next.after; changes = Unwound ∷ [] })) =

@@ -4,7 +4,7 @@ use Rattle.std.proofs.Common.{◌≡◌, ℕ, zero, suc, Bool, true, false, List
 use Rattle.std.specs.Option.{option_map}
 use Rattle.std.proofs.lemmas.Option.{same_Some}
 use Rattle.jvm_model.specs.declared.event.Mark.{Mark}
-use Rattle.jvm_model.specs.Basis.Data.{Entry, Active, Initializing, Ending, State, Change, Unwound, Turn, Text, World}
+use Rattle.jvm_model.specs.Basis.Data.{Entry, Active, Initializing, Ending, State, Change, Unwound, Turn, Listing, World}
 use Rattle.jvm_model.specs.Running.Applies.{still}
 use Rattle.jvm_model.specs.Running.Moves.{move}
 use Rattle.jvm_model.specs.Codes.Moved.{Moving, moved, moved_turn, moved_stack, Agrees, self, IsPlaced}
@@ -37,7 +37,7 @@ drop-passed n (c ∷ a) b xs e = drop-passed (suc n) a b xs (drop-next n c (a ++
 
 -- ---- what is left of a state elsewhere
 
-rest-moves : (norm : ℕ → ℕ → ℕ) (w : World) (m : Moving) (t u : Text) → Agrees norm (self norm) t t → Agrees norm m t u → (todo : Todo) (s : State) → IsPlaced norm s
+rest-moves : (norm : ℕ → ℕ → ℕ) (w : World) (m : Moving) (t u : Listing) → Agrees norm (self norm) t t → Agrees norm m t u → (todo : Todo) (s : State) → IsPlaced norm s
     → rest w u todo (moved m s) ≡ moved_turn m (rest w t todo s)
 rest-moves norm w m t u own agrees Attempt s placed = step-moves norm w m t u own agrees s placed
 rest-moves norm w m t u own agrees Moves s placed = settled-moves norm w t own m u agrees (still s) placed
@@ -49,7 +49,7 @@ held-same v homes (Active f ∷ below) = ap (λ live. record { method = f.method
 held-same v homes (Initializing c part ∷ below) = held-same v homes below
 
 -- What a pause comes to, whatever is left at it.
-pub record IsGoneOn (w : World) (t : Text) (v : ℕ → Mark) (told : Bool) (n : ℕ) (todo : Todo) (s : State) (p : Pause) : Type 0 where
+pub record IsGoneOn (w : World) (t : Listing) (v : ℕ → Mark) (told : Bool) (n : ℕ) (todo : Todo) (s : State) (p : Pause) : Type 0 where
   pub later : Todo
   pub changes : List Change
   pub same : (rest w t todo s).after ≡ (rest w t later p.state).after
@@ -61,8 +61,8 @@ pub record IsGoneOn (w : World) (t : Text) (v : ℕ → Mark) (told : Bool) (n :
   pub loaded : IsLoaded w t later p.state
   pub later_is : (p.due ≡ Nothing → ⊥) → later ≡ later_of p.due
 
-module _ (w : World) (t : Text) (x : Versioned) (own : Agrees x.norm (self x.norm) t t) (current : ℕ → ℕ) (begins : (k : ℕ) → t.current k ≡ x.method_of (current k)) where
-  abbrev pub mid : Text
+module _ (w : World) (t : Listing) (x : Versioned) (own : Agrees x.norm (self x.norm) t t) (current : ℕ → ℕ) (begins : (k : ℕ) → t.current k ≡ x.method_of (current k)) where
+  abbrev pub mid : Listing
   mid = named x.method_of current t
 
   abbrev pub norm : ℕ → ℕ → ℕ
@@ -162,9 +162,9 @@ module _ (w : World) (t : Text) (x : Versioned) (own : Agrees x.norm (self x.nor
 
 -- ---- over the text in force
 
-module _ (w : World) (t : Text) (x : Versioned) (own : Agrees x.norm (self x.norm) t t) (current : ℕ → ℕ) (u : Text) (is : IsOfVersions x.norm x.method_of current x.homes t u)
+module _ (w : World) (t : Listing) (x : Versioned) (own : Agrees x.norm (self x.norm) t t) (current : ℕ → ℕ) (u : Listing) (is : IsOfVersions x.norm x.method_of current x.homes t u)
     (only : EndsByReturn w) (turn : Turn) (passed : ℕ) (told : Bool) (live : List Held) where
-  abbrev of_versions : Text
+  abbrev of_versions : Listing
   of_versions = named x.method_of current t
 
   abbrev placing : ℕ → ℕ → ℕ
@@ -213,12 +213,12 @@ module _ (w : World) (t : Text) (x : Versioned) (own : Agrees x.norm (self x.nor
       })
 
 -- the same where moves alone are left
-module _ (w : World) (t : Text) (x : Versioned) (own : Agrees x.norm (self x.norm) t t) (current : ℕ → ℕ) (u : Text) (is : IsOfVersions x.norm x.method_of current x.homes t u)
+module _ (w : World) (t : Listing) (x : Versioned) (own : Agrees x.norm (self x.norm) t t) (current : ℕ → ℕ) (u : Listing) (is : IsOfVersions x.norm x.method_of current x.homes t u)
     (only : EndsByReturn w) (turn : Turn) (passed : ℕ) (live : List Held) where
   pub moves-go : (s : State) → InHand w t x turn passed false live Moves s → GoesOn w t x current turn passed false live (paused w u x.mark_of passed s)
   moves-go s inhand =
       let b : State = inhand.between in
-      let mid : Text = named x.method_of current t in
+      let mid : Listing = named x.method_of current t in
       let places : ℕ → ℕ → ℕ = norm_by x.method_of x.norm in
       let mid_own = named-own x.norm w t own x.method_of current in
       let paused_there = paused-is w mid x.mark_of passed b in
@@ -244,7 +244,7 @@ module _ (w : World) (t : Text) (x : Versioned) (own : Agrees x.norm (self x.nor
       → GoesOn w t x current turn passed true live (paused w u x.mark_of (suc passed) unwound)
   unwound-goes s unwound inhand e =
       let b : State = inhand.between in
-      let mid : Text = named x.method_of current t in
+      let mid : Listing = named x.method_of current t in
       let places : ℕ → ℕ → ℕ = norm_by x.method_of x.norm in
       let mid_own = named-own x.norm w t own x.method_of current in
       let next = unwinds-here w t x own current is.begins b inhand.placed (inhand.awaits refl) in

@@ -1,6 +1,6 @@
 -- How a step comes in hand: behind its load, or at once; and that what is in hand stays so where other versions are installed.
 use Rattle.std.proofs.Common.{◌≡◌, ℕ, Bool, true, false, List, [], ◌∷◌, drop, refl, sym, ap, subst, ◌∙◌}
-use Rattle.jvm_model.specs.Basis.Data.{Entry, Active, Initializing, State, Turn, Text, World}
+use Rattle.jvm_model.specs.Basis.Data.{Entry, Active, Initializing, State, Turn, Listing, World}
 use Rattle.jvm_model.specs.Running.Applies.{still}
 use Rattle.jvm_model.specs.Running.Moves.{settled}
 use Rattle.jvm_model.specs.Running.Run.{step, start, with_loaded, loaded_turn, main_loads, starts_with}
@@ -23,7 +23,7 @@ kept-between old new olds news homes [] keeps = tt
 kept-between old new olds news homes (Active f ∷ below) keeps = (keeps.0, keeps.1, kept-between old new olds news homes below keeps.2)
 kept-between old new olds news homes (Initializing c part ∷ below) keeps = kept-between old new olds news homes below keeps
 
-module _ (w : World) (t : Text) (x y : Versioned) (turn : Turn) (passed : ℕ) (told : Bool) (live : List Held) (todo : Todo) (s : State) where
+module _ (w : World) (t : Listing) (x y : Versioned) (turn : Turn) (passed : ℕ) (told : Bool) (live : List Held) (todo : Todo) (s : State) where
   -- Versions come, and go where no frame runs them: the same is in hand.
   pub hand-kept : InHand w t x turn passed told live todo s → y.norm ≡ x.norm → KeepVersions x.method_of y.method_of x.homes y.homes s.stack → helds y.mark_of s.stack ≡ helds x.mark_of s.stack
       → InHand w t y turn passed told live todo s
@@ -57,7 +57,7 @@ loaded-stack : (classes : List ℕ) (s : State) → (with_loaded classes s).stac
 loaded-stack [] s = refl
 loaded-stack (c ∷ more) s = refl
 
-module _ (w : World) (t : Text) (x : Versioned) (own : Agrees x.norm (self x.norm) t t) (current : ℕ → ℕ) (u : Text) (is : IsOfVersions x.norm x.method_of current x.homes t u)
+module _ (w : World) (t : Listing) (x : Versioned) (own : Agrees x.norm (self x.norm) t t) (current : ℕ → ℕ) (u : Listing) (is : IsOfVersions x.norm x.method_of current x.homes t u)
     (versioned original : State) (stands : StandsFor x.norm x.method_of x.homes versioned original) where
   -- The machine loads what the step loads, which is the step's first change; then the rest of the step is in hand.
   pub hand-begins : InHand w t x (step w t original) (behind_load (step_loads w u versioned)) false (helds x.mark_of versioned.stack) Attempt (with_loaded (step_loads w u versioned) versioned)
@@ -87,7 +87,7 @@ module _ (w : World) (t : Text) (x : Versioned) (own : Agrees x.norm (self x.nor
 -- ---- the start
 
 -- It has no frame, so it is the same in all versions.
-pub hand-starts : (w : World) (t : Text) (x : Versioned) → InHand w t x (start w t) (behind_load (main_loads w)) false (helds x.mark_of (starts_with w).stack) Moves (starts_with w)
+pub hand-starts : (w : World) (t : Listing) (x : Versioned) → InHand w t x (start w t) (behind_load (main_loads w)) false (helds x.mark_of (starts_with w).stack) Moves (starts_with w)
 hand-starts w t x =
     let there : Turn = settled w t (still (starts_with w)) in
     record {

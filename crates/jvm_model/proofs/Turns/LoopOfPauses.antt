@@ -2,7 +2,7 @@
 use Rattle.std.proofs.Common.{inl, inr, ◌≡◌, ℕ, zero, suc, ◌≤◌, ◌<◌, [], ◌∷◌, Option, Some, None, refl, sym, ap, subst, ◌∙◌, arith}
 use Rattle.std.specs.Option.{IfSome, option_map_or}
 use Rattle.jvm_model.specs.declared.event.Mark.{Mark}
-use Rattle.jvm_model.specs.Basis.Data.{State, Began, Turn, Text, World}
+use Rattle.jvm_model.specs.Basis.Data.{State, Began, Turn, Listing, World}
 use Rattle.jvm_model.specs.Running.Moves.{move, left}
 use Rattle.jvm_model.specs.Turns.Told.{helds, mark_now}
 use Rattle.jvm_model.specs.Turns.Pauses.{Nothing, changes_due, Pause, pause_by, pauses, paused, passed_by}
@@ -10,7 +10,7 @@ use Rattle.jvm_model.specs.Running.Changes.{OnlyEnd}
 use Rattle.jvm_model.proofs.Events.Order.{GoesWell, moves-well}
 use Rattle.jvm_model.proofs.Running.Settles.{move-less}
 
-module _ (w : World) (t : Text) (v : ℕ → Mark) where
+module _ (w : World) (t : Listing) (v : ℕ → Mark) where
   -- the pause behind one move
   abbrev one : ℕ → State → (ℕ → State → Pause) → Option Turn → Pause
   one n s later found =
@@ -54,9 +54,9 @@ module _ (w : World) (t : Text) (v : ℕ → Mark) where
   paused-move n s = unfold-by (left s) n s refl (move w t s) refl (move-less w t s)
 
 -- behind a move by which an activation begins none applies
-well-stops : (w : World) (t : Text) (a : Turn) (m : ℕ) → a.changes ≡ Began m ∷ [] → GoesWell w t a → move w t a.after ≡ None
+well-stops : (w : World) (t : Listing) (a : Turn) (m : ℕ) → a.changes ≡ Began m ∷ [] → GoesWell w t a → move w t a.after ≡ None
 well-stops w t a m e (inl only) = absurd (subst OnlyEnd e only)
 well-stops w t a m e (inr both) = both.1
 
-pub begun-stops : (w : World) (t : Text) (s : State) (next : Turn) (m : ℕ) → move w t s ≡ Some next → next.changes ≡ Began m ∷ [] → move w t next.after ≡ None
+pub begun-stops : (w : World) (t : Listing) (s : State) (next : Turn) (m : ℕ) → move w t s ≡ Some next → next.changes ≡ Began m ∷ [] → move w t next.after ≡ None
 begun-stops w t s next m e c = well-stops w t next m c (subst (λ o. IfSome o (GoesWell w t)) e (moves-well w t s s.ending s.thrown s.stack refl refl))

@@ -4,7 +4,7 @@ use Rattle.std.specs.Option.{option_map, option_map_or}
 use Rattle.std.proofs.lemmas.Option.{same_Some}
 use Rattle.jvm_model.specs.declared.event.EventKind.TheVariants as kind
 use Rattle.jvm_model.specs.declared.event.Mark.{Mark}
-use Rattle.jvm_model.specs.Basis.Data.{Frame, Entry, Active, Initializing, Ending, State, Change, Loads, Began, Left, Unwound, Turn, Instruction, Done, Text, World}
+use Rattle.jvm_model.specs.Basis.Data.{Frame, Entry, Active, Initializing, Ending, State, Change, Loads, Began, Left, Unwound, Turn, Instruction, Done, Listing, World}
 use Rattle.jvm_model.specs.Basis.SharedState.{phase_of}
 use Rattle.jvm_model.specs.Instructions.Does.{does}
 use Rattle.jvm_model.specs.Running.Applies.{applies}
@@ -22,8 +22,8 @@ use Rattle.jvm_model.proofs.Elsewhere.StepMoves.{placed-places, placed-state, ne
 abbrev pub moved_pause : Moving → Pause → Pause
 moved_pause m p = record p { state = moved m p.state }
 
-module _ (norm : ℕ → ℕ → ℕ) (w : World) (t : Text) (own : Agrees norm (self norm) t t) (v : ℕ → Mark) where
-  module _ (m : Moving) (u : Text) (agrees : Agrees norm m t u) (keeps : (version : ℕ) → v (m.version version) ≡ v version) where
+module _ (norm : ℕ → ℕ → ℕ) (w : World) (t : Listing) (own : Agrees norm (self norm) t t) (v : ℕ → Mark) where
+  module _ (m : Moving) (u : Listing) (agrees : Agrees norm m t u) (keeps : (version : ℕ) → v (m.version version) ≡ v version) where
     pub held-moves : (stack : List Entry) → helds v (moved_stack m stack) ≡ helds v stack
     held-moves [] = refl
     held-moves (Active f ∷ below) = ap₂ (λ mark live. record { method = f.method; mark = mark } ∷ live) (keeps f.version) (held-moves below)

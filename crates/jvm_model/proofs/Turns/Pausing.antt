@@ -5,7 +5,7 @@ use Rattle.jvm_model.specs.declared.event.EventKind.{EventKind}
 use Rattle.jvm_model.specs.declared.event.EventKind.TheVariants as kind
 use Rattle.jvm_model.specs.declared.event.Mark.{Mark}
 use Rattle.jvm_model.specs.declared.event.Mark.TheVariants.{Off, Plain, Root}
-use Rattle.jvm_model.specs.Basis.Data.{Constants, Superclass, Initializer, Finish, Frame, Entry, Active, Initializing, Ending, State, Change, Loads, Began, Left, Unwound, Turn, Text, World}
+use Rattle.jvm_model.specs.Basis.Data.{Constants, Superclass, Initializer, Finish, Frame, Entry, Active, Initializing, Ending, State, Change, Loads, Began, Left, Unwound, Turn, Listing, World}
 use Rattle.jvm_model.specs.Basis.Programs.{initializer_of}
 use Rattle.jvm_model.specs.Basis.SharedState.{class_of}
 use Rattle.jvm_model.specs.Running.Applies.{has_room, live_in, most_live}
@@ -34,19 +34,19 @@ chosen-one : (b : Bool) (x y : Turn) → OneAtMost x.changes → OneAtMost y.cha
 chosen-one true x y p q = p
 chosen-one false x y p q = q
 
-caught-one : (w : World) (t : Text) (s : State) (r : ℕ) (f : Frame) (h : Option ℕ) → OneAtMost (caught w t s r f h).changes
+caught-one : (w : World) (t : Listing) (s : State) (r : ℕ) (f : Frame) (h : Option ℕ) → OneAtMost (caught w t s r f h).changes
 caught-one w t s r f None = one Unwound tt
 caught-one w t s r f (Some target) = none
 
-runs-one : (w : World) (t : Text) (s : State) (c : ℕ) (m : Option ℕ) → OneAtMost (runs_initializer w t s c m).changes
+runs-one : (w : World) (t : Listing) (s : State) (c : ℕ) (m : Option ℕ) → OneAtMost (runs_initializer w t s c m).changes
 runs-one w t s c None = none
 runs-one w t s c (Some m) = chosen-one (nat_lt (live_in s.stack) most_live) _ _ (one (Began m) tt) none
 
-main-one : (w : World) (t : Text) (s : State) (b : Bool) → OneAtMost (main_or_end w t s b).changes
+main-one : (w : World) (t : Listing) (s : State) (b : Bool) → OneAtMost (main_or_end w t s b).changes
 main-one w t s true = none
 main-one w t s false = chosen-one (has_room w w.program.main argument_array) _ _ (one (Began w.program.main) tt) none
 
-moves-one : (w : World) (t : Text) (s : State) (ending : Option Ending) (thrown : Option ℕ) (stack : List Entry)
+moves-one : (w : World) (t : Listing) (s : State) (ending : Option Ending) (thrown : Option ℕ) (stack : List Entry)
     → IfSome (moves w t s ending thrown stack) (λ (next : Turn). OneAtMost next.changes)
 moves-one w t s (Some e) thrown stack = tt
 moves-one w t s None (Some r) [] = none
@@ -59,12 +59,12 @@ moves-one w t s None None (Initializing c Superclass ∷ below) = none
 moves-one w t s None None (Initializing c Initializer ∷ below) = runs-one w t (record s { stack = below }) c (initializer_of w.program c)
 moves-one w t s None None (Initializing c Finish ∷ below) = none
 
-pub move-one : (w : World) (t : Text) (s : State) → IfSome (move w t s) (λ (next : Turn). OneAtMost next.changes)
+pub move-one : (w : World) (t : Listing) (s : State) → IfSome (move w t s) (λ (next : Turn). OneAtMost next.changes)
 move-one w t s = moves-one w t s s.ending s.thrown s.stack
 
 -- ---- the pause
 
-none-more : (w : World) (t : Text) (s : State) (o : Option Turn) → IfSome o (λ next. left next.after < left s) → left s ≤ 0 → o ≡ None
+none-more : (w : World) (t : Listing) (s : State) (o : Option Turn) → IfSome o (λ next. left next.after < left s) → left s ≤ 0 → o ≡ None
 none-more w t s None less le = refl
 none-more w t s (Some next) less le = absurd (omega arith)
 
@@ -74,7 +74,7 @@ begins_nothing e = cc
 ends_nothing : (k : EventKind) → Ends k ≡ Nothing → ⊥
 ends_nothing k e = cc
 
-module _ (w : World) (t : Text) (v : ℕ → Mark) where
+module _ (w : World) (t : Listing) (v : ℕ → Mark) where
   abbrev marks : ℕ → Mark
   marks = mark_now v t
 

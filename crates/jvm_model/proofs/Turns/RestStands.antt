@@ -2,7 +2,7 @@
 -- classes are loaded alike. The text of versions may be another one than before: each of these laws goes by the text that is in force then.
 use Rattle.std.proofs.Common.{◌≡◌, ℕ, List, [], ◌∷◌, Option, Some, None, refl, sym, ap, ◌∙◌}
 use Rattle.std.specs.Option.{option_map}
-use Rattle.jvm_model.specs.Basis.Data.{Frame, Entry, Active, Initializing, Ending, State, Instruction, Text, World}
+use Rattle.jvm_model.specs.Basis.Data.{Frame, Entry, Active, Initializing, Ending, State, Instruction, Listing, World}
 use Rattle.jvm_model.specs.Running.Run.{with_loaded}
 use Rattle.jvm_model.specs.Turns.Rest.{loads_at, loads_on, step_loads, Todo, Attempt, Moves, rest}
 use Rattle.jvm_model.specs.Codes.Moved.{Moving, moved, moved_frame, moved_stack, moved_instruction, ArePlaces, Agrees, self, IsPlaced}
@@ -13,7 +13,7 @@ use Rattle.jvm_model.proofs.Elsewhere.StandsForRun.{named-original, step-stands_
 
 -- ---- loads
 
-module _ (norm : ℕ → ℕ → ℕ) (w : World) (m : Moving) (t u : Text) (agrees : Agrees norm m t u) where
+module _ (norm : ℕ → ℕ → ℕ) (w : World) (m : Moving) (t u : Listing) (agrees : Agrees norm m t u) where
   at-moves : (s : State) (f : Frame) (i : Option Instruction) → loads_at w (moved m s) (moved_frame m f) (option_map (moved_instruction (m.home f.version)) i) ≡ loads_at w s f i
   at-moves s f None = refl
   at-moves s f (Some i) = loads-moves (m.home f.version) w i.operation s.shared f.operands
@@ -47,7 +47,7 @@ loaded-stands_for norm method_of homes (c ∷ more) versioned original stands = 
 
 -- ---- what is left
 
-module _ (norm : ℕ → ℕ → ℕ) (w : World) (t : Text) (own : Agrees norm (self norm) t t) (method_of current : ℕ → ℕ) (homes : ℕ → ℕ → ℕ) (u : Text)
+module _ (norm : ℕ → ℕ → ℕ) (w : World) (t : Listing) (own : Agrees norm (self norm) t t) (method_of current : ℕ → ℕ) (homes : ℕ → ℕ → ℕ) (u : Listing)
     (is : IsOfVersions norm method_of current homes t u) (versioned original : State) (stands : StandsFor norm method_of homes versioned original) where
   pub rest-stands_for : (l : Todo) → StandsFor norm method_of homes (rest w u l versioned).after (rest w t l original).after
   rest-stands_for Attempt = step-stands_for norm w t own method_of current homes u is versioned original stands
@@ -60,7 +60,7 @@ module _ (norm : ℕ → ℕ → ℕ) (w : World) (t : Text) (own : Agrees norm 
   pub step_loads-same : step_loads w u versioned ≡ step_loads w t original
   step_loads-same =
       let s : State = stands.between in
-      let mid : Text = named method_of current t in
+      let mid : Listing = named method_of current t in
       ap (step_loads w u) stands.versioned_is
       ∙ (loads-same (norm_by method_of norm) w (at_homes homes) mid u is.agrees s stands.at_places
       ∙ (sym (loads-same (norm_by method_of norm) w (forgotten method_of) mid t (named-original norm w t own method_of current is.begins) s stands.at_places)

@@ -1,7 +1,7 @@
 -- What is left of a step, once its classes are loaded, loads nothing.
 use Rattle.std.proofs.Common.{◌≡◌, suc, Bool, true, false, List, [], ◌∷◌, ◌++◌, Option, Some, None, nat_lt, if◌then◌else◌, refl, sym, subst}
 use Rattle.std.proofs.lemmas.Option.{IfSome_then}
-use Rattle.jvm_model.specs.Basis.Data.{Frame, Entry, Active, Initializing, Ending, State, Change, Loads, Began, Left, Unwound, Turn, Instruction, Outcome, GoesOn, Subroutine, Invokes, Returns, Throws, Raises, Initializes, Exits, Breaks, Done, Text, World}
+use Rattle.jvm_model.specs.Basis.Data.{Frame, Entry, Active, Initializing, Ending, State, Change, Loads, Began, Left, Unwound, Turn, Instruction, Outcome, GoesOn, Subroutine, Invokes, Returns, Throws, Raises, Initializes, Exits, Breaks, Done, Listing, World}
 use Rattle.jvm_model.specs.Instructions.Does.{does}
 use Rattle.jvm_model.specs.Running.Applies.{still, applies, has_room, live_in, most_live}
 use Rattle.jvm_model.specs.Running.Moves.{move, then_turn, settled}
@@ -40,7 +40,7 @@ of-one _ (one (Began m) is) = tt
 of-one _ (one Left is) = tt
 of-one _ (one Unwound is) = tt
 
-settled-no : (w : World) (t : Text) (a : Turn) → NoLoads a.changes → NoLoads (settled w t a).changes
+settled-no : (w : World) (t : Listing) (a : Turn) → NoLoads a.changes → NoLoads (settled w t a).changes
 settled-no w t a p =
     settled-keeps w t (λ b. NoLoads b.changes)
     (λ b q. IfSome_then (move w t b.after) {P = λ (next : Turn). OneAtMost next.changes} {Q = λ next. NoLoads (then_turn b next).changes} (move-one w t b.after)
@@ -50,7 +50,7 @@ chosen-no : (b : Bool) (x y : Turn) → NoLoads x.changes → NoLoads y.changes 
 chosen-no true x y p q = p
 chosen-no false x y p q = q
 
-applies-no : (w : World) (t : Text) (i : Instruction) (outcome : Outcome) (s : State) (f : Frame) → NoLoads (applies w t i outcome s f).changes
+applies-no : (w : World) (t : Listing) (i : Instruction) (outcome : Outcome) (s : State) (f : Frame) → NoLoads (applies w t i outcome s f).changes
 applies-no w t i (GoesOn l o to) s f = tt
 applies-no w t i Subroutine s f = tt
 applies-no w t i (Invokes m args below) s f = chosen-no (has_room w m args) _ _ (chosen-no (nat_lt (suc (live_in s.stack)) most_live) _ _ tt tt) tt
@@ -62,28 +62,28 @@ applies-no w t i (Exits n) s f = tt
 applies-no w t i (Breaks true) s f = tt
 applies-no w t i (Breaks false) s f = tt
 
-attempt-no : (w : World) (t : Text) (i : Instruction) (s : State) (f : Frame) → NoLoads (attempt w t i s f).changes
+attempt-no : (w : World) (t : Listing) (i : Instruction) (s : State) (f : Frame) → NoLoads (attempt w t i s f).changes
 attempt-no w t i s f =
     let d : Done = does w i.operation s.shared f.locals f.operands in
     settled-no w t (applies w t i d.outcome (record s { shared = d.shared; output = s.output ++ d.wrote }) f) (applies-no w t i d.outcome (record s { shared = d.shared; output = s.output ++ d.wrote }) f)
 
-by-no : (w : World) (t : Text) (i : Instruction) (s : State) (f : Frame) → NoLoads (steps_by w t i s f (does w i.operation s.shared f.locals f.operands)).changes
+by-no : (w : World) (t : Listing) (i : Instruction) (s : State) (f : Frame) → NoLoads (steps_by w t i s f (does w i.operation s.shared f.locals f.operands)).changes
 by-no w t i s f =
     let a = attempt w t i s f in
     again-by (λ b. NoLoads b.changes) w t i s f (starts (does w i.operation s.shared f.locals f.operands).outcome) a (attempt-no w t i s f)
     (λ quiet on. no-append a.changes (attempt w t i (record a.after { stack = s.stack }) f).changes (attempt-no w t i s f) (attempt-no w t i (record a.after { stack = s.stack }) f))
 
-at-no : (w : World) (t : Text) (s : State) (f : Frame) (o : Option Instruction) → loads_at w s f o ≡ [] → NoLoads (steps_at w t s f o).changes
+at-no : (w : World) (t : Listing) (s : State) (f : Frame) (o : Option Instruction) → loads_at w s f o ≡ [] → NoLoads (steps_at w t s f o).changes
 at-no w t s f None e = tt
 at-no w t s f (Some i) e =
     subst (λ cs. NoLoads (loaded_turn cs (steps_by w t i (with_loaded cs s) f (does w i.operation (with_loaded cs s).shared f.locals f.operands))).changes) (sym e) (by-no w t i s f)
 
-on-no : (w : World) (t : Text) (s : State) (ending : Option Ending) (stack : List Entry) → loads_on w t s ending stack ≡ [] → NoLoads (steps_on w t s ending stack).changes
+on-no : (w : World) (t : Listing) (s : State) (ending : Option Ending) (stack : List Entry) → loads_on w t s ending stack ≡ [] → NoLoads (steps_on w t s ending stack).changes
 on-no w t s None (Active f ∷ below) e = at-no w t (record s { stack = below }) f (t.at f.version f.place) e
 on-no w t s None [] e = tt
 on-no w t s None (Initializing c part ∷ below) e = tt
 on-no w t s (Some x) stack e = tt
 
-pub rest-no : (w : World) (t : Text) (todo : Todo) (s : State) → IsLoaded w t todo s → NoLoads (rest w t todo s).changes
+pub rest-no : (w : World) (t : Listing) (todo : Todo) (s : State) → IsLoaded w t todo s → NoLoads (rest w t todo s).changes
 rest-no w t Attempt s e = on-no w t s s.ending s.stack e
 rest-no w t Moves s e = settled-no w t (still s) tt

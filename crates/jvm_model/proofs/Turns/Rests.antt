@@ -1,7 +1,7 @@
 -- What is left of a step: behind its load, and behind some of its moves.
 use Rattle.std.proofs.Common.{append-nil, append_assoc, ◌≡◌, ℕ, zero, suc, List, [], ◌∷◌, ◌++◌, Option, Some, None, refl, sym, ap, ◌∙◌}
 use Rattle.std.specs.Option.{option_map_or}
-use Rattle.jvm_model.specs.Basis.Data.{Operands, Frame, Entry, Active, Initializing, Ending, Shared, State, Change, Loads, Turn, Operation, Within, Named, Athrow, Monitor, Newarray, Arraylength, LoadElement, StoreElement, LdcString, Instruction, Text, World}
+use Rattle.jvm_model.specs.Basis.Data.{Operands, Frame, Entry, Active, Initializing, Ending, Shared, State, Change, Loads, Turn, Operation, Within, Named, Athrow, Monitor, Newarray, Arraylength, LoadElement, StoreElement, LdcString, Instruction, Listing, World}
 use Rattle.jvm_model.specs.Instructions.Does.{does, loads}
 use Rattle.jvm_model.specs.Instructions.Naming.{newly_loaded}
 use Rattle.jvm_model.specs.Running.Applies.{still}
@@ -43,7 +43,7 @@ loads-again w classes s o (LdcString units) e = refl
 cons-empty : (c : ℕ) (more : List ℕ) → [] ≡ c ∷ more → ⊥
 cons-empty c more e = cc
 
-module _ (w : World) (t : Text) (c : ℕ) (more : List ℕ) where
+module _ (w : World) (t : Listing) (c : ℕ) (more : List ℕ) where
   at-loads : (s : State) (f : Frame) (i : Option Instruction) → loads_at w s f i ≡ c ∷ more
       → steps_at w t s f i ≡ loaded_turn (c ∷ more) (steps_at w t (with_loaded (c ∷ more) s) f i)
   at-loads s f None e = absurd (cons-empty c more e)
@@ -61,7 +61,7 @@ module _ (w : World) (t : Text) (c : ℕ) (more : List ℕ) where
   on-loads s (Some x) stack e = absurd (cons-empty c more e)
 
 -- A step is its load, and then the step of the state with these classes.
-pub step-loads : (w : World) (t : Text) (s : State) → step w t s ≡ loaded_turn (step_loads w t s) (step w t (with_loaded (step_loads w t s) s))
+pub step-loads : (w : World) (t : Listing) (s : State) → step w t s ≡ loaded_turn (step_loads w t s) (step w t (with_loaded (step_loads w t s) s))
 step-loads w t s = by (step_loads w t s) refl where
   by : (classes : List ℕ) → step_loads w t s ≡ classes → step w t s ≡ loaded_turn classes (step w t (with_loaded classes s))
   by [] e = refl
@@ -72,14 +72,14 @@ again-at : (w : World) (s : State) (f : Frame) (classes : List ℕ) (i : Option 
 again-at w s f classes None e = refl
 again-at w s f classes (Some i) e = loads-again w classes s f.operands i.operation e
 
-again-on : (w : World) (t : Text) (s : State) (classes : List ℕ) (ending : Option Ending) (stack : List Entry) → loads_on w t s ending stack ≡ classes
+again-on : (w : World) (t : Listing) (s : State) (classes : List ℕ) (ending : Option Ending) (stack : List Entry) → loads_on w t s ending stack ≡ classes
     → loads_on w t (with_loaded classes s) ending stack ≡ []
 again-on w t s classes None (Active f ∷ below) e = again-at w s f classes (t.at f.version f.place) e
 again-on w t s classes None [] e = refl
 again-on w t s classes None (Initializing d part ∷ below) e = refl
 again-on w t s classes (Some x) stack e = refl
 
-pub step_loads-again : (w : World) (t : Text) (s : State) → step_loads w t (with_loaded (step_loads w t s) s) ≡ []
+pub step_loads-again : (w : World) (t : Listing) (s : State) → step_loads w t (with_loaded (step_loads w t s) s) ≡ []
 step_loads-again w t s =
     let classes : List ℕ = step_loads w t s in
     let s' : State = with_loaded classes s in
@@ -93,7 +93,7 @@ append-changes : (a b c : Turn) → then_turn (then_turn a b) c ≡ then_turn a 
 append-changes a b c = ap (λ changes. record { after = c.after; changes = changes }) (append_assoc a.changes b.changes c.changes)
 
 -- what was done before stands before what follows
-settles-then : (w : World) (t : Text) (n : ℕ) (a b : Turn) → settles w t n (then_turn a b) ≡ then_turn a (settles w t n b)
+settles-then : (w : World) (t : Listing) (n : ℕ) (a b : Turn) → settles w t n (then_turn a b) ≡ then_turn a (settles w t n b)
 settles-then w t zero a b = refl
 settles-then w t (suc n) a b = by (move w t b.after) (λ next. settles-then w t n a (then_turn b next)) where
   by : (found : Option Turn) → ((next : Turn) → settles w t n (then_turn a (then_turn b next)) ≡ then_turn a (settles w t n (then_turn b next)))
@@ -103,24 +103,24 @@ settles-then w t (suc n) a b = by (move w t b.after) (λ next. settles-then w t 
   by (Some next) later = ap (settles w t n) (append-changes a b next) ∙ later next
 
 -- the moves from a turn on are those from its state on
-pub settled-still : (w : World) (t : Text) (a : Turn) → settled w t a ≡ then_turn a (settled w t (still a.after))
+pub settled-still : (w : World) (t : Listing) (a : Turn) → settled w t a ≡ then_turn a (settled w t (still a.after))
 settled-still w t a = ap (λ changes. settles w t (left a.after) (record { after = a.after; changes = changes })) (sym (append-nil a.changes)) ∙ settles-then w t (left a.after) a (still a.after)
 
 -- A move, or several: what is left of a turn's moves is what is left of its state's, behind its changes.
-pub move-part : (w : World) (t : Text) (s : State) (next : Turn) → move w t s ≡ Some next → IsPart w t Moves s next.changes Moves next.after
+pub move-part : (w : World) (t : Listing) (s : State) (next : Turn) → move w t s ≡ Some next → IsPart w t Moves s next.changes Moves next.after
 move-part w t s next e =
     let all : settled w t (still s) ≡ then_turn next (settled w t (still next.after)) = sym (moved-same w t (still s) next e) ∙ settled-still w t next in
     record { same = ap (λ (a : Turn). a.after) all; tells = ap (λ (a : Turn). a.changes) all }
 
-pub no-part : (w : World) (t : Text) (l : Todo) (s : State) → IsPart w t l s [] l s
+pub no-part : (w : World) (t : Listing) (l : Todo) (s : State) → IsPart w t l s [] l s
 no-part w t l s = record { same = refl; tells = refl }
 
-pub then-part : (w : World) (t : Text) (l m n : Todo) (a b c : State) (first second : List Change) → IsPart w t l a first m b → IsPart w t m b second n c → IsPart w t l a (first ++ second) n c
+pub then-part : (w : World) (t : Listing) (l m n : Todo) (a b c : State) (first second : List Change) → IsPart w t l a first m b → IsPart w t m b second n c → IsPart w t l a (first ++ second) n c
 then-part w t l m n a b c first second p q = record {
   same = p.same ∙ q.same;
   tells = p.tells ∙ (ap (λ cs. first ++ cs) q.tells ∙ sym (append_assoc first second (rest w t n c).changes));
 }
 
 -- where no move applies nothing is left
-pub nothing-left : (w : World) (t : Text) (s : State) → move w t s ≡ None → rest w t Moves s ≡ still s
+pub nothing-left : (w : World) (t : Listing) (s : State) → move w t s ≡ None → rest w t Moves s ≡ still s
 nothing-left w t s e = moved-end w t (still s) e

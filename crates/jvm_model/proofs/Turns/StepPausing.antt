@@ -7,7 +7,7 @@ use Rattle.jvm_model.specs.declared.event.EventKind.TheVariants as kind
 use Rattle.jvm_model.specs.declared.event.Mark.{Mark}
 use Rattle.jvm_model.specs.declared.event.Mark.TheVariants.{Off, Plain, Root}
 use Rattle.jvm_model.specs.Rewriting.Images.{is_off}
-use Rattle.jvm_model.specs.Basis.Data.{Datum, Locals, Operands, Shared, Operation, Within, Return, Frame, Entry, Active, Initializing, Ending, State, Change, Began, Left, Unwound, Turn, Instruction, Outcome, GoesOn, Subroutine, Invokes, Returns, Throws, Raises, Initializes, Exits, Breaks, Done, Text, World}
+use Rattle.jvm_model.specs.Basis.Data.{Datum, Locals, Operands, Shared, Operation, Within, Return, Frame, Entry, Active, Initializing, Ending, State, Change, Began, Left, Unwound, Turn, Instruction, Outcome, GoesOn, Subroutine, Invokes, Returns, Throws, Raises, Initializes, Exits, Breaks, Done, Listing, World}
 use Rattle.const_pool.specs.declared.descriptor.Kind.{Kind}
 use Rattle.jvm_model.specs.Basis.Values.{datum_of}
 use Rattle.jvm_model.specs.Instructions.LocalRules.{returns, returns_datum}
@@ -25,7 +25,7 @@ use Rattle.jvm_model.proofs.Turns.Rests.{settled-still, nothing-left, no-part, m
 use Rattle.jvm_model.proofs.Turns.Pausing.{paused-is}
 
 -- The pause on the way to a turn: of its changes, those before what is left.
-pub record IsTurnPaused (w : World) (t : Text) (v : ℕ → Mark) (told : Bool) (n : ℕ) (live : List Held) (x : Turn) (p : Pause) : Type 0 where
+pub record IsTurnPaused (w : World) (t : Listing) (v : ℕ → Mark) (told : Bool) (n : ℕ) (live : List Held) (x : Turn) (p : Pause) : Type 0 where
   pub changes : List Change
   pub same : x.after ≡ (rest w t Moves p.state).after
   pub tells : x.changes ≡ changes ++ (rest w t Moves p.state).changes
@@ -75,7 +75,7 @@ due-nothing Nothing e = refl
 due-nothing (Ends k) e = absurd (let h : false ≡ true = e in cc)
 due-nothing Begins e = absurd (let h : false ≡ true = e in cc)
 
-module _ (w : World) (t : Text) (v : ℕ → Mark) where
+module _ (w : World) (t : Listing) (v : ℕ → Mark) where
   abbrev marks : ℕ → Mark
   marks = mark_now v t
 
@@ -420,7 +420,7 @@ module _ (w : World) (t : Text) (v : ℕ → Mark) where
 -- ---- behind the event of an unwinding
 
 -- The current activation is unwound next; what is left is what is left of the state without it.
-pub unwound-paused : (w : World) (t : Text) (v : ℕ → Mark) (n : ℕ) (s after : State) → move w t s ≡ Some (record { after = after; changes = Unwound ∷ [] })
+pub unwound-paused : (w : World) (t : Listing) (v : ℕ → Mark) (n : ℕ) (s after : State) → move w t s ≡ Some (record { after = after; changes = Unwound ∷ [] })
     → IsTurnPaused w t v true n (helds v s.stack) (rest w t Moves s) (paused w t v (suc n) after)
 unwound-paused w t v n s after e =
     let x : Turn = record { after = after; changes = Unwound ∷ [] } in

@@ -16,7 +16,7 @@ use Rattle.native_ops.specs.Rows.{rows}
 use Rattle.jvm_model.specs.Basis.Data.{Arraylength, Returned, State, Loads, Began, Turn, World}
 use Rattle.jvm_model.specs.Running.Run.{turn_in}
 use Rattle.jvm_model.specs.Basis.SharedState.{out_of_memory, strings_kind}
-use Rattle.jvm_model.proofs.Worked.WorkedPrograms.{Sketches, aload_0, alone, at, get_out, main_routine, places_of, println, returns, text_by, uncaught_of, with_heap, world_by}
+use Rattle.jvm_model.proofs.Worked.WorkedPrograms.{Sketches, aload_0, alone, at, get_out, main_routine, places_of, println, returns, listing_by, uncaught_of, with_heap, world_by}
 
 -- main writes how many arguments there are
 abbrev pub counts : Sketches
@@ -33,7 +33,7 @@ abbrev pub two : List (List ℕ)
 two = codes "ab" ∷ codes "" ∷ []
 
 abbrev pub turn_with : List (List ℕ) → ℕ → ℕ → Turn
-turn_with args slots n = turn_in (given args slots) (text_by counts) n
+turn_with args slots n = turn_in (given args slots) (listing_by counts) n
 
 abbrev pub after_with : List (List ℕ) → ℕ → ℕ → State
 after_with args slots n = (turn_with args slots n).after

@@ -29,7 +29,7 @@ use Rattle.jvm_model.specs.Basis.Programs.{no_class}
 use Rattle.jvm_model.specs.Running.Moves.{runs_initializer, settled}
 use Rattle.jvm_model.specs.Running.Run.{turn_in}
 use Rattle.jvm_model.specs.Basis.SharedState.{array_store, index_outside, negative_array_size, null_pointer, out_of_memory, stack_overflow}
-use Rattle.jvm_model.proofs.Worked.WorkedPrograms.{Sketches, after, aload_0, alone, at, call, get_out, getstatic, int, main_routine, null, operands_of, places_of, pop, println, returns, text_by, uncaught_of, world_by}
+use Rattle.jvm_model.proofs.Worked.WorkedPrograms.{Sketches, after, aload_0, alone, at, call, get_out, getstatic, int, main_routine, null, operands_of, places_of, pop, println, returns, listing_by, uncaught_of, world_by}
 
 -- ---- programs of one class, whose main this is
 
@@ -308,7 +308,7 @@ abbrev pub given : World → World
 given w = record w { program = record w.program { args = codes "x" ∷ [] } }
 
 abbrev pub after_given : Sketches → ℕ → State
-after_given s n = (turn_in (given (world_by s)) (text_by s) n).after
+after_given s n = (turn_in (given (world_by s)) (listing_by s) n).after
 
 -- main stores into that array, and loads what it stored
 abbrev pub stores : Operation → Sketches
@@ -374,7 +374,7 @@ member-text = refl
 -- ---- a heap of so few slots. The start takes 7, an array of 3 ints takes 4, and an exception with a message of one unit takes 5
 
 abbrev pub after_in : ℕ → Sketches → ℕ → State
-after_in limit s n = (turn_in (let w = world_by s in record w { program = record w.program { heap = limit } }) (text_by s) n).after
+after_in limit s n = (turn_in (let w = world_by s in record w { program = record w.program { heap = limit } }) (listing_by s) n).after
 
 pub array-fits : operands_of (after_in 11 measures_ints 2) ≡ Ref 6 ∷ []
 unfolding turn_in
@@ -416,13 +416,13 @@ abbrev pub argument : List Datum
 argument = datum.Ref 5 ∷ []
 
 abbrev pub caller : Frame
-caller = new_frame (world_by calls) (text_by calls) 0 argument
+caller = new_frame (world_by calls) (listing_by calls) 0 argument
 
 -- main calls itself where so many stand below it
 abbrev pub calls_above : ℕ → Turn
 calls_above count =
     let s = after calls 0 in
-    invokes (world_by calls) (text_by calls) (at 0 3 returns) (record s { stack = replicate count (Active caller) }) caller 0 argument []
+    invokes (world_by calls) (listing_by calls) (at 0 3 returns) (record s { stack = replicate count (Active caller) }) caller 0 argument []
 
 pub call_1024-begins : (calls_above 1022).changes ≡ Began 0 ∷ []
 call_1024-begins = refl
@@ -436,7 +436,7 @@ call_1025-throws = refl
 
 -- beside so many
 abbrev pub beside : ℕ → Turn
-beside live = begins_beside (world_by calls) (text_by calls) (record (after calls 0) { stack = [] }) caller 0 argument [] live
+beside live = begins_beside (world_by calls) (listing_by calls) (record (after calls 0) { stack = [] }) caller 0 argument [] live
 
 pub beside_1023-begins : (beside 1023).changes ≡ Began 0 ∷ []
 beside_1023-begins = refl
@@ -445,7 +445,7 @@ pub beside_1024-places : places_of (beside 1024).after.stack ≡ 0 ∷ []
 beside_1024-places = refl
 
 abbrev pub overflown : Turn
-overflown = settled (world_by calls) (text_by calls) (beside 1024)
+overflown = settled (world_by calls) (listing_by calls) (beside 1024)
 
 pub overflown-changes : overflown.changes ≡ Unwound ∷ []
 unfolding turn_in
@@ -457,7 +457,7 @@ overflown-ends = refl
 
 -- a static initializer where so many stand below it: its class waits to be left
 abbrev pub initializes_above : ℕ → Turn
-initializes_above count = runs_initializer (world_by calls) (text_by calls) (record (after calls 0) { stack = replicate count (Active caller) }) 0 (Some 0)
+initializes_above count = runs_initializer (world_by calls) (listing_by calls) (record (after calls 0) { stack = replicate count (Active caller) }) 0 (Some 0)
 
 pub initializer_1024-begins : (initializes_above 1023).changes ≡ Began 0 ∷ []
 initializer_1024-begins = refl

@@ -21,7 +21,7 @@ use Rattle.jvm_model.specs.Running.Run.{turn_in}
 use Rattle.jvm_model.specs.Profiling.Activations.{no_trace, trace_in}
 use Rattle.jvm_model.specs.Profiling.EventLists.{Marking, all_told}
 use Rattle.jvm_model.proofs.Worked.WorkedLibrary.{class, object_name}
-use Rattle.jvm_model.proofs.Worked.WorkedPrograms.{Routine, Sketches, aload_0, alone, at, call, call_special, call_virtual, changes_of, code_in, initializer, instance, int, iload, ireturn, main_routine, member, new, pop, prints_result, returns, routine, routines_of, selecting, sketch, text_by, trace_by, world_by}
+use Rattle.jvm_model.proofs.Worked.WorkedPrograms.{Routine, Sketches, aload_0, alone, at, call, call_special, call_virtual, changes_of, code_in, initializer, instance, int, iload, ireturn, main_routine, member, new, pop, prints_result, returns, routine, routines_of, selecting, sketch, listing_by, trace_by, world_by}
 use Rattle.jvm_model.proofs.Worked.WorkedRuns.{recursive, p3}
 use Rattle.jvm_model.proofs.Worked.WorkedInitializers.{both_set}
 use Rattle.jvm_model.specs.Profiling.Points.{marking_in, standing_in}
@@ -32,10 +32,10 @@ abbrev pub code_by : Sketches → ℕ → List Operation
 code_by s method = map (λ (i : Instruction). i.operation) (code_in (routines_of s.classes) method)
 
 abbrev pub swaps_by : List Act → Sketches → ℕ → List Swapped
-swaps_by acts s n = swaps_in acts (world_by s) (text_by s) (code_by s) n
+swaps_by acts s n = swaps_in acts (world_by s) (listing_by s) (code_by s) n
 
 abbrev pub marking_by : List Act → Sketches → Marking
-marking_by acts s = marking_in acts (world_by s) (text_by s) (code_by s)
+marking_by acts s = marking_in acts (world_by s) (listing_by s) (code_by s)
 
 abbrev pub events_by : List Act → Sketches → ℕ → List Event
 events_by acts s zero = all_told (marking_by acts s) 0 no_trace (changes_of s 0)

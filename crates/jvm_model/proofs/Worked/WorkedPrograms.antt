@@ -7,7 +7,7 @@ use Rattle.const_pool.specs.declared.descriptor.Kind.TheVariants as kind
 use Rattle.const_pool.specs.declared.class.ClassFile.{ClassFile}
 use Rattle.const_pool.specs.declared.class.Attribute.TheVariants.{Code}
 use Rattle.const_pool.specs.References.{NameAndType, Reference}
-use Rattle.jvm_model.specs.Basis.Data.{Pop, Ending, Uncaught, Entry, Active, Initializing, Constant, Load, Arrange, Return, Operation, Within, Named, New, Getstatic, Putstatic, Invokestatic, Invokevirtual, Invokespecial, Operands, Instruction, Catcher, Text, World, Change, State, Turn}
+use Rattle.jvm_model.specs.Basis.Data.{Pop, Ending, Uncaught, Entry, Active, Initializing, Constant, Load, Arrange, Return, Operation, Within, Named, New, Getstatic, Putstatic, Invokestatic, Invokevirtual, Invokespecial, Operands, Instruction, Catcher, Listing, World, Change, State, Turn}
 use Rattle.jvm_model.specs.Codes.Lines.{next_of}
 use Rattle.jvm_model.specs.Basis.Programs.{numbered, class_named}
 use Rattle.jvm_model.specs.Running.Run.{turn_in}
@@ -78,8 +78,8 @@ abbrev pub code_in : List Routine → ℕ → List Instruction
 code_in routines method = option_map_or (λ (r : Routine). r.code) (slice_get routines method) []
 
 -- original code: places are offsets
-abbrev pub text_by : Sketches → Text
-text_by s = let routines = routines_of s.classes in record {
+abbrev pub listing_by : Sketches → Listing
+listing_by s = let routines = routines_of s.classes in record {
   current = λ method. method;
   first = λ version. 0;
   at = λ version at. instruction_in at (code_in routines version);
@@ -89,7 +89,7 @@ text_by s = let routines = routines_of s.classes in record {
 -- ---- its run
 
 abbrev pub turn_by : Sketches → ℕ → Turn
-turn_by s n = turn_in (world_by s) (text_by s) n
+turn_by s n = turn_in (world_by s) (listing_by s) n
 
 abbrev pub after : Sketches → ℕ → State
 after s n = (turn_by s n).after
@@ -98,11 +98,11 @@ abbrev pub changes_of : Sketches → ℕ → List Change
 changes_of s n = (turn_by s n).changes
 
 abbrev pub trace_by : Sketches → ℕ → Trace
-trace_by s n = trace_in (world_by s) (text_by s) n
+trace_by s n = trace_in (world_by s) (listing_by s) n
 
 -- where the heap has so many slots
 abbrev pub turn_in_heap : ℕ → Sketches → ℕ → Turn
-turn_in_heap slots s n = turn_in (with_heap slots (world_by s)) (text_by s) n
+turn_in_heap slots s n = turn_in (with_heap slots (world_by s)) (listing_by s) n
 
 -- that the run ended, for what was thrown is of the class with this name
 abbrev pub uncaught_of : Sketches → List ℕ → Option Ending

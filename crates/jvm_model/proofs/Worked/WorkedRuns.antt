@@ -16,14 +16,14 @@ use Rattle.base_classes.specs.ThrowableClasses.{throwable_classes}
 use Rattle.base_classes.specs.Natives.{native_methods}
 use Rattle.native_ops.specs.KindsViews.{is_among}
 use Rattle.native_ops.specs.Rows.{rows}
-use Rattle.jvm_model.specs.Basis.Data.{Entry, Active, Text, Isub, Store, BinaryOfInts, Iinc, WithZero, Equal, Greater, Branch, Jsr, Ret, Within, Returned}
+use Rattle.jvm_model.specs.Basis.Data.{Entry, Active, Listing, Isub, Store, BinaryOfInts, Iinc, WithZero, Equal, Greater, Branch, Jsr, Ret, Within, Returned}
 use Rattle.jvm_model.specs.declared.event.Act.{Act}
 use Rattle.jvm_model.specs.Running.Run.{turn_in}
 use Rattle.jvm_model.specs.Profiling.Activations.{trace_in}
 use Rattle.jvm_model.specs.Codes.Moved.{moved}
 use Rattle.jvm_model.specs.Codes.Closed.{laid_out}
 use Rattle.jvm_model.specs.Rewriting.StandsFor.{home_at, by_homes}
-use Rattle.jvm_model.proofs.Worked.WorkedPrograms.{Sketches, world_by, text_by, after, trace_by, contexts_by, member, routine, main_routine, alone, at, at_to, int, iload, ireturn, returns, call, prints_result}
+use Rattle.jvm_model.proofs.Worked.WorkedPrograms.{Sketches, world_by, listing_by, after, trace_by, contexts_by, member, routine, main_routine, alone, at, at_to, int, iload, ireturn, returns, call, prints_result}
 
 -- ---- a loop with a jump backwards: main prints k(3), which counts down to 0
 
@@ -80,8 +80,8 @@ p3_homes = Some s_homes ∷ []
 abbrev pub origin : ℕ → ℕ → Option ℕ
 origin version place = if version == 0 then found_beside s_homes.home s_homes.from place else Some place
 
-abbrev pub p3_laid : Text
-p3_laid = laid_out (home_at p3_homes) origin (text_by p3)
+abbrev pub p3_laid : Listing
+p3_laid = laid_out (home_at p3_homes) origin (listing_by p3)
 
 -- within the subroutine, when the return address was stored: 9, where the original code has 3
 abbrev pub p3_stack : List Entry

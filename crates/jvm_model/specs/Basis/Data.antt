@@ -151,9 +151,10 @@ pub record Catcher : Type 0 where
   pub target : ℕ
   pub catches : Option (List ℕ)
 
--- The text that is run: which version a method begins in, and at which place; and for each version the instruction at a
--- place, and the handlers. Original code is the text in which places are offsets and each method's version is its number.
-pub record Text : Type 0 where
+-- The listing of the code that is run: which version a method begins in, and at which place; and for each version the
+-- instruction at a place, and the handlers. Original code is the listing in which places are offsets and each method's
+-- version is its number.
+pub record Listing : Type 0 where
   pub current : ℕ → ℕ
   pub first : ℕ → ℕ
   pub at : ℕ → ℕ → Option Instruction

@@ -1,7 +1,7 @@
 -- Programs that start without any code but `main`: the main class is the first one, its superclass is ready, it has no static initializer,
 -- and all other classes are ready before (JVM Specification 5.2, 5.5).
 use Rattle.std.specs.Prelude.{◌≡◌, ◌≤◌, ℕ, true, List, [], ◌∷◌, ◌++◌, map, slice_set, Option, Some, None, if◌then◌else◌}
-use Rattle.jvm_model.specs.Basis.Data.{Active, Phase, Running, Ready, Uncaught, Unverifiable, Program, Shared, State, Loads, Began, Turn, Text, World}
+use Rattle.jvm_model.specs.Basis.Data.{Active, Phase, Running, Ready, Uncaught, Unverifiable, Program, Shared, State, Loads, Began, Turn, Listing, World}
 use Rattle.jvm_model.specs.Running.Applies.{still, new_frame, has_room}
 use Rattle.jvm_model.specs.Running.Moves.{argument_array, fresh}
 use Rattle.jvm_model.specs.Basis.Programs.{super_of, initializer_of}
@@ -37,7 +37,7 @@ ready_in w =
     record loaded { shared = with_phase loaded.shared 0 Ready }
 
 -- `main` has begun
-abbrev pub begun_in : World → Text → Turn
+abbrev pub begun_in : World → Listing → Turn
 begun_in w t = record {
   after = record (ready_in w) { begun = true; stack = Active (new_frame w t w.program.main argument_array) ∷ [] };
   changes = Loads (0 ∷ []) ∷ Began w.program.main ∷ [];
@@ -51,7 +51,7 @@ unbegun_in w = record { after = record (ready_in w) { ending = Some (Unverifiabl
 abbrev pub unmade_in : World → Turn
 unmade_in w = still (record (exhausted w) { ending = Some (Uncaught (class_of w.program (shared_before w.program) 1)) })
 
-abbrev pub begins_or_ends : World → Text → Turn
+abbrev pub begins_or_ends : World → Listing → Turn
 begins_or_ends w t =
     if arguments_fit w.program
     then (if has_room w w.program.main argument_array then begun_in w t else unbegun_in w)

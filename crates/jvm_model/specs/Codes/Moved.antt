@@ -2,7 +2,7 @@
 use Rattle.std.specs.Prelude.{◌≡◌, ℕ, ◌<◌, List, [], ◌∷◌, map, Option}
 use Rattle.std.specs.Option.{option_map}
 use Rattle.heap_objects.specs.declared.Value.TheVariants.{Int, Long, Ref, Addr}
-use Rattle.jvm_model.specs.Basis.Data.{Value, Locals, Operands, Frame, Entry, Active, Initializing, State, Turn, Instruction, Catcher, Text, Where, Next, Target, Back, Outcome, GoesOn, Subroutine, Invokes, Returns, Throws, Raises, Initializes, Exits, Breaks, Done}
+use Rattle.jvm_model.specs.Basis.Data.{Value, Locals, Operands, Frame, Entry, Active, Initializing, State, Turn, Instruction, Catcher, Listing, Where, Next, Target, Back, Outcome, GoesOn, Subroutine, Invokes, Returns, Throws, Raises, Initializes, Exits, Breaks, Done}
 
 -- which version stands for a version, and where each place of it stands
 pub record Moving : Type 0 where
@@ -71,7 +71,7 @@ moved_instruction h i = record i { next = option_map h i.next; targets = map h i
 abbrev pub moved_catcher : (ℕ → ℕ) → Catcher → Catcher
 moved_catcher h c = record c { start = h c.start; finish = h c.finish; target = h c.target }
 
--- ---- texts that agree
+-- ---- listings that agree
 
 -- The places where a frame can stand are those that `norm` leaves as they are: starts of instructions, and the end.
 abbrev pub IsPlace : (ℕ → ℕ → ℕ) → ℕ → ℕ → Type 0
@@ -86,9 +86,9 @@ abbrev pub HaveBounds : (ℕ → ℕ → ℕ) → ℕ → List Catcher → Type 
 HaveBounds norm v [] = Unit {0}
 HaveBounds norm v (h ∷ more) = IsPlace norm v h.start × IsPlace norm v h.finish × HaveBounds norm v more
 
--- The second text has the lines and handlers of the first by homes, which rise strictly over the places where there are
--- handlers.
-pub record Agrees (norm : ℕ → ℕ → ℕ) (m : Moving) (t u : Text) : Type 0 where
+-- The second listing has the lines and handlers of the first by homes, which rise strictly over the places where there
+-- are handlers.
+pub record Agrees (norm : ℕ → ℕ → ℕ) (m : Moving) (t u : Listing) : Type 0 where
   pub current : (k : ℕ) → u.current k ≡ m.version (t.current k)
   pub first : (v : ℕ) → u.first (m.version v) ≡ m.home v (t.first v)
   pub lines : (v at : ℕ) → IsPlace norm v at → u.at (m.version v) (m.home v at) ≡ option_map (moved_instruction (m.home v)) (t.at v at)

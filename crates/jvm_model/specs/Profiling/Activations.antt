@@ -2,7 +2,7 @@
 -- and in which it ended. The changes of each step are folded, one after another.
 use Rattle.std.specs.Prelude.{◌≡◌, ℕ, zero, suc, List, [], ◌∷◌, ◌++◌, length, Option, Some, None, refl, slice_get, slice_set}
 use Rattle.std.specs.Option.{option_map_or}
-use Rattle.jvm_model.specs.Basis.Data.{Change, Loads, Began, Left, Unwound, Text, World}
+use Rattle.jvm_model.specs.Basis.Data.{Change, Loads, Began, Left, Unwound, Listing, World}
 use Rattle.jvm_model.specs.Running.Run.{turn_in}
 use Rattle.jvm_model.specs.Codes.Originals.{original}
 
@@ -57,8 +57,8 @@ abbrev pub all_changed : ℕ → Trace → List Change → Trace
 all_changed step t [] = t
 all_changed step t (c ∷ more) = all_changed step (changed step t c) more
 
--- the activations after so many steps over a text; the start is step 0
-unfoldable pub trace_in : World → Text → ℕ → Trace
+-- the activations after so many steps over a listing; the start is step 0
+unfoldable pub trace_in : World → Listing → ℕ → Trace
 trace_in w t zero = all_changed 0 no_trace (turn_in w t 0).changes
 trace_in w t (suc n) = all_changed (suc n) (trace_in w t n) (turn_in w t (suc n)).changes
 
@@ -72,10 +72,10 @@ trace_before w (suc n) = trace w n
 
 -- ---- how they go on: all that is needed of the recursion
 
-pub trace_in-zero : (w : World) (t : Text) → trace_in w t 0 ≡ all_changed 0 no_trace (turn_in w t 0).changes
+pub trace_in-zero : (w : World) (t : Listing) → trace_in w t 0 ≡ all_changed 0 no_trace (turn_in w t 0).changes
 unfolding trace_in
 trace_in-zero w t = refl
 
-pub trace_in-suc : (w : World) (t : Text) (n : ℕ) → trace_in w t (suc n) ≡ all_changed (suc n) (trace_in w t n) (turn_in w t (suc n)).changes
+pub trace_in-suc : (w : World) (t : Listing) (n : ℕ) → trace_in w t (suc n) ≡ all_changed (suc n) (trace_in w t n) (turn_in w t (suc n)).changes
 unfolding trace_in
 trace_in-suc w t n = refl

@@ -6,7 +6,7 @@ use Rattle.std.specs.Option.{option_map_or}
 use Rattle.jvm_model.specs.declared.event.Act.{Act}
 use Rattle.jvm_model.specs.declared.event.Mark.{Mark}
 use Rattle.jvm_model.specs.declared.event.Mark.TheVariants.{Off, Plain, Root}
-use Rattle.jvm_model.specs.Basis.Data.{MethodPlace, Program, Change, Loads, Began, Left, Unwound, Operation, Text, World}
+use Rattle.jvm_model.specs.Basis.Data.{MethodPlace, Program, Change, Loads, Began, Left, Unwound, Operation, Listing, World}
 use Rattle.jvm_model.specs.Profiling.Activations.{Activation, Trace, no_trace, current, changed}
 use Rattle.jvm_model.specs.Profiling.EventLists.{Marking}
 use Rattle.jvm_model.specs.Classes.Load.{is_among}
@@ -97,16 +97,16 @@ after_changes acts step s (c ∷ more) = after_changes acts step (after_change a
 abbrev pub after_step : List Act → ℕ → Standing → List Change → Standing
 after_step acts step s changes = after_acts acts (settled acts (after_changes acts step s changes)) (acts_behind step acts)
 
--- what stands before a step over a text: the start is step 0
-unfoldable pub standing_in : List Act → World → Text → ℕ → Standing
+-- what stands before a step over a listing: the start is step 0
+unfoldable pub standing_in : List Act → World → Listing → ℕ → Standing
 standing_in acts w t zero = after_acts acts (nothing w) (acts_at 0 acts)
 standing_in acts w t (suc n) = after_step acts n (standing_in acts w t n) (turn_in w t n).changes
 
-pub standing_in-zero : (acts : List Act) (w : World) (t : Text) → standing_in acts w t 0 ≡ after_acts acts (nothing w) (acts_at 0 acts)
+pub standing_in-zero : (acts : List Act) (w : World) (t : Listing) → standing_in acts w t 0 ≡ after_acts acts (nothing w) (acts_at 0 acts)
 unfolding standing_in
 standing_in-zero acts w t = refl
 
-pub standing_in-suc : (acts : List Act) (w : World) (t : Text) (n : ℕ)
+pub standing_in-suc : (acts : List Act) (w : World) (t : Listing) (n : ℕ)
     → standing_in acts w t (suc n) ≡ after_step acts n (standing_in acts w t n) (turn_in w t n).changes
 unfolding standing_in
 standing_in-suc acts w t n = refl
@@ -137,7 +137,7 @@ before_begin acts step s (Left ∷ more) = before_begin acts step (after_change 
 before_begin acts step s (Unwound ∷ more) = before_begin acts step (after_change acts step s Unwound) more
 
 -- the mark that a method has at the last point before an activation begins in a step
-abbrev pub marking_in : List Act → World → Text → (ℕ → List Operation) → Marking
+abbrev pub marking_in : List Act → World → Listing → (ℕ → List Operation) → Marking
 marking_in acts w t code step method =
     mark_in w.program code (before_begin acts step (standing_in acts w t step) (turn_in w t step).changes) method
 

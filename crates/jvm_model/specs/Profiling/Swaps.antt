@@ -9,7 +9,7 @@ use Rattle.code_model.specs.declared.laying.Homes.{Homes}
 use Rattle.jvm_model.specs.declared.event.Act.{Act}
 use Rattle.jvm_model.specs.declared.event.Mark.{Mark}
 use Rattle.jvm_model.specs.declared.event.Mark.TheVariants.{Off, Plain, Root}
-use Rattle.jvm_model.specs.Basis.Data.{MethodPlace, Program, Change, Loads, Began, Left, Unwound, Operation, Text, World}
+use Rattle.jvm_model.specs.Basis.Data.{MethodPlace, Program, Change, Loads, Began, Left, Unwound, Operation, Listing, World}
 use Rattle.jvm_model.specs.Rewriting.Images.{IsImage}
 use Rattle.jvm_model.specs.Basis.Programs.{class_at, no_class, number_of_method}
 use Rattle.jvm_model.specs.Running.Run.{turn_in}
@@ -46,8 +46,8 @@ step_points acts step s changes =
     let «end» = settled acts (after_changes acts step s changes) in
     change_points acts step s changes ++ point step «end» ∷ act_points acts step «end» (acts_behind step acts)
 
--- of the start and so many steps over a text
-unfoldable pub points_in : List Act → World → Text → ℕ → List Point
+-- of the start and so many steps over a listing
+unfoldable pub points_in : List Act → World → Listing → ℕ → List Point
 points_in acts w t zero = act_points acts 0 (nothing w) (acts_at 0 acts) ++ step_points acts 0 (standing_in acts w t 0) (turn_in w t 0).changes
 points_in acts w t (suc n) = points_in acts w t n ++ step_points acts (suc n) (standing_in acts w t (suc n)) (turn_in w t (suc n)).changes
 
@@ -86,7 +86,7 @@ abbrev pub swaps_from : Program → (ℕ → List Operation) → Standing → Li
 swaps_from p code before [] = []
 swaps_from p code before (now ∷ more) = swapped_at p code before now ++ swaps_from p code now.standing more
 
-abbrev pub swaps_in : List Act → World → Text → (ℕ → List Operation) → ℕ → List Swapped
+abbrev pub swaps_in : List Act → World → Listing → (ℕ → List Operation) → ℕ → List Swapped
 swaps_in acts w t code n = swaps_from w.program code (nothing w) (points_in acts w t n)
 
 -- how many methods with Code the classes in front of a class have: the number of its first one
@@ -113,7 +113,7 @@ points_to_begin acts step s (Left ∷ more) = points_to_begin acts step (after_c
 points_to_begin acts step s (Unwound ∷ more) = points_to_begin acts step (after_change acts step s Unwound) more
 
 -- all points before a step
-abbrev pub points_before : List Act → World → Text → ℕ → List Point
+abbrev pub points_before : List Act → World → Listing → ℕ → List Point
 points_before acts w t zero = act_points acts 0 (nothing w) (acts_at 0 acts)
 points_before acts w t (suc n) = points_in acts w t n
 
@@ -122,12 +122,12 @@ abbrev pub last_standing : Standing → List Point → Standing
 last_standing s [] = s
 last_standing s (p ∷ more) = last_standing p.standing more
 
-pub points_in-zero : (acts : List Act) (w : World) (t : Text)
+pub points_in-zero : (acts : List Act) (w : World) (t : Listing)
     → points_in acts w t 0 ≡ act_points acts 0 (nothing w) (acts_at 0 acts) ++ step_points acts 0 (standing_in acts w t 0) (turn_in w t 0).changes
 unfolding points_in
 points_in-zero acts w t = refl
 
-pub points_in-suc : (acts : List Act) (w : World) (t : Text) (n : ℕ)
+pub points_in-suc : (acts : List Act) (w : World) (t : Listing) (n : ℕ)
     → points_in acts w t (suc n) ≡ points_in acts w t n ++ step_points acts (suc n) (standing_in acts w t (suc n)) (turn_in w t (suc n)).changes
 unfolding points_in
 points_in-suc acts w t n = refl

@@ -1,4 +1,4 @@
--- What ties a rewritten class to the original, place by place; and the rewritten class as a text.
+-- What ties a rewritten class to the original, place by place; and the rewritten class as a listing.
 use Rattle.std.specs.Prelude.{◌≡◌, ℕ, ◌+◌, Bool, true, false, not, List, map, Option, Some, None, is_some, slice_get, ◌&&◌, if◌then◌else◌}
 use Rattle.std.specs.Option.{option_and_then, option_map, option_map_or}
 use Rattle.const_pool.specs.declared.class.ClassFile.{ClassFile}
@@ -14,7 +14,7 @@ use Rattle.jvm_model.specs.declared.event.Mark.TheVariants.{Off, Plain, Root}
 use Rattle.jvm_model.specs.declared.operation.Line.{Line}
 use Rattle.jvm_model.specs.declared.operation.Resolved.{Resolved}
 use Rattle.jvm_model.specs.declared.operation.Resolved.TheVariants.{Ireturn, Return}
-use Rattle.jvm_model.specs.Basis.Data.{Program, Text}
+use Rattle.jvm_model.specs.Basis.Data.{Program, Listing}
 use Rattle.jvm_model.specs.Rewriting.Images.{is_off}
 use Rattle.jvm_model.specs.Basis.Methods.{method_code}
 use Rattle.jvm_model.specs.Codes.Moved.{moved_instruction, moved_catcher}
@@ -79,7 +79,7 @@ pub record Agrees (c : ClassFile) (marks : List Mark) (image : ClassFile) (homes
   -- what is no method of the class stays
   pub others : (method : ℕ) → method_code c method ≡ None → homes_at homes method ≡ None
 
--- ---- the rewritten class as a text
+-- ---- the rewritten class as a listing
 
 -- whether a probe stands at a method's entry, or before a return
 abbrev pub is_entry_kind : EventKind → Bool
@@ -111,9 +111,10 @@ behind_leave image method place = if is_leave (probe_at image method place) then
 abbrev pub line_behind : ClassFile → List (Option Homes) → ℕ → ℕ → Option Line
 line_behind image homes method place = version_line image homes method (behind_leave image method place)
 
--- The rewritten class as a text of the program of one class: no probes, and at a home the instruction whose offset it is
--- the home of. What the instruction does is said of the original class; that the image's lines do the same is `Agrees`.
-abbrev pub rewritten : Program → ClassFile → List (Option Homes) → Text
+-- The rewritten class as a listing of the program of one class: no probes, and at a home the instruction whose offset
+-- it is the home of. What the instruction does is said of the original class; that the image's lines do the same is
+-- `Agrees`.
+abbrev pub rewritten : Program → ClassFile → List (Option Homes) → Listing
 rewritten p image homes = let t = original p in record {
   current = λ method. method;
   first = λ method. home_at homes method (t.first method);

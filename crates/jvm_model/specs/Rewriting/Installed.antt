@@ -6,7 +6,7 @@ use Rattle.code_model.specs.declared.laying.Homes.{Homes}
 use Rattle.jvm_model.specs.declared.event.Mark.{Mark}
 use Rattle.jvm_model.specs.declared.event.Mark.TheVariants.{Off}
 use Rattle.jvm_model.specs.declared.operation.Line.{Line}
-use Rattle.jvm_model.specs.Basis.Data.{Nop, Within, Instruction, Program, Text, World}
+use Rattle.jvm_model.specs.Basis.Data.{Nop, Within, Instruction, Program, Listing, World}
 use Rattle.jvm_model.specs.Basis.Programs.{first_class}
 use Rattle.jvm_model.specs.Rewriting.Agreement.{first_place, line_behind}
 
@@ -43,8 +43,8 @@ line_in t method place = line_behind t.image t.homes method place
 abbrev pub placed : Line → Instruction
 placed line = record { operation = Within Nop; own = line.own; next = line.next; targets = [] }
 
--- the versions as a text of places
-abbrev pub tabled : Installed → Text
+-- the versions as a listing of places
+abbrev pub tabled : Installed → Listing
 tabled t = record {
   current = λ method. method;
   first = λ method. first_place t.image method;

@@ -2,11 +2,11 @@
 -- code with a number of a version written into each frame, which does nothing. So two frames of one method may run
 -- different versions, and the version that a method begins in may change from step to step.
 use Rattle.std.specs.Prelude.{◌≡◌, ℕ, List, [], ◌∷◌}
-use Rattle.jvm_model.specs.Basis.Data.{Entry, Active, Initializing, State, Text}
+use Rattle.jvm_model.specs.Basis.Data.{Entry, Active, Initializing, State, Listing}
 use Rattle.jvm_model.specs.Codes.Moved.{Moving, moved, Agrees, IsPlaced}
 
 -- the original code under versions: the method that each version is of, and the version that a method begins in
-abbrev pub named : (ℕ → ℕ) → (ℕ → ℕ) → Text → Text
+abbrev pub named : (ℕ → ℕ) → (ℕ → ℕ) → Listing → Listing
 named method_of current t = record {
   current = current;
   first = λ v. t.first (method_of v);
@@ -33,8 +33,8 @@ pub record StandsFor (norm : ℕ → ℕ → ℕ) (method_of : ℕ → ℕ) (hom
   pub original_is : original ≡ moved (forgotten method_of) between
   pub at_places : IsPlaced (norm_by method_of norm) between
 
--- A text of versions, each laid out by homes from the code of its method.
-pub record IsOfVersions (norm : ℕ → ℕ → ℕ) (method_of current : ℕ → ℕ) (homes : ℕ → ℕ → ℕ) (t u : Text) : Type 0 where
+-- A listing of versions, each laid out by homes from the code of its method.
+pub record IsOfVersions (norm : ℕ → ℕ → ℕ) (method_of current : ℕ → ℕ) (homes : ℕ → ℕ → ℕ) (t u : Listing) : Type 0 where
   pub begins : (k : ℕ) → t.current k ≡ method_of (current k)
   pub agrees : Agrees (norm_by method_of norm) (at_homes homes) (named method_of current t) u
 

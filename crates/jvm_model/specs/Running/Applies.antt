@@ -3,7 +3,7 @@ use Rattle.std.specs.Prelude.{ℕ, suc, Bool, true, false, List, [], ◌∷◌, 
 use Rattle.std.specs.Option.{option_map}
 use Rattle.heap_objects.specs.declared.Value.TheVariants.{Addr}
 use Rattle.frame_stack.specs.Widths.{height_of}
-use Rattle.jvm_model.specs.Basis.Data.{Datum, Locals, Operands, Frame, Entry, Active, Initializing, Constants, Running, Exited, Unverifiable, State, Began, Left, Turn, Instruction, Text, Where, Next, Target, Back, Outcome, GoesOn, Subroutine, Invokes, Returns, Throws, Raises, Initializes, Exits, Breaks, World}
+use Rattle.jvm_model.specs.Basis.Data.{Datum, Locals, Operands, Frame, Entry, Active, Initializing, Constants, Running, Exited, Unverifiable, State, Began, Left, Turn, Instruction, Listing, Where, Next, Target, Back, Outcome, GoesOn, Subroutine, Invokes, Returns, Throws, Raises, Initializes, Exits, Breaks, World}
 use Rattle.jvm_model.specs.Basis.Values.{as_value, spread, locals_with, with_value}
 use Rattle.jvm_model.specs.Basis.Programs.{max_stack_of, max_locals_of}
 use Rattle.jvm_model.specs.Basis.SharedState.{with_phase, Allocated, raised, stack_overflow}
@@ -37,7 +37,7 @@ enters_subroutine s f i (Some next) = goes s f i.own f.locals (Addr next ∷ f.o
 
 -- ---- invocation and return (2.6, 2.6.4)
 
-abbrev pub new_frame : World → Text → ℕ → List Datum → Frame
+abbrev pub new_frame : World → Listing → ℕ → List Datum → Frame
 new_frame w t m args = record {
   method = m;
   version = t.current m;
@@ -55,7 +55,7 @@ abbrev pub has_room : World → ℕ → List Datum → Bool
 has_room w m args = nat_le (length (spread args)) (max_locals_of w m)
 
 -- the caller stays at its instruction without the arguments
-abbrev pub begins : World → Text → State → Frame → ℕ → List Datum → Operands → Turn
+abbrev pub begins : World → Listing → State → Frame → ℕ → List Datum → Operands → Turn
 begins w t s f m args below = record { after = with_frame (with_frame s (record f { operands = below })) (new_frame w t m args); changes = Began m ∷ [] }
 
 -- how many activations are live
@@ -69,12 +69,12 @@ abbrev pub most_live : ℕ
 most_live = 1024
 
 -- beside so many others, the caller's own among them
-abbrev pub begins_beside : World → Text → State → Frame → ℕ → List Datum → Operands → ℕ → Turn
+abbrev pub begins_beside : World → Listing → State → Frame → ℕ → List Datum → Operands → ℕ → Turn
 begins_beside w t s f m args below live =
     if nat_lt live most_live then begins w t s f m args below
     else still (throws_at s f (raised w s.shared stack_overflow None))
 
-abbrev pub invokes : World → Text → Instruction → State → Frame → ℕ → List Datum → Operands → Turn
+abbrev pub invokes : World → Listing → Instruction → State → Frame → ℕ → List Datum → Operands → Turn
 invokes w t i s f m args below =
     if has_room w m args then begins_beside w t s f m args below (suc (live_in s.stack)) else still (breaks s f i.own)
 
@@ -84,7 +84,7 @@ resumes s caller d None = breaks s caller 0
 resumes s caller d (Some i) = goes s caller i.own caller.locals (with_value (option_map as_value d) caller.operands) i.next
 
 -- the current frame is off; an initialization goes on by itself
-abbrev pub gives_back : Text → State → Option Datum → List Entry → State
+abbrev pub gives_back : Listing → State → Option Datum → List Entry → State
 gives_back t s d [] = s
 gives_back t s d (Initializing c part ∷ below) = s
 gives_back t s d (Active caller ∷ below) = resumes (record s { stack = below }) caller d (t.at caller.version caller.place)
@@ -97,7 +97,7 @@ breaks_or_ends true s f own = record { after = record s { ending = Some (Unverif
 breaks_or_ends false s f own = still (breaks s f own)
 
 -- from the state without the current frame, and that frame
-abbrev pub applies : World → Text → Instruction → Outcome → State → Frame → Turn
+abbrev pub applies : World → Listing → Instruction → Outcome → State → Frame → Turn
 applies w t i (GoesOn l o to) s f = still (goes s f i.own l o (place_of i to))
 applies w t i Subroutine s f = still (enters_subroutine s f i i.next)
 applies w t i (Invokes m args below) s f = invokes w t i s f m args below

@@ -5,7 +5,7 @@ use Rattle.jvm_model.specs.declared.state.Entry.{Entry}
 use Rattle.jvm_model.specs.declared.state.Entry.TheVariants.{Active, Initializing}
 use Rattle.jvm_model.specs.declared.state.State.{State}
 use Rattle.jvm_model.specs.declared.due.Due.TheVariants.{Begins}
-use Rattle.jvm_model.specs.Basis.Data.{Change, Began, Left, Turn, Text, World}
+use Rattle.jvm_model.specs.Basis.Data.{Change, Began, Left, Turn, Listing, World}
 use Rattle.jvm_model.specs.Running.Applies.{live_in}
 use Rattle.jvm_model.specs.Turns.Told.{mark_now}
 use Rattle.jvm_model.specs.Turns.Pauses.{Pause, changes_due, passed_by, paused}
@@ -27,7 +27,7 @@ abbrev pub changes_between : ℕ → List Entry → List Change
 changes_between n stack = compared (nat_lt (live_in stack) n) (nat_lt n (live_in stack)) (top_method stack)
 
 -- the pause behind an attempt
-abbrev pub followed : World → Text → (ℕ → Mark) → ℕ → List Change → State → Pause
+abbrev pub followed : World → Listing → (ℕ → Mark) → ℕ → List Change → State → Pause
 followed w t v n changes s =
     pause_behind (changes_due (mark_now v t) [] changes) (record { state = s; passed = passed_by n changes; due = Begins })
     (paused w t v (passed_by n changes) s)

@@ -3,7 +3,7 @@ use Rattle.std.specs.Prelude.{ℕ, zero, suc, ◌+◌, ◌*◌, Bool, true, fals
 use Rattle.std.specs.Option.{option_map_or}
 use Rattle.heap_objects.specs.declared.datum.Datum.TheVariants as datum
 use Rattle.heap_objects.specs.declared.Value.TheVariants.{Ref}
-use Rattle.jvm_model.specs.Basis.Data.{Datum, Frame, Entry, Active, Initializing, Part, Constants, Superclass, Initializer, Finish, Phase, Fresh, Running, Ready, Erroneous, Shared, Ending, Returned, Uncaught, Unverifiable, State, Began, Unwound, Turn, Catcher, Instruction, Text, World}
+use Rattle.jvm_model.specs.Basis.Data.{Datum, Frame, Entry, Active, Initializing, Part, Constants, Superclass, Initializer, Finish, Phase, Fresh, Running, Ready, Erroneous, Shared, Ending, Returned, Uncaught, Unverifiable, State, Began, Unwound, Turn, Catcher, Instruction, Listing, World}
 use Rattle.jvm_model.specs.Running.Constants.{Setting, sets_constants}
 use Rattle.jvm_model.specs.Classes.Lookup.{is_below}
 use Rattle.jvm_model.specs.Basis.Programs.{name_at, super_of, initializer_of}
@@ -21,10 +21,10 @@ handler_for w class place [] = None
 handler_for w class place (h ∷ more) = if covers w class place h then Some h.target else handler_for w class place more
 
 -- the original offset of the instruction at which a frame stands
-abbrev pub own_at : Text → Frame → ℕ
+abbrev pub own_at : Listing → Frame → ℕ
 own_at t f = option_map_or (λ (i : Instruction). i.own) (t.at f.version f.place) 0
 
-abbrev pub caught : World → Text → State → ℕ → Frame → Option ℕ → Turn
+abbrev pub caught : World → Listing → State → ℕ → Frame → Option ℕ → Turn
 caught w t s r f None = record { after = s; changes = Unwound ∷ [] }
 caught w t s r f (Some target) = still (goes (record s { thrown = None }) f (own_at t f) f.locals (Ref r ∷ []) (Some target))
 
@@ -57,7 +57,7 @@ abbrev pub with_super : World → State → ℕ → Option ℕ → State
 with_super w s c None = at_part s c Initializer
 with_super w s c (Some d) = after_super w s c d (phase_of s.shared d)
 
-abbrev pub runs_initializer : World → Text → State → ℕ → Option ℕ → Turn
+abbrev pub runs_initializer : World → Listing → State → ℕ → Option ℕ → Turn
 runs_initializer w t s c None = still (at_part s c Finish)
 runs_initializer w t s c (Some m) =
     if nat_lt (live_in s.stack) most_live
@@ -69,7 +69,7 @@ abbrev pub with_constants : State → ℕ → Setting → State
 with_constants s c setting = record (at_part s c Superclass) { shared = setting.shared; thrown = setting.thrown }
 
 -- from the state without the marker
-abbrev pub initializes : World → Text → State → ℕ → Part → Turn
+abbrev pub initializes : World → Listing → State → ℕ → Part → Turn
 initializes w t s c Constants = still (with_constants s c (sets_constants w.program c s.shared))
 initializes w t s c Superclass = still (with_super w s c (super_of w.program c))
 initializes w t s c Initializer = runs_initializer w t s c (initializer_of w.program c)
@@ -81,7 +81,7 @@ initializes w t s c Finish = still (record s { shared = with_phase s.shared c Re
 abbrev pub argument_array : List Datum
 argument_array = datum.Ref 5 ∷ []
 
-abbrev pub main_or_end : World → Text → State → Bool → Turn
+abbrev pub main_or_end : World → Listing → State → Bool → Turn
 main_or_end w t s true = still (record s { ending = Some Returned })
 main_or_end w t s false =
     if has_room w w.program.main argument_array
@@ -91,7 +91,7 @@ main_or_end w t s false =
 -- ---- every move
 
 -- by the ending, what is thrown, and the stack
-abbrev pub moves : World → Text → State → Option Ending → Option ℕ → List Entry → Option Turn
+abbrev pub moves : World → Listing → State → Option Ending → Option ℕ → List Entry → Option Turn
 moves w t s (Some e) thrown stack = None
 moves w t s None (Some r) [] = Some (still (record s { ending = Some (Uncaught (class_of w.program s.shared r)) }))
 moves w t s None (Some r) (Active f ∷ below) = Some (caught w t (record s { stack = below }) r f (handler_for w (class_of w.program s.shared r) f.place (t.handlers f.version)))
@@ -100,7 +100,7 @@ moves w t s None None [] = Some (main_or_end w t s s.begun)
 moves w t s None None (Active f ∷ below) = None
 moves w t s None None (Initializing c part ∷ below) = Some (initializes w t (record s { stack = below }) c part)
 
-abbrev pub move : World → Text → State → Option Turn
+abbrev pub move : World → Listing → State → Option Turn
 move w t s = moves w t s s.ending s.thrown s.stack
 
 -- ---- the normal form
@@ -138,10 +138,10 @@ abbrev pub then_turn : Turn → Turn → Turn
 then_turn a b = record { after = b.after; changes = a.changes ++ b.changes }
 
 -- so many moves, or up to where none applies
-abbrev pub settles : World → Text → ℕ → Turn → Turn
+abbrev pub settles : World → Listing → ℕ → Turn → Turn
 settles w t zero turn = turn
 settles w t (suc n) turn = option_map_or (λ next. settles w t n (then_turn turn next)) (move w t turn.after) turn
 
 -- all moves: none applies to what it gives
-abbrev pub settled : World → Text → Turn → Turn
+abbrev pub settled : World → Listing → Turn → Turn
 settled w t turn = settles w t (left turn.after) turn

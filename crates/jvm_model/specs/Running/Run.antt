@@ -2,7 +2,7 @@
 use Rattle.std.specs.Prelude.{◌≡◌, ℕ, zero, suc, ◌+◌, Bool, true, false, List, [], ◌∷◌, ◌++◌, drop, length, unwrap_or, Option, Some, None, refl, ◌&&◌, if◌then◌else◌}
 use Rattle.std.specs.Option.{option_map_or}
 use Rattle.std.proofs.Common.{ap, ◌∙◌, add-one}
-use Rattle.jvm_model.specs.Basis.Data.{Frame, Entry, Active, Initializing, Constants, MethodPlace, Phase, Running, Ready, Ending, State, Change, Loads, Turn, Outcome, Initializes, Done, Instruction, Program, Text, World}
+use Rattle.jvm_model.specs.Basis.Data.{Frame, Entry, Active, Initializing, Constants, MethodPlace, Phase, Running, Ready, Ending, State, Change, Loads, Turn, Outcome, Initializes, Done, Instruction, Program, Listing, World}
 use Rattle.jvm_model.specs.Basis.Programs.{name_at, place_of_method}
 use Rattle.jvm_model.specs.Basis.SharedState.{phase_of, with_phase, shared_before, with_arguments, arguments_fit}
 use Rattle.jvm_model.specs.Instructions.Does.{does, loads}
@@ -15,10 +15,10 @@ use Rattle.jvm_model.specs.Codes.Originals.{original}
 -- ---- a step
 
 -- the instruction is attempted, with all that follows; from the state without the current frame
-abbrev pub tries : World → Text → Instruction → State → Frame → Done → Turn
+abbrev pub tries : World → Listing → Instruction → State → Frame → Done → Turn
 tries w t i s f done = settled w t (applies w t i done.outcome (record s { shared = done.shared; output = s.output ++ done.wrote }) f)
 
-abbrev pub attempt : World → Text → Instruction → State → Frame → Turn
+abbrev pub attempt : World → Listing → Instruction → State → Frame → Turn
 attempt w t i s f = tries w t i s f (does w i.operation s.shared f.locals f.operands)
 
 -- the class that is initialized before
@@ -39,14 +39,14 @@ goes_on None None = true
 goes_on _ _ = false
 
 -- where the class was initialized without any activation, the instruction is executed in the same step
-abbrev pub goes_again : World → Text → Instruction → State → Frame → Option ℕ → Turn → Turn
+abbrev pub goes_again : World → Listing → Instruction → State → Frame → Option ℕ → Turn → Turn
 goes_again w t i s f None turn = turn
 goes_again w t i s f (Some c) turn =
     if is_quiet turn.changes && is_ready (phase_of turn.after.shared c) && goes_on turn.after.ending turn.after.thrown
     then then_turn turn (attempt w t i (record turn.after { stack = s.stack }) f)
     else turn
 
-abbrev pub steps_by : World → Text → Instruction → State → Frame → Done → Turn
+abbrev pub steps_by : World → Listing → Instruction → State → Frame → Done → Turn
 steps_by w t i s f done = goes_again w t i s f (starts done.outcome) (tries w t i s f done)
 
 -- the classes that it needs are loaded first
@@ -58,18 +58,18 @@ abbrev pub loaded_turn : List ℕ → Turn → Turn
 loaded_turn [] turn = turn
 loaded_turn (c ∷ more) turn = record turn { changes = Loads (c ∷ more) ∷ turn.changes }
 
-abbrev pub steps_at : World → Text → State → Frame → Option Instruction → Turn
+abbrev pub steps_at : World → Listing → State → Frame → Option Instruction → Turn
 steps_at w t s f None = still (breaks s f 0)
 steps_at w t s f (Some i) =
     let classes = loads w i.operation s.shared f.operands in
     let ready = with_loaded classes s in
     loaded_turn classes (steps_by w t i ready f (does w i.operation ready.shared f.locals f.operands))
 
-abbrev pub steps_on : World → Text → State → Option Ending → List Entry → Turn
+abbrev pub steps_on : World → Listing → State → Option Ending → List Entry → Turn
 steps_on w t s None (Active f ∷ below) = steps_at w t (record s { stack = below }) f (t.at f.version f.place)
 steps_on w t s _ _ = still s
 
-abbrev pub step : World → Text → State → Turn
+abbrev pub step : World → Listing → State → Turn
 step w t s = steps_on w t s s.ending s.stack
 
 -- ---- the start (5.2, 5.5)
@@ -126,13 +126,13 @@ abbrev pub starts_with : World → State
 starts_with w = starts_if w (arguments_fit w.program)
 
 -- the arguments are made, the main class is loaded, and then initialized
-abbrev pub start : World → Text → Turn
+abbrev pub start : World → Listing → Turn
 start w t = loaded_turn (main_loads w) (settled w t (still (starts_with w)))
 
 -- ---- the run
 
--- The last one of so many steps, over a text; the start is step 0.
-unfoldable pub turn_in : World → Text → ℕ → Turn
+-- The last one of so many steps, over a listing; the start is step 0.
+unfoldable pub turn_in : World → Listing → ℕ → Turn
 turn_in w t zero = start w t
 turn_in w t (suc n) = step w t (turn_in w t n).after
 
@@ -151,13 +151,13 @@ ending_of w n = (run w n).ending
 
 -- ---- how the run goes: all that is needed of it
 
-pub turn_in-zero : (w : World) (t : Text) → turn_in w t 0 ≡ start w t
+pub turn_in-zero : (w : World) (t : Listing) → turn_in w t 0 ≡ start w t
 unfolding turn_in
 turn_in-zero w t = refl
 
-pub turn_in-suc : (w : World) (t : Text) (n : ℕ) → turn_in w t (suc n) ≡ step w t (turn_in w t n).after
+pub turn_in-suc : (w : World) (t : Listing) (n : ℕ) → turn_in w t (suc n) ≡ step w t (turn_in w t n).after
 unfolding turn_in
 turn_in-suc w t n = refl
 
-pub turn_in-more : (w : World) (t : Text) (n : ℕ) → turn_in w t (n + 1) ≡ step w t (turn_in w t n).after
+pub turn_in-more : (w : World) (t : Listing) (n : ℕ) → turn_in w t (n + 1) ≡ step w t (turn_in w t n).after
 turn_in-more w t n = ap (turn_in w t) (add-one n) ∙ turn_in-suc w t n

@@ -2,7 +2,7 @@
 -- the step goes on. So many of the step's changes are behind it; the probe of the end that comes next has told, or has not.
 use Rattle.std.specs.Prelude.{◌≡◌, ℕ, suc, Bool, true, false, List, [], ◌∷◌, drop, nat_lt}
 use Rattle.jvm_model.specs.declared.event.Mark.{Mark}
-use Rattle.jvm_model.specs.Basis.Data.{Entry, Active, Initializing, State, Turn, Text, World}
+use Rattle.jvm_model.specs.Basis.Data.{Entry, Active, Initializing, State, Turn, Listing, World}
 use Rattle.jvm_model.specs.Codes.Moved.{moved, IsPlaced}
 use Rattle.jvm_model.specs.Rewriting.StandsForRun.{StandsFor, forgotten, at_homes, norm_by}
 use Rattle.jvm_model.specs.Turns.Rest.{Todo, Attempt, Moves, rest}
@@ -25,7 +25,7 @@ abbrev pub versioned_of : Versioned → State → State
 versioned_of x s = moved (at_homes x.homes) s
 
 -- `t` is the original code, `turn` the whole step, `s` the machine's state.
-pub record InHand (w : World) (t : Text) (x : Versioned) (turn : Turn) (passed : ℕ) (told : Bool) (live : List Held) (todo : Todo) (s : State) : Type 0 where
+pub record InHand (w : World) (t : Listing) (x : Versioned) (turn : Turn) (passed : ℕ) (told : Bool) (live : List Held) (todo : Todo) (s : State) : Type 0 where
   pub between : State
   pub versioned : s ≡ versioned_of x between
   pub placed : IsPlaced (norm_by x.method_of x.norm) between
@@ -35,17 +35,17 @@ pub record InHand (w : World) (t : Text) (x : Versioned) (turn : Turn) (passed :
   pub awaits : told ≡ true → Awaits w t todo (original_of x between)
   pub loaded : IsLoaded w t todo (original_of x between)
 
--- ---- how the machine goes on, over the text that is in force now
+-- ---- how the machine goes on, over the listing that is in force now
 
 -- without the frame that is unwound
-abbrev pub goes_from : World → Text → Versioned → Bool → ℕ → Todo → State → State → Pause
+abbrev pub goes_from : World → Listing → Versioned → Bool → ℕ → Todo → State → State → Pause
 goes_from w u x told n Attempt s unwound = step_pause w u x.mark_of told n s
 goes_from w u x false n Moves s unwound = paused w u x.mark_of n s
 goes_from w u x true n Moves s unwound = paused w u x.mark_of (suc n) unwound
 
 -- What the machine comes to by that: where the step's changes say, with the rest of the same step in hand; and where nothing is told more, it stands for
 -- the state after the step.
-pub record GoesOn (w : World) (t : Text) (x : Versioned) (current : ℕ → ℕ) (turn : Turn) (passed : ℕ) (told : Bool) (live : List Held) (p : Pause) : Type 0 where
+pub record GoesOn (w : World) (t : Listing) (x : Versioned) (current : ℕ → ℕ) (turn : Turn) (passed : ℕ) (told : Bool) (live : List Held) (p : Pause) : Type 0 where
   pub later : Todo
   pub hand : InHand w t x turn p.passed (is_end p.due) (helds x.mark_of p.state.stack) later p.state
   pub stops : stop_from (λ m. x.mark_of (current m)) told passed live (drop passed turn.changes) ≡ stop_of x.mark_of p

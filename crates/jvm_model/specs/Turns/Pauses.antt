@@ -7,7 +7,7 @@ use Rattle.jvm_model.specs.declared.event.EventKind.TheVariants as kind
 use Rattle.jvm_model.specs.declared.event.Mark.{Mark}
 use Rattle.jvm_model.specs.declared.event.Mark.TheVariants.{Off, Plain, Root}
 use Rattle.jvm_model.specs.Rewriting.Images.{is_off}
-use Rattle.jvm_model.specs.Basis.Data.{State, Change, Loads, Began, Left, Unwound, Turn, Text, World}
+use Rattle.jvm_model.specs.Basis.Data.{State, Change, Loads, Began, Left, Unwound, Turn, Listing, World}
 use Rattle.jvm_model.specs.Running.Moves.{move, left}
 use Rattle.jvm_model.specs.Turns.Rest.{Todo, Attempt, Moves, rest, IsPart}
 use Rattle.jvm_model.specs.Turns.Told.{Held, held_after, helds, mark_now, changes_told, all_held}
@@ -74,14 +74,14 @@ pause_by before after n changes (Ends k) later = record { state = before; passed
 pause_by before after n changes Begins later = record { state = after; passed = passed_by n changes; due = Begins }
 
 -- so many moves, or up to where none applies, or to the first one that is told
-abbrev pub pauses : World → Text → (ℕ → Mark) → ℕ → ℕ → State → Pause
+abbrev pub pauses : World → Listing → (ℕ → Mark) → ℕ → ℕ → State → Pause
 pauses w t v zero n s = record { state = s; passed = n; due = Nothing }
 pauses w t v (suc k) n s =
     option_map_or (λ (next : Turn). pause_by s next.after n next.changes (changes_due (mark_now v t) (helds v s.stack) next.changes)
     (pauses w t v k (passed_by n next.changes) next.after)) (move w t s) (record { state = s; passed = n; due = Nothing })
 
 -- behind so many changes of the step
-abbrev pub paused : World → Text → (ℕ → Mark) → ℕ → State → Pause
+abbrev pub paused : World → Listing → (ℕ → Mark) → ℕ → State → Pause
 paused w t v n s = pauses w t v (left s) n s
 
 abbrev pub stop_of : (ℕ → Mark) → Pause → Stop
@@ -93,13 +93,13 @@ later_of (Ends kind.Leave) = Attempt
 later_of _ = Moves
 
 -- the next move takes the current frame off
-pub record Unwinds (w : World) (t : Text) (s : State) : Type 0 where
+pub record Unwinds (w : World) (t : Listing) (s : State) : Type 0 where
   pub after : State
   pub next : move w t s ≡ Some (record { after = after; changes = Unwound ∷ [] })
 
 -- The pause of a state's moves, n changes behind the begin of the step: the changes up to there are silent but for the last, what is left is the
 -- moves of its state, and where nothing is told none is left.
-pub record IsPaused (w : World) (t : Text) (v : ℕ → Mark) (n : ℕ) (s : State) (p : Pause) : Type 0 where
+pub record IsPaused (w : World) (t : Listing) (v : ℕ → Mark) (n : ℕ) (s : State) (p : Pause) : Type 0 where
   pub changes : List Change
   pub part : IsPart w t Moves s changes Moves p.state
   pub count : p.passed ≡ passed_by n changes

@@ -4,7 +4,7 @@ use Rattle.std.specs.Option.{option_map_or}
 use Rattle.jvm_model.specs.declared.event.EventKind.TheVariants as kind
 use Rattle.jvm_model.specs.declared.event.Mark.{Mark}
 use Rattle.jvm_model.specs.Rewriting.Images.{is_off}
-use Rattle.jvm_model.specs.Basis.Data.{Shared, Locals, Operands, Frame, Entry, Active, Ending, State, Change, Turn, Return, Operation, Within, Instruction, Outcome, Returns, Breaks, Text, World}
+use Rattle.jvm_model.specs.Basis.Data.{Shared, Locals, Operands, Frame, Entry, Active, Ending, State, Change, Turn, Return, Operation, Within, Instruction, Outcome, Returns, Breaks, Listing, World}
 use Rattle.jvm_model.specs.Basis.SharedState.{phase_of}
 use Rattle.jvm_model.specs.Instructions.Does.{does}
 use Rattle.jvm_model.specs.Running.Applies.{still, breaks, applies}
@@ -14,7 +14,7 @@ use Rattle.jvm_model.specs.Turns.Told.{Held, held_by, helds, mark_now}
 use Rattle.jvm_model.specs.Turns.Pauses.{later_of, Due, Nothing, Ends, Begins, changes_due, stop_from, stop_of, passed_by, Pause, paused, is_end, Unwinds}
 
 -- the instruction alone, from the state without the current frame
-abbrev pub attempted : World → Text → Instruction → State → Frame → Turn
+abbrev pub attempted : World → Listing → Instruction → State → Frame → Turn
 attempted w t i s f =
     let d = does w i.operation s.shared f.locals f.operands in
     applies w t i d.outcome (record s { shared = d.shared; output = s.output ++ d.wrote }) f
@@ -26,7 +26,7 @@ pause_behind Nothing begun later = later
 pause_behind (Ends k) begun later = later
 
 -- behind an instruction
-abbrev pub turn_pause : World → Text → (ℕ → Mark) → ℕ → List Held → Turn → Pause
+abbrev pub turn_pause : World → Listing → (ℕ → Mark) → ℕ → List Held → Turn → Pause
 turn_pause w t v n live a =
     pause_behind (changes_due (mark_now v t) live a.changes) (record { state = a.after; passed = passed_by n a.changes; due = Begins })
     (paused w t v (passed_by n a.changes) a.after)
@@ -37,7 +37,7 @@ is_nothing (Ends k) = false
 is_nothing Begins = false
 
 -- Where the class that it had to wait for is ready, and nothing has begun or ended, it is attempted again, by the frame that is current then.
-abbrev pub again_pause : World → Text → (ℕ → Mark) → ℕ → List Held → Instruction → State → Frame → Option ℕ → Pause → Pause
+abbrev pub again_pause : World → Listing → (ℕ → Mark) → ℕ → List Held → Instruction → State → Frame → Option ℕ → Pause → Pause
 again_pause w t v n live i s f None p = p
 again_pause w t v n live i s f (Some c) p =
     if is_nothing p.due && p.passed == n && is_ready (phase_of p.state.shared c) && goes_on p.state.ending p.state.thrown
@@ -62,42 +62,42 @@ EndsByReturn w = (op : Operation) (s : Shared) (l : Locals) (o : Operands) → e
 abbrev pub leave_due : Bool → Mark → Operation → Bool
 leave_due told m op = not told && not (is_off m) && is_return op
 
-abbrev pub line_pause : World → Text → (ℕ → Mark) → Bool → ℕ → State → Frame → Instruction → Pause
+abbrev pub line_pause : World → Listing → (ℕ → Mark) → Bool → ℕ → State → Frame → Instruction → Pause
 line_pause w t v told n s f i =
     if leave_due told (v f.version) i.operation
     then record { state = record s { stack = Active f ∷ s.stack }; passed = n; due = Ends kind.Leave }
     else again_pause w t v n (held_by v f ∷ helds v s.stack) i s f (starts (does w i.operation s.shared f.locals f.operands).outcome)
     (turn_pause w t v n (held_by v f ∷ helds v s.stack) (attempted w t i s f))
 
-abbrev pub frame_pause : World → Text → (ℕ → Mark) → Bool → ℕ → State → Frame → Option Instruction → Pause
+abbrev pub frame_pause : World → Listing → (ℕ → Mark) → Bool → ℕ → State → Frame → Option Instruction → Pause
 frame_pause w t v told n s f None = record { state = breaks s f 0; passed = n; due = Nothing }
 frame_pause w t v told n s f (Some i) = line_pause w t v told n s f i
 
-abbrev pub stack_pause : World → Text → (ℕ → Mark) → Bool → ℕ → State → Option Ending → List Entry → Pause
+abbrev pub stack_pause : World → Listing → (ℕ → Mark) → Bool → ℕ → State → Option Ending → List Entry → Pause
 stack_pause w t v told n s None (Active f ∷ below) = frame_pause w t v told n (record s { stack = below }) f (t.at f.version f.place)
 stack_pause w t v told n s _ _ = record { state = s; passed = n; due = Nothing }
 
 -- Its classes are loaded, and so many changes of the step are behind it; whether the probe before its return has told.
-abbrev pub step_pause : World → Text → (ℕ → Mark) → Bool → ℕ → State → Pause
+abbrev pub step_pause : World → Listing → (ℕ → Mark) → Bool → ℕ → State → Pause
 step_pause w t v told n s = stack_pause w t v told n s s.ending s.stack
 
 -- a return stands there
-abbrev pub is_at_return : Text → Option Ending → List Entry → Bool
+abbrev pub is_at_return : Listing → Option Ending → List Entry → Bool
 is_at_return t None (Active f ∷ below) = option_map_or (λ (i : Instruction). is_return i.operation) (t.at f.version f.place) false
 is_at_return t _ _ = false
 
 -- The end that was told comes next: the return is attempted, or the current frame is taken off.
-abbrev pub Awaits : World → Text → Todo → State → Type 0
+abbrev pub Awaits : World → Listing → Todo → State → Type 0
 Awaits w t Attempt s = is_at_return t s.ending s.stack ≡ true
 Awaits w t Moves s = Unwinds w t s
 
 -- what an attempt needs is loaded
-abbrev pub IsLoaded : World → Text → Todo → State → Type 0
+abbrev pub IsLoaded : World → Listing → Todo → State → Type 0
 IsLoaded w t Attempt s = step_loads w t s ≡ []
 IsLoaded w t Moves s = Unit {0}
 
 -- What it has to do with the step.
-pub record IsStepPaused (w : World) (t : Text) (v : ℕ → Mark) (told : Bool) (n : ℕ) (s : State) (p : Pause) : Type 0 where
+pub record IsStepPaused (w : World) (t : Listing) (v : ℕ → Mark) (told : Bool) (n : ℕ) (s : State) (p : Pause) : Type 0 where
   pub todo : Todo
   pub changes : List Change
   pub part : IsPart w t Attempt s changes todo p.state

@@ -7,7 +7,7 @@ use Rattle.jvm_model.specs.declared.event.EventKind.{EventKind}
 use Rattle.jvm_model.specs.declared.event.EventKind.TheVariants as kind
 use Rattle.jvm_model.specs.declared.event.Mark.{Mark}
 use Rattle.jvm_model.specs.declared.event.Mark.TheVariants.{Off}
-use Rattle.jvm_model.specs.Basis.Data.{Frame, Entry, Active, Initializing, Text, Change, Loads, Began, Left, Unwound}
+use Rattle.jvm_model.specs.Basis.Data.{Frame, Entry, Active, Initializing, Listing, Change, Loads, Began, Left, Unwound}
 use Rattle.jvm_model.specs.Profiling.Activations.{Activation, Trace}
 use Rattle.jvm_model.specs.Profiling.EventLists.{Marking, begin_events, end_events}
 
@@ -71,5 +71,5 @@ helds mark_of (Active f ∷ below) = held_by mark_of f ∷ helds mark_of below
 helds mark_of (Initializing c part ∷ below) = helds mark_of below
 
 -- the mark of the version in which a method begins
-abbrev pub mark_now : (ℕ → Mark) → Text → ℕ → Mark
+abbrev pub mark_now : (ℕ → Mark) → Listing → ℕ → Mark
 mark_now mark_of t m = mark_of (t.current m)

@@ -28,7 +28,7 @@ use Rattle.prepared_code.specs.States.{active, frame_in, state_with, state_in}
 use Rattle.jvm_steps.specs.Instructions.Arguments.{arguments_of, can_begin, fits_with, fits_params, slots_for, with_begun}
 use Rattle.jvm_steps.proofs.Instructions.NamedLaws.{Takes}
 use Rattle.jvm_steps.proofs.Instructions.Arguments.{spread-data, length-slots, height-reverse, height-kinds, enough-data, too-many}
-use Rattle.prepared_code.specs.Versions.{Setup, text_of, current_of, first_of}
+use Rattle.prepared_code.specs.Versions.{Setup, listing_of, current_of, first_of}
 
 pub live-is : (fs : List PlacedFrame) → live_in (map active fs) ≡ length fs
 live-is [] = refl
@@ -82,10 +82,10 @@ module _ (w : Setup) (line : Line) (callee : ℕ) (p : Parts) (f : PlacedFrame) 
       (state_with (f ∷ fs) (ended f.method line.instr.at p))
 
   abbrev begins_here : ℕ → List Datum → Turn
-  begins_here count args = begins w.world (text_of w.versions) (state_with fs p) (frame_in f) callee args (drop count f.operands)
+  begins_here count args = begins w.world (listing_of w.versions) (state_with fs p) (frame_in f) callee args (drop count f.operands)
 
   by_data : (ks : List Kind) (args : Option (List Datum)) → data_of ks (reverse (taken (length ks))) ≡ args
-      → (applies w.world (text_of w.versions) (placed_line line) (invokes_outcome callee (length ks) args f.operands) (state_with fs p) (frame_in f)).after
+      → (applies w.world (listing_of w.versions) (placed_line line) (invokes_outcome callee (length ks) args f.operands) (state_with fs p) (frame_in f)).after
       ≡ begun_by (is_some args && can_begin w callee (length ks) (f ∷ fs)) (length ks)
   by_data ks None e = refl
   by_data ks (Some args) e =
@@ -107,12 +107,12 @@ module _ (w : Setup) (line : Line) (callee : ℕ) (p : Parts) (f : PlacedFrame) 
 
   -- as a method that was named takes them
   pub calls-is : (here : Here) (args : List Datum) (below : Operands) → here.method ≡ f.method → own_of w here ≡ line.instr.at → Takes f.operands args below
-      → (applies w.world (text_of w.versions) (placed_line line) (Invokes callee args below) (state_with fs p) (frame_in f)).after
+      → (applies w.world (listing_of w.versions) (placed_line line) (Invokes callee args below) (state_with fs p) (frame_in f)).after
       ≡ called w here callee (length args) (f ∷ fs) p (may_begin (f ∷ fs)) (can_begin w callee (length args) (f ∷ fs))
   calls-is here args below method own takes =
       let ks : List Kind = takes.kinds in
       let many : length ks ≡ length args = sym (same-length ks (reverse (taken (length ks))) args takes.are) in
-      ap (λ o. (applies w.world (text_of w.versions) (placed_line line) (Invokes callee args o) (state_with fs p) (frame_in f)).after)
+      ap (λ o. (applies w.world (listing_of w.versions) (placed_line line) (Invokes callee args o) (state_with fs p) (frame_in f)).after)
       (takes.off ∙ ap (λ n. drop n f.operands) (sym many))
       ∙ (by_data ks (Some args) takes.are
       ∙ (ap (λ n. begun_by (can_begin w callee n (f ∷ fs)) n) many

@@ -30,7 +30,7 @@ use Rattle.prepared_code.proofs.MarkedStacks.{length-active}
 use Rattle.jvm_steps.proofs.Instructions.LineActs.{starts-some, stays}
 use Rattle.jvm_steps.proofs.Moves.LineSteps.{top-frame}
 use Rattle.jvm_steps.proofs.Instructions.NamedLaws.{Asks, IsNamed, is-named}
-use Rattle.prepared_code.specs.Versions.{Setup, text_of, line_at, instruction_in}
+use Rattle.prepared_code.specs.Versions.{Setup, listing_of, line_at, instruction_in}
 
 -- ---- answers that are given
 
@@ -164,7 +164,7 @@ module _ (w : Setup) (line : Line) (n : Naming) (ms : List Marker) (here : Here)
       let silent : starts d.outcome ≡ None = sym (starts-same d.outcome f fs can) ∙ quiet in
       let law : IsNamed _ f.operands d = is-named _ f.operands w n f.locals in
       ap (with_markers ms) (concludes-there w line here own mid f fs method d.outcome law.asks can silent)
-      ∙ applies-carried ms w (text_of w.versions) (placed_line line) d.outcome (stays-there w line here own mid f fs method d.outcome can silent)
+      ∙ applies-carried ms w (listing_of w.versions) (placed_line line) d.outcome (stays-there w line here own mid f fs method d.outcome can silent)
       (state_with fs mid) (frame_in f) (ap (λ k. marker_on (suc k) ms) (length-active fs) ∙ none)
 
   pub begins-by : (c : ℕ) (all : List PlacedFrame) → here_of all ≡ Some here → marker_on (length all) ms ≡ None → CanAnswer (answer_there all)

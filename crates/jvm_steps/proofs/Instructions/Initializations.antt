@@ -14,7 +14,7 @@ use Rattle.jvm_model.specs.declared.state.Phase.{Phase}
 use Rattle.jvm_model.specs.declared.state.Phase.TheVariants.{Fresh, Running, Ready, Erroneous}
 use Rattle.jvm_model.specs.declared.state.Shared.{Shared}
 use Rattle.jvm_model.specs.declared.state.State.{State}
-use Rattle.jvm_model.specs.Basis.Data.{Began, Change, Unwound, Turn, Text}
+use Rattle.jvm_model.specs.Basis.Data.{Began, Change, Unwound, Turn, Listing}
 use Rattle.jvm_model.specs.Running.Constants.{Setting, sets_constants}
 use Rattle.jvm_model.specs.Classes.Lookup.{is_below}
 use Rattle.jvm_model.specs.Basis.Programs.{name_at, super_of, initializer_of}
@@ -76,7 +76,7 @@ erroneous-ready e = absurd cc
 
 -- ---- the stages
 
-module _ (w : Setup) (t : Text) (c : ℕ) (f : Frame) (below : List Entry) where
+module _ (w : Setup) (t : Listing) (c : ℕ) (f : Frame) (below : List Entry) where
   abbrev pub base : List Entry
   base = Active f ∷ below
 

@@ -9,7 +9,7 @@ use Rattle.jvm_model.specs.declared.state.Entry.TheVariants.{Active}
 use Rattle.jvm_model.specs.declared.state.Part.TheVariants.{Finish}
 use Rattle.jvm_model.specs.declared.state.State.{State}
 use Rattle.jvm_model.specs.Running.Applies.{live_in, most_live, new_frame, still, with_frame}
-use Rattle.jvm_model.specs.Basis.Data.{Began, Text, Turn}
+use Rattle.jvm_model.specs.Basis.Data.{Began, Listing, Turn}
 use Rattle.jvm_model.specs.Running.Moves.{at_part, raises, runs_initializer}
 use Rattle.jvm_model.specs.Basis.Programs.{initializer_of, max_locals_of, max_stack_of}
 use Rattle.jvm_model.specs.Basis.SharedState.{stack_overflow}
@@ -22,7 +22,7 @@ use Rattle.jvm_steps.proofs.Instructions.Callees.{live-is}
 use Rattle.prepared_code.proofs.MarkedStacks.{length-active}
 use Rattle.prepared_code.proofs.MarkedStacks.{live-stack, stack-frame}
 use Rattle.jvm_steps.specs.Instructions.Arguments.{begun as placed, with_version_frame}
-use Rattle.prepared_code.specs.Versions.{Setup, text_of}
+use Rattle.prepared_code.specs.Versions.{Setup, listing_of}
 
 -- a frame that takes nothing
 begun-frames : (w : Setup) (m locals stack : ℕ) (fs : List PlacedFrame) (room : Option ℕ)
@@ -46,14 +46,14 @@ abbrev entry_of : Setup → ℕ → ℕ → ℕ → Entry
 entry_of w m locals stack = active (placed w.versions m locals stack [])
 
 entry-is : (w : Setup) (m locals stack : ℕ) → locals ≡ max_locals_of w.world m → stack ≡ max_stack_of w.world m
-    → entry_of w m locals stack ≡ Active (new_frame w.world (text_of w.versions) m [])
+    → entry_of w m locals stack ≡ Active (new_frame w.world (listing_of w.versions) m [])
 entry-is w m locals stack of_locals of_stack = ap (λ l. entry_of w m l stack) of_locals ∙ ap (entry_of w m (max_locals_of w.world m)) of_stack
 
 pub begins-on : (w : Setup) (ms : List Marker) (p : Parts) (m locals stack : ℕ) (mid new : FramesView) (entered : Bool)
     → locals ≡ max_locals_of w.world m → stack ≡ max_stack_of w.world m → mid ≡ with_room (locals + stack) p.frames
     → entered ≡ can_enter locals 0 mid.frames → new ≡ changed_if entered (with_version_frame w.versions m locals stack 0) mid
     → marker_on (suc (length p.frames.frames)) ms ≡ None
-    → state_of ms (record p { frames = new }) ≡ with_frame (state_of ms p) (new_frame w.world (text_of w.versions) m [])
+    → state_of ms (record p { frames = new }) ≡ with_frame (state_of ms p) (new_frame w.world (listing_of w.versions) m [])
 begins-on w ms p m locals stack mid new entered of_locals of_stack roomy answer made none =
     ap (λ es. record (state_in p) { stack = es })
     (ap (λ fs. stack_of (map active fs) ms) (frames-are w m locals stack p.frames mid new entered roomy answer made)
@@ -66,8 +66,8 @@ pub live-of : (ms : List Marker) (p : Parts) → live_in (state_of ms p).stack �
 live-of ms p = live-stack (map active p.frames.frames) ms ∙ live-is p.frames.frames
 
 module _ (w : Setup) (s : State) (c m : ℕ) (is : initializer_of w.world.program c ≡ Some m) where
-  abbrev t : Text
-  t = text_of w.versions
+  abbrev t : Listing
+  t = listing_of w.versions
 
   abbrev chosen : Bool → Turn
   chosen b =

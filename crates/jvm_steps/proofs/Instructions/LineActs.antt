@@ -18,7 +18,7 @@ use Rattle.jvm_model.specs.declared.state.State.{State}
 use Rattle.jvm_model.specs.Running.Applies.{enters_subroutine, goes, resumes, gives_back, applies}
 use Rattle.jvm_model.specs.Instructions.ConstantRules.{pushes_string}
 use Rattle.jvm_model.specs.Running.Constants.{can_intern}
-use Rattle.jvm_model.specs.Basis.Data.{Locals, Operands, Text, Local, Nop, Constant, Load, Store, Arrange, BinaryOfInts, BinaryOfLongs, DivisionOfInts, DivisionOfLongs, ShiftOfLong, UnaryOfInt, UnaryOfLong, Lcmp, Iinc, Branch, Goto, Switch, Jsr, Ret, Return, Naming, New, Getfield, Putfield, Getstatic, Putstatic, Invokevirtual, Invokespecial, Invokestatic, Invokeinterface, Checkcast, Instanceof, Anewarray, Multianewarray, LdcClass, Operation, Within, Named, Athrow, Monitor, Newarray, Arraylength, LoadElement, StoreElement, LdcString, Instruction, Outcome, GoesOn, Subroutine, Invokes, Returns, Throws, Raises, Initializes, Exits, Breaks, Next, Target, Back, Done, Keys}
+use Rattle.jvm_model.specs.Basis.Data.{Locals, Operands, Listing, Local, Nop, Constant, Load, Store, Arrange, BinaryOfInts, BinaryOfLongs, DivisionOfInts, DivisionOfLongs, ShiftOfLong, UnaryOfInt, UnaryOfLong, Lcmp, Iinc, Branch, Goto, Switch, Jsr, Ret, Return, Naming, New, Getfield, Putfield, Getstatic, Putstatic, Invokevirtual, Invokespecial, Invokestatic, Invokeinterface, Checkcast, Instanceof, Anewarray, Multianewarray, LdcClass, Operation, Within, Named, Athrow, Monitor, Newarray, Arraylength, LoadElement, StoreElement, LdcString, Instruction, Outcome, GoesOn, Subroutine, Invokes, Returns, Throws, Raises, Initializes, Exits, Breaks, Next, Target, Back, Done, Keys}
 use Rattle.jvm_model.specs.Codes.Lines.{ends, is_last, targets_of}
 use Rattle.jvm_model.specs.Instructions.LocalRules.{arithmetic_exception, by_zero, divides_these, goes_if, holds, tests, switches_on, goes_back, replaces, returns, returns_datum, within}
 use Rattle.jvm_model.specs.Classes.Lookup.{is_below}
@@ -40,7 +40,7 @@ use Rattle.jvm_named.specs.Names.{naming_view}
 use Rattle.prepared_code.specs.Lines.{action_of, local_action, named_as}
 use Rattle.prepared_code.specs.Ready.{IsRuleOf, IsTied}
 use Rattle.prepared_code.specs.Tables.{Versions}
-use Rattle.prepared_code.specs.Versions.{Setup, text_of, line_at, instruction_by, instruction_in}
+use Rattle.prepared_code.specs.Versions.{Setup, listing_of, line_at, instruction_by, instruction_in}
 
 -- ---- what an instruction asks for that its frame does by itself
 
@@ -161,7 +161,7 @@ own-starts last (Exits n) h = absurd h
 
 -- ---- it applies as the line's outcome
 
-module _ (w : Setup) (t : Text) (line : Line) (s : State) (f : Frame) where
+module _ (w : Setup) (t : Listing) (line : Line) (s : State) (f : Frame) where
   at-same : (m : Locals) (o : Operands) (place : Option ℕ) → goes s f line.instr.at m o place ≡ comes_to w line s f (goes_at m o place)
   at-same m o None = refl
   at-same m o (Some place) = refl
@@ -201,7 +201,7 @@ resumes-same : (s : State) (caller : Frame) (d : Option Datum) (lo : Option Line
 resumes-same s caller d None = refl
 resumes-same s caller d (Some line) = refl
 
-gives-same : (v : Versions) (s : State) (d : Option Datum) (es : List Entry) → gives_back (text_of v) s d es ≡ gives_back_line v s d es
+gives-same : (v : Versions) (s : State) (d : Option Datum) (es : List Entry) → gives_back (listing_of v) s d es ≡ gives_back_line v s d es
 gives-same v s d [] = refl
 gives-same v s d (Initializing c part ∷ below) = refl
 gives-same v s d (Active caller ∷ below) = resumes-same (record s { stack = below }) caller d (line_at v caller.version caller.place)
@@ -233,7 +233,7 @@ return-starts (Initializes c) h = absurd h
 return-starts (Exits n) h = absurd h
 
 return-same : (w : Setup) (line : Line) (op : Operation) (s : State) (f : Frame) (q : Outcome) → IsReturn q
-    → (applies w.world (text_of w.versions) (instruction_by op line) q s f).after ≡ returns_or_ends w line s f q
+    → (applies w.world (listing_of w.versions) (instruction_by op line) q s f).after ≡ returns_or_ends w line s f q
 return-same w line op s f (Returns d) h = gives-same w.versions s d s.stack
 return-same w line op s f (Breaks true) h = refl
 return-same w line op s f (Breaks false) h = absurd h
@@ -250,14 +250,14 @@ return-same w line op s f (Exits n) h = absurd h
 -- what applies is this state, and nothing is initialized before
 pub record ActsAs (w : Setup) (i : Instruction) (s : State) (f : Frame) (d : Done) (x : State) : Type 0 where
   pub starts_none : starts d.outcome ≡ None
-  pub applied : (applies w.world (text_of w.versions) i d.outcome (record s { shared = d.shared; output = s.output ++ d.wrote }) f).after ≡ x
+  pub applied : (applies w.world (listing_of w.versions) i d.outcome (record s { shared = d.shared; output = s.output ++ d.wrote }) f).after ≡ x
 
 -- where nothing shared is changed, and nothing is written
 quiet-acts : (w : Setup) (i : Instruction) (s : State) (f : Frame) (q : Outcome) (x : State) → starts q ≡ None
-    → (applies w.world (text_of w.versions) i q s f).after ≡ x → ActsAs w i s f (done s.shared q) x
+    → (applies w.world (listing_of w.versions) i q s f).after ≡ x → ActsAs w i s f (done s.shared q) x
 quiet-acts w i s f q x none is = record {
   starts_none = none;
-  applied = ap (λ out. (applies w.world (text_of w.versions) i q (record s { output = out }) f).after) (append-nil s.output) ∙ is;
+  applied = ap (λ out. (applies w.world (listing_of w.versions) i q (record s { output = out }) f).after) (append-nil s.output) ∙ is;
 }
 
 alone-acts : (w : Setup) (line : Line) (s : State) (f : Frame) (l : Local) → own_kind l ≡ None → IsRuleOf line l
@@ -265,7 +265,7 @@ alone-acts : (w : Setup) (line : Line) (s : State) (f : Frame) (l : Local) → o
 alone-acts w line s f l own rule =
     quiet-acts w (instruction_by (Within l) line) s f (within l f.locals f.operands) (acts_alone w line s f)
     (own-starts (is_last l) (within l f.locals f.operands) (within-own l f.locals f.operands own))
-    (alone-same w (text_of w.versions) line s f l own rule)
+    (alone-same w (listing_of w.versions) line s f l own rule)
 
 return-acts : (w : Setup) (line : Line) (s : State) (f : Frame) (k : Option Kind)
     → ActsAs w (instruction_by (Within (Return k)) line) s f (does w.world (Within (Return k)) s.shared f.locals f.operands) (acts_return w line k s f)
@@ -283,7 +283,7 @@ within-acts w line s f l rule = alone-acts w line s f l refl rule
 
 -- what applies does not ask which operation it is, where control goes on behind it
 placed-same : (w : Setup) (line : Line) (op : Operation) (s : State) (f : Frame) (q : Outcome) → ends op ≡ false
-    → (applies w.world (text_of w.versions) (instruction_by op line) q s f).after ≡ (applies w.world (text_of w.versions) (placed_line line) q s f).after
+    → (applies w.world (listing_of w.versions) (instruction_by op line) q s f).after ≡ (applies w.world (listing_of w.versions) (placed_line line) q s f).after
 placed-same w line op s f (GoesOn m o Next) behind = ap (λ b. goes s f line.instr.at m o (cond b None (Some line.next))) behind
 placed-same w line op s f (GoesOn m o (Target k)) behind = refl
 placed-same w line op s f (GoesOn m o (Back t)) behind = refl
@@ -312,7 +312,7 @@ done-acts : (w : Setup) (line : Line) (op : Operation) (s : State) (f : Frame) (
 done-acts w line op s f d behind silent = record {
   starts_none = stays-starts d.outcome silent.kept;
   applied =
-      ap (λ out. (applies w.world (text_of w.versions) (instruction_by op line) d.outcome (record s { shared = d.shared; output = out }) f).after)
+      ap (λ out. (applies w.world (listing_of w.versions) (instruction_by op line) d.outcome (record s { shared = d.shared; output = out }) f).after)
       (ap (λ xs. s.output ++ xs) silent.wrote ∙ append-nil s.output)
       ∙ placed-same w line op (record s { shared = d.shared }) f d.outcome behind;
 }
@@ -488,7 +488,7 @@ module _ (w : Setup) (line : Line) (op : Operation) (s : State) (f : Frame) wher
   -- what applies is what the line comes to, and the same class is initialized before
   pub record StepsAs : Type 0 where
     pub starts_same : starts done_there.outcome ≡ awaited w s f line.action
-    pub applied : (applies w.world (text_of w.versions) (instruction_by op line) done_there.outcome (with_done done_there readied) f).after ≡ acts w line s f
+    pub applied : (applies w.world (listing_of w.versions) (instruction_by op line) done_there.outcome (with_done done_there readied) f).after ≡ acts w line s f
 
 named-steps : (w : Setup) (line : Line) (n : Naming) (s : State) (f : Frame) → IsTied line (Named n) → StepsAs w line (Named n) s f
 named-steps w line n s f tied =

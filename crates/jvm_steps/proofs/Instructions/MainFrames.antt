@@ -14,7 +14,7 @@ use Rattle.jvm_model.specs.Running.Moves.{argument_array}
 use Rattle.jvm_model.specs.Basis.Programs.{max_locals_of, max_stack_of}
 use Rattle.prepared_code.specs.States.{active}
 use Rattle.jvm_steps.specs.Instructions.Arguments.{begun as placed, with_version_frame}
-use Rattle.prepared_code.specs.Versions.{Setup, current_of, first_of, text_of}
+use Rattle.prepared_code.specs.Versions.{Setup, current_of, first_of, listing_of}
 
 first_local : (v : Value) (n : ℕ) → (n ≡ 0 → ⊥) → slice_set (replicate (n - 0) None) 0 (Some v) ≡ Some v ∷ replicate (n - 1) None
 first_local v zero some = absurd (some refl)
@@ -57,10 +57,10 @@ pub main_frame : (w : Setup) (main locals stack : ℕ) (old mid begun new : Fram
     → mid ≡ with_room (locals + stack) old
     → entered ≡ can_enter locals 0 mid.frames → begun ≡ changed_if entered (with_version_frame w.versions main locals stack 0) mid
     → wrote ≡ has_slot 0 (Ref 5) begun.frames → new ≡ changed_if wrote (with_written 0 (Ref 5)) begun
-    → map active new.frames ≡ Active (new_frame w.world (text_of w.versions) w.world.program.main argument_array) ∷ []
+    → map active new.frames ≡ Active (new_frame w.world (listing_of w.versions) w.world.program.main argument_array) ∷ []
 main_frame w main locals stack old mid begun new entered wrote is of_locals of_stack some none roomy enters made writes put =
     let mid_none : mid.frames ≡ [] = ap (λ (s : FramesView). s.frames) roomy ∙ none in
     let one = with_frame w main locals stack mid begun entered mid_none enters made in
     ap (map active) (with_argument w main locals stack begun new wrote some one writes put)
     ∙ ap (λ l. entries_of w main l stack) of_locals ∙ ap (entries_of w main (max_locals_of w.world main)) of_stack
-    ∙ ap (λ m. let es : List Entry = Active (new_frame w.world (text_of w.versions) m argument_array) ∷ [] in es) is
+    ∙ ap (λ m. let es : List Entry = Active (new_frame w.world (listing_of w.versions) m argument_array) ∷ [] in es) is

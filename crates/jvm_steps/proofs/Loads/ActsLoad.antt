@@ -14,7 +14,7 @@ use Rattle.jvm_model.specs.declared.state.State.{State}
 use Rattle.jvm_model.specs.Running.Applies.{applies, breaks, enters_subroutine, gives_back, goes, has_room, invokes, live_in, most_live, place_of, resumes, begins, still, throws_at}
 use Rattle.jvm_model.specs.Instructions.ConstantRules.{pushes_string}
 use Rattle.jvm_model.specs.Running.Constants.{can_intern}
-use Rattle.jvm_model.specs.Basis.Data.{Locals, Operands, Naming, Text, Instruction, Outcome, GoesOn, Subroutine, Invokes, Returns, Throws, Raises, Initializes, Exits, Breaks, Done}
+use Rattle.jvm_model.specs.Basis.Data.{Locals, Operands, Naming, Listing, Instruction, Outcome, GoesOn, Subroutine, Invokes, Returns, Throws, Raises, Initializes, Exits, Breaks, Done}
 use Rattle.jvm_model.specs.Instructions.LocalRules.{arithmetic_exception, by_zero, returns}
 use Rattle.jvm_model.specs.Instructions.Naming.{newly_loaded}
 use Rattle.jvm_model.specs.Instructions.ObjectRules.{Access, ToNull, ToAnother, Outside, Inside, Storing, access_to, fits_array, loads_element, makes, measures, place_of as element_of, stores_at, stores_element, storing_of, throws, watches}
@@ -28,7 +28,7 @@ use Rattle.prepared_code.specs.declared.line.Line.{Line}
 use Rattle.jvm_steps.specs.Instructions.Acts.{acts_by, acts_named, attempts_line, comes_to, gives_back_line, is_named, named_done, placed_line, ready_for, resumes_line, returns_or_ends, with_done}
 use Rattle.jvm_steps.proofs.Loads.MovesLoad.{made-loaded}
 use Rattle.jvm_steps.proofs.Instructions.NamedLaws.{is-named}
-use Rattle.prepared_code.specs.Versions.{Setup, text_of, line_at, next_in}
+use Rattle.prepared_code.specs.Versions.{Setup, listing_of, line_at, next_in}
 
 -- what is loaded stays
 abbrev pub Keeps : State → State → Type 0
@@ -46,7 +46,7 @@ module _ (s : State) (f : Frame) where
   enters-keeps i None = refl
   enters-keeps i (Some next) = goes-keeps i.own f.locals (Addr next ∷ f.operands) (slice_get i.targets 0)
 
-  invokes-keeps : (w : Setup) (t : Text) (i : Instruction) (m : ℕ) (args : List Datum) (below : Operands) → Keeps s (invokes w.world t i s f m args below).after
+  invokes-keeps : (w : Setup) (t : Listing) (i : Instruction) (m : ℕ) (args : List Datum) (below : Operands) → Keeps s (invokes w.world t i s f m args below).after
   invokes-keeps w t i m args below = by (has_room w.world m args) (nat_lt (suc (live_in s.stack)) most_live) where
     by : (room few : Bool)
         → Keeps s (cond room (cond few (begins w.world t s f m args below) (still (throws_at s f (raised w.world s.shared stack_overflow None)))) (still (breaks s f i.own))).after
@@ -58,13 +58,13 @@ resumes-keeps : (s : State) (caller : Frame) (d : Option Datum) (found : Option 
 resumes-keeps s caller d None = refl
 resumes-keeps s caller d (Some i) = goes-keeps s caller i.own caller.locals (with_value (option_map as_value d) caller.operands) i.next
 
-back-keeps : (t : Text) (s : State) (d : Option Datum) (es : List Entry) → Keeps s (gives_back t s d es)
+back-keeps : (t : Listing) (s : State) (d : Option Datum) (es : List Entry) → Keeps s (gives_back t s d es)
 back-keeps t s d [] = refl
 back-keeps t s d (Initializing c part ∷ below) = refl
 back-keeps t s d (Active caller ∷ below) = resumes-keeps (record s { stack = below }) caller d (t.at caller.version caller.place)
 
 -- whatever is asked for
-pub applies-loaded : (w : Setup) (t : Text) (i : Instruction) (q : Outcome) (s : State) (f : Frame) → Keeps s (applies w.world t i q s f).after
+pub applies-loaded : (w : Setup) (t : Listing) (i : Instruction) (q : Outcome) (s : State) (f : Frame) → Keeps s (applies w.world t i q s f).after
 applies-loaded w t i (GoesOn l o to) s f = goes-keeps s f i.own l o (place_of i to)
 applies-loaded w t i Subroutine s f = enters-keeps s f i i.next
 applies-loaded w t i (Invokes m args below) s f = invokes-keeps s f w t i m args below
@@ -105,8 +105,8 @@ module _ (w : Setup) (line : Line) (s : State) (f : Frame) where
   returns-keep (Exits n) = refl
   returns-keep (Breaks b) = refl
 
-  asked-keeps : (x : State) (q : Outcome) → Keeps x (applies w.world (text_of w.versions) (placed_line line) q x f).after
-  asked-keeps x q = applies-loaded w (text_of w.versions) (placed_line line) q x f
+  asked-keeps : (x : State) (q : Outcome) → Keeps x (applies w.world (listing_of w.versions) (placed_line line) q x f).after
+  asked-keeps x q = applies-loaded w (listing_of w.versions) (placed_line line) q x f
 
   chosen-keeps : (b : Bool) (x y : Done) → x.shared.loaded ≡ s.shared.loaded → y.shared.loaded ≡ s.shared.loaded → (cond b x y).shared.loaded ≡ s.shared.loaded
   chosen-keeps true x y hx hy = hx
@@ -157,5 +157,5 @@ pub named-loads : (w : Setup) (line : Line) (n : Naming) (s : State) (f : Frame)
     → (acts_named w line n s f).shared.loaded ≡ s.shared.loaded ++ newly_loaded w.world.program s.shared.loaded n f.operands
 named-loads w line n s f =
     let d : Done = named_done w n s f in
-    applies-loaded w (text_of w.versions) (placed_line line) d.outcome (with_done d s) f
+    applies-loaded w (listing_of w.versions) (placed_line line) d.outcome (with_done d s) f
     ∙ (is-named (ready_for w n s f).shared f.operands w n f.locals).loaded

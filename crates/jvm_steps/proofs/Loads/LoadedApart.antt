@@ -29,7 +29,7 @@ use Rattle.prepared_code.specs.Lines.{IfNamed}
 use Rattle.prepared_code.specs.Markers.{marker_on, stack_of, state_of}
 use Rattle.prepared_code.specs.States.{active, frame_in, here_of, state_in}
 use Rattle.jvm_steps.specs.Moves.Turning.{loads_in, loads_none}
-use Rattle.prepared_code.specs.Versions.{Setup, instruction_in, line_at, operation_as, text_of}
+use Rattle.prepared_code.specs.Versions.{Setup, instruction_in, line_at, operation_as, listing_of}
 use Rattle.jvm_steps.proofs.Marked.Beneath.{nothing-there}
 use Rattle.jvm_steps.proofs.Instructions.LineActs.{with-loaded}
 use Rattle.jvm_steps.proofs.Moves.LineSteps.{top-frame}
@@ -62,19 +62,19 @@ module _ (w : Setup) (ms : List Marker) (p : Parts) (going : p.ending ≡ None) 
   s = state_of ms p
 
   loads-by : (fs : List PlacedFrame) (here : Here) → here_of fs ≡ Some here → marker_on (length fs) ms ≡ None
-      → loads_on w.world (text_of w.versions) s p.ending (stack_of (map active fs) ms) ≡ loads_of w s fs (line_at w.versions here.version here.place)
+      → loads_on w.world (listing_of w.versions) s p.ending (stack_of (map active fs) ms) ≡ loads_of w s fs (line_at w.versions here.version here.place)
   loads-by [] here is none = absurd (none-some here is)
   loads-by (f ∷ fs) here is none =
       let same : record { version = f.version; method = f.method; place = f.place } ≡ here = same_Some _ here is in
-      ap (λ e. loads_on w.world (text_of w.versions) s e (stack_of (map active (f ∷ fs)) ms)) going
-      ∙ (ap (loads_on w.world (text_of w.versions) s None) (top-frame ms f fs none)
+      ap (λ e. loads_on w.world (listing_of w.versions) s e (stack_of (map active (f ∷ fs)) ms)) going
+      ∙ (ap (loads_on w.world (listing_of w.versions) s None) (top-frame ms f fs none)
       ∙ ap (λ (h : Here). loads_of w s (f ∷ fs) (line_at w.versions h.version h.place)) same)
 
   -- no frame
   pub nothing-loads : here_of p.frames.frames ≡ None → marker_on (length p.frames.frames) ms ≡ None → loads_none w s ≡ true
   nothing-loads is none =
       ap (λ (classes : List ℕ). length classes == 0)
-      (ap (λ e. loads_on w.world (text_of w.versions) s e s.stack) going ∙ ap (loads_on w.world (text_of w.versions) s None) (nothing-there w ms p is none))
+      (ap (λ e. loads_on w.world (listing_of w.versions) s e s.stack) going ∙ ap (loads_on w.world (listing_of w.versions) s None) (nothing-there w ms p is none))
 
   -- a line that names nothing
   pub silent-loads : (here : Here) → here_of p.frames.frames ≡ Some here → marker_on (length p.frames.frames) ms ≡ None

@@ -22,7 +22,7 @@ use Rattle.jvm_model.specs.declared.state.Shared.{Shared}
 use Rattle.jvm_model.specs.declared.state.State.{State}
 use Rattle.jvm_model.specs.Running.Applies.{has_room, live_in, most_live, new_frame, still, with_frame}
 use Rattle.jvm_model.specs.Running.Constants.{FieldConstant, Number, Units, Setting, can_intern, constant_for, set, sets_constants, sets_field, sets_fields, then_sets}
-use Rattle.jvm_model.specs.Basis.Data.{Began, Text, Turn}
+use Rattle.jvm_model.specs.Basis.Data.{Began, Listing, Turn}
 use Rattle.jvm_model.specs.Classes.Lookup.{is_below}
 use Rattle.jvm_model.specs.Running.Moves.{after_super, argument_array, at_part, caught, handler_for, initializes, main_or_end, move, moves, raises, runs_initializer, settled, then_turn, with_super, wrapped}
 use Rattle.jvm_model.specs.Basis.Programs.{class_at, initializer_of, name_at, super_of}
@@ -83,7 +83,7 @@ constants-loaded p class s = by (class_at p class) where
 
 -- ---- each move
 
-module _ (w : Setup) (t : Text) (s : State) where
+module _ (w : Setup) (t : Listing) (s : State) where
   -- what is loaded stays
   abbrev Keeps : State → Type 0
   Keeps x = x.shared.loaded ≡ s.shared.loaded
@@ -127,7 +127,7 @@ module _ (w : Setup) (t : Text) (s : State) where
     by true = refl
     by false = refl
 
-moves-keep : (w : Setup) (t : Text) (s : State) (ending : Option Ending) (thrown : Option ℕ) (stack : List Entry)
+moves-keep : (w : Setup) (t : Listing) (s : State) (ending : Option Ending) (thrown : Option ℕ) (stack : List Entry)
     → IfSome (moves w.world t s ending thrown stack) (λ next. next.after.shared.loaded ≡ s.shared.loaded)
 moves-keep w t s (Some e) thrown stack = tt
 moves-keep w t s None (Some r) [] = refl
@@ -144,7 +144,7 @@ next-keeps turn None loaded same kept = tt
 next-keeps turn (Some next) loaded same kept = kept ∙ same
 
 -- all moves
-pub settled-loaded : (w : Setup) (t : Text) (turn : Turn) → (settled w.world t turn).after.shared.loaded ≡ turn.after.shared.loaded
+pub settled-loaded : (w : Setup) (t : Listing) (turn : Turn) → (settled w.world t turn).after.shared.loaded ≡ turn.after.shared.loaded
 settled-loaded w t turn =
     settled-keeps w.world t (λ x. x.after.shared.loaded ≡ turn.after.shared.loaded)
     (λ x same. next-keeps x (move w.world t x.after) turn.after.shared.loaded same (moves-keep w t x.after x.after.ending x.after.thrown x.after.stack)) turn refl

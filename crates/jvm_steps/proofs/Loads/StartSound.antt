@@ -7,7 +7,7 @@ use Rattle.jvm_model.specs.declared.due.Due.TheVariants.{Nothing}
 use Rattle.jvm_model.specs.declared.event.Mark.{Mark}
 use Rattle.jvm_model.specs.declared.ending.Ending.TheVariants.{Uncaught}
 use Rattle.jvm_model.specs.declared.state.State.{State}
-use Rattle.jvm_model.specs.Basis.Data.{Text, Turn, World}
+use Rattle.jvm_model.specs.Basis.Data.{Listing, Turn, World}
 use Rattle.jvm_model.specs.Running.Applies.{still}
 use Rattle.jvm_model.specs.Classes.Kinds.{meaning_of}
 use Rattle.jvm_model.specs.Classes.Load.{Fault, NoClass, Circular, Incompatible, error_of}
@@ -18,7 +18,7 @@ use Rattle.jvm_model.specs.Basis.Programs.{name_at}
 use Rattle.jvm_model.specs.Running.Run.{arguments_made, before, main_class, main_classes, main_loading, opened, starts_if, starts_unless, starts_with}
 use Rattle.jvm_model.specs.Basis.SharedState.{arguments_fit, class_of, null, raised, shared_before, with_arguments}
 use Rattle.jvm_model.specs.Soundness.Sound.{HasSupertypes, IsBuiltInName, IsFit, IsLoaded, IsSoundShared}
-use Rattle.jvm_model.specs.Soundness.SoundTexts.{IsSound, IsSoundEntry}
+use Rattle.jvm_model.specs.Soundness.SoundListings.{IsSound, IsSoundEntry}
 use Rattle.jvm_model.specs.Turns.Told.{helds, mark_now}
 use Rattle.jvm_model.proofs.Running.Attempts.{with_loaded-shared}
 use Rattle.jvm_model.proofs.Loading.LoadsAgain.{newly-loaded}
@@ -28,7 +28,7 @@ use Rattle.jvm_model.proofs.Soundness.SoundObjects.{arguments-sound, before-soun
 use Rattle.jvm_model.proofs.Soundness.SoundRuns.{shared-more, with-loaded-is}
 use Rattle.prepared_code.specs.Ready.{CanRun, IsSoundIn, RunsIn}
 use Rattle.jvm_steps.specs.Moves.Turning.{paused_in}
-use Rattle.prepared_code.specs.Versions.{Setup, text_of, mark_of}
+use Rattle.prepared_code.specs.Versions.{Setup, listing_of, mark_of}
 use Rattle.jvm_steps.proofs.Moves.PausesSound.{paused-sound}
 
 module _ (Runs : ℕ → ℕ → Type 0) (w : World) (fit : IsFit w.program) where
@@ -94,7 +94,7 @@ module _ (Runs : ℕ → ℕ → Type 0) (w : World) (fit : IsFit w.program) whe
   begins-if false = inr (record { object = 1; shared = before-sound w.program fit; stack = refl; ending = refl; thrown = refl })
 
 -- where it was refused the run has ended behind the one move that is made
-module _ (w : World) (t : Text) (v : ℕ → Mark) (n : ℕ) (s : State) (object : ℕ) where
+module _ (w : World) (t : Listing) (v : ℕ → Mark) (n : ℕ) (s : State) (object : ℕ) where
   abbrev over : State
   over = record s { ending = Some (Uncaught (class_of w.program s.shared object)) }
 
@@ -115,7 +115,7 @@ module _ (w : World) (t : Text) (v : ℕ → Mark) (n : ℕ) (s : State) (object
 module _ (w : Setup) (run : CanRun w) (n : ℕ) where
   refused-sound : (s : State) → IsRefused (RunsIn w.versions) w.world run.fit s → IsSoundIn w (paused_in w n s).state
   refused-sound s is =
-      subst (IsSoundIn w) (sym (refused-over w.world (text_of w.versions) (mark_of w.versions) n s is.object is.ending is.thrown is.stack)) (record {
+      subst (IsSoundIn w) (sym (refused-over w.world (listing_of w.versions) (mark_of w.versions) n s is.object is.ending is.thrown is.stack)) (record {
         shared = is.shared;
         stack = subst (λ stack. AllByRecursion (IsSoundEntry (RunsIn w.versions) w.world.program s.shared.loaded) stack) (sym is.stack) tt;
         main = λ on. absurd (let e : Some (Uncaught (class_of w.world.program s.shared is.object)) ≡ None = on in cc);

@@ -24,7 +24,7 @@ use Rattle.jvm_steps.specs.Instructions.Initializing.{begins_class}
 use Rattle.prepared_code.specs.Prepared.{main_name}
 use Rattle.jvm_steps.proofs.Instructions.LineActs.{with-loaded}
 use Rattle.jvm_steps.proofs.Moves.LineSteps.{behind}
-use Rattle.prepared_code.specs.Versions.{Setup, text_of}
+use Rattle.prepared_code.specs.Versions.{Setup, listing_of}
 
 -- by the fault that stopped the loading, on an empty stack
 fault-begins : (w : Setup) (fault : Option Fault) (kind : Option ℕ) (s : State) → s.stack ≡ []
@@ -88,6 +88,6 @@ root-before w s loaded fit is linked =
     ap (is_among (user_count w.world.program)) (linked ∙ ap (λ (x : State). x.shared.loaded) is)
     ∙ has-root w.world.program fit (shared_before w.world.program).loaded fit.before
 
-pub start-is : (w v : Setup) (mid after : State) → v ≡ w → mid ≡ starts_with w.world → after ≡ behind v mid → after ≡ (start w.world (text_of w.versions)).after
+pub start-is : (w v : Setup) (mid after : State) → v ≡ w → mid ≡ starts_with w.world → after ≡ behind v mid → after ≡ (start w.world (listing_of w.versions)).after
 start-is w v mid after same begins settles =
-    settles ∙ (ap (λ u. behind u mid) same ∙ (ap (behind w) begins ∙ sym (loaded-after (main_loads w.world) (settled w.world (text_of w.versions) (still (starts_with w.world))))))
+    settles ∙ (ap (λ u. behind u mid) same ∙ (ap (behind w) begins ∙ sym (loaded-after (main_loads w.world) (settled w.world (listing_of w.versions) (still (starts_with w.world))))))

@@ -8,8 +8,8 @@ use Rattle.jvm_model.specs.Running.Applies.{still}
 use Rattle.jvm_model.specs.Running.Moves.{settled}
 use Rattle.jvm_model.specs.Running.Run.{is_ready, step}
 use Rattle.jvm_model.specs.Basis.SharedState.{phase_of}
-use Rattle.jvm_model.proofs.Soundness.SoundTextRuns.{sound-step}
-use Rattle.jvm_model.proofs.Soundness.SoundTextSteps.{sound-settled}
+use Rattle.jvm_model.proofs.Soundness.SoundListingRuns.{sound-step}
+use Rattle.jvm_model.proofs.Soundness.SoundListingSteps.{sound-settled}
 use Rattle.prepared_code.specs.declared.markers.Marker.{Marker}
 use Rattle.prepared_code.specs.declared.parts.Parts.{Parts}
 use Rattle.jvm_steps.specs.Instructions.Acts.{attempts_on, awaited_in, goes_on_in}
@@ -18,7 +18,7 @@ use Rattle.prepared_code.specs.Runs.{Leads, steps_from, steps_from-zero, steps_f
 use Rattle.jvm_steps.proofs.Moves.LineSteps.{IsGoing, behind, going-again, going-on, none-of, step-again, step-attempts, step-awaits, unmarked}
 use Rattle.jvm_steps.proofs.Loads.MovesLoad.{settled-loaded}
 use Rattle.jvm_steps.proofs.Moves.Sounded.{attempted-sound}
-use Rattle.prepared_code.specs.Versions.{Setup, text_of}
+use Rattle.prepared_code.specs.Versions.{Setup, listing_of}
 use Rattle.prepared_code.specs.Ready.{CanRun, IsSoundIn, RunsIn}
 
 both : (a b : Bool) → (a && b) ≡ true → (a ≡ true) × (b ≡ true)
@@ -35,7 +35,7 @@ none-there ms p goes =
 
 -- ---- the world stays
 
-pub settled-in : (w v : Setup) (x y : State) → v ≡ w → x ≡ (settled v.world (text_of v.versions) (still y)).after → x ≡ behind w y
+pub settled-in : (w v : Setup) (x y : State) → v ≡ w → x ≡ (settled v.world (listing_of v.versions) (still y)).after → x ≡ behind w y
 settled-in w v x y same settles = subst (λ u. x ≡ behind u y) same settles
 
 pub attempted-in : (w v : Setup) (s x : State) → v ≡ w → x ≡ attempts_on v s s.stack → x ≡ attempts_on w s s.stack
@@ -45,7 +45,7 @@ attempted-in w v s x same attempted = subst (λ u. x ≡ attempts_on u s s.stack
 
 pub loaded-behind : (w : Setup) (old new : State) (loaded : List ℕ) → new ≡ behind w old → loaded ≡ old.shared.loaded → loaded ≡ new.shared.loaded
 loaded-behind w old new loaded settles same =
-    same ∙ (sym (settled-loaded w (text_of w.versions) (still old)) ∙ ap (λ (x : State). x.shared.loaded) (sym settles))
+    same ∙ (sym (settled-loaded w (listing_of w.versions) (still old)) ∙ ap (λ (x : State). x.shared.loaded) (sym settles))
 
 -- ---- a step whose instruction awaits a class
 
@@ -59,7 +59,7 @@ module _ (w : Setup) (run : CanRun w) (ms : List Marker) (p : Parts) (goes : goe
   awaits : awaited_in w (state_of ms p) ≡ Some c
   awaits = sym answer ∙ some
 
-  pub not-ready : is_ready (phase_of then_there.shared c) ≡ false → state_of ms_then then_there ≡ (step w.world (text_of w.versions) (state_of ms p)).after
+  pub not-ready : is_ready (phase_of then_there.shared c) ≡ false → state_of ms_then then_there ≡ (step w.world (listing_of w.versions) (state_of ms p)).after
   not-ready isnt = step-awaits w run (state_of ms p) going c awaits mid (state_of ms_then then_there) attempted settles isnt
 
   module _ (ready : is_ready (phase_of then_there.shared c) ≡ true) where
@@ -69,19 +69,19 @@ module _ (w : Setup) (run : CanRun w) (ms : List Marker) (p : Parts) (goes : goe
         (goes-there ms_then then_there (going-again w run (state_of ms p) going c awaits mid (state_of ms_then then_there) attempted settles ready))
 
     pub again-done : (mid_again after : State) → mid_again ≡ attempts_on w (state_of ms_then then_there) (state_of ms_then then_there).stack
-        → after ≡ behind w mid_again → after ≡ (step w.world (text_of w.versions) (state_of ms p)).after
+        → after ≡ behind w mid_again → after ≡ (step w.world (listing_of w.versions) (state_of ms p)).after
     again-done mid_again after attempted_again settles_again =
         step-again w run (state_of ms p) going c awaits mid (state_of ms_then then_there) attempted settles ready mid_again after attempted_again settles_again
 
   pub sound-again : IsSoundIn w (state_of ms p) → IsSoundIn w (state_of ms_then then_there)
   sound-again is =
       subst (IsSoundIn w) (sym settles)
-      (sound-settled (RunsIn w.versions) w.world run.fit (text_of w.versions) run.text (still mid) (subst (IsSoundIn w) (sym attempted) (attempted-sound w run (state_of ms p) going is)))
+      (sound-settled (RunsIn w.versions) w.world run.fit (listing_of w.versions) run.listing (still mid) (subst (IsSoundIn w) (sym attempted) (attempted-sound w run (state_of ms p) going is)))
 
 -- ---- a step whose instruction awaits none
 
 pub attempts-all : (w : Setup) → CanRun w → (ms : List Marker) (p : Parts) → goes_on_in ms p ≡ true → (o : Option ℕ) → o ≡ awaited_in w (state_of ms p) → o ≡ None
-    → (mid after : State) → mid ≡ attempts_on w (state_of ms p) (state_of ms p).stack → after ≡ behind w mid → after ≡ (step w.world (text_of w.versions) (state_of ms p)).after
+    → (mid after : State) → mid ≡ attempts_on w (state_of ms p) (state_of ms p).stack → after ≡ behind w mid → after ≡ (step w.world (listing_of w.versions) (state_of ms p)).after
 attempts-all w run ms p goes o answer none mid after attempted settles =
     step-attempts w run (state_of ms p) (going-on ms p goes) (sym answer ∙ none) mid after attempted settles
 
@@ -89,7 +89,7 @@ attempts-all w run ms p goes o answer none mid after attempted settles =
 
 steps-sound : (w : Setup) → CanRun w → (n : ℕ) (s : State) → IsSoundIn w s → IsSoundIn w (steps_from w n s)
 steps-sound w fit zero s is = subst (IsSoundIn w) (sym (steps_from-zero w s)) is
-steps-sound w fit (suc n) s is = subst (IsSoundIn w) (sym (steps_from-suc w n s)) (sound-step (RunsIn w.versions) w.world fit.fit (text_of w.versions) fit.text (steps_from w n s) (steps-sound w fit n s is))
+steps-sound w fit (suc n) s is = subst (IsSoundIn w) (sym (steps_from-suc w n s)) (sound-step (RunsIn w.versions) w.world fit.fit (listing_of w.versions) fit.listing (steps_from w n s) (steps-sound w fit n s is))
 
 pub leads-sound : (w : Setup) → CanRun w → (old : State) (n : ℕ) (new : State) → Leads w old n new → IsSoundIn w old → IsSoundIn w new
 leads-sound w fit old n new leads is = subst (IsSoundIn w) (sym leads.made) (steps-sound w fit n old is)

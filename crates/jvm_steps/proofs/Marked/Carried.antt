@@ -17,7 +17,7 @@ use Rattle.jvm_model.specs.declared.state.Shared.{Shared}
 use Rattle.jvm_model.specs.declared.state.State.{State}
 use Rattle.jvm_model.specs.Running.Applies.{still, with_frame, breaks, goes, place_of, enters_subroutine, new_frame, throws_at, has_room, begins, invokes, most_live, live_in, applies}
 use Rattle.jvm_model.specs.Instructions.ConstantRules.{pushes_string}
-use Rattle.jvm_model.specs.Basis.Data.{Locals, Operands, Text, Instruction, Outcome, GoesOn, Subroutine, Invokes, Returns, Throws, Raises, Initializes, Exits, Breaks, Began, Turn}
+use Rattle.jvm_model.specs.Basis.Data.{Locals, Operands, Listing, Instruction, Outcome, GoesOn, Subroutine, Invokes, Returns, Throws, Raises, Initializes, Exits, Breaks, Began, Turn}
 use Rattle.jvm_model.specs.Instructions.LocalRules.{arithmetic_exception, by_zero, returns}
 use Rattle.jvm_model.specs.Running.Moves.{argument_array, caught, handler_for, main_or_end, move, moves, own_at}
 use Rattle.jvm_model.specs.Instructions.ObjectRules.{loads_element, makes, measures, place_of as element_of, stores_element, storing_of, throws, watches}
@@ -37,7 +37,7 @@ use Rattle.prepared_code.specs.States.{active, frame_in, state_in}
 use Rattle.jvm_steps.proofs.Instructions.LineActs.{stays, throws-stays, watches-stays, measures-stays, loads-stays, makes-silent, stores-silent, string-silent}
 use Rattle.prepared_code.proofs.MarkedStacks.{length-active, none-more, none-left, stack-empty, stack-plain, stack-frame, live-stack}
 use Rattle.prepared_code.specs.Tables.{Versions}
-use Rattle.prepared_code.specs.Versions.{Setup, text_of, line_at, next_in}
+use Rattle.prepared_code.specs.Versions.{Setup, listing_of, line_at, next_in}
 
 -- no marker stands above the frame that is taken off
 abbrev pub IsFree : List Marker → State → Type 0
@@ -78,14 +78,14 @@ module _ (ms : List Marker) where
   subroutine-carried i s f None free = breaks-carried s f i.own free
   subroutine-carried i s f (Some next) free = goes-carried s f i.own f.locals (Addr next ∷ f.operands) _ free
 
-  begins-carried : (w : Setup) (t : Text) (s : State) (f : Frame) (m : ℕ) (args : List Datum) (rest : Operands) → IsFree ms s
+  begins-carried : (w : Setup) (t : Listing) (s : State) (f : Frame) (m : ℕ) (args : List Datum) (rest : Operands) → IsFree ms s
       → with_markers ms (begins w.world t s f m args rest).after ≡ (begins w.world t (with_markers ms s) f m args rest).after
   begins-carried w t s f m args rest free =
       ap (λ es. record s { stack = es })
       (stack-frame (Active (new_frame w.world t m args)) (Active (record f { operands = rest }) ∷ s.stack) ms (none-more (suc (length s.stack)) ms free)
       ∙ ap (λ es. let all : List Entry = Active (new_frame w.world t m args) ∷ es in all) (framed s (record f { operands = rest }) free))
 
-  invokes-carried : (w : Setup) (t : Text) (i : Instruction) (s : State) (f : Frame) (m : ℕ) (args : List Datum) (rest : Operands) → IsFree ms s
+  invokes-carried : (w : Setup) (t : Listing) (i : Instruction) (s : State) (f : Frame) (m : ℕ) (args : List Datum) (rest : Operands) → IsFree ms s
       → with_markers ms (invokes w.world t i s f m args rest).after ≡ (invokes w.world t i (with_markers ms s) f m args rest).after
   invokes-carried w t i s f m args rest free =
       by (has_room w.world m args) (nat_lt (suc (live_in s.stack)) most_live)
@@ -102,7 +102,7 @@ module _ (ms : List Marker) where
       by true false = throws-carried s f (raised w.world s.shared stack_overflow None) free
       by false few = breaks-carried s f i.own free
 
-  pub applies-carried : (w : Setup) (t : Text) (i : Instruction) (q : Outcome) → stays q ≡ true → (s : State) (f : Frame) → IsFree ms s
+  pub applies-carried : (w : Setup) (t : Listing) (i : Instruction) (q : Outcome) → stays q ≡ true → (s : State) (f : Frame) → IsFree ms s
       → with_markers ms (applies w.world t i q s f).after ≡ (applies w.world t i q (with_markers ms s) f).after
   applies-carried w t i (GoesOn l o to) kept s f free = goes-carried s f i.own l o (place_of i to) free
   applies-carried w t i Subroutine kept s f free = subroutine-carried i s f i.next free
@@ -129,26 +129,26 @@ module _ (ms : List Marker) where
   action-carried w line s f action.Local free none within = comes-carried w line s f (rule_of line.instr line.constant line.next f.locals f.operands) free
   action-carried w line s f (action.Return k) free none within = absurd (false≢true within)
   action-carried w line s f action.Athrow free none within =
-      applies-carried w (text_of w.versions) (placed_line line) (throws w.world s.shared (ref_of f.operands)) (throws-stays w s.shared (ref_of f.operands)) s f free
+      applies-carried w (listing_of w.versions) (placed_line line) (throws w.world s.shared (ref_of f.operands)) (throws-stays w s.shared (ref_of f.operands)) s f free
   action-carried w line s f action.Monitor free none within =
-      applies-carried w (text_of w.versions) (placed_line line) (watches (ref_of f.operands) f.locals f.operands) (watches-stays (ref_of f.operands) f.locals f.operands) s f free
+      applies-carried w (listing_of w.versions) (placed_line line) (watches (ref_of f.operands) f.locals f.operands) (watches-stays (ref_of f.operands) f.locals f.operands) s f free
   action-carried w line s f action.Arraylength free none within =
-      applies-carried w (text_of w.versions) (placed_line line) (measures (ref_of f.operands) s.shared f.locals f.operands)
+      applies-carried w (listing_of w.versions) (placed_line line) (measures (ref_of f.operands) s.shared f.locals f.operands)
       (measures-stays (ref_of f.operands) s.shared f.locals f.operands) s f free
   action-carried w line s f (action.Newarray kind) free none within =
       let d = makes kind (int_of f.operands) s.shared f.locals f.operands in
-      applies-carried w (text_of w.versions) (placed_line line) d.outcome (makes-silent kind (int_of f.operands) s.shared f.locals f.operands).kept
+      applies-carried w (listing_of w.versions) (placed_line line) d.outcome (makes-silent kind (int_of f.operands) s.shared f.locals f.operands).kept
       (record s { shared = d.shared }) f free
   action-carried w line s f (action.LoadElement k) free none within =
-      applies-carried w (text_of w.versions) (placed_line line) (loads_element k (element_of f.operands) s.shared f.locals f.operands)
+      applies-carried w (listing_of w.versions) (placed_line line) (loads_element k (element_of f.operands) s.shared f.locals f.operands)
       (loads-stays k (element_of f.operands) s.shared f.locals f.operands) s f free
   action-carried w line s f (action.StoreElement k) free none within =
       let d = stores_element w.world.program k (storing_of k f.operands) s.shared f.locals f.operands in
-      applies-carried w (text_of w.versions) (placed_line line) d.outcome (stores-silent w.world.program k (storing_of k f.operands) s.shared f.locals f.operands).kept
+      applies-carried w (listing_of w.versions) (placed_line line) d.outcome (stores-silent w.world.program k (storing_of k f.operands) s.shared f.locals f.operands).kept
       (record s { shared = d.shared }) f free
   action-carried w line s f (action.LdcString units) free none within =
       let d = pushes_string w.world.program units s.shared f.locals f.operands in
-      applies-carried w (text_of w.versions) (placed_line line) d.outcome (string-silent w.world.program units s.shared f.locals f.operands).kept
+      applies-carried w (listing_of w.versions) (placed_line line) d.outcome (string-silent w.world.program units s.shared f.locals f.operands).kept
       (record s { shared = d.shared }) f free
 
   -- ---- a return
@@ -229,11 +229,11 @@ module _ (ms : List Marker) where
 
   pub record IsCarried (w : Setup) (s : State) : Type 0 where
     pub moved : with_markers ms (after_move w s) ≡ after_move w (with_markers ms s)
-    pub found : is_some (move w.world (text_of w.versions) s) ≡ is_some (move w.world (text_of w.versions) (with_markers ms s))
+    pub found : is_some (move w.world (listing_of w.versions) s) ≡ is_some (move w.world (listing_of w.versions) (with_markers ms s))
 
   module _ (w : Setup) (begun : Bool) (shared : Shared) (output : List ℕ) where
-    abbrev t : Text
-    t = text_of w.versions
+    abbrev t : Listing
+    t = listing_of w.versions
 
     abbrev at : List Entry → Option ℕ → Option Ending → State
     at es thrown ending = record { stack = es; thrown = thrown; begun = begun; shared = shared; output = output; ending = ending }

@@ -11,7 +11,7 @@ use Rattle.prepared_code.specs.declared.markers.Marker.{Marker}
 use Rattle.jvm_steps.specs.declared.turns.hands.Gone.{Gone}
 use Rattle.jvm_steps.specs.declared.turns.hands.Hand.{Hand}
 use Rattle.prepared_code.specs.declared.parts.Parts.{Parts}
-use Rattle.prepared_code.specs.Versions.{Setup, text_of}
+use Rattle.prepared_code.specs.Versions.{Setup, listing_of}
 use Rattle.jvm_steps.specs.Instructions.Acts.{is_at_rest}
 use Rattle.prepared_code.specs.Markers.{state_of}
 use Rattle.prepared_code.specs.Ready.{CanRun, IsSoundIn}
@@ -31,7 +31,7 @@ module _ (w : Setup) (ms : List Marker) (hand : Hand) (p : Parts) (gone : Gone) 
   -- moves are left of it, and none applies
   pub calm-moves : hand.moves ≡ true → hand.told ≡ false → is_at_rest ms p ≡ true → gone.due ≡ Nothing → gone.hand.passed ≡ hand.passed → GoesCalmly w ms hand p gone p
   calm-moves moves untold rests due counts =
-      let paused = sym (rest-pauses w hand.passed s (rest-moves w (text_of w.versions) ms p rests)) in
+      let paused = sym (rest-pauses w hand.passed s (rest-moves w (listing_of w.versions) ms p rests)) in
       record {
         loads = ap (λ b. b || loads_none w s) moves;
         reaches = reaches-moves w hand s s hand.passed Nothing gone counts due moves (paused ∙ ap (λ b. goes_by_moves w b hand.passed s) (sym untold));

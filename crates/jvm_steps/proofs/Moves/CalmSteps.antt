@@ -11,7 +11,7 @@ use Rattle.prepared_code.specs.declared.markers.Marker.{Marker}
 use Rattle.prepared_code.specs.declared.line.Line.{Line}
 use Rattle.prepared_code.specs.declared.parts.Here.{Here}
 use Rattle.prepared_code.specs.declared.parts.Parts.{Parts}
-use Rattle.prepared_code.specs.Versions.{Setup, current_of, line_at, mark_of, text_of}
+use Rattle.prepared_code.specs.Versions.{Setup, current_of, line_at, mark_of, listing_of}
 use Rattle.jvm_steps.specs.Instructions.Acts.{goes_on_in}
 use Rattle.jvm_steps.specs.Instructions.Arguments.{with_begun}
 use Rattle.prepared_code.specs.Markers.{marker_on, state_of}
@@ -91,7 +91,7 @@ module _ (w : Setup) (run : CanRun w) (ms : List Marker) (old new : Parts) (has 
       let one : length old.frames.frames ≡ suc (length old.frames.frames - 1) = some-frame old.frames.frames has in
       let counts = counts_one 0 live new.frames.frames (λ same. absurd (omega (arith, same, fewer, one))) in
       let enters = sym (enters_none w live new.frames.frames (omega (arith, fewer, one))) in
-      let paused : pause_at after 1 Nothing ≡ paused_in w 1 after = sym (rest-pauses w 1 after (rest-moves w (text_of w.versions) ms new rests)) in
+      let paused : pause_at after 1 Nothing ≡ paused_in w 1 after = sym (rest-pauses w 1 after (rest-moves w (listing_of w.versions) ms new rests)) in
       record {
         loads = none;
         reaches = tries-once w run ms old going 0 live refl none None (sym is.awaits) after is.made (pause_at after 1 Nothing)

@@ -13,7 +13,7 @@ use Rattle.jvm_model.specs.declared.state.Entry.{Entry}
 use Rattle.jvm_model.specs.declared.state.State.{State}
 use Rattle.jvm_model.specs.Running.Applies.{still}
 use Rattle.jvm_model.specs.Running.Between.{changes_between, compared, followed, top_method}
-use Rattle.jvm_model.specs.Basis.Data.{Change, Text}
+use Rattle.jvm_model.specs.Basis.Data.{Change, Listing}
 use Rattle.jvm_model.specs.Rewriting.Images.{is_off}
 use Rattle.jvm_model.specs.Turns.Told.{mark_now}
 use Rattle.jvm_model.specs.Turns.Pauses.{Pause, changes_due, passed_by, paused, unless_off}
@@ -25,7 +25,7 @@ use Rattle.prepared_code.specs.Markers.{above, beneath, initializing, stack_of, 
 use Rattle.prepared_code.specs.States.{active}
 use Rattle.jvm_steps.specs.Moves.Turning.{pause_at, paused_in}
 use Rattle.jvm_steps.specs.Moves.Trying.{changes_since, enters_by, is_begins, pause_behind_attempt, top_frame_method}
-use Rattle.prepared_code.specs.Versions.{Setup, current_of, text_of, mark_of}
+use Rattle.prepared_code.specs.Versions.{Setup, current_of, listing_of, mark_of}
 use Rattle.jvm_steps.proofs.Instructions.InitializerFrames.{live-of}
 use Rattle.jvm_steps.proofs.Loads.MovesLoad.{settled-loaded}
 
@@ -124,7 +124,7 @@ module _ (w : Setup) (live n : ℕ) (ms : List Marker) (p : Parts) where
   cs = changes_since live p.frames.frames
 
   abbrev followed_by : List Change → Pause
-  followed_by changes = followed w.world (text_of w.versions) (mark_of w.versions) n changes s
+  followed_by changes = followed w.world (listing_of w.versions) (mark_of w.versions) n changes s
 
   same-followed : followed_by cs ≡ pause_behind_attempt w live n s
   same-followed = ap followed_by (since-between live ms p)
@@ -133,21 +133,21 @@ module _ (w : Setup) (live n : ℕ) (ms : List Marker) (p : Parts) where
   pub follows-told : (passed : ℕ) → passed ≡ passed_by n cs → enters_by w cs ≡ true → pause_at s passed Begins ≡ pause_behind_attempt w live n s
   follows-told passed counted is =
       ap (λ k. pause_at s k Begins) counted
-      ∙ (sym (begins-pause (changes_due (mark_now (mark_of w.versions) (text_of w.versions)) [] cs) (record { state = s; passed = passed_by n cs; due = Begins })
-      (paused w.world (text_of w.versions) (mark_of w.versions) (passed_by n cs) s) is)
+      ∙ (sym (begins-pause (changes_due (mark_now (mark_of w.versions) (listing_of w.versions)) [] cs) (record { state = s; passed = passed_by n cs; due = Begins })
+      (paused w.world (listing_of w.versions) (mark_of w.versions) (passed_by n cs) s) is)
       ∙ same-followed)
 
   -- the moves follow
   pub follows-on : (passed : ℕ) → passed ≡ passed_by n cs → enters_by w cs ≡ false → paused_in w passed s ≡ pause_behind_attempt w live n s
   follows-on passed counted isnt =
       ap (λ k. paused_in w k s) counted
-      ∙ (sym (goes-pause (changes_due (mark_now (mark_of w.versions) (text_of w.versions)) [] cs) (record { state = s; passed = passed_by n cs; due = Begins })
-      (paused w.world (text_of w.versions) (mark_of w.versions) (passed_by n cs) s) isnt)
+      ∙ (sym (goes-pause (changes_due (mark_now (mark_of w.versions) (listing_of w.versions)) [] cs) (record { state = s; passed = passed_by n cs; due = Begins })
+      (paused w.world (listing_of w.versions) (mark_of w.versions) (passed_by n cs) s) isnt)
       ∙ same-followed)
 
 -- ---- moves load nothing
 
-module _ (w : Setup) (t : Text) (v : ℕ → Mark) (n : ℕ) (s : State) where
+module _ (w : Setup) (t : Listing) (v : ℕ → Mark) (n : ℕ) (s : State) where
   pub paused-loaded : (paused w.world t v n s).state.shared.loaded ≡ s.shared.loaded
   paused-loaded =
       let p : Pause = paused w.world t v n s in
@@ -160,7 +160,7 @@ module _ (w : Setup) (t : Text) (v : ℕ → Mark) (n : ℕ) (s : State) where
   behind-loaded Nothing begun later one other = other
   behind-loaded (Ends k) begun later one other = other
 
-pub followed-loaded : (w : Setup) (t : Text) (v : ℕ → Mark) (n : ℕ) (changes : List Change) (s : State) → (followed w.world t v n changes s).state.shared.loaded ≡ s.shared.loaded
+pub followed-loaded : (w : Setup) (t : Listing) (v : ℕ → Mark) (n : ℕ) (changes : List Change) (s : State) → (followed w.world t v n changes s).state.shared.loaded ≡ s.shared.loaded
 followed-loaded w t v n changes s =
     behind-loaded w t v n s (changes_due (mark_now v t) [] changes) (record { state = s; passed = passed_by n changes; due = Begins })
     (paused w.world t v (passed_by n changes) s) refl (paused-loaded w t v (passed_by n changes) s)

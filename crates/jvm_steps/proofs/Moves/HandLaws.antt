@@ -20,7 +20,7 @@ use Rattle.prepared_code.specs.Ready.{CanRun, IsSoundIn}
 use Rattle.prepared_code.specs.Standing.{HasVersions, places_of}
 use Rattle.jvm_steps.specs.Moves.Turning.{goes_by_moves, loads_in, loads_none, pause_at}
 use Rattle.jvm_steps.specs.Moves.Trying.{tried_in}
-use Rattle.prepared_code.specs.Versions.{Setup, current_of, text_of, mark_of}
+use Rattle.prepared_code.specs.Versions.{Setup, current_of, listing_of, mark_of}
 use Rattle.jvm_steps.proofs.Moves.Followed.{paused-loaded}
 use Rattle.jvm_steps.proofs.Moves.PausesSound.{loaded-sound, moved-sound, tried-sound}
 use Rattle.jvm_steps.proofs.Loads.StartSound.{starts-sound}
@@ -30,7 +30,7 @@ use Rattle.prepared_code.proofs.VersionsAgree.{versions-agree}
 -- ---- the rest of the same step is in hand
 
 module _ (w : Setup) (homes : ℕ → ℕ → ℕ) (has : HasVersions w homes) where
-  goes-same : (moves told : Bool) (n : ℕ) (s : State) → goes_from w.world (text_of w.versions) (versioned_in w homes) told n (todo_of moves) s (popped s) ≡ goes_as w moves told n s
+  goes-same : (moves told : Bool) (n : ℕ) (s : State) → goes_from w.world (listing_of w.versions) (versioned_in w homes) told n (todo_of moves) s (popped s) ≡ goes_as w moves told n s
   goes-same true true n s = refl
   goes-same true false n s = refl
   goes-same false told n s = refl
@@ -40,7 +40,7 @@ module _ (w : Setup) (homes : ℕ → ℕ → ℕ) (has : HasVersions w homes) w
   hands-on turn hand live s in_hand gone new reaches =
       subst (GoesOn w.world (original w.world.program) (versioned_in w homes) (current_of w.versions) turn hand.passed hand.told live)
       (goes-same hand.moves hand.told hand.passed s ∙ sym reaches)
-      (all-goes w.world (original w.world.program) (versioned_in w homes) (program-agrees w.world.program has.closed) (current_of w.versions) (text_of w.versions)
+      (all-goes w.world (original w.world.program) (versioned_in w homes) (program-agrees w.world.program has.closed) (current_of w.versions) (listing_of w.versions)
       (versions-agree w.world.program (places_of w.world.program) homes w.versions has.are) (ends-by-return w.world) turn hand.passed live hand.told (todo_of hand.moves) s in_hand)
 
 -- ---- what is left is sound
@@ -66,8 +66,8 @@ module _ (w : Setup) (run : CanRun w) (s new : State) where
   pub moves-linked : (told : Bool) (n passed : ℕ) (due : Due) → pause_at new passed due ≡ goes_by_moves w told n s → s.shared.loaded ≡ new.shared.loaded
   moves-linked told n passed due reaches = sym (ap (λ (p : Pause). p.state.shared.loaded) reaches ∙ by told) where
     by : (b : Bool) → (goes_by_moves w b n s).state.shared.loaded ≡ s.shared.loaded
-    by true = paused-loaded w (text_of w.versions) (mark_of w.versions) (suc n) (popped s)
-    by false = paused-loaded w (text_of w.versions) (mark_of w.versions) n s
+    by true = paused-loaded w (listing_of w.versions) (mark_of w.versions) (suc n) (popped s)
+    by false = paused-loaded w (listing_of w.versions) (mark_of w.versions) n s
 
 -- ---- where it has stopped
 

@@ -14,7 +14,7 @@ use Rattle.jvm_model.specs.declared.state.Phase.{Phase}
 use Rattle.jvm_model.specs.declared.state.Phase.TheVariants.{Fresh, Running, Ready, Erroneous}
 use Rattle.jvm_model.specs.declared.state.State.{State}
 use Rattle.jvm_model.specs.Running.Applies.{still, breaks, applies}
-use Rattle.jvm_model.specs.Basis.Data.{Text, Naming, Instruction, Operation, Named, Initializes, Done, Turn}
+use Rattle.jvm_model.specs.Basis.Data.{Listing, Naming, Instruction, Operation, Named, Initializes, Done, Turn}
 use Rattle.jvm_model.specs.Running.Moves.{move, moves, left, settles, settled, then_turn}
 use Rattle.jvm_model.specs.Instructions.Does.{loads}
 use Rattle.jvm_model.specs.Instructions.Naming.{newly_loaded}
@@ -38,7 +38,7 @@ use Rattle.jvm_steps.proofs.Loads.MovesLoad.{settled-loaded}
 use Rattle.jvm_steps.proofs.Instructions.NamedLaws.{Asks, IsNamed, is-named}
 use Rattle.prepared_code.proofs.Tied.{Tie, tied-there}
 use Rattle.prepared_code.specs.Ready.{CanRun, IsTied}
-use Rattle.prepared_code.specs.Versions.{Setup, text_of, line_at, instruction_by}
+use Rattle.prepared_code.specs.Versions.{Setup, listing_of, line_at, instruction_by}
 
 -- ---- the top of a stack
 
@@ -54,7 +54,7 @@ top-frame ms f fs none = stack-frame (active f) (map active fs) ms (ap (λ n. ma
 
 -- ---- the moves do not see the changes before them
 
-module _ (w : Setup) (t : Text) where
+module _ (w : Setup) (t : Listing) where
   settles-after : (n : ℕ) (a b : Turn) → a.after ≡ b.after → (settles w.world t n a).after ≡ (settles w.world t n b).after
   settles-after zero a b same = same
   settles-after (suc n) a b same =
@@ -92,8 +92,8 @@ module _ (w : Setup) (t : Text) where
 -- ---- a step
 
 module _ (w : Setup) where
-  abbrev t : Text
-  t = text_of w.versions
+  abbrev t : Listing
+  t = listing_of w.versions
 
   -- the state after a line, with all that follows
   abbrev pub behind : State → State
@@ -272,8 +272,8 @@ pub record IsGoing (s : State) : Type 0 where
   pub stack : s.stack ≡ Active frame ∷ rest
 
 module _ (w : Setup) (run : CanRun w) (s : State) (going : IsGoing s) where
-  abbrev text : Text
-  text = text_of w.versions
+  abbrev text : Listing
+  text = listing_of w.versions
 
   -- without the frame
   abbrev pub under : State
@@ -376,20 +376,20 @@ module _ (ms : List Marker) (p : Parts) where
 
   -- where a marker is on top, or nothing, or the run has ended, a step does nothing
   stays-by : (w : Setup) (s : State) (ending : Option Ending) (fs : List PlacedFrame) → (is_none ending && (has_frame fs && is_none (marker_on (length fs) ms))) ≡ false
-      → (steps_on w.world (text_of w.versions) s ending (stack_of (map active fs) ms)).after ≡ s
+      → (steps_on w.world (listing_of w.versions) s ending (stack_of (map active fs) ms)).after ≡ s
   stays-by w s (Some e) fs is = refl
-  stays-by w s None [] is = ap (λ es. (steps_on w.world (text_of w.versions) s None es).after) (stack-empty ms) ∙ by ms where
-    by : (marks : List Marker) → (steps_on w.world (text_of w.versions) s None (map initializing marks)).after ≡ s
+  stays-by w s None [] is = ap (λ es. (steps_on w.world (listing_of w.versions) s None es).after) (stack-empty ms) ∙ by ms where
+    by : (marks : List Marker) → (steps_on w.world (listing_of w.versions) s None (map initializing marks)).after ≡ s
     by [] = refl
     by (m ∷ marks) = refl
   stays-by w s None (f ∷ fs) is = by (marker_on (length (f ∷ fs)) ms) refl is where
-    by : (o : Option Marker) → marker_on (length (f ∷ fs)) ms ≡ o → is_none o ≡ false → (steps_on w.world (text_of w.versions) s None (stack_of (map active (f ∷ fs)) ms)).after ≡ s
+    by : (o : Option Marker) → marker_on (length (f ∷ fs)) ms ≡ o → is_none o ≡ false → (steps_on w.world (listing_of w.versions) s None (stack_of (map active (f ∷ fs)) ms)).after ≡ s
     by None e isnt = absurd (false≢true (sym isnt))
     by (Some m) e isnt =
         let on = stack-on (map active (f ∷ fs)) ms m (ap (λ n. marker_on n ms) (length-active (f ∷ fs)) ∙ e) in
-        ap (λ es. (steps_on w.world (text_of w.versions) s None es).after) on.1
+        ap (λ es. (steps_on w.world (listing_of w.versions) s None es).after) on.1
 
-  pub step-stays : (w : Setup) → goes_on_in ms p ≡ false → state_of ms p ≡ (step w.world (text_of w.versions) (state_of ms p)).after
+  pub step-stays : (w : Setup) → goes_on_in ms p ≡ false → state_of ms p ≡ (step w.world (listing_of w.versions) (state_of ms p)).after
   step-stays w is = sym (stays-by w (state_of ms p) p.ending p.frames.frames is)
 
   -- a frame that stands on top has no marker on it

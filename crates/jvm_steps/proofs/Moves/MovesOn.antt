@@ -3,15 +3,15 @@ use Rattle.std.proofs.Common.{◌≡◌, ◌<◌, ◌++◌, ℕ, zero, suc, true
 use Rattle.std.specs.Prelude.{is_some}
 use Rattle.std.specs.Option.{option_map_or}
 use Rattle.jvm_model.specs.declared.state.State.{State}
-use Rattle.jvm_model.specs.Basis.Data.{Change, Text, Turn}
+use Rattle.jvm_model.specs.Basis.Data.{Change, Listing, Turn}
 use Rattle.jvm_model.specs.Running.Applies.{still}
 use Rattle.jvm_model.specs.Running.Moves.{left, move, settled, settles, then_turn}
 use Rattle.jvm_model.proofs.Running.LoopOfMoves.{moved-less, moved-same, moved-end}
 use Rattle.jvm_steps.specs.Moves.Settling.{after_move}
-use Rattle.prepared_code.specs.Versions.{Setup, text_of}
+use Rattle.prepared_code.specs.Versions.{Setup, listing_of}
 
 -- the state that is reached is the same, whatever the changes before
-settles-after : (w : Setup) (t : Text) (n : ℕ) (s : State) (c d : List Change)
+settles-after : (w : Setup) (t : Listing) (n : ℕ) (s : State) (c d : List Change)
     → (settles w.world t n (record { after = s; changes = c })).after ≡ (settles w.world t n (record { after = s; changes = d })).after
 settles-after w t zero s c d = refl
 settles-after w t (suc n) s c d = by (move w.world t s) (λ next. settles-after w t n next.after (c ++ next.changes) (d ++ next.changes)) where
@@ -23,8 +23,8 @@ settles-after w t (suc n) s c d = by (move w.world t s) (λ next. settles-after 
   by None rest = refl
   by (Some next) rest = rest next
 
-abbrev by_text : Setup → Text
-by_text w = text_of w.versions
+abbrev by_text : Setup → Listing
+by_text w = listing_of w.versions
 
 pub moved_on : (w : Setup) (s : State) → (settled w.world (by_text w) (still (after_move w s))).after ≡ (settled w.world (by_text w) (still s)).after
 moved_on w s = by (move w.world (by_text w) s) refl where

@@ -16,7 +16,7 @@ use Rattle.jvm_model.proofs.Turns.Pausing.{OneAtMost, none, one, move-one}
 use Rattle.jvm_model.proofs.Turns.LoopOfPauses.{paused-move, begun-stops}
 use Rattle.jvm_steps.specs.declared.turns.turning.Moved.{Moved}
 use Rattle.jvm_steps.specs.declared.turns.turning.Moved.TheVariants as moved
-use Rattle.prepared_code.specs.Versions.{Setup, text_of, mark_of}
+use Rattle.prepared_code.specs.Versions.{Setup, listing_of, mark_of}
 use Rattle.jvm_steps.specs.Moves.Turning.{changes_of, due_by, moved_by, moved_if, moved_as, state_by, moved_to, paused_in}
 
 abbrev pub Means : Setup → ℕ → State → State → Moved → Type 0
@@ -32,24 +32,24 @@ module _ (w : Setup) (n : ℕ) (s : State) where
   live = helds (mark_of w.versions) s.stack
 
   abbrev marks : ℕ → Mark
-  marks = mark_now (mark_of w.versions) (text_of w.versions)
+  marks = mark_now (mark_of w.versions) (listing_of w.versions)
 
-  by-move : (next : Turn) → move w.world (text_of w.versions) s ≡ Some next
+  by-move : (next : Turn) → move w.world (listing_of w.versions) s ≡ Some next
       → paused_in w n s ≡ pause_by s next.after n next.changes (due_by w s next.changes) (paused_in w (passed_by n next.changes) next.after)
   by-move next e =
-      paused-move w.world (text_of w.versions) (mark_of w.versions) n s
+      paused-move w.world (listing_of w.versions) (mark_of w.versions) n s
       ∙ ap (λ found. option_map_or (λ (next : Turn). pause_by s next.after n next.changes (due_by w s next.changes) (paused_in w (passed_by n next.changes) next.after)) found
       (record { state = s; passed = n; due = Nothing })) e
 
   -- where no move applies nothing is due
-  pub rest-pauses : move w.world (text_of w.versions) s ≡ None → paused_in w n s ≡ record { state = s; passed = n; due = Nothing }
+  pub rest-pauses : move w.world (listing_of w.versions) s ≡ None → paused_in w n s ≡ record { state = s; passed = n; due = Nothing }
   rest-pauses at_rest =
-      paused-move w.world (text_of w.versions) (mark_of w.versions) n s
+      paused-move w.world (listing_of w.versions) (mark_of w.versions) n s
       ∙ ap (λ found. option_map_or (λ (next : Turn). pause_by s next.after n next.changes (due_by w s next.changes) (paused_in w (passed_by n next.changes) next.after)) found
       (record { state = s; passed = n; due = Nothing })) at_rest
 
   -- by the one change, and what is due by it
-  unwound-means : (after : State) (d : Due) → end_due kind.Unwind live ≡ d → move w.world (text_of w.versions) s ≡ Some (record { after = after; changes = Unwound ∷ [] }) → left after < left s
+  unwound-means : (after : State) (d : Due) → end_due kind.Unwind live ≡ d → move w.world (listing_of w.versions) s ≡ Some (record { after = after; changes = Unwound ∷ [] }) → left after < left s
       → Means w n s (state_by s after d) (moved_by (Unwound ∷ []) d)
   unwound-means after d due e less = by d due (ends live due) where
     there : paused_in w n s ≡ pause_by s after n (Unwound ∷ []) (end_due kind.Unwind live) (paused_in w (suc n) after)
@@ -71,7 +71,7 @@ module _ (w : Setup) (n : ℕ) (s : State) where
         (there ∙ (ap (λ d. pause_by s after n (Unwound ∷ []) d (paused_in w (suc n) after)) due ∙ ap (λ d. record { state = s; passed = n; due = d }) same), refl)
     by Begins due is = absurd (let h : Begins ≡ Ends kind.Unwind = is (λ nothing. (let h : Begins ≡ Nothing = nothing in cc)) in cc)
 
-  began-means : (after : State) (m : ℕ) (mark : Mark) → marks m ≡ mark → move w.world (text_of w.versions) s ≡ Some (record { after = after; changes = Began m ∷ [] })
+  began-means : (after : State) (m : ℕ) (mark : Mark) → marks m ≡ mark → move w.world (listing_of w.versions) s ≡ Some (record { after = after; changes = Began m ∷ [] })
       → Means w n s (state_by s after (unless_off mark Begins)) (moved_by (Began m ∷ []) (unless_off mark Begins))
   began-means after m mark is e = by mark is where
     there : (d : Due) → unless_off (marks m) Begins ≡ d → paused_in w n s ≡ pause_by s after n (Began m ∷ []) d (paused_in w (suc n) after)
@@ -79,16 +79,16 @@ module _ (w : Setup) (n : ℕ) (s : State) where
 
     stays : paused_in w (suc n) after ≡ record { state = after; passed = suc n; due = Nothing }
     stays =
-        paused-move w.world (text_of w.versions) (mark_of w.versions) (suc n) after
+        paused-move w.world (listing_of w.versions) (mark_of w.versions) (suc n) after
         ∙ ap (λ found. option_map_or (λ (next : Turn). pause_by after next.after (suc n) next.changes (due_by w after next.changes) (paused_in w (passed_by (suc n) next.changes) next.after)) found
-        (record { state = after; passed = suc n; due = Nothing })) (begun-stops w.world (text_of w.versions) s (record { after = after; changes = Began m ∷ [] }) m e refl)
+        (record { state = after; passed = suc n; due = Nothing })) (begun-stops w.world (listing_of w.versions) s (record { after = after; changes = Began m ∷ [] }) m e refl)
 
     by : (mark : Mark) → marks m ≡ mark → Means w n s (state_by s after (unless_off mark Begins)) (moved_by (Began m ∷ []) (unless_off mark Begins))
     by Off is = there Nothing (ap (λ k. unless_off k Begins) is) ∙ stays
     by Plain is = there Begins (ap (λ k. unless_off k Begins) is)
     by Root is = there Begins (ap (λ k. unless_off k Begins) is)
 
-  change-means : (after : State) (changes : List Change) → OneAtMost changes → move w.world (text_of w.versions) s ≡ Some (record { after = after; changes = changes }) → left after < left s
+  change-means : (after : State) (changes : List Change) → OneAtMost changes → move w.world (listing_of w.versions) s ≡ Some (record { after = after; changes = changes }) → left after < left s
       → Means w n s (state_by s after (due_by w s changes)) (moved_by changes (due_by w s changes))
   change-means after _ none e less = (sym (by-move (record { after = after; changes = [] }) e), less)
   change-means after _ (one (Loads classes) other) e less = absurd other
@@ -96,19 +96,19 @@ module _ (w : Setup) (n : ℕ) (s : State) where
   change-means after _ (one Left other) e less = absurd other
   change-means after _ (one Unwound other) e less = unwound-means after (end_due kind.Unwind live) refl e less
 
-  nothing-means : move w.world (text_of w.versions) s ≡ None → paused_in w n s ≡ record { state = s; passed = n; due = Nothing }
+  nothing-means : move w.world (listing_of w.versions) s ≡ None → paused_in w n s ≡ record { state = s; passed = n; due = Nothing }
   nothing-means e =
-      paused-move w.world (text_of w.versions) (mark_of w.versions) n s
+      paused-move w.world (listing_of w.versions) (mark_of w.versions) n s
       ∙ ap (λ found. option_map_or (λ (next : Turn). pause_by s next.after n next.changes (due_by w s next.changes) (paused_in w (passed_by n next.changes) next.after)) found
       (record { state = s; passed = n; due = Nothing })) e
 
-  move-means : (found : Option Turn) → move w.world (text_of w.versions) s ≡ found → IfSome found (λ next. left next.after < left s) → IfSome found (λ (next : Turn). OneAtMost next.changes)
+  move-means : (found : Option Turn) → move w.world (listing_of w.versions) s ≡ found → IfSome found (λ next. left next.after < left s) → IfSome found (λ (next : Turn). OneAtMost next.changes)
       → Means w n s (state_by s (option_map_or (λ (turn : Turn). turn.after) found s) (due_by w s (changes_of found))) (moved_if (is_some found) (changes_of found) (due_by w s (changes_of found)))
   move-means None e less single = nothing-means e
   move-means (Some next) e less single = change-means next.after next.changes single e less
 
   pub means : Means w n s (moved_to w s) (moved_as w s)
-  means = move-means (move w.world (text_of w.versions) s) refl (move-less w.world (text_of w.versions) s) (move-one w.world (text_of w.versions) s)
+  means = move-means (move w.world (listing_of w.versions) s) refl (move-less w.world (listing_of w.versions) s) (move-one w.world (listing_of w.versions) s)
 
 -- of what a call has answered
 pub means-of : (w : Setup) (n : ℕ) (s after : State) (m : Moved) → m ≡ moved_as w s → after ≡ moved_to w s → Means w n s after m

@@ -11,7 +11,7 @@ use Rattle.jvm_model.specs.declared.state.Entry.{Entry}
 use Rattle.jvm_model.specs.declared.state.Entry.TheVariants.{Active, Initializing}
 use Rattle.jvm_model.specs.declared.state.Frame.{Frame}
 use Rattle.jvm_model.specs.declared.state.State.{State}
-use Rattle.jvm_model.specs.Basis.Data.{Change, Instruction, Text, Turn}
+use Rattle.jvm_model.specs.Basis.Data.{Change, Instruction, Listing, Turn}
 use Rattle.jvm_model.specs.Running.Applies.{live_in}
 use Rattle.jvm_model.specs.Running.Between.{changes_between}
 use Rattle.jvm_model.specs.Turns.InHand.{popped}
@@ -19,24 +19,24 @@ use Rattle.jvm_model.specs.Running.Moves.{left, move}
 use Rattle.jvm_model.specs.Turns.Pauses.{Pause, changes_due, passed_by, pause_by, paused, pauses}
 use Rattle.jvm_model.specs.Turns.Rest.{loads_at, loads_on}
 use Rattle.jvm_model.specs.Running.Run.{with_loaded}
-use Rattle.jvm_model.specs.Soundness.SoundTexts.{IsSoundEntry}
+use Rattle.jvm_model.specs.Soundness.SoundListings.{IsSoundEntry}
 use Rattle.jvm_model.specs.Turns.StepPauses.{pause_behind, stack_pause}
 use Rattle.jvm_model.specs.Turns.Told.{helds, mark_now}
 use Rattle.jvm_model.proofs.Turns.AttemptPauses.{settled-there}
-use Rattle.jvm_model.proofs.Soundness.SoundTextRuns.{sound-loaded}
-use Rattle.jvm_model.proofs.Soundness.SoundTextSteps.{GoesTo, moves-go}
+use Rattle.jvm_model.proofs.Soundness.SoundListingRuns.{sound-loaded}
+use Rattle.jvm_model.proofs.Soundness.SoundListingSteps.{GoesTo, moves-go}
 use Rattle.jvm_steps.specs.Instructions.Acts.{attempts_on, awaited_in}
 use Rattle.prepared_code.specs.Ready.{CanRun, IsSoundIn, RunsIn}
 use Rattle.jvm_steps.specs.Moves.Turning.{goes_by_moves, loads_in, paused_in}
 use Rattle.jvm_steps.specs.Moves.Trying.{leaves_at, pause_behind_attempt, tried_in, tries_again}
-use Rattle.prepared_code.specs.Versions.{Setup, text_of, mark_of}
+use Rattle.prepared_code.specs.Versions.{Setup, listing_of, mark_of}
 use Rattle.jvm_steps.proofs.Moves.LineSteps.{IsGoing, behind, going-again}
 use Rattle.jvm_steps.proofs.Moves.Sounded.{attempted-sound}
 use Rattle.jvm_steps.proofs.Moves.TriedSteps.{again-nothing, again-ready, told-first, told-silent, tried-again, tried-once, tried-stays}
 
 module _ (w : Setup) (run : CanRun w) where
-  abbrev t : Text
-  t = text_of w.versions
+  abbrev t : Listing
+  t = listing_of w.versions
 
   abbrev Sound : State → Type 0
   Sound s = IsSoundIn w s
@@ -62,7 +62,7 @@ module _ (w : Setup) (run : CanRun w) where
   pauses-sound v zero n s is = is
   pauses-sound v (suc k) n s is =
       by-move v k n s is (pauses-sound v k) (move w.world t s)
-      (moves-go (RunsIn w.versions) w.world run.fit t run.text s is s.ending s.thrown s.stack refl is.stack)
+      (moves-go (RunsIn w.versions) w.world run.fit t run.listing s is s.ending s.thrown s.stack refl is.stack)
 
   pub paused-sound : (n : ℕ) (s : State) → Sound s → Sound (paused_in w n s).state
   paused-sound n s is = pauses-sound (mark_of w.versions) (left s) n s is
@@ -130,7 +130,7 @@ module _ (w : Setup) (run : CanRun w) (n : ℕ) (s : State) (is : IsSoundIn w s)
     twice-sound : (c : ℕ) → awaited_in w s ≡ Some c → tries_again n c first ≡ true → IsSoundIn w (tried_in w true n s).state
     twice-sound c awaits again =
         let settles : first.state ≡ behind w mid =
-        settled-there w.world (text_of w.versions) (mark_of w.versions) n (changes_between (live_in s.stack) mid.stack) mid (again-nothing n c first again) in
+        settled-there w.world (listing_of w.versions) (mark_of w.versions) n (changes_between (live_in s.stack) mid.stack) mid (again-nothing n c first again) in
         let ready = again-ready n c first again in
         subst (λ (p : Pause). IsSoundIn w p.state) (sym (tried-again w run n s going none c awaits settles ready again))
         (followed-sound w run (live_in s.stack) n (attempts_on w first.state first.state.stack)
@@ -151,7 +151,7 @@ module _ (w : Setup) (run : CanRun w) (n : ℕ) (s : State) (is : IsSoundIn w s)
           subst (λ (p : Pause). IsSoundIn w p.state) (told-silent w run n s going told isnt) (awaits-sound (awaited_in w s) refl)
 
   abbrev stopped : Bool → Option Ending → List Entry → State
-  stopped told ending stack = (stack_pause w.world (text_of w.versions) (mark_of w.versions) told n s ending stack).state
+  stopped told ending stack = (stack_pause w.world (listing_of w.versions) (mark_of w.versions) told n s ending stack).state
 
   stack-sound : (told : Bool) (ending : Option Ending) (stack : List Entry) → s.ending ≡ ending → s.stack ≡ stack → IsSoundIn w (tried_in w told n s).state
   stack-sound told (Some e) stack on at = subst (IsSoundIn w) (sym (ap (λ x. stopped told x s.stack) on)) is

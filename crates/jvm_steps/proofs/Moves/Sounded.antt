@@ -18,8 +18,8 @@ use Rattle.jvm_model.proofs.Soundness.SoundAttempts.{sound-does}
 use Rattle.jvm_model.proofs.Soundness.SoundClasses.{among-front}
 use Rattle.jvm_model.proofs.Soundness.SoundKinds.{has-root}
 use Rattle.jvm_model.proofs.Soundness.SoundRuns.{loads-again}
-use Rattle.jvm_model.proofs.Soundness.SoundTextRuns.{sound-loaded}
-use Rattle.jvm_model.proofs.Soundness.SoundTextSteps.{entry-grows, sound-applied}
+use Rattle.jvm_model.proofs.Soundness.SoundListingRuns.{sound-loaded}
+use Rattle.jvm_model.proofs.Soundness.SoundListingSteps.{entry-grows, sound-applied}
 use Rattle.prepared_code.specs.Ready.{CanRun, IsSoundEntryIn, IsSoundIn, IsTied, RunsIn}
 use Rattle.class_linker.specs.Linkers.{LinkerView}
 use Rattle.jvm_named.specs.Natives.{HasBuiltIn}
@@ -35,7 +35,7 @@ use Rattle.prepared_code.specs.States.{active, here_of}
 use Rattle.jvm_steps.proofs.Instructions.LineActs.{readied, done_there, steps-as, viewed, with-loaded}
 use Rattle.jvm_steps.proofs.Moves.LineSteps.{IsGoing, top-frame}
 use Rattle.prepared_code.proofs.Tied.{Tie, tied-there}
-use Rattle.prepared_code.specs.Versions.{Setup, text_of, line_at, instruction_by}
+use Rattle.prepared_code.specs.Versions.{Setup, listing_of, line_at, instruction_by}
 
 -- ---- what the linker asks for
 
@@ -101,8 +101,8 @@ caller-by w run loaded ms here (f ∷ fs) is none each =
     let same : record { version = f.version; method = f.method; place = f.place } ≡ here = same_Some _ here is in
     let top : IsSoundEntryIn w loaded (active f) = (subst (AllByRecursion (IsSoundEntryIn w loaded)) (top-frame ms f fs none) each).0 in
     subst (λ (h : Here). IfNamed (line_at w.versions h.version h.place) (λ n next. HasLoadedCaller (linker_of w.world.program loaded) n)) same
-    (tie-named w.world.program run.fit loaded (line_at w.versions f.version f.place) ((text_of w.versions).at f.version f.place)
-    (λ i at. run.text.attempts loaded f.version f.method f.place i top.1 top.0 at)
+    (tie-named w.world.program run.fit loaded (line_at w.versions f.version f.place) ((listing_of w.versions).at f.version f.place)
+    (λ i at. run.listing.attempts loaded f.version f.method f.place i top.1 top.0 at)
     (tied-there w run f.version f.place))
 
 pub caller-linked : (w : Setup) (ms : List Marker) (parts : Parts) (loaded : List ℕ) (here : Here) → CanRun w → IsSoundIn w (state_of ms parts) → loaded ≡ parts.shared.loaded
@@ -116,7 +116,7 @@ caller-linked w ms parts loaded here run is linked at none =
 
 module _ (w : Setup) (run : CanRun w) where
   acts-sound : (s : State) (f : Frame) (line : Line) (op : Operation) → IsSoundIn w s → IsSoundEntryIn w s.shared.loaded (Active f) → IsTied line op
-      → (text_of w.versions).at f.version f.place ≡ Some (instruction_by op line) → IsSoundIn w (acts w line s f)
+      → (listing_of w.versions).at f.version f.place ≡ Some (instruction_by op line) → IsSoundIn w (acts w line s f)
   acts-sound s f line op is entry tied at =
       let classes : List ℕ = loads w.world op s.shared f.operands in
       let ready : State = readied w line op s f in
@@ -125,7 +125,7 @@ module _ (w : Setup) (run : CanRun w) where
       subst (λ loaded. IsSoundEntryIn w loaded (Active f)) (sym (ap (λ (x : State). x.shared.loaded) (with-loaded classes s)))
       (entry-grows (RunsIn w.versions) w.world.program s.shared.loaded (s.shared.loaded ++ classes) (λ class h. among-front class s.shared.loaded classes h) (Active f) entry) in
       let can : CanAttempt w.world.program ready.shared.loaded op =
-      run.text.attempts ready.shared.loaded f.version f.method f.place (instruction_by op line) there.1 there.0 at in
+      run.listing.attempts ready.shared.loaded f.version f.method f.place (instruction_by op line) there.1 there.0 at in
       let d : Done = done_there w line op s f in
       let does_so = sound-does w.world run.fit ready.shared ready_sound.shared op f.locals f.operands can (loads-again w.world op s f.operands) in
       let done_sound : IsSoundIn w (with_done d ready) = record {
@@ -134,14 +134,14 @@ module _ (w : Setup) (run : CanRun w) where
         main = λ on. subst (λ loaded. IsLoaded loaded (main_class w.world.program)) (sym does_so.loaded_same) (ready_sound.main on);
       } in
       subst (IsSoundIn w) (steps-as w line op s f tied).applied
-      (sound-applied (RunsIn w.versions) w.world run.fit (text_of w.versions) run.text (instruction_by op line) d.outcome (with_done d ready) f done_sound
+      (sound-applied (RunsIn w.versions) w.world run.fit (listing_of w.versions) run.listing (instruction_by op line) d.outcome (with_done d ready) f done_sound
       (subst (λ loaded. IsSoundEntryIn w loaded (Active f)) (sym does_so.loaded_same) there)
       (subst (λ loaded. IsSoundOutcome w.world.program loaded d.outcome) (sym does_so.loaded_same) does_so.outcome))
 
   line-sound : (s : State) (f : Frame) (lo : Option Line) (io : Option Instruction) → IsSoundIn w s → IsSoundEntryIn w s.shared.loaded (Active f)
-      → (text_of w.versions).at f.version f.place ≡ io → Tie lo io → IsSoundIn w (attempts_line w s f lo)
+      → (listing_of w.versions).at f.version f.place ≡ io → Tie lo io → IsSoundIn w (attempts_line w s f lo)
   line-sound s f None io is entry at tie =
-      sound-applied (RunsIn w.versions) w.world run.fit (text_of w.versions) run.text (record { operation = Athrow; own = 0; next = None; targets = [] }) (Breaks false) s f is entry tt
+      sound-applied (RunsIn w.versions) w.world run.fit (listing_of w.versions) run.listing (record { operation = Athrow; own = 0; next = None; targets = [] }) (Breaks false) s f is entry tt
   line-sound s f (Some line) None is entry at tie = absurd tie
   line-sound s f (Some line) (Some i) is entry at tie =
       acts-sound s f line tie.op is entry tie.tied (at ∙ ap Some tie.is)
@@ -153,5 +153,5 @@ module _ (w : Setup) (run : CanRun w) where
       let each = subst (AllByRecursion (IsSoundEntryIn w s.shared.loaded)) going.stack is.stack in
       let under : State = record s { stack = going.rest } in
       subst (IsSoundIn w) (sym (ap (attempts_on w s) going.stack))
-      (line-sound under f (line_at w.versions f.version f.place) ((text_of w.versions).at f.version f.place)
+      (line-sound under f (line_at w.versions f.version f.place) ((listing_of w.versions).at f.version f.place)
       (record { shared = is.shared; stack = each.1; main = is.main }) each.0 refl (tied-there w run f.version f.place))

@@ -18,7 +18,7 @@ use Rattle.jvm_model.specs.declared.state.Shared.{Shared}
 use Rattle.jvm_model.specs.declared.state.State.{State}
 use Rattle.jvm_model.specs.Running.Applies.{breaks, live_in}
 use Rattle.jvm_model.specs.Running.Between.{changes_between, followed}
-use Rattle.jvm_model.specs.Basis.Data.{Breaks, Instruction, Local, Naming, Named, Nop, Operands, Operation, Return, Text, Within}
+use Rattle.jvm_model.specs.Basis.Data.{Breaks, Instruction, Local, Naming, Named, Nop, Operands, Operation, Return, Listing, Within}
 use Rattle.jvm_model.specs.Instructions.Does.{does, loads}
 use Rattle.jvm_model.specs.Rewriting.Images.{is_off}
 use Rattle.jvm_model.specs.Turns.Rest.{loads_at, loads_on}
@@ -41,7 +41,7 @@ use Rattle.prepared_code.specs.Ready.{CanRun, IsSoundIn, IsTied}
 use Rattle.prepared_code.specs.States.{active, frame_in}
 use Rattle.jvm_steps.specs.Moves.Turning.{loads_in, loads_none, pause_at}
 use Rattle.jvm_steps.specs.Moves.Trying.{is_return_line, leaves_at, leaves_in, pause_behind_attempt, returns_by, tried_in, tries_again}
-use Rattle.prepared_code.specs.Versions.{Setup, instruction_by, line_at, text_of, mark_of}
+use Rattle.prepared_code.specs.Versions.{Setup, instruction_by, line_at, listing_of, mark_of}
 use Rattle.jvm_steps.proofs.Loads.ActsLoad.{named-loads}
 use Rattle.jvm_steps.proofs.Marked.Behind.{sound-again, unmarked-again}
 use Rattle.prepared_code.proofs.MarkedStacks.{length-active}
@@ -85,8 +85,8 @@ both false b e = absurd (false≢true e)
 -- ---- a state whose current frame stands on top
 
 module _ (w : Setup) (run : CanRun w) (n : ℕ) (s : State) (going : IsGoing s) where
-  abbrev t : Text
-  t = text_of w.versions
+  abbrev t : Listing
+  t = listing_of w.versions
 
   abbrev v : ℕ → Mark
   v = mark_of w.versions
@@ -358,7 +358,7 @@ module _ (w : Setup) (run : CanRun w) (ms : List Marker) (p : Parts) (goes : goe
       pub settles-before : q.state ≡ behind w mid
       settles-before =
           ap (λ (x : Pause). x.state) reached
-          ∙ settled-there w.world (text_of w.versions) (mark_of w.versions) n (changes_between live mid.stack) mid
+          ∙ settled-there w.world (listing_of w.versions) (mark_of w.versions) n (changes_between live mid.stack) mid
           (sym (ap (λ (x : Pause). x.due) reached) ∙ again-nothing n c q again)
 
       pub tries-twice : (r : Pause) → r ≡ pause_behind_attempt w live q.passed (attempts_on w q.state q.state.stack) → r ≡ tried_in w true n s
@@ -379,12 +379,12 @@ module _ (w : Setup) (told : Bool) (n : ℕ) (ms : List Marker) (p : Parts) wher
   before = state_of ms p
 
   abbrev IsStopped : State → List Entry → Type 0
-  IsStopped s es = (stack_pause w.world (text_of w.versions) (mark_of w.versions) told n s None es ≡ pause_at s n Nothing) × (loads_on w.world (text_of w.versions) s None es ≡ [])
+  IsStopped s es = (stack_pause w.world (listing_of w.versions) (mark_of w.versions) told n s None es ≡ pause_at s n Nothing) × (loads_on w.world (listing_of w.versions) s None es ≡ [])
 
   -- where no frame goes on
   stopped-by : (s : State) (ending : Option Ending) (fs : List PlacedFrame) → (is_none ending && (has_frame fs && is_none (marker_on (length fs) ms))) ≡ false
-      → (stack_pause w.world (text_of w.versions) (mark_of w.versions) told n s ending (stack_of (map active fs) ms) ≡ pause_at s n Nothing)
-      × (loads_on w.world (text_of w.versions) s ending (stack_of (map active fs) ms) ≡ [])
+      → (stack_pause w.world (listing_of w.versions) (mark_of w.versions) told n s ending (stack_of (map active fs) ms) ≡ pause_at s n Nothing)
+      × (loads_on w.world (listing_of w.versions) s ending (stack_of (map active fs) ms) ≡ [])
   stopped-by s (Some e) fs is = (refl, refl)
   stopped-by s None [] is = subst (IsStopped s) (sym (stack-empty ms)) (by ms) where
     by : (all : List Marker) → IsStopped s (map initializing all)

@@ -12,7 +12,7 @@ use Rattle.jvm_model.specs.declared.state.Entry.TheVariants.{Active, Initializin
 use Rattle.jvm_model.specs.declared.state.Frame.{Frame}
 use Rattle.jvm_model.specs.declared.state.Shared.{Shared}
 use Rattle.jvm_model.specs.declared.state.State.{State}
-use Rattle.jvm_model.specs.Basis.Data.{Text}
+use Rattle.jvm_model.specs.Basis.Data.{Listing}
 use Rattle.jvm_model.specs.Turns.InHand.{popped}
 use Rattle.jvm_model.specs.Running.Moves.{caught, handler_for, moves}
 use Rattle.jvm_model.specs.Basis.SharedState.{class_of}
@@ -26,7 +26,7 @@ use Rattle.jvm_steps.specs.Moves.Settling.{after_move}
 use Rattle.jvm_steps.specs.declared.turns.turning.Moved.{Moved}
 use Rattle.prepared_code.specs.States.{active, frame_in, here_of, state_in}
 use Rattle.jvm_steps.specs.Moves.Turning.{changes_of, due_by, found_move, moved_as, moved_if, moved_to, state_by}
-use Rattle.prepared_code.specs.Versions.{Setup, text_of, mark_of}
+use Rattle.prepared_code.specs.Versions.{Setup, listing_of, mark_of}
 use Rattle.jvm_steps.proofs.Marked.Carried.{IsCarried, move-carried}
 use Rattle.prepared_code.proofs.MarkedStacks.{length-active}
 use Rattle.jvm_steps.proofs.Moves.LineSteps.{top-frame}
@@ -56,8 +56,8 @@ module _ (v : ℕ → Mark) where
 -- ---- what a move changes
 
 module _ (ms : List Marker) (w : Setup) (begun : Bool) (shared : Shared) (output : List ℕ) where
-  abbrev t : Text
-  t = text_of w.versions
+  abbrev t : Listing
+  t = listing_of w.versions
 
   abbrev at : List Entry → Option ℕ → Option Ending → State
   at es thrown ending = record { stack = es; thrown = thrown; begun = begun; shared = shared; output = output; ending = ending }
@@ -94,7 +94,7 @@ module _ (ms : List Marker) (w : Setup) (p : Parts) (none : marker_on (length p.
 
   same-due : due_by w (state_in p) (changes_of (found_move w (state_in p))) ≡ due_by w (state_of ms p) (changes_of (found_move w (state_of ms p)))
   same-due =
-      ap₂ (changes_due (mark_now (mark_of w.versions) (text_of w.versions))) (sym (held-stack (mark_of w.versions) (map active p.frames.frames) ms)) same-changes
+      ap₂ (changes_due (mark_now (mark_of w.versions) (listing_of w.versions))) (sym (held-stack (mark_of w.versions) (map active p.frames.frames) ms)) same-changes
 
   pub moved-as-carried : moved_as w (state_in p) ≡ moved_as w (state_of ms p)
   moved-as-carried =

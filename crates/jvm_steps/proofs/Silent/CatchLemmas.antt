@@ -26,7 +26,7 @@ use Rattle.prepared_code.specs.declared.parts.Here.{Here}
 use Rattle.prepared_code.specs.declared.parts.Parts.{Parts}
 use Rattle.jvm_steps.specs.Instructions.Passing.{caller_target, caught_back, caught_if, fits_caught}
 use Rattle.jvm_steps.specs.Moves.Settling.{with_alone}
-use Rattle.prepared_code.specs.Versions.{Setup, text_of}
+use Rattle.prepared_code.specs.Versions.{Setup, listing_of}
 use Rattle.method_versions.specs.Tables.{is_superseded_in}
 use Rattle.prepared_code.specs.Markers.{marker_on}
 use Rattle.jvm_steps.specs.Instructions.Passing.{CatchesBelow}
@@ -47,15 +47,15 @@ named-below p name class upper file names stands has below =
 -- ---- where the caller goes on
 
 caller-catches : (w : Setup) (class : ℕ) (fs : List PlacedFrame) (version place : ℕ) → caller_of fs ≡ Some (version, place)
-    → caller_target w class fs ≡ handler_for w.world class place ((text_of w.versions).handlers version)
+    → caller_target w class fs ≡ handler_for w.world class place ((listing_of w.versions).handlers version)
 caller-catches w class [] version place is = absurd (none-some (version, place) is)
 caller-catches w class (f ∷ []) version place is = absurd (none-some (version, place) is)
 caller-catches w class (f ∷ g ∷ fs) version place is =
-    ap (λ (at : ℕ × ℕ). handler_for w.world class at.1 ((text_of w.versions).handlers at.0)) (same_Some (g.version, g.place) (version, place) is)
+    ap (λ (at : ℕ × ℕ). handler_for w.world class at.1 ((listing_of w.versions).handlers at.0)) (same_Some (g.version, g.place) (version, place) is)
 
 pub catches-there : (w : Setup) (ms : List Marker) (here : Here) (fs : List PlacedFrame) (class version place : ℕ) (o : Option ℕ)
-    → o ≡ handler_for w.world class place ((text_of w.versions).handlers version) → caller_of fs ≡ Some (version, place)
-    → handler_for w.world class here.place ((text_of w.versions).handlers here.version) ≡ None → marker_on (length fs - 1) ms ≡ None
+    → o ≡ handler_for w.world class place ((listing_of w.versions).handlers version) → caller_of fs ≡ Some (version, place)
+    → handler_for w.world class here.place ((listing_of w.versions).handlers here.version) ≡ None → marker_on (length fs - 1) ms ≡ None
     → mark_of w.versions here.version ≡ Off → is_superseded_in w.versions.slots w.versions.current here.version ≡ false
     → IfSome o (λ target. CatchesBelow w ms here fs class target)
 catches-there w ms here fs class version place None is stands own unmarked off current = tt

@@ -8,11 +8,11 @@ use Rattle.prepared_code.specs.declared.markers.Marker.{Marker}
 use Rattle.prepared_code.specs.declared.parts.Parts.{Parts}
 use Rattle.prepared_code.specs.Markers.{marker_on, state_of}
 use Rattle.prepared_code.specs.Runs.{AreQuiet, IsCalm, Leads, LeadsAlone, steps_from, steps_from-zero, steps_from-suc}
-use Rattle.prepared_code.specs.Versions.{Setup, text_of}
+use Rattle.prepared_code.specs.Versions.{Setup, listing_of}
 
 module _ (w : Setup) where
   abbrev next : State → State
-  next s = (step w.world (text_of w.versions) s).after
+  next s = (step w.world (listing_of w.versions) s).after
 
   -- first so many steps, and then so many
   pub steps-parts : (n m : ℕ) (s : State) → steps_from w (n + m) s ≡ steps_from w m (steps_from w n s)
@@ -53,11 +53,11 @@ module _ (w : Setup) where
 
   -- ---- without changes
 
-  pub quiet-one : (s : State) → (step w.world (text_of w.versions) s).changes ≡ [] → AreQuiet w s 1
+  pub quiet-one : (s : State) → (step w.world (listing_of w.versions) s).changes ≡ [] → AreQuiet w s 1
   quiet-one s quiet k less =
       let none : 0 ≡ k = omega arith in
-      subst (λ n. (step w.world (text_of w.versions) (steps_from w n s)).changes ≡ []) none
-      (ap (λ (z : State). (step w.world (text_of w.versions) z).changes) (steps_from-zero w s) ∙ quiet)
+      subst (λ n. (step w.world (listing_of w.versions) (steps_from w n s)).changes ≡ []) none
+      (ap (λ (z : State). (step w.world (listing_of w.versions) z).changes) (steps_from-zero w s) ∙ quiet)
 
   pub quiet-on : (old mid : State) (n m : ℕ) → mid ≡ steps_from w n old → AreQuiet w old n → AreQuiet w mid m → AreQuiet w old (n + m)
   quiet-on old mid n m made first second k less = elim (cases_lt k n) [
@@ -67,7 +67,7 @@ module _ (w : Setup) where
         let state : steps_from w k old ≡ steps_from w (k - n) mid =
         ap (λ j. steps_from w j old) (sym same)
         ∙ (steps-parts n (k - n) old ∙ ap (steps_from w (k - n)) (sym made)) in
-        ap (λ (z : State). (step w.world (text_of w.versions) z).changes) state ∙ second (k - n) (omega arith))
+        ap (λ (z : State). (step w.world (listing_of w.versions) z).changes) state ∙ second (k - n) (omega arith))
   ]
 
   -- ---- of the current frame and elements alone

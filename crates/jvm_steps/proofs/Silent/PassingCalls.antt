@@ -15,7 +15,7 @@ use Rattle.jvm_model.specs.declared.state.Entry.{Entry}
 use Rattle.jvm_model.specs.declared.state.Shared.{Shared}
 use Rattle.jvm_model.specs.declared.state.State.{State}
 use Rattle.jvm_model.specs.Running.Applies.{begins, begins_beside, breaks, has_room, invokes, live_in, most_live, new_frame, still, throws_at, with_frame}
-use Rattle.jvm_model.specs.Basis.Data.{Began, Datum, Done, Naming, Operands, Text, Turn}
+use Rattle.jvm_model.specs.Basis.Data.{Began, Datum, Done, Naming, Operands, Listing, Turn}
 use Rattle.jvm_model.specs.Instructions.Does.{loads}
 use Rattle.jvm_model.specs.Running.Moves.{left, settled}
 use Rattle.jvm_model.specs.Instructions.Naming.{newly_loaded}
@@ -51,7 +51,7 @@ use Rattle.jvm_steps.specs.Moves.Trying.{returns_by}
 use Rattle.jvm_steps.proofs.Moves.CalmSteps.{begins-calmly, has-here, no-return}
 use Rattle.prepared_code.specs.Runs.{IsCalm, steps_from-zero}
 use Rattle.prepared_code.specs.States.{active, frame_in, here_of, state_in, state_with}
-use Rattle.prepared_code.specs.Versions.{Setup, current_of, instruction_in, line_at, mark_of, operation_as, text_of}
+use Rattle.prepared_code.specs.Versions.{Setup, current_of, instruction_in, line_at, mark_of, operation_as, listing_of}
 use Rattle.jvm_steps.proofs.Instructions.Arguments.{height-reverse, length-slots, spread-data}
 use Rattle.jvm_steps.proofs.Instructions.Callees.{live-is, same-length}
 use Rattle.jvm_steps.proofs.Silent.Leading.{leads-one}
@@ -94,8 +94,8 @@ module _ (w : Setup) (run : CanRun w) (ms : List Marker) (here : Here) (line : L
   abbrev n : Naming
   n = naming_view kept
 
-  abbrev t : Text
-  t = text_of w.versions
+  abbrev t : Listing
+  t = listing_of w.versions
 
   abbrev marks : ℕ → Mark
   marks = mark_of w.versions

@@ -15,7 +15,7 @@ use Rattle.jvm_model.specs.declared.event.Mark.TheVariants.{Off}
 use Rattle.jvm_model.specs.declared.state.Entry.{Entry}
 use Rattle.jvm_model.specs.declared.state.State.{State}
 use Rattle.jvm_model.specs.Running.Applies.{breaks, gives_back, goes, resumes, with_frame}
-use Rattle.jvm_model.specs.Basis.Data.{Instruction, Left, Returns, Text, Turn}
+use Rattle.jvm_model.specs.Basis.Data.{Instruction, Left, Returns, Listing, Turn}
 use Rattle.jvm_model.specs.Instructions.LocalRules.{returns}
 use Rattle.jvm_model.specs.Running.Moves.{left, move}
 use Rattle.jvm_model.specs.Instructions.ObjectRules.{done}
@@ -38,7 +38,7 @@ use Rattle.prepared_code.specs.Ready.{CanRun}
 use Rattle.jvm_steps.specs.Moves.Calmly.{Attempted}
 use Rattle.prepared_code.specs.Runs.{IsCalm}
 use Rattle.prepared_code.specs.States.{active, frame_in, here_of, state_with}
-use Rattle.prepared_code.specs.Versions.{Setup, instruction_in, line_at, mark_of, next_in, operation_as, text_of}
+use Rattle.prepared_code.specs.Versions.{Setup, instruction_in, line_at, mark_of, next_in, operation_as, listing_of}
 use Rattle.jvm_steps.proofs.Marked.Beneath.{awaits-unnamed, does-beneath, does-there, top-there}
 use Rattle.jvm_steps.proofs.Silent.Leading.{leads-one}
 use Rattle.jvm_steps.proofs.Moves.LineSteps.{going-on, rests, step-attempts, top-frame}
@@ -63,8 +63,8 @@ pub record GivesBack (w : Setup) (ms : List Marker) (here : Here) (k : Option Ki
 module _ (w : Setup) (run : CanRun w) (ms : List Marker) (here : Here) (line : Line) (k : Option Kind) (old : Parts) (stands : here_of old.frames.frames ≡ Some here)
     (found : line_at w.versions here.version here.place ≡ Some line) (ends : line.action ≡ action.Return k) (calm : IsCalm (length old.frames.frames) ms old)
     (d : Option Datum) (next : ℕ) where
-  abbrev t : Text
-  t = text_of w.versions
+  abbrev t : Listing
+  t = listing_of w.versions
 
   abbrev marks : ℕ → Mark
   marks = mark_of w.versions

@@ -9,7 +9,7 @@ use Rattle.jvm_basic.specs.Outcomes.{can_hold, top_locals, with_top}
 use Rattle.jvm_model.specs.declared.state.Shared.{Shared}
 use Rattle.jvm_model.specs.declared.state.State.{State}
 use Rattle.jvm_model.specs.Running.Applies.{applies}
-use Rattle.jvm_model.specs.Basis.Data.{Back, Breaks, Done, Exits, GoesOn, Initializes, Instruction, Invokes, Locals, Named, Naming, Next as Following, Operands, Outcome, Raises, Returns, Subroutine, Target, Text, Throws, Turn}
+use Rattle.jvm_model.specs.Basis.Data.{Back, Breaks, Done, Exits, GoesOn, Initializes, Instruction, Invokes, Locals, Named, Naming, Next as Following, Operands, Outcome, Raises, Returns, Subroutine, Target, Listing, Throws, Turn}
 use Rattle.jvm_model.specs.Running.Moves.{settled}
 use Rattle.jvm_model.specs.Instructions.Naming.{newly_loaded}
 use Rattle.jvm_model.specs.Instructions.NamingRules.{does_named}
@@ -38,7 +38,7 @@ use Rattle.jvm_steps.specs.Instructions.Passing.{Passes, changed_in, steps_if, w
 use Rattle.prepared_code.specs.Ready.{CanRun}
 use Rattle.prepared_code.specs.Runs.{IsCalm, steps_from}
 use Rattle.prepared_code.specs.States.{active, frame_in, here_of, state_in, state_with}
-use Rattle.prepared_code.specs.Versions.{Setup, instruction_in, line_at, operation_as, text_of}
+use Rattle.prepared_code.specs.Versions.{Setup, instruction_in, line_at, operation_as, listing_of}
 use Rattle.jvm_steps.proofs.Silent.Leading.{leads-one, quiet-one}
 use Rattle.jvm_steps.proofs.Moves.LineSteps.{IsGoing, going-on, rests, step-attempts, top-frame}
 use Rattle.jvm_steps.proofs.Instructions.NamedAttempts.{awaits-told, goes-on}
@@ -87,8 +87,8 @@ module _ (w : Setup) (run : CanRun w) (ms : List Marker) (here : Here) (line : L
   abbrev n : Naming
   n = naming_view kept
 
-  abbrev t : Text
-  t = text_of w.versions
+  abbrev t : Listing
+  t = listing_of w.versions
 
   abbrev pub d : Done
   d = done_on (attempts w.world n old.shared old.frames) old.frames

@@ -17,7 +17,7 @@ use Rattle.jvm_model.specs.declared.state.Entry.TheVariants.{Active}
 use Rattle.jvm_model.specs.declared.state.Frame.{Frame}
 use Rattle.jvm_model.specs.declared.state.State.{State}
 use Rattle.jvm_model.specs.Running.Applies.{breaks, goes, still, throws_at, with_frame}
-use Rattle.jvm_model.specs.Basis.Data.{Instruction, Text, Throws, Turn, Unwound}
+use Rattle.jvm_model.specs.Basis.Data.{Instruction, Listing, Throws, Turn, Unwound}
 use Rattle.jvm_model.specs.Instructions.Does.{loads}
 use Rattle.jvm_model.specs.Running.Moves.{caught, handler_for, move, moves, own_at, settled, then_turn}
 use Rattle.jvm_model.specs.Instructions.ObjectRules.{done, throws}
@@ -39,7 +39,7 @@ use Rattle.jvm_steps.specs.Instructions.Passing.{AreKeptBy, CatchesBelow, Passes
 use Rattle.prepared_code.specs.Ready.{CanRun}
 use Rattle.prepared_code.specs.Runs.{IsCalm, steps_from-zero}
 use Rattle.prepared_code.specs.States.{active, frame_in, here_of, state_with}
-use Rattle.prepared_code.specs.Versions.{Setup, instruction_in, line_at, mark_of, operation_as, text_of}
+use Rattle.prepared_code.specs.Versions.{Setup, instruction_in, line_at, mark_of, operation_as, listing_of}
 use Rattle.jvm_steps.proofs.Marked.Beneath.{awaits-unnamed, does-beneath, does-there, top-there}
 use Rattle.jvm_steps.proofs.Silent.Leading.{leads-one}
 use Rattle.jvm_steps.proofs.Moves.LineSteps.{behind, going-on, step-attempts, top-frame}
@@ -54,11 +54,11 @@ either false on off = off refl
 -- ---- the moves behind a throw
 
 module _ (w : Setup) (s : State) (r target : ℕ) (f g : Frame) (rest : List Entry) (ending : s.ending ≡ None) (thrown : s.thrown ≡ Some r) (stack : s.stack ≡ Active f ∷ Active g ∷ rest)
-    (own : handler_for w.world (class_of w.world.program s.shared r) f.place ((text_of w.versions).handlers f.version) ≡ None)
-    (below : handler_for w.world (class_of w.world.program s.shared r) g.place ((text_of w.versions).handlers g.version) ≡ Some target)
+    (own : handler_for w.world (class_of w.world.program s.shared r) f.place ((listing_of w.versions).handlers f.version) ≡ None)
+    (below : handler_for w.world (class_of w.world.program s.shared r) g.place ((listing_of w.versions).handlers g.version) ≡ Some target)
     (fits : nat_le 1 g.max_stack ≡ true) where
-  abbrev run_text : Text
-  run_text = text_of w.versions
+  abbrev run_text : Listing
+  run_text = listing_of w.versions
 
   -- where the caller goes on
   abbrev pub back : State
@@ -100,8 +100,8 @@ module _ (w : Setup) (s : State) (r target : ℕ) (f g : Frame) (rest : List Ent
 module _ (w : Setup) (run : CanRun w) (ms : List Marker) (here : Here) (line : Line) (old : Parts) (stands : here_of old.frames.frames ≡ Some here)
     (found : line_at w.versions here.version here.place ≡ Some line) (ends : line.action ≡ action.Athrow) (calm : IsCalm (length old.frames.frames) ms old)
     (r target : ℕ) where
-  abbrev t : Text
-  t = text_of w.versions
+  abbrev t : Listing
+  t = listing_of w.versions
 
   abbrev marks : ℕ → Mark
   marks = mark_of w.versions

@@ -27,7 +27,7 @@ use Rattle.jvm_steps.proofs.Silent.QuietLines.{quiet-step}
 use Rattle.jvm_steps.proofs.Marked.Carried.{comes-carried}
 use Rattle.prepared_code.proofs.MarkedStacks.{length-active}
 use Rattle.jvm_steps.proofs.Moves.LineSteps.{going-on, rests, step-attempts, top-frame}
-use Rattle.prepared_code.specs.Versions.{Setup, text_of, line_at, line_in}
+use Rattle.prepared_code.specs.Versions.{Setup, listing_of, line_at, line_in}
 use Rattle.prepared_code.specs.Ready.{CanRun}
 
 -- ---- nothing follows
@@ -76,7 +76,7 @@ plain-at : (w : Setup) (run : CanRun w) (line : Line) (ms : List Marker) (p : Pa
     → IsPlainLine w fs line
     → (let old : FramesView = record { frames = fs; room = room } in effect_of (rule_of line.instr line.constant line.next) old ≡ Next)
     → (let old : FramesView = record { frames = fs; room = room } in new ≡ after (rule_of line.instr line.constant line.next) old)
-    → with_markers ms (state_with new.frames p) ≡ (step w.world (text_of w.versions) (with_markers ms (state_with fs p))).after
+    → with_markers ms (state_with new.frames p) ≡ (step w.world (listing_of w.versions) (with_markers ms (state_with fs p))).after
 plain-at w run line ms p [] room new calm stands e made = absurd stands
 plain-at w run line ms p (f ∷ fs) room new calm stands e made =
     let old : FramesView = record { frames = f ∷ fs; room = room } in
@@ -97,13 +97,13 @@ plain-at w run line ms p (f ∷ fs) room new calm stands e made =
     ∙ (ap (awaited_by w (with_markers ms s) (frame_in f)) stands.0 ∙ ap (awaited w (with_markers ms s) (frame_in f)) stands.1))
     (with_markers ms (state_with new.frames p)) (with_markers ms (state_with new.frames p))
     (attempted ∙ sym (ap (attempts_on w (state_of ms q)) (top-frame ms f fs calm.unmarked)))
-    (rests w (text_of w.versions) ms r
+    (rests w (listing_of w.versions) ms r
     (at-rest p.ending p.thrown (has_frame new.frames && is_none (marker_on (length new.frames) ms)) calm.ending calm.thrown (framed (length (f ∷ fs)) ms new.frames calm.unmarked many has)))
 
 -- it has no change
 quiet-at : (w : Setup) (run : CanRun w) (line : Line) (ms : List Marker) (p : Parts) (fs : List PlacedFrame) (room : Option ℕ) → IsCalm (length fs) ms p → IsPlainLine w fs line
     → (let old : FramesView = record { frames = fs; room = room } in effect_of (rule_of line.instr line.constant line.next) old ≡ Next)
-    → (step w.world (text_of w.versions) (with_markers ms (state_with fs p))).changes ≡ []
+    → (step w.world (listing_of w.versions) (with_markers ms (state_with fs p))).changes ≡ []
 quiet-at w run line ms p [] room calm stands e = absurd stands
 quiet-at w run line ms p (f ∷ fs) room calm stands e = quiet-step w run line ms p f fs calm stands e
 

@@ -11,7 +11,7 @@ use Rattle.jvm_model.specs.declared.state.Entry.TheVariants.{Active}
 use Rattle.jvm_model.specs.declared.state.Frame.{Frame}
 use Rattle.jvm_model.specs.declared.state.State.{State}
 use Rattle.jvm_model.specs.Running.Applies.{applies, enters_subroutine, goes, place_of, still, with_frame}
-use Rattle.jvm_model.specs.Basis.Data.{Arraylength, Breaks, Done, Exits, GoesOn, Initializes, Instruction, Invokes, LoadElement, Local, Locals, Operands, Operation, Outcome, Raises, Returns, StoreElement, Subroutine, Text, Throws, Turn, Where, Within, Next as Following}
+use Rattle.jvm_model.specs.Basis.Data.{Arraylength, Breaks, Done, Exits, GoesOn, Initializes, Instruction, Invokes, LoadElement, Local, Locals, Operands, Operation, Outcome, Raises, Returns, StoreElement, Subroutine, Listing, Throws, Turn, Where, Within, Next as Following}
 use Rattle.jvm_model.specs.Instructions.Does.{does, loads}
 use Rattle.jvm_model.specs.Codes.Lines.{targets_of}
 use Rattle.jvm_model.specs.Basis.Values.{ref_of}
@@ -31,12 +31,12 @@ use Rattle.prepared_code.specs.Markers.{stack_of, with_markers}
 use Rattle.prepared_code.specs.Ready.{CanRun, IsOwnLine}
 use Rattle.prepared_code.specs.Runs.{IsCalm, IsPlainLine}
 use Rattle.prepared_code.specs.States.{active, frame_in, state_with}
-use Rattle.prepared_code.specs.Versions.{Setup, instruction_in, line_at, local_in, operation_as, operation_in, text_of}
+use Rattle.prepared_code.specs.Versions.{Setup, instruction_in, line_at, local_in, operation_as, operation_in, listing_of}
 use Rattle.jvm_steps.proofs.Moves.LineSteps.{top-frame}
 
 module _ (w : Setup) where
-  abbrev t : Text
-  t = text_of w.versions
+  abbrev t : Listing
+  t = listing_of w.versions
 
   -- ---- nothing follows
 
@@ -164,12 +164,12 @@ own-line w run version place line there = subst (λ o. IfSome o IsOwnLine) there
 
 pub quiet-step : (w : Setup) (run : CanRun w) (line : Line) (ms : List Marker) (p : Parts) (f : PlacedFrame) (fs : List PlacedFrame) → IsCalm (length (f ∷ fs)) ms p → IsPlainLine w (f ∷ fs) line
     → effect_in (rule_of line.instr line.constant line.next f.locals f.operands) (f ∷ fs) ≡ Next
-    → (step w.world (text_of w.versions) (with_markers ms (state_with (f ∷ fs) p))).changes ≡ []
+    → (step w.world (listing_of w.versions) (with_markers ms (state_with (f ∷ fs) p))).changes ≡ []
 quiet-step w run line ms p f fs calm stands on =
     let s : State = with_markers ms (state_with (f ∷ fs) p) in
     let under : List Entry = stack_of (map active fs) ms in
     let u : State = record s { stack = under } in
-    ap (λ e. (steps_on w.world (text_of w.versions) s e s.stack).changes) calm.ending
-    ∙ (ap (λ es. (steps_on w.world (text_of w.versions) s None es).changes) (top-frame ms f fs calm.unmarked)
-    ∙ (ap (λ x. (steps_at w.world (text_of w.versions) u (frame_in f) (option_map instruction_in x)).changes) stands.0
+    ap (λ e. (steps_on w.world (listing_of w.versions) s e s.stack).changes) calm.ending
+    ∙ (ap (λ es. (steps_on w.world (listing_of w.versions) s None es).changes) (top-frame ms f fs calm.unmarked)
+    ∙ (ap (λ x. (steps_at w.world (listing_of w.versions) u (frame_in f) (option_map instruction_in x)).changes) stands.0
     ∙ line-quiet w line u (frame_in f) (f ∷ fs) stands.1 (own-line w run f.version f.place line stands.0) on calm.ending calm.thrown))

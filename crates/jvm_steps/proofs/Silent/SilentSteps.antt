@@ -8,7 +8,7 @@ use Rattle.jvm_model.specs.declared.event.Mark.TheVariants.{Off, Root}
 use Rattle.jvm_model.specs.declared.state.Entry.{Entry}
 use Rattle.jvm_model.specs.declared.state.Entry.TheVariants.{Active, Initializing}
 use Rattle.jvm_model.specs.declared.state.State.{State}
-use Rattle.jvm_model.specs.Basis.Data.{Change, Text, Turn}
+use Rattle.jvm_model.specs.Basis.Data.{Change, Listing, Turn}
 use Rattle.jvm_model.specs.Turns.Pauses.{Pause, Stop, stop_in}
 use Rattle.jvm_model.specs.Turns.Rest.{step_loads}
 use Rattle.jvm_model.specs.Running.Run.{loaded_turn, step, with_loaded}
@@ -22,14 +22,14 @@ use Rattle.prepared_code.specs.declared.parts.Parts.{Parts}
 use Rattle.prepared_code.specs.Markers.{marker_on, state_of}
 use Rattle.jvm_steps.specs.Instructions.Passing.{AreSilent, IsSilent, Passes, runs}
 use Rattle.prepared_code.specs.Runs.{IsCalm, LeadsAlone, steps_from, steps_from-zero}
-use Rattle.prepared_code.specs.Versions.{Setup, mark_of, text_of}
+use Rattle.prepared_code.specs.Versions.{Setup, mark_of, listing_of}
 use Rattle.jvm_steps.proofs.Silent.Leading.{leads-none, leads-on, steps-parts}
 
 -- ---- a step without changes
 
-module _ (w : Setup) (s : State) (quiet : (step w.world (text_of w.versions) s).changes ≡ []) where
-  abbrev u : Text
-  u = text_of w.versions
+module _ (w : Setup) (s : State) (quiet : (step w.world (listing_of w.versions) s).changes ≡ []) where
+  abbrev u : Listing
+  u = listing_of w.versions
 
   nothing-loaded : step_loads w.world u s ≡ []
   nothing-loaded = by (step_loads w.world u s) (sym (ap (λ (a : Turn). a.changes) (step-loads w.world u s)) ∙ quiet) where
@@ -73,11 +73,11 @@ runs-held k (Initializing class part ∷ below) = runs-held k below
 pub same-runs : (k : ℕ) (old new : List Entry) → ((marks : ℕ → Mark) → helds marks new ≡ helds marks old) → runs k new ≡ runs k old
 same-runs k old new same = sym (runs-held k new) ∙ (ap any_root (same (mark_if k)) ∙ runs-held k old)
 
-pub quiet-silent : (w : Setup) (s : State) → (step w.world (text_of w.versions) s).changes ≡ [] → IsSilent w s
+pub quiet-silent : (w : Setup) (s : State) → (step w.world (listing_of w.versions) s).changes ≡ [] → IsSilent w s
 quiet-silent w s quiet = record {
   loads = nothing-loaded w s quiet;
-  untold = ap (λ cs. (stop_in (mark_now (mark_of w.versions) (text_of w.versions)) 0 (helds (mark_of w.versions) s.stack) cs).due) quiet;
-  keeps = λ k superseded is. same-runs k s.stack (step w.world (text_of w.versions) s).after.stack (quiet-helds w s quiet) ∙ is;
+  untold = ap (λ cs. (stop_in (mark_now (mark_of w.versions) (listing_of w.versions)) 0 (helds (mark_of w.versions) s.stack) cs).due) quiet;
+  keeps = λ k superseded is. same-runs k s.stack (step w.world (listing_of w.versions) s).after.stack (quiet-helds w s quiet) ∙ is;
 }
 
 -- ---- one behind the other

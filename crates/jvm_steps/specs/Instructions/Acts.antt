@@ -36,7 +36,7 @@ use Rattle.prepared_code.specs.declared.parts.Parts.{Parts}
 use Rattle.prepared_code.specs.Markers.{is_unmarked, state_of, with_markers}
 use Rattle.prepared_code.specs.Prepared.{exception_name}
 use Rattle.prepared_code.specs.States.{frame_in, state_with, state_in}
-use Rattle.prepared_code.specs.Versions.{Setup, next_in, text_of, line_at}
+use Rattle.prepared_code.specs.Versions.{Setup, next_in, listing_of, line_at}
 use Rattle.prepared_code.specs.Tables.{Versions}
 
 -- ---- a line in its place
@@ -80,7 +80,7 @@ acts_return w line k s f = returns_or_ends w line s f (returns k f.operands)
 
 -- where it changes nothing that is shared
 abbrev pub acts_asked : Setup → Line → State → Frame → Outcome → State
-acts_asked w line s f q = (applies w.world (text_of w.versions) (placed_line line) q s f).after
+acts_asked w line s f q = (applies w.world (listing_of w.versions) (placed_line line) q s f).after
 
 -- and where it does
 abbrev pub acts_done : Setup → Line → State → Frame → Done → State

@@ -8,7 +8,7 @@ use Rattle.jvm_model.specs.Running.Moves.{at_part, fails, initializes, wrapped}
 use Rattle.jvm_model.specs.Basis.SharedState.{with_phase}
 use Rattle.prepared_code.specs.declared.parts.Parts.{Parts}
 use Rattle.jvm_steps.specs.Moves.Turning.{begun_in}
-use Rattle.prepared_code.specs.Versions.{Setup, text_of}
+use Rattle.prepared_code.specs.Versions.{Setup, listing_of}
 
 -- it begins
 abbrev pub begins_class : ℕ → State → State
@@ -21,9 +21,9 @@ failing w c r p = let a = wrapped w.world p.shared r in record p { shared = with
 -- a throw meets it, or it goes on; from the state without its marker
 abbrev pub after_marker : Setup → State → Option ℕ → ℕ → Part → State
 after_marker w s (Some r) c part = fails w.world s c r
-after_marker w s None c part = (initializes w.world (text_of w.versions) s c part).after
+after_marker w s None c part = (initializes w.world (listing_of w.versions) s c part).after
 
 -- the method that begins by that
 abbrev pub marker_begins : Setup → State → Option ℕ → ℕ → Part → Option ℕ
 marker_begins w s (Some r) c part = None
-marker_begins w s None c part = begun_in (initializes w.world (text_of w.versions) s c part).changes
+marker_begins w s None c part = begun_in (initializes w.world (listing_of w.versions) s c part).changes

@@ -30,7 +30,7 @@ use Rattle.prepared_code.specs.Markers.{marker_on, state_of}
 use Rattle.prepared_code.specs.Runs.{IsCalm, Leads, steps_from}
 use Rattle.prepared_code.specs.declared.line.Line.{Line}
 use Rattle.prepared_code.specs.Tables.{Versions}
-use Rattle.prepared_code.specs.Versions.{Setup, current_of, line_at, mark_of, next_in, text_of}
+use Rattle.prepared_code.specs.Versions.{Setup, current_of, line_at, mark_of, next_in, listing_of}
 
 -- ---- live activations
 
@@ -49,14 +49,14 @@ AreKeptBy w old new = (k : ℕ) → is_superseded_in w.versions.slots w.versions
 -- the first of its changes of which a probe tells
 abbrev pub step_due : Setup → State → Due
 step_due w s =
-    let v = mark_of w.versions in let t = text_of w.versions in
+    let v = mark_of w.versions in let t = listing_of w.versions in
     (stop_in (mark_now v t) 0 (helds v s.stack) (step w.world t s).changes).due
 
 -- it loads no class, no probe tells of it, and no version that is held is left behind by it
 pub record IsSilent (w : Setup) (s : State) : Type 0 where
-  pub loads : step_loads w.world (text_of w.versions) s ≡ []
+  pub loads : step_loads w.world (listing_of w.versions) s ≡ []
   pub untold : step_due w s ≡ Nothing
-  pub keeps : AreKeptBy w s.stack (step w.world (text_of w.versions) s).after.stack
+  pub keeps : AreKeptBy w s.stack (step w.world (listing_of w.versions) s).after.stack
 
 abbrev pub AreSilent : Setup → State → ℕ → Type 0
 AreSilent w s n = (k : ℕ) → k < n → IsSilent w (steps_from w k s)
@@ -141,12 +141,12 @@ fits_caught fs = false
 
 -- where the caller goes on when an object of this class is thrown by what it invoked
 abbrev pub caller_target : Setup → ℕ → List PlacedFrame → Option ℕ
-caller_target w class (f ∷ g ∷ fs) = handler_for w.world class g.place ((text_of w.versions).handlers g.version)
+caller_target w class (f ∷ g ∷ fs) = handler_for w.world class g.place ((listing_of w.versions).handlers g.version)
 caller_target w class fs = None
 
 -- the caller of a frame in this place, and not that frame itself, catches objects of this class, of which nothing is told
 pub record CatchesBelow (w : Setup) (ms : List Marker) (here : Here) (fs : List PlacedFrame) (class target : ℕ) : Type 0 where
-  pub own : handler_for w.world class here.place ((text_of w.versions).handlers here.version) ≡ None
+  pub own : handler_for w.world class here.place ((listing_of w.versions).handlers here.version) ≡ None
   pub caller : caller_target w class fs ≡ Some target
   pub unmarked : marker_on (length fs - 1) ms ≡ None
   pub off : mark_of w.versions here.version ≡ Off

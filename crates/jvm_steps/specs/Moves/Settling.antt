@@ -13,7 +13,7 @@ use Rattle.jvm_model.specs.Basis.SharedState.{class_of}
 use Rattle.prepared_code.specs.declared.parts.Parts.{Parts}
 use Rattle.prepared_code.specs.declared.parts.Here.{Here}
 use Rattle.prepared_code.specs.States.{frame_in, state_in, state_with}
-use Rattle.prepared_code.specs.Versions.{Setup, text_of}
+use Rattle.prepared_code.specs.Versions.{Setup, listing_of}
 
 -- ---- the operands of the current frame
 
@@ -35,30 +35,30 @@ with_alone r (f ∷ fs) = if nat_le 1 f.max_stack then record f { operands = Ref
 
 -- the offset of the instruction at which it stands
 abbrev pub own_of : Setup → Here → ℕ
-own_of w here = option_map_or (λ (i : Instruction). i.own) ((text_of w.versions).at here.version here.place) 0
+own_of w here = option_map_or (λ (i : Instruction). i.own) ((listing_of w.versions).at here.version here.place) 0
 
 -- it goes on at a handler's target, with the object alone on its operands
 abbrev pub caught_at : Setup → ℕ → ℕ → List PlacedFrame → Parts → State
 caught_at w r target [] p = state_in p
 caught_at w r target (f ∷ fs) p =
-    goes (record (state_with fs p) { thrown = None }) (frame_in f) (own_at (text_of w.versions) (frame_in f)) f.locals (Ref r ∷ []) (Some target)
+    goes (record (state_with fs p) { thrown = None }) (frame_in f) (own_at (listing_of w.versions) (frame_in f)) f.locals (Ref r ∷ []) (Some target)
 
 -- by the first handler that covers its place, or its activation ends
 abbrev pub caught_top : Setup → ℕ → List PlacedFrame → Parts → State
 caught_top w r [] p = state_in p
 caught_top w r (f ∷ fs) p =
-    let t = text_of w.versions in
+    let t = listing_of w.versions in
     (caught w.world t (state_with fs p) r (frame_in f) (handler_for w.world (class_of w.world.program p.shared r) f.place (t.handlers f.version))).after
 
 -- ---- `main` begins
 
 -- the one entry of the stack, if it has a local for its argument
 abbrev pub main_entries : Bool → Setup → List Entry
-main_entries true w = Active (new_frame w.world (text_of w.versions) w.world.program.main argument_array) ∷ []
+main_entries true w = Active (new_frame w.world (listing_of w.versions) w.world.program.main argument_array) ∷ []
 main_entries false w = []
 
 -- ---- every move
 
 -- the state after a move, or the same one where none applies
 abbrev pub after_move : Setup → State → State
-after_move w s = option_map_or (λ (turn : Turn). turn.after) (move w.world (text_of w.versions) s) s
+after_move w s = option_map_or (λ (turn : Turn). turn.after) (move w.world (listing_of w.versions) s) s

@@ -15,7 +15,7 @@ use Rattle.jvm_model.specs.Turns.StepPauses.{is_nothing, step_pause}
 use Rattle.prepared_code.specs.declared.line.Action.{Action}
 use Rattle.prepared_code.specs.declared.line.Action.TheVariants as action
 use Rattle.prepared_code.specs.declared.line.Line.{Line}
-use Rattle.prepared_code.specs.Versions.{Setup, line_at, text_of, mark_of}
+use Rattle.prepared_code.specs.Versions.{Setup, line_at, listing_of, mark_of}
 
 -- ---- before an attempt
 
@@ -53,12 +53,12 @@ is_begins (Ends k) = false
 
 -- a method has begun of which a probe tells
 abbrev pub enters_by : Setup → List Change → Bool
-enters_by w changes = is_begins (changes_due (mark_now (mark_of w.versions) (text_of w.versions)) [] changes)
+enters_by w changes = is_begins (changes_due (mark_now (mark_of w.versions) (listing_of w.versions)) [] changes)
 
 -- where the step stops, where so many activations were live before
 abbrev pub pause_behind_attempt : Setup → ℕ → ℕ → State → Pause
 pause_behind_attempt w live n s =
-    followed w.world (text_of w.versions) (mark_of w.versions) n (changes_between live s.stack) s
+    followed w.world (listing_of w.versions) (mark_of w.versions) n (changes_between live s.stack) s
 
 -- its class is ready, and nothing else has happened
 abbrev pub tries_again : ℕ → ℕ → Pause → Bool
@@ -68,4 +68,4 @@ tries_again n class p =
 -- ---- all of it
 
 abbrev pub tried_in : Setup → Bool → ℕ → State → Pause
-tried_in w told n s = step_pause w.world (text_of w.versions) (mark_of w.versions) told n s
+tried_in w told n s = step_pause w.world (listing_of w.versions) (mark_of w.versions) told n s

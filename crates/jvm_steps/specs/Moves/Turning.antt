@@ -16,7 +16,7 @@ use Rattle.jvm_steps.specs.declared.turns.turning.Moved.{Moved}
 use Rattle.jvm_steps.specs.declared.turns.turning.Moved.TheVariants as moved
 use Rattle.prepared_code.specs.States.{active}
 use Rattle.jvm_steps.specs.Moves.Settling.{after_move}
-use Rattle.prepared_code.specs.Versions.{Setup, text_of, mark_of}
+use Rattle.prepared_code.specs.Versions.{Setup, listing_of, mark_of}
 
 abbrev pub helds_in : Setup → List PlacedFrame → List Held
 helds_in w fs = helds (mark_of w.versions) (map active fs)
@@ -29,14 +29,14 @@ begun_in _ = None
 -- ---- one move
 
 abbrev pub found_move : Setup → State → Option Turn
-found_move w s = move w.world (text_of w.versions) s
+found_move w s = move w.world (listing_of w.versions) s
 
 abbrev pub changes_of : Option Turn → List Change
 changes_of next = option_map_or (λ (turn : Turn). turn.changes) next []
 
 -- what is due by such changes
 abbrev pub due_by : Setup → State → List Change → Due
-due_by w s changes = changes_due (mark_now (mark_of w.versions) (text_of w.versions)) (helds (mark_of w.versions) s.stack) changes
+due_by w s changes = changes_due (mark_now (mark_of w.versions) (listing_of w.versions)) (helds (mark_of w.versions) s.stack) changes
 
 -- an end that a probe tells of has not come yet
 abbrev pub moved_by : List Change → Due → Moved
@@ -64,7 +64,7 @@ moved_to w s = state_by s (after_move w s) (due_by w s (changes_of (found_move w
 -- what a method that begins comes to
 abbrev pub begun_as : Setup → Option ℕ → Moved
 begun_as w None = moved.On
-begun_as w (Some m) = moved_by (Began m ∷ []) (unless_off (mark_now (mark_of w.versions) (text_of w.versions) m) Begins)
+begun_as w (Some m) = moved_by (Began m ∷ []) (unless_off (mark_now (mark_of w.versions) (listing_of w.versions) m) Begins)
 
 -- the frames with the current one taken off, unless a probe tells of that first
 abbrev pub unwound_by : Due → List PlacedFrame → List PlacedFrame
@@ -82,7 +82,7 @@ abbrev pub pause_at : State → ℕ → Due → Pause
 pause_at s n due = record { state = s; passed = n; due = due }
 
 abbrev pub paused_in : Setup → ℕ → State → Pause
-paused_in w n s = paused w.world (text_of w.versions) (mark_of w.versions) n s
+paused_in w n s = paused w.world (listing_of w.versions) (mark_of w.versions) n s
 
 -- behind the event of an unwinding, the frame is taken off
 abbrev pub resumed : Bool → State → State
@@ -101,7 +101,7 @@ goes_by_moves w told n s = paused_in w (resumed_count told n) (resumed told s)
 
 -- the classes that a step loads first
 abbrev pub loads_in : Setup → State → List ℕ
-loads_in w s = step_loads w.world (text_of w.versions) s
+loads_in w s = step_loads w.world (listing_of w.versions) s
 
 abbrev pub loads_none : Setup → State → Bool
 loads_none w s = length (loads_in w s) == 0

@@ -18,7 +18,7 @@ ghost use Rattle.jvm_named.specs.Objects.{AreLoaded};
 ghost use Rattle.jvm_steps.specs.Instructions.Elements.{IsLoaded, IsStored, drops_three, element_at, is_number, place_by, storing_by};
 ghost use Rattle.prepared_code.specs.Linked.{linker_in};
 ghost use Rattle.prepared_code.specs.States.{state_in};
-ghost use Rattle.prepared_code.specs.Versions.{text_of};
+ghost use Rattle.prepared_code.specs.Versions.{listing_of};
 
 use crate::execute::going::datum_of;
 use crate::unwind::raising::{break_off, end_unless, raise, raise_with};

@@ -12,7 +12,7 @@ ghost use Rattle.jvm_steps.specs.Instructions.Initializing.{begins_class, failin
 ghost use Rattle.jvm_steps.specs.Instructions.Invoking.{may_begin};
 ghost use Rattle.jvm_steps.specs.Moves.Turning.{begun_in};
 ghost use Rattle.prepared_code.specs.Markers.{marker_on, state_of};
-ghost use Rattle.prepared_code.specs.Versions.{text_of};
+ghost use Rattle.prepared_code.specs.Versions.{listing_of};
 
 use crate::execute::entering::enter;
 use crate::execute::invoking::{may_begin, raise_unusable};
@@ -143,7 +143,7 @@ fn begin_initializer(
     requires below { marker_on (suc (length parts.old.frames.frames)) markers.now ≡ None }
     ensures { let w = originals.now.setup in OnOk result (state_of markers.now parts.new
         ≡ with_frame (state_of markers.now parts.old)
-        (new_frame w.world (text_of w.versions) method [])) }
+        (new_frame w.world (listing_of w.versions) method [])) }
 {
     let max_locals = originals.max_locals(method);
     let max_stack = originals.max_stack(method);
@@ -168,10 +168,10 @@ fn run_initializer(
     class: u32,
 ) -> Result<Option<u32>, NoMemory>
     ensures begun { let w = originals.now.setup in IfOk result (λ o. o ≡ begun_in
-        (runs_initializer w.world (text_of w.versions) (state_of markers.old parts.old) class
+        (runs_initializer w.world (listing_of w.versions) (state_of markers.old parts.old) class
         (initializer_of w.world.program class)).changes) }
     ensures state { let w = originals.now.setup in OnOk result (state_of markers.new parts.new
-        ≡ (runs_initializer w.world (text_of w.versions) (state_of markers.old parts.old) class
+        ≡ (runs_initializer w.world (listing_of w.versions) (state_of markers.old parts.old) class
         (initializer_of w.world.program class)).after) }
 {
     mark(parts, markers, class, Part::Finish)?;
@@ -220,10 +220,10 @@ pub fn go_on(
 ) -> Result<Option<u32>, NoMemory>
     ensures begun { let w = originals.now.setup in let s = state_of markers.old parts.old in
         IfOk result (λ o. o ≡ begun_in
-        (initializes w.world (text_of w.versions) s class part).changes) }
+        (initializes w.world (listing_of w.versions) s class part).changes) }
     ensures state { let w = originals.now.setup in let s = state_of markers.old parts.old in
         OnOk result (state_of markers.new parts.new
-        ≡ (initializes w.world (text_of w.versions) s class part).after) }
+        ≡ (initializes w.world (listing_of w.versions) s class part).after) }
 {
     match part {
         Part::Constants => {

@@ -11,7 +11,7 @@ ghost use Rattle.jvm_steps.specs.Machine.Before.{IsAtStart, begun_by, with_first
 ghost use Rattle.prepared_code.specs.Markers.{state_of};
 ghost use Rattle.prepared_code.specs.Standing.{IsRunOf, IsSetUp};
 ghost use Rattle.prepared_code.specs.States.{state_in};
-ghost use Rattle.prepared_code.specs.Versions.{text_of};
+ghost use Rattle.prepared_code.specs.Versions.{listing_of};
 
 use crate::execute::asking::raise_named;
 use crate::initialize::initializing::{initialize, set_phase};
@@ -152,7 +152,7 @@ pub fn start(
     ensures world { originals.new.setup ≡ originals.old.setup }
     ensures linked { OnOk result (originals.new.loaded ≡ parts.new.shared.loaded) }
     ensures state { let w = originals.old.setup in OnOk result
-        (state_of markers.new parts.new ≡ (start w.world (text_of w.versions)).after) }
+        (state_of markers.new parts.new ≡ (start w.world (listing_of w.versions)).after) }
     ensures stands { let w = originals.old.setup in
         IsSetUp w → OnOk result (IsRunOf w 0 (state_of markers.new parts.new)) }
 {

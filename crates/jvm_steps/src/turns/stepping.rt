@@ -11,7 +11,7 @@ ghost use Rattle.prepared_code.specs.Markers.{is_unmarked, state_of};
 ghost use Rattle.prepared_code.specs.Runs.{Leads};
 ghost use Rattle.prepared_code.specs.Standing.{IsRunOf};
 ghost use Rattle.prepared_code.specs.Tables.{AreAllCurrent, Releases};
-ghost use Rattle.prepared_code.specs.Versions.{text_of};
+ghost use Rattle.prepared_code.specs.Versions.{listing_of};
 
 use crate::execute::attempting::attempt;
 use crate::execute::passing::pass_steps;
@@ -56,7 +56,7 @@ fn finish(
 ) -> Result<(), NoMemory>
     ensures { let w = originals.now.setup in
         let turn = still (state_of markers.old parts.old) in OnOk result
-        (state_of markers.new parts.new ≡ (settled w.world (text_of w.versions) turn).after) }
+        (state_of markers.new parts.new ≡ (settled w.world (listing_of w.versions) turn).after) }
 {
     if is_at_rest(parts, markers) {
         return Ok(());
@@ -91,7 +91,8 @@ fn step_once(
     ensures world { originals.new.setup ≡ originals.old.setup }
     ensures linked { OnOk result (originals.new.loaded ≡ parts.new.shared.loaded) }
     ensures state { let w = originals.old.setup in let s = state_of markers.old parts.old in
-        OnOk result (state_of markers.new parts.new ≡ (step w.world (text_of w.versions) s).after) }
+        OnOk result (state_of markers.new parts.new
+        ≡ (step w.world (listing_of w.versions) s).after) }
 {
     if !goes_on(parts, markers) {
         return Ok(());
@@ -126,7 +127,8 @@ pub fn step(
         → originals.new.setup ≡ originals.old.setup }
     ensures linked { OnOk result (originals.new.loaded ≡ parts.new.shared.loaded) }
     ensures state { let w = originals.old.setup in let s = state_of markers.old parts.old in
-        OnOk result (state_of markers.new parts.new ≡ (step w.world (text_of w.versions) s).after) }
+        OnOk result (state_of markers.new parts.new
+        ≡ (step w.world (listing_of w.versions) s).after) }
     ensures stands { let w = originals.old.setup in
         (clock : ℕ) → IsRunOf w clock (state_of markers.old parts.old)
         → OnOk result (IsRunOf originals.new.setup (clock + 1) (state_of markers.new parts.new)) }

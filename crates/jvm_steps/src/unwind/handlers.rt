@@ -6,7 +6,7 @@ ghost use Rattle.jvm_model.specs.Classes.Lookup.{is_below};
 ghost use Rattle.jvm_model.specs.Running.Moves.{covers, handler_for};
 ghost use Rattle.heap_objects.specs.Heaps.{kind_at};
 ghost use Rattle.jvm_model.specs.Basis.SharedState.{class_of_kind};
-ghost use Rattle.prepared_code.specs.Versions.{catcher_in, text_of};
+ghost use Rattle.prepared_code.specs.Versions.{catcher_in, listing_of};
 
 use crate::unwind::supertypes::is_below;
 use class_linker::Linker;
@@ -55,7 +55,7 @@ fn target_among(
 /// thrown there; None where no handler catches it.
 pub fn handler_for(originals: &Originals, version: usize, class: usize, place: u16) -> Option<u16>
     ensures { result ≡ handler_for originals.now.setup.world class place
-        ((text_of originals.now.setup.versions).handlers version) }
+        ((listing_of originals.now.setup.versions).handlers version) }
 {
     match originals.handlers(version) {
         Some(handlers) => target_among(originals, handlers.as_slice(), class, place),

@@ -11,7 +11,7 @@ ghost use Rattle.prepared_code.specs.States.{active, here_of, state_in};
 ghost use Rattle.jvm_steps.specs.Moves.Settling.{emptied, fits_alone, with_alone};
 ghost use Rattle.jvm_steps.specs.Moves.Settling.{after_move, caught_at, caught_top, main_entries};
 ghost use Rattle.jvm_steps.specs.Moves.Turning.{begun_in};
-ghost use Rattle.prepared_code.specs.Versions.{text_of};
+ghost use Rattle.prepared_code.specs.Versions.{listing_of};
 
 use crate::execute::entering::enter;
 use crate::initialize::initializing::{fail, go_on};
@@ -136,9 +136,9 @@ fn begin_frame(originals: &Originals, frames: &mut Frames, main: u32) -> Result<
 pub fn begin_main(originals: &Originals, parts: &mut Parts) -> Result<Option<u32>, NoMemory>
     requires { parts.old.frames.frames ≡ [] }
     ensures begun { let w = originals.now.setup in IfOk result (λ o. o ≡ begun_in
-        (main_or_end w.world (text_of w.versions) (state_in parts.old) false).changes) }
+        (main_or_end w.world (listing_of w.versions) (state_in parts.old) false).changes) }
     ensures state { let w = originals.now.setup in OnOk result (state_in parts.new ≡
-        (main_or_end w.world (text_of w.versions) (state_in parts.old) false).after) }
+        (main_or_end w.world (listing_of w.versions) (state_in parts.old) false).after) }
 {
     let main = originals.program().main;
     if begin_frame(originals, &mut parts.frames, main)? {
@@ -153,7 +153,7 @@ pub fn begin_main(originals: &Originals, parts: &mut Parts) -> Result<Option<u32
 fn begin_or_end(originals: &Originals, parts: &mut Parts) -> Result<(), NoMemory>
     requires { parts.old.frames.frames ≡ [] }
     ensures state { let w = originals.now.setup in OnOk result (state_in parts.new ≡
-        (main_or_end w.world (text_of w.versions) (state_in parts.old) parts.old.begun).after) }
+        (main_or_end w.world (listing_of w.versions) (state_in parts.old) parts.old.begun).after) }
 {
     if !parts.begun {
         begin_main(originals, parts)?;
@@ -169,7 +169,7 @@ fn begin_or_end(originals: &Originals, parts: &mut Parts) -> Result<(), NoMemory
 /// where none applies.
 fn move_frame(alloc: Global, originals: &Originals, parts: &mut Parts) -> Result<bool, NoMemory>
     ensures answer { let w = originals.now.setup in
-        IfOk result (λ b. b ≡ is_some (move w.world (text_of w.versions) (state_in parts.old))) }
+        IfOk result (λ b. b ≡ is_some (move w.world (listing_of w.versions) (state_in parts.old))) }
     ensures state { OnOk result
         (state_in parts.new ≡ after_move originals.now.setup (state_in parts.old)) }
 {
@@ -219,7 +219,7 @@ fn make_move(
     markers: &mut Stack<Marker>,
 ) -> Result<bool, NoMemory>
     ensures answer { let w = originals.now.setup in IfOk result (λ b.
-        b ≡ is_some (move w.world (text_of w.versions) (state_of markers.old parts.old))) }
+        b ≡ is_some (move w.world (listing_of w.versions) (state_of markers.old parts.old))) }
     ensures state { OnOk result (state_of markers.new parts.new
         ≡ after_move originals.now.setup (state_of markers.old parts.old)) }
 {
@@ -242,7 +242,7 @@ pub fn settle(
 ) -> Result<(), NoMemory>
     ensures { let w = originals.now.setup in
         let turn = still (state_of markers.old parts.old) in OnOk result
-        (state_of markers.new parts.new ≡ (settled w.world (text_of w.versions) turn).after) }
+        (state_of markers.new parts.new ≡ (settled w.world (listing_of w.versions) turn).after) }
 {
     while make_move(alloc, originals, parts, markers)? {}
     Ok(())

@@ -6,7 +6,7 @@ use Rattle.jvm_model.specs.Basis.SharedState.{stack_overflow}
 use Rattle.prepared_code.specs.Markers.{state_of}
 use Rattle.jvm_steps.proofs.Instructions.InitializerFrames.{live-of, method-begun, method-none, runs-begun, runs-over}
 use Rattle.jvm_steps.proofs.initialize.initializing.run_initializer.Goals as goal
-use Rattle.prepared_code.specs.Versions.{text_of}
+use Rattle.prepared_code.specs.Versions.{listing_of}
 
 -- one activation too many
 pub returns-then-not-may_begin-clause-begun : goal.returns-then-not-may_begin-clause-begun
@@ -42,6 +42,6 @@ returns-clause-state c =
     let found : initializer_of w.world.program c.args.class ≡ Some c.in-Some.method =
     ap (λ p. initializer_of p c.args.class) (sym c.program.ensures.program) ∙ (sym c.initializer_of.ensures ∙ c.in-Some.is) in
     c.in_ok-begin_initializer.ensures
-    ∙ (ap (λ x. with_frame x (new_frame w.world (text_of w.versions) c.in-Some.method [])) c.in_ok-mark.ensures.state
+    ∙ (ap (λ x. with_frame x (new_frame w.world (listing_of w.versions) c.in-Some.method [])) c.in_ok-mark.ensures.state
     ∙ sym (runs-begun w (state_of c.args.markers.now c.args.parts.now) c.args.class c.in-Some.method found
     (ap (λ n. nat_lt n most_live) (live-of c.args.markers.now c.args.parts.now) ∙ (sym c.may_begin.ensures ∙ c.if-not-may_begin.false))))

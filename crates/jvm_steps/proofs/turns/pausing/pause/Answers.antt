@@ -1,6 +1,6 @@
 use Rattle.std.proofs.Common.{sym, ◌∙◌}
 use Rattle.prepared_code.specs.Markers.{state_of}
-use Rattle.prepared_code.specs.Versions.{text_of}
+use Rattle.prepared_code.specs.Versions.{listing_of}
 use Rattle.jvm_steps.proofs.Moves.LineSteps.{rest-moves}
 use Rattle.jvm_steps.proofs.Moves.OneMove.{rest-pauses}
 use Rattle.jvm_steps.proofs.turns.pausing.pause.Goals as goal
@@ -9,4 +9,4 @@ pub returns-then-is_at_rest : goal.returns-then-is_at_rest
 returns-then-is_at_rest c =
     let w = c.args.originals.now.setup in
     sym (rest-pauses w c.args.passed.now (state_of c.args.markers.now c.args.parts.now)
-    (rest-moves w (text_of w.versions) c.args.markers.now c.args.parts.now (sym c.is_at_rest.ensures ∙ c.if-is_at_rest.true)))
+    (rest-moves w (listing_of w.versions) c.args.markers.now c.args.parts.now (sym c.is_at_rest.ensures ∙ c.if-is_at_rest.true)))

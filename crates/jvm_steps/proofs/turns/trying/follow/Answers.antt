@@ -2,7 +2,7 @@ use Rattle.std.proofs.Common.{◌≡◌, sym, subst, ◌∙◌}
 use Rattle.std.specs.Prelude.{IfOk}
 use Rattle.prepared_code.specs.Markers.{state_of}
 use Rattle.jvm_steps.specs.Moves.Turning.{pause_at, paused_in}
-use Rattle.prepared_code.specs.Versions.{text_of, mark_of}
+use Rattle.prepared_code.specs.Versions.{listing_of, mark_of}
 use Rattle.jvm_steps.proofs.Moves.Followed.{follows-on, follows-told, left-loaded, paused-loaded}
 use Rattle.jvm_steps.proofs.turns.trying.follow.Goals as goal
 
@@ -23,4 +23,4 @@ returns-clause-loaded c =
     let w = c.args.originals.now.setup in
     let s = state_of c.args.markers.now c.args.parts.now in
     left-loaded c.pause.result (state_of c.pause.new.markers c.pause.new.parts) c.pause.new.passed (paused_in w c.in_ok-passed.field-0 s) s.shared.loaded
-    c.pause.ensures (paused-loaded w (text_of w.versions) (mark_of c.args.originals.now.setup.versions) c.in_ok-passed.field-0 s)
+    c.pause.ensures (paused-loaded w (listing_of w.versions) (mark_of c.args.originals.now.setup.versions) c.in_ok-passed.field-0 s)

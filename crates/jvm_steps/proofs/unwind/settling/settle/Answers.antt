@@ -6,7 +6,7 @@ use Rattle.jvm_model.specs.Running.Moves.{left, settled}
 use Rattle.prepared_code.specs.Markers.{state_of}
 use Rattle.jvm_steps.proofs.Moves.MovesOn.{moved_on, fewer_left}
 use Rattle.jvm_steps.proofs.unwind.settling.settle.Goals as goal
-use Rattle.prepared_code.specs.Versions.{text_of}
+use Rattle.prepared_code.specs.Versions.{listing_of}
 
 pub loop-smaller : goal.loop-smaller
 loop-smaller c =
@@ -15,5 +15,5 @@ loop-smaller c =
 
 pub loop-preserved : goal.loop-preserved
 loop-preserved c =
-    ap (λ (s : State). (settled c.args.originals.now.setup.world (text_of c.args.originals.now.setup.versions) (still s)).after) c.in_ok-make_move.ensures.state
+    ap (λ (s : State). (settled c.args.originals.now.setup.world (listing_of c.args.originals.now.setup.versions) (still s)).after) c.in_ok-make_move.ensures.state
     ∙ moved_on c.args.originals.now.setup (state_of c.loop.markers c.loop.parts) ∙ c.loop.invariant

@@ -10,7 +10,7 @@ use Rattle.const_pool.specs.declared.class.ClassFile.{ClassFile}
 use Rattle.frame_stack.specs.Widths.{height_of}
 use Rattle.jvm_model.specs.Running.Applies.{begins, begins_beside, breaks, enters_subroutine, gives_back, goes, has_room, applies, live_in, most_live, new_frame, place_of, resumes, still, throws_at, with_frame}
 use Rattle.jvm_model.specs.Running.Constants.{sets_constants}
-use Rattle.jvm_model.specs.Basis.Data.{Text, Locals, Operands, Frame, Entry, Active, Initializing, MethodPlace, Part, Constants, Superclass, Initializer, Finish, Phase, Fresh, Running, Ready, Erroneous, Shared, Ending, Exited, Returned, Uncaught, Unverifiable, State, Began, Turn, Instruction, World, Outcome, GoesOn, Subroutine, Invokes, Returns, Throws, Raises, Initializes, Exits, Breaks, Program}
+use Rattle.jvm_model.specs.Basis.Data.{Listing, Locals, Operands, Frame, Entry, Active, Initializing, MethodPlace, Part, Constants, Superclass, Initializer, Finish, Phase, Fresh, Running, Ready, Erroneous, Shared, Ending, Exited, Returned, Uncaught, Unverifiable, State, Began, Turn, Instruction, World, Outcome, GoesOn, Subroutine, Invokes, Returns, Throws, Raises, Initializes, Exits, Breaks, Program}
 use Rattle.jvm_model.specs.Classes.Lookup.{is_below}
 use Rattle.jvm_model.specs.Basis.Methods.{method_named}
 use Rattle.jvm_model.specs.Running.Moves.{after_super, argument_array, at_part, caught, fails, handler_for, initializes, main_or_end, move, moves, own_at, raises, runs_initializer, settled, with_constants, with_super, wrapped}
@@ -18,7 +18,7 @@ use Rattle.jvm_model.specs.Basis.Programs.{class_at, initializer_name, initializ
 use Rattle.jvm_model.specs.Running.Run.{main_class}
 use Rattle.jvm_model.specs.Basis.SharedState.{Allocated, class_of, error, in_initializer, made_with, no_class_definition, null, phase_of, raised, stack_overflow, with_phase}
 use Rattle.jvm_model.specs.Soundness.Sound.{HasClass, IsBuiltInName, IsFit, IsLoaded, IsSoundOutcome, IsSoundShared}
-use Rattle.jvm_model.specs.Soundness.SoundTexts.{IsSound, IsSoundEntry, IsSoundText}
+use Rattle.jvm_model.specs.Soundness.SoundListings.{IsSound, IsSoundEntry, IsSoundListing}
 use Rattle.jvm_model.specs.Basis.Values.{as_value, with_value}
 use Rattle.jvm_model.proofs.Running.Settles.{settled-keeps}
 use Rattle.jvm_model.proofs.Soundness.SoundObjects.{KeepsShared, constants-sound, exception-sound}
@@ -81,7 +81,7 @@ module _ (Runs : ℕ → ℕ → Type 0) where
 
   -- ---- what an instruction asks for
 
-  module _ (w : World) (fit : IsFit w.program) (t : Text) (text : IsSoundText Runs w.program t) where
+  module _ (w : World) (fit : IsFit w.program) (t : Listing) (text : IsSoundListing Runs w.program t) where
     abbrev Entries : State → List Entry → Type 0
     Entries s stack = AllByRecursion (IsSoundEntry Runs w.program s.shared.loaded) stack
 

@@ -1,4 +1,4 @@
--- Versions as texts: each has the code of its method by homes.
+-- Versions as listings: each has the code of its method by homes.
 use Rattle.std.specs.Prelude.{◌≡◌, ◌≤◌, ◌<◌, ℕ, [], length, map, Option, Some, None, ◌==◌, if◌then◌else◌}
 use Rattle.std.specs.Option.{option_map}
 use Rattle.jvm_model.specs.declared.program.Program.{Program}

@@ -20,7 +20,7 @@ use Rattle.jvm_model.specs.Basis.Programs.{class_at}
 use Rattle.prepared_code.specs.Tables.{Version, Versions, version_at}
 use Rattle.prepared_code.specs.Entries.{catching_of, no_version, original_version, original_versions, own_number, version_entry, version_in, version_of}
 use Rattle.prepared_code.specs.Versions.{catcher_in, current_of, instruction_in, line_in}
-use Rattle.prepared_code.specs.VersionTexts.{AreVersions, HasCurrent, IsVersionOf}
+use Rattle.prepared_code.specs.VersionListings.{AreVersions, HasCurrent, IsVersionOf}
 use Rattle.prepared_code.proofs.OriginalVersions.{original-at}
 use Rattle.prepared_code.proofs.OriginalsRun.{of-place, past, there}
 use Rattle.prepared_code.proofs.Tabled.{tabled-at}

@@ -5,7 +5,7 @@ use Rattle.std.specs.Prelude.{Option, Some, None, unwrap_or}
 use Rattle.std.specs.List.{AllByRecursion}
 use Rattle.std.specs.Option.{IfSome}
 use Rattle.jvm_model.specs.Running.Applies.{applies, still}
-use Rattle.jvm_model.specs.Basis.Data.{Text, Operands, Frame, Entry, Active, Initializing, Ending, Uncaught, Breaks, State, Turn, Instruction, Done, Operation, Athrow, Program, World}
+use Rattle.jvm_model.specs.Basis.Data.{Listing, Operands, Frame, Entry, Active, Initializing, Ending, Uncaught, Breaks, State, Turn, Instruction, Done, Operation, Athrow, Program, World}
 use Rattle.jvm_model.specs.Instructions.Does.{does, loads}
 use Rattle.jvm_model.specs.Classes.Kinds.{meaning_of}
 use Rattle.jvm_model.specs.Classes.Load.{Fault, NoClass, Circular, Incompatible, error_of}
@@ -16,7 +16,7 @@ use Rattle.jvm_model.specs.Basis.Programs.{name_at}
 use Rattle.jvm_model.specs.Running.Run.{arguments_made, attempt, before, main_class, main_classes, main_loading, main_loads, opened, start, starts, starts_if, starts_unless, starts_with, step, steps_at, steps_by, steps_on, tries, with_loaded}
 use Rattle.jvm_model.specs.Basis.SharedState.{arguments_fit, class_of, null, raised, shared_before, with_arguments}
 use Rattle.jvm_model.specs.Soundness.Sound.{CanAttempt, HasClass, HasSupertypes, IsBuiltInName, IsFit, IsLoaded, IsSoundOutcome, IsSoundShared}
-use Rattle.jvm_model.specs.Soundness.SoundTexts.{IsSound, IsSoundEntry, IsSoundText, RunsOriginal}
+use Rattle.jvm_model.specs.Soundness.SoundListings.{IsSound, IsSoundEntry, IsSoundListing, RunsOriginal}
 use Rattle.jvm_model.proofs.Running.Attempts.{again-by, loaded-after, with_loaded-shared}
 use Rattle.jvm_model.proofs.Loading.LoadsAgain.{newly-loaded}
 use Rattle.jvm_model.proofs.Running.Settles.{settled-keeps, settled-stops}
@@ -25,7 +25,7 @@ use Rattle.jvm_model.proofs.Soundness.SoundClasses.{all-then, among-front, load-
 use Rattle.jvm_model.proofs.Soundness.SoundLines.{can-attempt}
 use Rattle.jvm_model.proofs.Soundness.SoundObjects.{KeepsShared, arguments-sound, before-sound, exception-sound, with-heap}
 use Rattle.jvm_model.proofs.Soundness.SoundRuns.{loads-again, loads-same, loads-supertypes, shared-more, with-loaded-is}
-use Rattle.jvm_model.proofs.Soundness.SoundTextSteps.{GoesTo, applied-goes, entry-grows, moves-go, settled-goes}
+use Rattle.jvm_model.proofs.Soundness.SoundListingSteps.{GoesTo, applied-goes, entry-grows, moves-go, settled-goes}
 
 some-none : {A : Type 0} (x : A) → Some x ≡ None → ⊥
 some-none x e = cc
@@ -50,7 +50,7 @@ module _ (Runs : ℕ → ℕ → Type 0) where
 
   -- ---- a step
 
-  module _ (w : World) (fit : IsFit w.program) (t : Text) (text : IsSoundText Runs w.program t) where
+  module _ (w : World) (fit : IsFit w.program) (t : Listing) (text : IsSoundListing Runs w.program t) where
     on-with : (loaded now : List ℕ) (s : State) → now ≡ loaded → GoesTo Runs w.program now s → GoesTo Runs w.program loaded s
     on-with loaded now s e goes = subst (λ l. GoesTo Runs w.program l s) e goes
 
@@ -251,7 +251,7 @@ module _ (Runs : ℕ → ℕ → Type 0) where
         (settled-stops w t first))
 
 -- original code is such a text
-pub original-sound : (p : Program) → IsFit p → IsSoundText RunsOriginal p (original p)
+pub original-sound : (p : Program) → IsFit p → IsSoundListing RunsOriginal p (original p)
 original-sound p fit = record {
   begins = λ method. refl;
   attempts = λ loaded version method place i runs has at. can-attempt p fit loaded version place i (subst (HasClass p loaded) (sym runs) has) at;
