@@ -24,10 +24,10 @@ use Rattle.code_model.proofs.Readings.{known_at}
 use Rattle.code_model.proofs.Spelled.{HasShape}
 use Rattle.jvm_model.specs.declared.family.Family.{Family}
 use Rattle.jvm_model.specs.declared.family.Family.TheVariants as family
-use Rattle.jvm_model.specs.Basis.Data.{Anewarray, Checkcast, Constant, Getfield, Getstatic, Instanceof, Invokeinterface, Invokestatic, Invokevirtual, Local, Multianewarray, Named, Naming, New, Newarray, Operation, Putfield, Putstatic, Within}
+use Rattle.jvm_model.specs.Basis.Data.{Anewarray, Checkcast, Constant, Getfield, Getstatic, Instanceof, Invokeinterface, Invokestatic, Invokevirtual, Local, Multianewarray, Named, SymbolicReference, New, Newarray, Operation, Putfield, Putstatic, Within}
 use Rattle.jvm_model.specs.Basis.Families.{family_of, rows}
 use Rattle.jvm_model.specs.Classes.Kinds.{meaning_of}
-use Rattle.jvm_model.specs.Codes.Lines.{given_operation, has_dimensions, interface_naming, multi_naming, multi_of, named_by, named_interface_method, naming_of, newarray_of, number_of, object_among, object_constant, object_rows, operation_by, operation_of, other_operation, special_of}
+use Rattle.jvm_model.specs.Codes.Lines.{given_operation, has_dimensions, interface_reference, array_reference, multi_of, named_by, named_interface_method, symbolic_reference_of, newarray_of, number_of, object_among, object_constant, object_rows, operation_by, operation_of, other_operation, special_of}
 use Rattle.jvm_model.specs.Basis.Programs.{name_of}
 use Rattle.jvm_model.proofs.Running.Opcodes.{all_below, all_below-each}
 use Rattle.admit_check.specs.Floating.{is_floating_entry, is_floating_index, is_floating_instr, is_floating_operand}
@@ -180,16 +180,16 @@ mapped-there f None e = e
 mapped-there f (Some x) e = refl
 
 -- a naming whose dimensions are as they have to be
-there : (n : Naming) → has_dimensions n ≡ true → is_some (named_by n) ≡ true
+there : (n : SymbolicReference) → has_dimensions n ≡ true → is_some (named_by n) ≡ true
 there n h = ap (λ b. is_some (cond b (Some (Named n)) None)) h
 
-named-there : {A : Type 0} (make : A → Naming) (o : Option A) → ((x : A) → o ≡ Some x → has_dimensions (make x) ≡ true) → is_some o ≡ true → is_some (option_and_then named_by (option_map make o)) ≡ true
+named-there : {A : Type 0} (make : A → SymbolicReference) (o : Option A) → ((x : A) → o ≡ Some x → has_dimensions (make x) ≡ true) → is_some o ≡ true → is_some (option_and_then named_by (option_map make o)) ≡ true
 named-there make None each e = e
 named-there make (Some x) each e = there (make x) (each x refl)
 
 module _ (c : ClassFile) (named : is_some (name_of c) ≡ true) where
   abbrev is_there : ℕ → ℕ → Type 0
-  is_there op index = is_some (option_and_then named_by (naming_of c op index)) ≡ true
+  is_there op index = is_some (option_and_then named_by (symbolic_reference_of c op index)) ≡ true
 
   special-there : (caller : Option (List ℕ)) (r : Option Reference) → is_some caller ≡ true → is_some r ≡ true
       → is_some (option_and_then named_by (option_and_then (λ name. option_map (special_of name) r) caller)) ≡ true
@@ -238,7 +238,7 @@ module _ (c : ClassFile) (named : is_some (name_of c) ≡ true) where
           subst (λ k. is_there k index) (sym equal)
           (here (subst (λ k. fits_use c.pool k index (pool_use k) ≡ true) equal used) (subst (λ k. fits_type c.pool k (arg.Pool index) ≡ true) equal type))
 
-  interface-there : (op index : ℕ) → (op == 185) ≡ true → fits_use c.pool op index (pool_use op) ≡ true → is_some (option_and_then named_by (interface_naming c op index)) ≡ true
+  interface-there : (op index : ℕ) → (op == 185) ≡ true → fits_use c.pool op index (pool_use op) ≡ true → is_some (option_and_then named_by (interface_reference c op index)) ≡ true
   interface-there op index same used =
       let equal : op ≡ 185 = eqb-true op 185 same in
       let at_op = subst (λ k. fits_use c.pool k index (pool_use k) ≡ true) equal used in
@@ -258,7 +258,7 @@ module _ (c : ClassFile) (named : is_some (name_of c) ≡ true) where
       ap (λ b. b && nat_le d (meaning_of name).dimensions) (some-at-least d parts.0) ∙ (ap (nat_le d) dimensions.0 ∙ enough)
 
   multi-there : (op index d : ℕ) → (op == 197) ≡ true → fits_use c.pool op index (pool_use op) ≡ true → fits_type c.pool op (arg.Multi index d) ≡ true
-      → is_some (option_and_then named_by (multi_naming c op index d)) ≡ true
+      → is_some (option_and_then named_by (array_reference c op index d)) ≡ true
   multi-there op index d same used type =
       let equal : op ≡ 197 = eqb-true op 197 same in
       let at_op = subst (λ k. fits_use c.pool k index (pool_use k) ≡ true) equal used in

@@ -5,9 +5,9 @@ use Rattle.std.specs.Option.{option_to_list}
 use Rattle.jvm_model.specs.declared.program.Program.{Program}
 use Rattle.jvm_model.specs.Classes.Load.{is_among}
 use Rattle.jvm_model.specs.Classes.Lookup.{is_subtype}
-use Rattle.jvm_model.specs.Instructions.Naming as model
+use Rattle.jvm_model.specs.Instructions.SymbolicReference as model
 use Rattle.jvm_model.specs.Basis.Programs.{class_named}
-use Rattle.jvm_model.specs.Profiling.Revelation.{namings_of}
+use Rattle.jvm_model.specs.Profiling.Revelation.{symbolic_references_of}
 use Rattle.jvm_model.specs.Soundness.Sound.{HasSupertypes}
 use Rattle.jvm_model.specs.Profiling.Targets.{operations_of}
 use Rattle.class_index.specs.Orders.{with_class}
@@ -165,9 +165,9 @@ all-uppers p loaded v class uppers is above are upper within among sub =
 
 pub called-within : (p : Program) (method class : ℕ) → is_among class (classes_called p method) ≡ true → class < length p.classes
 called-within p method class h =
-    let one = some-of (called_class p) (namings_of (operations_of p method)) class h in by one.item (is_call one.item) one.within
+    let one = some-of (called_class p) (symbolic_references_of (operations_of p method)) class h in by one.item (is_call one.item) one.within
   where
-    by : (n : model.Naming) (b : Bool) → is_among class (if b then option_to_list (class_named p (model.resolved_name n)) else []) ≡ true → class < length p.classes
+    by : (n : model.SymbolicReference) (b : Bool) → is_among class (if b then option_to_list (class_named p (model.resolved_name n)) else []) ≡ true → class < length p.classes
     by n true k = one-within p (class_named p (model.resolved_name n)) class (λ d e. named-within p (model.resolved_name n) d e) k
     by n false k = absurd (false_true k)
 

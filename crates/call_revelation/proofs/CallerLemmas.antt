@@ -12,17 +12,17 @@ use Rattle.jvm_model.specs.declared.program.Program.{Program}
 use Rattle.jvm_model.specs.Basis.Data.{Instruction, Operation, Within, Named, Athrow, Monitor, Newarray, Arraylength, LoadElement, StoreElement, LdcString}
 use Rattle.jvm_model.specs.Codes.Lines.{code_instruction, instruction_of, method_instruction, next_of, operation_of, targets_of}
 use Rattle.jvm_model.specs.Basis.Methods.{method_code}
-use Rattle.jvm_model.specs.Instructions.Naming.{Naming, New, Getfield, Putfield, Getstatic, Putstatic, Invokevirtual, Invokespecial, Invokestatic, Invokeinterface, Checkcast, Instanceof, Anewarray, Multianewarray, LdcClass}
+use Rattle.jvm_model.specs.Instructions.SymbolicReference.{SymbolicReference, New, Getfield, Putfield, Getstatic, Putstatic, Invokevirtual, Invokespecial, Invokestatic, Invokeinterface, Checkcast, Instanceof, Anewarray, Multianewarray, LdcClass}
 use Rattle.jvm_model.specs.Codes.Originals.{original}
 use Rattle.jvm_model.specs.Codes.Places.{read_from}
 use Rattle.jvm_model.specs.Basis.Programs.{class_at, place_of_method}
-use Rattle.jvm_model.specs.Profiling.Revelation.{naming_in, namings_of}
+use Rattle.jvm_model.specs.Profiling.Revelation.{symbolic_reference_in, symbolic_references_of}
 use Rattle.jvm_model.specs.Soundness.Sound.{CanAttempt, HasClass, HasLoadedCaller, IsFit}
 use Rattle.jvm_model.specs.Profiling.Targets.{operations_in, operations_of}
 use Rattle.jvm_model.proofs.Soundness.SoundLines.{can-attempt}
 
 module _ (p : Program) (loaded : List ℕ) where
-  fine : (op : Operation) → CanAttempt p loaded op → IfSome (naming_in op) (HasLoadedCaller p loaded)
+  fine : (op : Operation) → CanAttempt p loaded op → IfSome (symbolic_reference_in op) (HasLoadedCaller p loaded)
   fine (Named (New name)) can = can.0
   fine (Named (Getstatic r)) can = can.0
   fine (Named (Putstatic r)) can = can.0
@@ -46,26 +46,26 @@ module _ (p : Program) (loaded : List ℕ) where
   fine (StoreElement k) can = tt
   fine (LdcString units) can = tt
 
-  abbrev AreFine : List Naming → Type 0
+  abbrev AreFine : List SymbolicReference → Type 0
   AreFine ns = AllByRecursion (HasLoadedCaller p loaded) ns
 
-  one-more : (o : Option Naming) (ns : List Naming) → IfSome o (HasLoadedCaller p loaded) → AreFine ns → AreFine (cons_option o ns)
+  one-more : (o : Option SymbolicReference) (ns : List SymbolicReference) → IfSome o (HasLoadedCaller p loaded) → AreFine ns → AreFine (cons_option o ns)
   one-more None ns first rest = rest
   one-more (Some n) ns first rest = (first, rest)
 
   module _ (c : ClassFile) (code : List ℕ)
       (each : (offset : ℕ) (i : Instr) (op : Operation) → instruction_at code offset ≡ Some i → operation_of c i ≡ Some op → CanAttempt p loaded op) where
     op-fine : (offset : ℕ) (i : Instr) (o : Option Operation) (ops : List Operation) → instruction_at code offset ≡ Some i → operation_of c i ≡ o
-        → AreFine (namings_of ops) → AreFine (namings_of (cons_option o ops))
+        → AreFine (symbolic_references_of ops) → AreFine (symbolic_references_of (cons_option o ops))
     op-fine offset i None ops there e rest = rest
-    op-fine offset i (Some op) ops there e rest = one-more (naming_in op) (namings_of ops) (fine op (each offset i op there e)) rest
+    op-fine offset i (Some op) ops there e rest = one-more (symbolic_reference_in op) (symbolic_references_of ops) (fine op (each offset i op there e)) rest
 
-    read-fine : (n at : ℕ) → AreFine (namings_of (filter_map (operation_of c) (read_from n code at)))
+    read-fine : (n at : ℕ) → AreFine (symbolic_references_of (filter_map (operation_of c) (read_from n code at)))
     read-fine zero at = tt
     read-fine (suc n) at = by (instruction_at code at) refl (λ next. read-fine n next)
       where
-        by : (o : Option Instr) → instruction_at code at ≡ o → ((next : ℕ) → AreFine (namings_of (filter_map (operation_of c) (read_from n code next))))
-            → AreFine (namings_of (filter_map (operation_of c) (option_map_or (λ (i : Instr). i ∷ read_from n code (end_of i)) o [])))
+        by : (o : Option Instr) → instruction_at code at ≡ o → ((next : ℕ) → AreFine (symbolic_references_of (filter_map (operation_of c) (read_from n code next))))
+            → AreFine (symbolic_references_of (filter_map (operation_of c) (option_map_or (λ (i : Instr). i ∷ read_from n code (end_of i)) o [])))
         by None e rest = tt
         by (Some i) e rest = op-fine at i (operation_of c i) (filter_map (operation_of c) (read_from n code (end_of i))) e refl (rest (end_of i))
 
@@ -84,7 +84,7 @@ module _ (p : Program) (loaded : List ℕ) where
 
     code-fine : (place : MethodPlace) (c : ClassFile) (o : Option CodeAttribute) → place_of_method p method ≡ Some place → class_at p place.class ≡ Some c
         → method_code c place.position ≡ o
-        → AreFine (namings_of (filter_map (operation_of c) (option_map_or (λ (code : CodeAttribute). read_from (length code.code) code.code 0) o [])))
+        → AreFine (symbolic_references_of (filter_map (operation_of c) (option_map_or (λ (code : CodeAttribute). read_from (length code.code) code.code 0) o [])))
     code-fine place c None at of_class e = tt
     code-fine place c (Some code) at of_class e =
         read-fine c code.code
@@ -92,20 +92,20 @@ module _ (p : Program) (loaded : List ℕ) where
         (length code.code) 0
 
     class-fine : (place : MethodPlace) (o : Option ClassFile) → place_of_method p method ≡ Some place → class_at p place.class ≡ o
-        → AreFine (namings_of (unwrap_or (option_and_then (λ c. operations_in c place.position) o) []))
+        → AreFine (symbolic_references_of (unwrap_or (option_and_then (λ c. operations_in c place.position) o) []))
     class-fine place None at e = tt
     class-fine place (Some c) at e = code-fine place c (method_code c place.position) at e refl
 
-    pub callers-loaded : AreFine (namings_of (operations_of p method))
+    pub callers-loaded : AreFine (symbolic_references_of (operations_of p method))
     callers-loaded = by (place_of_method p method) refl
       where
         by : (o : Option MethodPlace) → place_of_method p method ≡ o
-            → AreFine (namings_of (unwrap_or (option_and_then (λ (place : MethodPlace). option_and_then (λ c. operations_in c place.position) (class_at p place.class)) o) []))
+            → AreFine (symbolic_references_of (unwrap_or (option_and_then (λ (place : MethodPlace). option_and_then (λ c. operations_in c place.position) (class_at p place.class)) o) []))
         by None e = tt
         by (Some place) e = class-fine place (class_at p place.class) e refl
 
 -- the same of what is seen as them
-pub viewed-fine : {A : Type 0} (P : Naming → Type 0) (view : A → Naming) (xs : List A) (ns : List Naming) → map view xs ≡ ns → AllByRecursion P ns
+pub viewed-fine : {A : Type 0} (P : SymbolicReference → Type 0) (view : A → SymbolicReference) (xs : List A) (ns : List SymbolicReference) → map view xs ≡ ns → AllByRecursion P ns
     → AllByRecursion (λ x. P (view x)) xs
 viewed-fine {A = A} P view xs ns e all = by xs (subst (AllByRecursion P) (sym e) all)
   where

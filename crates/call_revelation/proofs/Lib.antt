@@ -6,13 +6,13 @@ pub mod InLoadOrder
 pub mod SubtypeSteps
 pub mod LineageLemmas
 pub mod BegunLemmas
-pub mod LineNamings
-pub mod NamingSteps
+pub mod LineReferences
+pub mod ReferenceSteps
 pub mod SameLoaded
 pub mod Rising
 pub mod CallerLemmas
 pub mod TargetLemmas
-pub mod NamingLemmas
+pub mod ReferenceLemmas
 pub mod LoadStep
 pub mod CalledLemmas
 pub mod BookLemmas

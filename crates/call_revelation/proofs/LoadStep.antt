@@ -6,22 +6,22 @@ use Rattle.std.specs.Option.{option_and_then, option_map_or, option_to_list}
 use Rattle.jvm_model.specs.declared.program.Program.{Program}
 use Rattle.jvm_model.specs.Classes.Load.{is_among}
 use Rattle.jvm_model.specs.Classes.Lookup.{is_subtype}
-use Rattle.jvm_model.specs.Instructions.Naming as model
+use Rattle.jvm_model.specs.Instructions.SymbolicReference as model
 use Rattle.jvm_model.specs.Profiling.Points.{is_target}
 use Rattle.jvm_model.specs.Basis.Programs.{class_named}
-use Rattle.jvm_model.specs.Profiling.Revelation.{gained_by, gained_in, is_named, namings_of}
+use Rattle.jvm_model.specs.Profiling.Revelation.{gained_by, gained_in, is_named, symbolic_references_of}
 use Rattle.jvm_model.specs.Soundness.Sound.{HasSupertypes}
 use Rattle.jvm_model.specs.Profiling.Targets.{begun_by, loaded_class_named, operations_of, targets_in}
 use Rattle.jvm_model.proofs.Revealing.Gained.{gained-targets}
 use Rattle.jvm_model.proofs.Revealing.Revealed.{is_gained, load-targets}
-use Rattle.jvm_named.specs.declared.naming.Naming.{Naming}
-use Rattle.jvm_named.specs.Names.{naming_view}
+use Rattle.jvm_named.specs.declared.symbolic_reference.SymbolicReference.{SymbolicReference}
+use Rattle.jvm_named.specs.Names.{symbolic_view}
 use Rattle.call_revelation.specs.declared.uses.Use.{Use}
-use Rattle.call_revelation.specs.Books.{Codes, IsBook, called_by, called_from, called_on, code_at, gathered, is_use, naming_at, of_entered}
+use Rattle.call_revelation.specs.Books.{Codes, IsBook, called_by, called_from, called_on, code_at, gathered, is_use, symbolic_reference_at, of_entered}
 use Rattle.call_revelation.specs.CalledClasses.{HasUppers, called_class}
 use Rattle.call_revelation.specs.Tables.{list_at}
 use Rattle.call_revelation.proofs.Adding.{alike, among-append, either, equal, first-of, from_flat, itself, or-first, or-later, second-of, to_flat}
-use Rattle.call_revelation.proofs.NamingLemmas.{CallsIt, NamesIt, called-gains, gain-from, gain-of, gained-either, target-of}
+use Rattle.call_revelation.proofs.ReferenceLemmas.{CallsIt, NamesIt, called-gains, gain-from, gain-of, gained-either, target-of}
 
 false_true : false ≡ true → ⊥
 false_true e = cc
@@ -103,41 +103,41 @@ map-from f (x ∷ xs) (suc i) y e = let r = map-from f xs i y e in record { item
 
 module _ (p : Program) (codes : Codes) (waiting calls : List (List Use)) (book : IsBook p codes waiting calls) (entered : List ℕ) where
   -- an instruction of an entered method, and what it gives
-  pub record IsEntered (f : model.Naming → List ℕ) (u : Use) (m : ℕ) : Type 0 where
+  pub record IsEntered (f : model.SymbolicReference → List ℕ) (u : Use) (m : ℕ) : Type 0 where
     pub caller : is_among u.caller entered ≡ true
-    pub naming : model.Naming
-    pub there : slice_get (namings_of (operations_of p u.caller)) u.at ≡ Some naming
+    pub naming : model.SymbolicReference
+    pub there : slice_get (symbolic_references_of (operations_of p u.caller)) u.at ≡ Some naming
     pub within : is_among m (f naming) ≡ true
 
-  pub read-at : (u : Use) (o : Option (List Naming)) (n : Naming) → code_at codes u.caller ≡ o → option_and_then (λ (ns : List Naming). slice_get ns u.at) o ≡ Some n
-      → slice_get (namings_of (operations_of p u.caller)) u.at ≡ Some (naming_view n)
+  pub read-at : (u : Use) (o : Option (List SymbolicReference)) (n : SymbolicReference) → code_at codes u.caller ≡ o → option_and_then (λ (ns : List SymbolicReference). slice_get ns u.at) o ≡ Some n
+      → slice_get (symbolic_references_of (operations_of p u.caller)) u.at ≡ Some (symbolic_view n)
   read-at u None n c e = absurd (none-some n e)
-  read-at u (Some ns) n c e = subst (λ l. slice_get l u.at ≡ Some (naming_view n)) (book.read u.caller ns c) (map-get naming_view ns u.at n e)
+  read-at u (Some ns) n c e = subst (λ l. slice_get l u.at ≡ Some (symbolic_view n)) (book.read u.caller ns c) (map-get symbolic_view ns u.at n e)
 
-  pub entered-at : (f : model.Naming → List ℕ) (u : Use) (m : ℕ) → is_among m (of_entered entered codes f u) ≡ true → IsEntered f u m
+  pub entered-at : (f : model.SymbolicReference → List ℕ) (u : Use) (m : ℕ) → is_among m (of_entered entered codes f u) ≡ true → IsEntered f u m
   entered-at f u m h = by (is_among u.caller entered) refl h
     where
-      at : (o : Option Naming) → naming_at codes u ≡ o → is_among u.caller entered ≡ true
-          → is_among m (option_map_or (λ (n : Naming). f (naming_view n)) o []) ≡ true → IsEntered f u m
+      at : (o : Option SymbolicReference) → symbolic_reference_at codes u ≡ o → is_among u.caller entered ≡ true
+          → is_among m (option_map_or (λ (n : SymbolicReference). f (symbolic_view n)) o []) ≡ true → IsEntered f u m
       at None e c h = absurd (false_true h)
-      at (Some n) e c h = record { caller = c; naming = naming_view n; there = read-at u (code_at codes u.caller) n refl e; within = h }
+      at (Some n) e c h = record { caller = c; naming = symbolic_view n; there = read-at u (code_at codes u.caller) n refl e; within = h }
 
       by : (b : Bool) → is_among u.caller entered ≡ b
-          → is_among m (if b then option_map_or (λ (n : Naming). f (naming_view n)) (naming_at codes u) [] else []) ≡ true → IsEntered f u m
-      by true c h = at (naming_at codes u) refl c h
+          → is_among m (if b then option_map_or (λ (n : SymbolicReference). f (symbolic_view n)) (symbolic_reference_at codes u) [] else []) ≡ true → IsEntered f u m
+      by true c h = at (symbolic_reference_at codes u) refl c h
       by false c h = absurd (false_true h)
 
   -- what an instruction of an entered method gives, by its place
-  pub at-entered : (f : model.Naming → List ℕ) (caller i : ℕ) (ns : List Naming) (n : Naming) (m : ℕ) → is_among caller entered ≡ true
-      → code_at codes caller ≡ Some ns → slice_get ns i ≡ Some n → is_among m (f (naming_view n)) ≡ true
+  pub at-entered : (f : model.SymbolicReference → List ℕ) (caller i : ℕ) (ns : List SymbolicReference) (n : SymbolicReference) (m : ℕ) → is_among caller entered ≡ true
+      → code_at codes caller ≡ Some ns → slice_get ns i ≡ Some n → is_among m (f (symbolic_view n)) ≡ true
       → (u : Use) → is_use caller i u ≡ true → is_among m (of_entered entered codes f u) ≡ true
   at-entered f caller i ns n m there c e h u is =
       let same : u.caller ≡ caller = equal u.caller caller (first-of (u.caller == caller) (u.at == i) is) in
       let place : u.at ≡ i = equal u.at i (second-of (u.caller == caller) (u.at == i) is) in
-      ap (λ b. is_among m (if b then option_map_or (λ (n : Naming). f (naming_view n)) (naming_at codes u) [] else [])) (ap (λ x. is_among x entered) same ∙ there)
-      ∙ (ap (λ o. is_among m (option_map_or (λ (n : Naming). f (naming_view n)) o []))
-      (ap (λ x. option_and_then (λ (ns : List Naming). slice_get ns u.at) (code_at codes x)) same
-      ∙ (ap (option_and_then (λ (ns : List Naming). slice_get ns u.at)) c ∙ (ap (slice_get ns) place ∙ e)))
+      ap (λ b. is_among m (if b then option_map_or (λ (n : SymbolicReference). f (symbolic_view n)) (symbolic_reference_at codes u) [] else [])) (ap (λ x. is_among x entered) same ∙ there)
+      ∙ (ap (λ o. is_among m (option_map_or (λ (n : SymbolicReference). f (symbolic_view n)) o []))
+      (ap (λ x. option_and_then (λ (ns : List SymbolicReference). slice_get ns u.at) (code_at codes x)) same
+      ∙ (ap (option_and_then (λ (ns : List SymbolicReference). slice_get ns u.at)) c ∙ (ap (slice_get ns) place ∙ e)))
       ∙ h)
 
   -- ---- one class more
@@ -168,7 +168,7 @@ module _ (p : Program) (codes : Codes) (waiting calls : List (List Use)) (book :
         is-targeted one.item.caller e.caller (target-of p all (operations_of p one.item.caller) m one.item.at e.naming e.there e.within)
 
     -- a call that names this class, which is loaded
-    named-loaded : (n : model.Naming) (class : ℕ) → is_among class loaded ≡ true → is_named p class (model.resolved_name n) ≡ true
+    named-loaded : (n : model.SymbolicReference) (class : ℕ) → is_among class loaded ≡ true → is_named p class (model.resolved_name n) ≡ true
         → loaded_class_named p loaded (model.resolved_name n) ≡ Some class
     named-loaded n class there named = by (class_named p (model.resolved_name n)) named
       where
@@ -208,11 +208,11 @@ module _ (p : Program) (codes : Codes) (waiting calls : List (List Use)) (book :
     -- ---- whatever is gained is gathered
 
     -- the class of this name, and that it is loaded
-    record IsKnown (n : model.Naming) (class : ℕ) : Type 0 where
+    record IsKnown (n : model.SymbolicReference) (class : ℕ) : Type 0 where
       named : class_named p (model.resolved_name n) ≡ Some class
       there : is_among class loaded ≡ true
 
-    known : (n : model.Naming) (class : ℕ) → loaded_class_named p loaded (model.resolved_name n) ≡ Some class → IsKnown n class
+    known : (n : model.SymbolicReference) (class : ℕ) → loaded_class_named p loaded (model.resolved_name n) ≡ Some class → IsKnown n class
     known n class e = by (class_named p (model.resolved_name n)) refl e
       where
         test : (found : ℕ) (b : Bool) → class_named p (model.resolved_name n) ≡ Some found → is_among found loaded ≡ b
@@ -230,7 +230,7 @@ module _ (p : Program) (codes : Codes) (waiting calls : List (List Use)) (book :
     if-true true xs h = refl
     if-true false xs h = absurd (false_true h)
 
-    is-above : (n : model.Naming) (class : ℕ) → is_among m (called_on p new class n) ≡ true → is_subtype p new class ≡ true
+    is-above : (n : model.SymbolicReference) (class : ℕ) → is_among m (called_on p new class n) ≡ true → is_subtype p new class ≡ true
     is-above (model.Invokevirtual r) class h = if-true (is_subtype p new class) _ h
     is-above (model.Invokeinterface r) class h = if-true (is_subtype p new class) _ h
     is-above (model.New name) class h = absurd (false_true h)
@@ -246,7 +246,7 @@ module _ (p : Program) (codes : Codes) (waiting calls : List (List Use)) (book :
     is-above (model.Multianewarray name dimensions) class h = absurd (false_true h)
     is-above (model.LdcClass name) class h = absurd (false_true h)
 
-    named-by : (n : model.Naming) (class : ℕ) → is_named p class (model.resolved_name n) ≡ true → class_named p (model.resolved_name n) ≡ Some class
+    named-by : (n : model.SymbolicReference) (class : ℕ) → is_named p class (model.resolved_name n) ≡ true → class_named p (model.resolved_name n) ≡ Some class
     named-by n class k = by (class_named p (model.resolved_name n)) refl k
       where
         by : (o : Option ℕ) → class_named p (model.resolved_name n) ≡ o → option_map_or (λ found. found == class) o false ≡ true
@@ -254,40 +254,40 @@ module _ (p : Program) (codes : Codes) (waiting calls : List (List Use)) (book :
         by None o k = absurd (false_true k)
         by (Some found) o k = o ∙ ap (λ x. Some x) (equal found class k)
 
-    is-named : (n : model.Naming) (class : ℕ) → class_named p (model.resolved_name n) ≡ Some class → is_named p class (model.resolved_name n) ≡ true
+    is-named : (n : model.SymbolicReference) (class : ℕ) → class_named p (model.resolved_name n) ≡ Some class → is_named p class (model.resolved_name n) ≡ true
     is-named n class e = ap (λ o. option_map_or (λ found. found == class) o false) e ∙ itself class
 
-    read-there : (caller i : ℕ) (ns : List Naming) (n : Naming) → code_at codes caller ≡ Some ns → slice_get ns i ≡ Some n
-        → slice_get (namings_of (operations_of p caller)) i ≡ Some (naming_view n)
-    read-there caller i ns n c e = subst (λ l. slice_get l i ≡ Some (naming_view n)) (book.read caller ns c) (map-get naming_view ns i n e)
+    read-there : (caller i : ℕ) (ns : List SymbolicReference) (n : SymbolicReference) → code_at codes caller ≡ Some ns → slice_get ns i ≡ Some n
+        → slice_get (symbolic_references_of (operations_of p caller)) i ≡ Some (symbolic_view n)
+    read-there caller i ns n c e = subst (λ l. slice_get l i ≡ Some (symbolic_view n)) (book.read caller ns c) (map-get symbolic_view ns i n e)
 
-    is-gathered : (caller i : ℕ) (ns : List Naming) (n : Naming) → is_among caller entered ≡ true → code_at codes caller ≡ Some ns → slice_get ns i ≡ Some n
-        → NamesIt p loaded new (naming_view n) m ⊎ CallsIt p loaded new (naming_view n) m → (is_among m called || is_among m waited) ≡ true
+    is-gathered : (caller i : ℕ) (ns : List SymbolicReference) (n : SymbolicReference) → is_among caller entered ≡ true → code_at codes caller ≡ Some ns → slice_get ns i ≡ Some n
+        → NamesIt p loaded new (symbolic_view n) m ⊎ CallsIt p loaded new (symbolic_view n) m → (is_among m called || is_among m waited) ≡ true
     is-gathered caller i ns n there c e (inl it) =
         or-later (is_among m called) (is_among m waited)
         (any-flat (of_entered entered codes (begun_by p all)) (is_use caller i) (list_at waiting new) m
-        (book.waits caller i ns n c e new (named-by (naming_view n) new it.named))
+        (book.waits caller i ns n c e new (named-by (symbolic_view n) new it.named))
         (at-entered (begun_by p all) caller i ns n m there c e it.begun))
     is-gathered caller i ns n there c e (inr it) =
-        let k = known (naming_view n) it.class it.named in
+        let k = known (symbolic_view n) it.class it.named in
         or-first (is_among m called) (is_among m waited)
         (to_flat (called_from p loaded new entered codes calls) uppers it.class m
         (whole caller it.class there
-        (flat-at (called_class p) (namings_of (operations_of p caller)) i (naming_view n) it.class (read-there caller i ns n c e)
-        (ap (λ b. is_among it.class (if b then option_to_list (class_named p (model.resolved_name (naming_view n))) else [])) it.call
+        (flat-at (called_class p) (symbolic_references_of (operations_of p caller)) i (symbolic_view n) it.class (read-there caller i ns n c e)
+        (ap (λ b. is_among it.class (if b then option_to_list (class_named p (model.resolved_name (symbolic_view n))) else [])) it.call
         ∙ (ap (λ o. is_among it.class (option_to_list o)) k.named ∙ or-first (it.class == it.class) false (itself it.class))))
-        (is-above (naming_view n) it.class it.called))
+        (is-above (symbolic_view n) it.class it.called))
         (ap (λ b. is_among m (if b then flat_map (of_entered entered codes (called_by p new it.class)) (list_at calls it.class) else [])) k.there
         ∙ any-flat (of_entered entered codes (called_by p new it.class)) (is_use caller i) (list_at calls it.class) m
         (book.called caller i ns n c e it.call it.class k.named)
         (at-entered (called_by p new it.class) caller i ns n m there c e
-        (ap (λ b. is_among m (if b then called_on p new it.class (naming_view n) else [])) (is-named (naming_view n) it.class k.named) ∙ it.called))))
+        (ap (λ b. is_among m (if b then called_on p new it.class (symbolic_view n) else [])) (is-named (symbolic_view n) it.class k.named) ∙ it.called))))
 
     record HasCode (caller : ℕ) : Type 0 where
-      namings : List Naming
+      namings : List SymbolicReference
       there : code_at codes caller ≡ Some namings
 
-    has-code : (caller : ℕ) (o : Option (List Naming)) → code_at codes caller ≡ o → is_some o ≡ true → HasCode caller
+    has-code : (caller : ℕ) (o : Option (List SymbolicReference)) → code_at codes caller ≡ o → is_some o ≡ true → HasCode caller
     has-code caller None c h = absurd (false_true h)
     has-code caller (Some ns) c h = record { namings = ns; there = c }
 
@@ -296,9 +296,9 @@ module _ (p : Program) (codes : Codes) (waiting calls : List (List Use)) (book :
         let any = from-any (λ caller. is_among m (gained_in p loaded new (operations_of p caller))) entered h in
         let has = has-code any.item (code_at codes any.item) refl (booked any.item any.there) in
         let one = gain-from p loaded new (operations_of p any.item) m any.holds in
-        let read = map-from naming_view has.namings one.index one.naming (ap (λ l. slice_get l one.index) (book.read any.item has.namings has.there) ∙ one.there) in
+        let read = map-from symbolic_view has.namings one.index one.naming (ap (λ l. slice_get l one.index) (book.read any.item has.namings has.there) ∙ one.there) in
         is-gathered any.item one.index has.namings read.item any.there has.there read.there
-        (gained-either p loaded new (naming_view read.item) m (ap (λ n. is_among m (gained_by p loaded new n)) read.is ∙ one.within))
+        (gained-either p loaded new (symbolic_view read.item) m (ap (λ n. is_among m (gained_by p loaded new n)) read.is ∙ one.within))
 
     -- ---- both
 

@@ -10,7 +10,7 @@ use Rattle.jvm_model.specs.Instructions.InvocationRules.{Selecting, Virtual, OfI
 use Rattle.jvm_model.specs.Basis.KindNumbers.{user_count}
 use Rattle.jvm_model.specs.Classes.Load.{is_among}
 use Rattle.jvm_model.specs.Classes.Lookup.{MemberPlace, is_subtype, resolved_field, resolved_method}
-use Rattle.jvm_model.specs.Instructions.Naming.{Naming, New, Getfield, Putfield, Getstatic, Putstatic, Invokevirtual, Invokespecial, Invokestatic, Invokeinterface, Checkcast, Instanceof, Anewarray, Multianewarray, LdcClass}
+use Rattle.jvm_model.specs.Instructions.SymbolicReference.{SymbolicReference, New, Getfield, Putfield, Getstatic, Putstatic, Invokevirtual, Invokespecial, Invokestatic, Invokeinterface, Checkcast, Instanceof, Anewarray, Multianewarray, LdcClass}
 use Rattle.jvm_model.specs.Basis.Programs.{class_named, initializer_of}
 use Rattle.jvm_model.specs.Classes.Selection.{is_static}
 use Rattle.jvm_model.specs.Profiling.Targets.{begun_by, begun_by_operation, begun_field, begun_on, begun_static, class_with_methods, coded, coded_at, found_where, initializers, invoked_by, is_array_type, loaded_class_named, selections, targets_in, where_loaded}
@@ -100,7 +100,7 @@ module _ (p : Program) where
   methods-same : (a b name : List ℕ) → AreSame a b → class_with_methods p a name ≡ class_with_methods p b name
   methods-same a b name same = ap (λ o. if is_array_type name then Some (user_count p) else o) (named-same a b name same)
 
-  pub begun-same : (a b : List ℕ) (n : Naming) (m : ℕ) → AreSame a b → is_among m (begun_by p a n) ≡ is_among m (begun_by p b n)
+  pub begun-same : (a b : List ℕ) (n : SymbolicReference) (m : ℕ) → AreSame a b → is_among m (begun_by p a n) ≡ is_among m (begun_by p b n)
   begun-same a b (New name) m same = where-same a b name (initializers p a) (initializers p b) m same (λ x. initializers-same a b x m same)
   begun-same a b (Getstatic r) m same =
       where-same a b r.class (λ class. begun_field p a class r) (λ class. begun_field p b class r) m same (λ x. field-same a b x r m same)

@@ -7,15 +7,15 @@ use Rattle.std.specs.Option.{option_map_or}
 use Rattle.jvm_model.specs.declared.program.Program.{Program}
 use Rattle.jvm_model.specs.Basis.Data.{Operation, Within, Named, Athrow, Monitor, Newarray, Arraylength, LoadElement, StoreElement, LdcString}
 use Rattle.jvm_model.specs.Classes.Load.{is_among}
-use Rattle.jvm_model.specs.Instructions.Naming.{Naming, New, Getfield, Putfield, Getstatic, Putstatic, Invokevirtual, Invokespecial, Invokestatic, Invokeinterface, Checkcast, Instanceof, Anewarray, Multianewarray, LdcClass}
-use Rattle.jvm_model.specs.Profiling.Revelation.{naming_in, namings_of}
+use Rattle.jvm_model.specs.Instructions.SymbolicReference.{SymbolicReference, New, Getfield, Putfield, Getstatic, Putstatic, Invokevirtual, Invokespecial, Invokestatic, Invokeinterface, Checkcast, Instanceof, Anewarray, Multianewarray, LdcClass}
+use Rattle.jvm_model.specs.Profiling.Revelation.{symbolic_reference_in, symbolic_references_of}
 use Rattle.jvm_model.specs.Profiling.Targets.{begun_by, begun_by_operation, operations_of, targets, targets_in}
 use Rattle.call_revelation.specs.Tables.{Adds}
 use Rattle.call_revelation.proofs.Adding.{among-append, itself, or-assoc, or-false, or-first, or-later}
 use Rattle.call_revelation.proofs.SameLoaded.{targets-same}
 
 module _ (p : Program) (loaded : List ℕ) where
-  op-made : (op : Operation) → begun_by_operation p loaded op ≡ option_map_or (begun_by p loaded) (naming_in op) []
+  op-made : (op : Operation) → begun_by_operation p loaded op ≡ option_map_or (begun_by p loaded) (symbolic_reference_in op) []
   op-made (Named (New name)) = refl
   op-made (Named (Getstatic r)) = refl
   op-made (Named (Putstatic r)) = refl
@@ -39,17 +39,17 @@ module _ (p : Program) (loaded : List ℕ) where
   op-made (StoreElement k) = refl
   op-made (LdcString units) = refl
 
-  cons-made : (f : Naming → List ℕ) (o : Option Naming) (ns : List Naming) → flat_map f (cons_option o ns) ≡ option_map_or f o [] ++ flat_map f ns
+  cons-made : (f : SymbolicReference → List ℕ) (o : Option SymbolicReference) (ns : List SymbolicReference) → flat_map f (cons_option o ns) ≡ option_map_or f o [] ++ flat_map f ns
   cons-made f None ns = refl
   cons-made f (Some n) ns = refl
 
-  pub targets-made : (ops : List Operation) → targets_in p loaded ops ≡ flat_map (begun_by p loaded) (namings_of ops)
+  pub targets-made : (ops : List Operation) → targets_in p loaded ops ≡ flat_map (begun_by p loaded) (symbolic_references_of ops)
   targets-made [] = refl
-  targets-made (op ∷ rest) = ap₂ (λ a b. a ++ b) (op-made op) (targets-made rest) ∙ sym (cons-made (begun_by p loaded) (naming_in op) (namings_of rest))
+  targets-made (op ∷ rest) = ap₂ (λ a b. a ++ b) (op-made op) (targets-made rest) ∙ sym (cons-made (begun_by p loaded) (symbolic_reference_in op) (symbolic_references_of rest))
 
 -- what was gathered of a method's instructions over the same classes are its targets
-pub gathered-are : (p : Program) (a b : List ℕ) (method : ℕ) (ns : List Naming) (found : List ℕ) → ((x : ℕ) → is_among x a ≡ is_among x b)
-    → ns ≡ namings_of (operations_of p method) → Adds [] found (flat_map (begun_by p a) ns) → (m : ℕ) → is_among m found ≡ is_among m (targets p b method)
+pub gathered-are : (p : Program) (a b : List ℕ) (method : ℕ) (ns : List SymbolicReference) (found : List ℕ) → ((x : ℕ) → is_among x a ≡ is_among x b)
+    → ns ≡ symbolic_references_of (operations_of p method) → Adds [] found (flat_map (begun_by p a) ns) → (m : ℕ) → is_among m found ≡ is_among m (targets p b method)
 gathered-are p a b method ns found same e adds m =
     adds m ∙ (ap (λ l. is_among m (flat_map (begun_by p a) l)) e
     ∙ (sym (ap (is_among m) (targets-made p a (operations_of p method))) ∙ targets-same p a b (operations_of p method) m same))

@@ -1,7 +1,7 @@
 pub mod Tables
 pub mod Ranks
 pub mod Lineages
-pub mod Namings
+pub mod CodeReferences
 pub mod Books
 pub mod CalledClasses
 pub mod Reveals

@@ -4,7 +4,7 @@ ghost use Rattle.std.specs.Prelude.{◌≡◌, ◌<◌, ℕ, List, filter_map, l
 ghost use Rattle.std.specs.Option.{option_and_then, option_to_list};
 ghost use Rattle.jvm_model.specs.Instructions.InvocationRules.{Special};
 ghost use Rattle.jvm_model.specs.Classes.Load.{is_among};
-ghost use Rattle.jvm_model.specs.Instructions.Naming.{Invokespecial};
+ghost use Rattle.jvm_model.specs.Instructions.SymbolicReference.{Invokespecial};
 ghost use Rattle.jvm_model.specs.Basis.Programs.{class_named, initializer_name};
 ghost use Rattle.jvm_model.specs.Soundness.Sound.{HasLoadedCaller};
 ghost use Rattle.jvm_model.specs.Classes.SuperCalls.{invoked_special};
@@ -12,7 +12,7 @@ ghost use Rattle.class_index.specs.Members.{wanted_view};
 ghost use Rattle.class_index.specs.Orders.{with_classes};
 ghost use Rattle.class_linker.specs.Linkers.{IsLoaded};
 ghost use Rattle.jvm_named.specs.Members.{at_place, reference_of};
-ghost use Rattle.jvm_named.specs.Names.{naming_view};
+ghost use Rattle.jvm_named.specs.Names.{symbolic_view};
 ghost use Rattle.jvm_named.specs.Numbers.{AreNumbers};
 ghost use Rattle.call_revelation.specs.Lineages.{AreKnown, begun_at, begun_named, initializer_in};
 ghost use Rattle.call_revelation.specs.Lineages.{number_of, selecting, selection_of};
@@ -28,7 +28,7 @@ use crate::lookup::{
 use class_index::{Order, Wanted};
 use class_linker::Linker;
 use jf_bytes::{NoMemory, Text16, from_utf8};
-use jvm_named::{MemberName, MethodNumbers, Naming, Place, resolved_name};
+use jvm_named::{MemberName, MethodNumbers, Place, SymbolicReference, resolved_name};
 use std::alloc::Global;
 
 // ---- of one method or class
@@ -273,32 +273,34 @@ fn add_begun_at(
     numbers: &MethodNumbers,
     lineage: &Lineage,
     class: u32,
-    naming: &Naming,
+    naming: &SymbolicReference,
     found: &mut Order,
 ) -> Result<(), NoMemory>
     requires known { AreKnown linker.now numbers.now lineage.now }
     requires class { class < length linker.now.program.classes }
     requires loaded { is_among class lineage.now.loaded ≡ true }
     ensures { OnOk result (Adds found.old found.new (begun_at linker.now.program
-        lineage.now.loaded (naming_view naming.now) class)) }
+        lineage.now.loaded (symbolic_view naming.now) class)) }
 {
     match naming {
-        Naming::New(_) => add_initializers(alloc, linker, numbers, lineage, class, found),
-        Naming::Getstatic(member) => add_field_on(
+        SymbolicReference::New(_) => add_initializers(
+            alloc, linker, numbers, lineage, class, found,
+        ),
+        SymbolicReference::Getstatic(member) => add_field_on(
             alloc, linker, numbers, lineage, class, member, found,
         ),
-        Naming::Putstatic(member) => add_field_on(
+        SymbolicReference::Putstatic(member) => add_field_on(
             alloc, linker, numbers, lineage, class, member, found,
         ),
-        Naming::Invokestatic(method) => {
+        SymbolicReference::Invokestatic(method) => {
             let member = method.member();
             add_static_on(alloc, linker, numbers, lineage, class, member, found)
         }
-        Naming::Invokevirtual(method) => {
+        SymbolicReference::Invokevirtual(method) => {
             let member = method.member();
             add_begun_on(alloc, linker, numbers, lineage, false, class, member, found)
         }
-        Naming::Invokeinterface(method) => {
+        SymbolicReference::Invokeinterface(method) => {
             let member = method.member();
             add_begun_on(alloc, linker, numbers, lineage, true, class, member, found)
         }
@@ -312,12 +314,12 @@ fn add_begun_named(
     linker: &Linker,
     numbers: &MethodNumbers,
     lineage: &Lineage,
-    naming: &Naming,
+    naming: &SymbolicReference,
     found: &mut Order,
 ) -> Result<(), NoMemory>
     requires known { AreKnown linker.now numbers.now lineage.now }
     ensures { OnOk result (Adds found.old found.new (begun_named linker.now.program
-        lineage.now.loaded (naming_view naming.now))) }
+        lineage.now.loaded (symbolic_view naming.now))) }
 {
     match loaded_class(linker, lineage, resolved_name(naming)) {
         Some(class) => add_begun_at(alloc, linker, numbers, lineage, class, naming, found),
@@ -331,17 +333,17 @@ pub fn add_begun(
     linker: &Linker,
     numbers: &MethodNumbers,
     lineage: &Lineage,
-    naming: &Naming,
+    naming: &SymbolicReference,
     found: &mut Order,
 ) -> Result<(), NoMemory>
     requires known { AreKnown linker.now numbers.now lineage.now }
     requires caller { HasLoadedCaller linker.now.program linker.now.loaded
-        (naming_view naming.now) }
+        (symbolic_view naming.now) }
     ensures { OnOk result (Adds found.old found.new
-        (begun_by linker.now.program lineage.now.loaded (naming_view naming.now))) }
+        (begun_by linker.now.program lineage.now.loaded (symbolic_view naming.now))) }
 {
     match naming {
-        Naming::Invokespecial(caller, method, interface) => {
+        SymbolicReference::Invokespecial(caller, method, interface) => {
             let member = method.member();
             add_special(linker, numbers, lineage, caller, *interface, member, found)
         }

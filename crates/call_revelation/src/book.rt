@@ -3,43 +3,44 @@
 ghost use Rattle.std.specs.Prelude.{◌≡◌, ◌<◌, [], if◌then◌else◌, is_ok, is_some, length, map, replicate, true, unwrap_or, IfOk, OnOk, None, ℕ};
 ghost use Rattle.std.specs.List.{AllByRecursion};
 ghost use Rattle.std.specs.Option.{option_copied};
-ghost use Rattle.jvm_model.specs.Instructions.Naming.{resolved_name};
+ghost use Rattle.jvm_model.specs.Instructions.SymbolicReference.{resolved_name};
 ghost use Rattle.jvm_model.specs.Basis.Programs.{class_named};
-ghost use Rattle.jvm_model.specs.Profiling.Revelation.{is_named, namings_of};
+ghost use Rattle.jvm_model.specs.Profiling.Revelation.{is_named, symbolic_references_of};
 ghost use Rattle.jvm_model.specs.Profiling.Targets.{operations_of};
-ghost use Rattle.jvm_named.specs.Names.{naming_view};
+ghost use Rattle.jvm_named.specs.Names.{symbolic_view};
 ghost use Rattle.prepared_code.specs.Prepared.{HasShortCodes};
-ghost use Rattle.call_revelation.specs.Books.{HasMore, IsBookOf, code_at, is_noted, naming_at};
+ghost use Rattle.call_revelation.specs.Books.{HasMore, IsBookOf, code_at, is_noted, symbolic_reference_at};
 ghost use Rattle.call_revelation.specs.Books.{with_noted, with_use, with_uses};
 ghost use Rattle.call_revelation.specs.Tables.{list_at};
 
-use crate::namings::namings_of;
+use crate::code_references::symbolic_references_of;
 use crate::tables::{add_item, no_lists};
 use crate::uses::Use;
 use class_linker::Linker;
 use jf_bytes::{NoMemory, Seq};
-use jvm_named::{Naming, resolved_name};
+use jvm_named::{SymbolicReference, resolved_name};
 use std::alloc::Global;
 
 /// What was read of methods, by their numbers; and by the class that an instruction names all instructions that name it, and those
 /// that select by their receiver's class. Where memory ran out there are more of them than were read.
 #[derive(Drop)]
 pub struct Book {
-    pub codes: Seq<Option<Seq<Naming>>>,
+    pub codes: Seq<Option<Seq<SymbolicReference>>>,
     pub waiting: Vec<Seq<Use>>,
     pub calls: Vec<Seq<Use>>,
 }
 
 /// The class that an instruction names, where the program has one.
-pub fn class_of(linker: &Linker, naming: &Naming) -> Option<u32>
-    ensures { result ≡ class_named linker.now.program (resolved_name (naming_view naming.now)) }
+pub fn class_of(linker: &Linker, naming: &SymbolicReference) -> Option<u32>
+    ensures { result ≡ class_named linker.now.program (resolved_name (symbolic_view naming.now)) }
 {
     linker.index().class_named(resolved_name(naming).units())
 }
 
 /// Whether it names this class.
-pub fn names(linker: &Linker, naming: &Naming, class: u32) -> bool
-    ensures { result ≡ is_named linker.now.program class (resolved_name (naming_view naming.now)) }
+pub fn names(linker: &Linker, naming: &SymbolicReference, class: u32) -> bool
+    ensures { result ≡ is_named linker.now.program class
+        (resolved_name (symbolic_view naming.now)) }
 {
     match class_of(linker, naming) {
         Some(found) => found == class,
@@ -48,12 +49,12 @@ pub fn names(linker: &Linker, naming: &Naming, class: u32) -> bool
 }
 
 /// Whether an instruction is noted, where calls alone are: those that select by their receiver's class.
-fn is_noted(calls: bool, naming: &Naming) -> bool
-    ensures { result ≡ is_noted calls (naming_view naming.now) }
+fn is_noted(calls: bool, naming: &SymbolicReference) -> bool
+    ensures { result ≡ is_noted calls (symbolic_view naming.now) }
 {
     match naming {
-        Naming::Invokevirtual(_) => true,
-        Naming::Invokeinterface(_) => true,
+        SymbolicReference::Invokevirtual(_) => true,
+        SymbolicReference::Invokeinterface(_) => true,
         _ => !calls,
     }
 }
@@ -62,11 +63,11 @@ fn is_noted(calls: bool, naming: &Naming) -> bool
 fn note_use(
     linker: &Linker,
     lists: &mut [Seq<Use>],
-    naming: &Naming,
+    naming: &SymbolicReference,
     u: Use,
 ) -> Result<(), NoMemory>
     ensures { lists.new ≡ (if is_ok result
-        then with_use linker.now.program u (naming_view naming.now) lists.old else lists.old) }
+        then with_use linker.now.program u (symbolic_view naming.now) lists.old else lists.old) }
 {
     match class_of(linker, naming) {
         Some(class) => add_item(lists, class as usize, u),
@@ -79,11 +80,11 @@ fn note_one(
     linker: &Linker,
     lists: &mut [Seq<Use>],
     calls: bool,
-    naming: &Naming,
+    naming: &SymbolicReference,
     u: Use,
 ) -> Result<(), NoMemory>
     ensures { lists.new ≡ (if is_ok result
-        then with_noted linker.now.program calls u (naming_view naming.now) lists.old
+        then with_noted linker.now.program calls u (symbolic_view naming.now) lists.old
         else lists.old) }
 {
     if is_noted(calls, naming) {
@@ -99,10 +100,10 @@ fn note_uses(
     lists: &mut [Seq<Use>],
     calls: bool,
     caller: u32,
-    namings: &[Naming],
+    namings: &[SymbolicReference],
 ) -> Result<(), NoMemory>
     ensures noted { OnOk result (lists.new ≡ with_uses linker.now.program calls caller 0
-        (map naming_view namings.now) lists.old) }
+        (map symbolic_view namings.now) lists.old) }
     ensures more { HasMore lists.old lists.new }
 {
     for (at, naming) in namings.iter().enumerate() {
@@ -112,7 +113,7 @@ fn note_uses(
 }
 
 /// Nothing was read of so many methods.
-fn no_codes(alloc: Global, methods: usize) -> Result<Seq<Option<Seq<Naming>>>, NoMemory>
+fn no_codes(alloc: Global, methods: usize) -> Result<Seq<Option<Seq<SymbolicReference>>>, NoMemory>
     ensures { IfOk result (λ codes. codes ≡ replicate methods None) }
 {
     let mut codes = Seq::with_capacity(alloc, methods)?;
@@ -140,15 +141,15 @@ impl Book {
     }
 
     /// What was read of a method.
-    pub fn namings(&self, method: u32) -> Option<&Seq<Naming>>
+    pub fn namings(&self, method: u32) -> Option<&Seq<SymbolicReference>>
         ensures { option_copied result ≡ code_at self.now.codes method }
     {
         self.codes.get(method as usize)?.as_ref()
     }
 
     /// What an instruction names.
-    pub fn naming(&self, u: Use) -> Option<&Naming>
-        ensures { option_copied result ≡ naming_at self.now.codes u }
+    pub fn naming(&self, u: Use) -> Option<&SymbolicReference>
+        ensures { option_copied result ≡ symbolic_reference_at self.now.codes u }
     {
         self.namings(u.caller)?.get(u.at)
     }
@@ -186,7 +187,7 @@ impl Book {
         if self.namings(method).is_some() {
             return Ok(());
         }
-        let namings = namings_of(alloc, linker.program(), method)?;
+        let namings = symbolic_references_of(alloc, linker.program(), method)?;
         let named = namings.as_slice();
         note_uses(linker, self.waiting.as_mut_slice(), false, method, named)?;
         note_uses(linker, self.calls.as_mut_slice(), true, method, named)?;

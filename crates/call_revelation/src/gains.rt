@@ -4,7 +4,7 @@ ghost use Rattle.std.specs.Prelude.{◌≡◌, true, OnOk};
 ghost use Rattle.class_linker.specs.Linkers.{IsLoaded};
 ghost use Rattle.jvm_model.specs.Profiling.Revelation.{gained_on};
 ghost use Rattle.jvm_named.specs.Members.{reference_of};
-ghost use Rattle.jvm_named.specs.Names.{naming_view};
+ghost use Rattle.jvm_named.specs.Names.{symbolic_view};
 ghost use Rattle.jvm_named.specs.Numbers.{AreNumbers};
 ghost use Rattle.call_revelation.specs.Books.{called_by, called_on};
 ghost use Rattle.call_revelation.specs.Lineages.{selecting};
@@ -16,7 +16,7 @@ use crate::lookup::{method_found, selected_number};
 use class_index::Order;
 use class_linker::Linker;
 use jf_bytes::NoMemory;
-use jvm_named::{MemberName, MethodNumbers, Naming};
+use jvm_named::{MemberName, MethodNumbers, SymbolicReference};
 
 /// What a call that names a class begins on a new one.
 fn add_called_on(
@@ -44,25 +44,25 @@ fn add_called_on(
 }
 
 /// What an instruction that names a class begins on a new one, where it is a call.
-fn add_called_naming(
+fn add_called_reference(
     linker: &Linker,
     numbers: &MethodNumbers,
     new: u32,
     class: u32,
-    naming: &Naming,
+    naming: &SymbolicReference,
     found: &mut Order,
 ) -> Result<(), NoMemory>
     requires numbers { AreNumbers linker.now.program numbers.now }
     requires loaded { IsLoaded linker.now class }
     requires new { IsLoaded linker.now new }
     ensures { OnOk result (Adds found.old found.new
-        (called_on linker.now.program new class (naming_view naming.now))) }
+        (called_on linker.now.program new class (symbolic_view naming.now))) }
 {
     match naming {
-        Naming::Invokevirtual(method) => {
+        SymbolicReference::Invokevirtual(method) => {
             add_called_on(linker, numbers, false, new, class, method.member(), found)
         }
-        Naming::Invokeinterface(method) => {
+        SymbolicReference::Invokeinterface(method) => {
             add_called_on(linker, numbers, true, new, class, method.member(), found)
         }
         _ => Ok(()),
@@ -75,17 +75,17 @@ pub fn add_called(
     numbers: &MethodNumbers,
     new: u32,
     class: u32,
-    naming: &Naming,
+    naming: &SymbolicReference,
     found: &mut Order,
 ) -> Result<(), NoMemory>
     requires numbers { AreNumbers linker.now.program numbers.now }
     requires loaded { IsLoaded linker.now class }
     requires new { IsLoaded linker.now new }
     ensures { OnOk result (Adds found.old found.new
-        (called_by linker.now.program new class (naming_view naming.now))) }
+        (called_by linker.now.program new class (symbolic_view naming.now))) }
 {
     if names(linker, naming, class) {
-        add_called_naming(linker, numbers, new, class, naming, found)
+        add_called_reference(linker, numbers, new, class, naming, found)
     } else {
         Ok(())
     }

@@ -9,19 +9,19 @@ ghost use Rattle.jvm_model.specs.Soundness.Sound.{HasClass, HasLoadedCaller, IsF
 ghost use Rattle.jvm_model.specs.Profiling.Targets.{begun_by, targets};
 ghost use Rattle.class_index.specs.Orders.{with_classes};
 ghost use Rattle.class_linker.specs.Linkers.{IsLoaded};
-ghost use Rattle.jvm_named.specs.Names.{naming_view};
+ghost use Rattle.jvm_named.specs.Names.{symbolic_view};
 ghost use Rattle.jvm_named.specs.Numbers.{all_coded};
 ghost use Rattle.prepared_code.specs.Prepared.{HasShortCodes};
 ghost use Rattle.call_revelation.specs.Lineages.{AreKnown, IsLineage};
 ghost use Rattle.call_revelation.specs.Tables.{Adds, IsRising};
 
 use crate::begun::add_begun;
+use crate::code_references::symbolic_references_of;
 use crate::lineage::Lineage;
-use crate::namings::namings_of;
 use class_index::Order;
 use class_linker::Linker;
 use jf_bytes::{NoMemory, Seq};
-use jvm_named::{MethodNumbers, Naming};
+use jvm_named::{MethodNumbers, SymbolicReference};
 use std::alloc::Global;
 
 /// Classes more that are loaded.
@@ -55,14 +55,15 @@ pub fn add_all_begun(
     linker: &Linker,
     numbers: &MethodNumbers,
     lineage: &Lineage,
-    namings: &[Naming],
+    namings: &[SymbolicReference],
     found: &mut Order,
 ) -> Result<(), NoMemory>
     requires known { AreKnown linker.now numbers.now lineage.now }
     requires callers { AllByRecursion (λ n. HasLoadedCaller linker.now.program linker.now.loaded
-        (naming_view n)) namings.now }
+        (symbolic_view n)) namings.now }
     ensures { OnOk result (Adds found.old found.new
-        (flat_map (begun_by linker.now.program lineage.now.loaded) (map naming_view namings.now))) }
+        (flat_map (begun_by linker.now.program lineage.now.loaded)
+        (map symbolic_view namings.now))) }
 {
     for naming in namings {
         add_begun(alloc, linker, numbers, lineage, naming, found)?;
@@ -113,7 +114,7 @@ fn gathered(alloc: Global, method: u32, linker: &Linker) -> Result<Order, NoMemo
 {
     let numbers = MethodNumbers::new(alloc, linker.program())?;
     let lineage = lineage_of(alloc, linker)?;
-    let namings = namings_of(alloc, linker.program(), method)?;
+    let namings = symbolic_references_of(alloc, linker.program(), method)?;
     let mut found = Order::new(alloc);
     let namings = namings.as_slice();
     add_all_begun(alloc, linker, &numbers, &lineage, namings, &mut found)?;

@@ -4,6 +4,7 @@
 
 mod begun;
 mod book;
+mod code_references;
 mod entering;
 mod gains;
 mod gathering;
@@ -13,7 +14,6 @@ mod load_order;
 mod loading;
 mod lookup;
 mod named;
-mod namings;
 mod ranks;
 mod reveal;
 mod selecting;

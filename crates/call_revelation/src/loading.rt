@@ -10,9 +10,9 @@ ghost use Rattle.jvm_model.specs.Profiling.Revelation.{IsLoadOrder};
 ghost use Rattle.jvm_model.specs.Soundness.Sound.{HasSupertypes};
 ghost use Rattle.jvm_model.specs.Profiling.Targets.{begun_by};
 ghost use Rattle.class_linker.specs.Linkers.{IsLoaded};
-ghost use Rattle.jvm_named.specs.Names.{naming_view};
+ghost use Rattle.jvm_named.specs.Names.{symbolic_view};
 ghost use Rattle.call_revelation.specs.Books.{Begins, called_by, called_from};
-ghost use Rattle.call_revelation.specs.Books.{gathered, naming_at, of_entered};
+ghost use Rattle.call_revelation.specs.Books.{gathered, symbolic_reference_at, of_entered};
 ghost use Rattle.call_revelation.specs.CalledClasses.{AreHanded};
 ghost use Rattle.call_revelation.specs.Lineages.{IsLineage, LeadTo};
 ghost use Rattle.call_revelation.specs.Reveals.{IsAhead, IsFront, IsGrown, IsKept, IsRevelation};
@@ -29,7 +29,7 @@ use crate::uses::Use;
 use class_index::Order;
 use class_linker::Linker;
 use jf_bytes::NoMemory;
-use jvm_named::Naming;
+use jvm_named::SymbolicReference;
 use std::alloc::Global;
 
 /// The classes that a linker has loaded behind so many.
@@ -42,12 +42,13 @@ fn loaded_behind(linker: &Linker, count: usize) -> &[u32]
 
 impl Reveal {
     /// What an instruction names, where its method is entered.
-    fn entered_naming(&self, u: Use) -> Option<&Naming>
+    fn entered_reference(&self, u: Use) -> Option<&SymbolicReference>
         requires { (m : ℕ) → flag_at self.now.flags m ≡ is_among m self.now.entered }
         ensures begins { (f : Begins) → of_entered self.now.entered self.now.book.codes f u
-            ≡ option_map_or (λ n. f (naming_view n)) (option_copied result) [] }
+            ≡ option_map_or (λ n. f (symbolic_view n)) (option_copied result) [] }
         ensures entered { IfSome result (λ n. is_among u.caller self.now.entered ≡ true) }
-        ensures naming { IfSome result (λ n. naming_at self.now.book.codes u ≡ Some n.now) }
+        ensures naming { IfSome result
+            (λ n. symbolic_reference_at self.now.book.codes u ≡ Some n.now) }
     {
         if self.is_entered(u.caller) {
             self.book.naming(u)
@@ -73,7 +74,7 @@ impl Reveal {
         ensures { OnOk result (Adds found.old found.new (of_entered self.now.entered
             self.now.book.codes (called_by linker.now.program new class) u)) }
     {
-        match self.entered_naming(u) {
+        match self.entered_reference(u) {
             Some(naming) => add_called(linker, &self.numbers, new, class, naming, found),
             None => Ok(()),
         }
@@ -158,7 +159,7 @@ impl Reveal {
         ensures { OnOk result (Adds found.old found.new (of_entered self.now.entered
             self.now.book.codes (begun_by linker.now.program self.now.lineage.loaded) u)) }
     {
-        match self.entered_naming(u) {
+        match self.entered_reference(u) {
             Some(naming) => {
                 add_begun(alloc, linker, &self.numbers, &self.lineage, naming, found)
             }

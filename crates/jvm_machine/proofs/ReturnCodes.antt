@@ -14,9 +14,9 @@ use Rattle.code_model.specs.declared.instr.Arg.TheVariants as arg
 use Rattle.code_model.specs.declared.instr.Instr.{Instr}
 use Rattle.jvm_model.specs.declared.family.Family.{Family}
 use Rattle.jvm_model.specs.declared.family.Family.TheVariants as family
-use Rattle.jvm_model.specs.Basis.Data.{Arrange, BinaryOfInts, BinaryOfLongs, Branch, Constant, Datum, DivisionOfInts, DivisionOfLongs, Goto, Iinc, Jsr, Lcmp, LdcClass, LdcString, Load, Local, Named, Naming, Newarray, Nop, Operation, Ret, ShiftOfLong, Store, Switch, UnaryOfInt, UnaryOfLong, Within}
+use Rattle.jvm_model.specs.Basis.Data.{Arrange, BinaryOfInts, BinaryOfLongs, Branch, Constant, Datum, DivisionOfInts, DivisionOfLongs, Goto, Iinc, Jsr, Lcmp, LdcClass, LdcString, Load, Local, Named, SymbolicReference, Newarray, Nop, Operation, Ret, ShiftOfLong, Store, Switch, UnaryOfInt, UnaryOfLong, Within}
 use Rattle.jvm_model.specs.Basis.Families.{family_of, rows}
-use Rattle.jvm_model.specs.Codes.Lines.{ObjectRow, constant_in, given_operation, has_dimensions, increment_in, interface_naming, keys_in, multi_naming, named_by, naming_of, newarray_of, object_among, object_constant, object_constant_in, object_rows, operation_by, operation_of, other_operation, slot_in, target_in, value_in}
+use Rattle.jvm_model.specs.Codes.Lines.{ObjectRow, constant_in, given_operation, has_dimensions, increment_in, interface_reference, keys_in, array_reference, named_by, symbolic_reference_of, newarray_of, object_among, object_constant, object_constant_in, object_rows, operation_by, operation_of, other_operation, slot_in, target_in, value_in}
 use Rattle.jvm_model.specs.Turns.StepPauses.{is_return}
 use Rattle.jvm_model.specs.Rewriting.Versions.{is_return_opcode}
 use Rattle.jvm_model.proofs.Running.Opcodes.{all_below, all_below-each}
@@ -54,7 +54,7 @@ within-stays : {A : Type 0} (f : A → Local) → ((a : A) → is_return (Within
 within-stays f each None = none-stays
 within-stays f each (Some a) = some-stays (Within (f a)) (each a)
 
-named-stays : (x : Option Naming) → Stays (option_and_then named_by x)
+named-stays : (x : Option SymbolicReference) → Stays (option_and_then named_by x)
 named-stays None = none-stays
 named-stays (Some n) = by (has_dimensions n) where
   by : (b : Bool) → Stays (if b then Some (Named n) else None)
@@ -75,9 +75,9 @@ newarray-stays op code = by (op == 188 && is_in_range 4 11 code) where
   by false = none-stays
 
 other-stays : (c : ClassFile) (op : ℕ) (a : Arg) → Stays (other_operation c op a)
-other-stays c op (arg.Pool index) = named-stays (naming_of c op index)
-other-stays c op (arg.Interface index count zero) = named-stays (interface_naming c op index)
-other-stays c op (arg.Multi index dimensions) = named-stays (multi_naming c op index dimensions)
+other-stays c op (arg.Pool index) = named-stays (symbolic_reference_of c op index)
+other-stays c op (arg.Interface index count zero) = named-stays (interface_reference c op index)
+other-stays c op (arg.Multi index dimensions) = named-stays (array_reference c op index dimensions)
 other-stays c op (arg.Array code) = newarray-stays op code
 other-stays c op arg.Plain = among-stays object_rows op (refl, (refl, (refl, (refl, (refl, (refl, (refl, (refl, (refl, (refl, (refl, (refl, (refl, (refl, (refl, (refl, tt))))))))))))))))
 other-stays c op (arg.Value n) = none-stays

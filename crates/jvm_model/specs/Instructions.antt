@@ -1,11 +1,11 @@
 pub mod LocalRules
 pub mod ObjectRules
 pub mod Rules
-pub mod Naming
+pub mod SymbolicReference
 pub mod FieldRules
 pub mod CreationRules
 pub mod NativeRules
 pub mod InvocationRules
 pub mod ConstantRules
-pub mod NamingRules
+pub mod ReferenceRules
 pub mod Does

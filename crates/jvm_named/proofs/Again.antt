@@ -11,8 +11,8 @@ use Rattle.jvm_model.specs.Classes.Kinds.{Element, Primitive, Named, kind_named,
 use Rattle.jvm_model.specs.Classes.Load.{Fault, Loading, There, Begun, Fresh, behind_needs, by_standing, done, is_among, load_element, load_named, load_needs, load_of, needs_of, standing_of}
 use Rattle.jvm_model.specs.Basis.Programs.{class_named}
 use Rattle.jvm_model.proofs.Loading.LoadsAgain.{newly-again, newly-loaded}
-use Rattle.jvm_model.specs.Instructions.Naming.{Naming, kind_unless, newly_loaded, resolved_kind, resolved_name, resolves}
-use Rattle.jvm_model.specs.Instructions.NamingRules.{does_named}
+use Rattle.jvm_model.specs.Instructions.SymbolicReference.{SymbolicReference, kind_unless, newly_loaded, resolved_kind, resolved_name, resolves}
+use Rattle.jvm_model.specs.Instructions.ReferenceRules.{does_named}
 use Rattle.jvm_model.specs.Instructions.ObjectRules.{done as done_with}
 use Rattle.class_linker.specs.Linkers.{LinkerView}
 use Rattle.jvm_named.specs.declared.known.Known.{Known}
@@ -26,15 +26,15 @@ use Rattle.jvm_named.proofs.Attempted.{done_found, done_skipped}
 use Rattle.jvm_named.proofs.Loads.{Loads, loads}
 use Rattle.jvm_named.proofs.ObjectLemmas.{among-front, usable_more, with_more}
 
-nothing-by : (p : Program) (loaded : List ℕ) (n : Naming) (b : Bool) → load_of p loaded (resolved_name n) ≡ done loaded
+nothing-by : (p : Program) (loaded : List ℕ) (n : SymbolicReference) (b : Bool) → load_of p loaded (resolved_name n) ≡ done loaded
     → (if b then drop (length loaded) (load_of p loaded (resolved_name n)).loaded else []) ≡ []
 nothing-by p loaded n true is = ap (λ (l : Loading). drop (length loaded) l.loaded) is ∙ drop-length loaded
 nothing-by p loaded n false is = refl
 
-pub nothing-new : (p : Program) (loaded : List ℕ) (n : Naming) (o : Operands) → load_of p loaded (resolved_name n) ≡ done loaded → newly_loaded p loaded n o ≡ []
+pub nothing-new : (p : Program) (loaded : List ℕ) (n : SymbolicReference) (o : Operands) → load_of p loaded (resolved_name n) ≡ done loaded → newly_loaded p loaded n o ≡ []
 nothing-new p loaded n o is = nothing-by p loaded n (resolves n o) is
 
-pub same-shared : (p : Program) (n : Naming) (s : Shared) (f : FramesView) → load_of p s.loaded (resolved_name n) ≡ done s.loaded → shared_loaded p n s f ≡ s
+pub same-shared : (p : Program) (n : SymbolicReference) (s : Shared) (f : FramesView) → load_of p s.loaded (resolved_name n) ≡ done s.loaded → shared_loaded p n s f ≡ s
 same-shared p n s f is =
     ap (λ more. record s { loaded = s.loaded ++ more }) (nothing-new p s.loaded n (top_operands f.frames) is)
     ∙ ap (λ classes. record s { loaded = classes }) (append-nil s.loaded)
@@ -44,7 +44,7 @@ pub kind-there : (p : Program) (loaded name : List ℕ) (kind : ℕ) → load_of
 kind-there p loaded name kind is named =
     sym (ap (λ (l : Loading). kind_unless l.fault (kind_named p name)) is ∙ ap (λ o. kind_unless None o) named)
 
-module _ (l : LinkerView) (input : List ℕ) (n : Naming) (k : Known) (s : Shared) (f : FramesView)
+module _ (l : LinkerView) (input : List ℕ) (n : SymbolicReference) (k : Known) (s : Shared) (f : FramesView)
     (linked : l.loaded ≡ s.loaded) (known : IsKnown l n k) where
   loads-same : load_of l.program s.loaded (resolved_name n) ≡ done s.loaded
   loads-same = subst (λ classes. load_of l.program classes (resolved_name n) ≡ done classes) linked known.loads
@@ -63,7 +63,7 @@ module _ (l : LinkerView) (input : List ℕ) (n : Naming) (k : Known) (s : Share
 
 -- ---- behind a resolution there is nothing more to load
 
-pub loads-now : (p : Program) (before loaded : List ℕ) (n : Naming) (o : Operands) → loaded ≡ before ++ newly_loaded p before n o
+pub loads-now : (p : Program) (before loaded : List ℕ) (n : SymbolicReference) (o : Operands) → loaded ≡ before ++ newly_loaded p before n o
     → resolves n o ≡ true → (load_of p loaded (resolved_name n)).loaded ≡ loaded
 loads-now p before loaded n o is does =
     sym (newly-loaded p loaded n o does)
@@ -80,7 +80,7 @@ loads-done p loaded name kind found is =
     ap (λ classes. let v : Loading = record { loaded = classes; fault = (load_of p loaded name).fault } in v) is
     ∙ ap (λ o. let v : Loading = record { loaded = loaded; fault = o } in v) none
 
-pub loads-in : (l new : LinkerView) (before after : List ℕ) (n : Naming) (o : Operands) → new ≡ linker_with l after
+pub loads-in : (l new : LinkerView) (before after : List ℕ) (n : SymbolicReference) (o : Operands) → new ≡ linker_with l after
     → after ≡ before ++ newly_loaded l.program before n o → resolves n o ≡ true → (load_of new.program new.loaded (resolved_name n)).loaded ≡ new.loaded
 loads-in l new before after n o is more does =
     subst (λ (v : LinkerView). (load_of v.program v.loaded (resolved_name n)).loaded ≡ v.loaded) (sym is) (loads-now l.program before after n o more does)
@@ -118,27 +118,27 @@ loads-more p loaded more name is =
     by own (class, named, among) =
         (class, named, among-front class loaded more (ap (λ (l : Loading). is_among class l.loaded) (sym is) ∙ among))
 
-pub known-more : (l : LinkerView) (more : List ℕ) (n : Naming) (k : Known) → IsKnown l n k → IsKnown (with_more l more) n k
+pub known-more : (l : LinkerView) (more : List ℕ) (n : SymbolicReference) (k : Known) → IsKnown l n k → IsKnown (with_more l more) n k
 known-more l more n k is = record {
   resolved = record { named = is.resolved.named; dimensions = is.resolved.dimensions; usable = usable_more l more k.kind is.resolved.usable };
   loads = loads-more l.program l.loaded more (resolved_name n) is.loads;
   found = is.found;
 }
 
-pub loaded_again : (l : LinkerView) (n : Naming) (k : Known) (s : Shared) (f : FramesView) → l.loaded ≡ s.loaded → IsKnown l n k
+pub loaded_again : (l : LinkerView) (n : SymbolicReference) (k : Known) (s : Shared) (f : FramesView) → l.loaded ≡ s.loaded → IsKnown l n k
     → l.loaded ≡ loaded_for l.program n s f
 loaded_again l n k s f linked known =
     linked ∙ ap (λ (t : Shared). t.loaded)
     (sym (same-shared l.program n s f (subst (λ classes. load_of l.program classes (resolved_name n) ≡ done classes) linked known.loads)))
 
-pub loads_none : (l : LinkerView) (n : Naming) (k : Known) (s : Shared) (f : FramesView) → l.loaded ≡ s.loaded → IsKnown l n k
+pub loads_none : (l : LinkerView) (n : SymbolicReference) (k : Known) (s : Shared) (f : FramesView) → l.loaded ≡ s.loaded → IsKnown l n k
     → loads_nothing l.program s.loaded n (top_operands f.frames) ≡ true
 loads_none l n k s f linked known =
     ap (λ (classes : List ℕ). length classes == 0)
     (nothing-new l.program s.loaded n (top_operands f.frames) (subst (λ classes. load_of l.program classes (resolved_name n) ≡ done classes) linked known.loads))
 
 -- what is known behind a resolution
-pub known_found : (l : LinkerView) (n : Naming) (k : Known) → Ok k.kind ≡ resolved_kind l.program l.loaded (resolved_name n) → IsResolved l (resolved_name n) k.kind
+pub known_found : (l : LinkerView) (n : SymbolicReference) (k : Known) → Ok k.kind ≡ resolved_kind l.program l.loaded (resolved_name n) → IsResolved l (resolved_name n) k.kind
     → LoadsNothing l n → IsFoundAs k.found l.program k.kind n → IsKnown l n k
 known_found l n k found resolved loads as_found = record {
   resolved = resolved;

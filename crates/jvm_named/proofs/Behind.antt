@@ -8,8 +8,8 @@ use Rattle.jvm_model.specs.Basis.Data.{Locals, Operands, World, Next, Outcome, G
 use Rattle.jvm_model.specs.Instructions.FieldRules.{gets_of, held_of, kind_by, pushes_static, puts_into, putting_of, sets_static}
 use Rattle.jvm_model.specs.Instructions.InvocationRules.{Virtual, OfInterface, Special, arguments_by, invokes_on, invokes_with_static}
 use Rattle.jvm_model.specs.Instructions.LocalRules.{replaces}
-use Rattle.jvm_model.specs.Instructions.Naming.{◌>>=◌, Naming, New, Getfield, Putfield, Getstatic, Putstatic, Invokevirtual, Invokespecial, Invokestatic, Invokeinterface, Checkcast, Instanceof, Anewarray, Multianewarray, LdcClass, is_null, resolved_kind, resolved_name, resolves, unless_refused}
-use Rattle.jvm_model.specs.Instructions.NamingRules.{does_named}
+use Rattle.jvm_model.specs.Instructions.SymbolicReference.{◌>>=◌, SymbolicReference, New, Getfield, Putfield, Getstatic, Putstatic, Invokevirtual, Invokespecial, Invokestatic, Invokeinterface, Checkcast, Instanceof, Anewarray, Multianewarray, LdcClass, is_null, resolved_kind, resolved_name, resolves, unless_refused}
+use Rattle.jvm_model.specs.Instructions.ReferenceRules.{does_named}
 use Rattle.jvm_model.specs.Instructions.ObjectRules.{done}
 use Rattle.jvm_model.specs.Instructions.Rules.{initialized}
 use Rattle.jvm_model.specs.Basis.Values.{ref_of}
@@ -34,7 +34,7 @@ null-is : (b : Bool) (null rest : Done) → not b ≡ false → (if b then null 
 null-is true null rest is = refl
 null-is false null rest is = absurd (true_false is)
 
-pub behind : (w : World) (n : Naming) (s : Shared) (l : Locals) (o : Operands) → resolves n o ≡ true
+pub behind : (w : World) (n : SymbolicReference) (s : Shared) (l : Locals) (o : Operands) → resolves n o ≡ true
     → does_named w n s l o ≡ unless_refused s (resolved_kind w.program s.loaded (resolved_name n)) (λ kind. does_resolved w kind n s l o)
 behind w (New name) s l o is = refl
 behind w (Getfield r) s l o is =
@@ -68,7 +68,7 @@ behind w (Anewarray name) s l o is = refl
 behind w (Multianewarray name dimensions) s l o is = refl
 behind w (LdcClass name) s l o is = refl
 
-pub skipped : (w : World) (n : Naming) (s : Shared) (l : Locals) (o : Operands) → resolves n o ≡ false
+pub skipped : (w : World) (n : SymbolicReference) (s : Shared) (l : Locals) (o : Operands) → resolves n o ≡ false
     → does_named w n s l o ≡ done s (skips n l o)
 skipped w (Checkcast name) s l o is =
     null-is (is_null o) (done s (GoesOn l o Next))

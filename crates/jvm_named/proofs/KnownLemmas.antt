@@ -3,13 +3,13 @@ use Rattle.std.proofs.Common.{ℕ, List}
 use Rattle.jvm_model.specs.declared.program.Program.{Program}
 use Rattle.const_pool.specs.References.{Reference}
 use Rattle.jvm_model.specs.Instructions.InvocationRules.{Selecting, Virtual, OfInterface, Special}
-use Rattle.jvm_model.specs.Instructions.Naming.{Naming, New, Checkcast, Instanceof}
+use Rattle.jvm_model.specs.Instructions.SymbolicReference.{SymbolicReference, New, Checkcast, Instanceof}
 use Rattle.jvm_named.specs.declared.known.Found.{Found}
 use Rattle.jvm_named.specs.declared.known.Found.TheVariants as found
 use Rattle.jvm_named.specs.declared.known.Site.{Site}
-use Rattle.jvm_named.specs.Known.{IsClassFound, IsFoundAs, IsSite, IsSiteOf, naming_by}
+use Rattle.jvm_named.specs.Known.{IsClassFound, IsFoundAs, IsSite, IsSiteOf, symbolic_reference_by}
 
-pub class_found : (f : Found) (p : Program) (kind : ℕ) (n : Naming) → IsFoundAs f p kind n → IsClassFound f p kind
+pub class_found : (f : Found) (p : Program) (kind : ℕ) (n : SymbolicReference) → IsFoundAs f p kind n → IsClassFound f p kind
 class_found found.Nothing p kind n is = tt
 class_found (found.Field field slot last) p kind n is = tt
 class_found (found.Static field) p kind n is = tt
@@ -49,12 +49,12 @@ module _ (name : List ℕ) (p : Program) (kind : ℕ) where
 -- ---- invocations, whichever they are
 
 module _ (p : Program) (kind : ℕ) (r : Reference) (site : Site) where
-  pub site_of : (by : Selecting) → IsSite p kind by r site → IsSiteOf (naming_by by r) p kind site
+  pub site_of : (by : Selecting) → IsSite p kind by r site → IsSiteOf (symbolic_reference_by by r) p kind site
   site_of Virtual is = is
   site_of OfInterface is = is
   site_of (Special caller interface) is = is
 
-  pub of_site : (by : Selecting) → IsSiteOf (naming_by by r) p kind site → IsSite p kind by r site
+  pub of_site : (by : Selecting) → IsSiteOf (symbolic_reference_by by r) p kind site → IsSite p kind by r site
   of_site Virtual is = is
   of_site OfInterface is = is
   of_site (Special caller interface) is = is

@@ -9,7 +9,7 @@ use Rattle.const_pool.specs.References.{Reference}
 use Rattle.heap_objects.specs.Heaps.{with_slot_at}
 use Rattle.jvm_model.specs.Instructions.FieldRules.{Putting, field_owner, kind_by, puts_into, putting_of, slot_of}
 use Rattle.jvm_model.specs.Classes.Lookup.{MemberPlace}
-use Rattle.jvm_model.specs.Instructions.Naming.{unless_refused}
+use Rattle.jvm_model.specs.Instructions.SymbolicReference.{unless_refused}
 use Rattle.jvm_model.specs.Instructions.ObjectRules.{done}
 use Rattle.jvm_model.specs.declared.program.Program.{Program}
 use Rattle.jvm_model.specs.declared.state.Phase.{Phase}

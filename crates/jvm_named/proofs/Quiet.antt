@@ -14,7 +14,7 @@ use Rattle.heap_objects.specs.declared.datum.Datum.{Datum}
 use Rattle.jvm_model.specs.Basis.Data.{Locals, Operands, Outcome, Raises, Done}
 use Rattle.jvm_model.specs.Instructions.FieldRules.{Putting, gets_of, kind_by, held_of, puts_into, putting_of, sets_static}
 use Rattle.jvm_model.specs.Classes.Lookup.{MemberPlace}
-use Rattle.jvm_model.specs.Instructions.Naming.{unless_refused}
+use Rattle.jvm_model.specs.Instructions.SymbolicReference.{unless_refused}
 use Rattle.jvm_model.specs.Instructions.ObjectRules.{done, makes}
 use Rattle.jvm_model.specs.Instructions.Rules.{when_ready}
 use Rattle.jvm_model.specs.Basis.SharedState.{class_of_kind, phase_of}

@@ -8,7 +8,7 @@ use Rattle.jvm_model.specs.Basis.Data.{Raises}
 use Rattle.jvm_model.specs.Basis.KindNumbers.{user_count}
 use Rattle.jvm_model.specs.Classes.Kinds.{kind_named, meaning_of}
 use Rattle.jvm_model.specs.Classes.Load.{Fault, NoClass, Circular, Incompatible, error_of, is_among, load_of}
-use Rattle.jvm_model.specs.Instructions.Naming.{New as NewNaming, kind_unless, message_of, resolved_kind}
+use Rattle.jvm_model.specs.Instructions.SymbolicReference.{New as NewReference, kind_unless, message_of, resolved_kind}
 use Rattle.jvm_model.proofs.Loading.LoadsAgain.{newly-loaded}
 use Rattle.jvm_named.specs.Answers.{exception_name, exception_numbered}
 use Rattle.jvm_named.specs.Objects.{IsResolved, IsUsable}
@@ -27,7 +27,7 @@ pub record Fails (p : Program) (before name classes : List ℕ) (number : ℕ) (
   pub loaded : before ++ classes ≡ (load_of p before name).loaded
 
 whole : (p : Program) (before name : List ℕ) → before ++ drop (length before) (load_of p before name).loaded ≡ (load_of p before name).loaded
-whole p before name = newly-loaded p before (NewNaming name) [] refl
+whole p before name = newly-loaded p before (NewReference name) [] refl
 
 fault-name : (fault : Fault) → exception_name (exception_numbered (error_number (error_of fault))) ≡ error_of fault
 fault-name (NoClass name) = refl

@@ -12,13 +12,13 @@ use Rattle.jvm_model.specs.Instructions.InvocationRules.{Selecting, Special, arg
 use Rattle.jvm_model.specs.Basis.SharedState.{null_pointer}
 use Rattle.jvm_model.specs.Classes.Kinds.{kind_named}
 use Rattle.jvm_model.specs.Classes.Lookup.{MemberPlace}
-use Rattle.jvm_model.specs.Instructions.Naming.{◌>>=◌, is_below_kind, present, receiver}
+use Rattle.jvm_model.specs.Instructions.SymbolicReference.{◌>>=◌, is_below_kind, present, receiver}
 use Rattle.jvm_model.specs.Basis.SharedState.{class_of_kind}
 use Rattle.jvm_named.specs.declared.known.Chosen.{Chosen}
 use Rattle.jvm_named.specs.declared.known.Found.TheVariants as found
 use Rattle.jvm_named.specs.declared.known.Known.{Known}
 use Rattle.jvm_named.specs.declared.known.Site.{Site}
-use Rattle.jvm_named.specs.Known.{IsFoundAs, IsKnown, IsSite, naming_by}
+use Rattle.jvm_named.specs.Known.{IsFoundAs, IsKnown, IsSite, symbolic_reference_by}
 use Rattle.jvm_named.specs.Members.{at_place}
 use Rattle.jvm_named.specs.Objects.{class_at_kind}
 use Rattle.jvm_named.specs.Targets.{Target, data_in, instance_target, receiver_class, target_in}
@@ -87,11 +87,11 @@ pub special_kept : (p : Program) (kind : ℕ) (caller : List ℕ) (interface : B
 special_kept p kind caller interface r site last below is = record { named = is.named; below = below; chosen = is.chosen; callee = is.callee }
 
 module _ (l : LinkerView) (r : Reference) (interface : Bool) (known : Known) (site : Site) (is : known.found ≡ found.Selected site)
-    (was : IsKnown l (naming_by (selecting_by interface) r) known) where
+    (was : IsKnown l (symbolic_reference_by (selecting_by interface) r) known) where
   was-site : IsSite l.program known.kind (selecting_by interface) r site
   was-site =
       of_site l.program known.kind r site (selecting_by interface)
-      (subst (λ f. IsFoundAs f l.program known.kind (naming_by (selecting_by interface) r)) is was.found)
+      (subst (λ f. IsFoundAs f l.program known.kind (symbolic_reference_by (selecting_by interface) r)) is was.found)
 
   pub selection_of : IsSelection l.program (selection_for known.kind interface site)
   selection_of = record { below = was-site.below; chosen = was-site.chosen; callee = was-site.callee }

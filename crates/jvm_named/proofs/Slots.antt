@@ -18,7 +18,7 @@ use Rattle.jvm_model.specs.Basis.Data.{Locals, Operands, Next, GoesOn}
 use Rattle.jvm_model.specs.Instructions.FieldRules.{Putting, field_owner, has_field, puts_into, slot_of}
 use Rattle.jvm_model.specs.Classes.Kinds.{kind_named}
 use Rattle.jvm_model.specs.Classes.Lookup.{MemberPlace}
-use Rattle.jvm_model.specs.Instructions.Naming.{extends, is_below_kind, is_instance, unless_refused}
+use Rattle.jvm_model.specs.Instructions.SymbolicReference.{extends, is_below_kind, is_instance, unless_refused}
 use Rattle.jvm_model.specs.Instructions.ObjectRules.{done}
 use Rattle.jvm_named.specs.Fields.{has_field_at}
 use Rattle.jvm_named.specs.Objects.{class_at_kind}

@@ -14,7 +14,7 @@ use Rattle.jvm_model.specs.declared.state.Shared.{Shared}
 use Rattle.jvm_model.specs.Basis.Data.{Locals, Operands, World, Outcome, Done}
 use Rattle.jvm_model.specs.Instructions.InvocationRules.{Selecting, arguments_by, invokes_on, invokes_selected, invokes_with_static, names_interface, not_of_class, receiver_in, selected_by}
 use Rattle.jvm_model.specs.Classes.Lookup.{MemberPlace}
-use Rattle.jvm_model.specs.Instructions.Naming.{◌>>=◌, is_instance, present, receiver, unless_refused}
+use Rattle.jvm_model.specs.Instructions.SymbolicReference.{◌>>=◌, is_instance, present, receiver, unless_refused}
 use Rattle.jvm_model.specs.Instructions.ObjectRules.{done}
 use Rattle.jvm_model.specs.Instructions.Rules.{when_ready}
 use Rattle.jvm_model.specs.Basis.SharedState.{class_of, phase_of}

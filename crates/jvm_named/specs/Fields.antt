@@ -7,7 +7,7 @@ use Rattle.jvm_model.specs.declared.program.Program.{Program}
 use Rattle.jvm_model.specs.declared.state.Shared.{Shared}
 use Rattle.jvm_model.specs.Basis.Data.{Datum, Locals, Operands, Next, Outcome, GoesOn, Done}
 use Rattle.jvm_model.specs.Instructions.FieldRules as rules
-use Rattle.jvm_model.specs.Instructions.Naming.{extends, is_below_kind}
+use Rattle.jvm_model.specs.Instructions.SymbolicReference.{extends, is_below_kind}
 use Rattle.jvm_model.specs.Instructions.ObjectRules.{done}
 use Rattle.jvm_named.specs.declared.asked.Refusal.{Refusal}
 use Rattle.jvm_named.specs.declared.fields.Owner.{Owner}

@@ -8,7 +8,7 @@ use Rattle.jvm_model.specs.Instructions.CreationRules.{has_no_instances, is_text
 use Rattle.jvm_model.specs.Instructions.FieldRules.{slot_of}
 use Rattle.jvm_model.specs.Classes.Load.{done, load_of}
 use Rattle.jvm_model.specs.Instructions.InvocationRules.{Selecting, Virtual, OfInterface, Special, names_interface, selected_by}
-use Rattle.jvm_model.specs.Instructions.Naming.{Naming, Getfield, Putfield, Getstatic, Putstatic, Invokevirtual, Invokespecial, Invokestatic, Invokeinterface, is_below_kind, resolved_name}
+use Rattle.jvm_model.specs.Instructions.SymbolicReference.{SymbolicReference, Getfield, Putfield, Getstatic, Putstatic, Invokevirtual, Invokespecial, Invokestatic, Invokeinterface, is_below_kind, resolved_name}
 use Rattle.jvm_model.specs.Basis.SharedState.{class_of_kind}
 use Rattle.jvm_named.specs.declared.known.Chosen.{Chosen}
 use Rattle.jvm_named.specs.declared.known.Found.{Found}
@@ -30,13 +30,13 @@ pub record IsField (p : Program) (kind : ℕ) (r : Reference) (field : Place) (s
   pub stands : slot ≡ slot_of p (at_place field)
   pub own : has_field_at p (Some last) kind field.class ≡ true
 
-abbrev pub IsFieldOf : Naming → Program → ℕ → Place → ℕ → ℕ → Type 0
+abbrev pub IsFieldOf : SymbolicReference → Program → ℕ → Place → ℕ → ℕ → Type 0
 IsFieldOf (Getfield r) p kind field slot last = IsField p kind r field slot last
 IsFieldOf (Putfield r) p kind field slot last = IsField p kind r field slot last
 IsFieldOf n p kind field slot last = Unit {0}
 
 -- a static field that a name stands for
-abbrev pub IsStaticOf : Naming → Program → ℕ → Place → Type 0
+abbrev pub IsStaticOf : SymbolicReference → Program → ℕ → Place → Type 0
 IsStaticOf (Getstatic r) p kind field = field_found p kind true r ≡ Ok (at_place field)
 IsStaticOf (Putstatic r) p kind field = field_found p kind true r ≡ Ok (at_place field)
 IsStaticOf n p kind field = Unit {0}
@@ -48,7 +48,7 @@ pub record IsFixed (p : Program) (kind : ℕ) (r : Reference) (m : Chosen) : Typ
   pub named : method_found p kind false true r ≡ Ok (chosen_place m)
   pub callee : HasCallee p m
 
-abbrev pub IsFixedOf : Naming → Program → ℕ → Chosen → Type 0
+abbrev pub IsFixedOf : SymbolicReference → Program → ℕ → Chosen → Type 0
 IsFixedOf (Invokestatic r) p kind m = IsFixed p kind r m
 IsFixedOf n p kind m = Unit {0}
 
@@ -59,17 +59,17 @@ pub record IsSite (p : Program) (kind : ℕ) (by : Selecting) (r : Reference) (s
   pub chosen : selected_by p by (at_place site.method) (class_of_kind p site.last) ≡ Some (chosen_place site.chosen)
   pub callee : HasCallee p site.chosen
 
-abbrev pub IsSiteOf : Naming → Program → ℕ → Site → Type 0
+abbrev pub IsSiteOf : SymbolicReference → Program → ℕ → Site → Type 0
 IsSiteOf (Invokevirtual r) p kind site = IsSite p kind Virtual r site
 IsSiteOf (Invokeinterface r) p kind site = IsSite p kind OfInterface r site
 IsSiteOf (Invokespecial caller r interface) p kind site = IsSite p kind (Special caller interface) r site
 IsSiteOf n p kind site = Unit {0}
 
 -- the instruction that invokes so
-abbrev pub naming_by : Selecting → Reference → Naming
-naming_by Virtual r = Invokevirtual r
-naming_by OfInterface r = Invokeinterface r
-naming_by (Special caller interface) r = Invokespecial caller r interface
+abbrev pub symbolic_reference_by : Selecting → Reference → SymbolicReference
+symbolic_reference_by Virtual r = Invokevirtual r
+symbolic_reference_by OfInterface r = Invokeinterface r
+symbolic_reference_by (Special caller interface) r = Invokespecial caller r interface
 
 -- ---- classes
 
@@ -81,7 +81,7 @@ pub record IsMade (p : Program) (class : ℕ) (text : Bool) : Type 0 where
 -- ---- what is known
 
 -- what the member's name came to, where the class's was resolved to this kind: nothing of it is about what is loaded
-abbrev pub IsFoundAs : Found → Program → ℕ → Naming → Type 0
+abbrev pub IsFoundAs : Found → Program → ℕ → SymbolicReference → Type 0
 IsFoundAs found.Nothing p kind n = Unit {0}
 IsFoundAs (found.Field field slot last) p kind n = IsFieldOf n p kind field slot last
 IsFoundAs (found.Static field) p kind n = IsStaticOf n p kind field
@@ -97,11 +97,11 @@ IsClassFound (found.Below last) p kind = is_below_kind p (Some last) (Some kind)
 IsClassFound f p kind = Unit {0}
 
 -- resolving what the instruction names loads nothing, whether it throws or not
-abbrev pub LoadsNothing : LinkerView → Naming → Type 0
+abbrev pub LoadsNothing : LinkerView → SymbolicReference → Type 0
 LoadsNothing l n = (load_of l.program l.loaded (resolved_name n)).loaded ≡ l.loaded
 
 -- the kind that the class's name was resolved to, where resolving it loads nothing, and the member
-pub record IsKnown (l : LinkerView) (n : Naming) (k : Known) : Type 0 where
+pub record IsKnown (l : LinkerView) (n : SymbolicReference) (k : Known) : Type 0 where
   pub resolved : IsResolved l (resolved_name n) k.kind
   pub loads : load_of l.program l.loaded (resolved_name n) ≡ done l.loaded
   pub found : IsFoundAs k.found l.program k.kind n

@@ -6,7 +6,7 @@ use Rattle.const_pool.specs.declared.descriptor.Shape.{Shape}
 use Rattle.const_pool.specs.References.{Reference, name_type_of}
 use Rattle.jvm_model.specs.Basis.Descriptors.{shape_of}
 use Rattle.jvm_model.specs.Classes.Lookup.{MemberPlace, place_in}
-use Rattle.jvm_named.specs.declared.naming.MemberName.{MemberName}
+use Rattle.jvm_named.specs.declared.symbolic_reference.MemberName.{MemberName}
 use Rattle.jvm_named.specs.declared.place.Place.{Place}
 
 abbrev pub reference_of : MemberName → Reference

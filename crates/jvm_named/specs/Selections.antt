@@ -2,7 +2,7 @@
 use Rattle.std.specs.Prelude.{◌≡◌, ℕ, Bool, true, false, List, Option, Some, slice_get}
 use Rattle.jvm_model.specs.declared.program.Program.{Program}
 use Rattle.jvm_model.specs.Instructions.InvocationRules.{Selecting, Virtual, OfInterface, selected_by}
-use Rattle.jvm_model.specs.Instructions.Naming.{is_below_kind}
+use Rattle.jvm_model.specs.Instructions.SymbolicReference.{is_below_kind}
 use Rattle.jvm_model.specs.Basis.SharedState.{class_of_kind}
 use Rattle.jvm_named.specs.declared.known.Chosen.{Chosen}
 use Rattle.jvm_named.specs.declared.known.Site.{Site}

@@ -15,7 +15,7 @@ use Rattle.jvm_model.specs.declared.state.Shared.{Shared}
 use Rattle.jvm_model.specs.Basis.Data.{Locals, Operands, World, Outcome, Raises, Initializes, Done}
 use Rattle.jvm_model.specs.Instructions.InvocationRules.{Selecting, Virtual, OfInterface, Special, arguments_by, invokes_selected, names_interface, not_of_class, receiver_in, selected_by}
 use Rattle.jvm_model.specs.Classes.Lookup.{MemberPlace}
-use Rattle.jvm_model.specs.Instructions.Naming.{◌>>=◌, is_instance, present, receiver, unless_refused}
+use Rattle.jvm_model.specs.Instructions.SymbolicReference.{◌>>=◌, is_instance, present, receiver, unless_refused}
 use Rattle.jvm_model.specs.Basis.Programs.{class_named, name_at}
 use Rattle.jvm_model.specs.Basis.SharedState.{no_class_definition, phase_of}
 use Rattle.class_linker.specs.Linkers.{IsLoaded, LinkerView}

@@ -4,15 +4,15 @@ ghost use Rattle.std.specs.Prelude.{◌≡◌, ◌++◌, is_some, true, IfOk, If
 ghost use Rattle.class_linker.specs.Linkers.{IsLoaded};
 ghost use Rattle.frame_stack.specs.FrameLists.{top_operands};
 ghost use Rattle.jvm_model.specs.Basis.KindNumbers.{user_count};
-ghost use Rattle.jvm_model.specs.Instructions.Naming.{is_null, newly_loaded, resolved_name, resolves};
-ghost use Rattle.jvm_model.specs.Instructions.NamingRules.{does_named};
+ghost use Rattle.jvm_model.specs.Instructions.SymbolicReference.{is_null, newly_loaded, resolved_name, resolves};
+ghost use Rattle.jvm_model.specs.Instructions.ReferenceRules.{does_named};
 ghost use Rattle.jvm_named.specs.Answers.{Answers, Moves, Shares, answer_of, answer_view};
 ghost use Rattle.jvm_named.specs.Answers.{answer_by, frames_by, frames_of, shared_by, wrote_by};
 ghost use Rattle.jvm_named.specs.Attempts.{IsFound, attempts, linker_loaded, linker_with};
 ghost use Rattle.jvm_named.specs.Attempts.{loaded_for};
 ghost use Rattle.jvm_named.specs.Attempts.{is_loaded, loads_nothing, shared_loaded, world_over};
 ghost use Rattle.jvm_named.specs.Known.{IsKnown, LoadsNothing};
-ghost use Rattle.jvm_named.specs.Names.{naming_view};
+ghost use Rattle.jvm_named.specs.Names.{symbolic_view};
 ghost use Rattle.jvm_named.specs.Natives.{HasBuiltIn};
 ghost use Rattle.jvm_named.specs.Numbers.{AreNumbers};
 ghost use Rattle.jvm_named.specs.Objects.{AreLoaded, HasDimensions, HasLoadedCaller};
@@ -22,9 +22,9 @@ use crate::asked::{Asked, Refusal};
 use crate::doing::do_resolved;
 use crate::known::{Found, Known};
 use crate::moving::{keep, replace};
-use crate::naming::Naming;
 use crate::numbers::MethodNumbers;
 use crate::resolution::resolve;
+use crate::symbolic_reference::SymbolicReference;
 use class_linker::Linker;
 use frame_stack::Frames;
 use heap_objects::Value;
@@ -46,35 +46,35 @@ fn is_null(frames: &Frames) -> bool
 }
 
 /// Whether the instruction resolves what it names: checkcast and instanceof of null do not.
-fn resolves(frames: &Frames, naming: &Naming) -> bool
-    ensures { result ≡ resolves (naming_view naming.now) (top_operands frames.now.frames) }
+fn resolves(frames: &Frames, naming: &SymbolicReference) -> bool
+    ensures { result ≡ resolves (symbolic_view naming.now) (top_operands frames.now.frames) }
 {
     match naming {
-        Naming::Checkcast(_) => !is_null(frames),
-        Naming::Instanceof(_) => !is_null(frames),
+        SymbolicReference::Checkcast(_) => !is_null(frames),
+        SymbolicReference::Instanceof(_) => !is_null(frames),
         _ => true,
     }
 }
 
 /// The name of the class, or of the array type, that is resolved: of a member its class's.
-pub fn resolved_name(naming: &Naming) -> &Text16
-    ensures { result.now ≡ resolved_name (naming_view naming.now) }
+pub fn resolved_name(naming: &SymbolicReference) -> &Text16
+    ensures { result.now ≡ resolved_name (symbolic_view naming.now) }
 {
     match naming {
-        Naming::New(name) => name,
-        Naming::Getfield(member) => &member.class,
-        Naming::Putfield(member) => &member.class,
-        Naming::Getstatic(member) => &member.class,
-        Naming::Putstatic(member) => &member.class,
-        Naming::Invokevirtual(method) => method.class(),
-        Naming::Invokespecial(_, method, _) => method.class(),
-        Naming::Invokestatic(method) => method.class(),
-        Naming::Invokeinterface(method) => method.class(),
-        Naming::Checkcast(name) => name,
-        Naming::Instanceof(name) => name,
-        Naming::Anewarray(name) => name,
-        Naming::Multianewarray(name, _) => name,
-        Naming::LdcClass(name) => name,
+        SymbolicReference::New(name) => name,
+        SymbolicReference::Getfield(member) => &member.class,
+        SymbolicReference::Putfield(member) => &member.class,
+        SymbolicReference::Getstatic(member) => &member.class,
+        SymbolicReference::Putstatic(member) => &member.class,
+        SymbolicReference::Invokevirtual(method) => method.class(),
+        SymbolicReference::Invokespecial(_, method, _) => method.class(),
+        SymbolicReference::Invokestatic(method) => method.class(),
+        SymbolicReference::Invokeinterface(method) => method.class(),
+        SymbolicReference::Checkcast(name) => name,
+        SymbolicReference::Instanceof(name) => name,
+        SymbolicReference::Anewarray(name) => name,
+        SymbolicReference::Multianewarray(name, _) => name,
+        SymbolicReference::LdcClass(name) => name,
     }
 }
 
@@ -83,14 +83,14 @@ fn find(
     linker: &mut Linker,
     loaded: &mut Seq<u32>,
     frames: &Frames,
-    naming: &Naming,
+    naming: &SymbolicReference,
 ) -> Result<Option<Result<u32, Refusal>>, NoMemory>
     requires linked { linker.old.loaded ≡ loaded.old }
     requires root { IsLoaded linker.old (user_count linker.old.program) }
-    ensures found { IfOk result (λ found. IsFound linker.new (naming_view naming.now)
+    ensures found { IfOk result (λ found. IsFound linker.new (symbolic_view naming.now)
         (top_operands frames.now.frames) found) }
     ensures loaded { OnOk result (loaded.new ≡ loaded.old ++ newly_loaded linker.old.program
-        loaded.old (naming_view naming.now) (top_operands frames.now.frames)) }
+        loaded.old (symbolic_view naming.now) (top_operands frames.now.frames)) }
     ensures linker { OnOk result (linker.new ≡ linker_with linker.old loaded.new) }
     ensures program { linker.new.program ≡ linker.old.program }
 {
@@ -106,16 +106,17 @@ fn find_loaded(
     linker: &mut Linker,
     loaded: &mut Seq<u32>,
     frames: &Frames,
-    naming: &Naming,
+    naming: &SymbolicReference,
 ) -> Result<Option<Option<Result<u32, Refusal>>>, NoMemory>
     requires linked { linker.old.loaded ≡ loaded.old }
     requires root { IsLoaded linker.old (user_count linker.old.program) }
     ensures some { IfOk result (λ o. is_some o ≡ loads_nothing linker.old.program loaded.old
-        (naming_view naming.now) (top_operands frames.now.frames)) }
-    ensures found { IfOk result (λ o. IfSome o (λ found. IsFound linker.new (naming_view naming.now)
+        (symbolic_view naming.now) (top_operands frames.now.frames)) }
+    ensures found { IfOk result
+        (λ o. IfSome o (λ found. IsFound linker.new (symbolic_view naming.now)
         (top_operands frames.now.frames) found)) }
     ensures loaded { OnOk result (loaded.new ≡ loaded.old ++ newly_loaded linker.old.program
-        loaded.old (naming_view naming.now) (top_operands frames.now.frames)) }
+        loaded.old (symbolic_view naming.now) (top_operands frames.now.frames)) }
     ensures linker { OnOk result (linker.new ≡ linker_with linker.old loaded.new) }
     ensures program { linker.new.program ≡ linker.old.program }
 {
@@ -130,12 +131,12 @@ fn find_loaded(
 // ---- what is done then
 
 /// checkcast and instanceof of null.
-fn skip(frames: &mut Frames, naming: &Naming, next: u16) -> Asked
-    ensures answer { answer_view result ≡ answer_of (skips (naming_view naming.now)) frames.old }
-    ensures frames { frames.new ≡ frames_of (skips (naming_view naming.now)) next frames.old }
+fn skip(frames: &mut Frames, naming: &SymbolicReference, next: u16) -> Asked
+    ensures answer { answer_view result ≡ answer_of (skips (symbolic_view naming.now)) frames.old }
+    ensures frames { frames.new ≡ frames_of (skips (symbolic_view naming.now)) next frames.old }
 {
     match naming {
-        Naming::Instanceof(_) => replace(frames, Value::Int(0), next),
+        SymbolicReference::Instanceof(_) => replace(frames, Value::Int(0), next),
         _ => keep(frames, next),
     }
 }
@@ -150,32 +151,32 @@ fn do_found(
     frames: &mut Frames,
     input: &[u8],
     output: &mut Seq<u8>,
-    naming: &Naming,
+    naming: &SymbolicReference,
     found: Option<Result<u32, Refusal>>,
     next: u16,
     learnt: &mut Option<Known>,
 ) -> Result<Asked, NoMemory>
     requires linked { linker.now.loaded ≡ shared.old.loaded }
-    requires found { IsFound linker.now (naming_view naming.now)
+    requires found { IsFound linker.now (symbolic_view naming.now)
         (top_operands frames.old.frames) found }
-    requires loads { resolves (naming_view naming.now) (top_operands frames.old.frames) ≡ true →
-        LoadsNothing linker.now (naming_view naming.now) }
+    requires loads { resolves (symbolic_view naming.now) (top_operands frames.old.frames) ≡ true →
+        LoadsNothing linker.now (symbolic_view naming.now) }
     requires numbers { AreNumbers linker.now.program numbers.now }
     requires built_in { HasBuiltIn linker.now }
     requires objects { AreLoaded linker.now shared.old.heap }
-    requires caller { HasLoadedCaller linker.now (naming_view naming.now) }
-    requires dimensions { HasDimensions (naming_view naming.now) }
-    ensures answer { Answers result (does_named (world_over linker.now input.now) (naming_view
+    requires caller { HasLoadedCaller linker.now (symbolic_view naming.now) }
+    requires dimensions { HasDimensions (symbolic_view naming.now) }
+    ensures answer { Answers result (does_named (world_over linker.now input.now) (symbolic_view
         naming.now) shared.old) frames.old }
     ensures frames { Moves result frames.new (does_named (world_over linker.now input.now)
-        (naming_view naming.now) shared.old) next frames.old }
+        (symbolic_view naming.now) shared.old) next frames.old }
     ensures shared { Shares result shared.new (does_named (world_over linker.now input.now)
-        (naming_view naming.now) shared.old) frames.old }
+        (symbolic_view naming.now) shared.old) frames.old }
     ensures output { OnOk result (output.new ≡ output.old ++ wrote_by (does_named (world_over
-        linker.now input.now) (naming_view naming.now) shared.old) frames.old) }
+        linker.now input.now) (symbolic_view naming.now) shared.old) frames.old) }
     ensures objects { OnOk result (AreLoaded linker.now shared.new.heap) }
     ensures learnt { OnOk result (IfSome learnt.new
-        (λ known. IsKnown linker.now (naming_view naming.now) known)) }
+        (λ known. IsKnown linker.now (symbolic_view naming.now) known)) }
 {
     *learnt = None;
     match found {
@@ -205,7 +206,7 @@ pub fn attempt(
     frames: &mut Frames,
     input: &[u8],
     output: &mut Seq<u8>,
-    naming: &Naming,
+    naming: &SymbolicReference,
     next: u16,
     learnt: &mut Option<Known>,
 ) -> Result<Asked, NoMemory>
@@ -213,23 +214,23 @@ pub fn attempt(
     requires numbers { AreNumbers linker.old.program numbers.now }
     requires built_in { HasBuiltIn linker.old }
     requires objects { AreLoaded linker.old shared.old.heap }
-    requires caller { HasLoadedCaller linker.old (naming_view naming.now) }
-    requires dimensions { HasDimensions (naming_view naming.now) }
-    ensures answer { Answers result (attempts (world_over linker.old input.now) (naming_view
+    requires caller { HasLoadedCaller linker.old (symbolic_view naming.now) }
+    requires dimensions { HasDimensions (symbolic_view naming.now) }
+    ensures answer { Answers result (attempts (world_over linker.old input.now) (symbolic_view
         naming.now) shared.old frames.old) frames.old }
     ensures frames { Moves result frames.new (attempts (world_over linker.old input.now)
-        (naming_view naming.now) shared.old frames.old) next frames.old }
+        (symbolic_view naming.now) shared.old frames.old) next frames.old }
     ensures shared { Shares result shared.new (attempts (world_over linker.old input.now)
-        (naming_view naming.now) shared.old frames.old) frames.old }
+        (symbolic_view naming.now) shared.old frames.old) frames.old }
     ensures output { OnOk result (output.new ≡ output.old ++ wrote_by (attempts (world_over
-        linker.old input.now) (naming_view naming.now) shared.old frames.old) frames.old) }
+        linker.old input.now) (symbolic_view naming.now) shared.old frames.old) frames.old) }
     ensures linker { OnOk result (linker.new
-        ≡ linker_loaded (naming_view naming.now) shared.old linker.old frames.old) }
+        ≡ linker_loaded (symbolic_view naming.now) shared.old linker.old frames.old) }
     ensures program { linker.new.program ≡ linker.old.program }
     ensures built_in { OnOk result (HasBuiltIn linker.new) }
     ensures objects { OnOk result (AreLoaded linker.new shared.new.heap) }
     ensures learnt { OnOk result (IfSome learnt.new
-        (λ known. IsKnown linker.new (naming_view naming.now) known)) }
+        (λ known. IsKnown linker.new (symbolic_view naming.now) known)) }
 {
     let found = find(linker, &mut shared.loaded, frames, naming)?;
     do_found(
@@ -247,7 +248,7 @@ pub fn attempt_loaded(
     frames: &mut Frames,
     input: &[u8],
     output: &mut Seq<u8>,
-    naming: &Naming,
+    naming: &SymbolicReference,
     next: u16,
     learnt: &mut Option<Known>,
 ) -> Result<Option<Asked>, NoMemory>
@@ -255,33 +256,33 @@ pub fn attempt_loaded(
     requires numbers { AreNumbers linker.old.program numbers.now }
     requires built_in { HasBuiltIn linker.old }
     requires objects { AreLoaded linker.old shared.old.heap }
-    requires caller { HasLoadedCaller linker.old (naming_view naming.now) }
-    requires dimensions { HasDimensions (naming_view naming.now) }
+    requires caller { HasLoadedCaller linker.old (symbolic_view naming.now) }
+    requires dimensions { HasDimensions (symbolic_view naming.now) }
     ensures some { let w = world_over linker.old input.now in IfOk result
-        (λ a. is_some a ≡ is_loaded w (naming_view naming.now) shared.old frames.old) }
+        (λ a. is_some a ≡ is_loaded w (symbolic_view naming.now) shared.old frames.old) }
     ensures answer { let w = world_over linker.old input.now in
-        let rule = attempts w (naming_view naming.now) shared.old frames.old in
+        let rule = attempts w (symbolic_view naming.now) shared.old frames.old in
         IfOk result (λ a. IfSome a (λ a. answer_view a ≡ answer_by rule frames.old)) }
     ensures frames { let w = world_over linker.old input.now in
-        let rule = attempts w (naming_view naming.now) shared.old frames.old in
+        let rule = attempts w (symbolic_view naming.now) shared.old frames.old in
         IfOk result (λ a. IfSome a (λ _. frames.new ≡ frames_by rule next frames.old)) }
     ensures shared { let w = world_over linker.old input.now in
-        let rule = attempts w (naming_view naming.now) shared.old frames.old in
+        let rule = attempts w (symbolic_view naming.now) shared.old frames.old in
         IfOk result (λ a. IfSome a (λ _. shared.new ≡ shared_by rule frames.old)) }
     ensures output { let w = world_over linker.old input.now in
-        let rule = attempts w (naming_view naming.now) shared.old frames.old in
+        let rule = attempts w (symbolic_view naming.now) shared.old frames.old in
         IfOk result (λ a. IfSome a (λ _. output.new ≡ output.old ++ wrote_by rule frames.old)) }
     ensures same_frames { IfOk result (λ a. IfNone a (frames.new ≡ frames.old)) }
     ensures same_output { IfOk result (λ a. IfNone a (output.new ≡ output.old)) }
-    ensures loads { let n = naming_view naming.now in let p = linker.old.program in
+    ensures loads { let n = symbolic_view naming.now in let p = linker.old.program in
         IfOk result (λ a. IfNone a (shared.new ≡ shared_loaded p n shared.old frames.old)) }
     ensures linker { OnOk result (linker.new
-        ≡ linker_loaded (naming_view naming.now) shared.old linker.old frames.old) }
+        ≡ linker_loaded (symbolic_view naming.now) shared.old linker.old frames.old) }
     ensures program { linker.new.program ≡ linker.old.program }
     ensures built_in { OnOk result (HasBuiltIn linker.new) }
     ensures objects { OnOk result (AreLoaded linker.new shared.new.heap) }
     ensures learnt { OnOk result (IfSome learnt.new
-        (λ known. IsKnown linker.new (naming_view naming.now) known)) }
+        (λ known. IsKnown linker.new (symbolic_view naming.now) known)) }
 {
     let Some(found) = find_loaded(linker, &mut shared.loaded, frames, naming)? else {
         *learnt = None;
@@ -306,31 +307,31 @@ pub fn attempt_known(
     frames: &mut Frames,
     input: &[u8],
     output: &mut Seq<u8>,
-    naming: &Naming,
+    naming: &SymbolicReference,
     next: u16,
     known: &mut Known,
 ) -> Result<Asked, NoMemory>
     requires linked { linker.now.loaded ≡ shared.old.loaded }
-    requires known { IsKnown linker.now (naming_view naming.now) known.old }
+    requires known { IsKnown linker.now (symbolic_view naming.now) known.old }
     requires numbers { AreNumbers linker.now.program numbers.now }
     requires built_in { HasBuiltIn linker.now }
     requires objects { AreLoaded linker.now shared.old.heap }
-    requires caller { HasLoadedCaller linker.now (naming_view naming.now) }
-    requires dimensions { HasDimensions (naming_view naming.now) }
-    ensures answer { Answers result (attempts (world_over linker.now input.now) (naming_view
+    requires caller { HasLoadedCaller linker.now (symbolic_view naming.now) }
+    requires dimensions { HasDimensions (symbolic_view naming.now) }
+    ensures answer { Answers result (attempts (world_over linker.now input.now) (symbolic_view
         naming.now) shared.old frames.old) frames.old }
     ensures frames { Moves result frames.new (attempts (world_over linker.now input.now)
-        (naming_view naming.now) shared.old frames.old) next frames.old }
+        (symbolic_view naming.now) shared.old frames.old) next frames.old }
     ensures shared { Shares result shared.new (attempts (world_over linker.now input.now)
-        (naming_view naming.now) shared.old frames.old) frames.old }
+        (symbolic_view naming.now) shared.old frames.old) frames.old }
     ensures output { OnOk result (output.new ≡ output.old ++ wrote_by (attempts (world_over
-        linker.now input.now) (naming_view naming.now) shared.old frames.old) frames.old) }
+        linker.now input.now) (symbolic_view naming.now) shared.old frames.old) frames.old) }
     ensures loaded { linker.now.loaded
-        ≡ loaded_for linker.now.program (naming_view naming.now) shared.old frames.old }
+        ≡ loaded_for linker.now.program (symbolic_view naming.now) shared.old frames.old }
     ensures loads { let w = world_over linker.now input.now in
-        is_loaded w (naming_view naming.now) shared.old frames.old ≡ true }
+        is_loaded w (symbolic_view naming.now) shared.old frames.old ≡ true }
     ensures objects { OnOk result (AreLoaded linker.now shared.new.heap) }
-    ensures known { IsKnown linker.now (naming_view naming.now) known.new }
+    ensures known { IsKnown linker.now (symbolic_view naming.now) known.new }
 {
     if !resolves(frames, naming) {
         return Ok(skip(frames, naming, next));

@@ -7,14 +7,14 @@ ghost use Rattle.frame_stack.specs.FrameLists.{top_operands};
 ghost use Rattle.jvm_basic.specs.Outcomes.{top_locals};
 ghost use Rattle.jvm_model.specs.Instructions.InvocationRules.{OfInterface, Special, Virtual};
 ghost use Rattle.jvm_model.specs.Instructions.InvocationRules.{invokes_native, invokes_selected};
-ghost use Rattle.jvm_model.specs.Instructions.Naming as model;
-ghost use Rattle.jvm_model.specs.Instructions.Naming.{Invokeinterface, Invokespecial, Invokestatic};
-ghost use Rattle.jvm_model.specs.Instructions.Naming.{Invokevirtual};
+ghost use Rattle.jvm_model.specs.Instructions.SymbolicReference as model;
+ghost use Rattle.jvm_model.specs.Instructions.SymbolicReference.{Invokeinterface, Invokespecial, Invokestatic};
+ghost use Rattle.jvm_model.specs.Instructions.SymbolicReference.{Invokevirtual};
 ghost use Rattle.jvm_named.specs.Answers.{Answers, Moves, Shares, wrote_by};
 ghost use Rattle.jvm_named.specs.Attempts.{world_over};
 ghost use Rattle.jvm_named.specs.Callees.{HasCallee, chosen_place};
 ghost use Rattle.jvm_named.specs.Does.{Does, changed};
-ghost use Rattle.jvm_named.specs.Known.{IsFoundAs, naming_by};
+ghost use Rattle.jvm_named.specs.Known.{IsFoundAs, symbolic_reference_by};
 ghost use Rattle.jvm_named.specs.Natives.{HasBuiltIn};
 ghost use Rattle.jvm_named.specs.Numbers.{AreNumbers};
 ghost use Rattle.jvm_named.specs.Objects.{AreLoaded, HasLoadedCaller, IsResolved};
@@ -25,10 +25,10 @@ ghost use Rattle.jvm_named.specs.Targets.{HasCaller, selecting_view, data_in};
 use crate::asked::{Asked, Exception, Refusal};
 use crate::instances::user_count;
 use crate::known::{Callee, Chosen, Found};
-use crate::naming::MethodName;
 use crate::natives::{run_native, run_numbered};
 use crate::numbers::MethodNumbers;
 use crate::place::Place;
+use crate::symbolic_reference::MethodName;
 use crate::targets::{Selecting, instance_target, is_abstract, static_target};
 use class_linker::Linker;
 use frame_stack::Frames;
@@ -196,7 +196,7 @@ fn invoke_instance(
     requires resolved { IsResolved linker.now method.now.class kind }
     requires caller { HasCaller linker.now (selecting_view by) }
     requires found { IsFoundAs found.old linker.now.program kind
-        (naming_by (selecting_view by) method.now) }
+        (symbolic_reference_by (selecting_view by) method.now) }
     requires numbers { AreNumbers linker.now.program numbers.now }
     requires linked { linker.now.loaded ≡ shared.old.loaded }
     requires built_in { HasBuiltIn linker.now }
@@ -208,7 +208,7 @@ fn invoke_instance(
         (changed frames.new shared.new output.new) }
     ensures objects { OnOk result (AreLoaded linker.now shared.new.heap) }
     ensures found { IsFoundAs found.new linker.now.program kind
-        (naming_by (selecting_view by.entry) method.now) }
+        (symbolic_reference_by (selecting_view by.entry) method.now) }
 {
     match instance_target(
         linker,

@@ -4,7 +4,7 @@ ghost use Rattle.std.specs.Prelude.{◌≡◌, pos, Some};
 ghost use Rattle.heap_objects.specs.declared.Value.TheVariants.{Int};
 ghost use Rattle.jvm_model.specs.Instructions.CreationRules.{answers, casts_to, int_for};
 ghost use Rattle.jvm_model.specs.Classes.Kinds.{kind_named};
-ghost use Rattle.jvm_model.specs.Instructions.Naming.{is_instance};
+ghost use Rattle.jvm_model.specs.Instructions.SymbolicReference.{is_instance};
 ghost use Rattle.jvm_model.specs.Basis.Values.{ref_of};
 ghost use Rattle.jvm_named.specs.Answers.{answer_of, answer_view, frames_of};
 ghost use Rattle.jvm_named.specs.Known.{IsClassFound};

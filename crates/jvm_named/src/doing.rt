@@ -1,11 +1,11 @@
 //! What an instruction that names a class or a member does, where the name was resolved.
 
 ghost use Rattle.std.specs.Prelude.{◌≡◌, ◌++◌, OnOk};
-ghost use Rattle.jvm_model.specs.Instructions.Naming.{resolved_name};
+ghost use Rattle.jvm_model.specs.Instructions.SymbolicReference.{resolved_name};
 ghost use Rattle.jvm_named.specs.Answers.{Answers, Moves, Shares, wrote_by};
 ghost use Rattle.jvm_named.specs.Attempts.{world_over};
 ghost use Rattle.jvm_named.specs.Known.{IsFoundAs};
-ghost use Rattle.jvm_named.specs.Names.{naming_view};
+ghost use Rattle.jvm_named.specs.Names.{symbolic_view};
 ghost use Rattle.jvm_named.specs.Natives.{HasBuiltIn};
 ghost use Rattle.jvm_named.specs.Numbers.{AreNumbers};
 ghost use Rattle.jvm_named.specs.Objects.{AreLoaded, HasDimensions, HasLoadedCaller, IsResolved};
@@ -20,9 +20,9 @@ use crate::creation::make_new;
 use crate::fields::{get_field, put_field};
 use crate::known::Found;
 use crate::multi_arrays::make_arrays;
-use crate::naming::Naming;
 use crate::numbers::MethodNumbers;
 use crate::statics::{get_static, put_static};
+use crate::symbolic_reference::SymbolicReference;
 use class_linker::Linker;
 use frame_stack::Frames;
 use jf_bytes::{NoMemory, Seq};
@@ -40,67 +40,73 @@ pub fn do_resolved(
     frames: &mut Frames,
     input: &[u8],
     output: &mut Seq<u8>,
-    naming: &Naming,
+    naming: &SymbolicReference,
     kind: u32,
     found: &mut Found,
     next: u16,
 ) -> Result<Asked, NoMemory>
     requires linked { linker.now.loaded ≡ shared.old.loaded }
-    requires resolved { IsResolved linker.now (resolved_name (naming_view naming.now)) kind }
-    requires found { IsFoundAs found.old linker.now.program kind (naming_view naming.now) }
+    requires resolved { IsResolved linker.now (resolved_name (symbolic_view naming.now)) kind }
+    requires found { IsFoundAs found.old linker.now.program kind (symbolic_view naming.now) }
     requires numbers { AreNumbers linker.now.program numbers.now }
     requires built_in { HasBuiltIn linker.now }
     requires objects { AreLoaded linker.now shared.old.heap }
-    requires caller { HasLoadedCaller linker.now (naming_view naming.now) }
-    requires dimensions { HasDimensions (naming_view naming.now) }
+    requires caller { HasLoadedCaller linker.now (symbolic_view naming.now) }
+    requires dimensions { HasDimensions (symbolic_view naming.now) }
     ensures answer { Answers result (does_resolved (world_over linker.now input.now) kind
-        (naming_view naming.now) shared.old) frames.old }
+        (symbolic_view naming.now) shared.old) frames.old }
     ensures frames { Moves result frames.new (does_resolved (world_over linker.now input.now) kind
-        (naming_view naming.now) shared.old) next frames.old }
+        (symbolic_view naming.now) shared.old) next frames.old }
     ensures shared { Shares result shared.new (does_resolved (world_over linker.now input.now) kind
-        (naming_view naming.now) shared.old) frames.old }
+        (symbolic_view naming.now) shared.old) frames.old }
     ensures output { OnOk result (output.new ≡ output.old ++ wrote_by (does_resolved (world_over
-        linker.now input.now) kind (naming_view naming.now) shared.old) frames.old) }
+        linker.now input.now) kind (symbolic_view naming.now) shared.old) frames.old) }
     ensures objects { OnOk result (AreLoaded linker.now shared.new.heap) }
-    ensures found { IsFoundAs found.new linker.now.program kind (naming_view naming.now) }
+    ensures found { IsFoundAs found.new linker.now.program kind (symbolic_view naming.now) }
 {
     match naming {
-        Naming::New(_) => make_new(alloc, linker, shared, frames, kind, found, next),
-        Naming::Getfield(member) => get_field(linker, shared, frames, member, kind, found, next),
-        Naming::Putfield(member) => put_field(linker, shared, frames, member, kind, found, next),
-        Naming::Getstatic(member) => get_static(
+        SymbolicReference::New(_) => make_new(alloc, linker, shared, frames, kind, found, next),
+        SymbolicReference::Getfield(member) => get_field(
+            linker, shared, frames, member, kind, found, next,
+        ),
+        SymbolicReference::Putfield(member) => put_field(
+            linker, shared, frames, member, kind, found, next,
+        ),
+        SymbolicReference::Getstatic(member) => get_static(
             alloc, linker, shared, frames, member, kind, found, next,
         ),
-        Naming::Putstatic(member) => put_static(
+        SymbolicReference::Putstatic(member) => put_static(
             alloc, linker, shared, frames, member, kind, found, next,
         ),
-        Naming::Invokevirtual(method) => {
+        SymbolicReference::Invokevirtual(method) => {
             invoke_virtual(
                 alloc, linker, numbers, shared, frames, input, output, method, kind, found, next,
             )
         }
-        Naming::Invokespecial(caller, method, interface) => invoke_special(
+        SymbolicReference::Invokespecial(caller, method, interface) => invoke_special(
             alloc, linker, numbers, shared, frames, input, output, caller, *interface, method,
             kind, found, next,
         ),
-        Naming::Invokestatic(method) => {
+        SymbolicReference::Invokestatic(method) => {
             invoke_static(
                 alloc, linker, numbers, shared, frames, input, output, method, kind, found, next,
             )
         }
-        Naming::Invokeinterface(method) => {
+        SymbolicReference::Invokeinterface(method) => {
             invoke_interface(
                 alloc, linker, numbers, shared, frames, input, output, method, kind, found, next,
             )
         }
-        Naming::Checkcast(name) => Ok(cast(linker, shared, frames, name, kind, found, next)),
-        Naming::Instanceof(name) => {
+        SymbolicReference::Checkcast(name) => Ok(cast(
+            linker, shared, frames, name, kind, found, next,
+        )),
+        SymbolicReference::Instanceof(name) => {
             Ok(tell_instance(linker, shared, frames, name, kind, found, next))
         }
-        Naming::Anewarray(_) => make_array_of(linker, shared, frames, kind, next),
-        Naming::Multianewarray(_, dimensions) => {
+        SymbolicReference::Anewarray(_) => make_array_of(linker, shared, frames, kind, next),
+        SymbolicReference::Multianewarray(_, dimensions) => {
             make_arrays(alloc, linker, shared, frames, kind, *dimensions, next)
         }
-        Naming::LdcClass(_) => push_class_object(linker, shared, frames, kind, next),
+        SymbolicReference::LdcClass(_) => push_class_object(linker, shared, frames, kind, next),
     }
 }

@@ -9,7 +9,7 @@ ghost use Rattle.jvm_model.specs.Instructions.FieldRules.{field_owner, fields_be
 ghost use Rattle.jvm_model.specs.Instructions.FieldRules.{puts_into, putting_of, slot_of};
 ghost use Rattle.jvm_model.specs.Classes.Kinds.{kind_named};
 ghost use Rattle.jvm_model.specs.Instructions.LocalRules.{replaces};
-ghost use Rattle.jvm_model.specs.Instructions.Naming.{Getfield, Putfield, extends};
+ghost use Rattle.jvm_model.specs.Instructions.SymbolicReference.{Getfield, Putfield, extends};
 ghost use Rattle.jvm_model.specs.Basis.Values.{as_value, ref_of};
 ghost use Rattle.class_linker.specs.Linkers.{IsLoaded};
 ghost use Rattle.jvm_named.specs.Answers.{Answers, Moves, Shares, answer_by, answer_of};
@@ -27,8 +27,8 @@ use crate::instances::{class_of_kind, kind_of_object};
 use crate::known::Found;
 use crate::members::field_found;
 use crate::moving::{drop_two, replace};
-use crate::naming::MemberName;
 use crate::place::Place;
+use crate::symbolic_reference::MemberName;
 use crate::values::datum_of;
 use class_index::{STATIC, has_flag};
 use class_linker::Linker;

@@ -3,7 +3,7 @@
 ghost use Rattle.std.specs.Prelude.{◌≡◌, ◌≤◌, IfSome, Some};
 ghost use Rattle.heap_objects.specs.Heaps.{kind_at};
 ghost use Rattle.jvm_model.specs.Basis.KindNumbers.{class_of_base, user_count};
-ghost use Rattle.jvm_model.specs.Instructions.Naming.{is_below_kind};
+ghost use Rattle.jvm_model.specs.Instructions.SymbolicReference.{is_below_kind};
 ghost use Rattle.jvm_model.specs.Basis.SharedState.{class_of_kind};
 ghost use Rattle.jvm_named.specs.Objects.{AreLoaded, IsUsable};
 

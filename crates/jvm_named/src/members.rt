@@ -4,7 +4,7 @@ ghost use Rattle.std.specs.Prelude.{◌≡◌};
 ghost use Rattle.class_linker.specs.Linkers.{IsLoaded};
 ghost use Rattle.jvm_model.specs.Instructions.FieldRules.{is_static_field};
 ghost use Rattle.jvm_model.specs.Classes.Lookup.{resolved_field};
-ghost use Rattle.jvm_model.specs.Instructions.Naming.{found};
+ghost use Rattle.jvm_model.specs.Instructions.SymbolicReference.{found};
 ghost use Rattle.jvm_model.specs.Basis.SharedState.{class_of_kind};
 ghost use Rattle.jvm_named.specs.Answers.{place_found};
 ghost use Rattle.jvm_named.specs.Members.{at_place, reference_of};
@@ -13,9 +13,9 @@ ghost use Rattle.jvm_named.specs.Resolved.{field_found};
 
 use crate::asked::{Exception, Refusal};
 use crate::instances::class_of_kind;
-use crate::naming::MemberName;
 use crate::place::Place;
 use crate::resolution::exception_numbered;
+use crate::symbolic_reference::MemberName;
 use class_index::{STATIC, has_flag};
 use class_linker::{Linker, Resolved};
 

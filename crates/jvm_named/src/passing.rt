@@ -7,13 +7,13 @@ ghost use Rattle.std.specs.Option.{option_map};
 ghost use Rattle.jvm_basic.specs.Outcomes.{top_locals};
 ghost use Rattle.jvm_model.specs.Instructions.InvocationRules.{invokes_selected};
 ghost use Rattle.frame_stack.specs.FrameLists.{top_operands};
-ghost use Rattle.jvm_model.specs.Instructions.Naming.{Getfield, Getstatic, Invokestatic, Putfield, Putstatic};
+ghost use Rattle.jvm_model.specs.Instructions.SymbolicReference.{Getfield, Getstatic, Invokestatic, Putfield, Putstatic};
 ghost use Rattle.jvm_named.specs.Answers.{answer_view, done_on};
 ghost use Rattle.jvm_named.specs.Attempts.{attempts, loads_nothing, world_over};
 ghost use Rattle.jvm_named.specs.Callees.{HasCallee, chosen_place};
-ghost use Rattle.jvm_named.specs.Known.{IsFixed, IsFoundAs, IsKnown, IsSite, naming_by};
+ghost use Rattle.jvm_named.specs.Known.{IsFixed, IsFoundAs, IsKnown, IsSite, symbolic_reference_by};
 ghost use Rattle.jvm_named.specs.Members.{reference_of};
-ghost use Rattle.jvm_named.specs.Names.{naming_view};
+ghost use Rattle.jvm_named.specs.Names.{symbolic_view};
 ghost use Rattle.jvm_named.specs.Objects.{AreLoaded, IsResolved, IsUsable};
 ghost use Rattle.jvm_named.specs.Passing.{IfPassed, IsCall, IsInvoked, is_next, is_usable};
 ghost use Rattle.jvm_model.specs.declared.program.Program.{Program};
@@ -31,11 +31,11 @@ use crate::held::held_by;
 use crate::instances::kind_of_object;
 use crate::known::{Callee, Chosen, Found, Known, Site};
 use crate::moving::{drop_one, drop_two};
-use crate::naming::{MemberName, MethodName, Naming};
 use crate::receivers::{argument_count, receiver_below};
 use crate::selections::Selections;
 use crate::static_fields::set_static;
 use crate::statics::{held_of, push_field};
+use crate::symbolic_reference::{MemberName, MethodName, SymbolicReference};
 use crate::targets::{Selecting, Target};
 use class_linker::Linker;
 use frame_stack::Frames;
@@ -371,7 +371,7 @@ fn instance_call(
     requires resolved { IsResolved linker.now method.now.class kind }
     requires selections { AreSelections linker.now.program selections.now }
     requires found { IsFoundAs known linker.now.program kind
-        (naming_by (selecting_view by) method.now) }
+        (symbolic_reference_by (selecting_view by) method.now) }
     ensures { (input : List ℕ) → let w = world_over linker.now input in
         let r = method.now in
         let rule = invokes_instance w kind (selecting_view by.entry) r shared.now in
@@ -396,35 +396,35 @@ pub fn known_call(
     selections: &Selections,
     shared: &Shared,
     frames: &Frames,
-    naming: &Naming,
+    naming: &SymbolicReference,
     known: &Known,
 ) -> Option<Invoked>
     requires linked { linker.now.loaded ≡ shared.now.loaded }
-    requires known { IsKnown linker.now (naming_view naming.now) known.now }
+    requires known { IsKnown linker.now (symbolic_view naming.now) known.now }
     requires selections { AreSelections linker.now.program selections.now }
     requires objects { AreLoaded linker.now shared.now.heap }
     ensures called { (input : List ℕ) → let w = world_over linker.now input in
-        let d = done_on (attempts w (naming_view naming.now) shared.now frames.now) frames.now in
+        let d = done_on (attempts w (symbolic_view naming.now) shared.now frames.now) frames.now in
         IfSome result (λ c. IsInvoked w c d shared.now frames.now.frames) }
-    ensures loads { let n = naming_view naming.now in loads_nothing linker.now.program
+    ensures loads { let n = symbolic_view naming.now in loads_nothing linker.now.program
         shared.now.loaded n (top_operands frames.now.frames) ≡ true }
 {
     let kind = known.kind;
     match naming {
-        Naming::Invokestatic(method) => {
+        SymbolicReference::Invokestatic(method) => {
             static_call(linker, shared, frames, method, kind, known.found)
         }
-        Naming::Invokevirtual(method) => {
+        SymbolicReference::Invokevirtual(method) => {
             let by = Selecting::Virtual;
             let found = known.found;
             instance_call(linker, selections, shared, frames, by, method, kind, found)
         }
-        Naming::Invokeinterface(method) => {
+        SymbolicReference::Invokeinterface(method) => {
             let by = Selecting::OfInterface;
             let found = known.found;
             instance_call(linker, selections, shared, frames, by, method, kind, found)
         }
-        Naming::Invokespecial(caller, method, interface) => {
+        SymbolicReference::Invokespecial(caller, method, interface) => {
             let by = Selecting::Special(caller, *interface);
             let found = known.found;
             instance_call(linker, selections, shared, frames, by, method, kind, found)
@@ -439,17 +439,17 @@ pub fn known_code(
     selections: &Selections,
     shared: &Shared,
     frames: &Frames,
-    naming: &Naming,
+    naming: &SymbolicReference,
     known: &Known,
 ) -> Option<Call>
     requires linked { linker.now.loaded ≡ shared.now.loaded }
-    requires known { IsKnown linker.now (naming_view naming.now) known.now }
+    requires known { IsKnown linker.now (symbolic_view naming.now) known.now }
     requires selections { AreSelections linker.now.program selections.now }
     requires objects { AreLoaded linker.now shared.now.heap }
     ensures called { (input : List ℕ) → let w = world_over linker.now input in
-        let d = done_on (attempts w (naming_view naming.now) shared.now frames.now) frames.now in
+        let d = done_on (attempts w (symbolic_view naming.now) shared.now frames.now) frames.now in
         IfSome result (λ c. IsCall c d shared.now) }
-    ensures loads { let n = naming_view naming.now in loads_nothing linker.now.program
+    ensures loads { let n = symbolic_view naming.now in loads_nothing linker.now.program
         shared.now.loaded n (top_operands frames.now.frames) ≡ true }
 {
     let Some(invoked) = known_call(linker, selections, shared, frames, naming, known) else {
@@ -470,33 +470,33 @@ pub fn pass_field(
     linker: &Linker,
     shared: &mut Shared,
     frames: &mut Frames,
-    naming: &Naming,
+    naming: &SymbolicReference,
     next: u16,
     known: &Known,
 ) -> bool
     requires linked { linker.now.loaded ≡ shared.old.loaded }
-    requires known { IsKnown linker.now (naming_view naming.now) known.now }
+    requires known { IsKnown linker.now (symbolic_view naming.now) known.now }
     requires objects { AreLoaded linker.now shared.old.heap }
     ensures passed { (input : List ℕ) →
-        let rule = attempts (world_over linker.now input) (naming_view naming.now) shared.old
+        let rule = attempts (world_over linker.now input) (symbolic_view naming.now) shared.old
         frames.old in
         IfPassed result (done_on rule frames.old) next frames.old shared.old frames.new shared.new }
-    ensures loads { let n = naming_view naming.now in loads_nothing linker.now.program
+    ensures loads { let n = symbolic_view naming.now in loads_nothing linker.now.program
         shared.old.loaded n (top_operands frames.old.frames) ≡ true }
 {
     let kind = known.kind;
     let found = known.found;
     match naming {
-        Naming::Getfield(member) => {
+        SymbolicReference::Getfield(member) => {
             pass_getfield(linker, shared, frames, member, kind, found, next)
         }
-        Naming::Putfield(member) => {
+        SymbolicReference::Putfield(member) => {
             pass_putfield(linker, shared, frames, member, kind, found, next)
         }
-        Naming::Getstatic(member) => {
+        SymbolicReference::Getstatic(member) => {
             pass_getstatic(linker, shared, frames, member, kind, found, next)
         }
-        Naming::Putstatic(member) => pass_putstatic(
+        SymbolicReference::Putstatic(member) => pass_putstatic(
             alloc, linker, shared, frames, member, kind, found, next,
         ),
         _ => false,

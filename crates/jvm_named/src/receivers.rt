@@ -8,7 +8,7 @@ ghost use Rattle.jvm_model.specs.Instructions.InvocationRules.{arguments_by, rec
 ghost use Rattle.jvm_model.specs.Basis.Values.{arguments, datum_of};
 ghost use Rattle.jvm_named.specs.Targets.{data_in, is_reference, reference_in};
 
-use crate::naming::MethodName;
+use crate::symbolic_reference::MethodName;
 use crate::values::datum_of;
 use const_pool::Kind;
 use frame_stack::Frames;

@@ -4,7 +4,7 @@ ghost use Rattle.std.specs.Prelude.{◌≡◌, IfOk, OnOk};
 ghost use Rattle.class_linker.specs.Linkers.{IsLoaded};
 ghost use Rattle.jvm_model.specs.Basis.KindNumbers.{user_count};
 ghost use Rattle.jvm_model.specs.Classes.Load.{load_of};
-ghost use Rattle.jvm_model.specs.Instructions.Naming.{resolved_kind};
+ghost use Rattle.jvm_model.specs.Instructions.SymbolicReference.{resolved_kind};
 ghost use Rattle.jvm_named.specs.Answers.{exception_numbered, found_view};
 ghost use Rattle.jvm_named.specs.Objects.{IsResolved};
 ghost use Rattle.class_index.specs.Indices.{IsLinkable};

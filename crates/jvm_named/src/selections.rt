@@ -5,12 +5,12 @@ ghost use Rattle.std.specs.Prelude.{◌≡◌, [], true, IfOk, IfSome};
 ghost use Rattle.class_linker.specs.Linkers.{LinkerView};
 ghost use Rattle.jvm_model.specs.declared.program.Program.{Program};
 ghost use Rattle.jvm_named.specs.Known.{IsKnown};
-ghost use Rattle.jvm_named.specs.Names.{naming_view};
+ghost use Rattle.jvm_named.specs.Names.{symbolic_view};
 ghost use Rattle.jvm_named.specs.Selections.{AreSelections, IsSelection, selection_for, site_for};
 
 use crate::known::{Chosen, Found, Known, Site};
-use crate::naming::Naming;
 use crate::place::Place;
+use crate::symbolic_reference::SymbolicReference;
 use jf_bytes::{NoMemory, Seq};
 use std::alloc::Global;
 use std::marker::Model;
@@ -236,16 +236,16 @@ impl Selections {
     }
 
     /// Keeps what an instruction's names came to, where that is of a receiver.
-    pub fn keep(&mut self, alloc: Global, naming: &Naming, known: &Known)
+    pub fn keep(&mut self, alloc: Global, naming: &SymbolicReference, known: &Known)
         ensures { (l : LinkerView) → AreSelections l.program self.old
-            → IsKnown l (naming_view naming.now) known.now → AreSelections l.program self.new }
+            → IsKnown l (symbolic_view naming.now) known.now → AreSelections l.program self.new }
     {
         let Found::Selected(site) = known.found else {
             return;
         };
         let kind = known.kind;
         match naming {
-            Naming::Invokevirtual(_) => self.put(
+            SymbolicReference::Invokevirtual(_) => self.put(
                 alloc,
                 Selection {
                     kind,
@@ -253,7 +253,7 @@ impl Selections {
                     site,
                 },
             ),
-            Naming::Invokeinterface(_) => self.put(
+            SymbolicReference::Invokeinterface(_) => self.put(
                 alloc,
                 Selection {
                     kind,

@@ -7,7 +7,7 @@ ghost use Rattle.const_pool.specs.References.{name_type_of};
 ghost use Rattle.frame_stack.specs.FrameLists.{top_operands};
 ghost use Rattle.jvm_model.specs.Instructions.InvocationRules.{names_interface, not_of_class, selected_by};
 ghost use Rattle.jvm_model.specs.Classes.Lookup.{resolved_method};
-ghost use Rattle.jvm_model.specs.Instructions.Naming.{Invokestatic, found, is_below_kind, where_fitting};
+ghost use Rattle.jvm_model.specs.Instructions.SymbolicReference.{Invokestatic, found, is_below_kind, where_fitting};
 ghost use Rattle.jvm_model.specs.Basis.Data.{Raises};
 ghost use Rattle.jvm_model.specs.Basis.Programs.{class_named, name_at};
 ghost use Rattle.jvm_model.specs.Classes.Selection.{access_of, is_abstract, is_static};
@@ -17,7 +17,7 @@ ghost use Rattle.class_index.specs.Members.{place_view};
 ghost use Rattle.class_linker.specs.Linkers.{IsLoaded};
 ghost use Rattle.jvm_named.specs.Answers.{place_found, refusal_view};
 ghost use Rattle.jvm_named.specs.Callees.{HasCallee, chosen_place};
-ghost use Rattle.jvm_named.specs.Known.{IsFoundAs, IsSite, naming_by};
+ghost use Rattle.jvm_named.specs.Known.{IsFoundAs, IsSite, symbolic_reference_by};
 ghost use Rattle.jvm_named.specs.Members.{at_place};
 ghost use Rattle.jvm_named.specs.Numbers.{AreNumbers};
 ghost use Rattle.jvm_named.specs.Objects.{AreLoaded, IsResolved, IsUsable};
@@ -30,11 +30,11 @@ use crate::callees::callee_of;
 use crate::classes::name_at;
 use crate::instances::{class_of_kind, kind_of_object};
 use crate::known::{Chosen, Found, Site};
-use crate::naming::{MemberName, MethodName};
 use crate::numbers::MethodNumbers;
 use crate::place::Place;
 use crate::receivers::{argument_count, receiver_below};
 use crate::resolution::exception_numbered;
+use crate::symbolic_reference::{MemberName, MethodName};
 use class_index::{ABSTRACT, STATIC, has_flag};
 use class_linker::{Linker, Resolved};
 use frame_stack::Frames;
@@ -267,12 +267,12 @@ fn select_anew(
     requires numbers { AreNumbers linker.now.program numbers.now }
     requires caller { HasCaller linker.now (selecting_view by) }
     requires found { IsFoundAs found.old linker.now.program kind
-        (naming_by (selecting_view by) method.now) }
+        (symbolic_reference_by (selecting_view by) method.now) }
     ensures chosen { let p = linker.now.program in option_map chosen_place result
         ≡ selected_by p (selecting_view by.entry) (at_place m) (class_of_kind p lower) }
     ensures callee { IfSome result (HasCallee linker.now.program) }
     ensures found { IsFoundAs found.new linker.now.program kind
-        (naming_by (selecting_view by.entry) method.now) }
+        (symbolic_reference_by (selecting_view by.entry) method.now) }
 {
     let place = selected_by(linker, by, m, class_of_kind(linker, lower))?;
     let callee = callee_of(linker, numbers, place);
@@ -303,12 +303,12 @@ fn select_again(
     requires numbers { AreNumbers linker.now.program numbers.now }
     requires caller { HasCaller linker.now (selecting_view by) }
     requires found { IsFoundAs found.old linker.now.program kind
-        (naming_by (selecting_view by) method.now) }
+        (symbolic_reference_by (selecting_view by) method.now) }
     ensures chosen { let p = linker.now.program in option_map chosen_place result
         ≡ selected_by p (selecting_view by.entry) (at_place site.method) (class_of_kind p lower) }
     ensures callee { IfSome result (HasCallee linker.now.program) }
     ensures found { IsFoundAs found.new linker.now.program kind
-        (naming_by (selecting_view by.entry) method.now) }
+        (symbolic_reference_by (selecting_view by.entry) method.now) }
 {
     if lower == site.last {
         return Some(site.chosen);
@@ -338,13 +338,13 @@ fn known_target(
     requires numbers { AreNumbers linker.now.program numbers.now }
     requires site { IsSite linker.now.program kind (selecting_view by) method.now site }
     requires found { IsFoundAs found.old linker.now.program kind
-        (naming_by (selecting_view by) method.now) }
+        (symbolic_reference_by (selecting_view by) method.now) }
     ensures target { let o = top_operands frames.now.frames in found_as (target_in o) result
         ≡ instance_target linker.now.program kind (selecting_view by.entry) method.now heap.now o }
     ensures within { IfOk result (λ t. t.count ≤ length (top_operands frames.now.frames)) }
     ensures callee { IfOk result (λ t. IfSome t.selected (HasCallee linker.now.program)) }
     ensures found { IsFoundAs found.new linker.now.program kind
-        (naming_by (selecting_view by.entry) method.now) }
+        (symbolic_reference_by (selecting_view by.entry) method.now) }
 {
     let Some(count) = argument_count(true, method, frames) else {
         return Err(Refusal::Breaks);
@@ -377,13 +377,13 @@ fn target_by_name(
     requires caller { HasCaller linker.now (selecting_view by) }
     requires numbers { AreNumbers linker.now.program numbers.now }
     requires found { IsFoundAs found.old linker.now.program kind
-        (naming_by (selecting_view by) method.now) }
+        (symbolic_reference_by (selecting_view by) method.now) }
     ensures target { let o = top_operands frames.now.frames in found_as (target_in o) result
         ≡ instance_target linker.now.program kind (selecting_view by.entry) method.now heap.now o }
     ensures within { IfOk result (λ t. t.count ≤ length (top_operands frames.now.frames)) }
     ensures callee { IfOk result (λ t. IfSome t.selected (HasCallee linker.now.program)) }
     ensures found { IsFoundAs found.new linker.now.program kind
-        (naming_by (selecting_view by.entry) method.now) }
+        (symbolic_reference_by (selecting_view by.entry) method.now) }
 {
     let m = match method_found(linker, kind, names_interface(by), false, method) {
         Ok(m) => m,
@@ -420,13 +420,13 @@ pub fn instance_target(
     requires caller { HasCaller linker.now (selecting_view by) }
     requires numbers { AreNumbers linker.now.program numbers.now }
     requires found { IsFoundAs found.old linker.now.program kind
-        (naming_by (selecting_view by) method.now) }
+        (symbolic_reference_by (selecting_view by) method.now) }
     ensures target { let o = top_operands frames.now.frames in found_as (target_in o) result
         ≡ instance_target linker.now.program kind (selecting_view by.entry) method.now heap.now o }
     ensures within { IfOk result (λ t. t.count ≤ length (top_operands frames.now.frames)) }
     ensures callee { IfOk result (λ t. IfSome t.selected (HasCallee linker.now.program)) }
     ensures found { IsFoundAs found.new linker.now.program kind
-        (naming_by (selecting_view by.entry) method.now) }
+        (symbolic_reference_by (selecting_view by.entry) method.now) }
 {
     if let Found::Selected(site) = *found {
         return known_target(linker, numbers, heap, frames, by, method, kind, site, found);

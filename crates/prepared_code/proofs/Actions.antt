@@ -5,16 +5,16 @@ use Rattle.const_pool.specs.declared.class.ClassFile.{ClassFile}
 use Rattle.code_model.specs.declared.instr.Arg.{Arg}
 use Rattle.jvm_model.specs.declared.family.Family.{Family}
 use Rattle.jvm_model.specs.declared.family.Family.TheVariants as family
-use Rattle.jvm_model.specs.Basis.Data.{Local, Within, Named, Naming, New, Getfield, Putfield, Getstatic, Putstatic, Invokevirtual, Invokespecial, Invokestatic, Invokeinterface, Checkcast, Instanceof, Anewarray, Multianewarray, LdcClass}
+use Rattle.jvm_model.specs.Basis.Data.{Local, Within, Named, SymbolicReference, New, Getfield, Putfield, Getstatic, Putstatic, Invokevirtual, Invokespecial, Invokestatic, Invokeinterface, Checkcast, Instanceof, Anewarray, Multianewarray, LdcClass}
 use Rattle.jvm_model.specs.Codes.Lines.{local_of, constant_in, has_dimensions, named_by, operation_by}
-use Rattle.jvm_named.specs.Names.{naming_view}
+use Rattle.jvm_named.specs.Names.{symbolic_view}
 use Rattle.prepared_code.specs.declared.line.Action.TheVariants as action
 use Rattle.prepared_code.specs.Lines.{action_of, local_action, named_action, named_as}
 
 -- ---- names
 
 -- what a line keeps is seen as it was
-pub viewed : (n : Naming) → naming_view (named_as n) ≡ n
+pub viewed : (n : SymbolicReference) → symbolic_view (named_as n) ≡ n
 viewed (New name) = refl
 viewed (Getfield r) = refl
 viewed (Putfield r) = refl
@@ -30,14 +30,14 @@ viewed (Anewarray name) = refl
 viewed (Multianewarray name dimensions) = refl
 viewed (LdcClass name) = refl
 
-chosen : (n : Naming) (b : Bool) → cond b (Some (action.Named (named_as n))) None ≡ option_map action_of (cond b (Some (Named n)) None)
+chosen : (n : SymbolicReference) (b : Bool) → cond b (Some (action.Named (named_as n))) None ≡ option_map action_of (cond b (Some (Named n)) None)
 chosen n true = refl
 chosen n false = refl
 
-pub named_acted : (o : Option Naming) → option_and_then named_action (option_map named_as o) ≡ option_map action_of (option_and_then named_by o)
+pub named_acted : (o : Option SymbolicReference) → option_and_then named_action (option_map named_as o) ≡ option_map action_of (option_and_then named_by o)
 named_acted None = refl
 named_acted (Some n) =
-    ap (λ (m : Naming). cond (has_dimensions m) (Some (action.Named (named_as n))) None) (viewed n) ∙ chosen n (has_dimensions n)
+    ap (λ (m : SymbolicReference). cond (has_dimensions m) (Some (action.Named (named_as n))) None) (viewed n) ∙ chosen n (has_dimensions n)
 
 -- ---- families
 

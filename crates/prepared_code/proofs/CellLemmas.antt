@@ -7,7 +7,7 @@ use Rattle.method_versions.specs.Tables.{is_superseded_in}
 use Rattle.jvm_model.specs.declared.state.Shared.{Shared}
 use Rattle.class_linker.specs.Linkers.{LinkerView}
 use Rattle.jvm_model.specs.Classes.Load.{load_of}
-use Rattle.jvm_model.specs.Instructions.Naming.{Naming, New, newly_loaded}
+use Rattle.jvm_model.specs.Instructions.SymbolicReference.{SymbolicReference, New, newly_loaded}
 use Rattle.jvm_model.proofs.Loading.LoadsAgain.{newly-loaded}
 use Rattle.jvm_named.specs.Attempts.{linker_loaded}
 use Rattle.jvm_named.specs.declared.known.Known.{Known}
@@ -144,7 +144,7 @@ known-kept l v old new version place known keeps are one = record {
 
 -- ---- with more loaded
 
-by-action : (a : Action) (next : ℕ) (P Q : Naming → ℕ → Type 0) → ((n : Naming) (next : ℕ) → P n next → Q n next) → IfNamedBy a next P → IfNamedBy a next Q
+by-action : (a : Action) (next : ℕ) (P Q : SymbolicReference → ℕ → Type 0) → ((n : SymbolicReference) (next : ℕ) → P n next → Q n next) → IfNamedBy a next P → IfNamedBy a next Q
 by-action (action.Named n) next P Q f h = f _ next h
 by-action action.Local next P Q f h = tt
 by-action (action.Return k) next P Q f h = tt
@@ -156,7 +156,7 @@ by-action (action.LoadElement k) next P Q f h = tt
 by-action (action.StoreElement k) next P Q f h = tt
 by-action (action.LdcString units) next P Q f h = tt
 
-by-line : (o : Option Line) (P Q : Naming → ℕ → Type 0) → ((n : Naming) (next : ℕ) → P n next → Q n next) → IfNamed o P → IfNamed o Q
+by-line : (o : Option Line) (P Q : SymbolicReference → ℕ → Type 0) → ((n : SymbolicReference) (next : ℕ) → P n next → Q n next) → IfNamed o P → IfNamed o Q
 by-line None P Q f h = tt
 by-line (Some line) P Q f h = by-action line.action line.next P Q f h
 
@@ -170,7 +170,7 @@ known-later l new v rows later are = record {
 pub later_same : (l new : LinkerView) → new ≡ l → IsLater l new
 later_same l new same = record { keeps = λ n k is. subst (λ v. IsKnown v n k) (sym same) is }
 
-pub later_loaded : (l new : LinkerView) (n : Naming) (s : Shared) (f : FramesView) → l.loaded ≡ s.loaded → new ≡ linker_loaded n s l f → IsLater l new
+pub later_loaded : (l new : LinkerView) (n : SymbolicReference) (s : Shared) (f : FramesView) → l.loaded ≡ s.loaded → new ≡ linker_loaded n s l f → IsLater l new
 later_loaded l new n s f linked is = record {
   keeps = λ n2 k known. subst (λ v. IsKnown v n2 k)
       (sym (is ∙ ap (λ classes. let v : LinkerView = record { program = l.program; loaded = classes ++ newly_loaded l.program s.loaded n (top_operands f.frames) } in v) (sym linked)))

@@ -17,13 +17,13 @@ use Rattle.code_model.specs.Instructions.{instruction_at}
 use Rattle.jvm_model.specs.declared.family.Family.{Family}
 use Rattle.jvm_model.specs.declared.family.Family.TheVariants as family
 use Rattle.jvm_model.specs.declared.program.Program.{Program}
-use Rattle.jvm_model.specs.Basis.Data.{Local, Return, Operation, Within, Named, Naming, New, Getfield, Putfield, Getstatic, Putstatic, Invokevirtual, Invokespecial, Invokestatic, Invokeinterface, Checkcast, Instanceof, Anewarray, Multianewarray, LdcClass, Athrow, Monitor, Newarray, Arraylength, LoadElement, StoreElement, LdcString}
+use Rattle.jvm_model.specs.Basis.Data.{Local, Return, Operation, Within, Named, SymbolicReference, New, Getfield, Putfield, Getstatic, Putstatic, Invokevirtual, Invokespecial, Invokestatic, Invokeinterface, Checkcast, Instanceof, Anewarray, Multianewarray, LdcClass, Athrow, Monitor, Newarray, Arraylength, LoadElement, StoreElement, LdcString}
 use Rattle.jvm_model.specs.Basis.Families.{family_of}
 use Rattle.jvm_model.specs.Classes.Kinds.{meaning_of}
-use Rattle.jvm_model.specs.Codes.Lines.{ObjectRow, constant_in, given_operation, has_dimensions, interface_naming, local_of, multi_naming, named_by, naming_of, object_among, object_constant, object_constant_in, object_rows, operation_by, operation_of, other_operation}
+use Rattle.jvm_model.specs.Codes.Lines.{ObjectRow, constant_in, given_operation, has_dimensions, interface_reference, local_of, array_reference, named_by, symbolic_reference_of, object_among, object_constant, object_constant_in, object_rows, operation_by, operation_of, other_operation}
 use Rattle.jvm_model.specs.Basis.Methods.{method_code}
 use Rattle.jvm_model.specs.Basis.Programs.{class_at, place_of_method}
-use Rattle.jvm_named.specs.Names.{naming_view}
+use Rattle.jvm_named.specs.Names.{symbolic_view}
 use Rattle.jvm_named.specs.Objects.{HasDimensions}
 use Rattle.prepared_code.specs.declared.line.Line.{Line}
 use Rattle.prepared_code.specs.Versions as versions
@@ -37,11 +37,11 @@ abbrev Dimensioned : Operation → Type 0
 Dimensioned (Named n) = has_dimensions n ≡ true
 Dimensioned _ = Unit {0}
 
-named : (n : Naming) (b : Bool) → has_dimensions n ≡ b → IfSome (cond b (Some (Named n)) None) Dimensioned
+named : (n : SymbolicReference) (b : Bool) → has_dimensions n ≡ b → IfSome (cond b (Some (Named n)) None) Dimensioned
 named n true h = h
 named n false h = tt
 
-named-one : (n : Option Naming) → IfSome (option_and_then named_by n) Dimensioned
+named-one : (n : Option SymbolicReference) → IfSome (option_and_then named_by n) Dimensioned
 named-one None = tt
 named-one (Some n) = named n (has_dimensions n) refl
 
@@ -60,9 +60,9 @@ among (r ∷ rs) op h = by (op == r.op) (among rs op h.1) where
   by false rest = rest
 
 other : (c : ClassFile) (op : ℕ) (a : Arg) → IfSome (other_operation c op a) Dimensioned
-other c op (arg.Pool index) = named-one (naming_of c op index)
-other c op (arg.Interface index count zero) = named-one (interface_naming c op index)
-other c op (arg.Multi index dimensions) = named-one (multi_naming c op index dimensions)
+other c op (arg.Pool index) = named-one (symbolic_reference_of c op index)
+other c op (arg.Interface index count zero) = named-one (interface_reference c op index)
+other c op (arg.Multi index dimensions) = named-one (array_reference c op index dimensions)
 other c op (arg.Array code) = chosen (op == 188 && is_in_range 4 11 code) (Newarray code) tt
 other c op arg.Plain = among object_rows op (tt, (tt, (tt, (tt, (tt, (tt, (tt, (tt, (tt, (tt, (tt, (tt, (tt, (tt, (tt, (tt, tt))))))))))))))))
 other c op _ = tt
@@ -108,7 +108,7 @@ both true b h = (refl, h)
 both false b h = absurd cc
 
 -- as the format asks
-fits-naming : (n : Naming) → has_dimensions n ≡ true → HasDimensions (naming_view (named_as n))
+fits-naming : (n : SymbolicReference) → has_dimensions n ≡ true → HasDimensions (symbolic_view (named_as n))
 fits-naming (Anewarray name) h = ltb-true (meaning_of name).dimensions 255 h
 fits-naming (Multianewarray name dimensions) h =
     let parts = both (nat_le 1 dimensions) (nat_le dimensions (meaning_of name).dimensions) h in
@@ -174,8 +174,8 @@ line-fits v lines version place l found = seen l (versions.line_at v version pla
 
 -- ---- what holds of the naming of the line that stands there
 
-pub line-named : (o : Option Line) (l : Line) (Holds : Naming → ℕ → Type 0) → Some l ≡ o → IfNamedBy l.action l.next Holds → IfNamed o Holds
+pub line-named : (o : Option Line) (l : Line) (Holds : SymbolicReference → ℕ → Type 0) → Some l ≡ o → IfNamedBy l.action l.next Holds → IfNamed o Holds
 line-named o l Holds found h = subst (λ (x : Option Line). IfNamed x Holds) found h
 
-pub line-names : (o : Option Line) (l : Line) (Holds : Naming → ℕ → Type 0) → Some l ≡ o → IfNamed o Holds → IfNamedBy l.action l.next Holds
+pub line-names : (o : Option Line) (l : Line) (Holds : SymbolicReference → ℕ → Type 0) → Some l ≡ o → IfNamed o Holds → IfNamedBy l.action l.next Holds
 line-names o l Holds found h = subst (λ (x : Option Line). IfNamed x Holds) (sym found) h

@@ -18,9 +18,9 @@ use Rattle.code_model.specs.Instructions.{instruction_at, end_of}
 use Rattle.jvm_model.specs.declared.family.Family.{Family}
 use Rattle.jvm_model.specs.declared.family.Family.TheVariants as family
 use Rattle.jvm_model.specs.declared.program.Program.{Program}
-use Rattle.jvm_model.specs.Basis.Data.{Locals, Operands, Local, Nop, Constant, Load, Store, Arrange, BinaryOfInts, BinaryOfLongs, DivisionOfInts, DivisionOfLongs, ShiftOfLong, UnaryOfInt, UnaryOfLong, Lcmp, Iinc, Branch, Goto, Switch, Jsr, Ret, Return, Naming, New, Getfield, Putfield, Getstatic, Putstatic, Invokevirtual, Invokespecial, Invokestatic, Invokeinterface, Checkcast, Instanceof, Anewarray, Multianewarray, LdcClass, Operation, Within, Named, Athrow, Monitor, Newarray, Arraylength, LoadElement, StoreElement, LdcString, Instruction}
+use Rattle.jvm_model.specs.Basis.Data.{Locals, Operands, Local, Nop, Constant, Load, Store, Arrange, BinaryOfInts, BinaryOfLongs, DivisionOfInts, DivisionOfLongs, ShiftOfLong, UnaryOfInt, UnaryOfLong, Lcmp, Iinc, Branch, Goto, Switch, Jsr, Ret, Return, SymbolicReference, New, Getfield, Putfield, Getstatic, Putstatic, Invokevirtual, Invokespecial, Invokestatic, Invokeinterface, Checkcast, Instanceof, Anewarray, Multianewarray, LdcClass, Operation, Within, Named, Athrow, Monitor, Newarray, Arraylength, LoadElement, StoreElement, LdcString, Instruction}
 use Rattle.jvm_model.specs.Basis.Families.{family_of}
-use Rattle.jvm_model.specs.Codes.Lines.{value_in, slot_in, increment_in, target_in, keys_in, local_of, constant_in, given_operation, has_dimensions, interface_naming, multi_naming, named_by, naming_of, ObjectRow, object_among, object_constant, object_constant_in, object_rows, other_operation, operation_by, is_last, next_of, targets_of, instruction_of}
+use Rattle.jvm_model.specs.Codes.Lines.{value_in, slot_in, increment_in, target_in, keys_in, local_of, constant_in, given_operation, has_dimensions, interface_reference, array_reference, named_by, symbolic_reference_of, ObjectRow, object_among, object_constant, object_constant_in, object_rows, other_operation, operation_by, is_last, next_of, targets_of, instruction_of}
 use Rattle.jvm_model.specs.Instructions.LocalRules.{within}
 use Rattle.jvm_model.specs.Basis.Methods.{method_code}
 use Rattle.jvm_model.specs.Codes.Originals.{original}
@@ -31,7 +31,7 @@ use Rattle.prepared_code.specs.declared.line.Line.{Line}
 use Rattle.prepared_code.specs.Ready.{CanRun, HasLocal, IsOwnLine, IsRuleOf, IsTied}
 use Rattle.prepared_code.specs.Versions.{Setup, instruction_by, instruction_in, is_athrow, is_last_family, next_in, operation_as, operation_in, listing_of}
 use Rattle.prepared_code.specs.Versions as versions
-use Rattle.jvm_named.specs.Names.{naming_view}
+use Rattle.jvm_named.specs.Names.{symbolic_view}
 use Rattle.prepared_code.specs.Lines.{local_action, action_of, line_with, line_of, line_at, named_as}
 
 -- ---- a line and what it does
@@ -186,7 +186,7 @@ module _ (c : ClassFile) (i : Instr) where
   either true x y tx ty = tx
   either false x y tx ty = ty
 
-  tied-naming : family_of i.op ≡ family.Elsewhere → (o : Option Naming) → TiedOperation (option_and_then named_by o)
+  tied-naming : family_of i.op ≡ family.Elsewhere → (o : Option SymbolicReference) → TiedOperation (option_and_then named_by o)
   tied-naming is None = tt
   tied-naming is (Some n) =
       either (has_dimensions n) (Some (Named n)) None
@@ -212,9 +212,9 @@ module _ (c : ClassFile) (i : Instr) where
       either (i.op == r.op) _ _ (tied-object is r.operation all.0) (tied-rows is rest all.1)
 
   tied-other : family_of i.op ≡ family.Elsewhere → (a : Arg) → TiedOperation (other_operation c i.op a)
-  tied-other is (arg.Pool index) = tied-naming is (naming_of c i.op index)
-  tied-other is (arg.Interface index count zero) = tied-naming is (interface_naming c i.op index)
-  tied-other is (arg.Multi index dimensions) = tied-naming is (multi_naming c i.op index dimensions)
+  tied-other is (arg.Pool index) = tied-naming is (symbolic_reference_of c i.op index)
+  tied-other is (arg.Interface index count zero) = tied-naming is (interface_reference c i.op index)
+  tied-other is (arg.Multi index dimensions) = tied-naming is (array_reference c i.op index dimensions)
   tied-other is (arg.Array code) = either (i.op == 188 && is_in_range 4 11 code) _ _ (tied-object is (Newarray code) refl) tt
   tied-other is arg.Plain = tied-rows is object_rows refl
   tied-other is _ = tt
@@ -276,7 +276,7 @@ tied-at p method at =
 -- ---- the operation that a line shows
 
 -- the names that a line keeps are those of its instruction
-pub viewed : (n : Naming) → naming_view (named_as n) ≡ n
+pub viewed : (n : SymbolicReference) → symbolic_view (named_as n) ≡ n
 viewed (New name) = refl
 viewed (Getfield r) = refl
 viewed (Putfield r) = refl

@@ -1,7 +1,7 @@
 -- What is kept of a program with what the names of its lines came to, over what is loaded (JVM Specification 5.4.3).
 use Rattle.std.specs.Prelude.{◌≡◌, ℕ, List, Some}
 use Rattle.class_linker.specs.Linkers.{LinkerView}
-use Rattle.jvm_model.specs.Instructions.Naming.{Naming}
+use Rattle.jvm_model.specs.Instructions.SymbolicReference.{SymbolicReference}
 use Rattle.jvm_named.specs.declared.known.Known.{Known}
 use Rattle.jvm_named.specs.Known.{IsKnown}
 use Rattle.jvm_named.specs.Numbers.{Row}
@@ -21,7 +21,7 @@ pub record AreKnown (l : LinkerView) (v : Versions) (rows : Rows) : Type 0 where
 
 -- what was known stays known
 pub record IsLater (l new : LinkerView) : Type 0 where
-  pub keeps : (n : Naming) (k : Known) → IsKnown l n k → IsKnown new n k
+  pub keeps : (n : SymbolicReference) (k : Known) → IsKnown l n k → IsKnown new n k
 
 pub record IsKept (l : LinkerView) (methods : List Method) (versions : Versions) (rows : Rows) (selections : Slots) (exceptions : Exceptions) (numbers : List Row) : Type 0 where
   pub prepared : IsPrepared l.program methods (with_lines l.program versions) exceptions numbers

@@ -19,10 +19,10 @@ use Rattle.jvm_model.specs.declared.family.Family.{Family}
 use Rattle.jvm_basic.specs.declared.hot.Hot.{Hot}
 use Rattle.jvm_basic.specs.declared.hot.Hot.TheVariants as hot
 use Rattle.jvm_basic.specs.Hot.{hot_by}
-use Rattle.jvm_named.specs.declared.naming.MemberName.{MemberName}
-use Rattle.jvm_named.specs.declared.naming.Naming.{Naming}
-use Rattle.jvm_named.specs.declared.naming.Naming.TheVariants as naming
-use Rattle.jvm_named.specs.Names.{naming_view}
+use Rattle.jvm_named.specs.declared.symbolic_reference.MemberName.{MemberName}
+use Rattle.jvm_named.specs.declared.symbolic_reference.SymbolicReference.{SymbolicReference}
+use Rattle.jvm_named.specs.declared.symbolic_reference.SymbolicReference.TheVariants as naming
+use Rattle.jvm_named.specs.Names.{symbolic_view}
 use Rattle.prepared_code.specs.declared.line.Action.{Action}
 use Rattle.prepared_code.specs.declared.line.Action.TheVariants as action
 use Rattle.prepared_code.specs.declared.line.Line.{Line}
@@ -33,7 +33,7 @@ abbrev pub member_as : Reference → MemberName
 member_as r = record { class = r.class; name = r.member.name; descriptor = r.member.descriptor }
 
 -- as a line keeps them
-abbrev pub named_as : model.Naming → Naming
+abbrev pub named_as : model.SymbolicReference → SymbolicReference
 named_as (model.New name) = naming.New name
 named_as (model.Getfield r) = naming.Getfield (member_as r)
 named_as (model.Putfield r) = naming.Putfield (member_as r)
@@ -50,8 +50,8 @@ named_as (model.Multianewarray name dimensions) = naming.Multianewarray name dim
 named_as (model.LdcClass name) = naming.LdcClass name
 
 -- Where it is none for the dimensions of the array type that it names there is no line.
-abbrev pub named_action : Naming → Option Action
-named_action n = if has_dimensions (naming_view n) then Some (action.Named n) else None
+abbrev pub named_action : SymbolicReference → Option Action
+named_action n = if has_dimensions (symbolic_view n) then Some (action.Named n) else None
 
 -- ---- lines
 
@@ -101,11 +101,11 @@ line_at p method at = by_number p (method_line at) method
 
 -- ---- what holds of the naming of a line, and of the place behind it
 
-abbrev pub IfNamedBy : Action → ℕ → (model.Naming → ℕ → Type 0) → Type 0
-IfNamedBy (action.Named n) next Holds = Holds (naming_view n) next
+abbrev pub IfNamedBy : Action → ℕ → (model.SymbolicReference → ℕ → Type 0) → Type 0
+IfNamedBy (action.Named n) next Holds = Holds (symbolic_view n) next
 IfNamedBy _ next Holds = Unit {0}
 
 -- where a line stands, and names something
-abbrev pub IfNamed : Option Line → (model.Naming → ℕ → Type 0) → Type 0
+abbrev pub IfNamed : Option Line → (model.SymbolicReference → ℕ → Type 0) → Type 0
 IfNamed None Holds = Unit {0}
 IfNamed (Some line) Holds = IfNamedBy line.action line.next Holds

@@ -11,7 +11,7 @@ use Rattle.jvm_model.specs.Codes.Lines.{local_of, next_of, targets_of}
 use Rattle.jvm_model.specs.declared.family.Family.{Family}
 use Rattle.jvm_model.specs.declared.family.Family.TheVariants as family
 use Rattle.jvm_basic.specs.Rules.{datum_in}
-use Rattle.jvm_named.specs.Names.{naming_view}
+use Rattle.jvm_named.specs.Names.{symbolic_view}
 use Rattle.jvm_named.specs.Objects.{HasDimensions}
 use Rattle.prepared_code.specs.Lines.{IfNamedBy, hot_in}
 use Rattle.prepared_code.specs.declared.line.Action.{Action}
@@ -99,7 +99,7 @@ local_in line = unwrap_or (local_of (family_of line.instr.op) line.instr.arg (op
 abbrev pub operation_as : Line → Action → Operation
 operation_as line action.Local = Within (local_in line)
 operation_as line (action.Return k) = Within (Return k)
-operation_as line (action.Named n) = Named (naming_view n)
+operation_as line (action.Named n) = Named (symbolic_view n)
 operation_as line action.Athrow = Athrow
 operation_as line action.Monitor = Monitor
 operation_as line action.Arraylength = Arraylength

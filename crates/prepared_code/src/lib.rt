@@ -11,7 +11,6 @@ mod loading;
 mod lookup;
 mod markers;
 mod members;
-mod naming;
 mod objects;
 mod originals;
 mod parts;
@@ -20,6 +19,7 @@ mod preparing;
 mod probes;
 mod resolving;
 mod rewritten;
+mod symbolic_reference;
 mod versions;
 
 pub use descriptor::shape_of;
@@ -34,10 +34,10 @@ pub use members::{
     code_of, field_at, initializer_in, is_initializer, is_out, is_println, is_reference, method_at,
     method_named,
 };
-pub use naming::units_of;
 pub use objects::{ARRAY, arguments_fit, class_of_kind, heap_before, make_arguments};
 pub use originals::{Exception, Originals};
 pub use parts::{Here, Parts, where_now};
 pub use passage::{Passage, next_in};
 pub use resolving::line_of;
+pub use symbolic_reference::units_of;
 pub use versions::{Catching, PreparedCode, Version, Versions, line_in};

@@ -6,7 +6,7 @@ use heap_objects::Value;
 use jf_bytes::Text16;
 use jvm_basic::Hot;
 use jvm_model::Family;
-use jvm_named::Naming;
+use jvm_named::SymbolicReference;
 
 /// What an instruction does (JVM Specification 6.5), with the names that it gives.
 #[derive(Drop)]
@@ -16,7 +16,7 @@ pub enum Action {
     /// Ends the activation, with a result of this kind where there is one.
     Return(Option<Kind>),
     /// What names a class, a field or a method, which is looked up when it is executed.
-    Named(Naming),
+    Named(SymbolicReference),
     Athrow,
     /// monitorenter and monitorexit.
     Monitor,

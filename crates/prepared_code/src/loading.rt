@@ -8,7 +8,7 @@ ghost use Rattle.jvm_model.specs.Basis.Programs.{class_at, has_built_in_name, na
 ghost use Rattle.prepared_code.specs.Prepared.{built_in_then, load_built_in, main_name};
 
 use crate::lookup::main_class;
-use crate::naming::copy_of;
+use crate::symbolic_reference::copy_of;
 use base_classes::is_built_in;
 use class_linker::{Linker, Loaded};
 use const_pool::ClassFile;

@@ -8,7 +8,7 @@ ghost use Rattle.class_linker.specs.Linkers.{IsLoaded, LinkerView};
 ghost use Rattle.jvm_model.specs.Basis.Families.{family_of};
 ghost use Rattle.jvm_model.specs.Basis.KindNumbers.{user_count};
 ghost use Rattle.jvm_model.specs.Classes.Load.{load_of};
-ghost use Rattle.jvm_model.specs.Instructions.Naming.{resolved_kind};
+ghost use Rattle.jvm_model.specs.Instructions.SymbolicReference.{resolved_kind};
 ghost use Rattle.jvm_model.specs.Basis.Programs.{max_stack_of, max_locals_of, params_of_method};
 ghost use Rattle.jvm_model.specs.Basis.SharedState.{built_in_from, kind_for, string};
 ghost use Rattle.jvm_named.specs.Answers.{Answers, Moves, Shares, found_view, wrote_by};
@@ -42,10 +42,10 @@ use crate::cells::Cells;
 use crate::class_versions::class_versions;
 use crate::line::{Action, Line};
 use crate::loading::{link_main, load_built_in, main_name};
-use crate::naming::units_of;
 use crate::objects::kind_named;
 use crate::passage::{Passage, passage_in};
 use crate::preparing::{bare_versions, exceptions_of, original_version, prepare_methods};
+use crate::symbolic_reference::units_of;
 use crate::versions::{
     Catching, Version, Versions, current_of, first_of, has_lines, is_current, line_at, line_there,
     mark_of, version_at,

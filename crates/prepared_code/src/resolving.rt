@@ -15,8 +15,9 @@ ghost use Rattle.jvm_model.specs.Basis.Families.{family_of};
 ghost use Rattle.prepared_code.specs.Lines.{action_of, hot_in, line_of, line_with, local_action};
 
 use crate::line::{Action, Line};
-use crate::naming::{
-    class_action, interface_naming, multi_naming, named_action, naming_of, text_in,
+use crate::symbolic_reference::{
+    array_reference, class_action, interface_reference, named_action, symbolic_reference_of,
+    text_in,
 };
 use code_model::{Arg, Instr};
 use const_pool::{ClassFile, Const, Kind, Pool};
@@ -184,12 +185,12 @@ fn other_action(
     ensures { IfOk result (λ a. a ≡ option_map action_of (other_operation class.now op arg.now)) }
 {
     match arg {
-        Arg::Pool(index) => Ok(named_action(naming_of(alloc, class, op, *index)?)),
+        Arg::Pool(index) => Ok(named_action(symbolic_reference_of(alloc, class, op, *index)?)),
         Arg::Interface(index, _, _) => {
-            Ok(named_action(interface_naming(alloc, class, op, *index)?))
+            Ok(named_action(interface_reference(alloc, class, op, *index)?))
         }
         Arg::Multi(index, dimensions) => {
-            Ok(named_action(multi_naming(alloc, class, op, *index, *dimensions)?))
+            Ok(named_action(array_reference(alloc, class, op, *index, *dimensions)?))
         }
         Arg::Array(code) => Ok(newarray(op, *code)),
         Arg::Plain => Ok(object_action(op)),

@@ -30,8 +30,8 @@ use Rattle.jvm_model.specs.Basis.Values.{as_value, int_of, ref_of, arguments, wi
 use Rattle.jvm_model.specs.Basis.SharedState.{phase_of, class_of, class_of_kind, kind_for, static_at, string, with_static, null_pointer}
 use Rattle.jvm_model.specs.Instructions.LocalRules.{pushes, replaces}
 use Rattle.jvm_model.specs.Instructions.ObjectRules.{done, makes}
-use Rattle.jvm_model.specs.Instructions.Naming.{Naming, New, Getfield, Putfield, Getstatic, Putstatic, Invokevirtual, Invokespecial, Invokestatic, Invokeinterface, Checkcast, Instanceof, Anewarray, Multianewarray, LdcClass, resolved_name, is_null, resolves, newly_loaded, ◌>>=◌, unless_refused, kind_unless, resolved_kind, found, where_fitting, receiver, is_instance}
-use Rattle.jvm_model.specs.Instructions.NamingRules.{does_named}
+use Rattle.jvm_model.specs.Instructions.SymbolicReference.{SymbolicReference, New, Getfield, Putfield, Getstatic, Putstatic, Invokevirtual, Invokespecial, Invokestatic, Invokeinterface, Checkcast, Instanceof, Anewarray, Multianewarray, LdcClass, resolved_name, is_null, resolves, newly_loaded, ◌>>=◌, unless_refused, kind_unless, resolved_kind, found, where_fitting, receiver, is_instance}
+use Rattle.jvm_model.specs.Instructions.ReferenceRules.{does_named}
 use Rattle.jvm_model.specs.Instructions.FieldRules.{is_static_field, named_field, kind_by, narrowed, held_of, static_field, gets_static, sets_static, puts_static, slot_of, has_field, field_owner, gets_of, gets_instance, Putting, putting_of, puts_into, puts_instance}
 use Rattle.jvm_model.specs.Instructions.ConstantRules.{pushes_object_of, pushes_string}
 use Rattle.jvm_model.specs.Running.Constants.{can_intern}
@@ -354,7 +354,7 @@ module _ (h : ℕ → ℕ) where
 
   -- ---- every instruction that names something
 
-  pub named-moves : (w : World) (n : Naming) (s : Shared) (l : Locals) (o : Operands) → does_named w n s (moved_locals h l) (moved_operands h o) ≡ moved_done h (does_named w n s l o)
+  pub named-moves : (w : World) (n : SymbolicReference) (s : Shared) (l : Locals) (o : Operands) → does_named w n s (moved_locals h l) (moved_operands h o) ≡ moved_done h (does_named w n s l o)
   named-moves w (New name) s l o = makes_new-moves w.program name s l o
   named-moves w (Getfield r) s l o = gets_instance-moves w.program r s l o
   named-moves w (Putfield r) s l o = puts_instance-moves w.program r s l o
@@ -382,10 +382,10 @@ module _ (h : ℕ → ℕ) where
 
   -- ---- what is loaded before
 
-  resolves-moves : (n : Naming) (o : Operands) → resolves n (moved_operands h o) ≡ resolves n o
+  resolves-moves : (n : SymbolicReference) (o : Operands) → resolves n (moved_operands h o) ≡ resolves n o
   resolves-moves (Checkcast name) o = ap not (null-moves o)
   resolves-moves (Instanceof name) o = ap not (null-moves o)
   resolves-moves n o = refl
 
-  pub newly_loaded-moves : (p : Program) (loaded : List ℕ) (n : Naming) (o : Operands) → newly_loaded p loaded n (moved_operands h o) ≡ newly_loaded p loaded n o
+  pub newly_loaded-moves : (p : Program) (loaded : List ℕ) (n : SymbolicReference) (o : Operands) → newly_loaded p loaded n (moved_operands h o) ≡ newly_loaded p loaded n o
   newly_loaded-moves p loaded n o = ap (λ b. if b then drop (length loaded) (load_of p loaded (resolved_name n)).loaded else []) (resolves-moves n o)

@@ -24,11 +24,11 @@ use Rattle.jvm_model.specs.declared.operation.Resolved.{Resolved}
 use Rattle.jvm_model.specs.declared.operation.Resolved.TheVariants as resolved
 use Rattle.jvm_model.specs.declared.family.Family.{Family}
 use Rattle.jvm_model.specs.declared.family.Family.TheVariants as family
-use Rattle.jvm_model.specs.Basis.Data.{Datum, Constant, Naming, New, Getfield, Putfield, Getstatic, Putstatic, Invokevirtual, Invokestatic, Invokeinterface, Checkcast, Instanceof, Anewarray, LdcClass, Operation, Within, Named, LdcString}
+use Rattle.jvm_model.specs.Basis.Data.{Datum, Constant, SymbolicReference, New, Getfield, Putfield, Getstatic, Putstatic, Invokevirtual, Invokestatic, Invokeinterface, Checkcast, Instanceof, Anewarray, LdcClass, Operation, Within, Named, LdcString}
 use Rattle.jvm_model.specs.Basis.Families.{family_of}
 use Rattle.jvm_model.specs.Basis.Descriptors.{same_text}
 use Rattle.jvm_model.specs.Rewriting.Images.{with_code_among, IsMarkedMember, IsMemberImage, next_number, AreMemberImages, IsRewritten}
-use Rattle.jvm_model.specs.Codes.Lines.{number_of, constant_in, named_interface_method, special_of, naming_of, interface_naming, multi_of, multi_naming, named_by, other_operation, given_operation, object_constant, operation_by, operation_of}
+use Rattle.jvm_model.specs.Codes.Lines.{number_of, constant_in, named_interface_method, special_of, symbolic_reference_of, interface_reference, multi_of, array_reference, named_by, other_operation, given_operation, object_constant, operation_by, operation_of}
 use Rattle.jvm_model.specs.Basis.Programs.{name_of}
 use Rattle.jvm_model.specs.Small.Resolved.{own_method, resolved_name, resolved_in}
 use Rattle.jvm_model.specs.Basis.Methods.{code_among, code_of, same_text_at, is_member, method_from, method_named}
@@ -192,7 +192,7 @@ pub operation_of-kept : (c image : ClassFile) (i : Instr) (o : Operation) → Lo
 operation_of-kept c image i o alike e = operation-more c image i o (has-more c image alike) e
 
 -- and so with its names looked up
-resolved_name-kept : (c image : ClassFile) (n : Naming) (q : Resolved) → LooksAlike c image → resolved_name c n ≡ Some q → resolved_name image n ≡ Some q
+resolved_name-kept : (c image : ClassFile) (n : SymbolicReference) (q : Resolved) → LooksAlike c image → resolved_name c n ≡ Some q → resolved_name image n ≡ Some q
 resolved_name-kept c image (Invokestatic r) q alike e = map-kept resolved.Invokestatic (own_method c r) (own_method image r) q (λ k is. own_method-kept c image r k alike is) e
 resolved_name-kept c image n q alike e = e
 

@@ -7,7 +7,7 @@ use Rattle.jvm_model.specs.Basis.Data.{Operands}
 use Rattle.jvm_model.specs.Running.Growth.{Extends}
 use Rattle.jvm_model.specs.Classes.Kinds.{Element, Primitive, Named, kind_named, meaning_of}
 use Rattle.jvm_model.specs.Classes.Load.{Fault, Circular, Loading, Need, There, Begun, Fresh, behind_needs, by_standing, done, failed, go_on, is_among, load_element, load_named, load_needs, load_of, need_fault, needs_of, standing_of, unless}
-use Rattle.jvm_model.specs.Instructions.Naming.{Naming, kind_unless, newly_loaded, resolved_kind, resolved_name, resolves}
+use Rattle.jvm_model.specs.Instructions.SymbolicReference.{SymbolicReference, kind_unless, newly_loaded, resolved_kind, resolved_name, resolves}
 use Rattle.jvm_model.specs.Basis.Programs.{class_named}
 use Rattle.jvm_model.specs.declared.program.Program.{Program}
 use Rattle.jvm_model.proofs.Running.Growth.{Extends-appended, Extends-same, Extends-trans}
@@ -297,7 +297,7 @@ loads-again p loaded name = named-again p _ [] name loaded
 
 -- ---- what an instruction loads before it is attempted
 
-abbrev named : Program → List ℕ → Naming → Loading
+abbrev named : Program → List ℕ → SymbolicReference → Loading
 named p loaded n = load_of p loaded (resolved_name n)
 
 load-extends : (p : Program) (loaded name : List ℕ) → Extends loaded (load_of p loaded name).loaded
@@ -309,21 +309,21 @@ extended before after e =
     ap (λ l. before ++ drop (length before) l) e.longer ∙ (ap (λ l. before ++ l) (drop-append_seam before e.more) ∙ sym e.longer)
 
 -- what is loaded then is what the resolution loads
-pub newly-loaded : (p : Program) (loaded : List ℕ) (n : Naming) (o : Operands) → resolves n o ≡ true
+pub newly-loaded : (p : Program) (loaded : List ℕ) (n : SymbolicReference) (o : Operands) → resolves n o ≡ true
     → loaded ++ newly_loaded p loaded n o ≡ (load_of p loaded (resolved_name n)).loaded
 newly-loaded p loaded n o does =
     ap (λ b. loaded ++ (if b then drop (length loaded) (named p loaded n).loaded else [])) does
     ∙ extended loaded (named p loaded n).loaded (load-extends p loaded (resolved_name n))
 
 -- and the rule finds by the name what the load ended with
-pub resolved-again : (p : Program) (loaded : List ℕ) (n : Naming) (o : Operands) → resolves n o ≡ true
+pub resolved-again : (p : Program) (loaded : List ℕ) (n : SymbolicReference) (o : Operands) → resolves n o ≡ true
     → resolved_kind p (loaded ++ newly_loaded p loaded n o) (resolved_name n) ≡ resolved_kind p loaded (resolved_name n)
 resolved-again p loaded n o does =
     ap (λ l. resolved_kind p l (resolved_name n)) (newly-loaded p loaded n o does)
     ∙ ap (λ (l : Loading). kind_unless l.fault (kind_named p (resolved_name n))) (loads-again p loaded (resolved_name n))
 
 -- another attempt loads nothing
-pub newly-again : (p : Program) (loaded : List ℕ) (n : Naming) (o : Operands) → newly_loaded p (loaded ++ newly_loaded p loaded n o) n o ≡ []
+pub newly-again : (p : Program) (loaded : List ℕ) (n : SymbolicReference) (o : Operands) → newly_loaded p (loaded ++ newly_loaded p loaded n o) n o ≡ []
 newly-again p loaded n o = by (resolves n o) refl
   where
     by : (b : Bool) → resolves n o ≡ b

@@ -15,7 +15,7 @@ use Rattle.jvm_model.specs.Instructions.Does.{does, loads}
 use Rattle.jvm_model.specs.Classes.Load.{Fault, error_of, is_among}
 use Rattle.jvm_model.specs.Classes.Lookup.{supertypes}
 use Rattle.jvm_model.specs.Running.Moves.{after_super, argument_array, at_part, caught, handler_for, initializes, main_or_end, moves, move, own_at, runs_initializer, settled, then_turn, with_super}
-use Rattle.jvm_model.specs.Instructions.Naming.{message_of, newly_loaded}
+use Rattle.jvm_model.specs.Instructions.SymbolicReference.{message_of, newly_loaded}
 use Rattle.jvm_model.specs.Codes.Originals.{original}
 use Rattle.jvm_model.specs.Basis.Programs.{initializer_of, place_of_method, super_of}
 use Rattle.jvm_model.specs.Running.Run.{arguments_made, attempt, before, is_quiet, loaded_turn, loads_if, main_class, main_classes, main_loading, main_loads, opened, run, start, starts, starts_if, starts_unless, starts_with, step, steps_at, steps_by, steps_on, turn, turn_in-zero, turn_in-suc, with_loaded}

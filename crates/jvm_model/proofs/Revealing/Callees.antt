@@ -35,11 +35,11 @@ use Rattle.jvm_model.specs.Classes.Lookup.{MemberPlace, Resolution, Found, Fails
 use Rattle.jvm_model.specs.Classes.Layouts.{layout}
 use Rattle.jvm_model.specs.Instructions.LocalRules.{pushes, replaces}
 use Rattle.jvm_model.specs.Instructions.NativeRules.{kinds_in, outcome_of, runs_native, runs_number, seen_by_natives}
-use Rattle.jvm_model.specs.Instructions.Naming.{◌>>=◌, Naming, New, Getfield, Putfield, Getstatic, Putstatic, Invokevirtual, Invokespecial, Invokestatic, Invokeinterface, Checkcast, Instanceof, Anewarray, Multianewarray, LdcClass, found, is_null, newly_loaded, receiver, resolved_name, resolves, is_below_kind, is_instance, kind_unless, resolved_kind, unless_refused, where_fitting}
+use Rattle.jvm_model.specs.Instructions.SymbolicReference.{◌>>=◌, SymbolicReference, New, Getfield, Putfield, Getstatic, Putstatic, Invokevirtual, Invokespecial, Invokestatic, Invokeinterface, Checkcast, Instanceof, Anewarray, Multianewarray, LdcClass, found, is_null, newly_loaded, receiver, resolved_name, resolves, is_below_kind, is_instance, kind_unless, resolved_kind, unless_refused, where_fitting}
 use Rattle.jvm_model.specs.Instructions.ConstantRules.{pushes_object_of}
 use Rattle.jvm_model.specs.Running.Constants.{can_intern}
 use Rattle.jvm_model.specs.Instructions.Does.{does, loads}
-use Rattle.jvm_model.specs.Instructions.NamingRules.{does_named}
+use Rattle.jvm_model.specs.Instructions.ReferenceRules.{does_named}
 use Rattle.jvm_model.specs.Instructions.ObjectRules.{Access, ToNull, ToAnother, Outside, Inside, Storing, access_to, array_kind, done, fits_array, makes, place_of, stores_at, stores_element, storing_of}
 use Rattle.jvm_model.specs.Basis.Methods.{method_named}
 use Rattle.jvm_model.specs.Basis.Programs.{class_at, class_named, has_name, initializer_name, initializer_of, number_from, number_of_method, place_of_method, same_place}
@@ -941,10 +941,10 @@ module _ (w : World) (fit : IsFit w.program) (s : Shared) (is : IsSoundShared w.
 
   -- ---- every instruction that names something
 
-  whole-by : (n : Naming) (o : Operands) → newly_loaded p s.loaded n o ≡ [] → resolves n o ≡ true → Whole (resolved_name n)
+  whole-by : (n : SymbolicReference) (o : Operands) → newly_loaded p s.loaded n o ≡ [] → resolves n o ≡ true → Whole (resolved_name n)
   whole-by n o nothing does = sym (newly-loaded p s.loaded n o does) ∙ (ap (λ more. s.loaded ++ more) nothing ∙ append-nil s.loaded)
 
-  named-rule : (n : Naming) (l : Locals) (o : Operands) → (resolves n o ≡ true → Whole (resolved_name n)) → Due (begun_by p s.loaded n) (does_named w n s l o)
+  named-rule : (n : SymbolicReference) (l : Locals) (o : Operands) → (resolves n o ≡ true → Whole (resolved_name n)) → Due (begun_by p s.loaded n) (does_named w n s l o)
   named-rule (New name) l o whole = new-due name l o (whole refl)
   named-rule (Getfield r) l o whole = get-idle [] r l o
   named-rule (Putfield r) l o whole = put-idle [] r l o

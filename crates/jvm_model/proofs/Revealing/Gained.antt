@@ -5,7 +5,7 @@ use Rattle.std.specs.Prelude.{filter, filter_map, flat_map, Option, Some, None, 
 use Rattle.std.specs.Option.{option_and_then, option_map_or}
 use Rattle.const_pool.specs.References.{Reference}
 use Rattle.jvm_model.specs.Basis.Data.{Program, Operation, Within, Named, Athrow, Monitor, Newarray, Arraylength, LoadElement, StoreElement, LdcString}
-use Rattle.jvm_model.specs.Instructions.Naming.{Naming, New, Getfield, Putfield, Getstatic, Putstatic, Invokevirtual, Invokespecial, Invokestatic, Invokeinterface, Checkcast, Instanceof, Anewarray, Multianewarray, LdcClass}
+use Rattle.jvm_model.specs.Instructions.SymbolicReference.{SymbolicReference, New, Getfield, Putfield, Getstatic, Putstatic, Invokevirtual, Invokespecial, Invokestatic, Invokeinterface, Checkcast, Instanceof, Anewarray, Multianewarray, LdcClass}
 use Rattle.jvm_model.specs.Instructions.FieldRules.{is_static_field}
 use Rattle.jvm_model.specs.Instructions.InvocationRules.{Selecting, Virtual, OfInterface, Special, names_interface, selected_by}
 use Rattle.jvm_model.specs.Basis.KindNumbers.{user_count}
@@ -108,7 +108,7 @@ module _ (p : Program) (loaded : List ℕ) (new : ℕ) (above : HasSupertypes p 
   -- ---- names
 
   -- of a name: what the instruction begins over all classes, where the class is loaded before, is new, or is neither
-  named-more : (name : List ℕ) (f g extra : ℕ → List ℕ) (n : Naming) (m : ℕ) → begun_by p all n ≡ where_loaded p all name g
+  named-more : (name : List ℕ) (f g extra : ℕ → List ℕ) (n : SymbolicReference) (m : ℕ) → begun_by p all n ≡ where_loaded p all name g
       → ((class : ℕ) → IsLoaded loaded class → is_among m (g class) ≡ true → Or m (f class) (extra class))
       → is_among m (begun_by p all n) ≡ true
       → Or m (where_loaded p loaded name f) (gained_named p loaded new n name ++ option_map_or extra (loaded_class_named p loaded name) [])
@@ -174,14 +174,14 @@ module _ (p : Program) (loaded : List ℕ) (new : ℕ) (above : HasSupertypes p 
       ap (λ l. option_map_or (λ (m : MemberPlace). coded_at p m ++ l) (found_where (is_static p) true (resolved_method p class false r.member)) []) (same-initializers class there)
 
   -- a name's class, whose part does not change
-  name-more : (name : List ℕ) (f g : ℕ → List ℕ) (n : Naming) (m : ℕ) → begun_by p all n ≡ where_loaded p all name g → ((class : ℕ) → IsLoaded loaded class → g class ≡ f class)
+  name-more : (name : List ℕ) (f g : ℕ → List ℕ) (n : SymbolicReference) (m : ℕ) → begun_by p all n ≡ where_loaded p all name g → ((class : ℕ) → IsLoaded loaded class → g class ≡ f class)
       → is_among m (begun_by p all n) ≡ true → Or m (where_loaded p loaded name f) (gained_named p loaded new n name)
   name-more name f g n m is same h =
       without-extra m (where_loaded p loaded name f) (gained_named p loaded new n name) (loaded_class_named p loaded name)
       (named-more name f g (λ class. []) n m is (λ class there k. inl (ap (is_among m) (sym (same class there)) ∙ k)) h)
 
   -- a call, which gains what is selected from the new class
-  call-more : (by : Selecting) (r : Reference) (n : Naming) (m : ℕ) → begun_by p all n ≡ where_loaded p all r.class (λ class. begun_on p all class by r)
+  call-more : (by : Selecting) (r : Reference) (n : SymbolicReference) (m : ℕ) → begun_by p all n ≡ where_loaded p all r.class (λ class. begun_on p all class by r)
       → ((loaded : List ℕ) (class : ℕ) (k : MemberPlace) → invoked_by p loaded class by k ≡ selections p loaded class by k)
       → is_among m (begun_by p all n) ≡ true
       → Or m (where_loaded p loaded r.class (λ class. begun_on p loaded class by r)) (gained_named p loaded new n r.class ++ gained_call p loaded new by r)
@@ -201,7 +201,7 @@ module _ (p : Program) (loaded : List ℕ) (new : ℕ) (above : HasSupertypes p 
           found None k = absurd (false_true k)
           found (Some q) k = turn q (is_subtype p new class) (more-selections class by q m (ap (is_among m) (sym (selects all class q)) ∙ k))
 
-  begun-more : (n : Naming) (m : ℕ) → is_among m (begun_by p all n) ≡ true → Or m (begun_by p loaded n) (gained_by p loaded new n)
+  begun-more : (n : SymbolicReference) (m : ℕ) → is_among m (begun_by p all n) ≡ true → Or m (begun_by p loaded n) (gained_by p loaded new n)
   begun-more (New name) m h = name-more name (initializers p loaded) (initializers p all) (New name) m refl same-initializers h
   begun-more (Getstatic r) m h = name-more r.class (λ class. begun_field p loaded class r) (λ class. begun_field p all class r) (Getstatic r) m refl (λ class there. field-same class r there) h
   begun-more (Putstatic r) m h = name-more r.class (λ class. begun_field p loaded class r) (λ class. begun_field p all class r) (Putstatic r) m refl (λ class there. field-same class r there) h
@@ -210,7 +210,7 @@ module _ (p : Program) (loaded : List ℕ) (new : ℕ) (above : HasSupertypes p 
   begun-more (Invokeinterface r) m h = call-more OfInterface r (Invokeinterface r) m refl (λ l class k. refl) h
   begun-more (Invokespecial caller r interface) m h = by (is_array_type r.class) refl
     where
-      n : Naming
+      n : SymbolicReference
       n = Invokespecial caller r interface
 
       on : List ℕ → ℕ → List ℕ
@@ -270,7 +270,7 @@ module _ (p : Program) (loaded : List ℕ) (new : ℕ) (above : HasSupertypes p 
 
   -- ---- and whatever is gained is a target then
 
-  named-gains : (n : Naming) (name : List ℕ) (m : ℕ) → is_among m (gained_named p loaded new n name) ≡ true → is_among m (begun_by p all n) ≡ true
+  named-gains : (n : SymbolicReference) (name : List ℕ) (m : ℕ) → is_among m (gained_named p loaded new n name) ≡ true → is_among m (begun_by p all n) ≡ true
   named-gains n name m h = by (is_named p new name) h
     where
       by : (b : Bool) → is_among m (if b then begun_by p all n else []) ≡ true → is_among m (begun_by p all n) ≡ true
@@ -311,7 +311,7 @@ module _ (p : Program) (loaded : List ℕ) (new : ℕ) (above : HasSupertypes p 
       of None h = absurd (false_true h)
       of (Some class) h = at class (is_among class loaded) refl h
 
-  begun-gains : (n : Naming) (m : ℕ) → is_among m (gained_by p loaded new n) ≡ true → is_among m (begun_by p all n) ≡ true
+  begun-gains : (n : SymbolicReference) (m : ℕ) → is_among m (gained_by p loaded new n) ≡ true → is_among m (begun_by p all n) ≡ true
   begun-gains (New name) m h = named-gains (New name) name m h
   begun-gains (Getstatic r) m h = named-gains (Getstatic r) r.class m h
   begun-gains (Putstatic r) m h = named-gains (Putstatic r) r.class m h

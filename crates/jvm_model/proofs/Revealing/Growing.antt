@@ -5,7 +5,7 @@ use Rattle.std.specs.List.{cons_option}
 use Rattle.std.specs.Option.{option_and_then, option_map_or}
 use Rattle.const_pool.specs.References.{Reference}
 use Rattle.jvm_model.specs.Basis.Data.{Program, Operation, Within, Named, Athrow, Monitor, Newarray, Arraylength, LoadElement, StoreElement, LdcString}
-use Rattle.jvm_model.specs.Instructions.Naming.{Naming, New, Getfield, Putfield, Getstatic, Putstatic, Invokevirtual, Invokespecial, Invokestatic, Invokeinterface, Checkcast, Instanceof, Anewarray, Multianewarray, LdcClass}
+use Rattle.jvm_model.specs.Instructions.SymbolicReference.{SymbolicReference, New, Getfield, Putfield, Getstatic, Putstatic, Invokevirtual, Invokespecial, Invokestatic, Invokeinterface, Checkcast, Instanceof, Anewarray, Multianewarray, LdcClass}
 use Rattle.jvm_model.specs.Instructions.FieldRules.{is_static_field}
 use Rattle.jvm_model.specs.Instructions.InvocationRules.{Selecting, Virtual, OfInterface, Special, names_interface, selected_by}
 use Rattle.jvm_model.specs.Basis.KindNumbers.{user_count}
@@ -124,7 +124,7 @@ module _ (p : Program) (loaded more : List ℕ) where
       by true = each (user_count p)
       by false = where-grows name f g each
 
-  begun-grows : (n : Naming) → Among (begun_by p loaded n) (begun_by p all n)
+  begun-grows : (n : SymbolicReference) → Among (begun_by p loaded n) (begun_by p all n)
   begun-grows (New name) = where-grows name (initializers p loaded) (initializers p all) initializers-grow
   begun-grows (Getstatic r) = where-grows r.class (λ class. begun_field p loaded class r) (λ class. begun_field p all class r) (λ class. field-grows class r)
   begun-grows (Putstatic r) = where-grows r.class (λ class. begun_field p loaded class r) (λ class. begun_field p all class r) (λ class. field-grows class r)

@@ -7,12 +7,12 @@ use Rattle.std.specs.List.{cons_option}
 use Rattle.std.specs.Option.{option_and_then, option_map, option_map_or}
 use Rattle.const_pool.specs.References.{Reference}
 use Rattle.jvm_model.specs.Basis.Data.{Program, Operation, Within, Named, Athrow, Monitor, Newarray, Arraylength, LoadElement, StoreElement, LdcString}
-use Rattle.jvm_model.specs.Instructions.Naming.{Naming, New, Getfield, Putfield, Getstatic, Putstatic, Invokevirtual, Invokespecial, Invokestatic, Invokeinterface, Checkcast, Instanceof, Anewarray, Multianewarray, LdcClass}
+use Rattle.jvm_model.specs.Instructions.SymbolicReference.{SymbolicReference, New, Getfield, Putfield, Getstatic, Putstatic, Invokevirtual, Invokespecial, Invokestatic, Invokeinterface, Checkcast, Instanceof, Anewarray, Multianewarray, LdcClass}
 use Rattle.jvm_model.specs.Instructions.InvocationRules.{Selecting, Virtual, OfInterface, names_interface, selected_by}
 use Rattle.jvm_model.specs.Classes.Load.{is_among}
 use Rattle.jvm_model.specs.Classes.Lookup.{MemberPlace, is_subtype, resolved_method}
 use Rattle.jvm_model.specs.Classes.Selection.{is_static}
-use Rattle.jvm_model.specs.Profiling.Revelation.{Call, call_gain, call_in, call_on, calls_of, gained_by, gained_by_operation, gained_call, gained_from, gained_in, gained_named, gained_on, named_gain, naming_in, namings_of}
+use Rattle.jvm_model.specs.Profiling.Revelation.{Call, call_gain, call_in, call_on, calls_of, gained_by, gained_by_operation, gained_call, gained_from, gained_in, gained_named, gained_on, named_gain, symbolic_reference_in, symbolic_references_of}
 use Rattle.jvm_model.specs.Profiling.Targets.{coded, found_where, loaded_class_named}
 
 among-append : (m : ℕ) (xs ys : List ℕ) → is_among m (xs ++ ys) ≡ (is_among m xs || is_among m ys)
@@ -25,7 +25,7 @@ among-append m (x ∷ xs) ys = by (m == x) (among-append m xs ys)
 
 module _ (p : Program) (loaded : List ℕ) (new : ℕ) where
   abbrev named_part : Operation → List ℕ
-  named_part op = option_map_or (named_gain p loaded new) (naming_in op) []
+  named_part op = option_map_or (named_gain p loaded new) (symbolic_reference_in op) []
 
   abbrev call_part : Operation → List ℕ
   call_part op = option_map_or (call_gain p new) (call_in p loaded op) []
@@ -98,14 +98,14 @@ module _ (p : Program) (loaded : List ℕ) (new : ℕ) where
 
   -- What is gained by operations is gained from what is kept of them.
   pub kept-gains : (operations : List Operation) (m : ℕ)
-      → is_among m (gained_in p loaded new operations) ≡ is_among m (gained_from p loaded new (namings_of operations) (calls_of p loaded operations))
+      → is_among m (gained_in p loaded new operations) ≡ is_among m (gained_from p loaded new (symbolic_references_of operations) (calls_of p loaded operations))
   kept-gains [] m = refl
   kept-gains (op ∷ rest) m =
-      let names = flat_map (named_gain p loaded new) (namings_of rest) in
+      let names = flat_map (named_gain p loaded new) (symbolic_references_of rest) in
       let calls = flat_map (call_gain p new) (calls_of p loaded rest) in
       ap (λ l. is_among m (l ++ gained_in p loaded new rest)) (operation-kept op)
       ∙ (among-append m (named_part op ++ call_part op) (gained_in p loaded new rest)
       ∙ (ap (λ b. is_among m (named_part op ++ call_part op) || b) (kept-gains rest m)
       ∙ (sym (among-append m (named_part op ++ call_part op) (names ++ calls))
       ∙ (turned m (named_part op) (call_part op) names calls
-      ∙ sym (ap₂ (λ a b. is_among m (a ++ b)) (flat-made Naming (named_gain p loaded new) naming_in op rest) (flat-made Call (call_gain p new) (call_in p loaded) op rest))))))
+      ∙ sym (ap₂ (λ a b. is_among m (a ++ b)) (flat-made SymbolicReference (named_gain p loaded new) symbolic_reference_in op rest) (flat-made Call (call_gain p new) (call_in p loaded) op rest))))))

@@ -16,12 +16,12 @@ use Rattle.native_ops.specs.Numbers.{out_of_memory_error}
 use Rattle.base_classes.specs.Natives.{native_number}
 use Rattle.jvm_model.specs.declared.program.Program.{Program}
 use Rattle.jvm_model.specs.declared.state.Phase.{Phase}
-use Rattle.jvm_model.specs.Basis.Data.{Keys, Fresh, Running, Ready, Erroneous, Locals, Operands, Shared, World, Local, Nop, Constant, Load, Store, Arrange, BinaryOfInts, BinaryOfLongs, DivisionOfInts, DivisionOfLongs, ShiftOfLong, UnaryOfInt, UnaryOfLong, Lcmp, Iinc, Branch, Goto, Switch, Jsr, Ret, Return, Naming, Operation, Within, Named, Athrow, Monitor, Newarray, Arraylength, LoadElement, StoreElement, LdcString, Outcome, GoesOn, Throws, Raises, Breaks, Done}
+use Rattle.jvm_model.specs.Basis.Data.{Keys, Fresh, Running, Ready, Erroneous, Locals, Operands, Shared, World, Local, Nop, Constant, Load, Store, Arrange, BinaryOfInts, BinaryOfLongs, DivisionOfInts, DivisionOfLongs, ShiftOfLong, UnaryOfInt, UnaryOfLong, Lcmp, Iinc, Branch, Goto, Switch, Jsr, Ret, Return, SymbolicReference, Operation, Within, Named, Athrow, Monitor, Newarray, Arraylength, LoadElement, StoreElement, LdcString, Outcome, GoesOn, Throws, Raises, Breaks, Done}
 use Rattle.jvm_model.specs.Classes.Load.{Fault}
 use Rattle.jvm_model.specs.Classes.Lookup.{MemberPlace, Resolution, Found, Fails}
 use Rattle.jvm_model.specs.Instructions.LocalRules.{pushes, replaces, leaves, stores, increments, divides_these, goes_if, switches_on, goes_back, within}
 use Rattle.jvm_model.specs.Instructions.ObjectRules.{done, measures, makes, Access, ToNull, ToAnother, Outside, Inside, access_to, refused, loads_at, loads_element, Storing, stores_at, stores_element, watches, throws}
-use Rattle.jvm_model.specs.Instructions.Naming.{◌>>=◌, unless_refused, kind_unless, found, where_fitting, receiver}
+use Rattle.jvm_model.specs.Instructions.SymbolicReference.{◌>>=◌, unless_refused, kind_unless, found, where_fitting, receiver}
 use Rattle.std.specs.Prelude.{nat_le, nat_lt, ◌==◌, ◌&&◌, ◌+◌}
 use Rattle.heap_objects.specs.Heaps.{next_number, with_array, with_slot_at}
 use Rattle.jvm_model.specs.Basis.Data.{Next}
@@ -42,8 +42,8 @@ use Rattle.jvm_model.specs.Instructions.InvocationRules.{Selecting, Virtual, OfI
 use Rattle.jvm_model.specs.Basis.KindNumbers.{user_count}
 use Rattle.jvm_model.specs.Classes.Layouts.{layout}
 use Rattle.jvm_model.specs.Classes.Lookup.{resolved_field, resolved_method}
-use Rattle.jvm_model.specs.Instructions.Naming.{is_instance, is_null, resolved_kind, New, Getfield, Putfield, Getstatic, Putstatic, Invokevirtual, Invokespecial, Invokestatic, Invokeinterface, Checkcast, Instanceof, Anewarray, Multianewarray, LdcClass}
-use Rattle.jvm_model.specs.Instructions.NamingRules.{does_named}
+use Rattle.jvm_model.specs.Instructions.SymbolicReference.{is_instance, is_null, resolved_kind, New, Getfield, Putfield, Getstatic, Putstatic, Invokevirtual, Invokespecial, Invokestatic, Invokeinterface, Checkcast, Instanceof, Anewarray, Multianewarray, LdcClass}
+use Rattle.jvm_model.specs.Instructions.ReferenceRules.{does_named}
 use Rattle.jvm_model.specs.Instructions.NativeRules.{kinds_in, outcome_of, runs_native, runs_number, seen_by_natives}
 use Rattle.jvm_model.specs.Instructions.ObjectRules.{array_kind, place_of, storing_of}
 use Rattle.jvm_model.specs.Basis.Programs.{number_of_method}
@@ -352,7 +352,7 @@ module _ (w : World) (s : Shared) (l : Locals) (o : Operands) where
   abbrev p : Program
   p = w.program
 
-  named-only : (n : Naming) → Only (does_named w n s l o)
+  named-only : (n : SymbolicReference) → Only (does_named w n s l o)
   named-only (New name) =
       unless-only s (resolved_kind p s.loaded name) (λ kind. initialized p (class_of_kind p kind) s (makes_instance p kind (class_of_kind p kind) s l o)) (kind-fine _ _)
       (λ kind. ready-only p _ (class_of_kind p kind) s _ (instance-only p s l o kind (class_of_kind p kind)))

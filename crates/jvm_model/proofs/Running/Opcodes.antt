@@ -29,9 +29,9 @@ use Rattle.const_pool.specs.declared.descriptor.Kind.{Kind}
 use Rattle.const_pool.specs.declared.descriptor.Kind.TheVariants as kind
 use Rattle.jvm_model.specs.declared.family.Family.{Family}
 use Rattle.jvm_model.specs.declared.family.Family.TheVariants as family
-use Rattle.jvm_model.specs.Basis.Data.{Datum, IntOperator, Iadd, Isub, Imul, Local, Nop, Constant, Load, Store, Arrange, BinaryOfInts, BinaryOfLongs, DivisionOfInts, DivisionOfLongs, ShiftOfLong, UnaryOfInt, UnaryOfLong, Lcmp, Iinc, Branch, Goto, Switch, Jsr, Ret, Return, Naming, Getstatic, Invokestatic, Invokevirtual, LdcClass, Operation, Within, Named, Newarray, LdcString}
+use Rattle.jvm_model.specs.Basis.Data.{Datum, IntOperator, Iadd, Isub, Imul, Local, Nop, Constant, Load, Store, Arrange, BinaryOfInts, BinaryOfLongs, DivisionOfInts, DivisionOfLongs, ShiftOfLong, UnaryOfInt, UnaryOfLong, Lcmp, Iinc, Branch, Goto, Switch, Jsr, Ret, Return, SymbolicReference, Getstatic, Invokestatic, Invokevirtual, LdcClass, Operation, Within, Named, Newarray, LdcString}
 use Rattle.jvm_model.specs.Basis.Families.{rows, family_of}
-use Rattle.jvm_model.specs.Codes.Lines.{value_in, slot_in, increment_in, target_in, keys_in, local_of, constant_in, naming_of, interface_naming, multi_naming, has_dimensions, named_by, ObjectRow, object_rows, object_among, newarray_of, other_operation, operation_by, operation_of, targets_of as offsets_of, ends, given_operation, object_constant, object_constant_in}
+use Rattle.jvm_model.specs.Codes.Lines.{value_in, slot_in, increment_in, target_in, keys_in, local_of, constant_in, symbolic_reference_of, interface_reference, array_reference, has_dimensions, named_by, ObjectRow, object_rows, object_among, newarray_of, other_operation, operation_by, operation_of, targets_of as offsets_of, ends, given_operation, object_constant, object_constant_in}
 use Rattle.jvm_model.specs.Small.Resolved.{own_method, resolved_local, resolved_name, resolved_in, resolved_of}
 use Rattle.jvm_model.specs.Instructions.Rules.{is_out, is_println}
 use Rattle.jvm_model.specs.Small.SmallClass.{is_return}
@@ -211,23 +211,23 @@ chosen : {A : Type 0} (b : Bool) (x y : Option A) (z : A) → cond b x y ≡ Som
 chosen true x y z e = inl (refl, e)
 chosen false x y z e = inr e
 
-naming-goes_on : (c : ClassFile) (n : Naming) (q : Resolved) → resolved_name c n ≡ Some q → goes_on q
+naming-goes_on : (c : ClassFile) (n : SymbolicReference) (q : Resolved) → resolved_name c n ≡ Some q → goes_on q
 naming-goes_on c (Getstatic r) q e = elim (chosen (is_out r) (Some resolved.Out) None q e) [ inl is ↦ only resolved.Out q refl is.1 | inr is ↦ absurd (none-some q is) ]
 naming-goes_on c (Invokestatic r) q e = let k = in_map resolved.Invokestatic (own_method c r) q e in subst goes_on k.1 refl
 naming-goes_on c (Invokevirtual r) q e = elim (chosen (is_println r) (Some resolved.Println) None q e) [ inl is ↦ only resolved.Println q refl is.1 | inr is ↦ absurd (none-some q is) ]
 naming-goes_on c n q e = absurd (none-some q e)
 
 -- the operation is one that names what was found
-pub record IsNaming (found : Option Naming) (o : Operation) : Type 0 where
-  pub naming : Naming
+pub record IsSymbolicReference (found : Option SymbolicReference) (o : Operation) : Type 0 where
+  pub naming : SymbolicReference
   pub is : found ≡ Some naming
   pub named : Named naming ≡ o
 
-pub named_by-is : (found : Option Naming) (o : Operation) → option_and_then named_by found ≡ Some o → IsNaming found o
+pub named_by-is : (found : Option SymbolicReference) (o : Operation) → option_and_then named_by found ≡ Some o → IsSymbolicReference found o
 named_by-is None o e = absurd (none-some o e)
 named_by-is (Some n) o e = by_test (has_dimensions n) e
   where
-    by_test : (b : Bool) → cond b (Some (Named n)) None ≡ Some o → IsNaming (Some n) o
+    by_test : (b : Bool) → cond b (Some (Named n)) None ≡ Some o → IsSymbolicReference (Some n) o
     by_test true is = record { naming = n; is = refl; named = same_Some (Named n) o is }
     by_test false is = absurd (none-some o is)
 
@@ -236,23 +236,23 @@ abbrev stays_at : ℕ → Type 0
 stays_at op = (is_return_opcode op ≡ false) × ((op == 172 || op == 177) ≡ false)
 
 -- a row of a list by opcodes, and the rows behind it
-row-stays : (op n : ℕ) (x y : Option Naming) (z : Naming) → stays_at n → (y ≡ Some z → stays_at op) → cond (op == n) x y ≡ Some z → stays_at op
+row-stays : (op n : ℕ) (x y : Option SymbolicReference) (z : SymbolicReference) → stays_at n → (y ≡ Some z → stays_at op) → cond (op == n) x y ≡ Some z → stays_at op
 row-stays op n x y z here rest e = elim (chosen (op == n) x y z e) [
   | inl is ↦ subst stays_at (sym (eqb-true op n is.0)) here
   | inr more ↦ rest more
 ]
 
-naming-stays : (c : ClassFile) (op index : ℕ) (n : Naming) → naming_of c op index ≡ Some n → stays_at op
+naming-stays : (c : ClassFile) (op index : ℕ) (n : SymbolicReference) → symbolic_reference_of c op index ≡ Some n → stays_at op
 naming-stays c op index n =
     row-stays op 178 _ _ n (refl, refl) (row-stays op 179 _ _ n (refl, refl) (row-stays op 180 _ _ n (refl, refl)
     (row-stays op 181 _ _ n (refl, refl) (row-stays op 182 _ _ n (refl, refl) (row-stays op 183 _ _ n (refl, refl)
     (row-stays op 184 _ _ n (refl, refl) (row-stays op 187 _ _ n (refl, refl) (row-stays op 189 _ _ n (refl, refl)
     (row-stays op 192 _ _ n (refl, refl) (row-stays op 193 _ None n (refl, refl) (λ none. absurd (none-some n none))))))))))))
 
-interface-stays : (c : ClassFile) (op index : ℕ) (n : Naming) → interface_naming c op index ≡ Some n → stays_at op
+interface-stays : (c : ClassFile) (op index : ℕ) (n : SymbolicReference) → interface_reference c op index ≡ Some n → stays_at op
 interface-stays c op index n = row-stays op 185 _ None n (refl, refl) (λ none. absurd (none-some n none))
 
-multi-stays : (c : ClassFile) (op index dimensions : ℕ) (n : Naming) → multi_naming c op index dimensions ≡ Some n → stays_at op
+multi-stays : (c : ClassFile) (op index dimensions : ℕ) (n : SymbolicReference) → array_reference c op index dimensions ≡ Some n → stays_at op
 multi-stays c op index dimensions n = row-stays op 197 _ None n (refl, refl) (λ none. absurd (none-some n none))
 
 -- ---- no small class has instructions that see objects
@@ -284,7 +284,7 @@ abbrev returns_alike : ℕ → Resolved → Type 0
 returns_alike op q = (is_return_operation q ≡ is_return_opcode op) × ((op == 172 || op == 177) ≡ is_return_opcode op)
 
 -- what names something
-named-returns : (c : ClassFile) (op : ℕ) (found : Option Naming) (o : Operation) (q : Resolved) → ((n : Naming) → found ≡ Some n → stays_at op)
+named-returns : (c : ClassFile) (op : ℕ) (found : Option SymbolicReference) (o : Operation) (q : Resolved) → ((n : SymbolicReference) → found ≡ Some n → stays_at op)
     → option_and_then named_by found ≡ Some o → resolved_in c o ≡ Some q → returns_alike op q
 named-returns c op found o q stays is e =
     let names = named_by-is found o is in
@@ -292,9 +292,9 @@ named-returns c op found o q stays is e =
     (naming-goes_on c names.naming q (ap (resolved_in c) names.named ∙ e) ∙ sym at.0, at.1 ∙ sym at.0)
 
 other-returns : (c : ClassFile) (op : ℕ) (a : Arg) (o : Operation) (q : Resolved) → other_operation c op a ≡ Some o → resolved_in c o ≡ Some q → returns_alike op q
-other-returns c op (arg.Pool index) o q is e = named-returns c op (naming_of c op index) o q (naming-stays c op index) is e
-other-returns c op (arg.Interface index count last) o q is e = named-returns c op (interface_naming c op index) o q (interface-stays c op index) is e
-other-returns c op (arg.Multi index dimensions) o q is e = named-returns c op (multi_naming c op index dimensions) o q (multi-stays c op index dimensions) is e
+other-returns c op (arg.Pool index) o q is e = named-returns c op (symbolic_reference_of c op index) o q (naming-stays c op index) is e
+other-returns c op (arg.Interface index count last) o q is e = named-returns c op (interface_reference c op index) o q (interface-stays c op index) is e
+other-returns c op (arg.Multi index dimensions) o q is e = named-returns c op (array_reference c op index dimensions) o q (multi-stays c op index dimensions) is e
 other-returns c op (arg.Array code) o q is e = absurd (none-some q (sym (newarray-unresolved c op code o is) ∙ e))
 other-returns c op arg.Plain o q is e = absurd (none-some q (sym (object-unresolved c op o is) ∙ e))
 other-returns c op _ o q is e = absurd (none-some o is)

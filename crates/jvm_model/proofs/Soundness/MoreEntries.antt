@@ -13,9 +13,9 @@ use Rattle.code_model.specs.declared.instr.Arg.TheVariants as arg
 use Rattle.code_model.specs.declared.instr.Instr.{Instr}
 use Rattle.jvm_model.specs.declared.family.Family.{Family}
 use Rattle.jvm_model.specs.declared.family.Family.TheVariants as family
-use Rattle.jvm_model.specs.Basis.Data.{Constant, Naming, New, Getfield, Putfield, Getstatic, Putstatic, Invokevirtual, Invokestatic, Invokeinterface, Checkcast, Instanceof, Anewarray, LdcClass, Operation, Within, Named, LdcString}
+use Rattle.jvm_model.specs.Basis.Data.{Constant, SymbolicReference, New, Getfield, Putfield, Getstatic, Putstatic, Invokevirtual, Invokestatic, Invokeinterface, Checkcast, Instanceof, Anewarray, LdcClass, Operation, Within, Named, LdcString}
 use Rattle.jvm_model.specs.Basis.Families.{family_of}
-use Rattle.jvm_model.specs.Codes.Lines.{number_of, named_interface_method, special_of, naming_of, interface_naming, multi_of, multi_naming, named_by, other_operation, given_operation, object_constant, operation_by, operation_of}
+use Rattle.jvm_model.specs.Codes.Lines.{number_of, named_interface_method, special_of, symbolic_reference_of, interface_reference, multi_of, array_reference, named_by, other_operation, given_operation, object_constant, operation_by, operation_of}
 use Rattle.jvm_model.specs.Basis.Programs.{name_of}
 use Rattle.jvm_model.proofs.Images.ImagePools.{slice_get-more, named_text-more, named_class-more, named_field-more, named_method-more, named_interface_method-more}
 use Rattle.std.specs.List.{AllByRecursion}
@@ -79,8 +79,8 @@ special-kept c image index has n =
     (λ caller. name_of-kept c image caller has)
     (λ caller. map-kept (special_of caller) (named_method c.pool index) (named_method image.pool index) n (method-kept c image index has))
 
-naming_of-kept : (c image : ClassFile) (op index : ℕ) → HasMore c image → Kept (naming_of c op index) (naming_of image op index)
-naming_of-kept c image op index has n =
+symbolic_reference_of-kept : (c image : ClassFile) (op index : ℕ) → HasMore c image → Kept (symbolic_reference_of c op index) (symbolic_reference_of image op index)
+symbolic_reference_of-kept c image op index has n =
     chosen-kept (op == 178) _ _ _ _ n (field Getstatic) (chosen-kept (op == 179) _ _ _ _ n (field Putstatic)
     (chosen-kept (op == 180) _ _ _ _ n (field Getfield) (chosen-kept (op == 181) _ _ _ _ n (field Putfield)
     (chosen-kept (op == 182) _ _ _ _ n (method Invokevirtual) (chosen-kept (op == 183) _ _ _ _ n (special-kept c image index has n)
@@ -88,34 +88,34 @@ naming_of-kept c image op index has n =
     (chosen-kept (op == 189) _ _ _ _ n (class Anewarray) (chosen-kept (op == 192) _ _ _ _ n (class Checkcast)
     (chosen-kept (op == 193) _ None _ None n (class Instanceof) (λ none. none)))))))))))
   where
-    field : (make : Reference → Naming) → option_map make (named_field c.pool index) ≡ Some n → option_map make (named_field image.pool index) ≡ Some n
+    field : (make : Reference → SymbolicReference) → option_map make (named_field c.pool index) ≡ Some n → option_map make (named_field image.pool index) ≡ Some n
     field make = map-kept make (named_field c.pool index) (named_field image.pool index) n (field-kept c image index has)
 
-    method : (make : Reference → Naming) → option_map make (named_method c.pool index) ≡ Some n → option_map make (named_method image.pool index) ≡ Some n
+    method : (make : Reference → SymbolicReference) → option_map make (named_method c.pool index) ≡ Some n → option_map make (named_method image.pool index) ≡ Some n
     method make = map-kept make (named_method c.pool index) (named_method image.pool index) n (method-kept c image index has)
 
-    class : (make : List ℕ → Naming) → option_map make (named_class c.pool index) ≡ Some n → option_map make (named_class image.pool index) ≡ Some n
+    class : (make : List ℕ → SymbolicReference) → option_map make (named_class c.pool index) ≡ Some n → option_map make (named_class image.pool index) ≡ Some n
     class make = map-kept make (named_class c.pool index) (named_class image.pool index) n (class-kept c image index has)
 
-interface_naming-kept : (c image : ClassFile) (op index : ℕ) → HasMore c image → Kept (interface_naming c op index) (interface_naming image op index)
-interface_naming-kept c image op index has n =
+interface_reference-kept : (c image : ClassFile) (op index : ℕ) → HasMore c image → Kept (interface_reference c op index) (interface_reference image op index)
+interface_reference-kept c image op index has n =
     chosen-kept (op == 185) _ None _ None n
     (map-kept Invokeinterface (named_interface_method c.pool index) (named_interface_method image.pool index) n (interface_method-kept c image index has)) (λ none. none)
 
-multi_naming-kept : (c image : ClassFile) (op index dimensions : ℕ) → HasMore c image → Kept (multi_naming c op index dimensions) (multi_naming image op index dimensions)
-multi_naming-kept c image op index dimensions has n =
+array_reference-kept : (c image : ClassFile) (op index dimensions : ℕ) → HasMore c image → Kept (array_reference c op index dimensions) (array_reference image op index dimensions)
+array_reference-kept c image op index dimensions has n =
     chosen-kept (op == 197) _ None _ None n
     (map-kept (multi_of dimensions) (named_class c.pool index) (named_class image.pool index) n (class-kept c image index has)) (λ none. none)
 
-named-kept : (old new : Option Naming) (o : Operation) → Kept old new → option_and_then named_by old ≡ Some o → option_and_then named_by new ≡ Some o
+named-kept : (old new : Option SymbolicReference) (o : Operation) → Kept old new → option_and_then named_by old ≡ Some o → option_and_then named_by new ≡ Some o
 named-kept old new o keeps = then-kept named_by named_by old new o keeps (λ n is. is)
 
 other_operation-kept : (c image : ClassFile) (op : ℕ) (a : Arg) (o : Operation) → HasMore c image → other_operation c op a ≡ Some o → other_operation image op a ≡ Some o
-other_operation-kept c image op (arg.Pool index) o has e = named-kept (naming_of c op index) (naming_of image op index) o (naming_of-kept c image op index has) e
+other_operation-kept c image op (arg.Pool index) o has e = named-kept (symbolic_reference_of c op index) (symbolic_reference_of image op index) o (symbolic_reference_of-kept c image op index has) e
 other_operation-kept c image op (arg.Interface index count last) o has e =
-    named-kept (interface_naming c op index) (interface_naming image op index) o (interface_naming-kept c image op index has) e
+    named-kept (interface_reference c op index) (interface_reference image op index) o (interface_reference-kept c image op index has) e
 other_operation-kept c image op (arg.Multi index dimensions) o has e =
-    named-kept (multi_naming c op index dimensions) (multi_naming image op index dimensions) o (multi_naming-kept c image op index dimensions has) e
+    named-kept (array_reference c op index dimensions) (array_reference image op index dimensions) o (array_reference-kept c image op index dimensions has) e
 other_operation-kept c image op a o has e = e
 
 -- what an entry of the pool is to an ldc

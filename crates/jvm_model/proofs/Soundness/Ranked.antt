@@ -13,7 +13,7 @@ use Rattle.jvm_model.specs.Basis.Data as operation
 use Rattle.jvm_model.specs.Instructions.Does.{does, loads}
 use Rattle.jvm_model.specs.Classes.Load.{is_among, load_of, needs_of}
 use Rattle.jvm_model.specs.Classes.Lookup.{interface_names, interfaces_of, is_interface, superclass_of, superclasses_within, superinterfaces_within, supertypes_within}
-use Rattle.jvm_model.specs.Instructions.Naming.{New, newly_loaded, resolved_name, resolves}
+use Rattle.jvm_model.specs.Instructions.SymbolicReference.{New, newly_loaded, resolved_name, resolves}
 use Rattle.jvm_model.specs.Codes.Originals.{original}
 use Rattle.jvm_model.specs.Basis.Programs.{class_at, class_named, has_name, name_at, super_of}
 use Rattle.jvm_model.specs.Running.Run.{before, loads_if, main_class, main_loads, run, start, steps_at, steps_by, steps_on, turn_in-zero, turn_in-suc, with_loaded}

@@ -16,9 +16,9 @@ use Rattle.code_model.specs.declared.instr.Arg.TheVariants as arg
 use Rattle.code_model.specs.Instructions.{instruction_at, end_of}
 use Rattle.jvm_model.specs.declared.family.Family.{Family}
 use Rattle.jvm_model.specs.declared.family.Family.TheVariants as family
-use Rattle.jvm_model.specs.Basis.Data.{Local, MethodPlace, Naming, New, Getfield, Putfield, Getstatic, Putstatic, Invokevirtual, Invokespecial, Invokestatic, Invokeinterface, Checkcast, Instanceof, Anewarray, Multianewarray, LdcClass, Operation, Within, Named, Athrow, Monitor, Newarray, Arraylength, LoadElement, StoreElement, LdcString, Instruction, Program}
+use Rattle.jvm_model.specs.Basis.Data.{Local, MethodPlace, SymbolicReference, New, Getfield, Putfield, Getstatic, Putstatic, Invokevirtual, Invokespecial, Invokestatic, Invokeinterface, Checkcast, Instanceof, Anewarray, Multianewarray, LdcClass, Operation, Within, Named, Athrow, Monitor, Newarray, Arraylength, LoadElement, StoreElement, LdcString, Instruction, Program}
 use Rattle.jvm_model.specs.Basis.Families.{family_of}
-use Rattle.jvm_model.specs.Codes.Lines.{ObjectRow, code_instruction, constant_in, given_operation, has_dimensions, instruction_of, interface_naming, local_of, method_instruction, multi_naming, multi_of, named_by, named_interface_method, naming_of, newarray_of, next_of, object_among, object_constant, object_constant_in, object_rows, operation_by, operation_of, other_operation, special_of, targets_of}
+use Rattle.jvm_model.specs.Codes.Lines.{ObjectRow, code_instruction, constant_in, given_operation, has_dimensions, instruction_of, interface_reference, local_of, method_instruction, array_reference, multi_of, named_by, named_interface_method, symbolic_reference_of, newarray_of, next_of, object_among, object_constant, object_constant_in, object_rows, operation_by, operation_of, other_operation, special_of, targets_of}
 use Rattle.jvm_model.specs.Basis.Methods.{method_code}
 use Rattle.jvm_model.specs.Codes.Originals.{original}
 use Rattle.jvm_model.specs.Basis.Programs.{class_at, name_of, place_of_method}
@@ -36,7 +36,7 @@ small code e = grind (arith)
 module _ (c : ClassFile) where
   -- ---- what a class's instruction names
 
-  abbrev NamesCaller : Naming → Type 0
+  abbrev NamesCaller : SymbolicReference → Type 0
   NamesCaller (Invokespecial caller r interface) = name_of c ≡ Some caller
   NamesCaller n = Unit {0}
 
@@ -45,11 +45,11 @@ module _ (c : ClassFile) where
   IsFormed (Newarray code) = code < 16
   IsFormed o = Unit {0}
 
-  mapped : {A : Type 0} (make : A → Naming) (o : Option A) → ((x : A) → NamesCaller (make x)) → IfSome (option_map make o) NamesCaller
+  mapped : {A : Type 0} (make : A → SymbolicReference) (o : Option A) → ((x : A) → NamesCaller (make x)) → IfSome (option_map make o) NamesCaller
   mapped make None each = tt
   mapped make (Some x) each = each x
 
-  chosen : (b : Bool) (x y : Option Naming) → IfSome x NamesCaller → IfSome y NamesCaller → IfSome (if b then x else y) NamesCaller
+  chosen : (b : Bool) (x y : Option SymbolicReference) → IfSome x NamesCaller → IfSome y NamesCaller → IfSome (if b then x else y) NamesCaller
   chosen true x y first second = first
   chosen false x y first second = second
 
@@ -58,7 +58,7 @@ module _ (c : ClassFile) where
   special-names None o e = tt
   special-names (Some caller) o e = mapped (special_of caller) o (λ r. e)
 
-  naming-names : (op index : ℕ) → IfSome (naming_of c op index) NamesCaller
+  naming-names : (op index : ℕ) → IfSome (symbolic_reference_of c op index) NamesCaller
   naming-names op index =
       chosen (op == 178) _ _ (mapped Getstatic (named_field c.pool index) (λ r. tt))
       (chosen (op == 179) _ _ (mapped Putstatic (named_field c.pool index) (λ r. tt))
@@ -72,13 +72,13 @@ module _ (c : ClassFile) where
       (chosen (op == 192) _ _ (mapped Checkcast (named_class c.pool index) (λ r. tt))
       (chosen (op == 193) _ None (mapped Instanceof (named_class c.pool index) (λ r. tt)) tt))))))))))
 
-  interface-names : (op index : ℕ) → IfSome (interface_naming c op index) NamesCaller
+  interface-names : (op index : ℕ) → IfSome (interface_reference c op index) NamesCaller
   interface-names op index = chosen (op == 185) _ None (mapped Invokeinterface (named_interface_method c.pool index) (λ r. tt)) tt
 
-  multi-names : (op index dimensions : ℕ) → IfSome (multi_naming c op index dimensions) NamesCaller
+  multi-names : (op index dimensions : ℕ) → IfSome (array_reference c op index dimensions) NamesCaller
   multi-names op index dimensions = chosen (op == 197) _ None (mapped (multi_of dimensions) (named_class c.pool index) (λ r. tt)) tt
 
-  named-formed : (n : Option Naming) → IfSome n NamesCaller → IfSome (option_and_then named_by n) IsFormed
+  named-formed : (n : Option SymbolicReference) → IfSome n NamesCaller → IfSome (option_and_then named_by n) IsFormed
   named-formed None names = tt
   named-formed (Some n) names = by (has_dimensions n) refl
     where
@@ -105,9 +105,9 @@ module _ (c : ClassFile) where
       by false b e = tt
 
   other-formed : (op : ℕ) (a : Arg) → IfSome (other_operation c op a) IsFormed
-  other-formed op (arg.Pool index) = named-formed (naming_of c op index) (naming-names op index)
-  other-formed op (arg.Interface index count third) = named-formed (interface_naming c op index) (interface-names op index)
-  other-formed op (arg.Multi index dimensions) = named-formed (multi_naming c op index dimensions) (multi-names op index dimensions)
+  other-formed op (arg.Pool index) = named-formed (symbolic_reference_of c op index) (naming-names op index)
+  other-formed op (arg.Interface index count third) = named-formed (interface_reference c op index) (interface-names op index)
+  other-formed op (arg.Multi index dimensions) = named-formed (array_reference c op index dimensions) (multi-names op index dimensions)
   other-formed op (arg.Array code) = array-formed op code
   other-formed op arg.Plain = object-formed op object_rows
       (tt, (tt, (tt, (tt, (tt, (tt, (tt, (tt, (tt, (tt, (tt, (tt, (tt, (tt, (tt, (tt, tt))))))))))))))))
@@ -212,7 +212,7 @@ stands p version offset i e = by_place (place_of_method p version) refl e
     by_place (Some place) method e = by_class place (class_at p place.class) method refl e
 
 module _ (p : Program) (fit : IsFit p) (loaded : List ℕ) where
-  caller-loaded : (c : ClassFile) (class : ℕ) (n : Naming) → class_at p class ≡ Some c → IsLoaded loaded class → NamesCaller c n → HasLoadedCaller p loaded n
+  caller-loaded : (c : ClassFile) (class : ℕ) (n : SymbolicReference) → class_at p class ≡ Some c → IsLoaded loaded class → NamesCaller c n → HasLoadedCaller p loaded n
   caller-loaded c class (Invokespecial caller r interface) at there names =
       λ other found.
       subst (IsLoaded loaded)

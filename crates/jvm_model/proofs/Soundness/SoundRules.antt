@@ -36,8 +36,8 @@ use Rattle.jvm_model.specs.Classes.Layouts.{layout}
 use Rattle.jvm_model.specs.Classes.Load.{Fault, NoClass, Circular, Incompatible, error_of, load_of}
 use Rattle.jvm_model.specs.Instructions.LocalRules.{pushes, replaces}
 use Rattle.jvm_model.specs.Classes.Lookup.{MemberPlace, Fails, first_in, field_at, found_or, incompatible_change, is_interface, method_at, method_order, resolved_field, resolved_method, superclasses, superinterfaces, supertypes}
-use Rattle.jvm_model.specs.Instructions.Naming.{◌>>=◌, Naming, New, Getfield, Putfield, Getstatic, Putstatic, Invokevirtual, Invokespecial, Invokestatic, Invokeinterface, Checkcast, Instanceof, Anewarray, Multianewarray, LdcClass, found, is_below_kind, is_instance, is_null, kind_unless, newly_loaded, receiver, resolved_kind, resolved_name, resolves, unless_refused, where_fitting}
-use Rattle.jvm_model.specs.Instructions.NamingRules.{does_named}
+use Rattle.jvm_model.specs.Instructions.SymbolicReference.{◌>>=◌, SymbolicReference, New, Getfield, Putfield, Getstatic, Putstatic, Invokevirtual, Invokespecial, Invokestatic, Invokeinterface, Checkcast, Instanceof, Anewarray, Multianewarray, LdcClass, found, is_below_kind, is_instance, is_null, kind_unless, newly_loaded, receiver, resolved_kind, resolved_name, resolves, unless_refused, where_fitting}
+use Rattle.jvm_model.specs.Instructions.ReferenceRules.{does_named}
 use Rattle.jvm_model.specs.Instructions.NativeRules.{kinds_in, left_by_native, outcome_of, runs_native, runs_number, seen_by_natives, thrown_by}
 use Rattle.jvm_model.specs.Basis.Descriptors.{same_text}
 use Rattle.jvm_model.specs.Instructions.ObjectRules.{done, makes}
@@ -629,7 +629,7 @@ module _ (w : World) (fit : IsFit w.program) (s : Shared) (is : IsSoundShared w.
   second_of_and false b h = absurd (false_true h)
 
   -- where all is loaded that it names, and it is resolved
-  rule-fine : (n : Naming) (l : Locals) (o : Operands) → HasLoadedCaller p s.loaded n → has_dimensions n ≡ true → (resolves n o ≡ true → Whole (resolved_name n))
+  rule-fine : (n : SymbolicReference) (l : Locals) (o : Operands) → HasLoadedCaller p s.loaded n → has_dimensions n ≡ true → (resolves n o ≡ true → Whole (resolved_name n))
       → Fine (does_named w n s l o)
   rule-fine (New name) l o current deep whole = new-fine name l o (whole refl)
   rule-fine (Getfield r) l o current deep whole = get-fine r l o (whole refl)
@@ -648,13 +648,13 @@ module _ (w : World) (fit : IsFit w.program) (s : Shared) (is : IsSoundShared w.
       multi-fine name dimensions l o (whole refl) (second_of_and (nat_le 1 dimensions) (nat_le dimensions (meaning_of name).dimensions) deep)
 
   -- where the attempt loads nothing more
-  pub sound-named : (n : Naming) (l : Locals) (o : Operands) → HasLoadedCaller p s.loaded n → has_dimensions n ≡ true → newly_loaded p s.loaded n o ≡ []
+  pub sound-named : (n : SymbolicReference) (l : Locals) (o : Operands) → HasLoadedCaller p s.loaded n → has_dimensions n ≡ true → newly_loaded p s.loaded n o ≡ []
       → IsSoundDone p s.loaded (does_named w n s l o)
   sound-named n l o current deep nothing =
       rule-fine n l o current deep (λ does. sym (newly-loaded p s.loaded n o does) ∙ (ap (λ more. s.loaded ++ more) nothing ∙ append-nil s.loaded))
 
 -- What is invoked is of a class that is loaded.
-pub callee-loaded : (w : World) (n : Naming) (s : Shared) (l : Locals) (o : Operands) (method : ℕ) (args : List Datum) (below : Operands) → IsFit w.program
+pub callee-loaded : (w : World) (n : SymbolicReference) (s : Shared) (l : Locals) (o : Operands) (method : ℕ) (args : List Datum) (below : Operands) → IsFit w.program
     → IsSoundShared w.program s → HasLoadedCaller w.program s.loaded n → has_dimensions n ≡ true → newly_loaded w.program s.loaded n o ≡ []
     → (does_named w n s l o).outcome ≡ Invokes method args below → HasClass w.program s.loaded method
 callee-loaded w n s l o method args below fit is current deep nothing e =

@@ -11,7 +11,7 @@ use Rattle.jvm_model.specs.Instructions.Does.{does, loads}
 use Rattle.jvm_model.specs.Classes.Kinds.{meaning_of}
 use Rattle.jvm_model.specs.Classes.Load.{Fault, NoClass, Circular, Incompatible, error_of, load_of}
 use Rattle.jvm_model.specs.Running.Moves.{move, moves, settled, then_turn}
-use Rattle.jvm_model.specs.Instructions.Naming.{New, message_of, newly_loaded, resolved_name, resolves}
+use Rattle.jvm_model.specs.Instructions.SymbolicReference.{New, message_of, newly_loaded, resolved_name, resolves}
 use Rattle.jvm_model.specs.Codes.Originals.{original}
 use Rattle.jvm_model.specs.Basis.Programs.{name_at}
 use Rattle.jvm_model.specs.Running.Run.{arguments_made, attempt, before, main_class, main_classes, main_loading, main_loads, opened, start, starts, starts_if, starts_unless, starts_with, step, steps_at, steps_by, steps_on, tries, with_loaded}

@@ -3,7 +3,7 @@ use Rattle.std.proofs.Common.{append-nil, append_assoc, ◌≡◌, ℕ, zero, su
 use Rattle.std.specs.Option.{option_map_or}
 use Rattle.jvm_model.specs.Basis.Data.{Operands, Frame, Entry, Active, Initializing, Ending, Shared, State, Change, Loads, Turn, Operation, Within, Named, Athrow, Monitor, Newarray, Arraylength, LoadElement, StoreElement, LdcString, Instruction, Listing, World}
 use Rattle.jvm_model.specs.Instructions.Does.{does, loads}
-use Rattle.jvm_model.specs.Instructions.Naming.{newly_loaded}
+use Rattle.jvm_model.specs.Instructions.SymbolicReference.{newly_loaded}
 use Rattle.jvm_model.specs.Running.Applies.{still}
 use Rattle.jvm_model.specs.Running.Moves.{move, left, then_turn, settles, settled}
 use Rattle.jvm_model.specs.Running.Run.{with_loaded, loaded_turn, steps_by, steps_at, steps_on, step}
@@ -22,7 +22,7 @@ with_loaded-ending [] s = refl
 with_loaded-ending (c ∷ more) s = refl
 
 -- where it was loaded nothing is loaded more
-named-again : (w : World) (classes : List ℕ) (s : State) (o : Operands) (n : Rattle.jvm_model.specs.Basis.Data.Naming) → newly_loaded w.program s.shared.loaded n o ≡ classes
+named-again : (w : World) (classes : List ℕ) (s : State) (o : Operands) (n : Rattle.jvm_model.specs.Basis.Data.SymbolicReference) → newly_loaded w.program s.shared.loaded n o ≡ classes
     → newly_loaded w.program (with_loaded classes s).shared.loaded n o ≡ []
 named-again w [] s o n e = e
 named-again w (c ∷ more) s o n e =

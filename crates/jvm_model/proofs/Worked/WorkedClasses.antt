@@ -14,8 +14,8 @@ use Rattle.jvm_model.specs.Classes.Kinds.{kind_named}
 use Rattle.jvm_model.specs.Classes.Load.{circular_class}
 use Rattle.jvm_model.specs.Instructions.ObjectRules.{array_kind}
 use Rattle.jvm_model.specs.Classes.Lookup.{incompatible_change}
-use Rattle.jvm_model.specs.Instructions.Naming.{Naming, New, Getfield, Putfield, Getstatic, Putstatic, Checkcast, Instanceof, Anewarray, Multianewarray, newly_loaded}
-use Rattle.jvm_model.specs.Instructions.NamingRules.{does_named}
+use Rattle.jvm_model.specs.Instructions.SymbolicReference.{SymbolicReference, New, Getfield, Putfield, Getstatic, Putstatic, Checkcast, Instanceof, Anewarray, Multianewarray, newly_loaded}
+use Rattle.jvm_model.specs.Instructions.ReferenceRules.{does_named}
 use Rattle.jvm_model.specs.Basis.Programs.{numbered}
 use Rattle.jvm_model.specs.Basis.SharedState.{Field, kind_for, negative_array_size, no_class_definition, no_such_field, null_pointer, shared_before, static_at, string, with_phase}
 use Rattle.jvm_model.proofs.Worked.WorkedLibrary.{Shape, class, file_of, interface, item, library_files, object_name, with_fields}
@@ -43,10 +43,10 @@ with_objects make s = record s { heap = make s.heap }
 abbrev pub world_with : Program → World
 world_with p = record { program = p; input = [] }
 
-abbrev pub asked : Program → Naming → Shared → Operands → Outcome
+abbrev pub asked : Program → SymbolicReference → Shared → Operands → Outcome
 asked p n s o = (does_named (world_with p) n s [] o).outcome
 
-abbrev pub shared_by : Program → Naming → Shared → Operands → Shared
+abbrev pub shared_by : Program → SymbolicReference → Shared → Operands → Shared
 shared_by p n s o = (does_named (world_with p) n s [] o).shared
 
 -- without locals
@@ -82,7 +82,7 @@ abbrev pub built_in : List ℕ
 built_in = (shared_before loading).loaded
 
 -- what is loaded where only the built-in classes are
-abbrev pub first_loaded : Naming → Operands → List ℕ
+abbrev pub first_loaded : SymbolicReference → Operands → List ℕ
 first_loaded n o = newly_loaded loading built_in n o
 
 pub load-in_order : first_loaded (New a) [] ≡ 1 ∷ 0 ∷ []
@@ -181,7 +181,7 @@ held = with_objects field_objects (ready fields field_classes)
 abbrev pub field : List ℕ → List ℕ → List ℕ → Reference
 field = reference
 
-abbrev pub of_field : Naming → Operands → Outcome
+abbrev pub of_field : SymbolicReference → Operands → Outcome
 of_field n o = asked fields n held o
 
 -- ---- getstatic
@@ -210,7 +210,7 @@ getstatic-of_array = refl
 
 -- ---- putstatic: initialization comes before the operand
 
-abbrev pub put_s : Naming
+abbrev pub put_s : SymbolicReference
 put_s = Putstatic (field b (codes "s") (codes "Z"))
 
 pub putstatic-initializes : asked fields put_s (fresh fields field_classes) [] ≡ Initializes 0
@@ -269,7 +269,7 @@ getfield-of_interface = refl
 
 -- ---- putfield
 
-abbrev pub put_b : Naming
+abbrev pub put_b : SymbolicReference
 put_b = Putfield (field b (codes "b") (codes "B"))
 
 -- what a slot of the object of B holds afterwards
@@ -336,7 +336,7 @@ uninitialized = fresh creating (0 ∷ 1 ∷ 2 ∷ 3 ∷ [])
 abbrev pub used : ℕ → Shared
 used n = with_objects (λ h. record h { used = n }) creatable
 
-abbrev pub made_by : Naming → Operands → HeapView
+abbrev pub made_by : SymbolicReference → Operands → HeapView
 made_by n o = (shared_by creating n creatable o).heap
 
 -- ---- new
@@ -383,7 +383,7 @@ new-of_string-slots = refl
 
 -- ---- anewarray
 
-abbrev pub array_of_a : Naming
+abbrev pub array_of_a : SymbolicReference
 array_of_a = Anewarray a
 
 -- no class is initialized
@@ -410,7 +410,7 @@ anewarray-without_room = refl
 
 -- ---- multianewarray: the topmost operand counts the innermost elements
 
-abbrev pub cube : Naming
+abbrev pub cube : SymbolicReference
 cube = Multianewarray (codes "[[[I") 3
 
 abbrev pub counts : ℕ → ℕ → ℕ → Operands
@@ -442,7 +442,7 @@ multianewarray-slots = refl
 pub multianewarray-goes_on : asked creating cube creatable (counts 2 2 1 ++ Ref 2 ∷ []) ≡ with_operands (Ref 5 ∷ Ref 2 ∷ [])
 multianewarray-goes_on = refl
 
-abbrev pub square : Naming
+abbrev pub square : SymbolicReference
 square = Multianewarray (codes "[[I") 2
 
 pub multianewarray-square : both 5 (made_by square (Int (pos 2) ∷ Int (pos 2) ∷ [])) ≡ (Some (ref 6), Some (ref 7))
@@ -488,7 +488,7 @@ cast_objects h =
     with_array (unwrap_or (kind_named creating (codes "[LB;")) 0) (ref 0) 0
     (with_instance (kind_for creating b) (number 0 ∷ long 0 ∷ ref 0 ∷ []) h)
 
-abbrev pub of_cast : Naming → Operands → Outcome
+abbrev pub of_cast : SymbolicReference → Operands → Outcome
 of_cast n o = asked creating n (with_objects cast_objects creatable) o
 
 pub checkcast-of_subclass : of_cast (Checkcast a) (Ref 5 ∷ Ref 2 ∷ []) ≡ with_operands (Ref 5 ∷ Ref 2 ∷ [])

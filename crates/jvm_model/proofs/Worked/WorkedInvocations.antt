@@ -20,8 +20,8 @@ use Rattle.jvm_model.specs.Running.Constants.{Setting, sets_constants}
 use Rattle.jvm_model.specs.Basis.Data.{Datum, Operands, Program, Shared, Outcome, Invokes, Initializes, Breaks}
 use Rattle.jvm_model.specs.Instructions.InvocationRules.{abstract_method, named_method, unsatisfied_link}
 use Rattle.jvm_model.specs.Classes.Lookup.{incompatible_change, place_in}
-use Rattle.jvm_model.specs.Instructions.Naming.{Naming, Invokevirtual, Invokespecial, Invokestatic, Invokeinterface}
-use Rattle.jvm_model.specs.Instructions.NamingRules.{does_named}
+use Rattle.jvm_model.specs.Instructions.SymbolicReference.{SymbolicReference, Invokevirtual, Invokespecial, Invokestatic, Invokeinterface}
+use Rattle.jvm_model.specs.Instructions.ReferenceRules.{does_named}
 use Rattle.jvm_model.specs.Instructions.ObjectRules.{array_kind}
 use Rattle.jvm_model.specs.Basis.Programs.{class_named}
 use Rattle.jvm_model.specs.Basis.SharedState.{kind_for, no_such_method, null_pointer, shared_before, string, system, throwable}
@@ -66,12 +66,12 @@ call_objects h =
 abbrev pub callable : Shared
 callable = with_objects call_objects (ready calling method_classes)
 
-abbrev pub of_call : Naming → Operands → Outcome
+abbrev pub of_call : SymbolicReference → Operands → Outcome
 of_call n o = asked calling n callable o
 
 -- ---- invokestatic
 
-abbrev pub call_s : Naming
+abbrev pub call_s : SymbolicReference
 call_s = Invokestatic (reference b (codes "s") (codes "(IJ)I"))
 
 -- the class that declares the method is initialized, before the operands are looked at
@@ -98,7 +98,7 @@ invokestatic-of_native = refl
 
 -- ---- invokevirtual
 
-abbrev pub call_v : Naming
+abbrev pub call_v : SymbolicReference
 call_v = Invokevirtual (reference a (codes "v") (codes "(I)I"))
 
 pub invokevirtual-of_override : of_call call_v (Int (pos 7) ∷ Ref 5 ∷ Ref 2 ∷ []) ≡ Invokes 4 (ref 5 ∷ number 7 ∷ []) (Ref 2 ∷ [])
@@ -165,7 +165,7 @@ package_private-own_package = refl
 
 -- ---- invokespecial: from the class in which it stands
 
-abbrev pub special : List ℕ → List ℕ → List ℕ → Naming
+abbrev pub special : List ℕ → List ℕ → List ℕ → SymbolicReference
 special caller name descriptor = Invokespecial caller (reference a name descriptor) false
 
 pub invokespecial-of_superclass : of_call (special (codes "C") (codes "v") (codes "(I)I")) (Int (pos 7) ∷ Ref 5 ∷ []) ≡ Invokes 4 (ref 5 ∷ number 7 ∷ []) []
@@ -204,7 +204,7 @@ invokespecial-of_another_class = refl
 
 -- ---- invokeinterface
 
-abbrev pub call_i : Naming
+abbrev pub call_i : SymbolicReference
 call_i = Invokeinterface (reference (codes "I") (codes "i") to_int)
 
 pub invokeinterface-invokes : of_call call_i (Ref 6 ∷ Ref 2 ∷ []) ≡ Invokes 6 (ref 6 ∷ []) (Ref 2 ∷ [])
@@ -244,7 +244,7 @@ method_of_array = refl
 
 -- ---- built-in methods without Code
 
-abbrev pub init_of : List ℕ → Naming
+abbrev pub init_of : List ℕ → SymbolicReference
 init_of name = Invokespecial a (reference name (codes "<init>") (codes "()V")) false
 
 pub init-of_object : does_named (world_with calling) (init_of object_name) callable [] (Ref 5 ∷ Ref 2 ∷ []) ≡ record { shared = callable; wrote = []; outcome = with_operands (Ref 2 ∷ []) }
@@ -275,7 +275,7 @@ pub init-of_text : units_at 10 (shared_by calling (init_of string) callable (Ref
 unfolding native_methods rows built_in_classes object_classes text_classes stream_classes value_classes throwable_classes is_among
 init-of_text = refl
 
-abbrev pub call_println : Naming
+abbrev pub call_println : SymbolicReference
 call_println = Invokevirtual (reference (codes "java/io/PrintStream") (codes "println") (codes "(I)V"))
 
 pub println-prints : does_named (world_with calling) call_println callable [] (Int (pos 42) ∷ Ref 4 ∷ Ref 2 ∷ []) ≡ record { shared = callable; wrote = utf8_of (codes "42\n"); outcome = with_operands (Ref 2 ∷ []) }

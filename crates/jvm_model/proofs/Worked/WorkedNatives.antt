@@ -16,7 +16,7 @@ use Rattle.native_ops.specs.KindsViews.{is_among}
 use Rattle.native_ops.specs.Rows.{rows}
 use Rattle.jvm_model.specs.Instructions.ConstantRules.{pushes_string}
 use Rattle.jvm_model.specs.Basis.Data.{Datum, Shared, Throws, Exits, Breaks, Done}
-use Rattle.jvm_model.specs.Instructions.Naming.{Naming, LdcClass}
+use Rattle.jvm_model.specs.Instructions.SymbolicReference.{SymbolicReference, LdcClass}
 use Rattle.jvm_model.specs.Instructions.NativeRules.{runs_native}
 use Rattle.jvm_model.proofs.Worked.WorkedPrograms.{reference}
 use Rattle.jvm_model.proofs.Worked.WorkedClasses.{asked, raises, ref, shared_by, with_objects, with_operands}
@@ -96,7 +96,7 @@ string-is_found = refl
 pub string-without_room : (pushes_string calling (codes "hi") full [] []).outcome ≡ Throws 1
 string-without_room = refl
 
-abbrev pub class_b : Naming
+abbrev pub class_b : SymbolicReference
 class_b = LdcClass (codes "B")
 
 pub class-is_made : asked calling class_b callable [] ≡ with_operands (Ref 11 ∷ [])

@@ -101,29 +101,29 @@ pub data Local : Type 0 where
 
 -- An instruction that names a class, a field or a method, with the names that it gives: what they refer to is looked up in the program
 -- when it is executed.
-pub data Naming : Type 0 where
-  New : List ℕ → Naming
-  Getfield : Reference → Naming
-  Putfield : Reference → Naming
-  Getstatic : Reference → Naming
-  Putstatic : Reference → Naming
-  Invokevirtual : Reference → Naming
+pub data SymbolicReference : Type 0 where
+  New : List ℕ → SymbolicReference
+  Getfield : Reference → SymbolicReference
+  Putfield : Reference → SymbolicReference
+  Getstatic : Reference → SymbolicReference
+  Putstatic : Reference → SymbolicReference
+  Invokevirtual : Reference → SymbolicReference
   -- with the name of the class in which it stands, and whether it names an interface's method
-  Invokespecial : List ℕ → Reference → Bool → Naming
-  Invokestatic : Reference → Naming
-  Invokeinterface : Reference → Naming
-  Checkcast : List ℕ → Naming
-  Instanceof : List ℕ → Naming
-  Anewarray : List ℕ → Naming
+  Invokespecial : List ℕ → Reference → Bool → SymbolicReference
+  Invokestatic : Reference → SymbolicReference
+  Invokeinterface : Reference → SymbolicReference
+  Checkcast : List ℕ → SymbolicReference
+  Instanceof : List ℕ → SymbolicReference
+  Anewarray : List ℕ → SymbolicReference
   -- with so many dimensions that are given
-  Multianewarray : List ℕ → ℕ → Naming
+  Multianewarray : List ℕ → ℕ → SymbolicReference
   -- ldc, ldc_w of a Class
-  LdcClass : List ℕ → Naming
+  LdcClass : List ℕ → SymbolicReference
 
 -- An instruction as it is attempted.
 pub data Operation : Type 0 where
   Within : Local → Operation
-  Named : Naming → Operation
+  Named : SymbolicReference → Operation
   Athrow : Operation
   -- monitorenter, monitorexit
   Monitor : Operation

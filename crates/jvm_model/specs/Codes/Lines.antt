@@ -16,7 +16,7 @@ use Rattle.code_model.specs.declared.instr.Arg.TheVariants as arg
 use Rattle.code_model.specs.Instructions.{instruction_at, end_of}
 use Rattle.jvm_model.specs.declared.family.Family.{Family}
 use Rattle.jvm_model.specs.declared.family.Family.TheVariants as family
-use Rattle.jvm_model.specs.Basis.Data.{Datum, Keys, Consecutive, Listed, Local, Nop, Constant, Load, Store, Arrange, BinaryOfInts, BinaryOfLongs, DivisionOfInts, DivisionOfLongs, ShiftOfLong, UnaryOfInt, UnaryOfLong, Lcmp, Iinc, Branch, Goto, Switch, Jsr, Ret, Return, Naming, New, Getfield, Putfield, Getstatic, Putstatic, Invokevirtual, Invokespecial, Invokestatic, Invokeinterface, Checkcast, Instanceof, Anewarray, Multianewarray, LdcClass, Operation, Within, Named, Athrow, Monitor, Newarray, Arraylength, LoadElement, StoreElement, LdcString, Instruction}
+use Rattle.jvm_model.specs.Basis.Data.{Datum, Keys, Consecutive, Listed, Local, Nop, Constant, Load, Store, Arrange, BinaryOfInts, BinaryOfLongs, DivisionOfInts, DivisionOfLongs, ShiftOfLong, UnaryOfInt, UnaryOfLong, Lcmp, Iinc, Branch, Goto, Switch, Jsr, Ret, Return, SymbolicReference, New, Getfield, Putfield, Getstatic, Putstatic, Invokevirtual, Invokespecial, Invokestatic, Invokeinterface, Checkcast, Instanceof, Anewarray, Multianewarray, LdcClass, Operation, Within, Named, Athrow, Monitor, Newarray, Arraylength, LoadElement, StoreElement, LdcString, Instruction}
 use Rattle.jvm_model.specs.Basis.Families.{family_of}
 use Rattle.jvm_model.specs.Classes.Kinds.{meaning_of}
 use Rattle.jvm_model.specs.Basis.Methods.{method_code}
@@ -96,13 +96,13 @@ named_interface_method pool i =
     if option_map_or is_interface_method (entry_at pool i) false then named_member pool i else None
 
 -- invokespecial, in a class of this name
-abbrev pub special_of : List ℕ → Reference → Naming
+abbrev pub special_of : List ℕ → Reference → SymbolicReference
 special_of caller r = Invokespecial caller r false
 
 -- Those with a pool index alone, a row each: field instructions name a field; invokevirtual, invokespecial and invokestatic a method;
 -- new, anewarray, checkcast and instanceof a class (4.10.1, 6.5).
-abbrev pub naming_of : ClassFile → ℕ → ℕ → Option Naming
-naming_of c op index =
+abbrev pub symbolic_reference_of : ClassFile → ℕ → ℕ → Option SymbolicReference
+symbolic_reference_of c op index =
     if op == 178 then option_map Getstatic (named_field c.pool index)
     else if op == 179 then option_map Putstatic (named_field c.pool index)
     else if op == 180 then option_map Getfield (named_field c.pool index)
@@ -117,24 +117,24 @@ naming_of c op index =
     else None
 
 -- invokeinterface, whose further two bytes say nothing more
-abbrev pub interface_naming : ClassFile → ℕ → ℕ → Option Naming
-interface_naming c op index = if op == 185 then option_map Invokeinterface (named_interface_method c.pool index) else None
+abbrev pub interface_reference : ClassFile → ℕ → ℕ → Option SymbolicReference
+interface_reference c op index = if op == 185 then option_map Invokeinterface (named_interface_method c.pool index) else None
 
 -- multianewarray, with so many dimensions that are given
-abbrev pub multi_of : ℕ → List ℕ → Naming
+abbrev pub multi_of : ℕ → List ℕ → SymbolicReference
 multi_of dimensions name = Multianewarray name dimensions
 
-abbrev pub multi_naming : ClassFile → ℕ → ℕ → ℕ → Option Naming
-multi_naming c op index dimensions = if op == 197 then option_map (multi_of dimensions) (named_class c.pool index) else None
+abbrev pub array_reference : ClassFile → ℕ → ℕ → ℕ → Option SymbolicReference
+array_reference c op index dimensions = if op == 197 then option_map (multi_of dimensions) (named_class c.pool index) else None
 
 -- What an array type has for dimensions (4.9.1): anewarray names one of fewer than 255, multianewarray one of at least as many as are
 -- given, which are 1 or more. An instruction that names another is none; decoded code that was looked at has none such.
-abbrev pub has_dimensions : Naming → Bool
+abbrev pub has_dimensions : SymbolicReference → Bool
 has_dimensions (Anewarray name) = nat_lt (meaning_of name).dimensions 255
 has_dimensions (Multianewarray name dimensions) = nat_le 1 dimensions && nat_le dimensions (meaning_of name).dimensions
 has_dimensions n = true
 
-abbrev pub named_by : Naming → Option Operation
+abbrev pub named_by : SymbolicReference → Option Operation
 named_by n = if has_dimensions n then Some (Named n) else None
 
 -- ---- instructions that see objects
@@ -168,9 +168,9 @@ newarray_of op code = if op == 188 && is_in_range 4 11 code then Some (Newarray 
 
 -- of no family: by the form of its operand
 abbrev pub other_operation : ClassFile → ℕ → Arg → Option Operation
-other_operation c op (arg.Pool index) = option_and_then named_by (naming_of c op index)
-other_operation c op (arg.Interface index count zero) = option_and_then named_by (interface_naming c op index)
-other_operation c op (arg.Multi index dimensions) = option_and_then named_by (multi_naming c op index dimensions)
+other_operation c op (arg.Pool index) = option_and_then named_by (symbolic_reference_of c op index)
+other_operation c op (arg.Interface index count zero) = option_and_then named_by (interface_reference c op index)
+other_operation c op (arg.Multi index dimensions) = option_and_then named_by (array_reference c op index dimensions)
 other_operation c op (arg.Array code) = newarray_of op code
 other_operation c op arg.Plain = object_among object_rows op
 other_operation c op _ = None

@@ -5,7 +5,7 @@ use Rattle.heap_objects.specs.Heaps.{interned_number, with_interned}
 use Rattle.native_ops.specs.Making.{answer_of_class, heap_after_class, made_after_class}
 use Rattle.jvm_model.specs.Running.Constants.{can_intern}
 use Rattle.jvm_model.specs.Basis.Data.{Locals, Operands, Program, Shared, Next, GoesOn, Throws, Done}
-use Rattle.jvm_model.specs.Instructions.Naming.{resolved_kind, unless_refused}
+use Rattle.jvm_model.specs.Instructions.SymbolicReference.{resolved_kind, unless_refused}
 use Rattle.jvm_model.specs.Instructions.NativeRules.{outcome_of}
 use Rattle.jvm_model.specs.Instructions.ObjectRules.{done}
 use Rattle.jvm_model.specs.Basis.SharedState.{kind_for, string}

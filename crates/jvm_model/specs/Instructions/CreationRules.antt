@@ -16,7 +16,7 @@ use Rattle.jvm_model.specs.Classes.Layouts.{layout}
 use Rattle.jvm_model.specs.Instructions.LocalRules.{replaces}
 use Rattle.jvm_model.specs.Classes.Lookup.{is_interface}
 use Rattle.jvm_model.specs.Basis.Methods.{has_flag}
-use Rattle.jvm_model.specs.Instructions.Naming.{is_instance, is_null, resolved_kind, unless_refused}
+use Rattle.jvm_model.specs.Instructions.SymbolicReference.{is_instance, is_null, resolved_kind, unless_refused}
 use Rattle.jvm_model.specs.Instructions.ObjectRules.{done, makes}
 use Rattle.jvm_model.specs.Basis.Programs.{class_at, name_at}
 use Rattle.jvm_model.specs.Instructions.Rules.{initialized}

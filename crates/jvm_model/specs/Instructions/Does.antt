@@ -5,8 +5,8 @@ use Rattle.std.specs.Prelude.{ℕ, List, []}
 use Rattle.jvm_model.specs.Basis.Data.{Locals, Operands, Shared, World, Operation, Within, Named, Athrow, Monitor, Newarray, Arraylength, LoadElement, StoreElement, LdcString, Done}
 use Rattle.jvm_model.specs.Instructions.ConstantRules.{pushes_string}
 use Rattle.jvm_model.specs.Instructions.LocalRules.{within}
-use Rattle.jvm_model.specs.Instructions.Naming.{newly_loaded}
-use Rattle.jvm_model.specs.Instructions.NamingRules.{does_named}
+use Rattle.jvm_model.specs.Instructions.SymbolicReference.{newly_loaded}
+use Rattle.jvm_model.specs.Instructions.ReferenceRules.{does_named}
 use Rattle.jvm_model.specs.Instructions.ObjectRules.{done, array_kind, loads_element, makes, measures, place_of, stores_element, storing_of, throws, watches}
 use Rattle.jvm_model.specs.Basis.Values.{int_of, ref_of}
 

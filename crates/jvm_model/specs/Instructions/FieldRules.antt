@@ -18,7 +18,7 @@ use Rattle.jvm_model.specs.Classes.Layouts.{held_by, layout}
 use Rattle.jvm_model.specs.Instructions.LocalRules.{pushes, replaces}
 use Rattle.jvm_model.specs.Classes.Lookup.{MemberPlace, resolved_field, superclass_of}
 use Rattle.jvm_model.specs.Basis.Methods.{has_flag}
-use Rattle.jvm_model.specs.Instructions.Naming.{◌>>=◌, extends, found, is_instance, receiver, resolved_kind, unless_refused, where_fitting}
+use Rattle.jvm_model.specs.Instructions.SymbolicReference.{◌>>=◌, extends, found, is_instance, receiver, resolved_kind, unless_refused, where_fitting}
 use Rattle.jvm_model.specs.Instructions.ObjectRules.{done}
 use Rattle.jvm_model.specs.Basis.Programs.{class_at}
 use Rattle.jvm_model.specs.Instructions.Rules.{initialized}

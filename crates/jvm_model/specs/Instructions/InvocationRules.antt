@@ -13,7 +13,7 @@ use Rattle.jvm_model.specs.Basis.Data.{Datum, Locals, Operands, Program, Shared,
 use Rattle.jvm_model.specs.Basis.Descriptors.{shape_of}
 use Rattle.jvm_model.specs.Basis.KindNumbers.{user_count}
 use Rattle.jvm_model.specs.Classes.Lookup.{MemberPlace, incompatible_change, resolved_method}
-use Rattle.jvm_model.specs.Instructions.Naming.{◌>>=◌, found, is_instance, receiver, resolved_kind, unless_refused, where_fitting}
+use Rattle.jvm_model.specs.Instructions.SymbolicReference.{◌>>=◌, found, is_instance, receiver, resolved_kind, unless_refused, where_fitting}
 use Rattle.jvm_model.specs.Instructions.NativeRules.{runs_native}
 use Rattle.jvm_model.specs.Instructions.ObjectRules.{done}
 use Rattle.jvm_model.specs.Basis.Programs.{class_named, name_at, number_of_method}

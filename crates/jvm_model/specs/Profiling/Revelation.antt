@@ -3,11 +3,11 @@
 use Rattle.std.specs.Prelude.{◌≡◌, ℕ, Bool, false, List, [], ◌∷◌, ◌++◌, flat_map, filter_map, Option, Some, None, ◌==◌, if◌then◌else◌}
 use Rattle.std.specs.Option.{option_and_then, option_map, option_map_or}
 use Rattle.const_pool.specs.References.{Reference}
-use Rattle.jvm_model.specs.Basis.Data.{Program, Operation, Named, Naming, New, Getstatic, Putstatic, Invokevirtual, Invokespecial, Invokestatic, Invokeinterface}
+use Rattle.jvm_model.specs.Basis.Data.{Program, Operation, Named, SymbolicReference, New, Getstatic, Putstatic, Invokevirtual, Invokespecial, Invokestatic, Invokeinterface}
 use Rattle.jvm_model.specs.Instructions.InvocationRules.{Selecting, Virtual, OfInterface, names_interface, selected_by}
 use Rattle.jvm_model.specs.Classes.Load.{is_among}
 use Rattle.jvm_model.specs.Classes.Lookup.{MemberPlace, is_subtype, resolved_method}
-use Rattle.jvm_model.specs.Instructions.Naming.{resolved_name}
+use Rattle.jvm_model.specs.Instructions.SymbolicReference.{resolved_name}
 use Rattle.jvm_model.specs.Basis.Programs.{class_named}
 use Rattle.jvm_model.specs.Classes.Selection.{is_static}
 use Rattle.jvm_model.specs.Soundness.Sound.{HasSupertypes}
@@ -40,10 +40,10 @@ gained_call p loaded new by r = option_map_or (λ class. gained_on p new class b
 -- ---- by instruction
 
 -- with the class among the loaded ones
-abbrev pub gained_named : Program → List ℕ → ℕ → Naming → List ℕ → List ℕ
+abbrev pub gained_named : Program → List ℕ → ℕ → SymbolicReference → List ℕ → List ℕ
 gained_named p loaded new n name = if is_named p new name then begun_by p (loaded ++ new ∷ []) n else []
 
-abbrev pub gained_by : Program → List ℕ → ℕ → Naming → List ℕ
+abbrev pub gained_by : Program → List ℕ → ℕ → SymbolicReference → List ℕ
 gained_by p loaded new (New name) = gained_named p loaded new (New name) name
 gained_by p loaded new (Getstatic r) = gained_named p loaded new (Getstatic r) r.class
 gained_by p loaded new (Putstatic r) = gained_named p loaded new (Putstatic r) r.class
@@ -63,15 +63,15 @@ gained_in p loaded new operations = flat_map (gained_by_operation p loaded new) 
 -- ---- what a revelation keeps of the operations of entered methods
 
 -- the instruction with a name that begins something
-abbrev pub naming_in : Operation → Option Naming
-naming_in (Named (New name)) = Some (New name)
-naming_in (Named (Getstatic r)) = Some (Getstatic r)
-naming_in (Named (Putstatic r)) = Some (Putstatic r)
-naming_in (Named (Invokestatic r)) = Some (Invokestatic r)
-naming_in (Named (Invokespecial caller r interface)) = Some (Invokespecial caller r interface)
-naming_in (Named (Invokevirtual r)) = Some (Invokevirtual r)
-naming_in (Named (Invokeinterface r)) = Some (Invokeinterface r)
-naming_in _ = None
+abbrev pub symbolic_reference_in : Operation → Option SymbolicReference
+symbolic_reference_in (Named (New name)) = Some (New name)
+symbolic_reference_in (Named (Getstatic r)) = Some (Getstatic r)
+symbolic_reference_in (Named (Putstatic r)) = Some (Putstatic r)
+symbolic_reference_in (Named (Invokestatic r)) = Some (Invokestatic r)
+symbolic_reference_in (Named (Invokespecial caller r interface)) = Some (Invokespecial caller r interface)
+symbolic_reference_in (Named (Invokevirtual r)) = Some (Invokevirtual r)
+symbolic_reference_in (Named (Invokeinterface r)) = Some (Invokeinterface r)
+symbolic_reference_in _ = None
 
 -- a call whose named class is loaded, with the method that it comes to
 pub record Call : Type 0 where
@@ -90,18 +90,18 @@ call_in p loaded (Named (Invokevirtual r)) = call_on p loaded Virtual r
 call_in p loaded (Named (Invokeinterface r)) = call_on p loaded OfInterface r
 call_in p loaded _ = None
 
-abbrev pub namings_of : List Operation → List Naming
-namings_of operations = filter_map naming_in operations
+abbrev pub symbolic_references_of : List Operation → List SymbolicReference
+symbolic_references_of operations = filter_map symbolic_reference_in operations
 
 abbrev pub calls_of : Program → List ℕ → List Operation → List Call
 calls_of p loaded operations = filter_map (call_in p loaded) operations
 
 -- what the new class makes of them: those that name it, and the calls on a class above it
-abbrev pub named_gain : Program → List ℕ → ℕ → Naming → List ℕ
+abbrev pub named_gain : Program → List ℕ → ℕ → SymbolicReference → List ℕ
 named_gain p loaded new n = gained_named p loaded new n (resolved_name n)
 
 abbrev pub call_gain : Program → ℕ → Call → List ℕ
 call_gain p new c = if is_subtype p new c.class then coded p (selected_by p c.by c.method new) else []
 
-abbrev pub gained_from : Program → List ℕ → ℕ → List Naming → List Call → List ℕ
+abbrev pub gained_from : Program → List ℕ → ℕ → List SymbolicReference → List Call → List ℕ
 gained_from p loaded new namings calls = flat_map (named_gain p loaded new) namings ++ flat_map (call_gain p new) calls

@@ -5,7 +5,7 @@ use Rattle.std.specs.Bool.{beq}
 use Rattle.std.specs.Option.{option_and_then, option_map_or, option_to_list}
 use Rattle.const_pool.specs.declared.class.ClassFile.{ClassFile}
 use Rattle.const_pool.specs.References.{Reference}
-use Rattle.jvm_model.specs.Basis.Data.{Operation, Named, Naming, New, Getstatic, Putstatic, Invokevirtual, Invokespecial, Invokestatic, Invokeinterface, Program}
+use Rattle.jvm_model.specs.Basis.Data.{Operation, Named, SymbolicReference, New, Getstatic, Putstatic, Invokevirtual, Invokespecial, Invokestatic, Invokeinterface, Program}
 use Rattle.jvm_model.specs.Instructions.FieldRules.{is_static_field}
 use Rattle.jvm_model.specs.Instructions.InvocationRules.{Selecting, Virtual, OfInterface, Special, names_interface, selected_by}
 use Rattle.jvm_model.specs.Basis.KindNumbers.{user_count}
@@ -77,7 +77,7 @@ abbrev pub where_loaded : Program → List ℕ → List ℕ → (ℕ → List �
 where_loaded p loaded name begun = option_map_or begun (loaded_class_named p loaded name) []
 
 -- what an instruction begins, a row each; others begin nothing
-abbrev pub begun_by : Program → List ℕ → Naming → List ℕ
+abbrev pub begun_by : Program → List ℕ → SymbolicReference → List ℕ
 begun_by p loaded (New name) = where_loaded p loaded name (initializers p loaded)
 begun_by p loaded (Getstatic r) = where_loaded p loaded r.class (λ class. begun_field p loaded class r)
 begun_by p loaded (Putstatic r) = where_loaded p loaded r.class (λ class. begun_field p loaded class r)

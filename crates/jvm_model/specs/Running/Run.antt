@@ -7,7 +7,7 @@ use Rattle.jvm_model.specs.Basis.Programs.{name_at, place_of_method}
 use Rattle.jvm_model.specs.Basis.SharedState.{phase_of, with_phase, shared_before, with_arguments, arguments_fit}
 use Rattle.jvm_model.specs.Instructions.Does.{does, loads}
 use Rattle.jvm_model.specs.Classes.Load.{Fault, Loading, error_of, load_of}
-use Rattle.jvm_model.specs.Instructions.Naming.{message_of}
+use Rattle.jvm_model.specs.Instructions.SymbolicReference.{message_of}
 use Rattle.jvm_model.specs.Running.Applies.{still, breaks, applies}
 use Rattle.jvm_model.specs.Running.Moves.{raises, then_turn, settled}
 use Rattle.jvm_model.specs.Codes.Originals.{original}

@@ -12,7 +12,7 @@ use Rattle.code_model.specs.declared.instr.Instr.{Instr}
 use Rattle.jvm_model.specs.declared.operation.Resolved.{Resolved}
 use Rattle.jvm_model.specs.declared.operation.Resolved.TheVariants as resolved
 use Rattle.jvm_model.specs.declared.operation.Line.{Line}
-use Rattle.jvm_model.specs.Basis.Data.{IntOperator, Iadd, Isub, Imul, Local, Nop, Constant, Load, BinaryOfInts, Return, Naming, Getstatic, Invokestatic, Invokevirtual, Operation, Within, Named, Instruction}
+use Rattle.jvm_model.specs.Basis.Data.{IntOperator, Iadd, Isub, Imul, Local, Nop, Constant, Load, BinaryOfInts, Return, SymbolicReference, Getstatic, Invokestatic, Invokevirtual, Operation, Within, Named, Instruction}
 use Rattle.jvm_model.specs.Basis.Descriptors.{same_text}
 use Rattle.jvm_model.specs.Basis.Methods.{method_named}
 use Rattle.jvm_model.specs.Instructions.Rules.{is_out, is_println}
@@ -50,7 +50,7 @@ resolved_local (BinaryOfInts op) = resolved_binary op
 resolved_local (Return k) = resolved_return k
 resolved_local _ = None
 
-abbrev pub resolved_name : ClassFile → Naming → Option Resolved
+abbrev pub resolved_name : ClassFile → SymbolicReference → Option Resolved
 resolved_name c (Getstatic r) = if is_out r then Some resolved.Out else None
 resolved_name c (Invokevirtual r) = if is_println r then Some resolved.Println else None
 resolved_name c (Invokestatic r) = option_map resolved.Invokestatic (own_method c r)

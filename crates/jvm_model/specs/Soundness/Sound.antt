@@ -4,7 +4,7 @@ use Rattle.std.specs.List.{AllByRecursion, list_any}
 use Rattle.const_pool.specs.BuiltIn.{built_in_names}
 use Rattle.heap_objects.specs.declared.object.Object.{Object}
 use Rattle.heap_objects.specs.Objects.{kind_of}
-use Rattle.jvm_model.specs.Basis.Data.{Entry, Active, Initializing, MethodPlace, Naming, Invokespecial, Operation, Named, Newarray, Outcome, Invokes, Raises, Initializes, Done, Program, Shared, State}
+use Rattle.jvm_model.specs.Basis.Data.{Entry, Active, Initializing, MethodPlace, SymbolicReference, Invokespecial, Operation, Named, Newarray, Outcome, Invokes, Raises, Initializes, Done, Program, Shared, State}
 use Rattle.jvm_model.specs.Basis.Descriptors.{same_text}
 use Rattle.jvm_model.specs.Basis.KindNumbers.{class_of_base, user_count}
 use Rattle.jvm_model.specs.Classes.Kinds.{is_array_name}
@@ -56,7 +56,7 @@ HasClass p loaded method = (place : MethodPlace) → place_of_method p method �
 -- ---- instructions
 
 -- the class in which an invokespecial stands is loaded
-abbrev pub HasLoadedCaller : Program → List ℕ → Naming → Type 0
+abbrev pub HasLoadedCaller : Program → List ℕ → SymbolicReference → Type 0
 HasLoadedCaller p loaded (Invokespecial caller r interface) = (class : ℕ) → class_named p caller ≡ Some class → IsLoaded loaded class
 HasLoadedCaller p loaded n = Unit {0}
 

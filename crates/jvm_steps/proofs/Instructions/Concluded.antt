@@ -7,7 +7,7 @@ use Rattle.frame_stack.specs.FrameLists.{PlacedFrame}
 use Rattle.jvm_basic.specs.Outcomes.{can_hold, with_top}
 use Rattle.jvm_model.specs.declared.state.State.{State}
 use Rattle.jvm_model.specs.Running.Applies.{breaks, with_frame}
-use Rattle.jvm_model.specs.Basis.Data.{Locals, Operands, Naming, Next, Target, Back, Outcome, GoesOn, Subroutine, Invokes, Returns, Throws, Raises, Initializes, Exits, Breaks, Done, Instruction}
+use Rattle.jvm_model.specs.Basis.Data.{Locals, Operands, SymbolicReference, Next, Target, Back, Outcome, GoesOn, Subroutine, Invokes, Returns, Throws, Raises, Initializes, Exits, Breaks, Done, Instruction}
 use Rattle.jvm_model.specs.Running.Run.{starts}
 use Rattle.jvm_named.specs.declared.asked.Asked.{Asked}
 use Rattle.jvm_named.specs.declared.asked.Asked.TheVariants as asked
@@ -135,11 +135,11 @@ starts-same (Breaks false) f fs can = refl
 -- ---- over the parts of a machine, beneath its markers
 
 -- what a line with these names comes to
-abbrev pub named_beneath : Setup → Line → Naming → List Marker → Parts → List PlacedFrame → State
+abbrev pub named_beneath : Setup → Line → SymbolicReference → List Marker → Parts → List PlacedFrame → State
 named_beneath w line n ms p [] = state_of ms p
 named_beneath w line n ms p (f ∷ fs) = acts_named w line n (with_markers ms (state_with fs p)) (frame_in f)
 
-module _ (w : Setup) (line : Line) (n : Naming) (ms : List Marker) (here : Here) (p : Parts) (found : line_at w.versions here.version here.place ≡ Some line) where
+module _ (w : Setup) (line : Line) (n : SymbolicReference) (ms : List Marker) (here : Here) (p : Parts) (found : line_at w.versions here.version here.place ≡ Some line) where
   own : own_of w here ≡ line.instr.at
   own = own-there w here line found
 

@@ -18,14 +18,14 @@ use Rattle.jvm_model.specs.declared.state.State.{State}
 use Rattle.jvm_model.specs.Running.Applies.{enters_subroutine, goes, resumes, gives_back, applies}
 use Rattle.jvm_model.specs.Instructions.ConstantRules.{pushes_string}
 use Rattle.jvm_model.specs.Running.Constants.{can_intern}
-use Rattle.jvm_model.specs.Basis.Data.{Locals, Operands, Listing, Local, Nop, Constant, Load, Store, Arrange, BinaryOfInts, BinaryOfLongs, DivisionOfInts, DivisionOfLongs, ShiftOfLong, UnaryOfInt, UnaryOfLong, Lcmp, Iinc, Branch, Goto, Switch, Jsr, Ret, Return, Naming, New, Getfield, Putfield, Getstatic, Putstatic, Invokevirtual, Invokespecial, Invokestatic, Invokeinterface, Checkcast, Instanceof, Anewarray, Multianewarray, LdcClass, Operation, Within, Named, Athrow, Monitor, Newarray, Arraylength, LoadElement, StoreElement, LdcString, Instruction, Outcome, GoesOn, Subroutine, Invokes, Returns, Throws, Raises, Initializes, Exits, Breaks, Next, Target, Back, Done, Keys}
+use Rattle.jvm_model.specs.Basis.Data.{Locals, Operands, Listing, Local, Nop, Constant, Load, Store, Arrange, BinaryOfInts, BinaryOfLongs, DivisionOfInts, DivisionOfLongs, ShiftOfLong, UnaryOfInt, UnaryOfLong, Lcmp, Iinc, Branch, Goto, Switch, Jsr, Ret, Return, SymbolicReference, New, Getfield, Putfield, Getstatic, Putstatic, Invokevirtual, Invokespecial, Invokestatic, Invokeinterface, Checkcast, Instanceof, Anewarray, Multianewarray, LdcClass, Operation, Within, Named, Athrow, Monitor, Newarray, Arraylength, LoadElement, StoreElement, LdcString, Instruction, Outcome, GoesOn, Subroutine, Invokes, Returns, Throws, Raises, Initializes, Exits, Breaks, Next, Target, Back, Done, Keys}
 use Rattle.jvm_model.specs.Codes.Lines.{ends, is_last, targets_of}
 use Rattle.jvm_model.specs.Instructions.LocalRules.{arithmetic_exception, by_zero, divides_these, goes_if, holds, tests, switches_on, goes_back, replaces, returns, returns_datum, within}
 use Rattle.jvm_model.specs.Classes.Lookup.{is_below}
 use Rattle.jvm_model.specs.Instructions.ObjectRules.{Access, ToNull, ToAnother, Outside, Inside, Storing, access_to, array_kind, done, fits_array, loads_at, loads_element, makes, measures, place_of, stores_at, stores_element, storing_of, throws, watches}
 use Rattle.jvm_model.specs.Instructions.Does.{does, loads}
-use Rattle.jvm_model.specs.Instructions.Naming.{newly_loaded}
-use Rattle.jvm_model.specs.Instructions.NamingRules.{does_named}
+use Rattle.jvm_model.specs.Instructions.SymbolicReference.{newly_loaded}
+use Rattle.jvm_model.specs.Instructions.ReferenceRules.{does_named}
 use Rattle.jvm_model.specs.Running.Run.{starts, with_loaded}
 use Rattle.jvm_model.specs.Basis.SharedState.{class_of, null_pointer, throwable}
 use Rattle.jvm_model.specs.Basis.StackForms.{forms_of}
@@ -36,7 +36,7 @@ use Rattle.prepared_code.specs.declared.line.Action.{Action}
 use Rattle.prepared_code.specs.declared.line.Action.TheVariants as action
 use Rattle.prepared_code.specs.declared.line.Line.{Line}
 use Rattle.jvm_steps.specs.Instructions.Acts.{placed_line, comes_to, acts_alone, acts_asked, acts_done, acts_named, resumes_line, gives_back_line, returns_or_ends, acts_return, acts_by, acts, awaited, named_done, ready_for, with_done}
-use Rattle.jvm_named.specs.Names.{naming_view}
+use Rattle.jvm_named.specs.Names.{symbolic_view}
 use Rattle.prepared_code.specs.Lines.{action_of, local_action, named_as}
 use Rattle.prepared_code.specs.Ready.{IsRuleOf, IsTied}
 use Rattle.prepared_code.specs.Tables.{Versions}
@@ -456,7 +456,7 @@ op-awaits w s f (LdcString units) none = refl
 -- ---- instructions that name something
 
 -- the names that a line keeps are those of its instruction
-pub viewed : (n : Naming) → naming_view (named_as n) ≡ n
+pub viewed : (n : SymbolicReference) → symbolic_view (named_as n) ≡ n
 viewed (New name) = refl
 viewed (Getfield r) = refl
 viewed (Putfield r) = refl
@@ -490,12 +490,12 @@ module _ (w : Setup) (line : Line) (op : Operation) (s : State) (f : Frame) wher
     pub starts_same : starts done_there.outcome ≡ awaited w s f line.action
     pub applied : (applies w.world (listing_of w.versions) (instruction_by op line) done_there.outcome (with_done done_there readied) f).after ≡ acts w line s f
 
-named-steps : (w : Setup) (line : Line) (n : Naming) (s : State) (f : Frame) → IsTied line (Named n) → StepsAs w line (Named n) s f
+named-steps : (w : Setup) (line : Line) (n : SymbolicReference) (s : State) (f : Frame) → IsTied line (Named n) → StepsAs w line (Named n) s f
 named-steps w line n s f tied =
     let ready : State = readied w line (Named n) s f in
     let same : ready ≡ ready_for w n s f = with-loaded (newly_loaded w.world.program s.shared.loaded n f.operands) s in
     let there : Done = does_named w.world n ready.shared f.locals f.operands in
-    let kept : naming_view (named_as n) ≡ n = viewed n in
+    let kept : symbolic_view (named_as n) ≡ n = viewed n in
     record {
       starts_same =
           ap (λ (x : State). starts (does_named w.world n x.shared f.locals f.operands).outcome) same
@@ -535,12 +535,12 @@ steps-as w line (LdcString units) s f tied =
 
 -- a line that awaits a class names something
 pub awaits-named : (w : Setup) (line : Line) (op : Operation) (s : State) (f : Frame) (c : ℕ) → IsTied line op → awaited w s f line.action ≡ Some c
-    → (n : Naming) × (op ≡ Named n)
+    → (n : SymbolicReference) × (op ≡ Named n)
 awaits-named w line op s f c tied is = by op (ap (awaited w s f) tied.action ∙ is) where
   never : (x : Option ℕ) → x ≡ None → x ≡ Some c → ⊥
   never x none some = none-some c (sym none ∙ some)
 
-  by : (o : Operation) → awaited w s f (action_of o) ≡ Some c → (n : Naming) × (o ≡ Named n)
+  by : (o : Operation) → awaited w s f (action_of o) ≡ Some c → (n : SymbolicReference) × (o ≡ Named n)
   by (Named n) e = (n, refl)
   by (Within l) e = absurd (never _ (local-awaits w s f l) e)
   by Athrow e = absurd (none-some c e)

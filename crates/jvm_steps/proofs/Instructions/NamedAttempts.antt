@@ -5,13 +5,13 @@ use Rattle.std.proofs.lemmas.Option.{same_Some, none-some}
 use Rattle.frame_stack.specs.FrameLists.{PlacedFrame, FramesView, top_operands}
 use Rattle.jvm_model.specs.declared.state.Shared.{Shared}
 use Rattle.jvm_model.specs.declared.state.State.{State}
-use Rattle.jvm_model.specs.Basis.Data.{Naming}
-use Rattle.jvm_model.specs.Instructions.Naming.{newly_loaded}
+use Rattle.jvm_model.specs.Basis.Data.{SymbolicReference}
+use Rattle.jvm_model.specs.Instructions.SymbolicReference.{newly_loaded}
 use Rattle.jvm_named.specs.declared.asked.Asked.{Asked}
-use Rattle.jvm_named.specs.declared.naming.Naming.{Naming as Kept}
+use Rattle.jvm_named.specs.declared.symbolic_reference.SymbolicReference.{SymbolicReference as Kept}
 use Rattle.jvm_named.specs.Answers.{answer_by, answer_in, answer_view, frames_by, shared_by, wrote_by}
 use Rattle.jvm_named.specs.Attempts.{attempts, loaded_for}
-use Rattle.jvm_named.specs.Names.{naming_view}
+use Rattle.jvm_named.specs.Names.{symbolic_view}
 use Rattle.prepared_code.specs.declared.line.Action.{Action}
 use Rattle.prepared_code.specs.declared.line.Action.TheVariants as action
 use Rattle.prepared_code.specs.declared.line.Line.{Line}
@@ -61,7 +61,7 @@ names-there None is = absurd (false≢true is)
 names-there (Some line) is = let found = names-by line.action is in record { line = line; kept = found.0; there = refl; named = found.1 }
 
 -- what holds of it where it is known
-pub held : (lo : Option Line) (names : Names lo) (Holds : Naming → ℕ → Type 0) → IfNamed lo Holds → Holds (naming_view names.kept) names.line.next
+pub held : (lo : Option Line) (names : Names lo) (Holds : SymbolicReference → ℕ → Type 0) → IfNamed lo Holds → Holds (symbolic_view names.kept) names.line.next
 held lo names Holds if_named =
     subst (λ a. IfNamedBy a names.line.next Holds) names.named (subst (λ o. IfNamed o Holds) names.there if_named)
 
@@ -78,8 +78,8 @@ module _ (w : Setup) (ms : List Marker) (here : Here) (p : Parts) (is_named_ther
   names : Names (line_at w.versions here.version here.place)
   names = names-there (line_at w.versions here.version here.place) is_named_there
 
-  abbrev n : Naming
-  n = naming_view names.kept
+  abbrev n : SymbolicReference
+  n = symbolic_view names.kept
 
   -- the state before
   abbrev s : State

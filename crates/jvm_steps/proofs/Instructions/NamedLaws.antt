@@ -24,7 +24,7 @@ use Rattle.jvm_model.specs.declared.program.Program.{Program}
 use Rattle.jvm_model.specs.declared.state.Shared.{Shared}
 use Rattle.jvm_model.specs.Instructions.ConstantRules.{pushes_object_of}
 use Rattle.jvm_model.specs.Instructions.CreationRules.{allocates, answers, array_over, casts_to, counts_of, has_no_instances, instantiation_error, is_text_class, lengths_of, makes_arrays, makes_by_counts, makes_instance, makes_object, slots_of_arrays, with_arrays, zero_of}
-use Rattle.jvm_model.specs.Basis.Data.{Locals, Operands, Naming, New, Getfield, Putfield, Getstatic, Putstatic, Invokevirtual, Invokespecial, Invokestatic, Invokeinterface, Checkcast, Instanceof, Anewarray, Multianewarray, LdcClass, Outcome, GoesOn, Subroutine, Invokes, Returns, Throws, Raises, Initializes, Exits, Breaks, Done}
+use Rattle.jvm_model.specs.Basis.Data.{Locals, Operands, SymbolicReference, New, Getfield, Putfield, Getstatic, Putstatic, Invokevirtual, Invokespecial, Invokestatic, Invokeinterface, Checkcast, Instanceof, Anewarray, Multianewarray, LdcClass, Outcome, GoesOn, Subroutine, Invokes, Returns, Throws, Raises, Initializes, Exits, Breaks, Done}
 use Rattle.jvm_model.specs.Basis.Descriptors.{shape_of}
 use Rattle.jvm_model.specs.Instructions.FieldRules.{Putting, gets_of, held_of, is_static_field, kind_by, named_field, puts_into, putting_of, sets_static}
 use Rattle.jvm_model.specs.Instructions.InvocationRules.{Selecting, Virtual, OfInterface, Special, arguments_by, invokes_number, invokes_on, invokes_selected, invokes_with_static, named_method, not_of_class, receiver_in, reference_to, selected_by, with_receiver}
@@ -33,8 +33,8 @@ use Rattle.jvm_model.specs.Classes.Layouts.{layout}
 use Rattle.jvm_model.specs.Classes.Load.{Fault}
 use Rattle.jvm_model.specs.Instructions.LocalRules.{pushes, replaces}
 use Rattle.jvm_model.specs.Classes.Lookup.{MemberPlace, Resolution, Found, Fails, resolved_field, resolved_method}
-use Rattle.jvm_model.specs.Instructions.Naming.{◌>>=◌, found, is_instance, is_null, kind_unless, receiver, resolved_kind, unless_refused, where_fitting}
-use Rattle.jvm_model.specs.Instructions.NamingRules.{does_named}
+use Rattle.jvm_model.specs.Instructions.SymbolicReference.{◌>>=◌, found, is_instance, is_null, kind_unless, receiver, resolved_kind, unless_refused, where_fitting}
+use Rattle.jvm_model.specs.Instructions.ReferenceRules.{does_named}
 use Rattle.jvm_model.specs.Instructions.NativeRules.{kinds_in, outcome_of, runs_native, runs_number, seen_by_natives, thrown_by}
 use Rattle.jvm_model.specs.Instructions.ObjectRules.{done, makes}
 use Rattle.jvm_model.specs.Basis.Programs.{number_of_method}
@@ -297,7 +297,7 @@ module _ (s : Shared) (o : Operands) where
 
   -- ---- every one
 
-  pub is-named : (w : Setup) (n : Naming) (l : Locals) → IsNamed s o (does_named w.world n s l o)
+  pub is-named : (w : Setup) (n : SymbolicReference) (l : Locals) → IsNamed s o (does_named w.world n s l o)
   is-named w (New name) l =
       unless-named _ _ (kind-plain w.world.program s.loaded name) (λ kind. ready-named w.world.program (class_of_kind w.world.program kind) _ (instance-named w.world.program kind (class_of_kind w.world.program kind) l))
   is-named w (Getfield r) l = unless-named _ _ (field-plain w.world.program s.loaded false r) (λ m. gets-named w.world.program r m (ref_of o) l)

@@ -14,9 +14,9 @@ use Rattle.jvm_model.specs.declared.state.State.{State}
 use Rattle.jvm_model.specs.Running.Applies.{applies, breaks, enters_subroutine, gives_back, goes, has_room, invokes, live_in, most_live, place_of, resumes, begins, still, throws_at}
 use Rattle.jvm_model.specs.Instructions.ConstantRules.{pushes_string}
 use Rattle.jvm_model.specs.Running.Constants.{can_intern}
-use Rattle.jvm_model.specs.Basis.Data.{Locals, Operands, Naming, Listing, Instruction, Outcome, GoesOn, Subroutine, Invokes, Returns, Throws, Raises, Initializes, Exits, Breaks, Done}
+use Rattle.jvm_model.specs.Basis.Data.{Locals, Operands, SymbolicReference, Listing, Instruction, Outcome, GoesOn, Subroutine, Invokes, Returns, Throws, Raises, Initializes, Exits, Breaks, Done}
 use Rattle.jvm_model.specs.Instructions.LocalRules.{arithmetic_exception, by_zero, returns}
-use Rattle.jvm_model.specs.Instructions.Naming.{newly_loaded}
+use Rattle.jvm_model.specs.Instructions.SymbolicReference.{newly_loaded}
 use Rattle.jvm_model.specs.Instructions.ObjectRules.{Access, ToNull, ToAnother, Outside, Inside, Storing, access_to, fits_array, loads_element, makes, measures, place_of as element_of, stores_at, stores_element, storing_of, throws, watches}
 use Rattle.jvm_model.specs.Basis.SharedState.{null, raised, stack_overflow}
 use Rattle.jvm_model.specs.Basis.Values.{as_value, int_of, ref_of, with_value}
@@ -153,7 +153,7 @@ attempts-keep w s f (Some line) quiet = acts-keep w line s f line.action (quiet 
 
 -- ---- lines that name something
 
-pub named-loads : (w : Setup) (line : Line) (n : Naming) (s : State) (f : Frame)
+pub named-loads : (w : Setup) (line : Line) (n : SymbolicReference) (s : State) (f : Frame)
     → (acts_named w line n s f).shared.loaded ≡ s.shared.loaded ++ newly_loaded w.world.program s.shared.loaded n f.operands
 named-loads w line n s f =
     let d : Done = named_done w n s f in

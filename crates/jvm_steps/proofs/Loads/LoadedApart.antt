@@ -7,15 +7,15 @@ use Rattle.std.specs.Prelude.{◌==◌, is_some, IfNone}
 use Rattle.frame_stack.specs.FrameLists.{PlacedFrame, FramesView, top_operands}
 use Rattle.jvm_model.specs.declared.state.Shared.{Shared}
 use Rattle.jvm_model.specs.declared.state.State.{State}
-use Rattle.jvm_model.specs.Basis.Data.{Naming}
+use Rattle.jvm_model.specs.Basis.Data.{SymbolicReference}
 use Rattle.jvm_model.specs.Instructions.Does.{loads}
-use Rattle.jvm_model.specs.Instructions.Naming.{newly_loaded}
+use Rattle.jvm_model.specs.Instructions.SymbolicReference.{newly_loaded}
 use Rattle.jvm_model.specs.Turns.Rest.{loads_at, loads_on}
 use Rattle.jvm_model.specs.Running.Run.{with_loaded}
 use Rattle.jvm_named.specs.declared.asked.Asked.{Asked}
 use Rattle.jvm_named.specs.Answers.{answer_by, answer_view, frames_by, shared_by, wrote_by}
 use Rattle.jvm_named.specs.Attempts.{attempts, is_loaded, loaded_for, shared_loaded}
-use Rattle.jvm_named.specs.Names.{naming_view}
+use Rattle.jvm_named.specs.Names.{symbolic_view}
 use Rattle.prepared_code.specs.declared.line.Action.{Action}
 use Rattle.prepared_code.specs.declared.line.Action.TheVariants as action
 use Rattle.prepared_code.specs.declared.line.Line.{Line}
@@ -89,8 +89,8 @@ module _ (w : Setup) (ms : List Marker) (p : Parts) (going : p.ending ≡ None) 
     names : Names (line_at w.versions here.version here.place)
     names = names-there (line_at w.versions here.version here.place) is_named_there
 
-    abbrev n : Naming
-    n = naming_view names.kept
+    abbrev n : SymbolicReference
+    n = symbolic_view names.kept
 
     named-loads : loads_in w s ≡ newly_loaded w.world.program p.shared.loaded n (top_operands p.frames.frames)
     named-loads = loads-by p.frames.frames here at none ∙ by p.frames.frames at where

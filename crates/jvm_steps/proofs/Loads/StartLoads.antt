@@ -3,7 +3,7 @@ use Rattle.std.proofs.Common.{◌≡◌, ℕ, Bool, true, false, List, ◌++◌,
 use Rattle.std.proofs.lemmas.List.{append-nil}
 use Rattle.jvm_model.specs.declared.state.State.{State}
 use Rattle.jvm_model.specs.Classes.Load.{Fault, error_of}
-use Rattle.jvm_model.specs.Instructions.Naming.{message_of}
+use Rattle.jvm_model.specs.Instructions.SymbolicReference.{message_of}
 use Rattle.jvm_model.specs.Running.Run.{arguments_made, before, loads_if, main_classes, main_loading, main_loads, opened, starts_if, starts_unless}
 use Rattle.jvm_model.specs.Basis.SharedState.{arguments_fit, null}
 use Rattle.prepared_code.specs.declared.markers.Marker.{Marker}

@@ -12,7 +12,7 @@ use Rattle.jvm_model.specs.Running.Applies.{still}
 use Rattle.jvm_model.specs.Classes.Kinds.{meaning_of}
 use Rattle.jvm_model.specs.Classes.Load.{Fault, NoClass, Circular, Incompatible, error_of}
 use Rattle.jvm_model.specs.Running.Moves.{move, moves}
-use Rattle.jvm_model.specs.Instructions.Naming.{New, message_of}
+use Rattle.jvm_model.specs.Instructions.SymbolicReference.{New, message_of}
 use Rattle.jvm_model.specs.Turns.Pauses.{Pause, changes_due, passed_by, pause_by, paused}
 use Rattle.jvm_model.specs.Basis.Programs.{name_at}
 use Rattle.jvm_model.specs.Running.Run.{arguments_made, before, main_class, main_classes, main_loading, opened, starts_if, starts_unless, starts_with}

@@ -12,7 +12,7 @@ use Rattle.jvm_model.specs.Basis.Data.{New, Outcome}
 use Rattle.jvm_model.specs.Basis.KindNumbers.{user_count}
 use Rattle.jvm_model.specs.Classes.Load.{Fault, is_among, load_of}
 use Rattle.jvm_model.specs.Running.Moves.{settled}
-use Rattle.jvm_model.specs.Instructions.Naming.{kind_unless, resolved_kind}
+use Rattle.jvm_model.specs.Instructions.SymbolicReference.{kind_unless, resolved_kind}
 use Rattle.jvm_model.specs.Running.Run.{arguments_made, before, main_class, main_classes, main_loading, main_loads, opened, start, starts_if, starts_unless, starts_with}
 use Rattle.jvm_model.specs.Basis.SharedState.{arguments_cost, arguments_fit, shared_before, with_arguments}
 use Rattle.jvm_model.specs.Soundness.Sound.{IsFit}

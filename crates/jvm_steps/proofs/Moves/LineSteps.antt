@@ -14,11 +14,11 @@ use Rattle.jvm_model.specs.declared.state.Phase.{Phase}
 use Rattle.jvm_model.specs.declared.state.Phase.TheVariants.{Fresh, Running, Ready, Erroneous}
 use Rattle.jvm_model.specs.declared.state.State.{State}
 use Rattle.jvm_model.specs.Running.Applies.{still, breaks, applies}
-use Rattle.jvm_model.specs.Basis.Data.{Listing, Naming, Instruction, Operation, Named, Initializes, Done, Turn}
+use Rattle.jvm_model.specs.Basis.Data.{Listing, SymbolicReference, Instruction, Operation, Named, Initializes, Done, Turn}
 use Rattle.jvm_model.specs.Running.Moves.{move, moves, left, settles, settled, then_turn}
 use Rattle.jvm_model.specs.Instructions.Does.{loads}
-use Rattle.jvm_model.specs.Instructions.Naming.{newly_loaded}
-use Rattle.jvm_model.specs.Instructions.NamingRules.{does_named}
+use Rattle.jvm_model.specs.Instructions.SymbolicReference.{newly_loaded}
+use Rattle.jvm_model.specs.Instructions.ReferenceRules.{does_named}
 use Rattle.jvm_model.specs.Running.Run.{attempt, tries, starts, is_ready, is_quiet, goes_on, goes_again, with_loaded, steps_by, steps_at, steps_on, step}
 use Rattle.jvm_model.specs.Basis.SharedState.{phase_of, with_phase}
 use Rattle.jvm_model.proofs.Running.Attempts.{loaded-after}
@@ -155,7 +155,7 @@ module _ (w : Setup) where
   ready-of None h = absurd (false≢true h)
 
   -- by an instruction that names something
-  module _ (s : State) (f : Frame) (line : Line) (n : Naming) (c : ℕ) (tied : IsTied line (Named n)) (is : awaited w s f line.action ≡ Some c) where
+  module _ (s : State) (f : Frame) (line : Line) (n : SymbolicReference) (c : ℕ) (tied : IsTied line (Named n)) (is : awaited w s f line.action ≡ Some c) where
     abbrev i : Instruction
     i = instruction_by (Named n) line
 
@@ -242,7 +242,7 @@ module _ (w : Setup) where
   -- the line of a frame that awaits a class
   record IsAwaiting (s : State) (f : Frame) (c : ℕ) (lo : Option Line) (io : Option Instruction) : Type 0 where
     line : Line
-    named : Naming
+    named : SymbolicReference
     there : lo ≡ Some line
     instruction : io ≡ Some (instruction_by (Named named) line)
     tied : IsTied line (Named named)

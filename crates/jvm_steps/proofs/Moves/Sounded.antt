@@ -9,7 +9,7 @@ use Rattle.jvm_model.specs.declared.state.Entry.TheVariants.{Active}
 use Rattle.jvm_model.specs.declared.state.Frame.{Frame}
 use Rattle.jvm_model.specs.declared.state.Shared.{Shared}
 use Rattle.jvm_model.specs.declared.state.State.{State}
-use Rattle.jvm_model.specs.Basis.Data.{Naming, Invokespecial, Local, Return, Operation, Within, Named, Athrow, Monitor, Newarray, Arraylength, LoadElement, StoreElement, LdcString, Instruction, Breaks, Done}
+use Rattle.jvm_model.specs.Basis.Data.{SymbolicReference, Invokespecial, Local, Return, Operation, Within, Named, Athrow, Monitor, Newarray, Arraylength, LoadElement, StoreElement, LdcString, Instruction, Breaks, Done}
 use Rattle.jvm_model.specs.Instructions.Does.{loads}
 use Rattle.jvm_model.specs.Running.Run.{main_class}
 use Rattle.jvm_model.specs.Soundness.Sound as sound
@@ -61,9 +61,9 @@ objects-linked p s loaded fit is linked =
 -- ---- the line where a frame stands
 
 module _ (p : Program) (fit : IsFit p) (loaded : List ℕ) where
-  can-name : (n : Naming) → CanAttempt p loaded (Named n) → HasLoadedCaller (linker_of p loaded) n
+  can-name : (n : SymbolicReference) → CanAttempt p loaded (Named n) → HasLoadedCaller (linker_of p loaded) n
   can-name n can = by n can.0 where
-    by : (m : Naming) → sound.HasLoadedCaller p loaded m → HasLoadedCaller (linker_of p loaded) m
+    by : (m : SymbolicReference) → sound.HasLoadedCaller p loaded m → HasLoadedCaller (linker_of p loaded) m
     by (Invokespecial caller r interface) has = has
     by m has = tt
 

@@ -18,7 +18,7 @@ use Rattle.jvm_model.specs.declared.state.Shared.{Shared}
 use Rattle.jvm_model.specs.declared.state.State.{State}
 use Rattle.jvm_model.specs.Running.Applies.{breaks, live_in}
 use Rattle.jvm_model.specs.Running.Between.{changes_between, followed}
-use Rattle.jvm_model.specs.Basis.Data.{Breaks, Instruction, Local, Naming, Named, Nop, Operands, Operation, Return, Listing, Within}
+use Rattle.jvm_model.specs.Basis.Data.{Breaks, Instruction, Local, SymbolicReference, Named, Nop, Operands, Operation, Return, Listing, Within}
 use Rattle.jvm_model.specs.Instructions.Does.{does, loads}
 use Rattle.jvm_model.specs.Rewriting.Images.{is_off}
 use Rattle.jvm_model.specs.Turns.Rest.{loads_at, loads_on}
@@ -218,7 +218,7 @@ module _ (w : Setup) (run : CanRun w) (n : ℕ) (s : State) (going : IsGoing s) 
   -- ---- a class is awaited
 
   -- it loads nothing
-  acts-loaded : (line : Line) (m : Naming) → IsTied line (Named m) → loads w.world (Named m) s.shared f.operands ≡ []
+  acts-loaded : (line : Line) (m : SymbolicReference) → IsTied line (Named m) → loads w.world (Named m) s.shared f.operands ≡ []
       → (acts w line under f).shared.loaded ≡ s.shared.loaded
   acts-loaded line m tied none =
       ap (λ (x : State). x.shared.loaded) (ap (acts_by w line under f) (sym tied.action) ∙ ap (λ k. acts_named w line k under f) (viewed m))

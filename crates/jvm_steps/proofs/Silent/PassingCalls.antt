@@ -15,10 +15,10 @@ use Rattle.jvm_model.specs.declared.state.Entry.{Entry}
 use Rattle.jvm_model.specs.declared.state.Shared.{Shared}
 use Rattle.jvm_model.specs.declared.state.State.{State}
 use Rattle.jvm_model.specs.Running.Applies.{begins, begins_beside, breaks, has_room, invokes, live_in, most_live, new_frame, still, throws_at, with_frame}
-use Rattle.jvm_model.specs.Basis.Data.{Began, Datum, Done, Naming, Operands, Listing, Turn}
+use Rattle.jvm_model.specs.Basis.Data.{Began, Datum, Done, SymbolicReference, Operands, Listing, Turn}
 use Rattle.jvm_model.specs.Instructions.Does.{loads}
 use Rattle.jvm_model.specs.Running.Moves.{left, settled}
-use Rattle.jvm_model.specs.Instructions.Naming.{newly_loaded}
+use Rattle.jvm_model.specs.Instructions.SymbolicReference.{newly_loaded}
 use Rattle.jvm_model.specs.Turns.Pauses.{stop_by, stop_in, unless_off}
 use Rattle.jvm_model.specs.Basis.Programs.{max_locals_of}
 use Rattle.jvm_model.specs.Turns.Rest.{loads_at, loads_on, step_loads}
@@ -29,11 +29,11 @@ use Rattle.jvm_model.specs.Turns.Told.{Held, helds, mark_now}
 use Rattle.jvm_model.specs.Basis.Values.{spread}
 use Rattle.jvm_model.proofs.Running.QuietSettles.{stops}
 use Rattle.jvm_named.specs.declared.asked.Asked.TheVariants as asked
-use Rattle.jvm_named.specs.declared.naming.Naming.{Naming as Kept}
+use Rattle.jvm_named.specs.declared.symbolic_reference.SymbolicReference.{SymbolicReference as Kept}
 use Rattle.jvm_named.specs.declared.passing.Call.{Call}
 use Rattle.jvm_named.specs.Answers.{Calls, answer_in, done_on, frames_in}
 use Rattle.jvm_named.specs.Attempts.{attempts}
-use Rattle.jvm_named.specs.Names.{naming_view}
+use Rattle.jvm_named.specs.Names.{symbolic_view}
 use Rattle.jvm_named.specs.Passing.{IsCall}
 use Rattle.prepared_code.specs.declared.line.Action.TheVariants as action
 use Rattle.prepared_code.specs.declared.line.Line.{Line}
@@ -90,9 +90,9 @@ module _ (w : Setup) (m : ℕ) (args : List Datum) (below : Operands) (f : Place
 
 module _ (w : Setup) (run : CanRun w) (ms : List Marker) (here : Here) (line : Line) (kept : Kept) (old : Parts) (stands : here_of old.frames.frames ≡ Some here)
     (found : line_at w.versions here.version here.place ≡ Some line) (named : line.action ≡ action.Named kept) (calm : IsCalm (length old.frames.frames) ms old)
-    (nothing : newly_loaded w.world.program old.shared.loaded (naming_view kept) (top_operands old.frames.frames) ≡ []) (c : Call) where
-  abbrev n : Naming
-  n = naming_view kept
+    (nothing : newly_loaded w.world.program old.shared.loaded (symbolic_view kept) (top_operands old.frames.frames) ≡ []) (c : Call) where
+  abbrev n : SymbolicReference
+  n = symbolic_view kept
 
   abbrev t : Listing
   t = listing_of w.versions

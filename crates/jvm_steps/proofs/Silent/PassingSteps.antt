@@ -9,20 +9,20 @@ use Rattle.jvm_basic.specs.Outcomes.{can_hold, top_locals, with_top}
 use Rattle.jvm_model.specs.declared.state.Shared.{Shared}
 use Rattle.jvm_model.specs.declared.state.State.{State}
 use Rattle.jvm_model.specs.Running.Applies.{applies}
-use Rattle.jvm_model.specs.Basis.Data.{Back, Breaks, Done, Exits, GoesOn, Initializes, Instruction, Invokes, Locals, Named, Naming, Next as Following, Operands, Outcome, Raises, Returns, Subroutine, Target, Listing, Throws, Turn}
+use Rattle.jvm_model.specs.Basis.Data.{Back, Breaks, Done, Exits, GoesOn, Initializes, Instruction, Invokes, Locals, Named, SymbolicReference, Next as Following, Operands, Outcome, Raises, Returns, Subroutine, Target, Listing, Throws, Turn}
 use Rattle.jvm_model.specs.Running.Moves.{settled}
-use Rattle.jvm_model.specs.Instructions.Naming.{newly_loaded}
-use Rattle.jvm_model.specs.Instructions.NamingRules.{does_named}
+use Rattle.jvm_model.specs.Instructions.SymbolicReference.{newly_loaded}
+use Rattle.jvm_model.specs.Instructions.ReferenceRules.{does_named}
 use Rattle.jvm_model.specs.Running.Run.{goes_again, loaded_turn, starts, step, steps_at, steps_by, steps_on, tries, with_loaded}
 use Rattle.jvm_named.specs.declared.asked.Asked.{Asked}
 use Rattle.jvm_named.specs.declared.asked.Asked.TheVariants as asked
-use Rattle.jvm_named.specs.declared.naming.Naming.{Naming as Kept}
+use Rattle.jvm_named.specs.declared.symbolic_reference.SymbolicReference.{SymbolicReference as Kept}
 use Rattle.jvm_named.specs.declared.passing.Invoked.{Invoked}
 use Rattle.jvm_named.specs.declared.passing.Invoked.TheVariants as invoked
 use Rattle.jvm_named.specs.declared.passing.NativeCall.{NativeCall}
 use Rattle.jvm_named.specs.Answers.{Continues, Exceeds, answer_by, answer_in, answer_view, done_on, frames_by, frames_in, wrote_by}
 use Rattle.jvm_named.specs.Attempts.{attempts, loaded_for, loads_nothing, shared_loaded}
-use Rattle.jvm_named.specs.Names.{naming_view}
+use Rattle.jvm_named.specs.Names.{symbolic_view}
 use Rattle.jvm_named.specs.Does.{Changed, IsDone, changed}
 use Rattle.jvm_named.specs.Passing.{HasPassed, IfPassed, IfRan}
 use Rattle.prepared_code.specs.declared.line.Action.TheVariants as action
@@ -83,9 +83,9 @@ same-many q next fs so = ap (λ x. length (frames_in x next fs)) so.is ∙ (ap (
 
 module _ (w : Setup) (run : CanRun w) (ms : List Marker) (here : Here) (line : Line) (kept : Kept) (old : Parts) (stands : here_of old.frames.frames ≡ Some here)
     (found : line_at w.versions here.version here.place ≡ Some line) (named : line.action ≡ action.Named kept) (calm : IsCalm (length old.frames.frames) ms old)
-    (nothing : newly_loaded w.world.program old.shared.loaded (naming_view kept) (top_operands old.frames.frames) ≡ []) where
-  abbrev n : Naming
-  n = naming_view kept
+    (nothing : newly_loaded w.world.program old.shared.loaded (symbolic_view kept) (top_operands old.frames.frames) ≡ []) where
+  abbrev n : SymbolicReference
+  n = symbolic_view kept
 
   abbrev t : Listing
   t = listing_of w.versions
@@ -93,7 +93,7 @@ module _ (w : Setup) (run : CanRun w) (ms : List Marker) (here : Here) (line : L
   abbrev pub d : Done
   d = done_on (attempts w.world n old.shared old.frames) old.frames
 
-  there-by : (Holds : Naming → ℕ → Type 0) → Holds n line.next → IfNamed (line_at w.versions here.version here.place) Holds
+  there-by : (Holds : SymbolicReference → ℕ → Type 0) → Holds n line.next → IfNamed (line_at w.versions here.version here.place) Holds
   there-by Holds holds = subst (λ o. IfNamed o Holds) (sym found) (subst (λ a. IfNamedBy a line.next Holds) (sym named) holds)
 
   named-there : named_in (line_at w.versions here.version here.place) ≡ true
@@ -121,7 +121,7 @@ module _ (w : Setup) (run : CanRun w) (ms : List Marker) (here : Here) (line : L
         (there-by (λ n next. reached.frames ≡ frames_by (attempts w.world n old.shared old.frames) next old.frames) refl)
         (there-by (λ n next. reached.shared ≡ (done_on (attempts w.world n old.shared old.frames) old.frames).shared) refl)
         (there-by (λ n next. reached.output ≡ old.output ++ wrote_by (attempts w.world n old.shared old.frames) old.frames) refl)
-        (there-by (λ n next. loaded_for w.world.program (naming_view kept) old.shared old.frames ≡ loaded_for w.world.program n old.shared old.frames) refl)
+        (there-by (λ n next. loaded_for w.world.program (symbolic_view kept) old.shared old.frames ≡ loaded_for w.world.program n old.shared old.frames) refl)
         None new (sym quiet) refl concludes
 
     -- no class is awaited
@@ -132,7 +132,7 @@ module _ (w : Setup) (run : CanRun w) (ms : List Marker) (here : Here) (line : L
         (there-by (λ n next. reached.frames ≡ frames_by (attempts w.world n old.shared old.frames) next old.frames) refl)
         (there-by (λ n next. reached.shared ≡ (done_on (attempts w.world n old.shared old.frames) old.frames).shared) refl)
         (there-by (λ n next. reached.output ≡ old.output ++ wrote_by (attempts w.world n old.shared old.frames) old.frames) refl)
-        (there-by (λ n next. loaded_for w.world.program (naming_view kept) old.shared old.frames ≡ loaded_for w.world.program n old.shared old.frames) refl)
+        (there-by (λ n next. loaded_for w.world.program (symbolic_view kept) old.shared old.frames ≡ loaded_for w.world.program n old.shared old.frames) refl)
         None (sym quiet))
 
     pub is-step : (new : Parts) → state_in new ≡ concluded w here (answer_view a) reached → is_at_rest ms new ≡ true
@@ -247,19 +247,19 @@ none-new xs is = by xs (zero-is (length xs) is) where
 
 module _ (w : Setup) (run : CanRun w) (ms : List Marker) (here : Here) (line : Line) (kept : Kept) (old : Parts) (stands : here_of old.frames.frames ≡ Some here)
     (found : line_at w.versions here.version here.place ≡ Some line) (named : line.action ≡ action.Named kept) (calm : IsCalm (length old.frames.frames) ms old)
-    (silent : loads_nothing w.world.program old.shared.loaded (naming_view kept) (top_operands old.frames.frames) ≡ true) where
-  pub nothing-new : newly_loaded w.world.program old.shared.loaded (naming_view kept) (top_operands old.frames.frames) ≡ []
-  nothing-new = none-new (newly_loaded w.world.program old.shared.loaded (naming_view kept) (top_operands old.frames.frames)) silent
+    (silent : loads_nothing w.world.program old.shared.loaded (symbolic_view kept) (top_operands old.frames.frames) ≡ true) where
+  pub nothing-new : newly_loaded w.world.program old.shared.loaded (symbolic_view kept) (top_operands old.frames.frames) ≡ []
+  nothing-new = none-new (newly_loaded w.world.program old.shared.loaded (symbolic_view kept) (top_operands old.frames.frames)) silent
 
-  same-loaded : (shared : Shared) → shared ≡ (done_on (attempts w.world (naming_view kept) old.shared old.frames) old.frames).shared → shared.loaded ≡ old.shared.loaded
+  same-loaded : (shared : Shared) → shared ≡ (done_on (attempts w.world (symbolic_view kept) old.shared old.frames) old.frames).shared → shared.loaded ≡ old.shared.loaded
   same-loaded shared is =
-      let law = is-named (shared_loaded w.world.program (naming_view kept) old.shared old.frames) (top_operands old.frames.frames) w (naming_view kept) (top_locals old.frames.frames) in
+      let law = is-named (shared_loaded w.world.program (symbolic_view kept) old.shared old.frames) (top_operands old.frames.frames) w (symbolic_view kept) (top_locals old.frames.frames) in
       ap (λ (s : Shared). s.loaded) is
       ∙ (law.loaded ∙ (ap (λ more. old.shared.loaded ++ more) nothing-new ∙ append-nil old.shared.loaded))
 
   -- a native method
   pub native-passes : (b : Bool) (new : Parts)
-      → IfRan b (done_on (attempts w.world (naming_view kept) old.shared old.frames) old.frames) line.next (changed_in old) (changed_in new)
+      → IfRan b (done_on (attempts w.world (symbolic_view kept) old.shared old.frames) old.frames) line.next (changed_in old) (changed_in new)
       → new ≡ with_changed (changed_in new) old → Passes w ms old (steps_if b) new
   native-passes true new went same =
       subst (Passes w ms old 1) (sym same)
@@ -268,7 +268,7 @@ module _ (w : Setup) (run : CanRun w) (ms : List Marker) (here : Here) (line : L
       subst (Passes w ms old 0) (sym (same ∙ ap (λ (x : Changed). with_changed x old) went)) (passes_none w ms old calm)
 
   pub access-passes : (b : Bool) (frames : FramesView) (shared : Shared)
-      → IfPassed b (done_on (attempts w.world (naming_view kept) old.shared old.frames) old.frames) line.next old.frames old.shared frames shared
+      → IfPassed b (done_on (attempts w.world (symbolic_view kept) old.shared old.frames) old.frames) line.next old.frames old.shared frames shared
       → Passes w ms old (steps_if b) (record old { frames = frames; shared = shared })
   access-passes true frames shared went =
       field-passes w run ms here line kept old stands found named calm nothing-new frames shared went (same-loaded shared went.shared)
@@ -277,8 +277,8 @@ module _ (w : Setup) (run : CanRun w) (ms : List Marker) (here : Here) (line : L
       (subst (λ (s : Shared). Passes w ms old 0 (record old { shared = s })) (sym same.1) (passes_none w ms old calm))
 
 -- what holds of a line that names something, where it stands
-pub held-there : (lo : Option Line) (line : Line) (kept : Kept) → lo ≡ Some line → line.action ≡ action.Named kept → (Holds : Naming → ℕ → Type 0) → IfNamed lo Holds
-    → Holds (naming_view kept) line.next
+pub held-there : (lo : Option Line) (line : Line) (kept : Kept) → lo ≡ Some line → line.action ≡ action.Named kept → (Holds : SymbolicReference → ℕ → Type 0) → IfNamed lo Holds
+    → Holds (symbolic_view kept) line.next
 held-there lo line kept found named Holds holds = subst (λ a. IfNamedBy a line.next Holds) named (subst (λ o. IfNamed o Holds) found holds)
 
 -- what holds of what is invoked, where it is a native method

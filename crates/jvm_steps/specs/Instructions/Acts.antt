@@ -11,13 +11,13 @@ use Rattle.jvm_model.specs.declared.state.Entry.{Entry}
 use Rattle.jvm_model.specs.declared.state.Entry.TheVariants.{Active, Initializing}
 use Rattle.jvm_model.specs.declared.state.Frame.{Frame}
 use Rattle.jvm_model.specs.declared.state.State.{State}
-use Rattle.jvm_model.specs.Basis.Data.{Naming, Nop, Within, Instruction, Outcome, Returns, Done}
+use Rattle.jvm_model.specs.Basis.Data.{SymbolicReference, Nop, Within, Instruction, Outcome, Returns, Done}
 use Rattle.jvm_model.specs.Running.Applies.{breaks, goes, throws_at, applies}
 use Rattle.jvm_model.specs.Instructions.ConstantRules.{pushes_string}
 use Rattle.jvm_model.specs.Codes.Lines.{targets_of}
 use Rattle.jvm_model.specs.Instructions.LocalRules.{returns, arithmetic_exception, by_zero}
-use Rattle.jvm_model.specs.Instructions.Naming.{newly_loaded}
-use Rattle.jvm_model.specs.Instructions.NamingRules.{does_named}
+use Rattle.jvm_model.specs.Instructions.SymbolicReference.{newly_loaded}
+use Rattle.jvm_model.specs.Instructions.ReferenceRules.{does_named}
 use Rattle.jvm_model.specs.Instructions.ObjectRules.{loads_element, makes, measures, place_of, stores_element, storing_of, throws, watches}
 use Rattle.jvm_model.specs.Running.Run.{starts}
 use Rattle.jvm_model.specs.Basis.SharedState.{raised}
@@ -26,7 +26,7 @@ use Rattle.jvm_basic.specs.declared.effect.Effect.{Effect}
 use Rattle.jvm_basic.specs.declared.effect.Effect.TheVariants.{Next, Throws, Bad, Other}
 use Rattle.jvm_basic.specs.Outcomes.{Outcome as Comes, GoesOn, Raises, Breaks, Leaves}
 use Rattle.jvm_basic.specs.Rules.{rule_of}
-use Rattle.jvm_named.specs.Names.{naming_view}
+use Rattle.jvm_named.specs.Names.{symbolic_view}
 use Rattle.prepared_code.specs.declared.line.Action.{Action}
 use Rattle.prepared_code.specs.declared.line.Action.TheVariants as action
 use Rattle.prepared_code.specs.declared.line.Line.{Line}
@@ -89,19 +89,19 @@ acts_done w line s f d = acts_asked w line (record s { shared = d.shared }) f d.
 -- ---- instructions that name something
 
 -- with the classes that it loads
-abbrev pub ready_for : Setup → Naming → State → Frame → State
+abbrev pub ready_for : Setup → SymbolicReference → State → Frame → State
 ready_for w n s f =
     record s { shared = record s.shared { loaded = s.shared.loaded ++ newly_loaded w.world.program s.shared.loaded n f.operands } }
 
 -- what its rule says over what is loaded then
-abbrev pub named_done : Setup → Naming → State → Frame → Done
+abbrev pub named_done : Setup → SymbolicReference → State → Frame → Done
 named_done w n s f = does_named w.world n (ready_for w n s f).shared f.locals f.operands
 
 -- what a rule leaves and writes
 abbrev pub with_done : Done → State → State
 with_done d s = record s { shared = d.shared; output = s.output ++ d.wrote }
 
-abbrev pub acts_named : Setup → Line → Naming → State → Frame → State
+abbrev pub acts_named : Setup → Line → SymbolicReference → State → Frame → State
 acts_named w line n s f = let d = named_done w n s f in acts_asked w line (with_done d s) f d.outcome
 
 -- ---- instructions that see objects
@@ -139,7 +139,7 @@ acts_string w line units s f =
 abbrev pub acts_by : Setup → Line → State → Frame → Action → State
 acts_by w line s f action.Local = acts_alone w line s f
 acts_by w line s f (action.Return k) = acts_return w line k s f
-acts_by w line s f (action.Named n) = acts_named w line (naming_view n) s f
+acts_by w line s f (action.Named n) = acts_named w line (symbolic_view n) s f
 acts_by w line s f action.Athrow = acts_athrow w line s f
 acts_by w line s f action.Monitor = acts_monitor w line s f
 acts_by w line s f action.Arraylength = acts_arraylength w line s f
@@ -217,7 +217,7 @@ named_in line = option_map_or (λ (l : Line). is_named l.action) line false
 
 -- by a line with this action (5.5)
 abbrev pub awaited : Setup → State → Frame → Action → Option ℕ
-awaited w s f (action.Named n) = starts (named_done w (naming_view n) s f).outcome
+awaited w s f (action.Named n) = starts (named_done w (symbolic_view n) s f).outcome
 awaited w s f _ = None
 
 abbrev pub awaited_by : Setup → State → Frame → Option Line → Option ℕ

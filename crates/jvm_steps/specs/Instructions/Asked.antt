@@ -5,9 +5,9 @@ use Rattle.jvm_basic.specs.Outcomes.{top_locals}
 use Rattle.jvm_model.specs.declared.ending.Ending.TheVariants.{Exited}
 use Rattle.jvm_model.specs.declared.state.Shared.{Shared}
 use Rattle.jvm_model.specs.declared.state.State.{State}
-use Rattle.jvm_model.specs.Basis.Data.{Naming, Outcome, Raises, Throws, Initializes, Exits, Done}
-use Rattle.jvm_model.specs.Instructions.Naming.{newly_loaded}
-use Rattle.jvm_model.specs.Instructions.NamingRules.{does_named}
+use Rattle.jvm_model.specs.Basis.Data.{SymbolicReference, Outcome, Raises, Throws, Initializes, Exits, Done}
+use Rattle.jvm_model.specs.Instructions.SymbolicReference.{newly_loaded}
+use Rattle.jvm_model.specs.Instructions.ReferenceRules.{does_named}
 use Rattle.jvm_model.specs.Running.Run.{starts}
 use Rattle.jvm_named.specs.Answers.{Answer, Continues, Exceeds, Calls, Stops, frames_in}
 use Rattle.prepared_code.specs.declared.parts.Here.{Here}
@@ -41,7 +41,7 @@ concluded w here (Stops q) p = refused_in w here q p
 
 -- ---- what the rule says of the current frame, over what it loads
 
-abbrev pub done_top : Setup → Naming → Shared → List PlacedFrame → Done
+abbrev pub done_top : Setup → SymbolicReference → Shared → List PlacedFrame → Done
 done_top w n s fs =
     let ready = record s { loaded = s.loaded ++ newly_loaded w.world.program s.loaded n (top_operands fs) } in
     does_named w.world n ready (top_locals fs) (top_operands fs)

@@ -11,7 +11,7 @@ ghost use Rattle.jvm_model.specs.Instructions.LocalRules.{returns};
 ghost use Rattle.jvm_model.specs.Basis.Values.{as_value};
 ghost use Rattle.jvm_model.specs.declared.event.Mark.TheVariants.{Off};
 ghost use Rattle.jvm_named.specs.Known.{IsKnown};
-ghost use Rattle.jvm_named.specs.Names.{naming_view};
+ghost use Rattle.jvm_named.specs.Names.{symbolic_view};
 ghost use Rattle.jvm_named.specs.Passing.{IfRan, runs_native_call};
 ghost use Rattle.prepared_code.specs.declared.line.Action.TheVariants as action;
 ghost use Rattle.jvm_steps.specs.Instructions.Arguments.{can_begin, with_begun};
@@ -40,7 +40,8 @@ use jf_bytes::Stack;
 use jvm_basic::recall;
 use jvm_model::Mark;
 use jvm_named::{
-    Call, Callee, Found, Invoked, Known, Naming, NativeCall, known_call, pass_field, pass_native,
+    Call, Callee, Found, Invoked, Known, NativeCall, SymbolicReference, known_call, pass_field,
+    pass_native,
 };
 use prepared_code::{Action, Here, Line, Marker, Originals, Parts, marker_on, next_in, where_now};
 use std::alloc::Global;
@@ -119,7 +120,7 @@ fn pass_call(
     markers: &Stack<Marker>,
     here: Here,
     line: &Line,
-    naming: &Naming,
+    naming: &SymbolicReference,
     known: &Known,
 ) -> bool
     requires run { CanRun originals.now.setup }
@@ -129,7 +130,7 @@ fn pass_call(
     requires here { here_of parts.old.frames.frames ≡ Some here }
     requires line { line_at originals.now.setup.versions here.version here.place ≡ Some line.now }
     requires named { line.now.action ≡ action.Named naming.now }
-    requires known { IsKnown (linker_in originals.now) (naming_view naming.now) known.now }
+    requires known { IsKnown (linker_in originals.now) (symbolic_view naming.now) known.now }
     ensures { Passes originals.now.setup markers.now parts.old (steps_if result) parts.new }
 {
     let linker = originals.linker();
@@ -155,7 +156,7 @@ fn pass_access(
     markers: &Stack<Marker>,
     here: Here,
     line: &Line,
-    naming: &Naming,
+    naming: &SymbolicReference,
     known: &Known,
 ) -> bool
     requires run { CanRun originals.now.setup }
@@ -165,7 +166,7 @@ fn pass_access(
     requires here { here_of parts.old.frames.frames ≡ Some here }
     requires line { line_at originals.now.setup.versions here.version here.place ≡ Some line.now }
     requires named { line.now.action ≡ action.Named naming.now }
-    requires known { IsKnown (linker_in originals.now) (naming_view naming.now) known.now }
+    requires known { IsKnown (linker_in originals.now) (symbolic_view naming.now) known.now }
     ensures { Passes originals.now.setup markers.now parts.old (steps_if result) parts.new }
 {
     let linker = originals.linker();
@@ -364,7 +365,7 @@ fn pass_named(
     markers: &Stack<Marker>,
     here: Here,
     line: &Line,
-    naming: &Naming,
+    naming: &SymbolicReference,
 ) -> bool
     requires run { CanRun originals.now.setup }
     requires linked { originals.now.loaded ≡ parts.old.shared.loaded }

@@ -8,7 +8,7 @@ ghost use Rattle.jvm_model.specs.Running.Run.{starts_with};
 ghost use Rattle.jvm_model.specs.Turns.Told.{Held};
 ghost use Rattle.jvm_model.specs.declared.due.Due.TheVariants as due;
 ghost use Rattle.jvm_named.specs.Known.{IsKnown};
-ghost use Rattle.jvm_named.specs.Names.{naming_view};
+ghost use Rattle.jvm_named.specs.Names.{symbolic_view};
 ghost use Rattle.prepared_code.specs.declared.line.Action.TheVariants as action;
 ghost use Rattle.prepared_code.specs.Linked.{linker_in};
 ghost use Rattle.prepared_code.specs.Versions.{current_of, line_at, mark_of};
@@ -32,7 +32,7 @@ use const_pool::Kind;
 use jf_bytes::Stack;
 use jvm_basic::recall;
 use jvm_model::{Due, EventKind};
-use jvm_named::{Call, Invoked, Known, Naming, known_call};
+use jvm_named::{Call, Invoked, Known, SymbolicReference, known_call};
 use prepared_code::{Action, Here, Line, Marker, Originals, Parts, where_now};
 
 // ---- a call
@@ -70,7 +70,7 @@ fn invoke_known(
     markers: &Stack<Marker>,
     here: Here,
     line: &Line,
-    naming: &Naming,
+    naming: &SymbolicReference,
     known: &Known,
 ) -> bool
     requires run { CanRun originals.now.setup }
@@ -80,7 +80,7 @@ fn invoke_known(
     requires here { here_of parts.old.frames.frames ≡ Some here }
     requires line { line_at originals.now.setup.versions here.version here.place ≡ Some line.now }
     requires named { line.now.action ≡ action.Named naming.now }
-    requires known { IsKnown (linker_in originals.now) (naming_view naming.now) known.now }
+    requires known { IsKnown (linker_in originals.now) (symbolic_view naming.now) known.now }
     ensures { let w = originals.now.setup in (told : Bool)
         → TriesIf result w markers.now told parts.old due.Begins parts.new }
 {
@@ -105,7 +105,7 @@ fn invoke(
     markers: &Stack<Marker>,
     here: Here,
     line: &Line,
-    naming: &Naming,
+    naming: &SymbolicReference,
 ) -> bool
     requires run { CanRun originals.now.setup }
     requires linked { originals.now.loaded ≡ parts.old.shared.loaded }

@@ -4,14 +4,14 @@ use Rattle.jvm_basic.specs.Outcomes.{top_locals}
 use Rattle.jvm_named.specs.Answers.{Shares, shared_by, wrote_by}
 use Rattle.jvm_named.specs.Attempts.{world_over}
 use Rattle.jvm_named.specs.Members.{reference_of}
-use Rattle.jvm_named.specs.Names.{naming_view}
+use Rattle.jvm_named.specs.Names.{symbolic_view}
 use Rattle.jvm_named.specs.Resolved.{does_resolved, gets_static}
 use Rattle.jvm_named.proofs.Quiet.{on_ok, shared_getstatic, writes_getstatic}
 use Rattle.jvm_named.proofs.doing.do_resolved.Goals as goal
 
 pub returns-in-Getstatic-clause-shared : goal.returns-in-Getstatic-clause-shared
 returns-in-Getstatic-clause-shared c =
-    subst (λ n. Shares c.get_static.result c.args.shared.now (does_resolved (world_over c.args.linker.now c.args.input.now) c.args.kind (naming_view n) c.args.shared.now) c.args.frames.now)
+    subst (λ n. Shares c.get_static.result c.args.shared.now (does_resolved (world_over c.args.linker.now c.args.input.now) c.args.kind (symbolic_view n) c.args.shared.now) c.args.frames.now)
     (sym c.in-Getstatic.is)
     (on_ok c.get_static.result
     (c.args.shared.now ≡ shared_by (gets_static c.args.linker.now.program c.args.kind (reference_of c.in-Getstatic.member) c.args.shared.now) c.args.frames.now)
@@ -20,7 +20,7 @@ returns-in-Getstatic-clause-shared c =
 
 pub returns-in-Getstatic-clause-output : goal.returns-in-Getstatic-clause-output
 returns-in-Getstatic-clause-output c =
-    subst (λ n. OnOk c.get_static.result (c.args.output.now ≡ c.args.output.now ++ wrote_by (does_resolved (world_over c.args.linker.now c.args.input.now) c.args.kind (naming_view n) c.args.shared.now) c.args.frames.now))
+    subst (λ n. OnOk c.get_static.result (c.args.output.now ≡ c.args.output.now ++ wrote_by (does_resolved (world_over c.args.linker.now c.args.input.now) c.args.kind (symbolic_view n) c.args.shared.now) c.args.frames.now))
     (sym c.in-Getstatic.is)
     (on_ok c.get_static.result
     (c.args.output.now ≡ c.args.output.now ++ wrote_by (gets_static c.args.linker.now.program c.args.kind (reference_of c.in-Getstatic.member) c.args.shared.now) c.args.frames.now)

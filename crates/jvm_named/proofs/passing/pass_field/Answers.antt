@@ -1,11 +1,11 @@
 use Rattle.std.proofs.Common.{sym, subst, refl}
-use Rattle.jvm_model.specs.Instructions.Naming.{Getfield, Getstatic, Putfield, Putstatic}
-use Rattle.jvm_named.specs.declared.naming.Naming.{Naming as Kept}
+use Rattle.jvm_model.specs.Instructions.SymbolicReference.{Getfield, Getstatic, Putfield, Putstatic}
+use Rattle.jvm_named.specs.declared.symbolic_reference.SymbolicReference.{SymbolicReference as Kept}
 use Rattle.jvm_named.specs.Answers.{done_on}
 use Rattle.jvm_named.specs.Attempts.{attempts, world_over}
 use Rattle.jvm_named.specs.Known.{IsKnown}
 use Rattle.jvm_named.specs.Members.{reference_of}
-use Rattle.jvm_named.specs.Names.{naming_view}
+use Rattle.jvm_named.specs.Names.{symbolic_view}
 use Rattle.jvm_named.specs.Passing.{IfPassed}
 use Rattle.jvm_named.proofs.Again.{done_again}
 use Rattle.jvm_named.proofs.passing.pass_field.Goals as goal
@@ -16,8 +16,8 @@ returns-in-Getfield-clause-passed c input =
     let s = c.args.shared.now in
     let f = c.args.frames.now in
     let n = Getfield (reference_of c.in-Getfield.member) in
-    let known = subst (λ (kept : Kept). IsKnown l (naming_view kept) c.args.known.now) c.in-Getfield.is c.requires.known in
-    subst (λ (kept : Kept). IfPassed c.pass_getfield.result (done_on (attempts (world_over l input) (naming_view kept) s f) f) c.args.next f s c.pass_getfield.new.frames s)
+    let known = subst (λ (kept : Kept). IsKnown l (symbolic_view kept) c.args.known.now) c.in-Getfield.is c.requires.known in
+    subst (λ (kept : Kept). IfPassed c.pass_getfield.result (done_on (attempts (world_over l input) (symbolic_view kept) s f) f) c.args.next f s c.pass_getfield.new.frames s)
     (sym c.in-Getfield.is)
     (subst (λ d. IfPassed c.pass_getfield.result d c.args.next f s c.pass_getfield.new.frames s)
     (done_again l input n c.args.known.now s f c.requires.linked known refl) c.pass_getfield.ensures)
@@ -28,8 +28,8 @@ returns-in-Putfield-clause-passed c input =
     let s = c.args.shared.now in
     let f = c.args.frames.now in
     let n = Putfield (reference_of c.in-Putfield.member) in
-    let known = subst (λ (kept : Kept). IsKnown l (naming_view kept) c.args.known.now) c.in-Putfield.is c.requires.known in
-    subst (λ (kept : Kept). IfPassed c.pass_putfield.result (done_on (attempts (world_over l input) (naming_view kept) s f) f) c.args.next f s c.pass_putfield.new.frames
+    let known = subst (λ (kept : Kept). IsKnown l (symbolic_view kept) c.args.known.now) c.in-Putfield.is c.requires.known in
+    subst (λ (kept : Kept). IfPassed c.pass_putfield.result (done_on (attempts (world_over l input) (symbolic_view kept) s f) f) c.args.next f s c.pass_putfield.new.frames
     c.pass_putfield.new.shared)
     (sym c.in-Putfield.is)
     (subst (λ d. IfPassed c.pass_putfield.result d c.args.next f s c.pass_putfield.new.frames c.pass_putfield.new.shared)
@@ -41,8 +41,8 @@ returns-in-Getstatic-clause-passed c input =
     let s = c.args.shared.now in
     let f = c.args.frames.now in
     let n = Getstatic (reference_of c.in-Getstatic.member) in
-    let known = subst (λ (kept : Kept). IsKnown l (naming_view kept) c.args.known.now) c.in-Getstatic.is c.requires.known in
-    subst (λ (kept : Kept). IfPassed c.pass_getstatic.result (done_on (attempts (world_over l input) (naming_view kept) s f) f) c.args.next f s c.pass_getstatic.new.frames s)
+    let known = subst (λ (kept : Kept). IsKnown l (symbolic_view kept) c.args.known.now) c.in-Getstatic.is c.requires.known in
+    subst (λ (kept : Kept). IfPassed c.pass_getstatic.result (done_on (attempts (world_over l input) (symbolic_view kept) s f) f) c.args.next f s c.pass_getstatic.new.frames s)
     (sym c.in-Getstatic.is)
     (subst (λ d. IfPassed c.pass_getstatic.result d c.args.next f s c.pass_getstatic.new.frames s)
     (done_again l input n c.args.known.now s f c.requires.linked known refl) c.pass_getstatic.ensures)
@@ -53,8 +53,8 @@ returns-in-Putstatic-clause-passed c input =
     let s = c.args.shared.now in
     let f = c.args.frames.now in
     let n = Putstatic (reference_of c.in-Putstatic.member) in
-    let known = subst (λ (kept : Kept). IsKnown l (naming_view kept) c.args.known.now) c.in-Putstatic.is c.requires.known in
-    subst (λ (kept : Kept). IfPassed c.pass_putstatic.result (done_on (attempts (world_over l input) (naming_view kept) s f) f) c.args.next f s c.pass_putstatic.new.frames
+    let known = subst (λ (kept : Kept). IsKnown l (symbolic_view kept) c.args.known.now) c.in-Putstatic.is c.requires.known in
+    subst (λ (kept : Kept). IfPassed c.pass_putstatic.result (done_on (attempts (world_over l input) (symbolic_view kept) s f) f) c.args.next f s c.pass_putstatic.new.frames
     c.pass_putstatic.new.shared)
     (sym c.in-Putstatic.is)
     (subst (λ d. IfPassed c.pass_putstatic.result d c.args.next f s c.pass_putstatic.new.frames c.pass_putstatic.new.shared)

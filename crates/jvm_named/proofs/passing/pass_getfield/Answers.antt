@@ -3,7 +3,7 @@ use Rattle.frame_stack.specs.FrameLists.{top_operands, with_frames}
 use Rattle.jvm_basic.specs.Outcomes.{top_locals}
 use Rattle.jvm_model.specs.Basis.Data.{Done}
 use Rattle.jvm_model.specs.Instructions.FieldRules.{gets_of}
-use Rattle.jvm_model.specs.Instructions.Naming.{Getfield, unless_refused}
+use Rattle.jvm_model.specs.Instructions.SymbolicReference.{Getfield, unless_refused}
 use Rattle.jvm_model.specs.Basis.Values.{ref_of}
 use Rattle.jvm_named.specs.Answers.{answer_in, answer_view, done_on, frames_in}
 use Rattle.jvm_named.specs.Known.{IsField, IsFoundAs}

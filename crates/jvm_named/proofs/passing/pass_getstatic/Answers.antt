@@ -5,7 +5,7 @@ use Rattle.jvm_basic.specs.Outcomes.{top_locals}
 use Rattle.jvm_model.specs.Basis.Data.{Done}
 use Rattle.jvm_model.specs.Instructions.FieldRules.{pushes_static, static_field}
 use Rattle.jvm_model.specs.Instructions.LocalRules.{pushes}
-use Rattle.jvm_model.specs.Instructions.Naming.{Getstatic, unless_refused}
+use Rattle.jvm_model.specs.Instructions.SymbolicReference.{Getstatic, unless_refused}
 use Rattle.jvm_model.specs.Instructions.ObjectRules.{done}
 use Rattle.jvm_model.specs.Basis.SharedState.{phase_of, static_at}
 use Rattle.jvm_model.specs.Basis.Values.{as_value}

@@ -5,7 +5,7 @@ use Rattle.jvm_model.specs.declared.state.Shared.{Shared}
 use Rattle.jvm_model.specs.Basis.Data.{GoesOn, Next}
 use Rattle.jvm_model.specs.Instructions.FieldRules.{kind_by, putting_of}
 use Rattle.jvm_model.specs.Classes.Layouts.{held_by}
-use Rattle.jvm_model.specs.Instructions.Naming.{Putfield}
+use Rattle.jvm_model.specs.Instructions.SymbolicReference.{Putfield}
 use Rattle.jvm_named.specs.Answers.{answer_view, done_on}
 use Rattle.jvm_named.specs.Fields.{putting_view, writes}
 use Rattle.jvm_named.specs.Known.{IsField, IsFoundAs}

@@ -5,7 +5,7 @@ use Rattle.jvm_model.specs.declared.state.Shared.{Shared}
 use Rattle.jvm_model.specs.Basis.Data.{Done, GoesOn, Next}
 use Rattle.jvm_model.specs.Instructions.FieldRules.{held_of, kind_by, sets_static}
 use Rattle.jvm_model.specs.Classes.Layouts.{held_by}
-use Rattle.jvm_model.specs.Instructions.Naming.{Putstatic, unless_refused}
+use Rattle.jvm_model.specs.Instructions.SymbolicReference.{Putstatic, unless_refused}
 use Rattle.jvm_model.specs.Instructions.Rules.{initialized}
 use Rattle.jvm_model.specs.Basis.SharedState.{phase_of}
 use Rattle.jvm_named.specs.Answers.{answer_view, done_on}

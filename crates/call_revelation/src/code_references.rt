@@ -5,10 +5,10 @@ ghost use Rattle.std.specs.List.{AllByRecursion};
 ghost use Rattle.std.specs.Option.{option_and_then, option_map, option_to_list};
 ghost use Rattle.code_model.specs.Instructions.{end_of};
 ghost use Rattle.jvm_model.specs.Codes.Lines.{operation_of};
-ghost use Rattle.jvm_named.specs.Names.{naming_view};
+ghost use Rattle.jvm_named.specs.Names.{symbolic_view};
 ghost use Rattle.prepared_code.specs.Prepared.{HasShortCode, HasShortCodes};
-ghost use Rattle.call_revelation.specs.Namings.{begins_by, code_namings, member_namings};
-ghost use Rattle.jvm_model.specs.Profiling.Revelation.{naming_in, namings_of};
+ghost use Rattle.call_revelation.specs.CodeReferences.{begins_by, references_in_code, member_references};
+ghost use Rattle.jvm_model.specs.Profiling.Revelation.{symbolic_reference_in, symbolic_references_of};
 ghost use Rattle.jvm_model.specs.Profiling.Targets.{operations_of};
 
 use crate::tables::add_some;
@@ -16,44 +16,50 @@ use code_model::{Instr, instr_at};
 use const_pool::{ClassFile, Member};
 use jf_bytes::{NoMemory, Seq};
 use jvm_model::Program;
-use jvm_named::Naming;
+use jvm_named::SymbolicReference;
 use prepared_code::{Action, Line, code_of, line_of};
 use std::alloc::Global;
 
 /// What names something and can begin a method.
-fn beginning(action: Action) -> Option<Naming>
-    ensures { option_map naming_view result ≡ begins_by action }
+fn beginning(action: Action) -> Option<SymbolicReference>
+    ensures { option_map symbolic_view result ≡ begins_by action }
 {
     let Action::Named(naming) = action else {
         return None;
     };
     match naming {
-        Naming::New(name) => Some(Naming::New(name)),
-        Naming::Getstatic(field) => Some(Naming::Getstatic(field)),
-        Naming::Putstatic(field) => Some(Naming::Putstatic(field)),
-        Naming::Invokevirtual(method) => Some(Naming::Invokevirtual(method)),
-        Naming::Invokespecial(caller, method, interface) => {
-            Some(Naming::Invokespecial(caller, method, interface))
+        SymbolicReference::New(name) => Some(SymbolicReference::New(name)),
+        SymbolicReference::Getstatic(field) => Some(SymbolicReference::Getstatic(field)),
+        SymbolicReference::Putstatic(field) => Some(SymbolicReference::Putstatic(field)),
+        SymbolicReference::Invokevirtual(method) => Some(SymbolicReference::Invokevirtual(method)),
+        SymbolicReference::Invokespecial(caller, method, interface) => {
+            Some(SymbolicReference::Invokespecial(caller, method, interface))
         }
-        Naming::Invokestatic(method) => Some(Naming::Invokestatic(method)),
-        Naming::Invokeinterface(method) => Some(Naming::Invokeinterface(method)),
+        SymbolicReference::Invokestatic(method) => Some(SymbolicReference::Invokestatic(method)),
+        SymbolicReference::Invokeinterface(method) => Some(SymbolicReference::Invokeinterface(
+            method,
+        )),
         _ => None,
     }
 }
 
 /// What a line names, where it can begin a method.
-fn beginning_of(line: Line) -> Option<Naming>
-    ensures { option_map naming_view result ≡ begins_by line.action }
+fn beginning_of(line: Line) -> Option<SymbolicReference>
+    ensures { option_map symbolic_view result ≡ begins_by line.action }
 {
     let Line { action, .. } = line;
     beginning(action)
 }
 
 /// What an instruction names, where it can begin a method.
-fn naming_of(alloc: Global, class: &ClassFile, instr: Instr) -> Result<Option<Naming>, NoMemory>
+fn symbolic_reference_of(
+    alloc: Global,
+    class: &ClassFile,
+    instr: Instr,
+) -> Result<Option<SymbolicReference>, NoMemory>
     requires { end_of instr < 2 ^ 16 }
-    ensures { IfOk result (λ n. option_map naming_view n
-        ≡ option_and_then naming_in (operation_of class.now instr)) }
+    ensures { IfOk result (λ n. option_map symbolic_view n
+        ≡ option_and_then symbolic_reference_in (operation_of class.now instr)) }
 {
     match line_of(alloc, class, instr)? {
         Some(line) => Ok(beginning_of(line)),
@@ -62,9 +68,13 @@ fn naming_of(alloc: Global, class: &ClassFile, instr: Instr) -> Result<Option<Na
 }
 
 /// What the instructions of a code name that can begin methods, in order.
-fn code_namings(alloc: Global, class: &ClassFile, code: &[u8]) -> Result<Seq<Naming>, NoMemory>
+fn references_in_code(
+    alloc: Global,
+    class: &ClassFile,
+    code: &[u8],
+) -> Result<Seq<SymbolicReference>, NoMemory>
     requires { length code.now < 2 ^ 16 }
-    ensures { IfOk result (λ ns. map naming_view ns ≡ code_namings class.now code.now) }
+    ensures { IfOk result (λ ns. map symbolic_view ns ≡ references_in_code class.now code.now) }
 {
     let mut namings = Seq::new(alloc);
     let mut at = 0;
@@ -75,32 +85,36 @@ fn code_namings(alloc: Global, class: &ClassFile, code: &[u8]) -> Result<Seq<Nam
         };
         at = instr.next_offset();
         left -= 1;
-        let naming = naming_of(alloc, class, instr)?;
+        let naming = symbolic_reference_of(alloc, class, instr)?;
         add_some(&mut namings, naming)?;
     }
     Ok(namings)
 }
 
 /// Those of a method.
-fn member_namings(
+fn member_references(
     alloc: Global,
     class: &ClassFile,
     member: &Member,
-) -> Result<Seq<Naming>, NoMemory>
+) -> Result<Seq<SymbolicReference>, NoMemory>
     requires { HasShortCode member.now }
-    ensures { IfOk result (λ ns. map naming_view ns ≡ member_namings class.now member.now) }
+    ensures { IfOk result (λ ns. map symbolic_view ns ≡ member_references class.now member.now) }
 {
     match code_of(member) {
-        Some(code) => code_namings(alloc, class, code.code.as_slice()),
+        Some(code) => references_in_code(alloc, class, code.code.as_slice()),
         None => Ok(Seq::new(alloc)),
     }
 }
 
 /// What the original code of the method with this number names that can begin methods, in order.
-pub fn namings_of(alloc: Global, program: &Program, method: u32) -> Result<Seq<Naming>, NoMemory>
+pub fn symbolic_references_of(
+    alloc: Global,
+    program: &Program,
+    method: u32,
+) -> Result<Seq<SymbolicReference>, NoMemory>
     requires { AllByRecursion HasShortCodes program.now.classes }
-    ensures { IfOk result (λ ns. map naming_view ns
-        ≡ namings_of (operations_of program.now method)) }
+    ensures { IfOk result (λ ns. map symbolic_view ns
+        ≡ symbolic_references_of (operations_of program.now method)) }
 {
     let Some(place) = program.methods.at(method as usize) else {
         return Ok(Seq::new(alloc));
@@ -109,7 +123,7 @@ pub fn namings_of(alloc: Global, program: &Program, method: u32) -> Result<Seq<N
         return Ok(Seq::new(alloc));
     };
     match class.methods.get(place.position as usize) {
-        Some(member) => member_namings(alloc, class, member),
+        Some(member) => member_references(alloc, class, member),
         None => Ok(Seq::new(alloc)),
     }
 }

@@ -5,11 +5,11 @@ ghost use Rattle.std.specs.Option.{option_and_then, option_map};
 ghost use Rattle.const_pool.specs.Members.{reference_view};
 ghost use Rattle.const_pool.specs.References.{named_class, named_field, named_method, named_text};
 ghost use Rattle.jvm_model.specs.Basis.Data.{LdcClass, Named};
-ghost use Rattle.jvm_model.specs.Codes.Lines.{has_dimensions, interface_naming, multi_naming};
-ghost use Rattle.jvm_model.specs.Codes.Lines.{named_interface_method, naming_of, special_of};
+ghost use Rattle.jvm_model.specs.Codes.Lines.{has_dimensions, interface_reference, array_reference};
+ghost use Rattle.jvm_model.specs.Codes.Lines.{named_interface_method, symbolic_reference_of, special_of};
 ghost use Rattle.jvm_model.specs.Basis.Programs.{name_of};
 ghost use Rattle.jvm_named.specs.Members.{params_by};
-ghost use Rattle.jvm_named.specs.Names.{naming_view};
+ghost use Rattle.jvm_named.specs.Names.{symbolic_view};
 ghost use Rattle.prepared_code.specs.Lines.{action_of, member_as, named_action, named_as};
 
 use crate::descriptor::shape_of;
@@ -18,7 +18,7 @@ use crate::members::{field_at, interface_method_at, method_at};
 use class_index::meaning_of;
 use const_pool::{ClassFile, Kind, MemberRef, Pool};
 use jf_bytes::{NoMemory, Seq, Text16};
-use jvm_named::{MemberName, MethodName, Naming};
+use jvm_named::{MemberName, MethodName, SymbolicReference};
 use std::alloc::Global;
 
 // ---- names
@@ -116,7 +116,11 @@ pub fn text_in(alloc: Global, pool: &Pool, index: u16) -> Result<Option<Text16>,
 // ---- instructions
 
 /// invokespecial in a class.
-fn special_in(alloc: Global, class: &ClassFile, index: u16) -> Result<Option<Naming>, NoMemory>
+fn special_in(
+    alloc: Global,
+    class: &ClassFile,
+    index: u16,
+) -> Result<Option<SymbolicReference>, NoMemory>
     ensures { let method = named_method class.now.pool index in IfOk result (λ n. n
         ≡ option_map named_as (option_and_then (λ caller. option_map (special_of caller) method)
         (name_of class.now))) }
@@ -125,68 +129,71 @@ fn special_in(alloc: Global, class: &ClassFile, index: u16) -> Result<Option<Nam
         return Ok(None);
     };
     match method_in(alloc, &class.pool, index)? {
-        Some(method) => Ok(Some(Naming::Invokespecial(caller, method, false))),
+        Some(method) => Ok(Some(SymbolicReference::Invokespecial(caller, method, false))),
         None => Ok(None),
     }
 }
 
 /// An instruction with a pool index alone.
-pub fn naming_of(
+pub fn symbolic_reference_of(
     alloc: Global,
     class: &ClassFile,
     op: u8,
     index: u16,
-) -> Result<Option<Naming>, NoMemory>
-    ensures { IfOk result (λ n. n ≡ option_map named_as (naming_of class.now op index)) }
+) -> Result<Option<SymbolicReference>, NoMemory>
+    ensures { IfOk result
+        (λ n. n ≡ option_map named_as (symbolic_reference_of class.now op index)) }
 {
     let pool = &class.pool;
     match op {
-        178 => Ok(field_in(alloc, pool, index)?.map(Naming::Getstatic)),
-        179 => Ok(field_in(alloc, pool, index)?.map(Naming::Putstatic)),
-        180 => Ok(field_in(alloc, pool, index)?.map(Naming::Getfield)),
-        181 => Ok(field_in(alloc, pool, index)?.map(Naming::Putfield)),
-        182 => Ok(method_in(alloc, pool, index)?.map(Naming::Invokevirtual)),
+        178 => Ok(field_in(alloc, pool, index)?.map(SymbolicReference::Getstatic)),
+        179 => Ok(field_in(alloc, pool, index)?.map(SymbolicReference::Putstatic)),
+        180 => Ok(field_in(alloc, pool, index)?.map(SymbolicReference::Getfield)),
+        181 => Ok(field_in(alloc, pool, index)?.map(SymbolicReference::Putfield)),
+        182 => Ok(method_in(alloc, pool, index)?.map(SymbolicReference::Invokevirtual)),
         183 => special_in(alloc, class, index),
-        184 => Ok(method_in(alloc, pool, index)?.map(Naming::Invokestatic)),
-        187 => Ok(class_in(alloc, pool, index)?.map(Naming::New)),
-        189 => Ok(class_in(alloc, pool, index)?.map(Naming::Anewarray)),
-        192 => Ok(class_in(alloc, pool, index)?.map(Naming::Checkcast)),
-        193 => Ok(class_in(alloc, pool, index)?.map(Naming::Instanceof)),
+        184 => Ok(method_in(alloc, pool, index)?.map(SymbolicReference::Invokestatic)),
+        187 => Ok(class_in(alloc, pool, index)?.map(SymbolicReference::New)),
+        189 => Ok(class_in(alloc, pool, index)?.map(SymbolicReference::Anewarray)),
+        192 => Ok(class_in(alloc, pool, index)?.map(SymbolicReference::Checkcast)),
+        193 => Ok(class_in(alloc, pool, index)?.map(SymbolicReference::Instanceof)),
         _ => Ok(None),
     }
 }
 
 /// invokeinterface.
-pub fn interface_naming(
+pub fn interface_reference(
     alloc: Global,
     class: &ClassFile,
     op: u8,
     index: u16,
-) -> Result<Option<Naming>, NoMemory>
-    ensures { IfOk result (λ n. n ≡ option_map named_as (interface_naming class.now op index)) }
+) -> Result<Option<SymbolicReference>, NoMemory>
+    ensures { IfOk result (λ n. n ≡ option_map named_as (interface_reference class.now op index)) }
 {
     match op {
-        185 => Ok(interface_method_in(alloc, &class.pool, index)?.map(Naming::Invokeinterface)),
+        185 => Ok(interface_method_in(alloc, &class.pool, index)?.map(
+            SymbolicReference::Invokeinterface,
+        )),
         _ => Ok(None),
     }
 }
 
 /// multianewarray, with so many dimensions that are given.
-pub fn multi_naming(
+pub fn array_reference(
     alloc: Global,
     class: &ClassFile,
     op: u8,
     index: u16,
     dimensions: u8,
-) -> Result<Option<Naming>, NoMemory>
+) -> Result<Option<SymbolicReference>, NoMemory>
     ensures { IfOk result
-        (λ n. n ≡ option_map named_as (multi_naming class.now op index dimensions)) }
+        (λ n. n ≡ option_map named_as (array_reference class.now op index dimensions)) }
 {
     if op != 197 {
         return Ok(None);
     }
     match class_in(alloc, &class.pool, index)? {
-        Some(name) => Ok(Some(Naming::Multianewarray(name, dimensions))),
+        Some(name) => Ok(Some(SymbolicReference::Multianewarray(name, dimensions))),
         None => Ok(None),
     }
 }
@@ -196,18 +203,18 @@ pub fn class_action(name: Option<Text16>) -> Option<Action>
     ensures { let operation = option_map (λ units. Named (LdcClass units)) name in
         result ≡ option_map action_of operation }
 {
-    Some(Action::Named(Naming::LdcClass(name?)))
+    Some(Action::Named(SymbolicReference::LdcClass(name?)))
 }
 
 // ---- dimensions of array types
 
 /// Whether an array type that is named has the dimensions that the format asks (4.9.1).
-fn has_dimensions(naming: &Naming) -> bool
-    ensures { result ≡ has_dimensions (naming_view naming.now) }
+fn has_dimensions(naming: &SymbolicReference) -> bool
+    ensures { result ≡ has_dimensions (symbolic_view naming.now) }
 {
     match naming {
-        Naming::Anewarray(name) => meaning_of(name.units()).dimensions < 255,
-        Naming::Multianewarray(name, dimensions) => {
+        SymbolicReference::Anewarray(name) => meaning_of(name.units()).dimensions < 255,
+        SymbolicReference::Multianewarray(name, dimensions) => {
             *dimensions >= 1 && *dimensions <= meaning_of(name.units()).dimensions
         }
         _ => true,
@@ -215,7 +222,7 @@ fn has_dimensions(naming: &Naming) -> bool
 }
 
 /// What an instruction with names does; none where it is none for its dimensions.
-pub fn named_action(naming: Option<Naming>) -> Option<Action>
+pub fn named_action(naming: Option<SymbolicReference>) -> Option<Action>
     ensures { result ≡ option_and_then named_action naming }
 {
     let naming = naming?;

@@ -2,11 +2,11 @@
 -- is loaded.
 use Rattle.jvm_model.specs.Instructions.ConstantRules.{pushes_class}
 use Rattle.jvm_model.specs.Instructions.CreationRules.{casts, makes_array_of, makes_multi, makes_new, tells_instance}
-use Rattle.jvm_model.specs.Basis.Data.{Locals, Operands, Shared, World, Done, Naming, New, Getfield, Putfield, Getstatic, Putstatic, Invokevirtual, Invokespecial, Invokestatic, Invokeinterface, Checkcast, Instanceof, Anewarray, Multianewarray, LdcClass}
+use Rattle.jvm_model.specs.Basis.Data.{Locals, Operands, Shared, World, Done, SymbolicReference, New, Getfield, Putfield, Getstatic, Putstatic, Invokevirtual, Invokespecial, Invokestatic, Invokeinterface, Checkcast, Instanceof, Anewarray, Multianewarray, LdcClass}
 use Rattle.jvm_model.specs.Instructions.FieldRules.{gets_instance, gets_static, puts_instance, puts_static}
 use Rattle.jvm_model.specs.Instructions.InvocationRules.{Virtual, OfInterface, Special, invokes_instance, invokes_static_method}
 
-abbrev pub does_named : World → Naming → Shared → Locals → Operands → Done
+abbrev pub does_named : World → SymbolicReference → Shared → Locals → Operands → Done
 does_named w (New name) s l o = makes_new w.program name s l o
 does_named w (Getfield r) s l o = gets_instance w.program r s l o
 does_named w (Putfield r) s l o = puts_instance w.program r s l o

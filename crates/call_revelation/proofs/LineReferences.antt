@@ -7,13 +7,13 @@ use Rattle.code_model.specs.declared.instr.Instr.{Instr}
 use Rattle.jvm_model.specs.Codes.Lines.{operation_of}
 use Rattle.prepared_code.specs.declared.line.Line.{Line}
 use Rattle.jvm_model.specs.Basis.Data.{Operation, Within, Named, Athrow, Monitor, Newarray, Arraylength, LoadElement, StoreElement, LdcString, Local, Return}
-use Rattle.jvm_model.specs.Instructions.Naming.{New, Getfield, Putfield, Getstatic, Putstatic, Invokevirtual, Invokespecial, Invokestatic, Invokeinterface, Checkcast, Instanceof, Anewarray, Multianewarray, LdcClass}
-use Rattle.jvm_model.specs.Profiling.Revelation.{naming_in}
+use Rattle.jvm_model.specs.Instructions.SymbolicReference.{New, Getfield, Putfield, Getstatic, Putstatic, Invokevirtual, Invokespecial, Invokestatic, Invokeinterface, Checkcast, Instanceof, Anewarray, Multianewarray, LdcClass}
+use Rattle.jvm_model.specs.Profiling.Revelation.{symbolic_reference_in}
 use Rattle.prepared_code.specs.Lines.{action_of, line_of, line_with, local_action}
-use Rattle.call_revelation.specs.Namings.{begins_by}
+use Rattle.call_revelation.specs.CodeReferences.{begins_by}
 
 -- what a line names that can begin methods is what its operation names
-pub begins_alike : (op : Operation) → begins_by (action_of op) ≡ naming_in op
+pub begins_alike : (op : Operation) → begins_by (action_of op) ≡ symbolic_reference_in op
 begins_alike (Named (New name)) = refl
 begins_alike (Named (Getstatic r)) = refl
 begins_alike (Named (Putstatic r)) = refl
@@ -47,9 +47,9 @@ none-some x e = cc
 some-some : {A : Type 0} (x y : A) → Some x ≡ Some y → x ≡ y
 some-some x y e = cc
 
-pub line-begins : (c : ClassFile) (i : Instr) (line : Line) → line_of c i ≡ Some line → begins_by line.action ≡ option_and_then naming_in (operation_of c i)
+pub line-begins : (c : ClassFile) (i : Instr) (line : Line) → line_of c i ≡ Some line → begins_by line.action ≡ option_and_then symbolic_reference_in (operation_of c i)
 line-begins c i line e = by (operation_of c i) e
   where
-    by : (o : Option Operation) → option_map (line_with c i) (option_map action_of o) ≡ Some line → begins_by line.action ≡ option_and_then naming_in o
+    by : (o : Option Operation) → option_map (line_with c i) (option_map action_of o) ≡ Some line → begins_by line.action ≡ option_and_then symbolic_reference_in o
     by None e = absurd (none-some line e)
     by (Some op) e = ap (λ (l : Line). begins_by l.action) (sym (some-some (line_with c i (action_of op)) line e)) ∙ begins_alike op

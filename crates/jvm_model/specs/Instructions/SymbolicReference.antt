@@ -5,7 +5,7 @@ use Rattle.std.specs.Option.{ok_or, option_map_or}
 use Rattle.heap_objects.specs.Heaps.{HeapView, kind_at}
 use Rattle.const_pool.specs.References.{Reference}
 use Rattle.jvm_model.specs.Basis.Data.{Operands, Program, Shared, Outcome, Raises, Breaks, Done}
-pub use Rattle.jvm_model.specs.Basis.Data.{Naming, New, Getfield, Putfield, Getstatic, Putstatic, Invokevirtual, Invokespecial, Invokestatic, Invokeinterface, Checkcast, Instanceof, Anewarray, Multianewarray, LdcClass}
+pub use Rattle.jvm_model.specs.Basis.Data.{SymbolicReference, New, Getfield, Putfield, Getstatic, Putstatic, Invokevirtual, Invokespecial, Invokestatic, Invokeinterface, Checkcast, Instanceof, Anewarray, Multianewarray, LdcClass}
 use Rattle.jvm_model.specs.Basis.KindNumbers.{kind_parts}
 use Rattle.jvm_model.specs.Classes.Kinds.{is_subkind, kind_named}
 use Rattle.jvm_model.specs.Classes.Load.{Fault, NoClass, Circular, Incompatible, error_of, is_among, load_of}
@@ -17,7 +17,7 @@ use Rattle.jvm_model.specs.Basis.Values.{ref_of}
 -- ---- what is resolved
 
 -- the name of the class, or of the array type, that is resolved: of a member its class's
-abbrev pub resolved_name : Naming → List ℕ
+abbrev pub resolved_name : SymbolicReference → List ℕ
 resolved_name (New name) = name
 resolved_name (Getfield r) = r.class
 resolved_name (Putfield r) = r.class
@@ -40,13 +40,13 @@ abbrev pub is_null : Operands → Bool
 is_null o = option_map_or (λ r. r == 0) (ref_of o) false
 
 -- checkcast and instanceof of null resolve nothing. An operand that is missing or of another kind is looked at behind the resolution.
-abbrev pub resolves : Naming → Operands → Bool
+abbrev pub resolves : SymbolicReference → Operands → Bool
 resolves (Checkcast name) o = not (is_null o)
 resolves (Instanceof name) o = not (is_null o)
 resolves n o = true
 
 -- the classes that the instruction loads, where these are loaded: those before a fault too
-abbrev pub newly_loaded : Program → List ℕ → Naming → Operands → List ℕ
+abbrev pub newly_loaded : Program → List ℕ → SymbolicReference → Operands → List ℕ
 newly_loaded p loaded n o = if resolves n o then drop (length loaded) (load_of p loaded (resolved_name n)).loaded else []
 
 -- ---- what a rule finds step by step, or what it asks for where a step is refused

@@ -70,7 +70,7 @@ impl MethodName {
 /// whether it names an interface's method; of multianewarray how many dimensions are given; LdcClass is ldc of a
 /// Class.
 #[derive(Debug, Drop)]
-pub enum Naming {
+pub enum SymbolicReference {
     New(Text16),
     Getfield(MemberName),
     Putfield(MemberName),

@@ -8,8 +8,8 @@ use Rattle.jvm_model.specs.declared.program.Program.{Program}
 use Rattle.jvm_model.specs.Basis.Data.{Operation, Within, Named, Athrow, Monitor, Newarray, Arraylength, LoadElement, StoreElement, LdcString}
 use Rattle.jvm_model.specs.Instructions.InvocationRules.{Selecting, Virtual, OfInterface}
 use Rattle.jvm_model.specs.Classes.Load.{is_among}
-use Rattle.jvm_model.specs.Instructions.Naming.{Naming, New, Getfield, Putfield, Getstatic, Putstatic, Invokevirtual, Invokespecial, Invokestatic, Invokeinterface, Checkcast, Instanceof, Anewarray, Multianewarray, LdcClass, resolved_name}
-use Rattle.jvm_model.specs.Profiling.Revelation.{gained_by, gained_by_operation, gained_call, gained_in, gained_named, gained_on, is_named, naming_in, namings_of}
+use Rattle.jvm_model.specs.Instructions.SymbolicReference.{SymbolicReference, New, Getfield, Putfield, Getstatic, Putstatic, Invokevirtual, Invokespecial, Invokestatic, Invokeinterface, Checkcast, Instanceof, Anewarray, Multianewarray, LdcClass, resolved_name}
+use Rattle.jvm_model.specs.Profiling.Revelation.{gained_by, gained_by_operation, gained_call, gained_in, gained_named, gained_on, is_named, symbolic_reference_in, symbolic_references_of}
 use Rattle.jvm_model.specs.Profiling.Targets.{begun_by, begun_by_operation, loaded_class_named, targets_in}
 use Rattle.call_revelation.specs.Books.{called_on, is_call}
 use Rattle.call_revelation.proofs.Adding.{among-append, either, or-first, or-later}
@@ -26,12 +26,12 @@ some-some x y e = cc
 -- ---- an operation and what it names
 
 -- a function on operations that looks at what can begin methods alone
-abbrev SeesNaming : (Operation → List ℕ) → (Naming → List ℕ) → Operation → Option Naming → Type 0
-SeesNaming of_operation of_naming op None = of_operation op ≡ []
-SeesNaming of_operation of_naming op (Some n) = of_operation op ≡ of_naming n
+abbrev SeesReference : (Operation → List ℕ) → (SymbolicReference → List ℕ) → Operation → Option SymbolicReference → Type 0
+SeesReference of_operation of_reference op None = of_operation op ≡ []
+SeesReference of_operation of_reference op (Some n) = of_operation op ≡ of_reference n
 
 module _ (p : Program) (loaded : List ℕ) where
-  begins : (op : Operation) → SeesNaming (begun_by_operation p loaded) (begun_by p loaded) op (naming_in op)
+  begins : (op : Operation) → SeesReference (begun_by_operation p loaded) (begun_by p loaded) op (symbolic_reference_in op)
   begins (Named (New name)) = refl
   begins (Named (Getstatic r)) = refl
   begins (Named (Putstatic r)) = refl
@@ -55,7 +55,7 @@ module _ (p : Program) (loaded : List ℕ) where
   begins (StoreElement k) = refl
   begins (LdcString units) = refl
 
-  gains : (new : ℕ) (op : Operation) → SeesNaming (gained_by_operation p loaded new) (gained_by p loaded new) op (naming_in op)
+  gains : (new : ℕ) (op : Operation) → SeesReference (gained_by_operation p loaded new) (gained_by p loaded new) op (symbolic_reference_in op)
   gains new (Named (New name)) = refl
   gains new (Named (Getstatic r)) = refl
   gains new (Named (Putstatic r)) = refl
@@ -82,14 +82,14 @@ module _ (p : Program) (loaded : List ℕ) where
 -- ---- a list of operations and what they name
 
 -- one of these, and what it gives
-pub record IsOne (f : Naming → List ℕ) (ns : List Naming) (m : ℕ) : Type 0 where
+pub record IsOne (f : SymbolicReference → List ℕ) (ns : List SymbolicReference) (m : ℕ) : Type 0 where
   pub index : ℕ
-  pub naming : Naming
+  pub naming : SymbolicReference
   pub there : slice_get ns index ≡ Some naming
   pub within : is_among m (f naming) ≡ true
 
-module _ (of_operation : Operation → List ℕ) (f : Naming → List ℕ) (sees : (op : Operation) → SeesNaming of_operation f op (naming_in op)) where
-  pub one-behind : (o : Option Naming) (ns : List Naming) (m : ℕ) → IsOne f ns m → IsOne f (cons_option o ns) m
+module _ (of_operation : Operation → List ℕ) (f : SymbolicReference → List ℕ) (sees : (op : Operation) → SeesReference of_operation f op (symbolic_reference_in op)) where
+  pub one-behind : (o : Option SymbolicReference) (ns : List SymbolicReference) (m : ℕ) → IsOne f ns m → IsOne f (cons_option o ns) m
   one-behind None ns m one = one
   one-behind (Some n) ns m one = record { index = suc one.index; naming = one.naming; there = one.there; within = one.within }
 
@@ -97,24 +97,24 @@ module _ (of_operation : Operation → List ℕ) (f : Naming → List ℕ) (sees
   all_of [] = []
   all_of (op ∷ rest) = of_operation op ++ all_of rest
 
-  pub from-all : (ops : List Operation) (m : ℕ) → is_among m (all_of ops) ≡ true → IsOne f (namings_of ops) m
+  pub from-all : (ops : List Operation) (m : ℕ) → is_among m (all_of ops) ≡ true → IsOne f (symbolic_references_of ops) m
   from-all [] m h = absurd (false_true h)
   from-all (op ∷ rest) m h =
       elim (either (is_among m (of_operation op)) (is_among m (all_of rest)) (sym (among-append m (of_operation op) (all_of rest)) ∙ h)) [
-        | inl a ↦ first (naming_in op) (sees op) a
-        | inr b ↦ one-behind (naming_in op) (namings_of rest) m (from-all rest m b)
+        | inl a ↦ first (symbolic_reference_in op) (sees op) a
+        | inr b ↦ one-behind (symbolic_reference_in op) (symbolic_references_of rest) m (from-all rest m b)
       ]
     where
-      first : (o : Option Naming) → SeesNaming of_operation f op o → is_among m (of_operation op) ≡ true → IsOne f (cons_option o (namings_of rest)) m
+      first : (o : Option SymbolicReference) → SeesReference of_operation f op o → is_among m (of_operation op) ≡ true → IsOne f (cons_option o (symbolic_references_of rest)) m
       first None e a = absurd (false_true (sym (ap (is_among m) e) ∙ a))
       first (Some n) e a = record { index = 0; naming = n; there = refl; within = sym (ap (is_among m) e) ∙ a }
 
-  pub to-all : (ops : List Operation) (m i : ℕ) (n : Naming) → slice_get (namings_of ops) i ≡ Some n → is_among m (f n) ≡ true → is_among m (all_of ops) ≡ true
+  pub to-all : (ops : List Operation) (m i : ℕ) (n : SymbolicReference) → slice_get (symbolic_references_of ops) i ≡ Some n → is_among m (f n) ≡ true → is_among m (all_of ops) ≡ true
   to-all [] m i n e h = absurd (none-some n e)
-  to-all (op ∷ rest) m i n e h = among-append m (of_operation op) (all_of rest) ∙ by (naming_in op) i (sees op) e (λ j. to-all rest m j n)
+  to-all (op ∷ rest) m i n e h = among-append m (of_operation op) (all_of rest) ∙ by (symbolic_reference_in op) i (sees op) e (λ j. to-all rest m j n)
     where
-      by : (o : Option Naming) (i : ℕ) → SeesNaming of_operation f op o → slice_get (cons_option o (namings_of rest)) i ≡ Some n
-          → ((j : ℕ) → slice_get (namings_of rest) j ≡ Some n → is_among m (f n) ≡ true → is_among m (all_of rest) ≡ true)
+      by : (o : Option SymbolicReference) (i : ℕ) → SeesReference of_operation f op o → slice_get (cons_option o (symbolic_references_of rest)) i ≡ Some n
+          → ((j : ℕ) → slice_get (symbolic_references_of rest) j ≡ Some n → is_among m (f n) ≡ true → is_among m (all_of rest) ≡ true)
           → (is_among m (of_operation op) || is_among m (all_of rest)) ≡ true
       by None i s e behind = or-later (is_among m (of_operation op)) (is_among m (all_of rest)) (behind i e h)
       by (Some x) zero s e behind =
@@ -129,44 +129,44 @@ module _ (of_operation : Operation → List ℕ) (f : Naming → List ℕ) (sees
 -- ---- targets and gains
 
 module _ (p : Program) (loaded : List ℕ) where
-  pub target-of : (ops : List Operation) (m i : ℕ) (n : Naming) → slice_get (namings_of ops) i ≡ Some n → is_among m (begun_by p loaded n) ≡ true
+  pub target-of : (ops : List Operation) (m i : ℕ) (n : SymbolicReference) → slice_get (symbolic_references_of ops) i ≡ Some n → is_among m (begun_by p loaded n) ≡ true
       → is_among m (targets_in p loaded ops) ≡ true
   target-of ops m i n e h =
       ap (is_among m) (is-all (begun_by_operation p loaded) (begun_by p loaded) (begins p loaded) ops (targets_in p loaded) refl (λ op rest. refl))
       ∙ to-all (begun_by_operation p loaded) (begun_by p loaded) (begins p loaded) ops m i n e h
 
   module _ (new : ℕ) where
-    pub gain-of : (ops : List Operation) (m i : ℕ) (n : Naming) → slice_get (namings_of ops) i ≡ Some n → is_among m (gained_by p loaded new n) ≡ true
+    pub gain-of : (ops : List Operation) (m i : ℕ) (n : SymbolicReference) → slice_get (symbolic_references_of ops) i ≡ Some n → is_among m (gained_by p loaded new n) ≡ true
         → is_among m (gained_in p loaded new ops) ≡ true
     gain-of ops m i n e h =
         ap (is_among m) (is-all (gained_by_operation p loaded new) (gained_by p loaded new) (gains p loaded new) ops (gained_in p loaded new) refl (λ op rest. refl))
         ∙ to-all (gained_by_operation p loaded new) (gained_by p loaded new) (gains p loaded new) ops m i n e h
 
-    pub gain-from : (ops : List Operation) (m : ℕ) → is_among m (gained_in p loaded new ops) ≡ true → IsOne (gained_by p loaded new) (namings_of ops) m
+    pub gain-from : (ops : List Operation) (m : ℕ) → is_among m (gained_in p loaded new ops) ≡ true → IsOne (gained_by p loaded new) (symbolic_references_of ops) m
     gain-from ops m h =
         from-all (gained_by_operation p loaded new) (gained_by p loaded new) (gains p loaded new) ops m
         (sym (ap (is_among m) (is-all (gained_by_operation p loaded new) (gained_by p loaded new) (gains p loaded new) ops (gained_in p loaded new) refl (λ op rest. refl))) ∙ h)
 
     -- it names the class itself
-    pub record NamesIt (n : Naming) (m : ℕ) : Type 0 where
+    pub record NamesIt (n : SymbolicReference) (m : ℕ) : Type 0 where
       pub named : is_named p new (resolved_name n) ≡ true
       pub begun : is_among m (begun_by p (loaded ++ new ∷ []) n) ≡ true
 
     -- or it is a call on a class above it
-    pub record CallsIt (n : Naming) (m : ℕ) : Type 0 where
+    pub record CallsIt (n : SymbolicReference) (m : ℕ) : Type 0 where
       pub call : is_call n ≡ true
       pub class : ℕ
       pub named : loaded_class_named p loaded (resolved_name n) ≡ Some class
       pub called : is_among m (called_on p new class n) ≡ true
 
-    names-it : (n : Naming) (m : ℕ) → is_among m (gained_named p loaded new n (resolved_name n)) ≡ true → NamesIt n m
+    names-it : (n : SymbolicReference) (m : ℕ) → is_among m (gained_named p loaded new n (resolved_name n)) ≡ true → NamesIt n m
     names-it n m h = by (is_named p new (resolved_name n)) refl h
       where
         by : (b : Bool) → is_named p new (resolved_name n) ≡ b → is_among m (if b then begun_by p (loaded ++ new ∷ []) n else []) ≡ true → NamesIt n m
         by true e h = record { named = e; begun = h }
         by false e h = absurd (false_true h)
 
-    calls-it : (n : Naming) (by : Selecting) (r : Reference) (m : ℕ) → is_call n ≡ true → resolved_name n ≡ r.class
+    calls-it : (n : SymbolicReference) (by : Selecting) (r : Reference) (m : ℕ) → is_call n ≡ true → resolved_name n ≡ r.class
         → ((class : ℕ) → called_on p new class n ≡ gained_on p new class by r) → is_among m (gained_call p loaded new by r) ≡ true → CallsIt n m
     calls-it n by r m is same on h = at (loaded_class_named p loaded r.class) refl h
       where
@@ -175,7 +175,7 @@ module _ (p : Program) (loaded : List ℕ) where
         at (Some class) e h =
             record { call = is; class = class; named = ap (loaded_class_named p loaded) same ∙ e; called = ap (is_among m) (on class) ∙ h }
 
-    pub gained-either : (n : Naming) (m : ℕ) → is_among m (gained_by p loaded new n) ≡ true → NamesIt n m ⊎ CallsIt n m
+    pub gained-either : (n : SymbolicReference) (m : ℕ) → is_among m (gained_by p loaded new n) ≡ true → NamesIt n m ⊎ CallsIt n m
     gained-either (New name) m h = inl (names-it (New name) m h)
     gained-either (Getstatic r) m h = inl (names-it (Getstatic r) m h)
     gained-either (Putstatic r) m h = inl (names-it (Putstatic r) m h)
@@ -204,7 +204,7 @@ module _ (p : Program) (loaded : List ℕ) where
     gained-either (LdcClass name) m h = absurd (false_true h)
 
     -- a call that names a loaded class
-    pub called-gains : (n : Naming) (m class : ℕ) → loaded_class_named p loaded (resolved_name n) ≡ Some class → is_among m (called_on p new class n) ≡ true
+    pub called-gains : (n : SymbolicReference) (m class : ℕ) → loaded_class_named p loaded (resolved_name n) ≡ Some class → is_among m (called_on p new class n) ≡ true
         → is_among m (gained_by p loaded new n) ≡ true
     called-gains (Invokevirtual r) m class e h =
         among-append m (gained_named p loaded new (Invokevirtual r) r.class) (gained_call p loaded new Virtual r)
