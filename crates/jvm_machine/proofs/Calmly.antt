@@ -3,12 +3,12 @@ use Rattle.std.proofs.Common.{◌≡◌, ℕ, Bool, true, false, List, [], refl,
 use Rattle.std.specs.Prelude.{is_some, ◌&&◌, ◌||◌}
 use Rattle.jvm_model.specs.declared.state.State.{State}
 use Rattle.jvm_model.specs.Running.Run.{starts_with}
-use Rattle.prepared_code.specs.declared.markers.Marker.{Marker}
+use Rattle.prepared_code.specs.declared.initializations.Initialization.{Initialization}
 use Rattle.jvm_steps.specs.declared.turns.hands.Gone.{Gone}
 use Rattle.jvm_steps.specs.declared.turns.hands.Hand.{Hand}
 use Rattle.prepared_code.specs.declared.parts.Parts.{Parts}
 use Rattle.prepared_code.specs.Versions.{Setup}
-use Rattle.prepared_code.specs.Markers.{state_of}
+use Rattle.prepared_code.specs.Initializations.{state_of}
 use Rattle.prepared_code.specs.Ready.{IsSoundIn}
 use Rattle.jvm_steps.specs.Moves.Calmly.{GoesCalmly}
 use Rattle.jvm_steps.specs.Moves.Hands.{IsLeft}
@@ -79,7 +79,7 @@ module _ (w : Setup) (h : Hand) (clock : ℕ) (s : State) (loaded : List ℕ) (i
 
 -- ---- of the parts of a machine
 
-module _ (w : Setup) (loaded : List ℕ) (h : Hand) (started broken : Bool) (clock : ℕ) (ms : List Marker) (p : Parts)
+module _ (w : Setup) (loaded : List ℕ) (h : Hand) (started broken : Bool) (clock : ℕ) (ms : List Initialization) (p : Parts)
     (is : IsMachine w loaded h (seen w (state_of ms p) started broken clock h) (state_of ms p)) (v : View) (view : seen w (state_of ms p) started broken clock h ≡ v)
     (begun_is : started ≡ true) (whole : broken ≡ false) (resting : Bool) (rests : resting ≡ is_resting v) where
   abbrev s : State

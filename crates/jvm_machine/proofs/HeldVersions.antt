@@ -11,9 +11,9 @@ use Rattle.method_versions.proofs.Adding.{set-at, set-other}
 use Rattle.method_versions.specs.Tables.{current_in, held_besides, is_number, is_old, is_superseded_in}
 use Rattle.jvm_model.specs.declared.state.Entry.{Entry}
 use Rattle.jvm_model.specs.declared.state.State.{State}
-use Rattle.prepared_code.specs.declared.markers.Marker.{Marker}
+use Rattle.prepared_code.specs.declared.initializations.Initialization.{Initialization}
 use Rattle.prepared_code.specs.declared.parts.Parts.{Parts}
-use Rattle.prepared_code.specs.Markers.{above, beneath, initializing, stack_of, state_of}
+use Rattle.prepared_code.specs.Initializations.{above, beneath, initializing_entry, stack_of, state_of}
 use Rattle.prepared_code.specs.States.{active}
 use Rattle.prepared_code.specs.Tables.{Adds, AreAllCurrent, AreOfMethods, IsAdded, Releases, Version, Versions, version_at}
 use Rattle.jvm_model.specs.Running.Run.{starts_with, with_loaded}
@@ -71,7 +71,7 @@ tidy-empty v stack tidy k is = absurd (false≢true (tidy k is))
 
 -- ---- what frames run, their activations run
 
-runs-behind : (k : ℕ) (ms : List Marker) (stack : List Entry) → runs k (map initializing ms ++ stack) ≡ runs k stack
+runs-behind : (k : ℕ) (ms : List Initialization) (stack : List Entry) → runs k (map initializing_entry ms ++ stack) ≡ runs k stack
 runs-behind k [] stack = refl
 runs-behind k (m ∷ ms) stack = runs-behind k ms stack
 
@@ -89,7 +89,7 @@ either true on off = on refl
 either false on off = off refl
 
 -- what frames run, their activations run
-pub pinned-runs : (k : ℕ) (fs : List PlacedFrame) (ms : List Marker) → (pins_of k fs == 0) ≡ false → runs k (stack_of (map active fs) ms) ≡ true
+pub pinned-runs : (k : ℕ) (fs : List PlacedFrame) (ms : List Initialization) → (pins_of k fs == 0) ≡ false → runs k (stack_of (map active fs) ms) ≡ true
 unfolding stack_of above beneath
 pinned-runs k [] ms pinned = absurd (false≢true (sym pinned))
 pinned-runs k (f ∷ fs) ms pinned =
@@ -119,7 +119,7 @@ module _ (fs : List PlacedFrame) (v after : Versions) (released : Releases fs v 
   pub released-pinned : (k : ℕ) → is_superseded_in after.slots after.current k ≡ true → (pins_of k fs == 0) ≡ false
   released-pinned k is = pinned-by k (is_superseded_in v.slots v.current k) (pins_of k fs == 0) refl refl (sym (same-now k) ∙ is)
 
-pub tidy-released : (ms : List Marker) (p : Parts) (v after : Versions) → Releases p.frames.frames v after → IsTidy after (state_of ms p).stack
+pub tidy-released : (ms : List Initialization) (p : Parts) (v after : Versions) → Releases p.frames.frames v after → IsTidy after (state_of ms p).stack
 tidy-released ms p v after released k is = pinned-runs k p.frames.frames ms (released-pinned p.frames.frames v after released k is)
 
 -- ---- versions more

@@ -19,9 +19,9 @@ use Rattle.jvm_model.proofs.Turns.RestStands.{rest-same_changes}
 use Rattle.jvm_model.proofs.Turns.RestTells.{no-first, rest-no}
 use Rattle.jvm_model.proofs.Turns.StepPausing.{step-paused}
 use Rattle.jvm_steps.specs.declared.turns.hands.Hand.{Hand}
-use Rattle.prepared_code.specs.declared.markers.Marker.{Marker}
+use Rattle.prepared_code.specs.declared.initializations.Initialization.{Initialization}
 use Rattle.prepared_code.specs.declared.parts.Parts.{Parts}
-use Rattle.prepared_code.specs.Markers.{state_of}
+use Rattle.prepared_code.specs.Initializations.{state_of}
 use Rattle.jvm_steps.specs.Instructions.Passing.{AreSilent, IsSilent, Passes as Silent, runs}
 use Rattle.prepared_code.specs.Runs.{Leads, steps_from, steps_from-suc, steps_from-zero}
 use Rattle.prepared_code.specs.Standing.{IsRunOf, places_of}
@@ -184,7 +184,7 @@ module _ (w : Setup) (hand : Hand) (clock : ℕ) (s : State) (is : IsRunOf w clo
 
 -- ---- of the parts of a machine
 
-module _ (w : Setup) (loaded : List ℕ) (hand : Hand) (started broken : Bool) (clock : ℕ) (ms : List Marker) (p : Parts) (is : IsMachine w loaded hand (seen w (state_of ms p) started broken clock hand) (state_of ms p))
+module _ (w : Setup) (loaded : List ℕ) (hand : Hand) (started broken : Bool) (clock : ℕ) (ms : List Initialization) (p : Parts) (is : IsMachine w loaded hand (seen w (state_of ms p) started broken clock hand) (state_of ms p))
     (v : View) (view : seen w (state_of ms p) started broken clock hand ≡ v) (begun_is : started ≡ true) (whole : broken ≡ false) (rests : is_resting v ≡ true)
     (n : ℕ) (after : Parts) (passed : Silent w ms p n after) where
   abbrev s : State

@@ -6,14 +6,14 @@ ghost use Rattle.jvm_model.specs.Turns.InHand.{behind_load};
 ghost use Rattle.jvm_model.specs.Running.Run.{main_loads, starts_with};
 ghost use Rattle.jvm_model.specs.Soundness.Sound.{IsFit};
 ghost use Rattle.jvm_steps.specs.Machine.Before.{IsAtStart};
-ghost use Rattle.prepared_code.specs.Markers.{state_of};
+ghost use Rattle.prepared_code.specs.Initializations.{state_of};
 ghost use Rattle.jvm_machine.specs.Advances.{clock_in, left_in};
 ghost use Rattle.jvm_machine.specs.Advances.{taken_hand, taken_loads, taken_state};
 
 use jf_bytes::{NoMemory, Seq, Stack};
 use jvm_model::{Due, Shared};
 use jvm_steps::{Gone, Hand, begin_start};
-use prepared_code::{Marker, Originals, Parts};
+use prepared_code::{Initialization, Originals, Parts};
 use std::alloc::Global;
 
 /// What a call of `step` has come to: classes were loaded, or something is due, or nothing more of the step.
@@ -91,9 +91,9 @@ fn take_start(
     alloc: Global,
     originals: &mut Originals,
     parts: &mut Parts,
-    markers: &mut Stack<Marker>,
+    initializing: &mut Stack<Initialization>,
 ) -> Result<Taken, NoMemory>
-    requires at_start { IsAtStart originals.old.setup.world (state_of markers.old parts.old) }
+    requires at_start { IsAtStart originals.old.setup.world (state_of initializing.old parts.old) }
     requires linked { originals.old.loaded ≡ parts.old.shared.loaded }
     requires fit { IsFit originals.old.setup.world.program }
     ensures world { originals.new.setup ≡ originals.old.setup }
@@ -102,10 +102,10 @@ fn take_start(
     ensures hand { let passed = behind_load (main_loads originals.old.setup.world) in
         IfOk result (λ t. t.hand ≡ record { moves = true; told = false; passed = passed }) }
     ensures state { OnOk result
-        (state_of markers.new parts.new ≡ starts_with originals.old.setup.world) }
+        (state_of initializing.new parts.new ≡ starts_with originals.old.setup.world) }
 {
     let count = parts.shared.loaded.len();
-    begin_start(alloc, originals, parts, markers)?;
+    begin_start(alloc, originals, parts, initializing)?;
     let loads = loaded_since(alloc, &parts.shared, count)?;
     let passed = behind_load(loads.as_slice());
     Ok(Taken {
@@ -124,13 +124,13 @@ pub fn take_up(
     alloc: Global,
     originals: &mut Originals,
     parts: &mut Parts,
-    markers: &mut Stack<Marker>,
+    initializing: &mut Stack<Initialization>,
     resting: bool,
     started: bool,
     hand: Hand,
 ) -> Result<Taken, NoMemory>
     requires at_start { started ≡ false → resting ≡ true
-        → IsAtStart originals.old.setup.world (state_of markers.old parts.old) }
+        → IsAtStart originals.old.setup.world (state_of initializing.old parts.old) }
     requires linked { originals.old.loaded ≡ parts.old.shared.loaded }
     requires fit { IsFit originals.old.setup.world.program }
     ensures world { originals.new.setup ≡ originals.old.setup }
@@ -139,7 +139,8 @@ pub fn take_up(
         IfOk result (λ t. t.loads ≡ taken_loads w resting started) }
     ensures hand { let w = originals.old.setup.world in
         IfOk result (λ t. t.hand ≡ taken_hand w resting started hand) }
-    ensures state { let s = state_of markers.old parts.old in OnOk result (state_of markers.new
+    ensures state { let s = state_of initializing.old parts.old in OnOk result
+        (state_of initializing.new
         parts.new ≡ taken_state originals.old.setup.world resting started s) }
 {
     if !resting {
@@ -149,7 +150,7 @@ pub fn take_up(
         });
     }
     if !started {
-        return take_start(alloc, originals, parts, markers);
+        return take_start(alloc, originals, parts, initializing);
     }
     Ok(Taken {
         loads: Seq::new(alloc),

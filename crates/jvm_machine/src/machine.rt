@@ -26,7 +26,7 @@ use const_pool::ClassFile;
 use jf_bytes::{NoMemory, Seq, Stack};
 use jvm_model::{Due, Ending, Event, Mark, Program};
 use jvm_steps::{Hand, go, go_calmly, parts_before, pass_steps};
-use prepared_code::{Marker, Originals, Parts};
+use prepared_code::{Initialization, Originals, Parts};
 use std::alloc::Global;
 use std::marker::Model;
 
@@ -37,7 +37,7 @@ pub struct Vm {
     alloc: Global,
     originals: Originals,
     parts: Parts,
-    markers: Stack<Marker>,
+    initializing: Stack<Initialization>,
     started: bool,
     broken: bool,
     clock: u64,
@@ -45,17 +45,17 @@ pub struct Vm {
 }
 
 impl Model for Vm {
-    ghost use Rattle.prepared_code.specs.Markers.{state_of};
+    ghost use Rattle.prepared_code.specs.Initializations.{state_of};
     ghost use Rattle.jvm_machine.specs.Machine.{Keeps, viewed};
     ghost use Rattle.jvm_machine.specs.View.{View};
 
     ghost Value = { View };
 
-    ghost view = { λ v. viewed v.originals.setup (state_of v.markers v.parts) v.started
+    ghost view = { λ v. viewed v.originals.setup (state_of v.initializing v.parts) v.started
         v.broken v.clock v.hand };
 
     ghost invariant = { λ v. Keeps v.originals.setup v.originals.loaded v.hand v.started
-        v.broken v.clock (state_of v.markers v.parts) };
+        v.broken v.clock (state_of v.initializing v.parts) };
 }
 
 /// Whether a turn says no more than that a step is done.
@@ -67,16 +67,16 @@ fn is_settled(turn: &Turn) -> bool
 }
 
 /// Whether the run goes on, nothing is thrown, and no initialization stands on the current frame.
-#[tactic(auto, unfolding(prepared_code::specs::Markers::marker_on))]
+#[tactic(auto, unfolding(prepared_code::specs::Initializations::initialization_on))]
 #[inline(always)]
-fn is_calm(parts: &Parts, markers: &Stack<Marker>) -> bool
-    ensures { result ≡ true → IsCalm (length parts.now.frames.frames) markers.now parts.now }
+fn is_calm(parts: &Parts, initializing: &Stack<Initialization>) -> bool
+    ensures { result ≡ true → IsCalm (length parts.now.frames.frames) initializing.now parts.now }
 {
     if parts.ending.is_some() || parts.thrown.is_some() {
         return false;
     }
-    match markers.peek(0) {
-        Some(marker) => parts.frames.depth() > marker.depth,
+    match initializing.peek(0) {
+        Some(initialization) => parts.frames.depth() > initialization.depth,
         None => true,
     }
 }
@@ -96,7 +96,7 @@ impl Vm {
             alloc,
             originals,
             parts,
-            markers: Stack::new(alloc),
+            initializing: Stack::new(alloc),
             started: false,
             broken: false,
             clock: 0,
@@ -137,7 +137,7 @@ impl Vm {
             self.alloc,
             &mut self.originals,
             &mut self.parts,
-            &mut self.markers,
+            &mut self.initializing,
             resting,
             started,
             self.hand,
@@ -152,7 +152,7 @@ impl Vm {
             self.alloc,
             &mut self.originals,
             &mut self.parts,
-            &mut self.markers,
+            &mut self.initializing,
             self.hand,
         )?;
         let Some(gone) = gone else {
@@ -179,12 +179,12 @@ impl Vm {
         ensures none { IfNone result (self.new ≡ self.old) }
         ensures held { self.new.stale ≡ false }
     {
-        if self.broken || !self.started || !is_calm(&self.parts, &self.markers) {
+        if self.broken || !self.started || !is_calm(&self.parts, &self.initializing) {
             return None;
         }
         let resting = self.is_resting();
         let hand = hand_now(resting, self.hand);
-        let gone = go_calmly(&self.originals, &mut self.parts, &self.markers, hand);
+        let gone = go_calmly(&self.originals, &mut self.parts, &self.initializing, hand);
         let Some(gone) = gone else {
             return None;
         };
@@ -206,7 +206,13 @@ impl Vm {
     fn event(&self, due: Due) -> Option<Event>
         ensures { result ≡ told_at due self.now.clock self.now.live }
     {
-        told(self.clock, due, &self.originals, &self.parts, &self.markers)
+        told(
+            self.clock,
+            due,
+            &self.originals,
+            &self.parts,
+            &self.initializing,
+        )
     }
 
     /// What this tells: an event, or that the step is done.
@@ -271,14 +277,14 @@ impl Vm {
         ensures clock { self.new.clock ≡ self.old.clock + result }
         ensures rests { is_resting self.new ≡ true }
     {
-        if self.broken || !self.started || !is_calm(&self.parts, &self.markers) {
+        if self.broken || !self.started || !is_calm(&self.parts, &self.initializing) {
             return 0;
         }
         let made = pass_steps(
             self.alloc,
             &self.originals,
             &mut self.parts,
-            &self.markers,
+            &self.initializing,
             most,
         );
         self.clock += made;

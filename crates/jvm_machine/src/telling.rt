@@ -3,12 +3,12 @@
 ghost use Rattle.std.specs.Prelude.{◌≡◌};
 ghost use Rattle.jvm_model.specs.Turns.Pauses.{begin_kind, told_at};
 ghost use Rattle.jvm_model.specs.Turns.Told.{helds};
-ghost use Rattle.prepared_code.specs.Markers.{state_of};
+ghost use Rattle.prepared_code.specs.Initializations.{state_of};
 ghost use Rattle.prepared_code.specs.Versions.{mark_of};
 
 use jf_bytes::Stack;
 use jvm_model::{Due, Event, EventKind, Mark};
-use prepared_code::{Marker, Originals, Parts, where_now};
+use prepared_code::{Initialization, Originals, Parts, where_now};
 
 /// The probe at the entry of a version with this mark.
 fn begin_kind(mark: Mark) -> EventKind
@@ -27,12 +27,12 @@ pub fn told(
     due: Due,
     originals: &Originals,
     parts: &Parts,
-    markers: &Stack<Marker>,
+    initializing: &Stack<Initialization>,
 ) -> Option<Event>
-    ensures { let s = state_of markers.now parts.now in let v = originals.now.setup.versions in
+    ensures { let s = state_of initializing.now parts.now in let v = originals.now.setup.versions in
         result ≡ told_at due clock (helds (mark_of v) s.stack) }
 {
-    let _used = markers.peek(0);
+    let _used = initializing.peek(0);
     if let Due::Nothing = due {
         return None;
     }

@@ -1,5 +1,5 @@
 pub mod Instructions
 pub mod Silent
 pub mod Loads
-pub mod Marked
+pub mod Initializing
 pub mod Moves

@@ -24,6 +24,6 @@ pub mod OriginalsRun
 pub mod MethodImages
 pub mod StandingSteps
 pub mod BuiltInLoads
-pub mod MarkedStacks
-pub mod MarkedParts
+pub mod InitializingStacks
+pub mod InitializingParts
 pub mod Superseded

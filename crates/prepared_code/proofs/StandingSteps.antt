@@ -23,9 +23,9 @@ use Rattle.prepared_code.specs.Entries.{original_versions}
 use Rattle.prepared_code.specs.OriginalRun.{original_setup}
 use Rattle.jvm_model.specs.Codes.ProgramPlaces.{HasClosedCodes}
 use Rattle.prepared_code.specs.Ready.{CanRun, IsOwnLine, IsSoundIn, RunsIn}
-use Rattle.prepared_code.specs.declared.markers.Marker.{Marker}
+use Rattle.prepared_code.specs.declared.initializations.Initialization.{Initialization}
 use Rattle.prepared_code.specs.declared.parts.Parts.{Parts}
-use Rattle.prepared_code.specs.Markers.{above, beneath, initializing, stack_of, state_of}
+use Rattle.prepared_code.specs.Initializations.{above, beneath, initializing_entry, stack_of, state_of}
 use Rattle.prepared_code.specs.States.{active}
 use Rattle.prepared_code.specs.Runs.{steps_from, steps_from-zero, steps_from-suc}
 use Rattle.prepared_code.specs.Standing.{AreMethodImages, HasVersions, IsPinned, IsOfProgram, IsRunOf, IsSetUp, places_of}
@@ -181,24 +181,24 @@ own-pin front f below =
     ne_eqb (pins_of f.version (front ++ f ∷ below)) 0 (λ none. absurd (omega (arith, none, all, top, here)))
 
 module _ (all : List PlacedFrame) where
-  behind-markers : (ms : List Marker) (stack : List Entry) → IsPinned all stack → IsPinned all (map initializing ms ++ stack)
-  behind-markers [] stack pinned = pinned
-  behind-markers (m ∷ ms) stack pinned = (tt, behind-markers ms stack pinned)
+  behind-initializing : (ms : List Initialization) (stack : List Entry) → IsPinned all stack → IsPinned all (map initializing_entry ms ++ stack)
+  behind-initializing [] stack pinned = pinned
+  behind-initializing (m ∷ ms) stack pinned = (tt, behind-initializing ms stack pinned)
 
-  pub pinned-stack : (front fs : List PlacedFrame) (ms : List Marker) → all ≡ front ++ fs → IsPinned all (stack_of (map active fs) ms)
+  pub pinned-stack : (front fs : List PlacedFrame) (ms : List Initialization) → all ≡ front ++ fs → IsPinned all (stack_of (map active fs) ms)
   unfolding stack_of above beneath
-  pinned-stack front [] ms whole = subst (IsPinned all) (append-nil (map initializing ms)) (behind-markers ms [] tt)
+  pinned-stack front [] ms whole = subst (IsPinned all) (append-nil (map initializing_entry ms)) (behind-initializing ms [] tt)
   pinned-stack front (f ∷ below) ms whole =
-      behind-markers (above (suc (length (map active below))) ms) (active f ∷ stack_of (map active below) (beneath (suc (length (map active below))) ms)) (
+      behind-initializing (above (suc (length (map active below))) ms) (active f ∷ stack_of (map active below) (beneath (suc (length (map active below))) ms)) (
         subst (λ fs. (pins_of f.version fs == 0) ≡ false) (sym whole) (own-pin front f below),
         pinned-stack (front ++ f ∷ []) below (beneath (suc (length (map active below))) ms) (whole ∙ sym (append_assoc front (f ∷ []) below)),
       )
 
-pub parts-pinned : (ms : List Marker) (parts : Parts) → IsPinned parts.frames.frames (state_of ms parts).stack
+pub parts-pinned : (ms : List Initialization) (parts : Parts) → IsPinned parts.frames.frames (state_of ms parts).stack
 parts-pinned ms parts = pinned-stack parts.frames.frames [] parts.frames.frames ms refl
 
 -- what stands for the run stands for it when superseded versions are dropped
-pub run-of-released : (old new : Setup) (ms : List Marker) (parts : Parts) (clock : ℕ) → new.world ≡ old.world → Releases parts.frames.frames old.versions new.versions
+pub run-of-released : (old new : Setup) (ms : List Initialization) (parts : Parts) (clock : ℕ) → new.world ≡ old.world → Releases parts.frames.frames old.versions new.versions
     → IsRunOf old clock (state_of ms parts) → IsRunOf new clock (state_of ms parts)
 run-of-released old new ms parts clock same released is =
     let whole : with_table new.versions old ≡ new = ap (λ (x : World). let u : Setup = record { world = x; versions = new.versions } in u) (sym same) in

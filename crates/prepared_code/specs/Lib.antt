@@ -11,7 +11,7 @@ pub mod Making
 pub mod Lines
 pub mod Cells
 pub mod Linked
-pub mod Markers
+pub mod Initializations
 pub mod OriginalRun
 pub mod Ready
 pub mod Runs

@@ -5,11 +5,11 @@
 mod cells;
 mod class_versions;
 mod descriptor;
+mod initializations;
 mod kinds;
 mod line;
 mod loading;
 mod lookup;
-mod markers;
 mod members;
 mod objects;
 mod originals;
@@ -23,13 +23,15 @@ mod symbolic_reference;
 mod versions;
 
 pub use descriptor::shape_of;
+pub use initializations::{
+    Initialization, initialization_on, put_initialization, take_initialization,
+};
 pub use kinds::fits_array;
 pub use line::{Action, Line};
 pub use loading::has_built_in_name;
 pub use lookup::{
     has_bytes, initializer_of, main_class, name_at, position_of, position_of_bytes, super_of,
 };
-pub use markers::{Marker, mark, marker_on, take_marker};
 pub use members::{
     code_of, field_at, initializer_in, is_initializer, is_out, is_println, is_reference, method_at,
     method_named,

@@ -15,18 +15,18 @@ use Rattle.jvm_named.specs.declared.asked.Refusal.{Refusal}
 use Rattle.jvm_named.specs.declared.asked.Refusal.TheVariants as refusal
 use Rattle.jvm_named.specs.Answers.{Answer, Continues, Exceeds, Stops, answer_in, answer_view, frames_in, refusal_view}
 use Rattle.prepared_code.specs.declared.line.Line.{Line}
-use Rattle.prepared_code.specs.declared.markers.Marker.{Marker}
+use Rattle.prepared_code.specs.declared.initializations.Initialization.{Initialization}
 use Rattle.prepared_code.specs.declared.parts.Here.{Here}
 use Rattle.prepared_code.specs.declared.parts.Parts.{Parts}
 use Rattle.jvm_steps.specs.Instructions.Acts.{acts_asked, acts_named, ended, placed_line}
 use Rattle.jvm_steps.specs.Instructions.Asked.{concluded, done_top, starts_in}
 use Rattle.jvm_steps.specs.Instructions.Initializing.{begins_class}
-use Rattle.prepared_code.specs.Markers.{marker_on, state_of, with_markers}
+use Rattle.prepared_code.specs.Initializations.{initialization_on, state_of, with_initializations}
 use Rattle.jvm_steps.specs.Moves.Settling.{own_of}
 use Rattle.prepared_code.specs.States.{frame_in, here_of, state_in, state_with}
 use Rattle.jvm_steps.proofs.Instructions.Callees.{calls-is}
-use Rattle.jvm_steps.proofs.Marked.Carried.{applies-carried}
-use Rattle.prepared_code.proofs.MarkedStacks.{length-active}
+use Rattle.jvm_steps.proofs.Initializing.Carried.{applies-carried}
+use Rattle.prepared_code.proofs.InitializingStacks.{length-active}
 use Rattle.jvm_steps.proofs.Instructions.LineActs.{starts-some, stays}
 use Rattle.jvm_steps.proofs.Moves.LineSteps.{top-frame}
 use Rattle.jvm_steps.proofs.Instructions.NamedLaws.{Asks, IsNamed, is-named}
@@ -132,14 +132,14 @@ starts-same (Exits n) f fs can = refl
 starts-same (Breaks true) f fs can = absurd can
 starts-same (Breaks false) f fs can = refl
 
--- ---- over the parts of a machine, beneath its markers
+-- ---- over the parts of a machine, beneath its initializations
 
 -- what a line with these names comes to
-abbrev pub named_beneath : Setup → Line → SymbolicReference → List Marker → Parts → List PlacedFrame → State
+abbrev pub named_beneath : Setup → Line → SymbolicReference → List Initialization → Parts → List PlacedFrame → State
 named_beneath w line n ms p [] = state_of ms p
-named_beneath w line n ms p (f ∷ fs) = acts_named w line n (with_markers ms (state_with fs p)) (frame_in f)
+named_beneath w line n ms p (f ∷ fs) = acts_named w line n (with_initializations ms (state_with fs p)) (frame_in f)
 
-module _ (w : Setup) (line : Line) (n : SymbolicReference) (ms : List Marker) (here : Here) (p : Parts) (found : line_at w.versions here.version here.place ≡ Some line) where
+module _ (w : Setup) (line : Line) (n : SymbolicReference) (ms : List Initialization) (here : Here) (p : Parts) (found : line_at w.versions here.version here.place ≡ Some line) where
   own : own_of w here ≡ line.instr.at
   own = own-there w here line found
 
@@ -154,8 +154,8 @@ module _ (w : Setup) (line : Line) (n : SymbolicReference) (ms : List Marker) (h
   abbrev answer_there : List PlacedFrame → Answer
   answer_there all = answer_in (done_top w n p.shared all).outcome all
 
-  pub concludes-by : (all : List PlacedFrame) → here_of all ≡ Some here → marker_on (length all) ms ≡ None → CanAnswer (answer_there all)
-      → starts_in (answer_there all) ≡ None → with_markers ms (concluded w here (answer_there all) (reached all)) ≡ named_beneath w line n ms p all
+  pub concludes-by : (all : List PlacedFrame) → here_of all ≡ Some here → initialization_on (length all) ms ≡ None → CanAnswer (answer_there all)
+      → starts_in (answer_there all) ≡ None → with_initializations ms (concluded w here (answer_there all) (reached all)) ≡ named_beneath w line n ms p all
   concludes-by [] is none can quiet = absurd (none-some here is)
   concludes-by (f ∷ fs) is none can quiet =
       let d : Done = done_top w n p.shared (f ∷ fs) in
@@ -163,18 +163,18 @@ module _ (w : Setup) (line : Line) (n : SymbolicReference) (ms : List Marker) (h
       let method : here.method ≡ f.method = ap (λ (h : Here). h.method) (sym (same_Some _ here is)) in
       let silent : starts d.outcome ≡ None = sym (starts-same d.outcome f fs can) ∙ quiet in
       let law : IsNamed _ f.operands d = is-named _ f.operands w n f.locals in
-      ap (with_markers ms) (concludes-there w line here own mid f fs method d.outcome law.asks can silent)
+      ap (with_initializations ms) (concludes-there w line here own mid f fs method d.outcome law.asks can silent)
       ∙ applies-carried ms w (listing_of w.versions) (placed_line line) d.outcome (stays-there w line here own mid f fs method d.outcome can silent)
-      (state_with fs mid) (frame_in f) (ap (λ k. marker_on (suc k) ms) (length-active fs) ∙ none)
+      (state_with fs mid) (frame_in f) (ap (λ k. initialization_on (suc k) ms) (length-active fs) ∙ none)
 
-  pub begins-by : (c : ℕ) (all : List PlacedFrame) → here_of all ≡ Some here → marker_on (length all) ms ≡ None → CanAnswer (answer_there all)
+  pub begins-by : (c : ℕ) (all : List PlacedFrame) → here_of all ≡ Some here → initialization_on (length all) ms ≡ None → CanAnswer (answer_there all)
       → starts_in (answer_there all) ≡ Some c
-      → begins_class c (with_markers ms (concluded w here (answer_there all) (reached all))) ≡ named_beneath w line n ms p all
+      → begins_class c (with_initializations ms (concluded w here (answer_there all) (reached all))) ≡ named_beneath w line n ms p all
   begins-by c [] is none can some = absurd (none-some here is)
   begins-by c (f ∷ fs) is none can some =
       let d : Done = done_top w n p.shared (f ∷ fs) in
       let asks : d.outcome ≡ Initializes c = starts-some d.outcome c (sym (starts-same d.outcome f fs can) ∙ some) in
       let mid : Parts = record p { shared = d.shared; output = p.output ++ d.wrote } in
-      ap (λ q. begins_class c (with_markers ms (concluded w here (answer_in q (f ∷ fs)) (record mid { frames = record p.frames { frames = frames_in q line.next (f ∷ fs) } })))) asks
+      ap (λ q. begins_class c (with_initializations ms (concluded w here (answer_in q (f ∷ fs)) (record mid { frames = record p.frames { frames = frames_in q line.next (f ∷ fs) } })))) asks
       ∙ (ap (λ es. begins_class c (record (state_in mid) { stack = es })) (top-frame ms f fs none)
-      ∙ sym (ap (acts_asked w line (with_markers ms (state_with fs mid)) (frame_in f)) asks))
+      ∙ sym (ap (acts_asked w line (with_initializations ms (state_with fs mid)) (frame_in f)) asks))

@@ -23,20 +23,20 @@ use Rattle.jvm_basic.specs.Outcomes.{GoesOn as Goes, Rule, after, asked, effect_
 use Rattle.jvm_basic.specs.Rules.{replaces, rule_of}
 use Rattle.prepared_code.specs.declared.line.Action.TheVariants as action
 use Rattle.prepared_code.specs.declared.line.Line.{Line}
-use Rattle.prepared_code.specs.declared.markers.Marker.{Marker}
+use Rattle.prepared_code.specs.declared.initializations.Initialization.{Initialization}
 use Rattle.prepared_code.specs.declared.parts.Here.{Here}
 use Rattle.prepared_code.specs.declared.parts.Parts.{Parts}
 use Rattle.jvm_steps.specs.Instructions.Acts.{acts, acts_asked, acts_by, acts_done, attempts_on, is_named, named_in, on_parts, on_top}
 use Rattle.jvm_steps.specs.Instructions.Elements.{IsLoaded, IsMeasured, IsStored, drops_three, is_number}
-use Rattle.prepared_code.specs.Markers.{marker_on, stack_of, state_of, with_markers}
+use Rattle.prepared_code.specs.Initializations.{initialization_on, stack_of, state_of, with_initializations}
 use Rattle.prepared_code.specs.Ready.{CanRun}
 use Rattle.prepared_code.specs.Runs.{IsCalm, IsLineIn, IsPlainLine, LeadsAlone, RunsVersion, top_version}
 use Rattle.prepared_code.specs.States.{active, frame_in, here_of, state_in, state_with}
 use Rattle.prepared_code.specs.Tables.{Version}
 use Rattle.prepared_code.specs.Versions.{Setup, instruction_in, line_at, line_in, listing_of}
 use Rattle.jvm_steps.proofs.Instructions.Alone.{next-is}
-use Rattle.jvm_steps.proofs.Marked.Beneath.{awaits-unnamed, does-beneath, does-there, top-there}
-use Rattle.jvm_steps.proofs.Marked.Carried.{goes_within}
+use Rattle.jvm_steps.proofs.Initializing.Beneath.{awaits-unnamed, does-beneath, does-there, top-there}
+use Rattle.jvm_steps.proofs.Initializing.Carried.{goes_within}
 use Rattle.jvm_steps.proofs.Instructions.ElementActs.{loads-at}
 use Rattle.jvm_steps.proofs.Silent.Leading.{leads-one, quiet-one}
 use Rattle.jvm_steps.proofs.Moves.LineSteps.{going-on, rests, step-attempts, top-frame}
@@ -63,37 +63,37 @@ module _ (w : Setup) (run : CanRun w) (line : Line) where
       (done : state_in new ≡ on_parts (acts w line) old) (ending : new.ending ≡ old.ending) (thrown : new.thrown ≡ old.thrown)
       (many : length new.frames.frames ≡ length old.frames.frames) (has : has_frame new.frames.frames ≡ true) (framed_before : has_frame old.frames.frames ≡ true)
       (here : Here) (stands : here_of old.frames.frames ≡ Some here) (found : line_at w.versions here.version here.place ≡ Some line)
-      (ms : List Marker) (calm : IsCalm (length old.frames.frames) ms old) where
+      (ms : List Initialization) (calm : IsCalm (length old.frames.frames) ms old) where
     attempted : state_of ms new ≡ attempts_on w (state_of ms old) (state_of ms old).stack
     attempted =
-        does-beneath w line ms old new here.method old.frames.frames (top-there w ms old here old.frames.frames stands) calm.unmarked unnamed
+        does-beneath w line ms old new here.method old.frames.frames (top-there w ms old here old.frames.frames stands) calm.executing unnamed
         (λ ends. absurd (false≢true (sym ends ∙ within))) done
-        ∙ does-there w ms old line here stands calm.unmarked found
+        ∙ does-there w ms old line here stands calm.executing found
 
     pub is-step : state_of ms new ≡ (step w.world (listing_of w.versions) (state_of ms old)).after
     is-step =
-        let going = going-on ms old (goes old.ending (has_frame old.frames.frames && is_none (marker_on (length old.frames.frames) ms)) calm.ending
-        (framed (length old.frames.frames) ms old.frames.frames calm.unmarked refl framed_before)) in
+        let going = going-on ms old (goes old.ending (has_frame old.frames.frames && is_none (initialization_on (length old.frames.frames) ms)) calm.ending
+        (framed (length old.frames.frames) ms old.frames.frames calm.executing refl framed_before)) in
         step-attempts w run (state_of ms old) going
-        (awaits-unnamed w ms old here stands calm.unmarked (ap named_in found ∙ unnamed))
+        (awaits-unnamed w ms old here stands calm.executing (ap named_in found ∙ unnamed))
         (state_of ms new) (state_of ms new) attempted
         (rests w (listing_of w.versions) ms new
-        (at-rest new.ending new.thrown (has_frame new.frames.frames && is_none (marker_on (length new.frames.frames) ms)) (ending ∙ calm.ending) (thrown ∙ calm.thrown)
-        (framed (length old.frames.frames) ms new.frames.frames calm.unmarked many has)))
+        (at-rest new.ending new.thrown (has_frame new.frames.frames && is_none (initialization_on (length new.frames.frames) ms)) (ending ∙ calm.ending) (thrown ∙ calm.thrown)
+        (framed (length old.frames.frames) ms new.frames.frames calm.executing many has)))
 
   -- ---- it has no change, where a rule goes on
 
-  module _ (p : Parts) (ms : List Marker) where
+  module _ (p : Parts) (ms : List Initialization) where
     abbrev under : List PlacedFrame → State
-    under fs = record (with_markers ms (state_with fs p)) { stack = stack_of (map active fs) ms }
+    under fs = record (with_initializations ms (state_with fs p)) { stack = stack_of (map active fs) ms }
 
     step-at : (f : PlacedFrame) (fs : List PlacedFrame) → IsCalm (length (f ∷ fs)) ms p → StandsAt w (f ∷ fs) line
         → (steps_at w.world (listing_of w.versions) (under fs) (frame_in f) (Some (instruction_in line))).changes ≡ []
-        → (step w.world (listing_of w.versions) (with_markers ms (state_with (f ∷ fs) p))).changes ≡ []
+        → (step w.world (listing_of w.versions) (with_initializations ms (state_with (f ∷ fs) p))).changes ≡ []
     step-at f fs calm stands quiet =
-        let s : State = with_markers ms (state_with (f ∷ fs) p) in
+        let s : State = with_initializations ms (state_with (f ∷ fs) p) in
         ap (λ e. (steps_on w.world (listing_of w.versions) s e s.stack).changes) calm.ending
-        ∙ (ap (λ es. (steps_on w.world (listing_of w.versions) s None es).changes) (top-frame ms f fs calm.unmarked)
+        ∙ (ap (λ es. (steps_on w.world (listing_of w.versions) s None es).changes) (top-frame ms f fs calm.executing)
         ∙ (ap (λ x. (steps_at w.world (listing_of w.versions) (record s { stack = stack_of (map active fs) ms }) (frame_in f) (option_map instruction_in x)).changes) stands
         ∙ quiet))
 
@@ -109,8 +109,8 @@ module _ (w : Setup) (run : CanRun w) (line : Line) where
         ap (λ x. loads_element k x old.shared l (top_operands fs)) at
         ∙ sym (loads-at (access_to k is.array is.index old.shared.heap) is.array is.index is.datum old.shared l (top_operands fs) (sym is.there))
 
-    load-quiet : (fs : List PlacedFrame) (ms : List Marker) → place_of (top_operands fs) ≡ Some (is.array, is.index) → IsCalm (length fs) ms old → StandsAt w fs line
-        → (step w.world (listing_of w.versions) (with_markers ms (state_with fs old))).changes ≡ []
+    load-quiet : (fs : List PlacedFrame) (ms : List Initialization) → place_of (top_operands fs) ≡ Some (is.array, is.index) → IsCalm (length fs) ms old → StandsAt w fs line
+        → (step w.world (listing_of w.versions) (with_initializations ms (state_with fs old))).changes ≡ []
     load-quiet [] ms at calm stands = absurd stands
     load-quiet (f ∷ fs) ms at calm stands =
         step-at old ms f fs calm stands
@@ -138,8 +138,8 @@ module _ (w : Setup) (run : CanRun w) (line : Line) where
         ∙ (ap (λ b. if b then Raises null_pointer None else gives_way 1 (option_map (λ count. Int (pos count)) (array_length is.array old.shared.heap)) l (top_operands fs)) is.there
         ∙ ap (λ n. gives_way 1 (option_map (λ count. Int (pos count)) n) l (top_operands fs)) is.long)
 
-    length-quiet : (fs : List PlacedFrame) (ms : List Marker) → ref_of (top_operands fs) ≡ Some is.array → IsCalm (length fs) ms old → StandsAt w fs line
-        → (step w.world (listing_of w.versions) (with_markers ms (state_with fs old))).changes ≡ []
+    length-quiet : (fs : List PlacedFrame) (ms : List Initialization) → ref_of (top_operands fs) ≡ Some is.array → IsCalm (length fs) ms old → StandsAt w fs line
+        → (step w.world (listing_of w.versions) (with_initializations ms (state_with fs old))).changes ≡ []
     length-quiet [] ms at calm stands = absurd stands
     length-quiet (f ∷ fs) ms at calm stands =
         step-at old ms f fs calm stands
@@ -180,8 +180,8 @@ module _ (w : Setup) (run : CanRun w) (line : Line) where
         ≡ record { shared = stored; wrote = []; outcome = GoesOn l (drop 3 (top_operands fs)) Following }
     store-asks fs at l = ap (λ o. stores_element w.world.program k o old.shared l (top_operands fs)) at ∙ stored-at l (top_operands fs)
 
-    store-quiet : (fs : List PlacedFrame) (ms : List Marker) → storing_of k (top_operands fs) ≡ Some x → IsCalm (length fs) ms old → StandsAt w fs line
-        → (step w.world (listing_of w.versions) (with_markers ms (state_with fs old))).changes ≡ []
+    store-quiet : (fs : List PlacedFrame) (ms : List Initialization) → storing_of k (top_operands fs) ≡ Some x → IsCalm (length fs) ms old → StandsAt w fs line
+        → (step w.world (listing_of w.versions) (with_initializations ms (state_with fs old))).changes ≡ []
     store-quiet [] ms at calm stands = absurd stands
     store-quiet (f ∷ fs) ms at calm stands =
         step-at old ms f fs calm stands
@@ -240,7 +240,7 @@ module _ (w : Setup) (run : CanRun w) (line : Line) (k : Kind) (old new : Parts)
   -- from what is changed, and what that is a step of
   alone-by : (rule : Rule) (shared : Shared) → new ≡ record old { frames = after rule old.frames; shared = shared } → shared.loaded ≡ old.shared.loaded
       → is_named line.action ≡ false → goes_within line.action ≡ true → state_in new ≡ on_parts (acts w line) old
-      → ((ms : List Marker) → IsCalm (length old.frames.frames) ms old → (step w.world (listing_of w.versions) (state_of ms old)).changes ≡ [])
+      → ((ms : List Initialization) → IsCalm (length old.frames.frames) ms old → (step w.world (listing_of w.versions) (state_of ms old)).changes ≡ [])
       → LeadsAlone w old 1 new
   alone-by rule shared changed kept unnamed within does quiet =
       let many = ap (λ (p : Parts). length p.frames.frames) changed ∙ still-many (asked rule old.frames.frames) old.frames.frames in

@@ -80,15 +80,15 @@ module _ (w : Setup) (t : Listing) (c : ℕ) (f : Frame) (below : List Entry) wh
   abbrev pub base : List Entry
   base = Active f ∷ below
 
-  -- the marker of the class stands on the frame, or one of another class on such a stack
+  -- the initialization of the class stands on the frame, or one of another class on such a stack
   data Stands (d : ℕ) (rest : List Entry) (Deeper : Type 0) : Type 0 where
     own : d ≡ c → rest ≡ base → Stands d rest Deeper
     other : (d ≡ c → ⊥) → Deeper → Stands d rest Deeper
 
-  abbrev AreMarkers : List Entry → Type 0
-  AreMarkers [] = ⊥
-  AreMarkers (Active g ∷ es) = ⊥
-  AreMarkers (Initializing d part ∷ es) = Stands d es (AreMarkers es)
+  abbrev AreInitializations : List Entry → Type 0
+  AreInitializations [] = ⊥
+  AreInitializations (Active g ∷ es) = ⊥
+  AreInitializations (Initializing d part ∷ es) = Stands d es (AreInitializations es)
 
   abbrev pub state : List Entry → Option ℕ → Bool → List ℕ → Shared → Option Ending → State
   state stack thrown begun output shared ending = record { stack = stack; thrown = thrown; begun = begun; shared = shared; output = output; ending = ending }
@@ -98,7 +98,7 @@ module _ (w : Setup) (t : Listing) (c : ℕ) (f : Frame) (below : List Entry) wh
 
   data Stage (turn : Turn) : Type 0 where
     -- it is being initialized
-    waits : (stack : List Entry) (thrown : Option ℕ) (begun : Bool) (output : List ℕ) (shared : Shared) → AreMarkers stack
+    waits : (stack : List Entry) (thrown : Option ℕ) (begun : Bool) (output : List ℕ) (shared : Shared) → AreInitializations stack
         → phase_of shared c ≡ Some Running → turn ≡ told (state stack thrown begun output shared None) [] → Stage turn
     -- it is ready, and nothing has begun
     ready : (begun : Bool) (output : List ℕ) (shared : Shared) → phase_of shared c ≡ Some Ready
@@ -113,9 +113,9 @@ module _ (w : Setup) (t : Listing) (c : ℕ) (f : Frame) (below : List Entry) wh
   abbrev Reached : State → Type 0
   Reached s = Stage (told s [])
 
-  -- ---- a marker on the stack
+  -- ---- an initialization on the stack
 
-  module _ (d : ℕ) (rest : List Entry) (begun : Bool) (output : List ℕ) (shared : Shared) (at : Stands d rest (AreMarkers rest))
+  module _ (d : ℕ) (rest : List Entry) (begun : Bool) (output : List ℕ) (shared : Shared) (at : Stands d rest (AreInitializations rest))
       (running : phase_of shared c ≡ Some Running) where
     marked : (part : Part) → Reached (state (Initializing d part ∷ rest) None begun output shared None)
     marked part = waits (Initializing d part ∷ rest) None begun output shared at running refl
@@ -188,7 +188,7 @@ module _ (w : Setup) (t : Listing) (c : ℕ) (f : Frame) (below : List Entry) wh
   abbrev Next : Turn → Type 0
   Next turn = IfSome (move w.world t turn.after) (λ next. Stage (then_turn turn next))
 
-  waits-on : (stack : List Entry) (thrown : Option ℕ) (begun : Bool) (output : List ℕ) (shared : Shared) → AreMarkers stack
+  waits-on : (stack : List Entry) (thrown : Option ℕ) (begun : Bool) (output : List ℕ) (shared : Shared) → AreInitializations stack
       → phase_of shared c ≡ Some Running → Next (told (state stack thrown begun output shared None) [])
   waits-on [] thrown begun output shared at running = absurd at
   waits-on (Active g ∷ es) thrown begun output shared at running = absurd at

@@ -1,4 +1,5 @@
--- The frame of a static initializer begins on the current one, beneath no marker; and how a static initializer begins or can not.
+-- The frame of a static initializer begins on the current one, beneath no initialization; and how a static initializer
+-- begins or can not.
 use Rattle.std.proofs.Common.{◌≡◌, ℕ, suc, ◌+◌, Bool, true, false, cond, List, [], ◌∷◌, length, map, Option, Some, None, nat_le, nat_lt, refl, sym, ap, ◌∙◌, arith}
 use Rattle.std.specs.Prelude.{◌&&◌}
 use Rattle.std.proofs.lemmas.Bool.{le-leb}
@@ -13,14 +14,14 @@ use Rattle.jvm_model.specs.Basis.Data.{Began, Listing, Turn}
 use Rattle.jvm_model.specs.Running.Moves.{at_part, raises, runs_initializer}
 use Rattle.jvm_model.specs.Basis.Programs.{initializer_of, max_locals_of, max_stack_of}
 use Rattle.jvm_model.specs.Basis.SharedState.{stack_overflow}
-use Rattle.prepared_code.specs.declared.markers.Marker.{Marker}
+use Rattle.prepared_code.specs.declared.initializations.Initialization.{Initialization}
 use Rattle.prepared_code.specs.declared.parts.Parts.{Parts}
-use Rattle.prepared_code.specs.Markers.{marker_on, stack_of, state_of}
+use Rattle.prepared_code.specs.Initializations.{initialization_on, stack_of, state_of}
 use Rattle.prepared_code.specs.States.{active, state_in}
 use Rattle.jvm_steps.specs.Moves.Turning.{begun_in}
 use Rattle.jvm_steps.proofs.Instructions.Callees.{live-is}
-use Rattle.prepared_code.proofs.MarkedStacks.{length-active}
-use Rattle.prepared_code.proofs.MarkedStacks.{live-stack, stack-frame}
+use Rattle.prepared_code.proofs.InitializingStacks.{length-active}
+use Rattle.prepared_code.proofs.InitializingStacks.{live-stack, stack-frame}
 use Rattle.jvm_steps.specs.Instructions.Arguments.{begun as placed, with_version_frame}
 use Rattle.prepared_code.specs.Versions.{Setup, listing_of}
 
@@ -49,20 +50,20 @@ entry-is : (w : Setup) (m locals stack : ℕ) → locals ≡ max_locals_of w.wor
     → entry_of w m locals stack ≡ Active (new_frame w.world (listing_of w.versions) m [])
 entry-is w m locals stack of_locals of_stack = ap (λ l. entry_of w m l stack) of_locals ∙ ap (entry_of w m (max_locals_of w.world m)) of_stack
 
-pub begins-on : (w : Setup) (ms : List Marker) (p : Parts) (m locals stack : ℕ) (mid new : FramesView) (entered : Bool)
+pub begins-on : (w : Setup) (ms : List Initialization) (p : Parts) (m locals stack : ℕ) (mid new : FramesView) (entered : Bool)
     → locals ≡ max_locals_of w.world m → stack ≡ max_stack_of w.world m → mid ≡ with_room (locals + stack) p.frames
     → entered ≡ can_enter locals 0 mid.frames → new ≡ changed_if entered (with_version_frame w.versions m locals stack 0) mid
-    → marker_on (suc (length p.frames.frames)) ms ≡ None
+    → initialization_on (suc (length p.frames.frames)) ms ≡ None
     → state_of ms (record p { frames = new }) ≡ with_frame (state_of ms p) (new_frame w.world (listing_of w.versions) m [])
 begins-on w ms p m locals stack mid new entered of_locals of_stack roomy answer made none =
     ap (λ es. record (state_in p) { stack = es })
     (ap (λ fs. stack_of (map active fs) ms) (frames-are w m locals stack p.frames mid new entered roomy answer made)
-    ∙ (stack-frame (entry_of w m locals stack) (map active p.frames.frames) ms (ap (λ n. marker_on (suc n) ms) (length-active p.frames.frames) ∙ none)
+    ∙ (stack-frame (entry_of w m locals stack) (map active p.frames.frames) ms (ap (λ n. initialization_on (suc n) ms) (length-active p.frames.frames) ∙ none)
     ∙ ap (λ e. let all : List Entry = e ∷ stack_of (map active p.frames.frames) ms in all) (entry-is w m locals stack of_locals of_stack)))
 
 -- ---- whether it begins
 
-pub live-of : (ms : List Marker) (p : Parts) → live_in (state_of ms p).stack ≡ length p.frames.frames
+pub live-of : (ms : List Initialization) (p : Parts) → live_in (state_of ms p).stack ≡ length p.frames.frames
 live-of ms p = live-stack (map active p.frames.frames) ms ∙ live-is p.frames.frames
 
 module _ (w : Setup) (s : State) (c m : ℕ) (is : initializer_of w.world.program c ≡ Some m) where

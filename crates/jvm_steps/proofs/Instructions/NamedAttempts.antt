@@ -15,17 +15,17 @@ use Rattle.jvm_named.specs.Names.{symbolic_view}
 use Rattle.prepared_code.specs.declared.line.Action.{Action}
 use Rattle.prepared_code.specs.declared.line.Action.TheVariants as action
 use Rattle.prepared_code.specs.declared.line.Line.{Line}
-use Rattle.prepared_code.specs.declared.markers.Marker.{Marker}
+use Rattle.prepared_code.specs.declared.initializations.Initialization.{Initialization}
 use Rattle.prepared_code.specs.declared.parts.Here.{Here}
 use Rattle.prepared_code.specs.declared.parts.Parts.{Parts}
 use Rattle.jvm_steps.specs.Instructions.Acts.{acts, acts_by, attempts_on, awaited, awaited_by, awaited_in, awaited_on, becomes_beneath, is_named, named_in}
 use Rattle.jvm_steps.specs.Instructions.Asked.{concluded, done_top, starts_in}
 use Rattle.jvm_steps.specs.Instructions.Initializing.{begins_class}
 use Rattle.prepared_code.specs.Lines.{IfNamed, IfNamedBy}
-use Rattle.prepared_code.specs.Markers.{marker_on, stack_of, state_of, with_markers}
+use Rattle.prepared_code.specs.Initializations.{initialization_on, stack_of, state_of, with_initializations}
 use Rattle.prepared_code.specs.States.{active, frame_in, here_of, state_in, state_with}
 use Rattle.jvm_steps.proofs.Loads.ActsLoad.{named-loads}
-use Rattle.jvm_steps.proofs.Marked.Beneath.{does-there}
+use Rattle.jvm_steps.proofs.Initializing.Beneath.{does-there}
 use Rattle.jvm_steps.proofs.Instructions.Concluded.{CanAnswer, begins-by, can-answer, concludes-by, named_beneath, starts-same}
 use Rattle.jvm_steps.proofs.Moves.LineSteps.{top-frame}
 use Rattle.prepared_code.specs.Versions.{Setup, line_at}
@@ -67,8 +67,8 @@ held lo names Holds if_named =
 
 -- ---- the parts where it has answered
 
-module _ (w : Setup) (ms : List Marker) (here : Here) (p : Parts) (is_named_there : named_in (line_at w.versions here.version here.place) ≡ true)
-    (at : here_of p.frames.frames ≡ Some here) (none : marker_on (length p.frames.frames) ms ≡ None)
+module _ (w : Setup) (ms : List Initialization) (here : Here) (p : Parts) (is_named_there : named_in (line_at w.versions here.version here.place) ≡ true)
+    (at : here_of p.frames.frames ≡ Some here) (none : initialization_on (length p.frames.frames) ms ≡ None)
     (frames : FramesView) (shared : Shared) (output loaded : List ℕ) (a : Asked)
     (answers : IfNamed (line_at w.versions here.version here.place) (λ n next. answer_view a ≡ answer_by (attempts w.world n p.shared p.frames) p.frames))
     (moves : IfNamed (line_at w.versions here.version here.place) (λ n next. frames ≡ frames_by (attempts w.world n p.shared p.frames) next p.frames))
@@ -116,24 +116,24 @@ module _ (w : Setup) (ms : List Marker) (here : Here) (p : Parts) (is_named_ther
     by : (fs : List PlacedFrame) → named_beneath w names.line n ms p fs ≡ becomes_beneath ms (acts w names.line) p fs
     by [] = refl
     by (f ∷ fs) =
-        sym (ap (acts_by w names.line (with_markers ms (state_with fs p)) (frame_in f)) names.named)
+        sym (ap (acts_by w names.line (with_initializations ms (state_with fs p)) (frame_in f)) names.named)
 
   pub goes-on : (o : Option ℕ) (after : Parts) → o ≡ starts_in (answer_view a) → o ≡ None → state_in after ≡ concluded w here (answer_view a) mid
       → state_of ms after ≡ attempts_on w s s.stack
   goes-on o after told quiet concludes =
-      ap (with_markers ms) (concludes ∙ (ap (λ x. concluded w here x mid) answer-is ∙ ap (concluded w here _) mid-is))
+      ap (with_initializations ms) (concludes ∙ (ap (λ x. concluded w here x mid) answer-is ∙ ap (concluded w here _) mid-is))
       ∙ (concludes-by w names.line n ms here p names.there p.frames.frames at none can (sym (sym quiet ∙ (told ∙ ap starts_in answer-is)))
       ∙ attempted)
 
   pub begins-on : (o : Option ℕ) (c : ℕ) (after : Parts) → o ≡ starts_in (answer_view a) → o ≡ Some c → state_in after ≡ concluded w here (answer_view a) mid
       → begins_class c (state_of ms after) ≡ attempts_on w s s.stack
   begins-on o c after told some concludes =
-      ap (λ x. begins_class c (with_markers ms x)) (concludes ∙ (ap (λ x. concluded w here x mid) answer-is ∙ ap (concluded w here _) mid-is))
+      ap (λ x. begins_class c (with_initializations ms x)) (concludes ∙ (ap (λ x. concluded w here x mid) answer-is ∙ ap (concluded w here _) mid-is))
       ∙ (begins-by w names.line n ms here p names.there c p.frames.frames at none can (sym (sym some ∙ (told ∙ ap starts_in answer-is)))
       ∙ attempted)
 
   -- the class that it awaits
-  awaits-by : (fs : List PlacedFrame) → here_of fs ≡ Some here → marker_on (length fs) ms ≡ None
+  awaits-by : (fs : List PlacedFrame) → here_of fs ≡ Some here → initialization_on (length fs) ms ≡ None
       → CanAnswer (answer_in (done_top w n p.shared fs).outcome fs)
       → awaited_on w s (stack_of (map active fs) ms) ≡ starts_in (answer_in (done_top w n p.shared fs).outcome fs)
   awaits-by [] is free can_there = absurd (none-some here is)
@@ -159,4 +159,4 @@ module _ (w : Setup) (ms : List Marker) (here : Here) (p : Parts) (is_named_ther
       by : (fs : List PlacedFrame) → here_of fs ≡ Some here
           → p.shared.loaded ++ newly_loaded w.world.program p.shared.loaded n (top_operands fs) ≡ (named_beneath w names.line n ms p fs).shared.loaded
       by [] is = absurd (none-some here is)
-      by (f ∷ fs) is = sym (named-loads w names.line n (with_markers ms (state_with fs p)) (frame_in f))
+      by (f ∷ fs) is = sym (named-loads w names.line n (with_initializations ms (state_with fs p)) (frame_in f))

@@ -19,18 +19,18 @@ use Rattle.jvm_named.specs.Names.{symbolic_view}
 use Rattle.prepared_code.specs.declared.line.Action.{Action}
 use Rattle.prepared_code.specs.declared.line.Action.TheVariants as action
 use Rattle.prepared_code.specs.declared.line.Line.{Line}
-use Rattle.prepared_code.specs.declared.markers.Marker.{Marker}
+use Rattle.prepared_code.specs.declared.initializations.Initialization.{Initialization}
 use Rattle.prepared_code.specs.declared.parts.Here.{Here}
 use Rattle.prepared_code.specs.declared.parts.Parts.{Parts}
 use Rattle.jvm_steps.specs.Instructions.Acts.{attempts_on, awaited_in, is_named, named_in}
 use Rattle.jvm_steps.specs.Instructions.Asked.{concluded, starts_in}
 use Rattle.jvm_steps.specs.Instructions.Initializing.{begins_class}
 use Rattle.prepared_code.specs.Lines.{IfNamed}
-use Rattle.prepared_code.specs.Markers.{marker_on, stack_of, state_of}
+use Rattle.prepared_code.specs.Initializations.{initialization_on, stack_of, state_of}
 use Rattle.prepared_code.specs.States.{active, frame_in, here_of, state_in}
 use Rattle.jvm_steps.specs.Moves.Turning.{loads_in, loads_none}
 use Rattle.prepared_code.specs.Versions.{Setup, instruction_in, line_at, operation_as, listing_of}
-use Rattle.jvm_steps.proofs.Marked.Beneath.{nothing-there}
+use Rattle.jvm_steps.proofs.Initializing.Beneath.{nothing-there}
 use Rattle.jvm_steps.proofs.Instructions.LineActs.{with-loaded}
 use Rattle.jvm_steps.proofs.Moves.LineSteps.{top-frame}
 use Rattle.jvm_steps.proofs.Instructions.NamedAttempts.{Names, awaits-told, begins-on, concluded-in, goes-on, held, loads-told, names-there}
@@ -57,11 +57,11 @@ unnamed-loads w s (f ∷ fs) (Some line) is = by line.action is where
   by (action.StoreElement k) is = refl
   by (action.LdcString units) is = refl
 
-module _ (w : Setup) (ms : List Marker) (p : Parts) (going : p.ending ≡ None) where
+module _ (w : Setup) (ms : List Initialization) (p : Parts) (going : p.ending ≡ None) where
   abbrev s : State
   s = state_of ms p
 
-  loads-by : (fs : List PlacedFrame) (here : Here) → here_of fs ≡ Some here → marker_on (length fs) ms ≡ None
+  loads-by : (fs : List PlacedFrame) (here : Here) → here_of fs ≡ Some here → initialization_on (length fs) ms ≡ None
       → loads_on w.world (listing_of w.versions) s p.ending (stack_of (map active fs) ms) ≡ loads_of w s fs (line_at w.versions here.version here.place)
   loads-by [] here is none = absurd (none-some here is)
   loads-by (f ∷ fs) here is none =
@@ -71,13 +71,13 @@ module _ (w : Setup) (ms : List Marker) (p : Parts) (going : p.ending ≡ None) 
       ∙ ap (λ (h : Here). loads_of w s (f ∷ fs) (line_at w.versions h.version h.place)) same)
 
   -- no frame
-  pub nothing-loads : here_of p.frames.frames ≡ None → marker_on (length p.frames.frames) ms ≡ None → loads_none w s ≡ true
+  pub nothing-loads : here_of p.frames.frames ≡ None → initialization_on (length p.frames.frames) ms ≡ None → loads_none w s ≡ true
   nothing-loads is none =
       ap (λ (classes : List ℕ). length classes == 0)
       (ap (λ e. loads_on w.world (listing_of w.versions) s e s.stack) going ∙ ap (loads_on w.world (listing_of w.versions) s None) (nothing-there w ms p is none))
 
   -- a line that names nothing
-  pub silent-loads : (here : Here) → here_of p.frames.frames ≡ Some here → marker_on (length p.frames.frames) ms ≡ None
+  pub silent-loads : (here : Here) → here_of p.frames.frames ≡ Some here → initialization_on (length p.frames.frames) ms ≡ None
       → named_in (line_at w.versions here.version here.place) ≡ false → loads_none w s ≡ true
   silent-loads here is none unnamed =
       ap (λ (classes : List ℕ). length classes == 0)
@@ -85,7 +85,7 @@ module _ (w : Setup) (ms : List Marker) (p : Parts) (going : p.ending ≡ None) 
 
   -- one that names something
   module _ (here : Here) (is_named_there : named_in (line_at w.versions here.version here.place) ≡ true)
-      (at : here_of p.frames.frames ≡ Some here) (none : marker_on (length p.frames.frames) ms ≡ None) where
+      (at : here_of p.frames.frames ≡ Some here) (none : initialization_on (length p.frames.frames) ms ≡ None) where
     names : Names (line_at w.versions here.version here.place)
     names = names-there (line_at w.versions here.version here.place) is_named_there
 
@@ -129,8 +129,8 @@ module _ (w : Setup) (ms : List Marker) (p : Parts) (going : p.ending ≡ None) 
 
 -- ---- where it has answered, it has answered as in one part
 
-module _ (w : Setup) (ms : List Marker) (here : Here) (p : Parts) (is_named_there : named_in (line_at w.versions here.version here.place) ≡ true)
-    (at : here_of p.frames.frames ≡ Some here) (none : marker_on (length p.frames.frames) ms ≡ None)
+module _ (w : Setup) (ms : List Initialization) (here : Here) (p : Parts) (is_named_there : named_in (line_at w.versions here.version here.place) ≡ true)
+    (at : here_of p.frames.frames ≡ Some here) (none : initialization_on (length p.frames.frames) ms ≡ None)
     (frames : FramesView) (shared : Shared) (output loaded : List ℕ) (o : Option Asked)
     (answers : IfNamed (line_at w.versions here.version here.place) (λ n next. IfSome o (λ a. answer_view a ≡ answer_by (attempts w.world n p.shared p.frames) p.frames)))
     (moves : IfNamed (line_at w.versions here.version here.place) (λ n next. IfSome o (λ a. frames ≡ frames_by (attempts w.world n p.shared p.frames) next p.frames)))
@@ -179,8 +179,8 @@ module _ (w : Setup) (ms : List Marker) (here : Here) (p : Parts) (is_named_ther
 
 -- ---- where it has loaded, it has done nothing else
 
-module _ (w : Setup) (ms : List Marker) (p : Parts) (going : p.ending ≡ None) (here : Here) (is_named_there : named_in (line_at w.versions here.version here.place) ≡ true)
-    (at : here_of p.frames.frames ≡ Some here) (none : marker_on (length p.frames.frames) ms ≡ None) (o : Option Asked)
+module _ (w : Setup) (ms : List Initialization) (p : Parts) (going : p.ending ≡ None) (here : Here) (is_named_there : named_in (line_at w.versions here.version here.place) ≡ true)
+    (at : here_of p.frames.frames ≡ Some here) (none : initialization_on (length p.frames.frames) ms ≡ None) (o : Option Asked)
     (some : IfNamed (line_at w.versions here.version here.place) (λ n next. is_some o ≡ is_loaded w.world n p.shared p.frames)) where
   -- whether it has
   pub apart-loads : is_some o ≡ loads_none w (state_of ms p)

@@ -6,9 +6,9 @@ use Rattle.jvm_model.specs.Classes.Load.{Fault, error_of}
 use Rattle.jvm_model.specs.Instructions.SymbolicReference.{message_of}
 use Rattle.jvm_model.specs.Running.Run.{arguments_made, before, loads_if, main_classes, main_loading, main_loads, opened, starts_if, starts_unless}
 use Rattle.jvm_model.specs.Basis.SharedState.{arguments_fit, null}
-use Rattle.prepared_code.specs.declared.markers.Marker.{Marker}
+use Rattle.prepared_code.specs.declared.initializations.Initialization.{Initialization}
 use Rattle.prepared_code.specs.declared.parts.Parts.{Parts}
-use Rattle.prepared_code.specs.Markers.{state_of}
+use Rattle.prepared_code.specs.Initializations.{state_of}
 use Rattle.prepared_code.specs.Versions.{Setup}
 use Rattle.jvm_steps.proofs.Instructions.LineActs.{with-loaded}
 use Rattle.jvm_steps.proofs.Loads.MovesLoad.{made-loaded}
@@ -25,7 +25,7 @@ module _ (w : Setup) where
       ∙ ap (λ (x : State). x.shared.loaded) (with-loaded (main_classes w.world) (arguments_made w.world (before w.world)))
   if-loaded false = sym (append-nil (before w.world).shared.loaded)
 
-  pub begun-loads : (ms_old ms : List Marker) (old new : Parts) → arguments_fit w.world.program ≡ true → state_of ms_old old ≡ before w.world → state_of ms new ≡ starts_if w.world true
+  pub begun-loads : (ms_old ms : List Initialization) (old new : Parts) → arguments_fit w.world.program ≡ true → state_of ms_old old ≡ before w.world → state_of ms new ≡ starts_if w.world true
       → new.shared.loaded ≡ old.shared.loaded ++ main_loads w.world
   begun-loads ms_old ms old new fits start begun =
       ap (λ (x : State). x.shared.loaded) begun

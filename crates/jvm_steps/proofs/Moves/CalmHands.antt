@@ -7,13 +7,13 @@ use Rattle.jvm_model.specs.declared.state.State.{State}
 use Rattle.jvm_model.specs.Basis.Data.{Turn}
 use Rattle.jvm_model.specs.Running.Run.{starts_with}
 use Rattle.jvm_model.specs.Turns.Told.{Held}
-use Rattle.prepared_code.specs.declared.markers.Marker.{Marker}
+use Rattle.prepared_code.specs.declared.initializations.Initialization.{Initialization}
 use Rattle.jvm_steps.specs.declared.turns.hands.Gone.{Gone}
 use Rattle.jvm_steps.specs.declared.turns.hands.Hand.{Hand}
 use Rattle.prepared_code.specs.declared.parts.Parts.{Parts}
 use Rattle.prepared_code.specs.Versions.{Setup, listing_of}
 use Rattle.jvm_steps.specs.Instructions.Acts.{is_at_rest}
-use Rattle.prepared_code.specs.Markers.{state_of}
+use Rattle.prepared_code.specs.Initializations.{state_of}
 use Rattle.prepared_code.specs.Ready.{CanRun, IsSoundIn}
 use Rattle.prepared_code.specs.Standing.{HasVersions}
 use Rattle.jvm_steps.specs.Moves.Calmly.{GoesCalmly, TriesCalmly, passed_there}
@@ -24,7 +24,7 @@ use Rattle.jvm_steps.proofs.Moves.HandLaws.{attempt-sound, hands-on, moves-sound
 use Rattle.jvm_steps.proofs.Moves.LineSteps.{rest-moves}
 use Rattle.jvm_steps.proofs.Moves.OneMove.{rest-pauses}
 
-module _ (w : Setup) (ms : List Marker) (hand : Hand) (p : Parts) (gone : Gone) (left : IsLeft gone) where
+module _ (w : Setup) (ms : List Initialization) (hand : Hand) (p : Parts) (gone : Gone) (left : IsLeft gone) where
   abbrev s : State
   s = state_of ms p
 
@@ -52,7 +52,7 @@ module _ (w : Setup) (ms : List Marker) (hand : Hand) (p : Parts) (gone : Gone) 
     keeps = tries.keeps;
   }
 
-module _ (w : Setup) (ms : List Marker) (hand : Hand) (p : Parts) (gone : Gone) (after : Parts) (goes : GoesCalmly w ms hand p gone after) where
+module _ (w : Setup) (ms : List Initialization) (hand : Hand) (p : Parts) (gone : Gone) (after : Parts) (goes : GoesCalmly w ms hand p gone after) where
   abbrev old : State
   old = state_of ms p
 

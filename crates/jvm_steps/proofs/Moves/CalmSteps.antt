@@ -7,14 +7,14 @@ use Rattle.jvm_model.specs.declared.due.Due.TheVariants.{Begins, Ends, Nothing}
 use Rattle.jvm_model.specs.declared.event.EventKind.TheVariants as kind
 use Rattle.jvm_model.specs.declared.state.State.{State}
 use Rattle.jvm_model.specs.Rewriting.Images.{is_off}
-use Rattle.prepared_code.specs.declared.markers.Marker.{Marker}
+use Rattle.prepared_code.specs.declared.initializations.Initialization.{Initialization}
 use Rattle.prepared_code.specs.declared.line.Line.{Line}
 use Rattle.prepared_code.specs.declared.parts.Here.{Here}
 use Rattle.prepared_code.specs.declared.parts.Parts.{Parts}
 use Rattle.prepared_code.specs.Versions.{Setup, current_of, line_at, mark_of, listing_of}
 use Rattle.jvm_steps.specs.Instructions.Acts.{goes_on_in}
 use Rattle.jvm_steps.specs.Instructions.Arguments.{with_begun}
-use Rattle.prepared_code.specs.Markers.{marker_on, state_of}
+use Rattle.prepared_code.specs.Initializations.{initialization_on, state_of}
 use Rattle.prepared_code.specs.Ready.{CanRun}
 use Rattle.prepared_code.specs.Runs.{IsCalm}
 use Rattle.prepared_code.specs.States.{here_of}
@@ -48,7 +48,7 @@ top-begun w method count fs = refl
 
 -- ---- an attempt was made
 
-module _ (w : Setup) (run : CanRun w) (ms : List Marker) (old new : Parts) (has : has_frame old.frames.frames ≡ true) (calm : IsCalm (length old.frames.frames) ms old)
+module _ (w : Setup) (run : CanRun w) (ms : List Initialization) (old new : Parts) (has : has_frame old.frames.frames ≡ true) (calm : IsCalm (length old.frames.frames) ms old)
     (is : Attempted w ms old new) where
   abbrev s : State
   s = state_of ms old
@@ -61,8 +61,8 @@ module _ (w : Setup) (run : CanRun w) (ms : List Marker) (old new : Parts) (has 
 
   going : goes_on_in ms old ≡ true
   going =
-      goes old.ending (has_frame old.frames.frames && is_none (marker_on (length old.frames.frames) ms)) calm.ending
-      (framed (length old.frames.frames) ms old.frames.frames calm.unmarked refl has)
+      goes old.ending (has_frame old.frames.frames && is_none (initialization_on (length old.frames.frames) ms)) calm.ending
+      (framed (length old.frames.frames) ms old.frames.frames calm.executing refl has)
 
   none : loads_none w s ≡ true
   none = ap (λ (classes : List ℕ). length classes == 0) is.loads
@@ -86,8 +86,8 @@ module _ (w : Setup) (run : CanRun w) (ms : List Marker) (old new : Parts) (has 
   -- a return of which its probe has told was made
   pub leaves-calmly : length new.frames.frames ≡ length old.frames.frames - 1 → has_frame new.frames.frames ≡ true → TriesCalmly w ms true old Nothing new
   leaves-calmly fewer framed_then =
-      let rests = at-rest new.ending new.thrown (has_frame new.frames.frames && is_none (marker_on (length new.frames.frames) ms)) is.calm.ending is.calm.thrown
-      (framed (length new.frames.frames) ms new.frames.frames is.calm.unmarked refl framed_then) in
+      let rests = at-rest new.ending new.thrown (has_frame new.frames.frames && is_none (initialization_on (length new.frames.frames) ms)) is.calm.ending is.calm.thrown
+      (framed (length new.frames.frames) ms new.frames.frames is.calm.executing refl framed_then) in
       let one : length old.frames.frames ≡ suc (length old.frames.frames - 1) = some-frame old.frames.frames has in
       let counts = counts_one 0 live new.frames.frames (λ same. absurd (omega (arith, same, fewer, one))) in
       let enters = sym (enters_none w live new.frames.frames (omega (arith, fewer, one))) in
@@ -107,12 +107,12 @@ module _ (w : Setup) (run : CanRun w) (ms : List Marker) (old new : Parts) (has 
 -- ---- before one
 
 -- the probe of a return tells first
-pub stops-calmly : (w : Setup) (run : CanRun w) (ms : List Marker) (old : Parts) (here : Here) (line : Line) → here_of old.frames.frames ≡ Some here
+pub stops-calmly : (w : Setup) (run : CanRun w) (ms : List Initialization) (old : Parts) (here : Here) (line : Line) → here_of old.frames.frames ≡ Some here
     → IsCalm (length old.frames.frames) ms old → line_at w.versions here.version here.place ≡ Some line → returns_by line.action ≡ true
     → not (is_off (mark_of w.versions here.version)) ≡ true → TriesCalmly w ms false old (Ends kind.Leave) old
 stops-calmly w run ms old here line stands calm found returns marked =
-    let going = goes old.ending (has_frame old.frames.frames && is_none (marker_on (length old.frames.frames) ms)) calm.ending
-    (framed (length old.frames.frames) ms old.frames.frames calm.unmarked refl (has-here here old.frames.frames stands)) in
+    let going = goes old.ending (has_frame old.frames.frames && is_none (initialization_on (length old.frames.frames) ms)) calm.ending
+    (framed (length old.frames.frames) ms old.frames.frames calm.executing refl (has-here here old.frames.frames stands)) in
     let leaves : leaves_in w old.frames.frames ≡ true =
     leaves-here w here old.frames.frames stands
     ∙ (ap (λ b. b && is_return_line (line_at w.versions here.version here.place)) marked ∙ (ap is_return_line found ∙ returns)) in

@@ -19,9 +19,9 @@ use Rattle.jvm_model.specs.Turns.Told.{mark_now}
 use Rattle.jvm_model.specs.Turns.Pauses.{Pause, changes_due, passed_by, paused, unless_off}
 use Rattle.jvm_model.specs.Turns.StepPauses.{pause_behind}
 use Rattle.jvm_model.proofs.Turns.Pausing.{paused-is}
-use Rattle.prepared_code.specs.declared.markers.Marker.{Marker}
+use Rattle.prepared_code.specs.declared.initializations.Initialization.{Initialization}
 use Rattle.prepared_code.specs.declared.parts.Parts.{Parts}
-use Rattle.prepared_code.specs.Markers.{above, beneath, initializing, stack_of, state_of}
+use Rattle.prepared_code.specs.Initializations.{above, beneath, initializing_entry, stack_of, state_of}
 use Rattle.prepared_code.specs.States.{active}
 use Rattle.jvm_steps.specs.Moves.Turning.{pause_at, paused_in}
 use Rattle.jvm_steps.specs.Moves.Trying.{changes_since, enters_by, is_begins, pause_behind_attempt, top_frame_method}
@@ -31,21 +31,21 @@ use Rattle.jvm_steps.proofs.Loads.MovesLoad.{settled-loaded}
 
 -- ---- by the frames
 
-top-behind : (ms : List Marker) (es : List Entry) → top_method (map initializing ms ++ es) ≡ top_method es
+top-behind : (ms : List Initialization) (es : List Entry) → top_method (map initializing_entry ms ++ es) ≡ top_method es
 top-behind [] es = refl
 top-behind (m ∷ ms) es = top-behind ms es
 
-top-markers : (ms : List Marker) → top_method (map initializing ms) ≡ 0
-top-markers [] = refl
-top-markers (m ∷ ms) = top-markers ms
+top-initializing : (ms : List Initialization) → top_method (map initializing_entry ms) ≡ 0
+top-initializing [] = refl
+top-initializing (m ∷ ms) = top-initializing ms
 
-top-of : (fs : List PlacedFrame) (ms : List Marker) → top_method (stack_of (map active fs) ms) ≡ top_frame_method fs
+top-of : (fs : List PlacedFrame) (ms : List Initialization) → top_method (stack_of (map active fs) ms) ≡ top_frame_method fs
 unfolding stack_of
-top-of [] ms = top-markers ms
+top-of [] ms = top-initializing ms
 top-of (f ∷ fs) ms = top-behind (above (suc (length (map active fs))) ms) (active f ∷ stack_of (map active fs) (beneath (suc (length (map active fs))) ms))
 
--- the markers are none of them
-pub since-between : (live : ℕ) (ms : List Marker) (p : Parts) → changes_since live p.frames.frames ≡ changes_between live (state_of ms p).stack
+-- the initializations are none of them
+pub since-between : (live : ℕ) (ms : List Initialization) (p : Parts) → changes_since live p.frames.frames ≡ changes_between live (state_of ms p).stack
 since-between live ms p =
     ap (λ m. compared (nat_lt (length p.frames.frames) live) (nat_lt live (length p.frames.frames)) m) (sym (top-of p.frames.frames ms))
     ∙ ap (λ n. compared (nat_lt n live) (nat_lt live n) (top_method (state_of ms p).stack)) (sym (live-of ms p))
@@ -116,7 +116,7 @@ goes-pause Begins begun later isnt = absurd (false≢true (sym isnt))
 goes-pause Nothing begun later isnt = refl
 goes-pause (Ends k) begun later isnt = refl
 
-module _ (w : Setup) (live n : ℕ) (ms : List Marker) (p : Parts) where
+module _ (w : Setup) (live n : ℕ) (ms : List Initialization) (p : Parts) where
   abbrev s : State
   s = state_of ms p
 

@@ -25,15 +25,15 @@ use Rattle.jvm_model.proofs.Running.Attempts.{loaded-after}
 use Rattle.jvm_model.proofs.Loading.LoadsAgain.{newly-again}
 use Rattle.jvm_model.proofs.Running.QuietSettles.{stops}
 use Rattle.prepared_code.specs.declared.line.Line.{Line}
-use Rattle.prepared_code.specs.declared.markers.Marker.{Marker}
+use Rattle.prepared_code.specs.declared.initializations.Initialization.{Initialization}
 use Rattle.prepared_code.specs.declared.parts.Parts.{Parts}
 use Rattle.jvm_steps.specs.Instructions.Acts.{acts, acts_asked, acts_by, acts_named, attempts_line, attempts_on, awaited, awaited_by, awaited_in, awaited_on, is_at_rest, goes_on_in, named_done, ready_for, with_done}
-use Rattle.prepared_code.specs.Markers.{initializing, marker_on, stack_of, state_of}
+use Rattle.prepared_code.specs.Initializations.{initializing_entry, initialization_on, stack_of, state_of}
 use Rattle.prepared_code.specs.States.{active, frame_in}
-use Rattle.prepared_code.proofs.MarkedStacks.{length-active}
+use Rattle.prepared_code.proofs.InitializingStacks.{length-active}
 use Rattle.jvm_steps.proofs.Instructions.Initializations.{IsReadyAgain, ready-again, set-there}
 use Rattle.jvm_steps.proofs.Instructions.LineActs.{awaits-named, done_there, readied, starts-some, steps-as, viewed, with-loaded}
-use Rattle.prepared_code.proofs.MarkedStacks.{stack-empty, stack-frame, stack-on}
+use Rattle.prepared_code.proofs.InitializingStacks.{stack-empty, stack-frame, stack-on}
 use Rattle.jvm_steps.proofs.Loads.MovesLoad.{settled-loaded}
 use Rattle.jvm_steps.proofs.Instructions.NamedLaws.{Asks, IsNamed, is-named}
 use Rattle.prepared_code.proofs.Tied.{Tie, tied-there}
@@ -42,15 +42,15 @@ use Rattle.prepared_code.specs.Versions.{Setup, listing_of, line_at, instruction
 
 -- ---- the top of a stack
 
-pub none-of : (ms : List Marker) (n : ℕ) → is_none (marker_on n ms) ≡ true → marker_on n ms ≡ None
-none-of ms n is = by (marker_on n ms) is where
-  by : (o : Option Marker) → is_none o ≡ true → o ≡ None
+pub none-of : (ms : List Initialization) (n : ℕ) → is_none (initialization_on n ms) ≡ true → initialization_on n ms ≡ None
+none-of ms n is = by (initialization_on n ms) is where
+  by : (o : Option Initialization) → is_none o ≡ true → o ≡ None
   by None e = refl
   by (Some m) e = absurd (false≢true e)
 
-pub top-frame : (ms : List Marker) (f : PlacedFrame) (fs : List PlacedFrame) → marker_on (length (f ∷ fs)) ms ≡ None
+pub top-frame : (ms : List Initialization) (f : PlacedFrame) (fs : List PlacedFrame) → initialization_on (length (f ∷ fs)) ms ≡ None
     → stack_of (map active (f ∷ fs)) ms ≡ active f ∷ stack_of (map active fs) ms
-top-frame ms f fs none = stack-frame (active f) (map active fs) ms (ap (λ n. marker_on (suc n) ms) (length-active fs) ∙ none)
+top-frame ms f fs none = stack-frame (active f) (map active fs) ms (ap (λ n. initialization_on (suc n) ms) (length-active fs) ∙ none)
 
 -- ---- the moves do not see the changes before them
 
@@ -73,20 +73,20 @@ module _ (w : Setup) (t : Listing) where
   settled-still s none = ap (λ (a : Turn). a.after) (stops w.world t (left s) (still s) none)
 
   -- nothing follows where it is at rest
-  pub rest-moves : (ms : List Marker) (p : Parts) → is_at_rest ms p ≡ true → move w.world t (state_of ms p) ≡ None
+  pub rest-moves : (ms : List Initialization) (p : Parts) → is_at_rest ms p ≡ true → move w.world t (state_of ms p) ≡ None
   rest-moves ms p is = by p.ending p.thrown p.frames.frames is where
     -- by the top of the stack
-    by_top : (f : PlacedFrame) (fs : List PlacedFrame) → is_none (marker_on (length (f ∷ fs)) ms) ≡ true → moves w.world t (state_of ms p) None None (stack_of (map active (f ∷ fs)) ms) ≡ None
+    by_top : (f : PlacedFrame) (fs : List PlacedFrame) → is_none (initialization_on (length (f ∷ fs)) ms) ≡ true → moves w.world t (state_of ms p) None None (stack_of (map active (f ∷ fs)) ms) ≡ None
     by_top f fs none = ap (moves w.world t (state_of ms p) None None) (top-frame ms f fs (none-of ms (length (f ∷ fs)) none))
 
-    by : (ending : Option Ending) (thrown : Option ℕ) (fs : List PlacedFrame) → (is_some ending || (is_none thrown && (has_frame fs && is_none (marker_on (length fs) ms)))) ≡ true
+    by : (ending : Option Ending) (thrown : Option ℕ) (fs : List PlacedFrame) → (is_some ending || (is_none thrown && (has_frame fs && is_none (initialization_on (length fs) ms)))) ≡ true
         → moves w.world t (state_of ms p) ending thrown (stack_of (map active fs) ms) ≡ None
     by (Some e) thrown fs is = refl
     by None (Some r) fs is = absurd (false≢true is)
     by None None [] is = absurd (false≢true is)
     by None None (f ∷ fs) is = by_top f fs is
 
-  pub rests : (ms : List Marker) (p : Parts) → is_at_rest ms p ≡ true → state_of ms p ≡ (settled w.world t (still (state_of ms p))).after
+  pub rests : (ms : List Initialization) (p : Parts) → is_at_rest ms p ≡ true → state_of ms p ≡ (settled w.world t (still (state_of ms p))).after
   rests ms p is = sym (settled-still (state_of ms p) (rest-moves ms p is))
 
 -- ---- a step
@@ -359,8 +359,8 @@ module _ (w : Setup) (run : CanRun w) (s : State) (going : IsGoing s) where
 
 -- ---- over the parts of a machine
 
-module _ (ms : List Marker) (p : Parts) where
-  going-by : (ending : Option Ending) (fs : List PlacedFrame) → (is_none ending && (has_frame fs && is_none (marker_on (length fs) ms))) ≡ true
+module _ (ms : List Initialization) (p : Parts) where
+  going-by : (ending : Option Ending) (fs : List PlacedFrame) → (is_none ending && (has_frame fs && is_none (initialization_on (length fs) ms))) ≡ true
       → IsGoing (record (state_of ms p) { ending = ending; stack = stack_of (map active fs) ms })
   going-by (Some e) fs is = absurd (false≢true is)
   going-by None [] is = absurd (false≢true is)
@@ -374,37 +374,37 @@ module _ (ms : List Marker) (p : Parts) where
   pub going-on : goes_on_in ms p ≡ true → IsGoing (state_of ms p)
   going-on is = going-by p.ending p.frames.frames is
 
-  -- where a marker is on top, or nothing, or the run has ended, a step does nothing
-  stays-by : (w : Setup) (s : State) (ending : Option Ending) (fs : List PlacedFrame) → (is_none ending && (has_frame fs && is_none (marker_on (length fs) ms))) ≡ false
+  -- where an initialization is on top, or nothing, or the run has ended, a step does nothing
+  stays-by : (w : Setup) (s : State) (ending : Option Ending) (fs : List PlacedFrame) → (is_none ending && (has_frame fs && is_none (initialization_on (length fs) ms))) ≡ false
       → (steps_on w.world (listing_of w.versions) s ending (stack_of (map active fs) ms)).after ≡ s
   stays-by w s (Some e) fs is = refl
   stays-by w s None [] is = ap (λ es. (steps_on w.world (listing_of w.versions) s None es).after) (stack-empty ms) ∙ by ms where
-    by : (marks : List Marker) → (steps_on w.world (listing_of w.versions) s None (map initializing marks)).after ≡ s
+    by : (marks : List Initialization) → (steps_on w.world (listing_of w.versions) s None (map initializing_entry marks)).after ≡ s
     by [] = refl
     by (m ∷ marks) = refl
-  stays-by w s None (f ∷ fs) is = by (marker_on (length (f ∷ fs)) ms) refl is where
-    by : (o : Option Marker) → marker_on (length (f ∷ fs)) ms ≡ o → is_none o ≡ false → (steps_on w.world (listing_of w.versions) s None (stack_of (map active (f ∷ fs)) ms)).after ≡ s
+  stays-by w s None (f ∷ fs) is = by (initialization_on (length (f ∷ fs)) ms) refl is where
+    by : (o : Option Initialization) → initialization_on (length (f ∷ fs)) ms ≡ o → is_none o ≡ false → (steps_on w.world (listing_of w.versions) s None (stack_of (map active (f ∷ fs)) ms)).after ≡ s
     by None e isnt = absurd (false≢true (sym isnt))
     by (Some m) e isnt =
-        let on = stack-on (map active (f ∷ fs)) ms m (ap (λ n. marker_on n ms) (length-active (f ∷ fs)) ∙ e) in
+        let on = stack-on (map active (f ∷ fs)) ms m (ap (λ n. initialization_on n ms) (length-active (f ∷ fs)) ∙ e) in
         ap (λ es. (steps_on w.world (listing_of w.versions) s None es).after) on.1
 
   pub step-stays : (w : Setup) → goes_on_in ms p ≡ false → state_of ms p ≡ (step w.world (listing_of w.versions) (state_of ms p)).after
   step-stays w is = sym (stays-by w (state_of ms p) p.ending p.frames.frames is)
 
-  -- a frame that stands on top has no marker on it
-  unmarked-by : (fs : List PlacedFrame) (f : Frame) (rest : List Entry) → stack_of (map active fs) ms ≡ Active f ∷ rest
-      → (has_frame fs && is_none (marker_on (length fs) ms)) ≡ true
-  unmarked-by [] f rest is = absurd (by ms (sym (stack-empty ms) ∙ is)) where
-    by : (marks : List Marker) → map initializing marks ≡ Active f ∷ rest → ⊥
+  -- a frame that stands on top has no initialization on it
+  executing-by : (fs : List PlacedFrame) (f : Frame) (rest : List Entry) → stack_of (map active fs) ms ≡ Active f ∷ rest
+      → (has_frame fs && is_none (initialization_on (length fs) ms)) ≡ true
+  executing-by [] f rest is = absurd (by ms (sym (stack-empty ms) ∙ is)) where
+    by : (marks : List Initialization) → map initializing_entry marks ≡ Active f ∷ rest → ⊥
     by [] e = absurd cc
     by (m ∷ marks) e = absurd cc
-  unmarked-by (g ∷ fs) f rest is = by (marker_on (length (g ∷ fs)) ms) refl where
-    by : (o : Option Marker) → marker_on (length (g ∷ fs)) ms ≡ o → is_none o ≡ true
+  executing-by (g ∷ fs) f rest is = by (initialization_on (length (g ∷ fs)) ms) refl where
+    by : (o : Option Initialization) → initialization_on (length (g ∷ fs)) ms ≡ o → is_none o ≡ true
     by None e = refl
     by (Some m) e =
-        let on = stack-on (map active (g ∷ fs)) ms m (ap (λ n. marker_on n ms) (length-active (g ∷ fs)) ∙ e) in
-        absurd (let same : initializing m ∷ on.0 ≡ Active f ∷ rest = sym on.1 ∙ is in cc)
+        let on = stack-on (map active (g ∷ fs)) ms m (ap (λ n. initialization_on n ms) (length-active (g ∷ fs)) ∙ e) in
+        absurd (let same : initializing_entry m ∷ on.0 ≡ Active f ∷ rest = sym on.1 ∙ is in cc)
 
-  pub unmarked : IsGoing (state_of ms p) → (has_frame p.frames.frames && is_none (marker_on (length p.frames.frames) ms)) ≡ true
-  unmarked going = unmarked-by p.frames.frames going.frame going.rest going.stack
+  pub executing : IsGoing (state_of ms p) → (has_frame p.frames.frames && is_none (initialization_on (length p.frames.frames) ms)) ≡ true
+  executing going = executing-by p.frames.frames going.frame going.rest going.stack

@@ -25,12 +25,12 @@ use Rattle.class_linker.specs.Linkers.{LinkerView}
 use Rattle.jvm_named.specs.Natives.{HasBuiltIn}
 use Rattle.jvm_named.specs.Objects.{AreLoaded, HasLoadedCaller, IsOfLoaded}
 use Rattle.prepared_code.specs.declared.line.Line.{Line}
-use Rattle.prepared_code.specs.declared.markers.Marker.{Marker}
+use Rattle.prepared_code.specs.declared.initializations.Initialization.{Initialization}
 use Rattle.prepared_code.specs.declared.parts.Here.{Here}
 use Rattle.prepared_code.specs.declared.parts.Parts.{Parts}
 use Rattle.jvm_steps.specs.Instructions.Acts.{acts, attempts_line, attempts_on, with_done}
 use Rattle.prepared_code.specs.Lines.{IfNamed, IfNamedBy, action_of, local_action}
-use Rattle.prepared_code.specs.Markers.{marker_on, stack_of, state_of}
+use Rattle.prepared_code.specs.Initializations.{initialization_on, stack_of, state_of}
 use Rattle.prepared_code.specs.States.{active, here_of}
 use Rattle.jvm_steps.proofs.Instructions.LineActs.{readied, done_there, steps-as, viewed, with-loaded}
 use Rattle.jvm_steps.proofs.Moves.LineSteps.{IsGoing, top-frame}
@@ -93,7 +93,7 @@ module _ (p : Program) (fit : IsFit p) (loaded : List ℕ) where
       named-by line tie.op tie.tied (subst (CanAttempt p loaded) (ap (λ (x : Instruction). x.operation) tie.is) (can i refl))
 
 -- the caller of an invokespecial that stands there
-caller-by : (w : Setup) (run : CanRun w) (loaded : List ℕ) (ms : List Marker) (here : Here) (fs : List PlacedFrame) → here_of fs ≡ Some here → marker_on (length fs) ms ≡ None
+caller-by : (w : Setup) (run : CanRun w) (loaded : List ℕ) (ms : List Initialization) (here : Here) (fs : List PlacedFrame) → here_of fs ≡ Some here → initialization_on (length fs) ms ≡ None
     → AllByRecursion (IsSoundEntryIn w loaded) (stack_of (map active fs) ms)
     → IfNamed (line_at w.versions here.version here.place) (λ n next. HasLoadedCaller (linker_of w.world.program loaded) n)
 caller-by w run loaded ms here [] is none each = absurd (none-some here is)
@@ -105,8 +105,8 @@ caller-by w run loaded ms here (f ∷ fs) is none each =
     (λ i at. run.listing.attempts loaded f.version f.method f.place i top.1 top.0 at)
     (tied-there w run f.version f.place))
 
-pub caller-linked : (w : Setup) (ms : List Marker) (parts : Parts) (loaded : List ℕ) (here : Here) → CanRun w → IsSoundIn w (state_of ms parts) → loaded ≡ parts.shared.loaded
-    → here_of parts.frames.frames ≡ Some here → marker_on (length parts.frames.frames) ms ≡ None
+pub caller-linked : (w : Setup) (ms : List Initialization) (parts : Parts) (loaded : List ℕ) (here : Here) → CanRun w → IsSoundIn w (state_of ms parts) → loaded ≡ parts.shared.loaded
+    → here_of parts.frames.frames ≡ Some here → initialization_on (length parts.frames.frames) ms ≡ None
     → IfNamed (line_at w.versions here.version here.place) (λ n next. HasLoadedCaller (linker_of w.world.program loaded) n)
 caller-linked w ms parts loaded here run is linked at none =
     subst (λ l. IfNamed (line_at w.versions here.version here.place) (λ n next. HasLoadedCaller (linker_of w.world.program l) n)) (sym linked)

@@ -32,24 +32,24 @@ use Rattle.jvm_model.proofs.Running.ChangesBetween.{applies-tell}
 use Rattle.jvm_model.proofs.Turns.LoopOfPauses.{paused-move}
 use Rattle.prepared_code.specs.declared.line.Action.TheVariants as action
 use Rattle.prepared_code.specs.declared.line.Line.{Line}
-use Rattle.prepared_code.specs.declared.markers.Marker.{Marker}
+use Rattle.prepared_code.specs.declared.initializations.Initialization.{Initialization}
 use Rattle.prepared_code.specs.declared.parts.Parts.{Parts}
 use Rattle.jvm_steps.specs.Instructions.Acts.{acts, acts_by, acts_named, attempts_line, attempts_on, awaited, awaited_by, awaited_in, awaited_on, goes_on_in}
 use Rattle.prepared_code.specs.Lines.{action_of, local_action}
-use Rattle.prepared_code.specs.Markers.{initializing, marker_on, stack_of, state_of}
+use Rattle.prepared_code.specs.Initializations.{initializing_entry, initialization_on, stack_of, state_of}
 use Rattle.prepared_code.specs.Ready.{CanRun, IsSoundIn, IsTied}
 use Rattle.prepared_code.specs.States.{active, frame_in}
 use Rattle.jvm_steps.specs.Moves.Turning.{loads_in, loads_none, pause_at}
 use Rattle.jvm_steps.specs.Moves.Trying.{is_return_line, leaves_at, leaves_in, pause_behind_attempt, returns_by, tried_in, tries_again}
 use Rattle.prepared_code.specs.Versions.{Setup, instruction_by, line_at, listing_of, mark_of}
 use Rattle.jvm_steps.proofs.Loads.ActsLoad.{named-loads}
-use Rattle.jvm_steps.proofs.Marked.Behind.{sound-again, unmarked-again}
-use Rattle.prepared_code.proofs.MarkedStacks.{length-active}
+use Rattle.jvm_steps.proofs.Initializing.Behind.{sound-again, executing-again}
+use Rattle.prepared_code.proofs.InitializingStacks.{length-active}
 use Rattle.jvm_steps.proofs.Moves.Followed.{followed-loaded}
 use Rattle.jvm_steps.proofs.Instructions.InitializerFrames.{live-of}
 use Rattle.jvm_steps.proofs.Instructions.LineActs.{awaits-named, readied, steps-as, viewed}
 use Rattle.jvm_steps.proofs.Moves.LineSteps.{IsGoing, behind, going-on, stack-again, none-of, top-frame}
-use Rattle.prepared_code.proofs.MarkedStacks.{stack-empty, stack-on}
+use Rattle.prepared_code.proofs.InitializingStacks.{stack-empty, stack-on}
 use Rattle.prepared_code.proofs.Tied.{Tie, tied-there}
 
 -- ---- what an operation loads
@@ -326,7 +326,7 @@ pub no-classes : (classes : List ℕ) → (length classes == 0) ≡ true → cla
 no-classes [] is = refl
 no-classes (c ∷ more) is = let same : suc (length more) ≡ 0 = eqb-true (suc (length more)) 0 is in absurd (omega arith)
 
-module _ (w : Setup) (run : CanRun w) (ms : List Marker) (p : Parts) (goes : goes_on_in ms p ≡ true) (n live : ℕ)
+module _ (w : Setup) (run : CanRun w) (ms : List Initialization) (p : Parts) (goes : goes_on_in ms p ≡ true) (n live : ℕ)
     (is_live : live ≡ length p.frames.frames) (none : loads_none w (state_of ms p) ≡ true) (o : Option ℕ) (answer : o ≡ awaited_in w (state_of ms p))
     (mid : State) (attempted : mid ≡ attempts_on w (state_of ms p) (state_of ms p).stack) where
   abbrev s : State
@@ -374,7 +374,7 @@ module _ (w : Setup) (run : CanRun w) (ms : List Marker) (p : Parts) (goes : goe
 
 -- ---- before an attempt
 
-module _ (w : Setup) (told : Bool) (n : ℕ) (ms : List Marker) (p : Parts) where
+module _ (w : Setup) (told : Bool) (n : ℕ) (ms : List Initialization) (p : Parts) where
   abbrev before : State
   before = state_of ms p
 
@@ -382,19 +382,19 @@ module _ (w : Setup) (told : Bool) (n : ℕ) (ms : List Marker) (p : Parts) wher
   IsStopped s es = (stack_pause w.world (listing_of w.versions) (mark_of w.versions) told n s None es ≡ pause_at s n Nothing) × (loads_on w.world (listing_of w.versions) s None es ≡ [])
 
   -- where no frame goes on
-  stopped-by : (s : State) (ending : Option Ending) (fs : List PlacedFrame) → (is_none ending && (has_frame fs && is_none (marker_on (length fs) ms))) ≡ false
+  stopped-by : (s : State) (ending : Option Ending) (fs : List PlacedFrame) → (is_none ending && (has_frame fs && is_none (initialization_on (length fs) ms))) ≡ false
       → (stack_pause w.world (listing_of w.versions) (mark_of w.versions) told n s ending (stack_of (map active fs) ms) ≡ pause_at s n Nothing)
       × (loads_on w.world (listing_of w.versions) s ending (stack_of (map active fs) ms) ≡ [])
   stopped-by s (Some e) fs is = (refl, refl)
   stopped-by s None [] is = subst (IsStopped s) (sym (stack-empty ms)) (by ms) where
-    by : (all : List Marker) → IsStopped s (map initializing all)
+    by : (all : List Initialization) → IsStopped s (map initializing_entry all)
     by [] = (refl, refl)
     by (m ∷ all) = (refl, refl)
-  stopped-by s None (f ∷ fs) is = by (marker_on (length (f ∷ fs)) ms) refl is where
-    by : (o : Option Marker) → marker_on (length (f ∷ fs)) ms ≡ o → is_none o ≡ false → IsStopped s (stack_of (map active (f ∷ fs)) ms)
+  stopped-by s None (f ∷ fs) is = by (initialization_on (length (f ∷ fs)) ms) refl is where
+    by : (o : Option Initialization) → initialization_on (length (f ∷ fs)) ms ≡ o → is_none o ≡ false → IsStopped s (stack_of (map active (f ∷ fs)) ms)
     by None e isnt = absurd (false≢true (sym isnt))
     by (Some m) e isnt =
-        let on = stack-on (map active (f ∷ fs)) ms m (ap (λ k. marker_on k ms) (length-active (f ∷ fs)) ∙ e) in
+        let on = stack-on (map active (f ∷ fs)) ms m (ap (λ k. initialization_on k ms) (length-active (f ∷ fs)) ∙ e) in
         subst (IsStopped s) (sym on.1) (refl, refl)
 
   pub stopped-pause : goes_on_in ms p ≡ false → pause_at before n Nothing ≡ tried_in w told n before
@@ -408,7 +408,7 @@ module _ (w : Setup) (told : Bool) (n : ℕ) (ms : List Marker) (p : Parts) wher
     on_top = going-on ms p goes
 
     -- the frame that stands on top
-    leaves-by : (ending : Option Ending) (fs : List PlacedFrame) → (is_none ending && (has_frame fs && is_none (marker_on (length fs) ms))) ≡ true
+    leaves-by : (ending : Option Ending) (fs : List PlacedFrame) → (is_none ending && (has_frame fs && is_none (initialization_on (length fs) ms))) ≡ true
         → (g : Frame) (rest : List Entry) → stack_of (map active fs) ms ≡ Active g ∷ rest → leaves_in w fs ≡ leaves_at w g.version g.place
     leaves-by (Some e) fs is g rest top = absurd (false≢true is)
     leaves-by None [] is g rest top = absurd (false≢true is)
@@ -433,11 +433,11 @@ module _ (w : Setup) (told : Bool) (n : ℕ) (ms : List Marker) (p : Parts) wher
 
 -- ---- an attempt in two parts that was made
 
-module _ (w v : Setup) (same_world : v ≡ w) (run : CanRun w) (ms : List Marker) (p : Parts) (goes : goes_on_in ms p ≡ true) (n live : ℕ)
+module _ (w v : Setup) (same_world : v ≡ w) (run : CanRun w) (ms : List Initialization) (p : Parts) (goes : goes_on_in ms p ≡ true) (n live : ℕ)
     (is_live : live ≡ length p.frames.frames) (made : Option (Option ℕ)) (o : Option ℕ) (is_made : made ≡ Some o) (mid : State)
     (some : is_some made ≡ loads_none w (state_of ms p)) (answers : IfSome made (λ a. a ≡ awaited_in w (state_of ms p)))
     (attempts : IfSome made (λ a. mid ≡ attempts_on w (state_of ms p) (state_of ms p).stack))
-    (ms_then : List Marker) (then_there : Parts) (passed : ℕ) (due : Due)
+    (ms_then : List Initialization) (then_there : Parts) (passed : ℕ) (due : Due)
     (reaches : pause_at (state_of ms_then then_there) passed due ≡ pause_behind_attempt v live n mid) where
   abbrev start : State
   start = state_of ms p
@@ -473,8 +473,8 @@ module _ (w v : Setup) (same_world : v ≡ w) (run : CanRun w) (ms : List Marker
           subst (λ u. IsSoundIn u (state_of ms_then then_there)) (sym same_world)
           (sound-again w run ms p goes o c answer-is is mid line-attempted ms_then then_there settles sound)
 
-      pub line-unmarked : marker_on (length then_there.frames.frames) ms_then ≡ None
-      line-unmarked = unmarked-again w run ms p goes o c answer-is is mid line-attempted ms_then then_there settles (again-ready n c q again)
+      pub line-executing : initialization_on (length then_there.frames.frames) ms_then ≡ None
+      line-executing = executing-again w run ms p goes o c answer-is is mid line-attempted ms_then then_there settles (again-ready n c q again)
 
       pub line-twice : (r : Pause) → r ≡ pause_behind_attempt v live passed (attempts_on v (state_of ms_then then_there) (state_of ms_then then_there).stack)
           → r ≡ tried_in w true n start

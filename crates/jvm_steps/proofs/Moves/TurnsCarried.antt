@@ -1,4 +1,4 @@
--- A move of frames is the same beneath their markers: what it changes, and what is due by it.
+-- A move of frames is the same beneath their initializations: what it changes, and what is due by it.
 use Rattle.std.proofs.Common.{◌≡◌, ℕ, suc, Bool, List, [], ◌∷◌, ◌++◌, length, map, Option, Some, None, refl, sym, ap, ap₂, subst, ◌∙◌}
 use Rattle.std.proofs.lemmas.Option.{none-some}
 use Rattle.std.specs.Prelude.{drop, is_some, IfOk, Result}
@@ -18,34 +18,34 @@ use Rattle.jvm_model.specs.Running.Moves.{caught, handler_for, moves}
 use Rattle.jvm_model.specs.Basis.SharedState.{class_of}
 use Rattle.jvm_model.specs.Turns.Told.{Held, held_by, helds, mark_now}
 use Rattle.jvm_model.specs.Turns.Pauses.{changes_due}
-use Rattle.prepared_code.specs.declared.markers.Marker.{Marker}
+use Rattle.prepared_code.specs.declared.initializations.Initialization.{Initialization}
 use Rattle.prepared_code.specs.declared.parts.Here.{Here}
 use Rattle.prepared_code.specs.declared.parts.Parts.{Parts}
-use Rattle.prepared_code.specs.Markers.{initializing, marker_on, above, beneath, stack_of, state_of, with_markers}
+use Rattle.prepared_code.specs.Initializations.{initializing_entry, initialization_on, above, beneath, stack_of, state_of, with_initializations}
 use Rattle.jvm_steps.specs.Moves.Settling.{after_move}
 use Rattle.jvm_steps.specs.declared.turns.turning.Moved.{Moved}
 use Rattle.prepared_code.specs.States.{active, frame_in, here_of, state_in}
 use Rattle.jvm_steps.specs.Moves.Turning.{changes_of, due_by, found_move, moved_as, moved_if, moved_to, state_by}
 use Rattle.prepared_code.specs.Versions.{Setup, listing_of, mark_of}
-use Rattle.jvm_steps.proofs.Marked.Carried.{IsCarried, move-carried}
-use Rattle.prepared_code.proofs.MarkedStacks.{length-active}
+use Rattle.jvm_steps.proofs.Initializing.Carried.{IsCarried, move-carried}
+use Rattle.prepared_code.proofs.InitializingStacks.{length-active}
 use Rattle.jvm_steps.proofs.Moves.LineSteps.{top-frame}
-use Rattle.prepared_code.proofs.MarkedStacks.{none-left, stack-empty, stack-frame}
+use Rattle.prepared_code.proofs.InitializingStacks.{none-left, stack-empty, stack-frame}
 
--- ---- the live activations do not see the markers
+-- ---- the live activations do not see the initializations
 
 module _ (v : ℕ → Mark) where
-  held-behind : (ms : List Marker) (es : List Entry) → helds v (map initializing ms ++ es) ≡ helds v es
+  held-behind : (ms : List Initialization) (es : List Entry) → helds v (map initializing_entry ms ++ es) ≡ helds v es
   held-behind [] es = refl
   held-behind (m ∷ ms) es = held-behind ms es
 
-  held-markers : (ms : List Marker) → helds v (map initializing ms) ≡ []
-  held-markers [] = refl
-  held-markers (m ∷ ms) = held-markers ms
+  held-initializing : (ms : List Initialization) → helds v (map initializing_entry ms) ≡ []
+  held-initializing [] = refl
+  held-initializing (m ∷ ms) = held-initializing ms
 
-  pub held-stack : (es : List Entry) (ms : List Marker) → helds v (stack_of es ms) ≡ helds v es
+  pub held-stack : (es : List Entry) (ms : List Initialization) → helds v (stack_of es ms) ≡ helds v es
   unfolding stack_of above beneath
-  held-stack [] ms = held-markers ms
+  held-stack [] ms = held-initializing ms
   held-stack (Active f ∷ es) ms =
       held-behind (above (suc (length es)) ms) (Active f ∷ stack_of es (beneath (suc (length es)) ms))
       ∙ ap (λ more. let all : List Held = held_by v f ∷ more in all) (held-stack es (beneath (suc (length es)) ms))
@@ -55,7 +55,7 @@ module _ (v : ℕ → Mark) where
 
 -- ---- what a move changes
 
-module _ (ms : List Marker) (w : Setup) (begun : Bool) (shared : Shared) (output : List ℕ) where
+module _ (ms : List Initialization) (w : Setup) (begun : Bool) (shared : Shared) (output : List ℕ) where
   abbrev t : Listing
   t = listing_of w.versions
 
@@ -70,27 +70,27 @@ module _ (ms : List Marker) (w : Setup) (begun : Bool) (shared : Shared) (output
   caught-changes x y r f None = refl
   caught-changes x y r f (Some target) = refl
 
-  changes-carried : (fs : List PlacedFrame) (thrown : Option ℕ) (ending : Option Ending) → marker_on (length (map active fs)) ms ≡ None
+  changes-carried : (fs : List PlacedFrame) (thrown : Option ℕ) (ending : Option Ending) → initialization_on (length (map active fs)) ms ≡ None
       → AreSame (map active fs) (stack_of (map active fs) ms) thrown ending
   changes-carried fs thrown (Some e) none = refl
   changes-carried [] (Some r) None none =
-      subst (λ all. AreSame [] all (Some r) None) (sym (stack-empty ms ∙ ap (map initializing) (none-left ms none))) refl
+      subst (λ all. AreSame [] all (Some r) None) (sym (stack-empty ms ∙ ap (map initializing_entry) (none-left ms none))) refl
   changes-carried (f ∷ fs) (Some r) None none =
       subst (λ all. AreSame (map active (f ∷ fs)) all (Some r) None) (sym (stack-frame (active f) (map active fs) ms none))
       (caught-changes _ _ r (frame_in f) (handler_for w.world (class_of w.world.program shared r) f.place (t.handlers f.version)))
   changes-carried [] None None none =
-      subst (λ all. AreSame [] all None None) (sym (stack-empty ms ∙ ap (map initializing) (none-left ms none))) refl
+      subst (λ all. AreSame [] all None None) (sym (stack-empty ms ∙ ap (map initializing_entry) (none-left ms none))) refl
   changes-carried (f ∷ fs) None None none =
       subst (λ all. AreSame (map active (f ∷ fs)) all None None) (sym (stack-frame (active f) (map active fs) ms none)) refl
 
--- ---- the move beneath the markers
+-- ---- the move beneath the initializations
 
-module _ (ms : List Marker) (w : Setup) (p : Parts) (none : marker_on (length p.frames.frames) ms ≡ None) where
+module _ (ms : List Initialization) (w : Setup) (p : Parts) (none : initialization_on (length p.frames.frames) ms ≡ None) where
   carried : IsCarried ms w (state_in p)
   carried = move-carried ms w p none
 
   same-changes : changes_of (found_move w (state_in p)) ≡ changes_of (found_move w (state_of ms p))
-  same-changes = changes-carried ms w p.begun p.shared p.output p.frames.frames p.thrown p.ending (ap (λ n. marker_on n ms) (length-active p.frames.frames) ∙ none)
+  same-changes = changes-carried ms w p.begun p.shared p.output p.frames.frames p.thrown p.ending (ap (λ n. initialization_on n ms) (length-active p.frames.frames) ∙ none)
 
   same-due : due_by w (state_in p) (changes_of (found_move w (state_in p))) ≡ due_by w (state_of ms p) (changes_of (found_move w (state_of ms p)))
   same-due =
@@ -102,32 +102,32 @@ module _ (ms : List Marker) (w : Setup) (p : Parts) (none : marker_on (length p.
       ∙ (ap (λ cs. moved_if (is_some (found_move w (state_of ms p))) cs (due_by w (state_in p) (changes_of (found_move w (state_in p))))) same-changes
       ∙ ap (moved_if (is_some (found_move w (state_of ms p))) (changes_of (found_move w (state_of ms p)))) same-due)
 
-  by-due : (x y : State) (d : Due) → with_markers ms x ≡ y → with_markers ms (state_by (state_in p) x d) ≡ state_by (state_of ms p) y d
+  by-due : (x y : State) (d : Due) → with_initializations ms x ≡ y → with_initializations ms (state_by (state_in p) x d) ≡ state_by (state_of ms p) y d
   by-due x y Nothing e = e
   by-due x y (Ends k) e = refl
   by-due x y Begins e = e
 
-  pub moved-to-carried : with_markers ms (moved_to w (state_in p)) ≡ moved_to w (state_of ms p)
+  pub moved-to-carried : with_initializations ms (moved_to w (state_in p)) ≡ moved_to w (state_of ms p)
   moved-to-carried =
       by-due (after_move w (state_in p)) (after_move w (state_of ms p)) (due_by w (state_in p) (changes_of (found_move w (state_in p)))) carried.moved
       ∙ ap (state_by (state_of ms p) (after_move w (state_of ms p))) same-due
 
   -- of the parts that a move of the frames has left
-  pub carried-to : (ns : List Marker) (after : Parts) → ns ≡ ms → state_in after ≡ moved_to w (state_in p) → state_of ns after ≡ moved_to w (state_of ms p)
-  carried-to ns after same e = ap (λ all. state_of all after) same ∙ (ap (with_markers ms) e ∙ moved-to-carried)
+  pub carried-to : (ns : List Initialization) (after : Parts) → ns ≡ ms → state_in after ≡ moved_to w (state_in p) → state_of ns after ≡ moved_to w (state_of ms p)
+  carried-to ns after same e = ap (λ all. state_of all after) same ∙ (ap (with_initializations ms) e ∙ moved-to-carried)
 
   pub carried-as : {A : Type 0} (result : Result Moved A) → IfOk result (λ m. m ≡ moved_as w (state_in p)) → IfOk result (λ m. m ≡ moved_as w (state_of ms p))
   carried-as result e = subst (λ x. IfOk result (λ m. m ≡ x)) moved-as-carried e
 
 -- ---- the current frame is taken off
 
-module _ (ms : List Marker) (p : Parts) (new : FramesView) where
-  popped-by : (fs : List PlacedFrame) (room : Option ℕ) (here : Here) → here_of fs ≡ Some here → marker_on (length fs) ms ≡ None
+module _ (ms : List Initialization) (p : Parts) (new : FramesView) where
+  popped-by : (fs : List PlacedFrame) (room : Option ℕ) (here : Here) → here_of fs ≡ Some here → initialization_on (length fs) ms ≡ None
       → stack_of (map active (rest_of fs room).frames) ms ≡ drop 1 (stack_of (map active fs) ms)
   popped-by [] room here some none = absurd (none-some here some)
   popped-by (f ∷ fs) room here some none = sym (ap (drop 1) (top-frame ms f fs none))
 
-  pub popped-there : (here : Here) → here_of p.frames.frames ≡ Some here → marker_on (length p.frames.frames) ms ≡ None → new ≡ without_frame p.frames
+  pub popped-there : (here : Here) → here_of p.frames.frames ≡ Some here → initialization_on (length p.frames.frames) ms ≡ None → new ≡ without_frame p.frames
       → state_of ms (record p { frames = new }) ≡ popped (state_of ms p)
   popped-there here some none left =
       ap (λ (x : FramesView). state_of ms (record p { frames = x })) left

@@ -21,14 +21,14 @@ use Rattle.jvm_model.specs.Basis.SharedState.{class_of, null_pointer, throwable}
 use Rattle.jvm_model.specs.Classes.Lookup.{is_below, is_subtype}
 use Rattle.jvm_model.specs.Running.Moves.{handler_for}
 use Rattle.jvm_model.specs.Basis.Programs.{class_named, has_name, name_at, name_of}
-use Rattle.prepared_code.specs.declared.markers.Marker.{Marker}
+use Rattle.prepared_code.specs.declared.initializations.Initialization.{Initialization}
 use Rattle.prepared_code.specs.declared.parts.Here.{Here}
 use Rattle.prepared_code.specs.declared.parts.Parts.{Parts}
 use Rattle.jvm_steps.specs.Instructions.Passing.{caller_target, caught_back, caught_if, fits_caught}
 use Rattle.jvm_steps.specs.Moves.Settling.{with_alone}
 use Rattle.prepared_code.specs.Versions.{Setup, listing_of}
 use Rattle.method_versions.specs.Tables.{is_superseded_in}
-use Rattle.prepared_code.specs.Markers.{marker_on}
+use Rattle.prepared_code.specs.Initializations.{initialization_on}
 use Rattle.jvm_steps.specs.Instructions.Passing.{CatchesBelow}
 use Rattle.prepared_code.specs.Versions.{mark_of}
 
@@ -53,14 +53,14 @@ caller-catches w class (f ∷ []) version place is = absurd (none-some (version,
 caller-catches w class (f ∷ g ∷ fs) version place is =
     ap (λ (at : ℕ × ℕ). handler_for w.world class at.1 ((listing_of w.versions).handlers at.0)) (same_Some (g.version, g.place) (version, place) is)
 
-pub catches-there : (w : Setup) (ms : List Marker) (here : Here) (fs : List PlacedFrame) (class version place : ℕ) (o : Option ℕ)
+pub catches-there : (w : Setup) (ms : List Initialization) (here : Here) (fs : List PlacedFrame) (class version place : ℕ) (o : Option ℕ)
     → o ≡ handler_for w.world class place ((listing_of w.versions).handlers version) → caller_of fs ≡ Some (version, place)
-    → handler_for w.world class here.place ((listing_of w.versions).handlers here.version) ≡ None → marker_on (length fs - 1) ms ≡ None
+    → handler_for w.world class here.place ((listing_of w.versions).handlers here.version) ≡ None → initialization_on (length fs - 1) ms ≡ None
     → mark_of w.versions here.version ≡ Off → is_superseded_in w.versions.slots w.versions.current here.version ≡ false
     → IfSome o (λ target. CatchesBelow w ms here fs class target)
-catches-there w ms here fs class version place None is stands own unmarked off current = tt
-catches-there w ms here fs class version place (Some target) is stands own unmarked off current =
-    record { own = own; caller = caller-catches w class fs version place stands ∙ sym is; unmarked = unmarked; off = off; current = current }
+catches-there w ms here fs class version place None is stands own executing off current = tt
+catches-there w ms here fs class version place (Some target) is stands own executing off current =
+    record { own = own; caller = caller-catches w class fs version place stands ∙ sym is; executing = executing; off = off; current = current }
 
 -- ---- the frames
 

@@ -4,9 +4,9 @@ use Rattle.std.specs.Prelude.{is_some}
 use Rattle.std.proofs.lemmas.Bool.{cases_lt}
 use Rattle.jvm_model.specs.declared.state.State.{State}
 use Rattle.jvm_model.specs.Running.Run.{step}
-use Rattle.prepared_code.specs.declared.markers.Marker.{Marker}
+use Rattle.prepared_code.specs.declared.initializations.Initialization.{Initialization}
 use Rattle.prepared_code.specs.declared.parts.Parts.{Parts}
-use Rattle.prepared_code.specs.Markers.{marker_on, state_of}
+use Rattle.prepared_code.specs.Initializations.{initialization_on, state_of}
 use Rattle.prepared_code.specs.Runs.{AreQuiet, IsCalm, Leads, LeadsAlone, steps_from, steps_from-zero, steps_from-suc}
 use Rattle.prepared_code.specs.Versions.{Setup, listing_of}
 
@@ -82,11 +82,11 @@ module _ (w : Setup) where
     quiet = λ ms calm k less. absurd (omega arith);
   }
 
-  still-calm : (old mid : Parts) (n : ℕ) → LeadsAlone w old n mid → (ms : List Marker) → IsCalm (length old.frames.frames) ms old → IsCalm (length mid.frames.frames) ms mid
+  still-calm : (old mid : Parts) (n : ℕ) → LeadsAlone w old n mid → (ms : List Initialization) → IsCalm (length old.frames.frames) ms old → IsCalm (length mid.frames.frames) ms mid
   still-calm old mid n first ms calm = record {
     ending = first.ending ∙ calm.ending;
     thrown = first.thrown ∙ calm.thrown;
-    unmarked = ap (λ k. marker_on k ms) first.many ∙ calm.unmarked;
+    executing = ap (λ k. initialization_on k ms) first.many ∙ calm.executing;
   }
 
   pub alone-on : (old mid new : Parts) (n m : ℕ) → LeadsAlone w old n mid → LeadsAlone w mid m new → LeadsAlone w old (n + m) new

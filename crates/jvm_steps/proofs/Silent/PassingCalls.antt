@@ -37,13 +37,13 @@ use Rattle.jvm_named.specs.Names.{symbolic_view}
 use Rattle.jvm_named.specs.Passing.{IsCall}
 use Rattle.prepared_code.specs.declared.line.Action.TheVariants as action
 use Rattle.prepared_code.specs.declared.line.Line.{Line}
-use Rattle.prepared_code.specs.declared.markers.Marker.{Marker}
+use Rattle.prepared_code.specs.declared.initializations.Initialization.{Initialization}
 use Rattle.prepared_code.specs.declared.parts.Here.{Here}
 use Rattle.prepared_code.specs.declared.parts.Parts.{Parts}
 use Rattle.jvm_steps.specs.Instructions.Arguments.{begun_frame, can_begin, with_begun}
 use Rattle.jvm_steps.specs.Instructions.Asked.{concluded, done_top}
 use Rattle.jvm_steps.specs.Instructions.Invoking.{called, may_begin}
-use Rattle.prepared_code.specs.Markers.{marker_on, stack_of, state_of, with_markers}
+use Rattle.prepared_code.specs.Initializations.{initialization_on, stack_of, state_of, with_initializations}
 use Rattle.jvm_steps.specs.Instructions.Passing.{AreKeptBy, Passes, on_frames, runs, steps_if}
 use Rattle.prepared_code.specs.Ready.{CanRun}
 use Rattle.jvm_steps.specs.Moves.Calmly.{Attempted, TriesCalmly, TriesIf}
@@ -56,7 +56,7 @@ use Rattle.jvm_steps.proofs.Instructions.Arguments.{height-reverse, length-slots
 use Rattle.jvm_steps.proofs.Instructions.Callees.{live-is, same-length}
 use Rattle.jvm_steps.proofs.Silent.Leading.{leads-one}
 use Rattle.jvm_steps.proofs.Moves.LineSteps.{top-frame}
-use Rattle.prepared_code.proofs.MarkedStacks.{live-stack, none-more}
+use Rattle.prepared_code.proofs.InitializingStacks.{live-stack, none-more}
 use Rattle.jvm_steps.proofs.Instructions.NamedLaws.{Asks, Takes, is-named}
 use Rattle.jvm_steps.proofs.Silent.PassingSteps.{follows, is-attempt, is-awaited, is-step, reached, step-turn, under}
 use Rattle.jvm_steps.proofs.Silent.PlainSteps.{at-rest, framed}
@@ -88,7 +88,7 @@ module _ (w : Setup) (m : ℕ) (args : List Datum) (below : Operands) (f : Place
 
 -- ---- at a line
 
-module _ (w : Setup) (run : CanRun w) (ms : List Marker) (here : Here) (line : Line) (kept : Kept) (old : Parts) (stands : here_of old.frames.frames ≡ Some here)
+module _ (w : Setup) (run : CanRun w) (ms : List Initialization) (here : Here) (line : Line) (kept : Kept) (old : Parts) (stands : here_of old.frames.frames ≡ Some here)
     (found : line_at w.versions here.version here.place ≡ Some line) (named : line.action ≡ action.Named kept) (calm : IsCalm (length old.frames.frames) ms old)
     (nothing : newly_loaded w.world.program old.shared.loaded (symbolic_view kept) (top_operands old.frames.frames) ≡ []) (c : Call) where
   abbrev n : SymbolicReference
@@ -101,11 +101,11 @@ module _ (w : Setup) (run : CanRun w) (ms : List Marker) (here : Here) (line : L
   marks = mark_of w.versions
 
   -- no class is loaded
-  loads-none : (fs : List PlacedFrame) → here_of fs ≡ Some here → marker_on (length fs) ms ≡ None → newly_loaded w.world.program old.shared.loaded n (top_operands fs) ≡ []
-      → step_loads w.world t (with_markers ms (state_with fs old)) ≡ []
+  loads-none : (fs : List PlacedFrame) → here_of fs ≡ Some here → initialization_on (length fs) ms ≡ None → newly_loaded w.world.program old.shared.loaded n (top_operands fs) ≡ []
+      → step_loads w.world t (with_initializations ms (state_with fs old)) ≡ []
   loads-none [] is free none = absurd (none-some here is)
   loads-none (f ∷ fs) is free none =
-      let s : State = with_markers ms (state_with (f ∷ fs) old) in
+      let s : State = with_initializations ms (state_with (f ∷ fs) old) in
       let u : State = record s { stack = stack_of (map active fs) ms } in
       let same : record { version = f.version; method = f.method; place = f.place } ≡ here = same_Some _ here is in
       let at : line_at w.versions f.version f.place ≡ Some line = ap (λ (h : Here). line_at w.versions h.version h.place) same ∙ found in
@@ -135,9 +135,9 @@ module _ (w : Setup) (run : CanRun w) (ms : List Marker) (here : Here) (line : L
         stops w.world t (left begun.after) begun
         (with-frame-rests w (with_frame u (record (frame_in f) { operands = below })) (new_frame w.world t c.method args) calm.ending calm.thrown)
 
-  call-changes : (fs : List PlacedFrame) → here_of fs ≡ Some here → marker_on (length fs) ms ≡ None → newly_loaded w.world.program old.shared.loaded n (top_operands fs) ≡ []
+  call-changes : (fs : List PlacedFrame) → here_of fs ≡ Some here → initialization_on (length fs) ms ≡ None → newly_loaded w.world.program old.shared.loaded n (top_operands fs) ≡ []
       → IsCall c (done_top w n old.shared fs) old.shared → may_begin fs ≡ true → can_begin w c.method c.count fs ≡ true
-      → (step w.world t (with_markers ms (state_with fs old))).changes ≡ Began c.method ∷ []
+      → (step w.world t (with_initializations ms (state_with fs old))).changes ≡ Began c.method ∷ []
   call-changes [] is free none call may can = absurd (none-some here is)
   call-changes (f ∷ fs) is free none call may can =
       let d : Done = done_top w n old.shared (f ∷ fs) in
@@ -152,7 +152,7 @@ module _ (w : Setup) (run : CanRun w) (ms : List Marker) (here : Here) (line : L
 
   -- ---- what runs goes on
 
-  keeps-by : (fs : List PlacedFrame) → here_of fs ≡ Some here → marker_on (length fs) ms ≡ None
+  keeps-by : (fs : List PlacedFrame) → here_of fs ≡ Some here → initialization_on (length fs) ms ≡ None
       → AreKeptBy w (stack_of (map active fs) ms) (stack_of (map active (with_begun true w c.method c.count fs)) ms)
   keeps-by [] is free k superseded runs_old = absurd (none-some here is)
   keeps-by (f ∷ fs) is free k superseded runs_old =
@@ -198,31 +198,31 @@ module _ (w : Setup) (run : CanRun w) (ms : List Marker) (here : Here) (line : L
     pub more : length frames.frames ≡ suc (length old.frames.frames)
     more = ap length are ∙ ap suc (length-without old.frames.frames)
 
-    free : marker_on (suc (length old.frames.frames)) ms ≡ None
-    free = none-more (length old.frames.frames) ms calm.unmarked
+    free : initialization_on (suc (length old.frames.frames)) ms ≡ None
+    free = none-more (length old.frames.frames) ms calm.executing
 
     stepped : state_of ms new ≡ (step w.world t (state_of ms old)).after
     stepped =
         is-step w run ms here line kept old stands found named calm nothing (asked.Invokes c.method c.count) answers refl new concludes
-        (at-rest old.ending old.thrown (has_frame frames.frames && is_none (marker_on (length frames.frames) ms)) calm.ending calm.thrown
+        (at-rest old.ending old.thrown (has_frame frames.frames && is_none (initialization_on (length frames.frames) ms)) calm.ending calm.thrown
         (framed (suc (length old.frames.frames)) ms frames.frames free more (ap has_frame are)))
 
     abbrev live : List Held
     live = helds marks (state_of ms old).stack
 
     calm-then : IsCalm (length frames.frames) ms new
-    calm-then = record { ending = calm.ending; thrown = calm.thrown; unmarked = ap (λ k. marker_on k ms) more ∙ free }
+    calm-then = record { ending = calm.ending; thrown = calm.thrown; executing = ap (λ k. initialization_on k ms) more ∙ free }
 
     keeps-then : AreKeptBy w (state_of ms old).stack (state_of ms new).stack
     keeps-then k superseded runs_old =
-        ap (λ fs. runs k (stack_of (map active fs) ms)) are ∙ keeps-by old.frames.frames stands calm.unmarked k superseded runs_old
+        ap (λ fs. runs k (stack_of (map active fs) ms)) are ∙ keeps-by old.frames.frames stands calm.executing k superseded runs_old
 
     -- whatever its version has
     pub call-attempted : Attempted w ms old new
     call-attempted = record {
       calm = calm-then;
       loaded = refl;
-      loads = loads-none old.frames.frames stands calm.unmarked nothing;
+      loads = loads-none old.frames.frames stands calm.executing nothing;
       awaits = is-awaited w run ms here line kept old stands found named calm nothing (asked.Invokes c.method c.count) answers refl;
       made = is-attempt w run ms here line kept old stands found named calm nothing (asked.Invokes c.method c.count) answers refl new concludes;
       keeps = keeps-then;
@@ -234,9 +234,9 @@ module _ (w : Setup) (run : CanRun w) (ms : List Marker) (here : Here) (line : L
       loaded = refl;
       leads = leads-one w (state_of ms old) (state_of ms new) (ap is_some calm.ending) stepped;
       silent = silent-one w (state_of ms old) (record {
-        loads = loads-none old.frames.frames stands calm.unmarked nothing;
+        loads = loads-none old.frames.frames stands calm.executing nothing;
         untold =
-            ap (λ cs. (stop_in (mark_now marks t) 0 live cs).due) (call-changes old.frames.frames stands calm.unmarked nothing call may can)
+            ap (λ cs. (stop_in (mark_now marks t) 0 live cs).due) (call-changes old.frames.frames stands calm.executing nothing call may can)
             ∙ ap (λ (mark : Mark). (stop_by live (record { method = c.method; mark = mark } ∷ live) 0 (unless_off mark Begins)
             (record { live = record { method = c.method; mark = mark } ∷ live; passed = 1; due = Nothing })).due) off;
         keeps = λ k superseded runs_old. ap (λ (z : State). runs k z.stack) (sym stepped) ∙ keeps-then k superseded runs_old;
@@ -246,10 +246,10 @@ module _ (w : Setup) (run : CanRun w) (ms : List Marker) (here : Here) (line : L
   -- where it has not begun the frames are as they were
   pub passes-still : (frames : FramesView) → frames.frames ≡ old.frames.frames → Passes w ms old 0 (on_frames frames old)
   passes-still frames same = record {
-    calm = record { ending = calm.ending; thrown = calm.thrown; unmarked = ap (λ fs. marker_on (length fs) ms) same ∙ calm.unmarked };
+    calm = record { ending = calm.ending; thrown = calm.thrown; executing = ap (λ fs. initialization_on (length fs) ms) same ∙ calm.executing };
     loaded = refl;
     leads = record {
-      made = ap (λ fs. with_markers ms (state_with fs old)) same ∙ sym (steps_from-zero w (state_of ms old));
+      made = ap (λ fs. with_initializations ms (state_with fs old)) same ∙ sym (steps_from-zero w (state_of ms old));
       before = λ k less. absurd (omega arith);
     };
     silent = λ k less. absurd (omega arith);
@@ -273,4 +273,4 @@ module _ (w : Setup) (run : CanRun w) (ms : List Marker) (here : Here) (line : L
       told (current_of w.versions c.method) c.method (no-return w here line old.frames.frames stands found (ap returns_by named)) (ap top_of are)
       (more call (may refl) (can refl) after.frames are) (marked refl))
   called-tries false after call may can marked are same told =
-      ap (state_of ms) same ∙ ap (λ fs. with_markers ms (state_with fs old)) are
+      ap (state_of ms) same ∙ ap (λ fs. with_initializations ms (state_with fs old)) are

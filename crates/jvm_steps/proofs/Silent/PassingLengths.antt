@@ -5,7 +5,7 @@ use Rattle.const_pool.specs.declared.descriptor.Kind.TheVariants as kind
 use Rattle.frame_stack.specs.FrameLists.{PlacedFrame}
 use Rattle.prepared_code.specs.declared.line.Action.TheVariants as action
 use Rattle.prepared_code.specs.declared.line.Line.{Line}
-use Rattle.prepared_code.specs.declared.markers.Marker.{Marker}
+use Rattle.prepared_code.specs.declared.initializations.Initialization.{Initialization}
 use Rattle.prepared_code.specs.declared.parts.Here.{Here}
 use Rattle.prepared_code.specs.declared.parts.Parts.{Parts}
 use Rattle.jvm_steps.specs.Instructions.Elements.{IsMeasured}
@@ -17,7 +17,7 @@ use Rattle.prepared_code.specs.Versions.{Setup, line_at}
 use Rattle.jvm_steps.proofs.Instructions.ElementSteps.{StandsAt, length-alone}
 use Rattle.jvm_steps.proofs.Silent.SilentSteps.{passes-alone, passes_none}
 
-module _ (w : Setup) (run : CanRun w) (ms : List Marker) (here : Here) (line : Line) (old new : Parts) where
+module _ (w : Setup) (run : CanRun w) (ms : List Initialization) (here : Here) (line : Line) (old new : Parts) where
   stands-here : (fs : List PlacedFrame) → here_of fs ≡ Some here → line_at w.versions here.version here.place ≡ Some line → StandsAt w fs line
   stands-here [] is found = absurd (none-some here is)
   stands-here (f ∷ fs) is found = ap (λ (h : Here). line_at w.versions h.version h.place) (same_Some _ here is) ∙ found

@@ -28,18 +28,18 @@ use Rattle.jvm_model.specs.Basis.Values.{as_value, with_value}
 use Rattle.jvm_model.proofs.Running.QuietSettles.{stops}
 use Rattle.prepared_code.specs.declared.line.Action.TheVariants as action
 use Rattle.prepared_code.specs.declared.line.Line.{Line}
-use Rattle.prepared_code.specs.declared.markers.Marker.{Marker}
+use Rattle.prepared_code.specs.declared.initializations.Initialization.{Initialization}
 use Rattle.prepared_code.specs.declared.parts.Here.{Here}
 use Rattle.prepared_code.specs.declared.parts.Parts.{Parts}
 use Rattle.jvm_steps.specs.Instructions.Acts.{acts, acts_by, attempts_on, is_named, named_in, on_top, resumes_line, returns_or_ends}
-use Rattle.prepared_code.specs.Markers.{marker_on, stack_of, state_of, with_markers}
+use Rattle.prepared_code.specs.Initializations.{initialization_on, stack_of, state_of, with_initializations}
 use Rattle.jvm_steps.specs.Instructions.Passing.{AreKeptBy, Passes, caller_line, fits_given, gone_back, on_frames, runs}
 use Rattle.prepared_code.specs.Ready.{CanRun}
 use Rattle.jvm_steps.specs.Moves.Calmly.{Attempted}
 use Rattle.prepared_code.specs.Runs.{IsCalm}
 use Rattle.prepared_code.specs.States.{active, frame_in, here_of, state_with}
 use Rattle.prepared_code.specs.Versions.{Setup, instruction_in, line_at, mark_of, next_in, operation_as, listing_of}
-use Rattle.jvm_steps.proofs.Marked.Beneath.{awaits-unnamed, does-beneath, does-there, top-there}
+use Rattle.jvm_steps.proofs.Initializing.Beneath.{awaits-unnamed, does-beneath, does-there, top-there}
 use Rattle.jvm_steps.proofs.Silent.Leading.{leads-one}
 use Rattle.jvm_steps.proofs.Moves.LineSteps.{going-on, rests, step-attempts, top-frame}
 use Rattle.jvm_steps.proofs.Silent.PlainSteps.{at-rest, framed, goes as goes-there}
@@ -51,16 +51,16 @@ either true on off = on refl
 either false on off = off refl
 
 -- what the code has found: the result, and where its caller goes on
-pub record GivesBack (w : Setup) (ms : List Marker) (here : Here) (k : Option Kind) (fs : List PlacedFrame) (d : Option Datum) (next : ℕ) : Type 0 where
+pub record GivesBack (w : Setup) (ms : List Initialization) (here : Here) (k : Option Kind) (fs : List PlacedFrame) (d : Option Datum) (next : ℕ) : Type 0 where
   pub result : returns k (top_operands fs) ≡ Returns d
   pub caller : Line
   pub stands : caller_line w.versions fs ≡ Some caller
   pub goes_on : next_in caller ≡ Some next
   pub holds : fits_given (option_map as_value d) fs ≡ true
-  pub unmarked : marker_on (length fs - 1) ms ≡ None
+  pub executing : initialization_on (length fs - 1) ms ≡ None
   pub current : is_superseded_in w.versions.slots w.versions.current here.version ≡ false
 
-module _ (w : Setup) (run : CanRun w) (ms : List Marker) (here : Here) (line : Line) (k : Option Kind) (old : Parts) (stands : here_of old.frames.frames ≡ Some here)
+module _ (w : Setup) (run : CanRun w) (ms : List Initialization) (here : Here) (line : Line) (k : Option Kind) (old : Parts) (stands : here_of old.frames.frames ≡ Some here)
     (found : line_at w.versions here.version here.place ≡ Some line) (ends : line.action ≡ action.Return k) (calm : IsCalm (length old.frames.frames) ms old)
     (d : Option Datum) (next : ℕ) where
   abbrev t : Listing
@@ -105,13 +105,13 @@ module _ (w : Setup) (run : CanRun w) (ms : List Marker) (here : Here) (line : L
 
   -- without the caller's frame
   abbrev beneath_caller : List PlacedFrame → State
-  beneath_caller fs = record (with_markers ms (state_with fs old)) { output = old.output ++ [] }
+  beneath_caller fs = record (with_initializations ms (state_with fs old)) { output = old.output ++ [] }
 
-  -- no marker stands on the caller
-  on-caller : (f g : PlacedFrame) (fs : List PlacedFrame) → marker_on (length (f ∷ g ∷ fs) - 1) ms ≡ None → marker_on (length (g ∷ fs)) ms ≡ None
+  -- no initialization stands on the caller
+  on-caller : (f g : PlacedFrame) (fs : List PlacedFrame) → initialization_on (length (f ∷ g ∷ fs) - 1) ms ≡ None → initialization_on (length (g ∷ fs)) ms ≡ None
   on-caller f g fs none =
       let same : length (g ∷ fs) ≡ length (f ∷ g ∷ fs) - 1 = omega arith in
-      ap (λ n. marker_on n ms) same ∙ none
+      ap (λ n. initialization_on n ms) same ∙ none
 
   gives-rests : (f g : PlacedFrame) (fs : List PlacedFrame) → GivesBack w ms here k (f ∷ g ∷ fs) d next
       → move w.world t (gives_back t (beneath_caller (g ∷ fs)) d (stack_of (map active (g ∷ fs)) ms)) ≡ None
@@ -119,18 +119,18 @@ module _ (w : Setup) (run : CanRun w) (ms : List Marker) (here : Here) (line : L
       let u : State = beneath_caller (g ∷ fs) in
       let under : State = record u { stack = stack_of (map active fs) ms } in
       ap (move w.world t)
-      (ap (gives_back t u d) (top-frame ms g fs (on-caller f g fs is.unmarked))
+      (ap (gives_back t u d) (top-frame ms g fs (on-caller f g fs is.executing))
       ∙ (ap (λ x. resumes under (frame_in g) d (option_map instruction_in x)) is.stands
       ∙ ap (goes under (frame_in g) is.caller.instr.at g.locals (with_value (option_map as_value d) g.operands)) is.goes_on))
       ∙ goes-rests w under (frame_in g) is.caller.instr.at g.locals (with_value (option_map as_value d) g.operands) (Some next) calm.ending calm.thrown
 
-  return-changes : (fs : List PlacedFrame) → here_of fs ≡ Some here → marker_on (length fs) ms ≡ None → GivesBack w ms here k fs d next
-      → (step w.world t (with_markers ms (state_with fs old))).changes ≡ Left ∷ []
+  return-changes : (fs : List PlacedFrame) → here_of fs ≡ Some here → initialization_on (length fs) ms ≡ None → GivesBack w ms here k fs d next
+      → (step w.world t (with_initializations ms (state_with fs old))).changes ≡ Left ∷ []
   return-changes [] here_is free is = absurd (false≢true is.holds)
   return-changes (f ∷ []) here_is free is = absurd (false≢true is.holds)
   return-changes (f ∷ g ∷ fs) here_is free is =
-      let s : State = with_markers ms (state_with (f ∷ g ∷ fs) old) in
-      let u : State = with_markers ms (state_with (g ∷ fs) old) in
+      let s : State = with_initializations ms (state_with (f ∷ g ∷ fs) old) in
+      let u : State = with_initializations ms (state_with (g ∷ fs) old) in
       let i : Instruction = instruction_in line in
       let same : record { version = f.version; method = f.method; place = f.place } ≡ here = same_Some _ here here_is in
       let at : line_at w.versions f.version f.place ≡ Some line = ap (λ (h : Here). line_at w.versions h.version h.place) same ∙ found in
@@ -144,10 +144,10 @@ module _ (w : Setup) (run : CanRun w) (ms : List Marker) (here : Here) (line : L
       ∙ stops w.world t (left gone.after) gone (gives-rests f g fs is))))))
 
   -- no class is loaded
-  loads-none : (fs : List PlacedFrame) → here_of fs ≡ Some here → marker_on (length fs) ms ≡ None → step_loads w.world t (with_markers ms (state_with fs old)) ≡ []
+  loads-none : (fs : List PlacedFrame) → here_of fs ≡ Some here → initialization_on (length fs) ms ≡ None → step_loads w.world t (with_initializations ms (state_with fs old)) ≡ []
   loads-none [] here_is free = absurd (none-some here here_is)
   loads-none (f ∷ fs) here_is free =
-      let s : State = with_markers ms (state_with (f ∷ fs) old) in
+      let s : State = with_initializations ms (state_with (f ∷ fs) old) in
       let u : State = record s { stack = stack_of (map active fs) ms } in
       let same : record { version = f.version; method = f.method; place = f.place } ≡ here = same_Some _ here here_is in
       let at : line_at w.versions f.version f.place ≡ Some line = ap (λ (h : Here). line_at w.versions h.version h.place) same ∙ found in
@@ -158,7 +158,7 @@ module _ (w : Setup) (run : CanRun w) (ms : List Marker) (here : Here) (line : L
 
   -- ---- what is told, and what runs
 
-  due-by : (fs : List PlacedFrame) → here_of fs ≡ Some here → marker_on (length fs) ms ≡ None → marks here.version ≡ Off
+  due-by : (fs : List PlacedFrame) → here_of fs ≡ Some here → initialization_on (length fs) ms ≡ None → marks here.version ≡ Off
       → (stop_in (mark_now marks t) 0 (helds marks (stack_of (map active fs) ms)) (Left ∷ [])).due ≡ Nothing
   due-by [] here_is free off = absurd (none-some here here_is)
   due-by (f ∷ fs) here_is free off =
@@ -169,20 +169,20 @@ module _ (w : Setup) (run : CanRun w) (ms : List Marker) (here : Here) (line : L
       ∙ ap (λ (mark : Mark). (stop_by (record { method = f.method; mark = mark } ∷ more) more 0 (unless_off mark (Ends kind.Leave))
       (record { live = more; passed = 1; due = Nothing })).due) mine
 
-  keeps-by : (fs : List PlacedFrame) → here_of fs ≡ Some here → marker_on (length fs) ms ≡ None → GivesBack w ms here k fs d next
+  keeps-by : (fs : List PlacedFrame) → here_of fs ≡ Some here → initialization_on (length fs) ms ≡ None → GivesBack w ms here k fs d next
       → AreKeptBy w (stack_of (map active fs) ms) (stack_of (map active (back fs)) ms)
   keeps-by [] here_is free is version superseded runs_old = absurd (false≢true is.holds)
   keeps-by (f ∷ []) here_is free is version superseded runs_old = absurd (false≢true is.holds)
   keeps-by (f ∷ g ∷ fs) here_is free is version superseded runs_old =
       let same : record { version = f.version; method = f.method; place = f.place } ≡ here = same_Some _ here here_is in
       let rest : List Entry = stack_of (map active fs) ms in
-      let below : stack_of (map active (g ∷ fs)) ms ≡ active g ∷ rest = top-frame ms g fs (on-caller f g fs is.unmarked) in
+      let below : stack_of (map active (g ∷ fs)) ms ≡ active g ∷ rest = top-frame ms g fs (on-caller f g fs is.executing) in
       let g2 : PlacedFrame = record g { place = next; operands = with_value (option_map as_value d) g.operands } in
       let another : (f.version == version) ≡ false = either (f.version == version)
       (λ on. absurd (false≢true (sym is.current ∙ (ap (λ (h : Here). is_superseded_in w.versions.slots w.versions.current h.version) (sym same)
       ∙ (ap (is_superseded_in w.versions.slots w.versions.current) (eqb-true f.version version on) ∙ superseded)))))
       (λ off. off) in
-      ap (runs version) (top-frame ms g2 fs (on-caller f g fs is.unmarked))
+      ap (runs version) (top-frame ms g2 fs (on-caller f g fs is.executing))
       ∙ (sym (ap (runs version) below)
       ∙ (sym (ap (λ b. b || runs version (stack_of (map active (g ∷ fs)) ms)) another)
       ∙ (sym (ap (runs version) (top-frame ms f (g ∷ fs) free)) ∙ runs_old)))
@@ -196,36 +196,36 @@ module _ (w : Setup) (run : CanRun w) (ms : List Marker) (here : Here) (line : L
     unnamed : is_named line.action ≡ false
     unnamed = ap is_named ends
 
-    free : marker_on (length frames.frames) ms ≡ None
-    free = ap (λ n. marker_on n ms) (ap length are ∙ one-less old.frames.frames is) ∙ is.unmarked
+    free : initialization_on (length frames.frames) ms ≡ None
+    free = ap (λ n. initialization_on n ms) (ap length are ∙ one-less old.frames.frames is) ∙ is.executing
 
     has : has_frame frames.frames ≡ true
     has = ap has_frame are ∙ has-one old.frames.frames is
 
     attempted : state_of ms new ≡ attempts_on w (state_of ms old) (state_of ms old).stack
     attempted =
-        does-beneath w line ms old new here.method old.frames.frames (top-there w ms old here old.frames.frames stands) calm.unmarked unnamed
-        (λ last. is.unmarked) (ap (λ fs. state_with fs old) are ∙ done-by old.frames.frames is)
-        ∙ does-there w ms old line here stands calm.unmarked found
+        does-beneath w line ms old new here.method old.frames.frames (top-there w ms old here old.frames.frames stands) calm.executing unnamed
+        (λ last. is.executing) (ap (λ fs. state_with fs old) are ∙ done-by old.frames.frames is)
+        ∙ does-there w ms old line here stands calm.executing found
 
     stepped : state_of ms new ≡ (step w.world t (state_of ms old)).after
     stepped =
-        let going = going-on ms old (goes-there old.ending (has_frame old.frames.frames && is_none (marker_on (length old.frames.frames) ms)) calm.ending
-        (framed (length old.frames.frames) ms old.frames.frames calm.unmarked refl (had-one old.frames.frames stands))) in
+        let going = going-on ms old (goes-there old.ending (has_frame old.frames.frames && is_none (initialization_on (length old.frames.frames) ms)) calm.ending
+        (framed (length old.frames.frames) ms old.frames.frames calm.executing refl (had-one old.frames.frames stands))) in
         step-attempts w run (state_of ms old) going
-        (awaits-unnamed w ms old here stands calm.unmarked (ap named_in found ∙ unnamed))
+        (awaits-unnamed w ms old here stands calm.executing (ap named_in found ∙ unnamed))
         (state_of ms new) (state_of ms new) attempted
         (rests w t ms new
-        (at-rest old.ending old.thrown (has_frame frames.frames && is_none (marker_on (length frames.frames) ms)) calm.ending calm.thrown
+        (at-rest old.ending old.thrown (has_frame frames.frames && is_none (initialization_on (length frames.frames) ms)) calm.ending calm.thrown
         (framed (length frames.frames) ms frames.frames free refl has)))
 
     calm-then : IsCalm (length frames.frames) ms new
-    calm-then = record { ending = calm.ending; thrown = calm.thrown; unmarked = free }
+    calm-then = record { ending = calm.ending; thrown = calm.thrown; executing = free }
 
     keeps-then : AreKeptBy w (state_of ms old).stack (state_of ms new).stack
     keeps-then version superseded runs_old =
         ap (λ fs. runs version (stack_of (map active fs) ms)) are
-        ∙ keeps-by old.frames.frames stands calm.unmarked is version superseded runs_old
+        ∙ keeps-by old.frames.frames stands calm.executing is version superseded runs_old
 
     -- one frame less, and one is left
     pub fewer : length frames.frames ≡ length old.frames.frames - 1
@@ -239,8 +239,8 @@ module _ (w : Setup) (run : CanRun w) (ms : List Marker) (here : Here) (line : L
     return-attempted = record {
       calm = calm-then;
       loaded = refl;
-      loads = loads-none old.frames.frames stands calm.unmarked;
-      awaits = awaits-unnamed w ms old here stands calm.unmarked (ap named_in found ∙ unnamed);
+      loads = loads-none old.frames.frames stands calm.executing;
+      awaits = awaits-unnamed w ms old here stands calm.executing (ap named_in found ∙ unnamed);
       made = attempted;
       keeps = keeps-then;
     }
@@ -251,10 +251,10 @@ module _ (w : Setup) (run : CanRun w) (ms : List Marker) (here : Here) (line : L
       loaded = refl;
       leads = leads-one w (state_of ms old) (state_of ms new) (ap is_some calm.ending) stepped;
       silent = silent-one w (state_of ms old) (record {
-        loads = loads-none old.frames.frames stands calm.unmarked;
+        loads = loads-none old.frames.frames stands calm.executing;
         untold =
-            ap (λ cs. (stop_in (mark_now marks t) 0 (helds marks (state_of ms old).stack) cs).due) (return-changes old.frames.frames stands calm.unmarked is)
-            ∙ due-by old.frames.frames stands calm.unmarked off;
+            ap (λ cs. (stop_in (mark_now marks t) 0 (helds marks (state_of ms old).stack) cs).due) (return-changes old.frames.frames stands calm.executing is)
+            ∙ due-by old.frames.frames stands calm.executing off;
         keeps = λ version superseded runs_old. ap (λ (z : State). runs version z.stack) (sym stepped) ∙ keeps-then version superseded runs_old;
       });
     }

@@ -27,13 +27,13 @@ use Rattle.jvm_named.specs.Does.{Changed, IsDone, changed}
 use Rattle.jvm_named.specs.Passing.{HasPassed, IfPassed, IfRan}
 use Rattle.prepared_code.specs.declared.line.Action.TheVariants as action
 use Rattle.prepared_code.specs.declared.line.Line.{Line}
-use Rattle.prepared_code.specs.declared.markers.Marker.{Marker}
+use Rattle.prepared_code.specs.declared.initializations.Initialization.{Initialization}
 use Rattle.prepared_code.specs.declared.parts.Here.{Here}
 use Rattle.prepared_code.specs.declared.parts.Parts.{Parts}
 use Rattle.jvm_steps.specs.Instructions.Acts.{attempts_on, awaited_in, is_at_rest, is_named, named_in}
 use Rattle.jvm_steps.specs.Instructions.Asked.{concluded, done_top, starts_in}
 use Rattle.prepared_code.specs.Lines.{IfNamed, IfNamedBy}
-use Rattle.prepared_code.specs.Markers.{marker_on, stack_of, state_of, with_markers}
+use Rattle.prepared_code.specs.Initializations.{initialization_on, stack_of, state_of, with_initializations}
 use Rattle.jvm_steps.specs.Instructions.Passing.{Passes, changed_in, steps_if, with_changed}
 use Rattle.prepared_code.specs.Ready.{CanRun}
 use Rattle.prepared_code.specs.Runs.{IsCalm, steps_from}
@@ -81,7 +81,7 @@ same-many q next fs so = ap (λ x. length (frames_in x next fs)) so.is ∙ (ap (
 
 -- ---- what stands at a line
 
-module _ (w : Setup) (run : CanRun w) (ms : List Marker) (here : Here) (line : Line) (kept : Kept) (old : Parts) (stands : here_of old.frames.frames ≡ Some here)
+module _ (w : Setup) (run : CanRun w) (ms : List Initialization) (here : Here) (line : Line) (kept : Kept) (old : Parts) (stands : here_of old.frames.frames ≡ Some here)
     (found : line_at w.versions here.version here.place ≡ Some line) (named : line.action ≡ action.Named kept) (calm : IsCalm (length old.frames.frames) ms old)
     (nothing : newly_loaded w.world.program old.shared.loaded (symbolic_view kept) (top_operands old.frames.frames) ≡ []) where
   abbrev n : SymbolicReference
@@ -104,8 +104,8 @@ module _ (w : Setup) (run : CanRun w) (ms : List Marker) (here : Here) (line : L
   has-one (f ∷ fs) is = refl
 
   going : IsGoing (state_of ms old)
-  going = going-on ms old (goes old.ending (has_frame old.frames.frames && is_none (marker_on (length old.frames.frames) ms)) calm.ending
-      (framed (length old.frames.frames) ms old.frames.frames calm.unmarked refl (has-one old.frames.frames stands)))
+  going = going-on ms old (goes old.ending (has_frame old.frames.frames && is_none (initialization_on (length old.frames.frames) ms)) calm.ending
+      (framed (length old.frames.frames) ms old.frames.frames calm.executing refl (has-one old.frames.frames stands)))
 
   -- ---- the state behind it
 
@@ -116,7 +116,7 @@ module _ (w : Setup) (run : CanRun w) (ms : List Marker) (here : Here) (line : L
     pub is-attempt : (new : Parts) → state_in new ≡ concluded w here (answer_view a) reached
         → state_of ms new ≡ attempts_on w (state_of ms old) (state_of ms old).stack
     is-attempt new concludes =
-        goes-on w ms here old named-there stands calm.unmarked reached.frames reached.shared reached.output (loaded_for w.world.program n old.shared old.frames) a
+        goes-on w ms here old named-there stands calm.executing reached.frames reached.shared reached.output (loaded_for w.world.program n old.shared old.frames) a
         (there-by (λ n next. answer_view a ≡ answer_by (attempts w.world n old.shared old.frames) old.frames) answers)
         (there-by (λ n next. reached.frames ≡ frames_by (attempts w.world n old.shared old.frames) next old.frames) refl)
         (there-by (λ n next. reached.shared ≡ (done_on (attempts w.world n old.shared old.frames) old.frames).shared) refl)
@@ -127,7 +127,7 @@ module _ (w : Setup) (run : CanRun w) (ms : List Marker) (here : Here) (line : L
     -- no class is awaited
     pub is-awaited : awaited_in w (state_of ms old) ≡ None
     is-awaited =
-        sym (awaits-told w ms here old named-there stands calm.unmarked reached.frames reached.shared reached.output (loaded_for w.world.program n old.shared old.frames) a
+        sym (awaits-told w ms here old named-there stands calm.executing reached.frames reached.shared reached.output (loaded_for w.world.program n old.shared old.frames) a
         (there-by (λ n next. answer_view a ≡ answer_by (attempts w.world n old.shared old.frames) old.frames) answers)
         (there-by (λ n next. reached.frames ≡ frames_by (attempts w.world n old.shared old.frames) next old.frames) refl)
         (there-by (λ n next. reached.shared ≡ (done_on (attempts w.world n old.shared old.frames) old.frames).shared) refl)
@@ -143,7 +143,7 @@ module _ (w : Setup) (run : CanRun w) (ms : List Marker) (here : Here) (line : L
   -- ---- the turn of the step
 
   abbrev pub under : List PlacedFrame → State
-  under fs = record (with_markers ms (state_with fs old)) { stack = stack_of (map active fs) ms }
+  under fs = record (with_initializations ms (state_with fs old)) { stack = stack_of (map active fs) ms }
 
   abbrev pub i : Instruction
   i = instruction_in line
@@ -167,11 +167,11 @@ module _ (w : Setup) (run : CanRun w) (ms : List Marker) (here : Here) (line : L
       ap (λ (s : Shared). does_named w.world n s f.locals f.operands)
       (sym (ap (λ more. record old.shared { loaded = old.shared.loaded ++ more }) there ∙ ap (λ classes. record old.shared { loaded = classes }) (append-nil old.shared.loaded)))
 
-  pub step-turn : (f : PlacedFrame) (fs : List PlacedFrame) → here_of (f ∷ fs) ≡ Some here → marker_on (length (f ∷ fs)) ms ≡ None
+  pub step-turn : (f : PlacedFrame) (fs : List PlacedFrame) → here_of (f ∷ fs) ≡ Some here → initialization_on (length (f ∷ fs)) ms ≡ None
       → newly_loaded w.world.program old.shared.loaded n f.operands ≡ [] → starts (done_top w n old.shared (f ∷ fs)).outcome ≡ None
-      → step w.world t (with_markers ms (state_with (f ∷ fs) old)) ≡ follows (done_top w n old.shared (f ∷ fs)) f fs
+      → step w.world t (with_initializations ms (state_with (f ∷ fs) old)) ≡ follows (done_top w n old.shared (f ∷ fs)) f fs
   step-turn f fs is free none starts_none =
-      let s : State = with_markers ms (state_with (f ∷ fs) old) in
+      let s : State = with_initializations ms (state_with (f ∷ fs) old) in
       let same : record { version = f.version; method = f.method; place = f.place } ≡ here = same_Some _ here is in
       let at : line_at w.versions f.version f.place ≡ Some line = ap (λ (h : Here). line_at w.versions h.version h.place) same ∙ found in
       let does = same-done (f ∷ fs) none f fs refl in
@@ -190,8 +190,8 @@ module _ (w : Setup) (run : CanRun w) (ms : List Marker) (here : Here) (line : L
       let is : IsQuiet w i d.outcome u (frame_in f) = goes-on-quiet w i d.outcome so.locals so.operands Following u (frame_in f) so.is calm.ending calm.thrown in
       is.quiet
 
-  step-quiet : (fs : List PlacedFrame) → here_of fs ≡ Some here → marker_on (length fs) ms ≡ None → newly_loaded w.world.program old.shared.loaded n (top_operands fs) ≡ []
-      → GoesSo (done_top w n old.shared fs).outcome fs → (step w.world t (with_markers ms (state_with fs old))).changes ≡ []
+  step-quiet : (fs : List PlacedFrame) → here_of fs ≡ Some here → initialization_on (length fs) ms ≡ None → newly_loaded w.world.program old.shared.loaded n (top_operands fs) ≡ []
+      → GoesSo (done_top w n old.shared fs).outcome fs → (step w.world t (with_initializations ms (state_with fs old))).changes ≡ []
   step-quiet [] is free none so = absurd (none-some here is)
   step-quiet (f ∷ fs) is free none so =
       ap (λ (x : Turn). x.changes) (step-turn f fs is free none (ap starts so.is)) ∙ goes-quiet f fs (done_top w n old.shared (f ∷ fs)) so
@@ -207,15 +207,15 @@ module _ (w : Setup) (run : CanRun w) (ms : List Marker) (here : Here) (line : L
       ap (λ (s : FramesView). let p : Parts = record new { frames = s } in state_in p) went.frames
       ∙ (ap (λ (s : Shared). let p : Parts = record reached { shared = s; output = is.output } in state_in p) went.shared
       ∙ ap (λ o. let p : Parts = record reached { output = o } in state_in p) went.output) in
-      let resting = at-rest old.ending old.thrown (has_frame is.frames.frames && is_none (marker_on (length is.frames.frames) ms)) calm.ending calm.thrown
-      (framed (length old.frames.frames) ms is.frames.frames calm.unmarked many has) in
+      let resting = at-rest old.ending old.thrown (has_frame is.frames.frames && is_none (initialization_on (length is.frames.frames) ms)) calm.ending calm.thrown
+      (framed (length old.frames.frames) ms is.frames.frames calm.executing many has) in
       let stepped = is-step asked.Next went.answer refl new concludes resting in
       record {
-        calm = record { ending = calm.ending; thrown = calm.thrown; unmarked = ap (λ k. marker_on k ms) many ∙ calm.unmarked };
+        calm = record { ending = calm.ending; thrown = calm.thrown; executing = ap (λ k. initialization_on k ms) many ∙ calm.executing };
         loaded = loaded;
         leads = leads-one w (state_of ms old) (state_of ms new) (ap is_some calm.ending) stepped;
         silent = λ k less. quiet-silent w (steps_from w k (state_of ms old))
-            (quiet-one w (state_of ms old) (step-quiet old.frames.frames stands calm.unmarked nothing so) k less);
+            (quiet-one w (state_of ms old) (step-quiet old.frames.frames stands calm.executing nothing so) k less);
       }
     where
       has-many : (new old : List PlacedFrame) → length new ≡ length old → has_frame old ≡ true → has_frame new ≡ true
@@ -245,7 +245,7 @@ none-new xs is = by xs (zero-is (length xs) is) where
   by [] e = refl
   by (x ∷ xs) e = absurd (omega (arith, e))
 
-module _ (w : Setup) (run : CanRun w) (ms : List Marker) (here : Here) (line : Line) (kept : Kept) (old : Parts) (stands : here_of old.frames.frames ≡ Some here)
+module _ (w : Setup) (run : CanRun w) (ms : List Initialization) (here : Here) (line : Line) (kept : Kept) (old : Parts) (stands : here_of old.frames.frames ≡ Some here)
     (found : line_at w.versions here.version here.place ≡ Some line) (named : line.action ≡ action.Named kept) (calm : IsCalm (length old.frames.frames) ms old)
     (silent : loads_nothing w.world.program old.shared.loaded (symbolic_view kept) (top_operands old.frames.frames) ≡ true) where
   pub nothing-new : newly_loaded w.world.program old.shared.loaded (symbolic_view kept) (top_operands old.frames.frames) ≡ []

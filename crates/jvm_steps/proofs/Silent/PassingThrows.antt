@@ -30,17 +30,17 @@ use Rattle.jvm_model.specs.Basis.Values.{ref_of}
 use Rattle.jvm_model.proofs.Running.LoopOfMoves.{moved-end, moved-same}
 use Rattle.prepared_code.specs.declared.line.Action.TheVariants as action
 use Rattle.prepared_code.specs.declared.line.Line.{Line}
-use Rattle.prepared_code.specs.declared.markers.Marker.{Marker}
+use Rattle.prepared_code.specs.declared.initializations.Initialization.{Initialization}
 use Rattle.prepared_code.specs.declared.parts.Here.{Here}
 use Rattle.prepared_code.specs.declared.parts.Parts.{Parts}
 use Rattle.jvm_steps.specs.Instructions.Acts.{acts, acts_asked, acts_by, attempts_on, is_named, named_in, on_top}
-use Rattle.prepared_code.specs.Markers.{marker_on, stack_of, state_of, with_markers}
+use Rattle.prepared_code.specs.Initializations.{initialization_on, stack_of, state_of, with_initializations}
 use Rattle.jvm_steps.specs.Instructions.Passing.{AreKeptBy, CatchesBelow, Passes, caught_back, caught_if, fits_caught, on_frames, runs, steps_if}
 use Rattle.prepared_code.specs.Ready.{CanRun}
 use Rattle.prepared_code.specs.Runs.{IsCalm, steps_from-zero}
 use Rattle.prepared_code.specs.States.{active, frame_in, here_of, state_with}
 use Rattle.prepared_code.specs.Versions.{Setup, instruction_in, line_at, mark_of, operation_as, listing_of}
-use Rattle.jvm_steps.proofs.Marked.Beneath.{awaits-unnamed, does-beneath, does-there, top-there}
+use Rattle.jvm_steps.proofs.Initializing.Beneath.{awaits-unnamed, does-beneath, does-there, top-there}
 use Rattle.jvm_steps.proofs.Silent.Leading.{leads-one}
 use Rattle.jvm_steps.proofs.Moves.LineSteps.{behind, going-on, step-attempts, top-frame}
 use Rattle.jvm_steps.proofs.Silent.PlainSteps.{framed, goes as goes-there}
@@ -97,7 +97,7 @@ module _ (w : Setup) (s : State) (r target : ℕ) (f g : Frame) (rest : List Ent
 
 -- ---- at an athrow
 
-module _ (w : Setup) (run : CanRun w) (ms : List Marker) (here : Here) (line : Line) (old : Parts) (stands : here_of old.frames.frames ≡ Some here)
+module _ (w : Setup) (run : CanRun w) (ms : List Initialization) (here : Here) (line : Line) (old : Parts) (stands : here_of old.frames.frames ≡ Some here)
     (found : line_at w.versions here.version here.place ≡ Some line) (ends : line.action ≡ action.Athrow) (calm : IsCalm (length old.frames.frames) ms old)
     (r target : ℕ) where
   abbrev t : Listing
@@ -118,11 +118,11 @@ module _ (w : Setup) (run : CanRun w) (ms : List Marker) (here : Here) (line : L
   abbrev mid : Parts
   mid = record old { thrown = Some r }
 
-  -- no marker stands on the caller
-  on-caller : (f g : PlacedFrame) (fs : List PlacedFrame) → marker_on (length (f ∷ g ∷ fs) - 1) ms ≡ None → marker_on (length (g ∷ fs)) ms ≡ None
+  -- no initialization stands on the caller
+  on-caller : (f g : PlacedFrame) (fs : List PlacedFrame) → initialization_on (length (f ∷ g ∷ fs) - 1) ms ≡ None → initialization_on (length (g ∷ fs)) ms ≡ None
   on-caller f g fs none =
       let same : length (g ∷ fs) ≡ length (f ∷ g ∷ fs) - 1 = omega arith in
-      ap (λ n. marker_on n ms) same ∙ none
+      ap (λ n. initialization_on n ms) same ∙ none
 
   -- ---- what is thrown
 
@@ -152,14 +152,14 @@ module _ (w : Setup) (run : CanRun w) (ms : List Marker) (here : Here) (line : L
         (ap (λ x. handler_for w.world (class_of w.world.program x r) g.place (t.handlers g.version)) shared ∙ is.caller) fits
 
   -- behind them
-  settles-there : (fs : List PlacedFrame) → here_of fs ≡ Some here → marker_on (length fs) ms ≡ None → Caught fs → fits_caught fs ≡ true
-      → with_markers ms (state_with (caught_back r target fs) old) ≡ behind w (with_markers ms (state_with fs mid))
+  settles-there : (fs : List PlacedFrame) → here_of fs ≡ Some here → initialization_on (length fs) ms ≡ None → Caught fs → fits_caught fs ≡ true
+      → with_initializations ms (state_with (caught_back r target fs) old) ≡ behind w (with_initializations ms (state_with fs mid))
   settles-there [] here_is free is fits = absurd (false≢true fits)
   settles-there (f ∷ []) here_is free is fits = absurd (false≢true fits)
   settles-there (f ∷ g ∷ fs) here_is free is fits =
-      let s : State = with_markers ms (state_with (f ∷ g ∷ fs) mid) in
-      let base : State = with_markers ms (state_with fs old) in
-      let caller = on-caller f g fs is.unmarked in
+      let s : State = with_initializations ms (state_with (f ∷ g ∷ fs) mid) in
+      let base : State = with_initializations ms (state_with fs old) in
+      let caller = on-caller f g fs is.executing in
       let g2 : PlacedFrame = record g { place = target; operands = Ref r ∷ [] } in
       ap (λ es. let x : State = record base { stack = es } in x) (top-frame ms g2 fs caller)
       ∙ (ap (λ o. let x : State = record base { thrown = o; stack = active g2 ∷ stack_of (map active fs) ms } in x) calm.thrown
@@ -168,13 +168,13 @@ module _ (w : Setup) (run : CanRun w) (ms : List Marker) (here : Here) (line : L
 
   -- ---- the turn
 
-  throw-changes : (fs : List PlacedFrame) → here_of fs ≡ Some here → marker_on (length fs) ms ≡ None → Caught fs → fits_caught fs ≡ true → IsThrown fs
-      → (step w.world t (with_markers ms (state_with fs old))).changes ≡ Unwound ∷ []
+  throw-changes : (fs : List PlacedFrame) → here_of fs ≡ Some here → initialization_on (length fs) ms ≡ None → Caught fs → fits_caught fs ≡ true → IsThrown fs
+      → (step w.world t (with_initializations ms (state_with fs old))).changes ≡ Unwound ∷ []
   throw-changes [] here_is free is fits thrown = absurd (false≢true fits)
   throw-changes (f ∷ []) here_is free is fits thrown = absurd (false≢true fits)
   throw-changes (f ∷ g ∷ fs) here_is free is fits thrown =
-      let s : State = with_markers ms (state_with (f ∷ g ∷ fs) old) in
-      let u : State = with_markers ms (state_with (g ∷ fs) old) in
+      let s : State = with_initializations ms (state_with (f ∷ g ∷ fs) old) in
+      let u : State = with_initializations ms (state_with (g ∷ fs) old) in
       let i : Instruction = instruction_in line in
       let same : record { version = f.version; method = f.method; place = f.place } ≡ here = same_Some _ here here_is in
       let at : line_at w.versions f.version f.place ≡ Some line = ap (λ (h : Here). line_at w.versions h.version h.place) same ∙ found in
@@ -185,13 +185,13 @@ module _ (w : Setup) (run : CanRun w) (ms : List Marker) (here : Here) (line : L
       ∙ (ap (λ x. steps_at w.world t u (frame_in f) (option_map instruction_in x)) at
       ∙ (ap (λ a. step_by w i (operation_as line a) u (frame_in f)) ends
       ∙ (ap (λ q. goes_again w.world t i u (frame_in f) (starts q) (tries w.world t i u (frame_in f) (done u.shared q))) thrown
-      ∙ settles-by f g fs here_is is fits thrown_state calm.ending refl refl (ap (λ es. active f ∷ es) (top-frame ms g fs (on-caller f g fs is.unmarked))))))))
+      ∙ settles-by f g fs here_is is fits thrown_state calm.ending refl refl (ap (λ es. active f ∷ es) (top-frame ms g fs (on-caller f g fs is.executing))))))))
 
   -- no class is loaded
-  loads-none : (fs : List PlacedFrame) → here_of fs ≡ Some here → marker_on (length fs) ms ≡ None → step_loads w.world t (with_markers ms (state_with fs old)) ≡ []
+  loads-none : (fs : List PlacedFrame) → here_of fs ≡ Some here → initialization_on (length fs) ms ≡ None → step_loads w.world t (with_initializations ms (state_with fs old)) ≡ []
   loads-none [] here_is free = absurd (none-some here here_is)
   loads-none (f ∷ fs) here_is free =
-      let s : State = with_markers ms (state_with (f ∷ fs) old) in
+      let s : State = with_initializations ms (state_with (f ∷ fs) old) in
       let u : State = record s { stack = stack_of (map active fs) ms } in
       let same : record { version = f.version; method = f.method; place = f.place } ≡ here = same_Some _ here here_is in
       let at : line_at w.versions f.version f.place ≡ Some line = ap (λ (h : Here). line_at w.versions h.version h.place) same ∙ found in
@@ -202,7 +202,7 @@ module _ (w : Setup) (run : CanRun w) (ms : List Marker) (here : Here) (line : L
 
   -- ---- what is told, and what runs
 
-  due-by : (fs : List PlacedFrame) → here_of fs ≡ Some here → marker_on (length fs) ms ≡ None → marks here.version ≡ Off
+  due-by : (fs : List PlacedFrame) → here_of fs ≡ Some here → initialization_on (length fs) ms ≡ None → marks here.version ≡ Off
       → (stop_in (mark_now marks t) 0 (helds marks (stack_of (map active fs) ms)) (Unwound ∷ [])).due ≡ Nothing
   due-by [] here_is free off = absurd (none-some here here_is)
   due-by (f ∷ fs) here_is free off =
@@ -213,20 +213,20 @@ module _ (w : Setup) (run : CanRun w) (ms : List Marker) (here : Here) (line : L
       ∙ ap (λ (mark : Mark). (stop_by (record { method = f.method; mark = mark } ∷ more) more 0 (unless_off mark (Ends kind.Unwind))
       (record { live = more; passed = 1; due = Nothing })).due) mine
 
-  keeps-by : (fs : List PlacedFrame) → here_of fs ≡ Some here → marker_on (length fs) ms ≡ None → Caught fs → fits_caught fs ≡ true
+  keeps-by : (fs : List PlacedFrame) → here_of fs ≡ Some here → initialization_on (length fs) ms ≡ None → Caught fs → fits_caught fs ≡ true
       → AreKeptBy w (stack_of (map active fs) ms) (stack_of (map active (caught_back r target fs)) ms)
   keeps-by [] here_is free is fits version superseded runs_old = absurd (false≢true fits)
   keeps-by (f ∷ []) here_is free is fits version superseded runs_old = absurd (false≢true fits)
   keeps-by (f ∷ g ∷ fs) here_is free is fits version superseded runs_old =
       let same : record { version = f.version; method = f.method; place = f.place } ≡ here = same_Some _ here here_is in
       let rest : List Entry = stack_of (map active fs) ms in
-      let below : stack_of (map active (g ∷ fs)) ms ≡ active g ∷ rest = top-frame ms g fs (on-caller f g fs is.unmarked) in
+      let below : stack_of (map active (g ∷ fs)) ms ≡ active g ∷ rest = top-frame ms g fs (on-caller f g fs is.executing) in
       let g2 : PlacedFrame = record g { place = target; operands = Ref r ∷ [] } in
       let another : (f.version == version) ≡ false = either (f.version == version)
       (λ on. absurd (false≢true (sym is.current ∙ (ap (λ (h : Here). is_superseded_in w.versions.slots w.versions.current h.version) (sym same)
       ∙ (ap (is_superseded_in w.versions.slots w.versions.current) (eqb-true f.version version on) ∙ superseded)))))
       (λ off. off) in
-      ap (runs version) (top-frame ms g2 fs (on-caller f g fs is.unmarked))
+      ap (runs version) (top-frame ms g2 fs (on-caller f g fs is.executing))
       ∙ (sym (ap (runs version) below)
       ∙ (sym (ap (λ b. b || runs version (stack_of (map active (g ∷ fs)) ms)) another)
       ∙ (sym (ap (runs version) (top-frame ms f (g ∷ fs) free)) ∙ runs_old)))
@@ -248,30 +248,30 @@ module _ (w : Setup) (run : CanRun w) (ms : List Marker) (here : Here) (line : L
       let new : Parts = on_frames frames old in
       let unnamed : is_named line.action ≡ false = ap is_named ends in
       let attempted : state_of ms mid ≡ attempts_on w (state_of ms old) (state_of ms old).stack =
-      does-beneath w line ms old mid here.method old.frames.frames (top-there w ms old here old.frames.frames stands) calm.unmarked unnamed
-      (λ last. is.unmarked) (thrown-by old.frames.frames stands thrown)
-      ∙ does-there w ms old line here stands calm.unmarked found in
-      let going = going-on ms old (goes-there old.ending (has_frame old.frames.frames && is_none (marker_on (length old.frames.frames) ms)) calm.ending
-      (framed (length old.frames.frames) ms old.frames.frames calm.unmarked refl (had-one old.frames.frames stands))) in
+      does-beneath w line ms old mid here.method old.frames.frames (top-there w ms old here old.frames.frames stands) calm.executing unnamed
+      (λ last. is.executing) (thrown-by old.frames.frames stands thrown)
+      ∙ does-there w ms old line here stands calm.executing found in
+      let going = going-on ms old (goes-there old.ending (has_frame old.frames.frames && is_none (initialization_on (length old.frames.frames) ms)) calm.ending
+      (framed (length old.frames.frames) ms old.frames.frames calm.executing refl (had-one old.frames.frames stands))) in
       let settles : state_of ms new ≡ behind w (state_of ms mid) =
-      ap (λ fs. with_markers ms (state_with fs old)) are ∙ settles-there old.frames.frames stands calm.unmarked is fits in
+      ap (λ fs. with_initializations ms (state_with fs old)) are ∙ settles-there old.frames.frames stands calm.executing is fits in
       let stepped : state_of ms new ≡ (step w.world t (state_of ms old)).after =
       step-attempts w run (state_of ms old) going
-      (awaits-unnamed w ms old here stands calm.unmarked (ap named_in found ∙ unnamed))
+      (awaits-unnamed w ms old here stands calm.executing (ap named_in found ∙ unnamed))
       (state_of ms mid) (state_of ms new) attempted settles in
       record {
-        calm = record { ending = calm.ending; thrown = calm.thrown; unmarked = ap (λ n. marker_on n ms) (ap length are ∙ one-less old.frames.frames fits) ∙ is.unmarked };
+        calm = record { ending = calm.ending; thrown = calm.thrown; executing = ap (λ n. initialization_on n ms) (ap length are ∙ one-less old.frames.frames fits) ∙ is.executing };
         loaded = refl;
         leads = leads-one w (state_of ms old) (state_of ms new) (ap is_some calm.ending) stepped;
         silent = silent-one w (state_of ms old) (record {
-          loads = loads-none old.frames.frames stands calm.unmarked;
+          loads = loads-none old.frames.frames stands calm.executing;
           untold =
-              ap (λ cs. (stop_in (mark_now marks t) 0 (helds marks (state_of ms old).stack) cs).due) (throw-changes old.frames.frames stands calm.unmarked is fits thrown)
-              ∙ due-by old.frames.frames stands calm.unmarked is.off;
+              ap (λ cs. (stop_in (mark_now marks t) 0 (helds marks (state_of ms old).stack) cs).due) (throw-changes old.frames.frames stands calm.executing is fits thrown)
+              ∙ due-by old.frames.frames stands calm.executing is.off;
           keeps = λ version superseded runs_old.
               ap (λ (z : State). runs version z.stack) (sym stepped)
               ∙ (ap (λ fs. runs version (stack_of (map active fs) ms)) are
-              ∙ keeps-by old.frames.frames stands calm.unmarked is fits version superseded runs_old);
+              ∙ keeps-by old.frames.frames stands calm.executing is fits version superseded runs_old);
         });
       }
 
@@ -280,10 +280,10 @@ module _ (w : Setup) (run : CanRun w) (ms : List Marker) (here : Here) (line : L
       → frames.frames ≡ caught_if b r target old.frames.frames → Passes w ms old (steps_if b) (on_frames frames old)
   caught-passes true frames is thrown fits are = throw-passes is (fits refl) thrown frames are
   caught-passes false frames is thrown fits are = record {
-    calm = record { ending = calm.ending; thrown = calm.thrown; unmarked = ap (λ fs. marker_on (length fs) ms) are ∙ calm.unmarked };
+    calm = record { ending = calm.ending; thrown = calm.thrown; executing = ap (λ fs. initialization_on (length fs) ms) are ∙ calm.executing };
     loaded = refl;
     leads = record {
-      made = ap (λ fs. with_markers ms (state_with fs old)) are ∙ sym (steps_from-zero w (state_of ms old));
+      made = ap (λ fs. with_initializations ms (state_with fs old)) are ∙ sym (steps_from-zero w (state_of ms old));
       before = λ k less. absurd (omega arith);
     };
     silent = λ k less. absurd (omega arith);

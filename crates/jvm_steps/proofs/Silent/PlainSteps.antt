@@ -13,19 +13,19 @@ use Rattle.jvm_basic.specs.Outcomes.{Outcome, GoesOn, Raises, Breaks, Leaves, fr
 use Rattle.jvm_basic.specs.Rules.{rule_of}
 use Rattle.prepared_code.specs.declared.line.Action.TheVariants as action
 use Rattle.prepared_code.specs.declared.line.Line.{Line}
-use Rattle.prepared_code.specs.declared.markers.Marker.{Marker}
+use Rattle.prepared_code.specs.declared.initializations.Initialization.{Initialization}
 use Rattle.prepared_code.specs.declared.parts.Here.{Here}
 use Rattle.prepared_code.specs.declared.parts.Parts.{Parts}
 use Rattle.jvm_steps.specs.Instructions.Acts.{acts_by, attempts_line, attempts_on, awaited, awaited_by, awaited_on}
-use Rattle.prepared_code.specs.Markers.{marker_on, state_of, with_markers}
+use Rattle.prepared_code.specs.Initializations.{initialization_on, state_of, with_initializations}
 use Rattle.prepared_code.specs.Runs.{IsCalm, IsLineIn, IsPlainLine, LeadsPlainly, RunsVersion, top_version}
 use Rattle.prepared_code.specs.Tables.{Version, version_at}
 use Rattle.prepared_code.specs.States.{active, frame_in, here_of, state_with}
 use Rattle.jvm_steps.proofs.Instructions.Alone.{goes-next}
 use Rattle.jvm_steps.proofs.Silent.Leading.{leads-one, quiet-one}
 use Rattle.jvm_steps.proofs.Silent.QuietLines.{quiet-step}
-use Rattle.jvm_steps.proofs.Marked.Carried.{comes-carried}
-use Rattle.prepared_code.proofs.MarkedStacks.{length-active}
+use Rattle.jvm_steps.proofs.Initializing.Carried.{comes-carried}
+use Rattle.prepared_code.proofs.InitializingStacks.{length-active}
 use Rattle.jvm_steps.proofs.Moves.LineSteps.{going-on, rests, step-attempts, top-frame}
 use Rattle.prepared_code.specs.Versions.{Setup, listing_of, line_at, line_in}
 use Rattle.prepared_code.specs.Ready.{CanRun}
@@ -59,11 +59,11 @@ still-many (Raises class) fs = refl
 still-many Breaks fs = refl
 still-many Leaves fs = refl
 
--- the run goes on with such frames, or rests, where nothing is thrown and no marker stands on them
-pub framed : (n : ℕ) (ms : List Marker) (fs : List PlacedFrame) → marker_on n ms ≡ None → length fs ≡ n → has_frame fs ≡ true
-    → (has_frame fs && is_none (marker_on (length fs) ms)) ≡ true
+-- the run goes on with such frames, or rests, where nothing is thrown and no initialization stands on them
+pub framed : (n : ℕ) (ms : List Initialization) (fs : List PlacedFrame) → initialization_on n ms ≡ None → length fs ≡ n → has_frame fs ≡ true
+    → (has_frame fs && is_none (initialization_on (length fs) ms)) ≡ true
 framed n ms fs none many is =
-    ap (λ b. b && is_none (marker_on (length fs) ms)) is ∙ ap is_none (ap (λ k. marker_on k ms) many ∙ none)
+    ap (λ b. b && is_none (initialization_on (length fs) ms)) is ∙ ap is_none (ap (λ k. initialization_on k ms) many ∙ none)
 
 pub goes : (ending : Option Ending) (b : Bool) → ending ≡ None → b ≡ true → (is_none ending && b) ≡ true
 goes None true none is = refl
@@ -72,11 +72,11 @@ goes (Some e) b none is = absurd cc
 
 -- ---- a step
 
-plain-at : (w : Setup) (run : CanRun w) (line : Line) (ms : List Marker) (p : Parts) (fs : List PlacedFrame) (room : Option ℕ) (new : FramesView) → IsCalm (length fs) ms p
+plain-at : (w : Setup) (run : CanRun w) (line : Line) (ms : List Initialization) (p : Parts) (fs : List PlacedFrame) (room : Option ℕ) (new : FramesView) → IsCalm (length fs) ms p
     → IsPlainLine w fs line
     → (let old : FramesView = record { frames = fs; room = room } in effect_of (rule_of line.instr line.constant line.next) old ≡ Next)
     → (let old : FramesView = record { frames = fs; room = room } in new ≡ after (rule_of line.instr line.constant line.next) old)
-    → with_markers ms (state_with new.frames p) ≡ (step w.world (listing_of w.versions) (with_markers ms (state_with fs p))).after
+    → with_initializations ms (state_with new.frames p) ≡ (step w.world (listing_of w.versions) (with_initializations ms (state_with fs p))).after
 plain-at w run line ms p [] room new calm stands e made = absurd stands
 plain-at w run line ms p (f ∷ fs) room new calm stands e made =
     let old : FramesView = record { frames = f ∷ fs; room = room } in
@@ -85,25 +85,25 @@ plain-at w run line ms p (f ∷ fs) room new calm stands e made =
     let x : Outcome = asked (rule_of line.instr line.constant line.next) (f ∷ fs) in
     let has : has_frame new.frames ≡ true = ap (λ (s : FramesView). has_frame s.frames) made ∙ still-framed x f fs in
     let many : length new.frames ≡ length (f ∷ fs) = ap (λ (s : FramesView). length s.frames) made ∙ still-many x (f ∷ fs) in
-    let free : marker_on (suc (length (map active fs))) ms ≡ None = ap (λ n. marker_on (suc n) ms) (length-active fs) ∙ calm.unmarked in
-    let going = going-on ms q (goes p.ending (has_frame (f ∷ fs) && is_none (marker_on (length (f ∷ fs)) ms)) calm.ending (framed (length (f ∷ fs)) ms (f ∷ fs) calm.unmarked refl refl)) in
+    let free : initialization_on (suc (length (map active fs))) ms ≡ None = ap (λ n. initialization_on (suc n) ms) (length-active fs) ∙ calm.executing in
+    let going = going-on ms q (goes p.ending (has_frame (f ∷ fs) && is_none (initialization_on (length (f ∷ fs)) ms)) calm.ending (framed (length (f ∷ fs)) ms (f ∷ fs) calm.executing refl refl)) in
     let s : State = state_with fs p in
-    let attempted : with_markers ms (state_with new.frames p) ≡ attempts_line w (with_markers ms s) (frame_in f) (line_at w.versions f.version f.place) =
-    ap (with_markers ms) (goes-next w line q f.method new refl e made)
+    let attempted : with_initializations ms (state_with new.frames p) ≡ attempts_line w (with_initializations ms s) (frame_in f) (line_at w.versions f.version f.place) =
+    ap (with_initializations ms) (goes-next w line q f.method new refl e made)
     ∙ (comes-carried ms w line s (frame_in f) (rule_of line.instr line.constant line.next f.locals f.operands) free
-    ∙ sym (ap (attempts_line w (with_markers ms s) (frame_in f)) stands.0 ∙ ap (acts_by w line (with_markers ms s) (frame_in f)) stands.1)) in
+    ∙ sym (ap (attempts_line w (with_initializations ms s) (frame_in f)) stands.0 ∙ ap (acts_by w line (with_initializations ms s) (frame_in f)) stands.1)) in
     step-attempts w run (state_of ms q) going
-    (ap (awaited_on w (state_of ms q)) (top-frame ms f fs calm.unmarked)
-    ∙ (ap (awaited_by w (with_markers ms s) (frame_in f)) stands.0 ∙ ap (awaited w (with_markers ms s) (frame_in f)) stands.1))
-    (with_markers ms (state_with new.frames p)) (with_markers ms (state_with new.frames p))
-    (attempted ∙ sym (ap (attempts_on w (state_of ms q)) (top-frame ms f fs calm.unmarked)))
+    (ap (awaited_on w (state_of ms q)) (top-frame ms f fs calm.executing)
+    ∙ (ap (awaited_by w (with_initializations ms s) (frame_in f)) stands.0 ∙ ap (awaited w (with_initializations ms s) (frame_in f)) stands.1))
+    (with_initializations ms (state_with new.frames p)) (with_initializations ms (state_with new.frames p))
+    (attempted ∙ sym (ap (attempts_on w (state_of ms q)) (top-frame ms f fs calm.executing)))
     (rests w (listing_of w.versions) ms r
-    (at-rest p.ending p.thrown (has_frame new.frames && is_none (marker_on (length new.frames) ms)) calm.ending calm.thrown (framed (length (f ∷ fs)) ms new.frames calm.unmarked many has)))
+    (at-rest p.ending p.thrown (has_frame new.frames && is_none (initialization_on (length new.frames) ms)) calm.ending calm.thrown (framed (length (f ∷ fs)) ms new.frames calm.executing many has)))
 
 -- it has no change
-quiet-at : (w : Setup) (run : CanRun w) (line : Line) (ms : List Marker) (p : Parts) (fs : List PlacedFrame) (room : Option ℕ) → IsCalm (length fs) ms p → IsPlainLine w fs line
+quiet-at : (w : Setup) (run : CanRun w) (line : Line) (ms : List Initialization) (p : Parts) (fs : List PlacedFrame) (room : Option ℕ) → IsCalm (length fs) ms p → IsPlainLine w fs line
     → (let old : FramesView = record { frames = fs; room = room } in effect_of (rule_of line.instr line.constant line.next) old ≡ Next)
-    → (step w.world (listing_of w.versions) (with_markers ms (state_with fs p))).changes ≡ []
+    → (step w.world (listing_of w.versions) (with_initializations ms (state_with fs p))).changes ≡ []
 quiet-at w run line ms p [] room calm stands e = absurd stands
 quiet-at w run line ms p (f ∷ fs) room calm stands e = quiet-step w run line ms p f fs calm stands e
 
@@ -132,7 +132,7 @@ pub stays-in : (line : Line) (old new : FramesView) → new ≡ after (rule_of l
 stays-in line old new made =
     ap (λ (s : FramesView). top_version s.frames) made ∙ same-version (asked (rule_of line.instr line.constant line.next) old.frames) old.frames
 
-pub goes-on : (n : ℕ) (ms : List Marker) (p : Parts) → IsCalm n ms p → is_some p.ending ≡ false
+pub goes-on : (n : ℕ) (ms : List Initialization) (p : Parts) → IsCalm n ms p → is_some p.ending ≡ false
 goes-on n ms p calm = ap is_some calm.ending
 
 pub plain-one : (w : Setup) (run : CanRun w) (line : Line) (old new : FramesView) → IsPlainLine w old.frames line
@@ -141,7 +141,7 @@ pub plain-one : (w : Setup) (run : CanRun w) (line : Line) (old new : FramesView
 plain-one w run line old new stands e made = record {
   many = ap (λ (s : FramesView). length s.frames) made ∙ still-many (asked (rule_of line.instr line.constant line.next) old.frames) old.frames;
   leads = λ ms p calm.
-      leads-one w (with_markers ms (state_with old.frames p)) (with_markers ms (state_with new.frames p)) (goes-on (length old.frames) ms p calm)
+      leads-one w (with_initializations ms (state_with old.frames p)) (with_initializations ms (state_with new.frames p)) (goes-on (length old.frames) ms p calm)
       (plain-at w run line ms p old.frames old.room new calm stands e made);
-  quiet = λ ms p calm. quiet-one w (with_markers ms (state_with old.frames p)) (quiet-at w run line ms p old.frames old.room calm stands e);
+  quiet = λ ms p calm. quiet-one w (with_initializations ms (state_with old.frames p)) (quiet-at w run line ms p old.frames old.room calm stands e);
 }

@@ -25,9 +25,9 @@ use Rattle.jvm_basic.specs.Outcomes.{effect_in}
 use Rattle.jvm_basic.specs.Rules.{placed, rule_of}
 use Rattle.prepared_code.specs.declared.line.Action.TheVariants as action
 use Rattle.prepared_code.specs.declared.line.Line.{Line}
-use Rattle.prepared_code.specs.declared.markers.Marker.{Marker}
+use Rattle.prepared_code.specs.declared.initializations.Initialization.{Initialization}
 use Rattle.prepared_code.specs.declared.parts.Parts.{Parts}
-use Rattle.prepared_code.specs.Markers.{stack_of, with_markers}
+use Rattle.prepared_code.specs.Initializations.{stack_of, with_initializations}
 use Rattle.prepared_code.specs.Ready.{CanRun, IsOwnLine}
 use Rattle.prepared_code.specs.Runs.{IsCalm, IsPlainLine}
 use Rattle.prepared_code.specs.States.{active, frame_in, state_with}
@@ -162,14 +162,14 @@ module _ (w : Setup) where
 own-line : (w : Setup) (run : CanRun w) (version place : ℕ) (line : Line) → line_at w.versions version place ≡ Some line → IsOwnLine line
 own-line w run version place line there = subst (λ o. IfSome o IsOwnLine) there (run.lines version place)
 
-pub quiet-step : (w : Setup) (run : CanRun w) (line : Line) (ms : List Marker) (p : Parts) (f : PlacedFrame) (fs : List PlacedFrame) → IsCalm (length (f ∷ fs)) ms p → IsPlainLine w (f ∷ fs) line
+pub quiet-step : (w : Setup) (run : CanRun w) (line : Line) (ms : List Initialization) (p : Parts) (f : PlacedFrame) (fs : List PlacedFrame) → IsCalm (length (f ∷ fs)) ms p → IsPlainLine w (f ∷ fs) line
     → effect_in (rule_of line.instr line.constant line.next f.locals f.operands) (f ∷ fs) ≡ Next
-    → (step w.world (listing_of w.versions) (with_markers ms (state_with (f ∷ fs) p))).changes ≡ []
+    → (step w.world (listing_of w.versions) (with_initializations ms (state_with (f ∷ fs) p))).changes ≡ []
 quiet-step w run line ms p f fs calm stands on =
-    let s : State = with_markers ms (state_with (f ∷ fs) p) in
+    let s : State = with_initializations ms (state_with (f ∷ fs) p) in
     let under : List Entry = stack_of (map active fs) ms in
     let u : State = record s { stack = under } in
     ap (λ e. (steps_on w.world (listing_of w.versions) s e s.stack).changes) calm.ending
-    ∙ (ap (λ es. (steps_on w.world (listing_of w.versions) s None es).changes) (top-frame ms f fs calm.unmarked)
+    ∙ (ap (λ es. (steps_on w.world (listing_of w.versions) s None es).changes) (top-frame ms f fs calm.executing)
     ∙ (ap (λ x. (steps_at w.world (listing_of w.versions) u (frame_in f) (option_map instruction_in x)).changes) stands.0
     ∙ line-quiet w line u (frame_in f) (f ∷ fs) stands.1 (own-line w run f.version f.place line stands.0) on calm.ending calm.thrown))

@@ -19,10 +19,10 @@ use Rattle.jvm_model.specs.Instructions.LocalRules.{returns}
 use Rattle.jvm_model.specs.Basis.Values.{as_value, with_value}
 use Rattle.prepared_code.specs.declared.line.Action.TheVariants as action
 use Rattle.prepared_code.specs.declared.line.Line.{Line}
-use Rattle.prepared_code.specs.declared.markers.Marker.{Marker}
+use Rattle.prepared_code.specs.declared.initializations.Initialization.{Initialization}
 use Rattle.prepared_code.specs.declared.parts.Here.{Here}
 use Rattle.prepared_code.specs.declared.parts.Parts.{Parts}
-use Rattle.prepared_code.specs.Markers.{marker_on, state_of}
+use Rattle.prepared_code.specs.Initializations.{initialization_on, state_of}
 use Rattle.jvm_steps.specs.Instructions.Passing.{Passes, ReturnsTo, caller_line, fits_given, gone_back, on_frames, steps_if}
 use Rattle.prepared_code.specs.Ready.{CanRun}
 use Rattle.jvm_steps.specs.Moves.Calmly.{GoesBack, TriesIf}
@@ -43,18 +43,18 @@ caller-there v (f ∷ g ∷ fs) version place line is found =
     let same : (g.version, g.place) ≡ (version, place) = same_Some (g.version, g.place) (version, place) is in
     ap (λ (at : ℕ × ℕ). line_at v at.0 at.1) same ∙ found
 
-pub goes-there : (w : Setup) (ms : List Marker) (fs : List PlacedFrame) (line : Line) (o : Option ℕ) → o ≡ next_in line → caller_line w.versions fs ≡ Some line
-    → marker_on (length fs - 1) ms ≡ None → IfSome o (λ next. GoesBack w ms fs next)
-goes-there w ms fs line None is stands unmarked = tt
-goes-there w ms fs line (Some next) is stands unmarked = record { caller = line; stands = stands; goes_on = sym is; unmarked = unmarked }
+pub goes-there : (w : Setup) (ms : List Initialization) (fs : List PlacedFrame) (line : Line) (o : Option ℕ) → o ≡ next_in line → caller_line w.versions fs ≡ Some line
+    → initialization_on (length fs - 1) ms ≡ None → IfSome o (λ next. GoesBack w ms fs next)
+goes-there w ms fs line None is stands executing = tt
+goes-there w ms fs line (Some next) is stands executing = record { caller = line; stands = stands; goes_on = sym is; executing = executing }
 
 -- and nothing is told of it
-pub returns-there : (w : Setup) (ms : List Marker) (here : Here) (fs : List PlacedFrame) (o : Option ℕ) → IfSome o (λ next. GoesBack w ms fs next)
+pub returns-there : (w : Setup) (ms : List Initialization) (here : Here) (fs : List PlacedFrame) (o : Option ℕ) → IfSome o (λ next. GoesBack w ms fs next)
     → mark_of w.versions here.version ≡ Off → is_superseded_in w.versions.slots w.versions.current here.version ≡ false
     → IfSome o (λ next. ReturnsTo w ms here fs next)
 returns-there w ms here fs None to off current = tt
 returns-there w ms here fs (Some next) to off current =
-    record { caller = to.caller; stands = to.stands; goes_on = to.goes_on; unmarked = to.unmarked; off = off; current = current }
+    record { caller = to.caller; stands = to.stands; goes_on = to.goes_on; executing = to.executing; off = off; current = current }
 
 -- the caller's operands are within its limit with the value, where they are without
 fits-by : (v : Option Value) (fs : List PlacedFrame) → AreSound fs → can_give v fs ≡ true → fits_given v fs ≡ true
@@ -82,7 +82,7 @@ same-back v next (f ∷ g ∷ fs) fits = ap (λ o. record g { place = next; oper
 
 -- ---- the step
 
-module _ (w : Setup) (run : CanRun w) (ms : List Marker) (here : Here) (line : Line) (k : Option Kind) (old : Parts) (stands : here_of old.frames.frames ≡ Some here)
+module _ (w : Setup) (run : CanRun w) (ms : List Initialization) (here : Here) (line : Line) (k : Option Kind) (old : Parts) (stands : here_of old.frames.frames ≡ Some here)
     (found : line_at w.versions here.version here.place ≡ Some line) (ends : line.action ≡ action.Return k) (calm : IsCalm (length old.frames.frames) ms old)
     (d : Option Datum) (next : ℕ) (v : Option Value) (frames : FramesView) (sound : AreSound old.frames.frames)
     (current : is_superseded_in w.versions.slots w.versions.current here.version ≡ false)
@@ -94,7 +94,7 @@ module _ (w : Setup) (run : CanRun w) (ms : List Marker) (here : Here) (line : L
     stands = to.stands;
     goes_on = to.goes_on;
     holds = ap (λ x. fits_given x old.frames.frames) (sym value) ∙ fits-by v old.frames.frames sound (sym can);
-    unmarked = to.unmarked;
+    executing = to.executing;
     current = current;
   }
 
@@ -107,7 +107,7 @@ module _ (w : Setup) (run : CanRun w) (ms : List Marker) (here : Here) (line : L
       → Passes w ms old (steps_if b) (on_frames frames old)
   gives-passes true to can are =
       return-passes w run ms here line k old stands found ends calm d next
-      (gives (record { caller = to.caller; stands = to.stands; goes_on = to.goes_on; unmarked = to.unmarked }) can) frames (back-there can are) to.off
+      (gives (record { caller = to.caller; stands = to.stands; goes_on = to.goes_on; executing = to.executing }) can) frames (back-there can are) to.off
   gives-passes false to can are = subst (λ (f : FramesView). Passes w ms old 0 (on_frames f old)) (sym are) (passes_none w ms old calm)
 
   -- of which its probe has told

@@ -17,9 +17,9 @@ use Rattle.jvm_model.specs.Turns.Told.{Held, helds, mark_now}
 use Rattle.jvm_model.proofs.Running.OnlyReturns.{ends-by-return}
 use Rattle.jvm_model.proofs.Turns.Rests.{step-loads}
 use Rattle.jvm_model.proofs.Turns.StepPausing.{step-paused}
-use Rattle.prepared_code.specs.declared.markers.Marker.{Marker}
+use Rattle.prepared_code.specs.declared.initializations.Initialization.{Initialization}
 use Rattle.prepared_code.specs.declared.parts.Parts.{Parts}
-use Rattle.prepared_code.specs.Markers.{marker_on, state_of}
+use Rattle.prepared_code.specs.Initializations.{initialization_on, state_of}
 use Rattle.jvm_steps.specs.Instructions.Passing.{AreSilent, IsSilent, Passes, runs}
 use Rattle.prepared_code.specs.Runs.{IsCalm, LeadsAlone, steps_from, steps_from-zero}
 use Rattle.prepared_code.specs.Versions.{Setup, mark_of, listing_of}
@@ -99,7 +99,7 @@ module _ (w : Setup) where
         subst (IsSilent w) (sym state) (second (k - n) (omega arith)))
   ]
 
-  pub passes_none : (ms : List Marker) (p : Parts) → IsCalm (length p.frames.frames) ms p → Passes w ms p 0 p
+  pub passes_none : (ms : List Initialization) (p : Parts) → IsCalm (length p.frames.frames) ms p → Passes w ms p 0 p
   passes_none ms p calm = record {
     calm = calm;
     loaded = refl;
@@ -107,7 +107,7 @@ module _ (w : Setup) where
     silent = λ k less. absurd (omega arith);
   }
 
-  pub passes-on : (ms : List Marker) (old mid new : Parts) (n m : ℕ) → Passes w ms old n mid → Passes w ms mid m new → Passes w ms old (n + m) new
+  pub passes-on : (ms : List Initialization) (old mid new : Parts) (n m : ℕ) → Passes w ms old n mid → Passes w ms mid m new → Passes w ms old (n + m) new
   passes-on ms old mid new n m first second = record {
     calm = second.calm;
     loaded = second.loaded ∙ first.loaded;
@@ -116,12 +116,12 @@ module _ (w : Setup) where
   }
 
   -- those of the current frame and elements alone
-  pub passes-alone : (ms : List Marker) (old new : Parts) (n : ℕ) → LeadsAlone w old n new → IsCalm (length old.frames.frames) ms old → Passes w ms old n new
+  pub passes-alone : (ms : List Initialization) (old new : Parts) (n : ℕ) → LeadsAlone w old n new → IsCalm (length old.frames.frames) ms old → Passes w ms old n new
   passes-alone ms old new n alone calm = record {
     calm = record {
       ending = alone.ending ∙ calm.ending;
       thrown = alone.thrown ∙ calm.thrown;
-      unmarked = ap (λ k. marker_on k ms) alone.many ∙ calm.unmarked;
+      executing = ap (λ k. initialization_on k ms) alone.many ∙ calm.executing;
     };
     loaded = alone.loaded;
     leads = alone.leads ms calm;

@@ -30,10 +30,10 @@ use Rattle.jvm_named.specs.Names.{symbolic_view}
 use Rattle.prepared_code.specs.declared.line.Action.{Action}
 use Rattle.prepared_code.specs.declared.line.Action.TheVariants as action
 use Rattle.prepared_code.specs.declared.line.Line.{Line}
-use Rattle.prepared_code.specs.declared.markers.Marker.{Marker}
+use Rattle.prepared_code.specs.declared.initializations.Initialization.{Initialization}
 use Rattle.prepared_code.specs.declared.originals.Exception.{Exception}
 use Rattle.prepared_code.specs.declared.parts.Parts.{Parts}
-use Rattle.prepared_code.specs.Markers.{is_unmarked, state_of, with_markers}
+use Rattle.prepared_code.specs.Initializations.{is_executing, state_of, with_initializations}
 use Rattle.prepared_code.specs.Prepared.{exception_name}
 use Rattle.prepared_code.specs.States.{frame_in, state_with, state_in}
 use Rattle.prepared_code.specs.Versions.{Setup, next_in, listing_of, line_at}
@@ -198,13 +198,13 @@ raised_in w name message p = let a = raised w.world p.shared name message in rec
 abbrev pub raising : Setup → Exception → Option (List ℕ) → Parts → Parts
 raising w e message p = raised_in w (exception_name e) message p
 
--- nothing follows by itself: the run has ended, or nothing is thrown, and there is a frame with no marker on it
-abbrev pub is_at_rest : List Marker → Parts → Bool
-is_at_rest ms p = is_some p.ending || (is_none p.thrown && (has_frame p.frames.frames && is_unmarked ms p))
+-- nothing follows by itself: the run has ended, or nothing is thrown, and there is a frame with no initialization on it
+abbrev pub is_at_rest : List Initialization → Parts → Bool
+is_at_rest ms p = is_some p.ending || (is_none p.thrown && (has_frame p.frames.frames && is_executing ms p))
 
--- the run has not ended, and there is a frame with no marker on it
-abbrev pub goes_on_in : List Marker → Parts → Bool
-goes_on_in ms p = is_none p.ending && (has_frame p.frames.frames && is_unmarked ms p)
+-- the run has not ended, and there is a frame with no initialization on it
+abbrev pub goes_on_in : List Initialization → Parts → Bool
+goes_on_in ms p = is_none p.ending && (has_frame p.frames.frames && is_executing ms p)
 
 -- ---- a class that is initialized before
 
@@ -240,10 +240,10 @@ ends_initializer line s f _ = record s { ending = Some (Unverifiable f.method li
 abbrev pub acts_end : Line → Option Kind → State → Frame → State
 acts_end line k s f = ends_initializer line s f (returns k f.operands)
 
--- the parts are then, beneath these markers, what becomes of the state by its top frame
-abbrev pub becomes_beneath : List Marker → (State → Frame → State) → Parts → List PlacedFrame → State
+-- the parts are then, beneath these initializations, what becomes of the state by its top frame
+abbrev pub becomes_beneath : List Initialization → (State → Frame → State) → Parts → List PlacedFrame → State
 becomes_beneath ms does p [] = state_of ms p
-becomes_beneath ms does p (f ∷ fs) = does (with_markers ms (state_with fs p)) (frame_in f)
+becomes_beneath ms does p (f ∷ fs) = does (with_initializations ms (state_with fs p)) (frame_in f)
 
-abbrev pub BecomesBeneath : {A : Type 0} → Result A NoMemory → List Marker → Parts → (State → Frame → State) → Parts → Type 0
+abbrev pub BecomesBeneath : {A : Type 0} → Result A NoMemory → List Initialization → Parts → (State → Frame → State) → Parts → Type 0
 BecomesBeneath result ms new does old = OnOk result (state_of ms new ≡ becomes_beneath ms does old old.frames.frames)

@@ -18,12 +18,12 @@ begins_class c s = record (at_part s c Constants) { shared = with_phase s.shared
 abbrev pub failing : Setup → ℕ → ℕ → Parts → Parts
 failing w c r p = let a = wrapped w.world p.shared r in record p { shared = with_phase a.shared c Erroneous; thrown = Some a.reference }
 
--- a throw meets it, or it goes on; from the state without its marker
-abbrev pub after_marker : Setup → State → Option ℕ → ℕ → Part → State
-after_marker w s (Some r) c part = fails w.world s c r
-after_marker w s None c part = (initializes w.world (listing_of w.versions) s c part).after
+-- a throw meets it, or it goes on; from the state without its initialization
+abbrev pub after_initialization : Setup → State → Option ℕ → ℕ → Part → State
+after_initialization w s (Some r) c part = fails w.world s c r
+after_initialization w s None c part = (initializes w.world (listing_of w.versions) s c part).after
 
 -- the method that begins by that
-abbrev pub marker_begins : Setup → State → Option ℕ → ℕ → Part → Option ℕ
-marker_begins w s (Some r) c part = None
-marker_begins w s None c part = begun_in (initializes w.world (listing_of w.versions) s c part).changes
+abbrev pub initialization_begins : Setup → State → Option ℕ → ℕ → Part → Option ℕ
+initialization_begins w s (Some r) c part = None
+initialization_begins w s None c part = begun_in (initializes w.world (listing_of w.versions) s c part).changes

@@ -22,11 +22,11 @@ use Rattle.jvm_named.specs.declared.known.Callee.TheVariants as callee
 use Rattle.jvm_named.specs.declared.known.Found.{Found}
 use Rattle.jvm_named.specs.declared.known.Found.TheVariants as found
 use Rattle.jvm_named.specs.Does.{Changed}
-use Rattle.prepared_code.specs.declared.markers.Marker.{Marker}
+use Rattle.prepared_code.specs.declared.initializations.Initialization.{Initialization}
 use Rattle.prepared_code.specs.declared.parts.Parts.{Parts}
 use Rattle.jvm_model.specs.declared.event.Mark.TheVariants.{Off}
 use Rattle.prepared_code.specs.declared.parts.Here.{Here}
-use Rattle.prepared_code.specs.Markers.{marker_on, state_of}
+use Rattle.prepared_code.specs.Initializations.{initialization_on, state_of}
 use Rattle.prepared_code.specs.Runs.{IsCalm, Leads, steps_from}
 use Rattle.prepared_code.specs.declared.line.Line.{Line}
 use Rattle.prepared_code.specs.Tables.{Versions}
@@ -61,8 +61,9 @@ pub record IsSilent (w : Setup) (s : State) : Type 0 where
 abbrev pub AreSilent : Setup → State → ℕ → Type 0
 AreSilent w s n = (k : ℕ) → k < n → IsSilent w (steps_from w k s)
 
--- So many steps lead from parts beneath these markers to others beneath the same; they tell nothing, and the run goes on.
-pub record Passes (w : Setup) (ms : List Marker) (old : Parts) (n : ℕ) (new : Parts) : Type 0 where
+-- So many steps lead from parts beneath these initializations to others beneath the same; they tell nothing, and the
+-- run goes on.
+pub record Passes (w : Setup) (ms : List Initialization) (old : Parts) (n : ℕ) (new : Parts) : Type 0 where
   pub calm : IsCalm (length new.frames.frames) ms new
   pub loaded : new.shared.loaded ≡ old.shared.loaded
   pub leads : Leads w (state_of ms old) n (state_of ms new)
@@ -119,11 +120,11 @@ caller_line v (f ∷ g ∷ fs) = line_at v g.version g.place
 caller_line v fs = None
 
 -- where the caller of a frame in this place goes on by a return of which nothing is told
-pub record ReturnsTo (w : Setup) (ms : List Marker) (here : Here) (fs : List PlacedFrame) (next : ℕ) : Type 0 where
+pub record ReturnsTo (w : Setup) (ms : List Initialization) (here : Here) (fs : List PlacedFrame) (next : ℕ) : Type 0 where
   pub caller : Line
   pub stands : caller_line w.versions fs ≡ Some caller
   pub goes_on : next_in caller ≡ Some next
-  pub unmarked : marker_on (length fs - 1) ms ≡ None
+  pub executing : initialization_on (length fs - 1) ms ≡ None
   pub off : mark_of w.versions here.version ≡ Off
   pub current : is_superseded_in w.versions.slots w.versions.current here.version ≡ false
 
@@ -145,10 +146,10 @@ caller_target w class (f ∷ g ∷ fs) = handler_for w.world class g.place ((lis
 caller_target w class fs = None
 
 -- the caller of a frame in this place, and not that frame itself, catches objects of this class, of which nothing is told
-pub record CatchesBelow (w : Setup) (ms : List Marker) (here : Here) (fs : List PlacedFrame) (class target : ℕ) : Type 0 where
+pub record CatchesBelow (w : Setup) (ms : List Initialization) (here : Here) (fs : List PlacedFrame) (class target : ℕ) : Type 0 where
   pub own : handler_for w.world class here.place ((listing_of w.versions).handlers here.version) ≡ None
   pub caller : caller_target w class fs ≡ Some target
-  pub unmarked : marker_on (length fs - 1) ms ≡ None
+  pub executing : initialization_on (length fs - 1) ms ≡ None
   pub off : mark_of w.versions here.version ≡ Off
   pub current : is_superseded_in w.versions.slots w.versions.current here.version ≡ false
 

@@ -3,7 +3,7 @@ use Rattle.std.specs.Prelude.{◌≡◌, ℕ, ◌-◌, Bool, true, false, List, 
 use Rattle.frame_stack.specs.FrameLists.{PlacedFrame}
 use Rattle.jvm_model.specs.declared.due.Due.{Due}
 use Rattle.jvm_model.specs.declared.due.Due.TheVariants.{Nothing, Ends, Begins}
-use Rattle.prepared_code.specs.declared.markers.Marker.{Marker}
+use Rattle.prepared_code.specs.declared.initializations.Initialization.{Initialization}
 use Rattle.prepared_code.specs.declared.line.Line.{Line}
 use Rattle.jvm_steps.specs.declared.turns.hands.Gone.{Gone}
 use Rattle.jvm_steps.specs.declared.turns.hands.Hand.{Hand}
@@ -11,7 +11,7 @@ use Rattle.prepared_code.specs.declared.parts.Parts.{Parts}
 use Rattle.prepared_code.specs.Versions.{Setup, next_in}
 use Rattle.jvm_steps.specs.Instructions.Acts.{attempts_on, awaited_in}
 use Rattle.jvm_steps.specs.Instructions.Passing.{AreKeptBy, caller_line}
-use Rattle.prepared_code.specs.Markers.{marker_on, state_of}
+use Rattle.prepared_code.specs.Initializations.{initialization_on, state_of}
 use Rattle.prepared_code.specs.Runs.{IsCalm}
 use Rattle.jvm_steps.specs.Moves.Hands.{IsLeft, goes_in}
 use Rattle.jvm_steps.specs.Moves.Trying.{tried_in}
@@ -20,7 +20,7 @@ use Rattle.jvm_steps.specs.Moves.Turning.{loads_in, loads_none, pause_at}
 -- ---- an attempt
 
 -- It loads nothing and awaits no class, the run is calm behind it, and no version that is held is left behind by it.
-pub record Attempted (w : Setup) (ms : List Marker) (old new : Parts) : Type 0 where
+pub record Attempted (w : Setup) (ms : List Initialization) (old new : Parts) : Type 0 where
   pub calm : IsCalm (length new.frames.frames) ms new
   pub loaded : new.shared.loaded ≡ old.shared.loaded
   pub loads : loads_in w (state_of ms old) ≡ []
@@ -29,11 +29,11 @@ pub record Attempted (w : Setup) (ms : List Marker) (old new : Parts) : Type 0 w
   pub keeps : AreKeptBy w (state_of ms old).stack (state_of ms new).stack
 
 -- where the caller of the current frame goes on by a return, no initialization standing on it
-pub record GoesBack (w : Setup) (ms : List Marker) (fs : List PlacedFrame) (next : ℕ) : Type 0 where
+pub record GoesBack (w : Setup) (ms : List Initialization) (fs : List PlacedFrame) (next : ℕ) : Type 0 where
   pub caller : Line
   pub stands : caller_line w.versions fs ≡ Some caller
   pub goes_on : next_in caller ≡ Some next
-  pub unmarked : marker_on (length fs - 1) ms ≡ None
+  pub executing : initialization_on (length fs - 1) ms ≡ None
 
 -- ---- where it stops
 
@@ -44,21 +44,21 @@ passed_there (Ends k) = 0
 passed_there Begins = 1
 
 -- this is due then, by an attempt or before it
-pub record TriesCalmly (w : Setup) (ms : List Marker) (told : Bool) (old : Parts) (due : Due) (new : Parts) : Type 0 where
+pub record TriesCalmly (w : Setup) (ms : List Initialization) (told : Bool) (old : Parts) (due : Due) (new : Parts) : Type 0 where
   pub loads : loads_none w (state_of ms old) ≡ true
   pub reaches : pause_at (state_of ms new) (passed_there due) due ≡ tried_in w told 0 (state_of ms old)
   pub loaded : new.shared.loaded ≡ old.shared.loaded
   pub keeps : AreKeptBy w (state_of ms old).stack (state_of ms new).stack
 
 -- it is, or nothing was done
-abbrev pub TriesIf : Bool → Setup → List Marker → Bool → Parts → Due → Parts → Type 0
+abbrev pub TriesIf : Bool → Setup → List Initialization → Bool → Parts → Due → Parts → Type 0
 TriesIf true w ms told old due new = TriesCalmly w ms told old due new
 TriesIf false w ms told old due new = state_of ms new ≡ state_of ms old
 
 -- ---- what is in hand
 
 -- The step in hand has gone on to what is told next of it, or to its end; it has loaded nothing.
-pub record GoesCalmly (w : Setup) (ms : List Marker) (hand : Hand) (old : Parts) (gone : Gone) (new : Parts) : Type 0 where
+pub record GoesCalmly (w : Setup) (ms : List Initialization) (hand : Hand) (old : Parts) (gone : Gone) (new : Parts) : Type 0 where
   pub loads : (hand.moves || loads_none w (state_of ms old)) ≡ true
   pub reaches : pause_at (state_of ms new) gone.hand.passed gone.due ≡ goes_in w hand (state_of ms old)
   pub left : IsLeft gone

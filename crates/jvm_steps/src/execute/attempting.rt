@@ -11,7 +11,7 @@ ghost use Rattle.jvm_steps.specs.Instructions.Acts.{acts, acts_alone, attempts_o
 ghost use Rattle.jvm_steps.specs.Instructions.Acts.{BecomesBeneath, awaited_in, is_named, named_in};
 ghost use Rattle.prepared_code.specs.Linked.{IsReady, linker_in};
 ghost use Rattle.prepared_code.specs.Ready.{CanRun, IsSoundIn};
-ghost use Rattle.prepared_code.specs.Markers.{marker_on, state_of};
+ghost use Rattle.prepared_code.specs.Initializations.{initialization_on, state_of};
 ghost use Rattle.prepared_code.specs.States.{here_of};
 ghost use Rattle.jvm_steps.specs.Moves.Turning.{loads_in, loads_none};
 ghost use Rattle.prepared_code.specs.Versions.{line_at};
@@ -28,7 +28,7 @@ use crate::unwind::raising::{break_off, raise_with};
 use jf_bytes::{NoMemory, Stack};
 use jvm_basic::{Effect, basic_by};
 use prepared_code::{
-    Action, Exception, Here, Line, Marker, Originals, Parts, marker_on, where_now,
+    Action, Exception, Here, Initialization, Line, Originals, Parts, initialization_on, where_now,
 };
 use std::alloc::Global;
 
@@ -99,14 +99,14 @@ fn act(
     }
 }
 
-// ---- beneath the markers
+// ---- beneath the initializations
 
 /// Does a line of the frame of a static initializer: at its return no caller goes on.
 fn act_initializer(
     alloc: Global,
     originals: &Originals,
     parts: &mut Parts,
-    markers: &Stack<Marker>,
+    initializing: &Stack<Initialization>,
     method: u32,
     line: &Line,
 ) -> Result<(), NoMemory>
@@ -114,9 +114,11 @@ fn act_initializer(
     requires family { line.now.family ≡ family_of line.now.instr.op }
     requires alone { is_named line.now.action ≡ false }
     requires objects { AreLoaded (linker_in originals.now) parts.old.shared.heap }
-    requires unmarked { marker_on (length parts.old.frames.frames) markers.now ≡ None }
-    requires beneath { is_some (marker_on (length parts.old.frames.frames - 1) markers.now) ≡ true }
-    ensures { BecomesBeneath result markers.now parts.new
+    requires executing { initialization_on (length parts.old.frames.frames) initializing.now
+        ≡ None }
+    requires beneath { is_some
+        (initialization_on (length parts.old.frames.frames - 1) initializing.now) ≡ true }
+    ensures { BecomesBeneath result initializing.now parts.new
         (acts originals.now.setup line.now) parts.old }
 {
     match line.action {
@@ -128,13 +130,13 @@ fn act_initializer(
     }
 }
 
-/// Does a line of the current frame, beneath the markers.
+/// Does a line of the current frame, beneath the initializations.
 #[inline(always)]
-fn act_marked(
+fn act_beneath(
     alloc: Global,
     originals: &Originals,
     parts: &mut Parts,
-    markers: &Stack<Marker>,
+    initializing: &Stack<Initialization>,
     method: u32,
     line: &Line,
 ) -> Result<(), NoMemory>
@@ -142,12 +144,13 @@ fn act_marked(
     requires family { line.now.family ≡ family_of line.now.instr.op }
     requires alone { is_named line.now.action ≡ false }
     requires objects { AreLoaded (linker_in originals.now) parts.old.shared.heap }
-    requires unmarked { marker_on (length parts.old.frames.frames) markers.now ≡ None }
-    ensures { BecomesBeneath result markers.now parts.new
+    requires executing { initialization_on (length parts.old.frames.frames) initializing.now
+        ≡ None }
+    ensures { BecomesBeneath result initializing.now parts.new
         (acts originals.now.setup line.now) parts.old }
 {
-    if marker_on(markers, parts.frames.depth() - 1).is_some() {
-        act_initializer(alloc, originals, parts, markers, method, line)
+    if initialization_on(initializing, parts.frames.depth() - 1).is_some() {
+        act_initializer(alloc, originals, parts, initializing, method, line)
     } else {
         act(alloc, originals, parts, method, line)
     }
@@ -160,7 +163,7 @@ fn attempt_line(
     alloc: Global,
     originals: &Originals,
     parts: &mut Parts,
-    markers: &Stack<Marker>,
+    initializing: &Stack<Initialization>,
     here: Here,
 ) -> Result<(), NoMemory>
     requires ready { IsReady originals.now here.version }
@@ -168,15 +171,16 @@ fn attempt_line(
     requires alone { named_in (line_at originals.now.setup.versions here.version here.place)
         ≡ false }
     requires objects { AreLoaded (linker_in originals.now) parts.old.shared.heap }
-    requires unmarked { marker_on (length parts.old.frames.frames) markers.now ≡ None }
-    ensures { let w = originals.now.setup in let s = state_of markers.now parts.old in
-        OnOk result (state_of markers.now parts.new ≡ attempts_on w s s.stack) }
+    requires executing { initialization_on (length parts.old.frames.frames) initializing.now
+        ≡ None }
+    ensures { let w = originals.now.setup in let s = state_of initializing.now parts.old in
+        OnOk result (state_of initializing.now parts.new ≡ attempts_on w s s.stack) }
 {
     let Some(line) = originals.line(here.version, here.place) else {
         break_off(parts, here.method, 0);
         return Ok(());
     };
-    act_marked(alloc, originals, parts, markers, here.method, line)
+    act_beneath(alloc, originals, parts, initializing, here.method, line)
 }
 
 // ---- instructions that name something
@@ -210,23 +214,24 @@ fn attempt_name(
     alloc: Global,
     originals: &mut Originals,
     parts: &mut Parts,
-    markers: &mut Stack<Marker>,
+    initializing: &mut Stack<Initialization>,
     here: Here,
 ) -> Result<Option<u32>, NoMemory>
     requires ready { IsReady originals.old here.version }
     requires linked { originals.old.loaded ≡ parts.old.shared.loaded }
     requires fit { CanRun originals.old.setup }
-    requires sound { IsSoundIn originals.old.setup (state_of markers.old parts.old) }
+    requires sound { IsSoundIn originals.old.setup (state_of initializing.old parts.old) }
     requires here { here_of parts.old.frames.frames ≡ Some here }
     requires named { named_in (line_at originals.old.setup.versions here.version here.place)
         ≡ true }
-    requires unmarked { marker_on (length parts.old.frames.frames) markers.old ≡ None }
+    requires executing { initialization_on (length parts.old.frames.frames) initializing.old
+        ≡ None }
     ensures world { originals.new.setup ≡ originals.old.setup }
     ensures linked { OnOk result (originals.new.loaded ≡ parts.new.shared.loaded) }
     ensures answer { IfOk result (λ o.
-        o ≡ awaited_in originals.old.setup (state_of markers.old parts.old)) }
-    ensures state { let w = originals.old.setup in let s = state_of markers.old parts.old in
-        OnOk result (state_of markers.new parts.new ≡ attempts_on w s s.stack) }
+        o ≡ awaited_in originals.old.setup (state_of initializing.old parts.old)) }
+    ensures state { let w = originals.old.setup in let s = state_of initializing.old parts.old in
+        OnOk result (state_of initializing.new parts.new ≡ attempts_on w s s.stack) }
 {
     let asked = originals.attempt_named(
         alloc,
@@ -240,7 +245,7 @@ fn attempt_name(
     let Some(class) = awaited else {
         return Ok(None);
     };
-    initialize(parts, markers, class)?;
+    initialize(parts, initializing, class)?;
     Ok(Some(class))
 }
 
@@ -252,26 +257,27 @@ fn attempt_there(
     alloc: Global,
     originals: &mut Originals,
     parts: &mut Parts,
-    markers: &mut Stack<Marker>,
+    initializing: &mut Stack<Initialization>,
     here: Here,
 ) -> Result<Option<u32>, NoMemory>
     requires ready { IsReady originals.old here.version }
     requires linked { originals.old.loaded ≡ parts.old.shared.loaded }
     requires fit { CanRun originals.old.setup }
-    requires sound { IsSoundIn originals.old.setup (state_of markers.old parts.old) }
+    requires sound { IsSoundIn originals.old.setup (state_of initializing.old parts.old) }
     requires here { here_of parts.old.frames.frames ≡ Some here }
-    requires unmarked { marker_on (length parts.old.frames.frames) markers.old ≡ None }
+    requires executing { initialization_on (length parts.old.frames.frames) initializing.old
+        ≡ None }
     ensures world { originals.new.setup ≡ originals.old.setup }
     ensures linked { OnOk result (originals.new.loaded ≡ parts.new.shared.loaded) }
     ensures answer { IfOk result (λ o.
-        o ≡ awaited_in originals.old.setup (state_of markers.old parts.old)) }
-    ensures state { let w = originals.old.setup in let s = state_of markers.old parts.old in
-        OnOk result (state_of markers.new parts.new ≡ attempts_on w s s.stack) }
+        o ≡ awaited_in originals.old.setup (state_of initializing.old parts.old)) }
+    ensures state { let w = originals.old.setup in let s = state_of initializing.old parts.old in
+        OnOk result (state_of initializing.new parts.new ≡ attempts_on w s s.stack) }
 {
     if named_at(originals, here) {
-        return attempt_name(alloc, originals, parts, markers, here);
+        return attempt_name(alloc, originals, parts, initializing, here);
     }
-    attempt_line(alloc, originals, parts, markers, here)?;
+    attempt_line(alloc, originals, parts, initializing, here)?;
     Ok(None)
 }
 
@@ -282,24 +288,25 @@ pub fn attempt(
     alloc: Global,
     originals: &mut Originals,
     parts: &mut Parts,
-    markers: &mut Stack<Marker>,
+    initializing: &mut Stack<Initialization>,
 ) -> Result<Option<u32>, NoMemory>
     requires linked { originals.old.loaded ≡ parts.old.shared.loaded }
     requires fit { CanRun originals.old.setup }
-    requires sound { IsSoundIn originals.old.setup (state_of markers.old parts.old) }
-    requires unmarked { marker_on (length parts.old.frames.frames) markers.old ≡ None }
+    requires sound { IsSoundIn originals.old.setup (state_of initializing.old parts.old) }
+    requires executing { initialization_on (length parts.old.frames.frames) initializing.old
+        ≡ None }
     ensures world { originals.new.setup ≡ originals.old.setup }
     ensures linked { OnOk result (originals.new.loaded ≡ parts.new.shared.loaded) }
     ensures answer { IfOk result (λ o.
-        o ≡ awaited_in originals.old.setup (state_of markers.old parts.old)) }
-    ensures state { let w = originals.old.setup in let s = state_of markers.old parts.old in
-        OnOk result (state_of markers.new parts.new ≡ attempts_on w s s.stack) }
+        o ≡ awaited_in originals.old.setup (state_of initializing.old parts.old)) }
+    ensures state { let w = originals.old.setup in let s = state_of initializing.old parts.old in
+        OnOk result (state_of initializing.new parts.new ≡ attempts_on w s s.stack) }
 {
     let Some(here) = where_now(&parts.frames) else {
         return Ok(None);
     };
     originals.prepare(alloc, here.version)?;
-    attempt_there(alloc, originals, parts, markers, here)
+    attempt_there(alloc, originals, parts, initializing, here)
 }
 
 // ---- in two parts
@@ -309,30 +316,31 @@ fn attempt_name_loaded(
     alloc: Global,
     originals: &mut Originals,
     parts: &mut Parts,
-    markers: &mut Stack<Marker>,
+    initializing: &mut Stack<Initialization>,
     here: Here,
 ) -> Result<Option<Option<u32>>, NoMemory>
     requires ready { IsReady originals.old here.version }
     requires linked { originals.old.loaded ≡ parts.old.shared.loaded }
     requires fit { CanRun originals.old.setup }
-    requires sound { IsSoundIn originals.old.setup (state_of markers.old parts.old) }
+    requires sound { IsSoundIn originals.old.setup (state_of initializing.old parts.old) }
     requires ending { parts.old.ending ≡ None }
     requires here { here_of parts.old.frames.frames ≡ Some here }
     requires named { named_in (line_at originals.old.setup.versions here.version here.place)
         ≡ true }
-    requires unmarked { marker_on (length parts.old.frames.frames) markers.old ≡ None }
+    requires executing { initialization_on (length parts.old.frames.frames) initializing.old
+        ≡ None }
     ensures world { originals.new.setup ≡ originals.old.setup }
     ensures linked { OnOk result (originals.new.loaded ≡ parts.new.shared.loaded) }
     ensures some { IfOk result (λ o. is_some o
-        ≡ loads_none originals.old.setup (state_of markers.old parts.old)) }
+        ≡ loads_none originals.old.setup (state_of initializing.old parts.old)) }
     ensures answer { IfOk result (λ o. IfSome o (λ a.
-        a ≡ awaited_in originals.old.setup (state_of markers.old parts.old))) }
-    ensures state { let w = originals.old.setup in let s = state_of markers.old parts.old in
+        a ≡ awaited_in originals.old.setup (state_of initializing.old parts.old))) }
+    ensures state { let w = originals.old.setup in let s = state_of initializing.old parts.old in
         IfOk result (λ o. IfSome o (λ _.
-        state_of markers.new parts.new ≡ attempts_on w s s.stack)) }
-    ensures loads { let w = originals.old.setup in let s = state_of markers.old parts.old in
+        state_of initializing.new parts.new ≡ attempts_on w s s.stack)) }
+    ensures loads { let w = originals.old.setup in let s = state_of initializing.old parts.old in
         IfOk result (λ o. IfNone o
-        (state_of markers.new parts.new ≡ with_loaded (loads_in w s) s)) }
+        (state_of initializing.new parts.new ≡ with_loaded (loads_in w s) s)) }
 {
     let asked = originals.attempt_loaded(
         alloc,
@@ -349,7 +357,7 @@ fn attempt_name_loaded(
     let Some(class) = awaited else {
         return Ok(Some(None));
     };
-    initialize(parts, markers, class)?;
+    initialize(parts, initializing, class)?;
     Ok(Some(Some(class)))
 }
 
@@ -359,33 +367,34 @@ fn attempt_loaded_there(
     alloc: Global,
     originals: &mut Originals,
     parts: &mut Parts,
-    markers: &mut Stack<Marker>,
+    initializing: &mut Stack<Initialization>,
     here: Here,
 ) -> Result<Option<Option<u32>>, NoMemory>
     requires ready { IsReady originals.old here.version }
     requires linked { originals.old.loaded ≡ parts.old.shared.loaded }
     requires fit { CanRun originals.old.setup }
-    requires sound { IsSoundIn originals.old.setup (state_of markers.old parts.old) }
+    requires sound { IsSoundIn originals.old.setup (state_of initializing.old parts.old) }
     requires ending { parts.old.ending ≡ None }
     requires here { here_of parts.old.frames.frames ≡ Some here }
-    requires unmarked { marker_on (length parts.old.frames.frames) markers.old ≡ None }
+    requires executing { initialization_on (length parts.old.frames.frames) initializing.old
+        ≡ None }
     ensures world { originals.new.setup ≡ originals.old.setup }
     ensures linked { OnOk result (originals.new.loaded ≡ parts.new.shared.loaded) }
     ensures some { IfOk result (λ o. is_some o
-        ≡ loads_none originals.old.setup (state_of markers.old parts.old)) }
+        ≡ loads_none originals.old.setup (state_of initializing.old parts.old)) }
     ensures answer { IfOk result (λ o. IfSome o (λ a.
-        a ≡ awaited_in originals.old.setup (state_of markers.old parts.old))) }
-    ensures state { let w = originals.old.setup in let s = state_of markers.old parts.old in
+        a ≡ awaited_in originals.old.setup (state_of initializing.old parts.old))) }
+    ensures state { let w = originals.old.setup in let s = state_of initializing.old parts.old in
         IfOk result (λ o. IfSome o (λ _.
-        state_of markers.new parts.new ≡ attempts_on w s s.stack)) }
-    ensures loads { let w = originals.old.setup in let s = state_of markers.old parts.old in
+        state_of initializing.new parts.new ≡ attempts_on w s s.stack)) }
+    ensures loads { let w = originals.old.setup in let s = state_of initializing.old parts.old in
         IfOk result (λ o. IfNone o
-        (state_of markers.new parts.new ≡ with_loaded (loads_in w s) s)) }
+        (state_of initializing.new parts.new ≡ with_loaded (loads_in w s) s)) }
 {
     if named_at(originals, here) {
-        return attempt_name_loaded(alloc, originals, parts, markers, here);
+        return attempt_name_loaded(alloc, originals, parts, initializing, here);
     }
-    attempt_line(alloc, originals, parts, markers, here)?;
+    attempt_line(alloc, originals, parts, initializing, here)?;
     Ok(Some(None))
 }
 
@@ -395,29 +404,30 @@ pub fn attempt_loaded(
     alloc: Global,
     originals: &mut Originals,
     parts: &mut Parts,
-    markers: &mut Stack<Marker>,
+    initializing: &mut Stack<Initialization>,
 ) -> Result<Option<Option<u32>>, NoMemory>
     requires linked { originals.old.loaded ≡ parts.old.shared.loaded }
     requires fit { CanRun originals.old.setup }
-    requires sound { IsSoundIn originals.old.setup (state_of markers.old parts.old) }
+    requires sound { IsSoundIn originals.old.setup (state_of initializing.old parts.old) }
     requires ending { parts.old.ending ≡ None }
-    requires unmarked { marker_on (length parts.old.frames.frames) markers.old ≡ None }
+    requires executing { initialization_on (length parts.old.frames.frames) initializing.old
+        ≡ None }
     ensures world { originals.new.setup ≡ originals.old.setup }
     ensures linked { OnOk result (originals.new.loaded ≡ parts.new.shared.loaded) }
     ensures some { IfOk result (λ o. is_some o
-        ≡ loads_none originals.old.setup (state_of markers.old parts.old)) }
+        ≡ loads_none originals.old.setup (state_of initializing.old parts.old)) }
     ensures answer { IfOk result (λ o. IfSome o (λ a.
-        a ≡ awaited_in originals.old.setup (state_of markers.old parts.old))) }
-    ensures state { let w = originals.old.setup in let s = state_of markers.old parts.old in
+        a ≡ awaited_in originals.old.setup (state_of initializing.old parts.old))) }
+    ensures state { let w = originals.old.setup in let s = state_of initializing.old parts.old in
         IfOk result (λ o. IfSome o (λ _.
-        state_of markers.new parts.new ≡ attempts_on w s s.stack)) }
-    ensures loads { let w = originals.old.setup in let s = state_of markers.old parts.old in
+        state_of initializing.new parts.new ≡ attempts_on w s s.stack)) }
+    ensures loads { let w = originals.old.setup in let s = state_of initializing.old parts.old in
         IfOk result (λ o. IfNone o
-        (state_of markers.new parts.new ≡ with_loaded (loads_in w s) s)) }
+        (state_of initializing.new parts.new ≡ with_loaded (loads_in w s) s)) }
 {
     let Some(here) = where_now(&parts.frames) else {
         return Ok(Some(None));
     };
     originals.prepare(alloc, here.version)?;
-    attempt_loaded_there(alloc, originals, parts, markers, here)
+    attempt_loaded_there(alloc, originals, parts, initializing, here)
 }

@@ -17,7 +17,7 @@ ghost use Rattle.prepared_code.specs.declared.line.Action.TheVariants as action;
 ghost use Rattle.jvm_steps.specs.Instructions.Arguments.{can_begin, with_begun};
 ghost use Rattle.jvm_steps.specs.Instructions.Invoking.{may_begin};
 ghost use Rattle.prepared_code.specs.Linked.{linker_in};
-ghost use Rattle.prepared_code.specs.Markers.{state_of};
+ghost use Rattle.prepared_code.specs.Initializations.{state_of};
 ghost use Rattle.jvm_steps.specs.Instructions.Passing.{Passes, ReturnsTo, is_method, is_probed, is_told, on_frames};
 ghost use Rattle.jvm_steps.specs.Instructions.Passing.{changed_in, steps_if, with_changed};
 ghost use Rattle.prepared_code.specs.Ready.{CanRun, IsSoundIn};
@@ -43,7 +43,9 @@ use jvm_named::{
     Call, Callee, Found, Invoked, Known, NativeCall, SymbolicReference, known_call, pass_field,
     pass_native,
 };
-use prepared_code::{Action, Here, Line, Marker, Originals, Parts, marker_on, next_in, where_now};
+use prepared_code::{
+    Action, Here, Initialization, Line, Originals, Parts, initialization_on, next_in, where_now,
+};
 use std::alloc::Global;
 
 // ---- a call
@@ -117,7 +119,7 @@ fn pass_call(
     alloc: Global,
     originals: &Originals,
     parts: &mut Parts,
-    markers: &Stack<Marker>,
+    initializing: &Stack<Initialization>,
     here: Here,
     line: &Line,
     naming: &SymbolicReference,
@@ -125,13 +127,13 @@ fn pass_call(
 ) -> bool
     requires run { CanRun originals.now.setup }
     requires linked { originals.now.loaded ≡ parts.old.shared.loaded }
-    requires sound { IsSoundIn originals.now.setup (state_of markers.now parts.old) }
-    requires calm { IsCalm (length parts.old.frames.frames) markers.now parts.old }
+    requires sound { IsSoundIn originals.now.setup (state_of initializing.now parts.old) }
+    requires calm { IsCalm (length parts.old.frames.frames) initializing.now parts.old }
     requires here { here_of parts.old.frames.frames ≡ Some here }
     requires line { line_at originals.now.setup.versions here.version here.place ≡ Some line.now }
     requires named { line.now.action ≡ action.Named naming.now }
     requires known { IsKnown (linker_in originals.now) (symbolic_view naming.now) known.now }
-    ensures { Passes originals.now.setup markers.now parts.old (steps_if result) parts.new }
+    ensures { Passes originals.now.setup initializing.now parts.old (steps_if result) parts.new }
 {
     let linker = originals.linker();
     let selections = originals.selections();
@@ -153,7 +155,7 @@ fn pass_access(
     alloc: Global,
     originals: &Originals,
     parts: &mut Parts,
-    markers: &Stack<Marker>,
+    initializing: &Stack<Initialization>,
     here: Here,
     line: &Line,
     naming: &SymbolicReference,
@@ -161,13 +163,13 @@ fn pass_access(
 ) -> bool
     requires run { CanRun originals.now.setup }
     requires linked { originals.now.loaded ≡ parts.old.shared.loaded }
-    requires sound { IsSoundIn originals.now.setup (state_of markers.now parts.old) }
-    requires calm { IsCalm (length parts.old.frames.frames) markers.now parts.old }
+    requires sound { IsSoundIn originals.now.setup (state_of initializing.now parts.old) }
+    requires calm { IsCalm (length parts.old.frames.frames) initializing.now parts.old }
     requires here { here_of parts.old.frames.frames ≡ Some here }
     requires line { line_at originals.now.setup.versions here.version here.place ≡ Some line.now }
     requires named { line.now.action ≡ action.Named naming.now }
     requires known { IsKnown (linker_in originals.now) (symbolic_view naming.now) known.now }
-    ensures { Passes originals.now.setup markers.now parts.old (steps_if result) parts.new }
+    ensures { Passes originals.now.setup initializing.now parts.old (steps_if result) parts.new }
 {
     let linker = originals.linker();
     pass_field(
@@ -185,16 +187,16 @@ fn pass_access(
 fn pass_measure(
     originals: &Originals,
     parts: &mut Parts,
-    markers: &Stack<Marker>,
+    initializing: &Stack<Initialization>,
     here: Here,
     line: &Line,
 ) -> bool
     requires run { CanRun originals.now.setup }
-    requires calm { IsCalm (length parts.old.frames.frames) markers.now parts.old }
+    requires calm { IsCalm (length parts.old.frames.frames) initializing.now parts.old }
     requires here { here_of parts.old.frames.frames ≡ Some here }
     requires line { line_at originals.now.setup.versions here.version here.place ≡ Some line.now }
     requires measures { line.now.action ≡ action.Arraylength }
-    ensures { Passes originals.now.setup markers.now parts.old (steps_if result) parts.new }
+    ensures { Passes originals.now.setup initializing.now parts.old (steps_if result) parts.new }
 {
     pass_length(parts, line)
 }
@@ -228,15 +230,19 @@ pub fn result_of(frames: &Frames, kind: Option<Kind>) -> Option<Option<Datum>>
 
 /// Where the caller of the current frame goes on. None where nothing does, or where an initialization stands on it.
 #[inline(always)]
-pub fn goes_back(originals: &Originals, frames: &Frames, markers: &Stack<Marker>) -> Option<u16>
+pub fn goes_back(
+    originals: &Originals,
+    frames: &Frames,
+    initializing: &Stack<Initialization>,
+) -> Option<u16>
     ensures { let w = originals.now.setup in
-        IfSome result (λ next. GoesBack w markers.now frames.now.frames next) }
+        IfSome result (λ next. GoesBack w initializing.now frames.now.frames next) }
 {
     let depth = frames.depth();
     if depth < 2 {
         return None;
     }
-    if marker_on(markers, depth - 1).is_some() {
+    if initialization_on(initializing, depth - 1).is_some() {
         return None;
     }
     let Some((version, place)) = frames.caller() else {
@@ -252,11 +258,11 @@ pub fn goes_back(originals: &Originals, frames: &Frames, markers: &Stack<Marker>
 fn returns_to(
     originals: &Originals,
     frames: &Frames,
-    markers: &Stack<Marker>,
+    initializing: &Stack<Initialization>,
     here: Here,
 ) -> Option<u16>
     ensures { let w = originals.now.setup in
-        IfSome result (λ next. ReturnsTo w markers.now here frames.now.frames next) }
+        IfSome result (λ next. ReturnsTo w initializing.now here frames.now.frames next) }
 {
     if !is_off(originals.mark(here.version)) {
         return None;
@@ -264,26 +270,26 @@ fn returns_to(
     if !originals.is_current(here.version) {
         return None;
     }
-    goes_back(originals, frames, markers)
+    goes_back(originals, frames, initializing)
 }
 
 /// A return.
 fn pass_return(
     originals: &Originals,
     parts: &mut Parts,
-    markers: &Stack<Marker>,
+    initializing: &Stack<Initialization>,
     here: Here,
     line: &Line,
     kind: Option<Kind>,
 ) -> bool
     requires run { CanRun originals.now.setup }
-    requires calm { IsCalm (length parts.old.frames.frames) markers.now parts.old }
+    requires calm { IsCalm (length parts.old.frames.frames) initializing.now parts.old }
     requires here { here_of parts.old.frames.frames ≡ Some here }
     requires line { line_at originals.now.setup.versions here.version here.place ≡ Some line.now }
     requires ends { line.now.action ≡ action.Return kind }
-    ensures { Passes originals.now.setup markers.now parts.old (steps_if result) parts.new }
+    ensures { Passes originals.now.setup initializing.now parts.old (steps_if result) parts.new }
 {
-    let Some(next) = returns_to(originals, &parts.frames, markers, here) else {
+    let Some(next) = returns_to(originals, &parts.frames, initializing, here) else {
         return false;
     };
     let Some(datum) = result_of(&parts.frames, kind) else {
@@ -299,22 +305,22 @@ fn pass_return(
 fn pass_throw(
     originals: &Originals,
     parts: &mut Parts,
-    markers: &Stack<Marker>,
+    initializing: &Stack<Initialization>,
     here: Here,
     line: &Line,
 ) -> bool
     requires run { CanRun originals.now.setup }
-    requires calm { IsCalm (length parts.old.frames.frames) markers.now parts.old }
+    requires calm { IsCalm (length parts.old.frames.frames) initializing.now parts.old }
     requires here { here_of parts.old.frames.frames ≡ Some here }
     requires line { line_at originals.now.setup.versions here.version here.place ≡ Some line.now }
     requires throws { line.now.action ≡ action.Athrow }
-    ensures { Passes originals.now.setup markers.now parts.old (steps_if result) parts.new }
+    ensures { Passes originals.now.setup initializing.now parts.old (steps_if result) parts.new }
 {
     let Some(object) = thrown_object(originals, &parts.shared, &parts.frames) else {
         return false;
     };
     let class = class_of(originals.program(), &parts.shared.heap, object) as usize;
-    let Some(target) = caught_below(originals, &parts.frames, markers, here, class) else {
+    let Some(target) = caught_below(originals, &parts.frames, initializing, here, class) else {
         return false;
     };
     catch_below(&mut parts.frames, object, target)
@@ -362,19 +368,19 @@ fn pass_named(
     alloc: Global,
     originals: &Originals,
     parts: &mut Parts,
-    markers: &Stack<Marker>,
+    initializing: &Stack<Initialization>,
     here: Here,
     line: &Line,
     naming: &SymbolicReference,
 ) -> bool
     requires run { CanRun originals.now.setup }
     requires linked { originals.now.loaded ≡ parts.old.shared.loaded }
-    requires sound { IsSoundIn originals.now.setup (state_of markers.now parts.old) }
-    requires calm { IsCalm (length parts.old.frames.frames) markers.now parts.old }
+    requires sound { IsSoundIn originals.now.setup (state_of initializing.now parts.old) }
+    requires calm { IsCalm (length parts.old.frames.frames) initializing.now parts.old }
     requires here { here_of parts.old.frames.frames ≡ Some here }
     requires line { line_at originals.now.setup.versions here.version here.place ≡ Some line.now }
     requires named { line.now.action ≡ action.Named naming.now }
-    ensures { Passes originals.now.setup markers.now parts.old (steps_if result) parts.new }
+    ensures { Passes originals.now.setup initializing.now parts.old (steps_if result) parts.new }
 {
     let Some(known) = originals.known(here.version, here.place) else {
         return false;
@@ -383,9 +389,27 @@ fn pass_named(
         return false;
     }
     if is_method(known) {
-        pass_call(alloc, originals, parts, markers, here, line, naming, known)
+        pass_call(
+            alloc,
+            originals,
+            parts,
+            initializing,
+            here,
+            line,
+            naming,
+            known,
+        )
     } else {
-        pass_access(alloc, originals, parts, markers, here, line, naming, known)
+        pass_access(
+            alloc,
+            originals,
+            parts,
+            initializing,
+            here,
+            line,
+            naming,
+            known,
+        )
     }
 }
 
@@ -395,13 +419,13 @@ fn pass_line(
     alloc: Global,
     originals: &Originals,
     parts: &mut Parts,
-    markers: &Stack<Marker>,
+    initializing: &Stack<Initialization>,
 ) -> bool
     requires run { CanRun originals.now.setup }
     requires linked { originals.now.loaded ≡ parts.old.shared.loaded }
-    requires sound { IsSoundIn originals.now.setup (state_of markers.now parts.old) }
-    requires calm { IsCalm (length parts.old.frames.frames) markers.now parts.old }
-    ensures { Passes originals.now.setup markers.now parts.old (steps_if result) parts.new }
+    requires sound { IsSoundIn originals.now.setup (state_of initializing.now parts.old) }
+    requires calm { IsCalm (length parts.old.frames.frames) initializing.now parts.old }
+    ensures { Passes originals.now.setup initializing.now parts.old (steps_if result) parts.new }
 {
     let Some(here) = where_now(&parts.frames) else {
         return false;
@@ -410,10 +434,18 @@ fn pass_line(
         return false;
     };
     match &line.action {
-        Action::Named(naming) => pass_named(alloc, originals, parts, markers, here, line, naming),
-        Action::Return(kind) => pass_return(originals, parts, markers, here, line, *kind),
-        Action::Athrow => pass_throw(originals, parts, markers, here, line),
-        Action::Arraylength => pass_measure(originals, parts, markers, here, line),
+        Action::Named(naming) => pass_named(
+            alloc,
+            originals,
+            parts,
+            initializing,
+            here,
+            line,
+            naming,
+        ),
+        Action::Return(kind) => pass_return(originals, parts, initializing, here, line, *kind),
+        Action::Athrow => pass_throw(originals, parts, initializing, here, line),
+        Action::Arraylength => pass_measure(originals, parts, initializing, here, line),
         _ => false,
     }
 }
@@ -423,18 +455,18 @@ pub fn pass_steps(
     alloc: Global,
     originals: &Originals,
     parts: &mut Parts,
-    markers: &Stack<Marker>,
+    initializing: &Stack<Initialization>,
     most: u64,
 ) -> u64
     requires run { CanRun originals.now.setup }
     requires linked { originals.now.loaded ≡ parts.old.shared.loaded }
-    requires sound { IsSoundIn originals.now.setup (state_of markers.now parts.old) }
-    requires calm { IsCalm (length parts.old.frames.frames) markers.now parts.old }
+    requires sound { IsSoundIn originals.now.setup (state_of initializing.now parts.old) }
+    requires calm { IsCalm (length parts.old.frames.frames) initializing.now parts.old }
     ensures within { result ≤ most }
-    ensures made { Passes originals.now.setup markers.now parts.old result parts.new }
+    ensures made { Passes originals.now.setup initializing.now parts.old result parts.new }
 {
     let mut made = plain_steps(originals, parts, most);
-    while made < most && pass_line(alloc, originals, parts, markers) {
+    while made < most && pass_line(alloc, originals, parts, initializing) {
         made += 1;
         made += plain_steps(originals, parts, most - made);
     }

@@ -11,7 +11,7 @@ ghost use Rattle.jvm_model.specs.Basis.SharedState.{class_of, error, phase_of, w
 ghost use Rattle.jvm_steps.specs.Instructions.Initializing.{begins_class, failing};
 ghost use Rattle.jvm_steps.specs.Instructions.Invoking.{may_begin};
 ghost use Rattle.jvm_steps.specs.Moves.Turning.{begun_in};
-ghost use Rattle.prepared_code.specs.Markers.{marker_on, state_of};
+ghost use Rattle.prepared_code.specs.Initializations.{initialization_on, state_of};
 ghost use Rattle.prepared_code.specs.Versions.{listing_of};
 
 use crate::execute::entering::enter;
@@ -22,7 +22,9 @@ use crate::unwind::supertypes::is_below_bytes;
 use jf_bytes::{NoMemory, Stack};
 use jvm_model::{Part, Phase, Shared};
 use jvm_named::set_constants;
-use prepared_code::{Exception, Marker, Originals, Parts, initializer_of, mark, super_of};
+use prepared_code::{
+    Exception, Initialization, Originals, Parts, initializer_of, put_initialization, super_of,
+};
 use std::alloc::Global;
 
 /// Gives a class this phase.
@@ -34,17 +36,17 @@ pub fn set_phase(shared: &mut Shared, class: u32, phase: Phase)
     }
 }
 
-/// The initialization of a class begins: its marker stands on the current frame.
+/// The initialization of a class begins: its initialization stands on the current frame.
 pub fn initialize(
     parts: &mut Parts,
-    markers: &mut Stack<Marker>,
+    initializing: &mut Stack<Initialization>,
     class: u32,
 ) -> Result<(), NoMemory>
-    ensures { OnOk result (state_of markers.new parts.new
-        ≡ begins_class class (state_of markers.old parts.old)) }
+    ensures { OnOk result (state_of initializing.new parts.new
+        ≡ begins_class class (state_of initializing.old parts.old)) }
 {
     set_phase(&mut parts.shared, class, Phase::Running);
-    mark(parts, markers, class, Part::Constants)
+    put_initialization(parts, initializing, class, Part::Constants)
 }
 
 // ---- a throw meets an initialization
@@ -95,17 +97,17 @@ pub fn fail(
 fn initialize_above(
     originals: &Originals,
     parts: &mut Parts,
-    markers: &mut Stack<Marker>,
+    initializing: &mut Stack<Initialization>,
     class: u32,
     above: u32,
 ) -> Result<(), NoMemory>
-    ensures { OnOk result (state_of markers.new parts.new
-        ≡ after_super originals.now.setup.world (state_of markers.old parts.old) class above
+    ensures { OnOk result (state_of initializing.new parts.new
+        ≡ after_super originals.now.setup.world (state_of initializing.old parts.old) class above
         (phase_of parts.old.shared above)) }
 {
-    mark(parts, markers, class, Part::Initializer)?;
+    put_initialization(parts, initializing, class, Part::Initializer)?;
     match parts.shared.phases.at(above as usize) {
-        Some(Phase::Fresh) => initialize(parts, markers, above),
+        Some(Phase::Fresh) => initialize(parts, initializing, above),
         Some(Phase::Erroneous) => raise_unusable(originals, parts, above),
         Some(Phase::Running) => Ok(()),
         Some(Phase::Ready) => Ok(()),
@@ -117,16 +119,16 @@ fn initialize_above(
 fn initialize_super(
     originals: &Originals,
     parts: &mut Parts,
-    markers: &mut Stack<Marker>,
+    initializing: &mut Stack<Initialization>,
     class: u32,
 ) -> Result<(), NoMemory>
-    ensures { OnOk result (state_of markers.new parts.new
-        ≡ with_super originals.now.setup.world (state_of markers.old parts.old) class
+    ensures { OnOk result (state_of initializing.new parts.new
+        ≡ with_super originals.now.setup.world (state_of initializing.old parts.old) class
         (super_of originals.now.setup.world.program class)) }
 {
     match super_of(originals.program(), class) {
-        Some(above) => initialize_above(originals, parts, markers, class, above),
-        None => mark(parts, markers, class, Part::Initializer),
+        Some(above) => initialize_above(originals, parts, initializing, class, above),
+        None => put_initialization(parts, initializing, class, Part::Initializer),
     }
 }
 
@@ -136,13 +138,14 @@ fn initialize_super(
 fn begin_initializer(
     originals: &Originals,
     parts: &mut Parts,
-    markers: &Stack<Marker>,
+    initializing: &Stack<Initialization>,
     method: u32,
 ) -> Result<(), NoMemory>
     requires few { may_begin parts.old.frames.frames ≡ true }
-    requires below { marker_on (suc (length parts.old.frames.frames)) markers.now ≡ None }
-    ensures { let w = originals.now.setup in OnOk result (state_of markers.now parts.new
-        ≡ with_frame (state_of markers.now parts.old)
+    requires below { initialization_on (suc (length parts.old.frames.frames)) initializing.now
+        ≡ None }
+    ensures { let w = originals.now.setup in OnOk result (state_of initializing.now parts.new
+        ≡ with_frame (state_of initializing.now parts.old)
         (new_frame w.world (listing_of w.versions) method [])) }
 {
     let max_locals = originals.max_locals(method);
@@ -164,17 +167,19 @@ fn begin_initializer(
 fn run_initializer(
     originals: &Originals,
     parts: &mut Parts,
-    markers: &mut Stack<Marker>,
+    initializing: &mut Stack<Initialization>,
     class: u32,
 ) -> Result<Option<u32>, NoMemory>
     ensures begun { let w = originals.now.setup in IfOk result (λ o. o ≡ begun_in
-        (runs_initializer w.world (listing_of w.versions) (state_of markers.old parts.old) class
+        (runs_initializer w.world (listing_of w.versions)
+        (state_of initializing.old parts.old) class
         (initializer_of w.world.program class)).changes) }
-    ensures state { let w = originals.now.setup in OnOk result (state_of markers.new parts.new
-        ≡ (runs_initializer w.world (listing_of w.versions) (state_of markers.old parts.old) class
+    ensures state { let w = originals.now.setup in OnOk result (state_of initializing.new parts.new
+        ≡ (runs_initializer w.world (listing_of w.versions)
+        (state_of initializing.old parts.old) class
         (initializer_of w.world.program class)).after) }
 {
-    mark(parts, markers, class, Part::Finish)?;
+    put_initialization(parts, initializing, class, Part::Finish)?;
     let Some(method) = initializer_of(originals.program(), class) else {
         return Ok(None);
     };
@@ -182,7 +187,7 @@ fn run_initializer(
         raise(originals, parts, Exception::StackOverflow)?;
         return Ok(None);
     }
-    begin_initializer(originals, parts, markers, method)?;
+    begin_initializer(originals, parts, initializing, method)?;
     Ok(Some(method))
 }
 
@@ -193,14 +198,14 @@ fn run_constants(
     alloc: Global,
     originals: &Originals,
     parts: &mut Parts,
-    markers: &mut Stack<Marker>,
+    initializing: &mut Stack<Initialization>,
     class: u32,
 ) -> Result<(), NoMemory>
-    ensures { let w = originals.now.setup in OnOk result (state_of markers.new parts.new
-        ≡ with_constants (state_of markers.old parts.old) class
+    ensures { let w = originals.now.setup in OnOk result (state_of initializing.new parts.new
+        ≡ with_constants (state_of initializing.old parts.old) class
         (sets_constants w.world.program class parts.old.shared)) }
 {
-    mark(parts, markers, class, Part::Superclass)?;
+    put_initialization(parts, initializing, class, Part::Superclass)?;
     let string = originals.string_kind();
     let program = originals.program();
     parts.thrown = set_constants(alloc, program, string, class, &mut parts.shared)?;
@@ -209,32 +214,33 @@ fn run_constants(
 
 // ---- every part
 
-/// The initialization of a class goes on with this part, after its marker was taken off. The answer is the method that has begun.
+/// The initialization of a class goes on with this part, after its initialization was taken off. The answer is the
+/// method that has begun.
 pub fn go_on(
     alloc: Global,
     originals: &Originals,
     parts: &mut Parts,
-    markers: &mut Stack<Marker>,
+    initializing: &mut Stack<Initialization>,
     class: u32,
     part: Part,
 ) -> Result<Option<u32>, NoMemory>
-    ensures begun { let w = originals.now.setup in let s = state_of markers.old parts.old in
+    ensures begun { let w = originals.now.setup in let s = state_of initializing.old parts.old in
         IfOk result (λ o. o ≡ begun_in
         (initializes w.world (listing_of w.versions) s class part).changes) }
-    ensures state { let w = originals.now.setup in let s = state_of markers.old parts.old in
-        OnOk result (state_of markers.new parts.new
+    ensures state { let w = originals.now.setup in let s = state_of initializing.old parts.old in
+        OnOk result (state_of initializing.new parts.new
         ≡ (initializes w.world (listing_of w.versions) s class part).after) }
 {
     match part {
         Part::Constants => {
-            run_constants(alloc, originals, parts, markers, class)?;
+            run_constants(alloc, originals, parts, initializing, class)?;
             Ok(None)
         }
         Part::Superclass => {
-            initialize_super(originals, parts, markers, class)?;
+            initialize_super(originals, parts, initializing, class)?;
             Ok(None)
         }
-        Part::Initializer => run_initializer(originals, parts, markers, class),
+        Part::Initializer => run_initializer(originals, parts, initializing, class),
         Part::Finish => {
             set_phase(&mut parts.shared, class, Phase::Ready);
             Ok(None)

@@ -8,7 +8,7 @@ ghost use Rattle.jvm_model.specs.Soundness.Sound.{IsFit};
 ghost use Rattle.jvm_model.specs.Classes.Starting.{ready_in, unmade_in};
 ghost use Rattle.jvm_named.specs.Answers.{found_view};
 ghost use Rattle.jvm_steps.specs.Machine.Before.{IsAtStart, begun_by, with_first};
-ghost use Rattle.prepared_code.specs.Markers.{state_of};
+ghost use Rattle.prepared_code.specs.Initializations.{state_of};
 ghost use Rattle.prepared_code.specs.Standing.{IsRunOf, IsSetUp};
 ghost use Rattle.prepared_code.specs.States.{state_in};
 ghost use Rattle.prepared_code.specs.Versions.{listing_of};
@@ -20,7 +20,7 @@ use crate::unwind::settling::settle;
 use jf_bytes::{NoMemory, Stack};
 use jvm_model::{Ending, Phase, Shared};
 use jvm_named::Refusal;
-use prepared_code::{Marker, Originals, Parts, arguments_fit, main_class, make_arguments};
+use prepared_code::{Initialization, Originals, Parts, arguments_fit, main_class, make_arguments};
 use std::alloc::Global;
 
 /// The OutOfMemoryError that the machine throws.
@@ -68,25 +68,25 @@ fn begin_class(
     alloc: Global,
     originals: &Originals,
     parts: &mut Parts,
-    markers: &mut Stack<Marker>,
+    initializing: &mut Stack<Initialization>,
     class: u32,
     found: Result<u32, Refusal>,
 ) -> Result<(), NoMemory>
-    ensures state { OnOk result (state_of markers.new parts.new
+    ensures state { OnOk result (state_of initializing.new parts.new
         ≡ begun_by originals.now.setup.world class (found_view found)
-        (state_of markers.old parts.old)) }
+        (state_of initializing.old parts.old)) }
     ensures loaded { OnOk result (parts.new.shared.loaded ≡ parts.old.shared.loaded) }
 {
     match found {
-        Ok(_) => initialize(parts, markers, class),
+        Ok(_) => initialize(parts, initializing, class),
         Err(Refusal::Raises(exception, message)) => {
             raise_named(alloc, originals, parts, exception, message)
         }
         // These do not come.
-        Err(Refusal::Throws(_)) => initialize(parts, markers, class),
-        Err(Refusal::Initializes(_)) => initialize(parts, markers, class),
-        Err(Refusal::Exits(_)) => initialize(parts, markers, class),
-        Err(Refusal::Breaks) => initialize(parts, markers, class),
+        Err(Refusal::Throws(_)) => initialize(parts, initializing, class),
+        Err(Refusal::Initializes(_)) => initialize(parts, initializing, class),
+        Err(Refusal::Exits(_)) => initialize(parts, initializing, class),
+        Err(Refusal::Breaks) => initialize(parts, initializing, class),
     }
 }
 
@@ -96,21 +96,21 @@ fn load_main(
     alloc: Global,
     originals: &mut Originals,
     parts: &mut Parts,
-    markers: &mut Stack<Marker>,
+    initializing: &mut Stack<Initialization>,
 ) -> Result<(), NoMemory>
-    requires at_start { IsAtStart originals.old.setup.world (state_of markers.old parts.old) }
+    requires at_start { IsAtStart originals.old.setup.world (state_of initializing.old parts.old) }
     requires fits { arguments_fit originals.old.setup.world.program ≡ true }
     requires linked { originals.old.loaded ≡ parts.old.shared.loaded }
     requires fit { IsFit originals.old.setup.world.program }
     ensures world { originals.new.setup ≡ originals.old.setup }
     ensures linked { OnOk result (originals.new.loaded ≡ parts.new.shared.loaded) }
     ensures state { OnOk result
-        (state_of markers.new parts.new ≡ starts_if originals.old.setup.world true) }
+        (state_of initializing.new parts.new ≡ starts_if originals.old.setup.world true) }
 {
     make_arguments(originals.program(), &mut parts.shared.heap)?;
     let found = originals.load_main(alloc, &mut parts.shared.loaded)?;
     let class = main_class(originals.program());
-    begin_class(alloc, originals, parts, markers, class, found)
+    begin_class(alloc, originals, parts, initializing, class, found)
 }
 
 /// What the start does before its moves: the same, or, where there is no room for the arguments, object 1 is thrown. The classes that
@@ -119,20 +119,20 @@ pub fn begin_start(
     alloc: Global,
     originals: &mut Originals,
     parts: &mut Parts,
-    markers: &mut Stack<Marker>,
+    initializing: &mut Stack<Initialization>,
 ) -> Result<(), NoMemory>
-    requires at_start { IsAtStart originals.old.setup.world (state_of markers.old parts.old) }
+    requires at_start { IsAtStart originals.old.setup.world (state_of initializing.old parts.old) }
     requires linked { originals.old.loaded ≡ parts.old.shared.loaded }
     requires fit { IsFit originals.old.setup.world.program }
     ensures world { originals.new.setup ≡ originals.old.setup }
     ensures linked { OnOk result (originals.new.loaded ≡ parts.new.shared.loaded) }
     ensures state { OnOk result
-        (state_of markers.new parts.new ≡ starts_with originals.old.setup.world) }
+        (state_of initializing.new parts.new ≡ starts_with originals.old.setup.world) }
     ensures loads { let w = originals.old.setup.world in OnOk result
         (parts.new.shared.loaded ≡ parts.old.shared.loaded ++ main_loads w) }
 {
     if arguments_fit(originals.program()) {
-        return load_main(alloc, originals, parts, markers);
+        return load_main(alloc, originals, parts, initializing);
     }
     parts.thrown = Some(OUT_OF_MEMORY);
     Ok(())
@@ -144,18 +144,18 @@ pub fn start(
     alloc: Global,
     originals: &mut Originals,
     parts: &mut Parts,
-    markers: &mut Stack<Marker>,
+    initializing: &mut Stack<Initialization>,
 ) -> Result<(), NoMemory>
-    requires at_start { IsAtStart originals.old.setup.world (state_of markers.old parts.old) }
+    requires at_start { IsAtStart originals.old.setup.world (state_of initializing.old parts.old) }
     requires linked { originals.old.loaded ≡ parts.old.shared.loaded }
     requires fit { IsFit originals.old.setup.world.program }
     ensures world { originals.new.setup ≡ originals.old.setup }
     ensures linked { OnOk result (originals.new.loaded ≡ parts.new.shared.loaded) }
     ensures state { let w = originals.old.setup in OnOk result
-        (state_of markers.new parts.new ≡ (start w.world (listing_of w.versions)).after) }
+        (state_of initializing.new parts.new ≡ (start w.world (listing_of w.versions)).after) }
     ensures stands { let w = originals.old.setup in
-        IsSetUp w → OnOk result (IsRunOf w 0 (state_of markers.new parts.new)) }
+        IsSetUp w → OnOk result (IsRunOf w 0 (state_of initializing.new parts.new)) }
 {
-    begin_start(alloc, originals, parts, markers)?;
-    settle(alloc, originals, parts, markers)
+    begin_start(alloc, originals, parts, initializing)?;
+    settle(alloc, originals, parts, initializing)
 }

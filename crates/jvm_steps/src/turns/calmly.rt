@@ -15,7 +15,7 @@ ghost use Rattle.prepared_code.specs.Versions.{current_of, line_at, mark_of};
 ghost use Rattle.jvm_steps.specs.Instructions.Arguments.{can_begin, with_begun};
 ghost use Rattle.jvm_steps.specs.Instructions.Invoking.{may_begin};
 ghost use Rattle.jvm_steps.specs.Instructions.Passing.{on_frames};
-ghost use Rattle.prepared_code.specs.Markers.{state_of};
+ghost use Rattle.prepared_code.specs.Initializations.{state_of};
 ghost use Rattle.prepared_code.specs.Ready.{CanRun, IsSoundIn};
 ghost use Rattle.prepared_code.specs.Runs.{IsCalm};
 ghost use Rattle.prepared_code.specs.Standing.{HasVersions};
@@ -33,7 +33,7 @@ use jf_bytes::Stack;
 use jvm_basic::recall;
 use jvm_model::{Due, EventKind};
 use jvm_named::{Call, Invoked, Known, SymbolicReference, known_call};
-use prepared_code::{Action, Here, Line, Marker, Originals, Parts, where_now};
+use prepared_code::{Action, Here, Initialization, Line, Originals, Parts, where_now};
 
 // ---- a call
 
@@ -67,7 +67,7 @@ fn begin_marked(originals: &Originals, parts: &mut Parts, call: Call) -> bool
 fn invoke_known(
     originals: &Originals,
     parts: &mut Parts,
-    markers: &Stack<Marker>,
+    initializing: &Stack<Initialization>,
     here: Here,
     line: &Line,
     naming: &SymbolicReference,
@@ -75,14 +75,14 @@ fn invoke_known(
 ) -> bool
     requires run { CanRun originals.now.setup }
     requires linked { originals.now.loaded ≡ parts.old.shared.loaded }
-    requires sound { IsSoundIn originals.now.setup (state_of markers.now parts.old) }
-    requires calm { IsCalm (length parts.old.frames.frames) markers.now parts.old }
+    requires sound { IsSoundIn originals.now.setup (state_of initializing.now parts.old) }
+    requires calm { IsCalm (length parts.old.frames.frames) initializing.now parts.old }
     requires here { here_of parts.old.frames.frames ≡ Some here }
     requires line { line_at originals.now.setup.versions here.version here.place ≡ Some line.now }
     requires named { line.now.action ≡ action.Named naming.now }
     requires known { IsKnown (linker_in originals.now) (symbolic_view naming.now) known.now }
     ensures { let w = originals.now.setup in (told : Bool)
-        → TriesIf result w markers.now told parts.old due.Begins parts.new }
+        → TriesIf result w initializing.now told parts.old due.Begins parts.new }
 {
     let linker = originals.linker();
     let selections = originals.selections();
@@ -102,20 +102,20 @@ fn invoke_known(
 fn invoke(
     originals: &Originals,
     parts: &mut Parts,
-    markers: &Stack<Marker>,
+    initializing: &Stack<Initialization>,
     here: Here,
     line: &Line,
     naming: &SymbolicReference,
 ) -> bool
     requires run { CanRun originals.now.setup }
     requires linked { originals.now.loaded ≡ parts.old.shared.loaded }
-    requires sound { IsSoundIn originals.now.setup (state_of markers.now parts.old) }
-    requires calm { IsCalm (length parts.old.frames.frames) markers.now parts.old }
+    requires sound { IsSoundIn originals.now.setup (state_of initializing.now parts.old) }
+    requires calm { IsCalm (length parts.old.frames.frames) initializing.now parts.old }
     requires here { here_of parts.old.frames.frames ≡ Some here }
     requires line { line_at originals.now.setup.versions here.version here.place ≡ Some line.now }
     requires named { line.now.action ≡ action.Named naming.now }
     ensures { let w = originals.now.setup in (told : Bool)
-        → TriesIf result w markers.now told parts.old due.Begins parts.new }
+        → TriesIf result w initializing.now told parts.old due.Begins parts.new }
 {
     let Some(known) = originals.known(here.version, here.place) else {
         return false;
@@ -123,7 +123,7 @@ fn invoke(
     if !is_method(known) {
         return false;
     }
-    invoke_known(originals, parts, markers, here, line, naming, known)
+    invoke_known(originals, parts, initializing, here, line, naming, known)
 }
 
 // ---- a return
@@ -134,23 +134,23 @@ fn invoke(
 fn leave(
     originals: &Originals,
     parts: &mut Parts,
-    markers: &Stack<Marker>,
+    initializing: &Stack<Initialization>,
     here: Here,
     line: &Line,
     kind: Option<Kind>,
 ) -> bool
     requires run { CanRun originals.now.setup }
-    requires calm { IsCalm (length parts.old.frames.frames) markers.now parts.old }
+    requires calm { IsCalm (length parts.old.frames.frames) initializing.now parts.old }
     requires here { here_of parts.old.frames.frames ≡ Some here }
     requires line { line_at originals.now.setup.versions here.version here.place ≡ Some line.now }
     requires ends { line.now.action ≡ action.Return kind }
     ensures { let w = originals.now.setup in
-        TriesIf result w markers.now true parts.old due.Nothing parts.new }
+        TriesIf result w initializing.now true parts.old due.Nothing parts.new }
 {
     if !originals.is_current(here.version) {
         return false;
     }
-    let Some(next) = goes_back(originals, &parts.frames, markers) else {
+    let Some(next) = goes_back(originals, &parts.frames, initializing) else {
         return false;
     };
     let Some(datum) = result_of(&parts.frames, kind) else {
@@ -165,24 +165,24 @@ fn leave(
 fn end(
     originals: &Originals,
     parts: &mut Parts,
-    markers: &Stack<Marker>,
+    initializing: &Stack<Initialization>,
     here: Here,
     line: &Line,
     kind: Option<Kind>,
     told: bool,
 ) -> Option<Due>
     requires run { CanRun originals.now.setup }
-    requires calm { IsCalm (length parts.old.frames.frames) markers.now parts.old }
+    requires calm { IsCalm (length parts.old.frames.frames) initializing.now parts.old }
     requires here { here_of parts.old.frames.frames ≡ Some here }
     requires line { line_at originals.now.setup.versions here.version here.place ≡ Some line.now }
     requires ends { line.now.action ≡ action.Return kind }
     ensures some { let w = originals.now.setup in IfSome result (λ due.
-        TriesCalmly w markers.now told parts.old due parts.new) }
-    ensures none { IfNone result (state_of markers.now parts.new
-        ≡ state_of markers.now parts.old) }
+        TriesCalmly w initializing.now told parts.old due parts.new) }
+    ensures none { IfNone result (state_of initializing.now parts.new
+        ≡ state_of initializing.now parts.old) }
 {
     if told {
-        if !leave(originals, parts, markers, here, line, kind) {
+        if !leave(originals, parts, initializing, here, line, kind) {
             return None;
         }
         return Some(Due::Nothing);
@@ -200,17 +200,17 @@ fn end(
 fn try_calmly(
     originals: &Originals,
     parts: &mut Parts,
-    markers: &Stack<Marker>,
+    initializing: &Stack<Initialization>,
     told: bool,
 ) -> Option<Due>
     requires run { CanRun originals.now.setup }
     requires linked { originals.now.loaded ≡ parts.old.shared.loaded }
-    requires sound { IsSoundIn originals.now.setup (state_of markers.now parts.old) }
-    requires calm { IsCalm (length parts.old.frames.frames) markers.now parts.old }
+    requires sound { IsSoundIn originals.now.setup (state_of initializing.now parts.old) }
+    requires calm { IsCalm (length parts.old.frames.frames) initializing.now parts.old }
     ensures some { let w = originals.now.setup in IfSome result (λ due.
-        TriesCalmly w markers.now told parts.old due parts.new) }
-    ensures none { IfNone result (state_of markers.now parts.new
-        ≡ state_of markers.now parts.old) }
+        TriesCalmly w initializing.now told parts.old due parts.new) }
+    ensures none { IfNone result (state_of initializing.now parts.new
+        ≡ state_of initializing.now parts.old) }
 {
     let Some(here) = where_now(&parts.frames) else {
         return None;
@@ -220,12 +220,12 @@ fn try_calmly(
     };
     match &line.action {
         Action::Named(naming) => {
-            if !invoke(originals, parts, markers, here, line, naming) {
+            if !invoke(originals, parts, initializing, here, line, naming) {
                 return None;
             }
             Some(Due::Begins)
         }
-        Action::Return(kind) => end(originals, parts, markers, here, line, *kind, told),
+        Action::Return(kind) => end(originals, parts, initializing, here, line, *kind, told),
         _ => None,
     }
 }
@@ -247,32 +247,32 @@ fn passed_there(due: Due) -> u64
 pub fn go_calmly(
     originals: &Originals,
     parts: &mut Parts,
-    markers: &Stack<Marker>,
+    initializing: &Stack<Initialization>,
     hand: Hand,
 ) -> Option<Gone>
     requires linked { originals.now.loaded ≡ parts.old.shared.loaded }
     requires fit { CanRun originals.now.setup }
     requires sound { hand.moves ≡ false
-        → IsSoundIn originals.now.setup (state_of markers.now parts.old) }
-    requires calm { IsCalm (length parts.old.frames.frames) markers.now parts.old }
+        → IsSoundIn originals.now.setup (state_of initializing.now parts.old) }
+    requires calm { IsCalm (length parts.old.frames.frames) initializing.now parts.old }
     ensures goes { let w = originals.now.setup in IfSome result (λ gone.
-        GoesCalmly w markers.now hand parts.old gone parts.new) }
+        GoesCalmly w initializing.now hand parts.old gone parts.new) }
     // The rest of the same step is in hand then, at the next of its changes that is told.
-    ensures hands { let w = originals.now.setup in let s = state_of markers.now parts.old in
+    ensures hands { let w = originals.now.setup in let s = state_of initializing.now parts.old in
         IfSome result (λ gone. (homes : ℕ → ℕ → ℕ) (turn : Turn) (live : List Held)
         → HasVersions w homes → HasInHand w homes turn hand live s
-        → HasGoneOn w homes turn hand live gone (state_of markers.now parts.new)) }
-    ensures sound { let w = originals.now.setup in let s = state_of markers.now parts.old in
-        IfSome result (λ gone. IsSoundIn w s → IsSoundIn w (state_of markers.now parts.new)) }
+        → HasGoneOn w homes turn hand live gone (state_of initializing.now parts.new)) }
+    ensures sound { let w = originals.now.setup in let s = state_of initializing.now parts.old in
+        IfSome result (λ gone. IsSoundIn w s → IsSoundIn w (state_of initializing.now parts.new)) }
     // The moves of the start leave a sound state too.
     ensures starts { let w = originals.now.setup in IfSome result (λ gone. hand.moves ≡ true
-        → hand.told ≡ false → state_of markers.now parts.old ≡ starts_with w.world
-        → IsSoundIn w (state_of markers.now parts.new)) }
-    ensures none { IfNone result (state_of markers.now parts.new
-        ≡ state_of markers.now parts.old) }
+        → hand.told ≡ false → state_of initializing.now parts.old ≡ starts_with w.world
+        → IsSoundIn w (state_of initializing.now parts.new)) }
+    ensures none { IfNone result (state_of initializing.now parts.new
+        ≡ state_of initializing.now parts.old) }
 {
     if hand.moves {
-        if hand.told || !is_at_rest(parts, markers) {
+        if hand.told || !is_at_rest(parts, initializing) {
             return None;
         }
         return Some(gone_to(Due::Nothing, hand.passed));
@@ -280,7 +280,7 @@ pub fn go_calmly(
     if hand.passed > 0 {
         return None;
     }
-    let Some(due) = try_calmly(originals, parts, markers, hand.told) else {
+    let Some(due) = try_calmly(originals, parts, initializing, hand.told) else {
         return None;
     };
     Some(gone_to(due, passed_there(due)))

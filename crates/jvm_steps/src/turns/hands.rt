@@ -7,7 +7,7 @@ ghost use Rattle.jvm_model.specs.Turns.Pauses.{is_end, later_of};
 ghost use Rattle.jvm_model.specs.Running.Run.{starts_with, with_loaded};
 ghost use Rattle.jvm_model.specs.Turns.Told.{Held};
 ghost use Rattle.jvm_steps.specs.Moves.Hands.{HasGoneOn, HasInHand, IsLeft, goes_in, todo_of};
-ghost use Rattle.prepared_code.specs.Markers.{state_of};
+ghost use Rattle.prepared_code.specs.Initializations.{state_of};
 ghost use Rattle.prepared_code.specs.Ready.{CanRun, IsSoundIn};
 ghost use Rattle.prepared_code.specs.Standing.{HasVersions};
 ghost use Rattle.jvm_steps.specs.Moves.Turning.{loads_in, loads_none, pause_at};
@@ -16,7 +16,7 @@ use crate::turns::pausing::go_by_moves;
 use crate::turns::trying::go_by_attempt;
 use jf_bytes::{NoMemory, Stack};
 use jvm_model::{Due, EventKind};
-use prepared_code::{Marker, Originals, Parts};
+use prepared_code::{Initialization, Originals, Parts};
 use std::alloc::Global;
 
 /// What is in hand of a step: whether moves alone are left of it, or an attempt before them; whether the probe of the end that
@@ -84,43 +84,58 @@ pub fn go(
     alloc: Global,
     originals: &mut Originals,
     parts: &mut Parts,
-    markers: &mut Stack<Marker>,
+    initializing: &mut Stack<Initialization>,
     hand: Hand,
 ) -> Result<Option<Gone>, NoMemory>
     requires linked { originals.old.loaded ≡ parts.old.shared.loaded }
     requires fit { CanRun originals.old.setup }
     requires sound { hand.moves ≡ false
-        → IsSoundIn originals.old.setup (state_of markers.old parts.old) }
+        → IsSoundIn originals.old.setup (state_of initializing.old parts.old) }
     ensures world { originals.new.setup ≡ originals.old.setup }
     ensures linked { OnOk result (originals.new.loaded ≡ parts.new.shared.loaded) }
     ensures sound { let w = originals.old.setup in
-        OnOk result (IsSoundIn w (state_of markers.old parts.old)
-        → IsSoundIn w (state_of markers.new parts.new)) }
+        OnOk result (IsSoundIn w (state_of initializing.old parts.old)
+        → IsSoundIn w (state_of initializing.new parts.new)) }
     // The moves of the start leave a sound state too.
     ensures starts { let w = originals.old.setup in OnOk result (hand.moves ≡ true
-        → hand.told ≡ false → state_of markers.old parts.old ≡ starts_with w.world
-        → IsSoundIn w (state_of markers.new parts.new)) }
-    ensures some { let s = state_of markers.old parts.old in IfOk result (λ o. is_some o
+        → hand.told ≡ false → state_of initializing.old parts.old ≡ starts_with w.world
+        → IsSoundIn w (state_of initializing.new parts.new)) }
+    ensures some { let s = state_of initializing.old parts.old in IfOk result (λ o. is_some o
         ≡ (hand.moves || loads_none originals.old.setup s)) }
-    ensures reaches { let s = state_of markers.old parts.old in IfOk result (λ o. IfSome o (λ gone.
-        pause_at (state_of markers.new parts.new) gone.hand.passed gone.due
+    ensures reaches { let s = state_of initializing.old parts.old in IfOk result
+        (λ o. IfSome o (λ gone.
+        pause_at (state_of initializing.new parts.new) gone.hand.passed gone.due
         ≡ goes_in originals.old.setup hand s)) }
     ensures left { IfOk result (λ o. IfSome o (λ gone. IsLeft gone)) }
-    ensures loads { let w = originals.old.setup in let s = state_of markers.old parts.old in
+    ensures loads { let w = originals.old.setup in let s = state_of initializing.old parts.old in
         IfOk result (λ o. IfNone o
-        (state_of markers.new parts.new ≡ with_loaded (loads_in w s) s)) }
+        (state_of initializing.new parts.new ≡ with_loaded (loads_in w s) s)) }
     // The rest of the same step is in hand then, at the next of its changes that is told.
-    ensures hands { let w = originals.old.setup in let s = state_of markers.old parts.old in
+    ensures hands { let w = originals.old.setup in let s = state_of initializing.old parts.old in
         IfOk result (λ o. IfSome o (λ gone. (homes : ℕ → ℕ → ℕ) (turn : Turn) (live : List Held)
         → HasVersions w homes → HasInHand w homes turn hand live s
-        → HasGoneOn w homes turn hand live gone (state_of markers.new parts.new))) }
+        → HasGoneOn w homes turn hand live gone (state_of initializing.new parts.new))) }
 {
     let mut passed = hand.passed;
     if hand.moves {
-        let due = go_by_moves(alloc, originals, parts, markers, hand.told, &mut passed)?;
+        let due = go_by_moves(
+            alloc,
+            originals,
+            parts,
+            initializing,
+            hand.told,
+            &mut passed,
+        )?;
         return Ok(Some(gone_to(due, passed)));
     }
-    let gone = go_by_attempt(alloc, originals, parts, markers, hand.told, &mut passed)?;
+    let gone = go_by_attempt(
+        alloc,
+        originals,
+        parts,
+        initializing,
+        hand.told,
+        &mut passed,
+    )?;
     let Some(due) = gone else {
         return Ok(None);
     };

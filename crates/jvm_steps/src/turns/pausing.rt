@@ -2,7 +2,7 @@
 
 ghost use Rattle.std.specs.Prelude.{◌≡◌, suc, OnOk, IfOk};
 ghost use Rattle.jvm_model.specs.Turns.InHand.{popped};
-ghost use Rattle.prepared_code.specs.Markers.{state_of};
+ghost use Rattle.prepared_code.specs.Initializations.{state_of};
 ghost use Rattle.jvm_steps.specs.Moves.Turning.{goes_by_moves, pause_at, paused_in};
 ghost use Rattle.jvm_steps.specs.Moves.Turning.{resumed, resumed_count};
 
@@ -10,7 +10,7 @@ use crate::turns::stepping::is_at_rest;
 use crate::turns::turning::{Moved, make_move};
 use jf_bytes::{NoMemory, Stack};
 use jvm_model::{Due, EventKind};
-use prepared_code::{Marker, Originals, Parts, marker_on, where_now};
+use prepared_code::{Initialization, Originals, Parts, initialization_on, where_now};
 use std::alloc::Global;
 
 /// One change more. (More changes than fit do not come.)
@@ -29,15 +29,15 @@ fn pause_on(
     alloc: Global,
     originals: &Originals,
     parts: &mut Parts,
-    markers: &mut Stack<Marker>,
+    initializing: &mut Stack<Initialization>,
     passed: &mut u64,
 ) -> Result<Due, NoMemory>
-    ensures { let s = state_of markers.old parts.old in
-        IfOk result (λ due. pause_at (state_of markers.new parts.new) passed.new due
+    ensures { let s = state_of initializing.old parts.old in
+        IfOk result (λ due. pause_at (state_of initializing.new parts.new) passed.new due
         ≡ paused_in originals.now.setup passed.old s) }
 {
     loop {
-        match make_move(alloc, originals, parts, markers)? {
+        match make_move(alloc, originals, parts, initializing)? {
             Moved::Nothing => return Ok(Due::Nothing),
             Moved::On => {}
             Moved::Unwound => *passed = one_more(*passed)?,
@@ -60,30 +60,30 @@ pub fn pause(
     alloc: Global,
     originals: &Originals,
     parts: &mut Parts,
-    markers: &mut Stack<Marker>,
+    initializing: &mut Stack<Initialization>,
     passed: &mut u64,
 ) -> Result<Due, NoMemory>
-    ensures { let s = state_of markers.old parts.old in
-        IfOk result (λ due. pause_at (state_of markers.new parts.new) passed.new due
+    ensures { let s = state_of initializing.old parts.old in
+        IfOk result (λ due. pause_at (state_of initializing.new parts.new) passed.new due
         ≡ paused_in originals.now.setup passed.old s) }
 {
-    if is_at_rest(parts, markers) {
+    if is_at_rest(parts, initializing) {
         return Ok(Due::Nothing);
     }
-    pause_on(alloc, originals, parts, markers, passed)
+    pause_on(alloc, originals, parts, initializing, passed)
 }
 
 // ---- where moves alone are left of a step
 
-/// Takes the current frame off, behind its unwind probe. (There is one then, and no marker stands on it.)
-fn take_off(parts: &mut Parts, markers: &Stack<Marker>) -> Result<(), NoMemory>
+/// Takes the current frame off, behind its unwind probe. (There is one then, and no initialization stands on it.)
+fn take_off(parts: &mut Parts, initializing: &Stack<Initialization>) -> Result<(), NoMemory>
     ensures { OnOk result
-        (state_of markers.now parts.new ≡ popped (state_of markers.now parts.old)) }
+        (state_of initializing.now parts.new ≡ popped (state_of initializing.now parts.old)) }
 {
     let Some(_) = where_now(&parts.frames) else {
         return Err(NoMemory);
     };
-    if marker_on(markers, parts.frames.depth()).is_some() {
+    if initialization_on(initializing, parts.frames.depth()).is_some() {
         return Err(NoMemory);
     }
     parts.frames.leave();
@@ -93,18 +93,18 @@ fn take_off(parts: &mut Parts, markers: &Stack<Marker>) -> Result<(), NoMemory>
 /// Behind an unwind probe that has told, the current frame is taken off, which is one change more.
 fn resume(
     parts: &mut Parts,
-    markers: &Stack<Marker>,
+    initializing: &Stack<Initialization>,
     told: bool,
     passed: &mut u64,
 ) -> Result<(), NoMemory>
     ensures state { OnOk result
-        (state_of markers.now parts.new ≡ resumed told (state_of markers.now parts.old)) }
+        (state_of initializing.now parts.new ≡ resumed told (state_of initializing.now parts.old)) }
     ensures passed { OnOk result (passed.new ≡ resumed_count told passed.old) }
 {
     if !told {
         return Ok(());
     }
-    take_off(parts, markers)?;
+    take_off(parts, initializing)?;
     *passed = one_more(*passed)?;
     Ok(())
 }
@@ -114,14 +114,14 @@ pub fn go_by_moves(
     alloc: Global,
     originals: &Originals,
     parts: &mut Parts,
-    markers: &mut Stack<Marker>,
+    initializing: &mut Stack<Initialization>,
     told: bool,
     passed: &mut u64,
 ) -> Result<Due, NoMemory>
-    ensures { let s = state_of markers.old parts.old in
-        IfOk result (λ due. pause_at (state_of markers.new parts.new) passed.new due
+    ensures { let s = state_of initializing.old parts.old in
+        IfOk result (λ due. pause_at (state_of initializing.new parts.new) passed.new due
         ≡ goes_by_moves originals.now.setup told passed.old s) }
 {
-    resume(parts, markers, told, passed)?;
-    pause(alloc, originals, parts, markers, passed)
+    resume(parts, initializing, told, passed)?;
+    pause(alloc, originals, parts, initializing, passed)
 }

@@ -10,7 +10,7 @@ ghost use Rattle.jvm_model.specs.Running.Run.{goes_on, is_ready, with_loaded};
 ghost use Rattle.jvm_model.specs.Basis.SharedState.{phase_of};
 ghost use Rattle.jvm_model.specs.Turns.StepPauses.{is_nothing};
 ghost use Rattle.jvm_steps.specs.Instructions.Acts.{attempts_on, goes_on_in};
-ghost use Rattle.prepared_code.specs.Markers.{marker_on, state_of};
+ghost use Rattle.prepared_code.specs.Initializations.{initialization_on, state_of};
 ghost use Rattle.prepared_code.specs.Ready.{CanRun, IsSoundIn};
 ghost use Rattle.jvm_steps.specs.Moves.Turning.{loads_in, loads_none, pause_at};
 ghost use Rattle.jvm_steps.specs.Moves.Trying.{changes_since, enters_by, leaves_in};
@@ -23,7 +23,7 @@ use crate::turns::turning::is_marked;
 use frame_stack::Frames;
 use jf_bytes::{NoMemory, Stack};
 use jvm_model::{Due, EventKind};
-use prepared_code::{Action, Marker, Originals, Parts, where_now};
+use prepared_code::{Action, Initialization, Originals, Parts, where_now};
 use std::alloc::Global;
 
 // ---- behind an attempt
@@ -60,12 +60,12 @@ fn follow(
     alloc: Global,
     originals: &Originals,
     parts: &mut Parts,
-    markers: &mut Stack<Marker>,
+    initializing: &mut Stack<Initialization>,
     depth: u32,
     passed: &mut u64,
 ) -> Result<Due, NoMemory>
-    ensures reaches { let s = state_of markers.old parts.old in
-        IfOk result (λ due. pause_at (state_of markers.new parts.new) passed.new due
+    ensures reaches { let s = state_of initializing.old parts.old in
+        IfOk result (λ due. pause_at (state_of initializing.new parts.new) passed.new due
         ≡ pause_behind_attempt originals.now.setup depth passed.old s) }
     ensures loaded { OnOk result (parts.new.shared.loaded ≡ parts.old.shared.loaded) }
 {
@@ -73,7 +73,7 @@ fn follow(
     if enters(originals, &parts.frames, depth) {
         return Ok(Due::Begins);
     }
-    pause(alloc, originals, parts, markers, passed)
+    pause(alloc, originals, parts, initializing, passed)
 }
 
 // ---- before one, and once more
@@ -132,22 +132,23 @@ fn try_again(
     alloc: Global,
     originals: &mut Originals,
     parts: &mut Parts,
-    markers: &mut Stack<Marker>,
+    initializing: &mut Stack<Initialization>,
     depth: u32,
     passed: &mut u64,
 ) -> Result<Due, NoMemory>
     requires linked { originals.old.loaded ≡ parts.old.shared.loaded }
     requires fit { CanRun originals.old.setup }
-    requires sound { IsSoundIn originals.old.setup (state_of markers.old parts.old) }
-    requires unmarked { marker_on (length parts.old.frames.frames) markers.old ≡ None }
+    requires sound { IsSoundIn originals.old.setup (state_of initializing.old parts.old) }
+    requires executing { initialization_on (length parts.old.frames.frames) initializing.old
+        ≡ None }
     ensures world { originals.new.setup ≡ originals.old.setup }
     ensures linked { OnOk result (originals.new.loaded ≡ parts.new.shared.loaded) }
-    ensures reaches { let w = originals.old.setup in let s = state_of markers.old parts.old in
-        IfOk result (λ due. pause_at (state_of markers.new parts.new) passed.new due
+    ensures reaches { let w = originals.old.setup in let s = state_of initializing.old parts.old in
+        IfOk result (λ due. pause_at (state_of initializing.new parts.new) passed.new due
         ≡ pause_behind_attempt w depth passed.old (attempts_on w s s.stack)) }
 {
-    attempt(alloc, originals, parts, markers)?;
-    follow(alloc, originals, parts, markers, depth, passed)
+    attempt(alloc, originals, parts, initializing)?;
+    follow(alloc, originals, parts, initializing, depth, passed)
 }
 
 /// The same in two parts, and once more where its class is ready behind it. Where classes are still to be loaded they are loaded,
@@ -157,38 +158,39 @@ fn try_line(
     alloc: Global,
     originals: &mut Originals,
     parts: &mut Parts,
-    markers: &mut Stack<Marker>,
+    initializing: &mut Stack<Initialization>,
     passed: &mut u64,
 ) -> Result<Option<Due>, NoMemory>
     requires linked { originals.old.loaded ≡ parts.old.shared.loaded }
     requires fit { CanRun originals.old.setup }
-    requires sound { IsSoundIn originals.old.setup (state_of markers.old parts.old) }
-    requires goes { goes_on_in markers.old parts.old ≡ true }
+    requires sound { IsSoundIn originals.old.setup (state_of initializing.old parts.old) }
+    requires goes { goes_on_in initializing.old parts.old ≡ true }
     ensures world { originals.new.setup ≡ originals.old.setup }
     ensures linked { OnOk result (originals.new.loaded ≡ parts.new.shared.loaded) }
     ensures some { IfOk result (λ o. is_some o
-        ≡ loads_none originals.old.setup (state_of markers.old parts.old)) }
-    ensures reaches { let s = state_of markers.old parts.old in IfOk result (λ o. IfSome o (λ due.
-        pause_at (state_of markers.new parts.new) passed.new due
+        ≡ loads_none originals.old.setup (state_of initializing.old parts.old)) }
+    ensures reaches { let s = state_of initializing.old parts.old in IfOk result
+        (λ o. IfSome o (λ due.
+        pause_at (state_of initializing.new parts.new) passed.new due
         ≡ tried_in originals.old.setup true passed.old s)) }
-    ensures loads { let w = originals.old.setup in let s = state_of markers.old parts.old in
+    ensures loads { let w = originals.old.setup in let s = state_of initializing.old parts.old in
         IfOk result (λ o. IfNone o
-        (state_of markers.new parts.new ≡ with_loaded (loads_in w s) s)) }
+        (state_of initializing.new parts.new ≡ with_loaded (loads_in w s) s)) }
     ensures same { IfOk result (λ o. IfNone o (passed.new ≡ passed.old)) }
 {
     let depth = parts.frames.depth();
     let before = *passed;
-    let Some(awaited) = attempt_loaded(alloc, originals, parts, markers)? else {
+    let Some(awaited) = attempt_loaded(alloc, originals, parts, initializing)? else {
         return Ok(None);
     };
-    let due = follow(alloc, originals, parts, markers, depth, passed)?;
+    let due = follow(alloc, originals, parts, initializing, depth, passed)?;
     let Some(class) = awaited else {
         return Ok(Some(due));
     };
     if !tries_again(parts, class, due, *passed == before) {
         return Ok(Some(due));
     }
-    let due = try_again(alloc, originals, parts, markers, depth, passed)?;
+    let due = try_again(alloc, originals, parts, initializing, depth, passed)?;
     Ok(Some(due))
 }
 
@@ -202,30 +204,31 @@ pub fn go_by_attempt(
     alloc: Global,
     originals: &mut Originals,
     parts: &mut Parts,
-    markers: &mut Stack<Marker>,
+    initializing: &mut Stack<Initialization>,
     told: bool,
     passed: &mut u64,
 ) -> Result<Option<Due>, NoMemory>
     requires linked { originals.old.loaded ≡ parts.old.shared.loaded }
     requires fit { CanRun originals.old.setup }
-    requires sound { IsSoundIn originals.old.setup (state_of markers.old parts.old) }
+    requires sound { IsSoundIn originals.old.setup (state_of initializing.old parts.old) }
     ensures world { originals.new.setup ≡ originals.old.setup }
     ensures linked { OnOk result (originals.new.loaded ≡ parts.new.shared.loaded) }
     ensures some { IfOk result (λ o. is_some o
-        ≡ loads_none originals.old.setup (state_of markers.old parts.old)) }
-    ensures reaches { let s = state_of markers.old parts.old in IfOk result (λ o. IfSome o (λ due.
-        pause_at (state_of markers.new parts.new) passed.new due
+        ≡ loads_none originals.old.setup (state_of initializing.old parts.old)) }
+    ensures reaches { let s = state_of initializing.old parts.old in IfOk result
+        (λ o. IfSome o (λ due.
+        pause_at (state_of initializing.new parts.new) passed.new due
         ≡ tried_in originals.old.setup told passed.old s)) }
-    ensures loads { let w = originals.old.setup in let s = state_of markers.old parts.old in
+    ensures loads { let w = originals.old.setup in let s = state_of initializing.old parts.old in
         IfOk result (λ o. IfNone o
-        (state_of markers.new parts.new ≡ with_loaded (loads_in w s) s)) }
+        (state_of initializing.new parts.new ≡ with_loaded (loads_in w s) s)) }
     ensures same { IfOk result (λ o. IfNone o (passed.new ≡ passed.old)) }
 {
-    if !goes_on(parts, markers) {
+    if !goes_on(parts, initializing) {
         return Ok(Some(Due::Nothing));
     }
     if tells_leave(originals, &parts.frames, told) {
         return Ok(Some(Due::Ends(EventKind::Leave)));
     }
-    try_line(alloc, originals, parts, markers, passed)
+    try_line(alloc, originals, parts, initializing, passed)
 }

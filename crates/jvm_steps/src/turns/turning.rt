@@ -3,18 +3,18 @@
 ghost use Rattle.std.specs.Prelude.{◌≡◌, [], ◌∷◌, not, None, Some, IfOk, OnOk};
 ghost use Rattle.jvm_model.specs.Rewriting.Images.{is_off};
 ghost use Rattle.jvm_model.specs.Basis.Data.{Unwound};
-ghost use Rattle.prepared_code.specs.Markers.{state_of};
+ghost use Rattle.prepared_code.specs.Initializations.{state_of};
 ghost use Rattle.prepared_code.specs.States.{here_of, state_in};
 ghost use Rattle.jvm_steps.specs.Moves.Turning.{begun_as, moved_as, moved_by, moved_to};
 ghost use Rattle.jvm_steps.specs.Moves.Turning.{unwind_due, unwound_by};
 ghost use Rattle.prepared_code.specs.Versions.{mark_of};
 
 use crate::unwind::handlers::{class_of, handler_for};
-use crate::unwind::settling::{begin_main, go_to_handler, move_marker};
+use crate::unwind::settling::{begin_main, go_to_handler, move_initialization};
 use frame_stack::Frames;
 use jf_bytes::{NoMemory, Stack};
 use jvm_model::{Ending, Mark};
-use prepared_code::{Here, Marker, Originals, Parts, take_marker, where_now};
+use prepared_code::{Here, Initialization, Originals, Parts, take_initialization, where_now};
 use std::alloc::Global;
 
 /// What one move has done.
@@ -144,7 +144,7 @@ fn begin_or_end(originals: &Originals, parts: &mut Parts) -> Result<Moved, NoMem
     Ok(begun(originals, method))
 }
 
-/// A move of the frames, where no marker stands on the current one.
+/// A move of the frames, where no initialization stands on the current one.
 fn move_frame(alloc: Global, originals: &Originals, parts: &mut Parts) -> Result<Moved, NoMemory>
     ensures answer { IfOk result
         (λ m. m ≡ moved_as originals.now.setup (state_in parts.old)) }
@@ -170,19 +170,19 @@ pub fn make_move(
     alloc: Global,
     originals: &Originals,
     parts: &mut Parts,
-    markers: &mut Stack<Marker>,
+    initializing: &mut Stack<Initialization>,
 ) -> Result<Moved, NoMemory>
-    ensures answer { let s = state_of markers.old parts.old in
+    ensures answer { let s = state_of initializing.old parts.old in
         IfOk result (λ m. m ≡ moved_as originals.now.setup s) }
-    ensures state { let s = state_of markers.old parts.old in
-        OnOk result (state_of markers.new parts.new ≡ moved_to originals.now.setup s) }
+    ensures state { let s = state_of initializing.old parts.old in
+        OnOk result (state_of initializing.new parts.new ≡ moved_to originals.now.setup s) }
 {
     if parts.ending.is_some() {
         return Ok(Moved::Nothing);
     }
-    let Some(marker) = take_marker(parts, markers) else {
+    let Some(initialization) = take_initialization(parts, initializing) else {
         return move_frame(alloc, originals, parts);
     };
-    let method = move_marker(alloc, originals, parts, markers, marker)?;
+    let method = move_initialization(alloc, originals, parts, initializing, initialization)?;
     Ok(begun(originals, method))
 }

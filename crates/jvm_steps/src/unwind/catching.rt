@@ -19,7 +19,7 @@ use heap_objects::Value;
 use jf_bytes::Stack;
 use jvm_basic::{recall, ref_of};
 use jvm_model::Shared;
-use prepared_code::{Here, Marker, Originals, has_bytes, marker_on};
+use prepared_code::{Here, Initialization, Originals, has_bytes, initialization_on};
 
 /// How many classes of a program stand from java/lang/Throwable on.
 const FROM_THROWABLE: usize = 33;
@@ -67,12 +67,12 @@ pub fn thrown_object(originals: &Originals, shared: &Shared, frames: &Frames) ->
 pub fn caught_below(
     originals: &Originals,
     frames: &Frames,
-    markers: &Stack<Marker>,
+    initializing: &Stack<Initialization>,
     here: Here,
     class: usize,
 ) -> Option<u16>
     ensures { let w = originals.now.setup in IfSome result
-        (λ target. CatchesBelow w markers.now here frames.now.frames class target) }
+        (λ target. CatchesBelow w initializing.now here frames.now.frames class target) }
 {
     if !is_off(originals.mark(here.version)) {
         return None;
@@ -84,7 +84,7 @@ pub fn caught_below(
     if depth < 2 {
         return None;
     }
-    if marker_on(markers, depth - 1).is_some() {
+    if initialization_on(initializing, depth - 1).is_some() {
         return None;
     }
     if handler_for(originals, here.version, class, here.place).is_some() {

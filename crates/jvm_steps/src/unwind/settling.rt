@@ -5,8 +5,8 @@
 ghost use Rattle.std.specs.Prelude.{◌≡◌, [], false, map, None, Some, is_some, IfOk, OnOk};
 ghost use Rattle.jvm_model.specs.Running.Applies.{has_room, still};
 ghost use Rattle.jvm_model.specs.Running.Moves.{argument_array, main_or_end, move, settled};
-ghost use Rattle.jvm_steps.specs.Instructions.Initializing.{after_marker, marker_begins};
-ghost use Rattle.prepared_code.specs.Markers.{state_of};
+ghost use Rattle.jvm_steps.specs.Instructions.Initializing.{after_initialization, initialization_begins};
+ghost use Rattle.prepared_code.specs.Initializations.{state_of};
 ghost use Rattle.prepared_code.specs.States.{active, here_of, state_in};
 ghost use Rattle.jvm_steps.specs.Moves.Settling.{emptied, fits_alone, with_alone};
 ghost use Rattle.jvm_steps.specs.Moves.Settling.{after_move, caught_at, caught_top, main_entries};
@@ -21,7 +21,7 @@ use frame_stack::Frames;
 use heap_objects::Value;
 use jf_bytes::{NoMemory, Stack};
 use jvm_model::Ending;
-use prepared_code::{Here, Marker, Originals, Parts, take_marker, where_now};
+use prepared_code::{Here, Initialization, Originals, Parts, take_initialization, where_now};
 use std::alloc::Global;
 
 /// The argument array's object.
@@ -165,7 +165,7 @@ fn begin_or_end(originals: &Originals, parts: &mut Parts) -> Result<(), NoMemory
 
 // ---- every move
 
-/// A move of the frames, where no marker stands on the current one. False, with nothing changed,
+/// A move of the frames, where no initialization stands on the current one. False, with nothing changed,
 /// where none applies.
 fn move_frame(alloc: Global, originals: &Originals, parts: &mut Parts) -> Result<bool, NoMemory>
     ensures answer { let w = originals.now.setup in
@@ -187,27 +187,36 @@ fn move_frame(alloc: Global, originals: &Originals, parts: &mut Parts) -> Result
     Ok(true)
 }
 
-/// A throw meets the initialization of a class, or it goes on, after its marker was taken off. The answer is the method that has
-/// begun.
-pub fn move_marker(
+/// A throw meets the initialization of a class, or it goes on, after its initialization was taken off. The answer is
+/// the method that has begun.
+pub fn move_initialization(
     alloc: Global,
     originals: &Originals,
     parts: &mut Parts,
-    markers: &mut Stack<Marker>,
-    marker: Marker,
+    initializing: &mut Stack<Initialization>,
+    initialization: Initialization,
 ) -> Result<Option<u32>, NoMemory>
-    ensures begun { IfOk result (λ o. o ≡ marker_begins originals.now.setup
-        (state_of markers.old parts.old) parts.old.thrown marker.class marker.part) }
-    ensures state { OnOk result (state_of markers.new parts.new
-        ≡ after_marker originals.now.setup (state_of markers.old parts.old) parts.old.thrown
-        marker.class marker.part) }
+    ensures begun { IfOk result (λ o. o ≡ initialization_begins originals.now.setup
+        (state_of initializing.old parts.old) parts.old.thrown initialization.class
+        initialization.part) }
+    ensures state { OnOk result (state_of initializing.new parts.new
+        ≡ after_initialization originals.now.setup
+        (state_of initializing.old parts.old) parts.old.thrown
+        initialization.class initialization.part) }
 {
     match parts.thrown {
         Some(object) => {
-            fail(originals, parts, marker.class, object)?;
+            fail(originals, parts, initialization.class, object)?;
             Ok(None)
         }
-        None => go_on(alloc, originals, parts, markers, marker.class, marker.part),
+        None => go_on(
+            alloc,
+            originals,
+            parts,
+            initializing,
+            initialization.class,
+            initialization.part,
+        ),
     }
 }
 
@@ -216,20 +225,20 @@ fn make_move(
     alloc: Global,
     originals: &Originals,
     parts: &mut Parts,
-    markers: &mut Stack<Marker>,
+    initializing: &mut Stack<Initialization>,
 ) -> Result<bool, NoMemory>
     ensures answer { let w = originals.now.setup in IfOk result (λ b.
-        b ≡ is_some (move w.world (listing_of w.versions) (state_of markers.old parts.old))) }
-    ensures state { OnOk result (state_of markers.new parts.new
-        ≡ after_move originals.now.setup (state_of markers.old parts.old)) }
+        b ≡ is_some (move w.world (listing_of w.versions) (state_of initializing.old parts.old))) }
+    ensures state { OnOk result (state_of initializing.new parts.new
+        ≡ after_move originals.now.setup (state_of initializing.old parts.old)) }
 {
     if parts.ending.is_some() {
         return Ok(false);
     }
-    let Some(marker) = take_marker(parts, markers) else {
+    let Some(initialization) = take_initialization(parts, initializing) else {
         return move_frame(alloc, originals, parts);
     };
-    move_marker(alloc, originals, parts, markers, marker)?;
+    move_initialization(alloc, originals, parts, initializing, initialization)?;
     Ok(true)
 }
 
@@ -238,12 +247,13 @@ pub fn settle(
     alloc: Global,
     originals: &Originals,
     parts: &mut Parts,
-    markers: &mut Stack<Marker>,
+    initializing: &mut Stack<Initialization>,
 ) -> Result<(), NoMemory>
     ensures { let w = originals.now.setup in
-        let turn = still (state_of markers.old parts.old) in OnOk result
-        (state_of markers.new parts.new ≡ (settled w.world (listing_of w.versions) turn).after) }
+        let turn = still (state_of initializing.old parts.old) in OnOk result
+        (state_of initializing.new parts.new
+        ≡ (settled w.world (listing_of w.versions) turn).after) }
 {
-    while make_move(alloc, originals, parts, markers)? {}
+    while make_move(alloc, originals, parts, initializing)? {}
     Ok(())
 }

@@ -2,7 +2,7 @@ use Rattle.std.proofs.Common.{◌≡◌, true, false, refl, sym, ap, subst, ◌�
 use Rattle.std.specs.Prelude.{IfNone}
 use Rattle.std.specs.Option.{IfSome}
 use Rattle.jvm_model.specs.Running.Run.{starts_with}
-use Rattle.prepared_code.specs.Markers.{state_of}
+use Rattle.prepared_code.specs.Initializations.{state_of}
 use Rattle.prepared_code.specs.Ready.{IsSoundIn}
 use Rattle.jvm_steps.specs.Moves.Calmly.{GoesCalmly}
 use Rattle.prepared_code.proofs.StandingSteps.{set-up-runs}
@@ -27,7 +27,7 @@ go_calmly-gone-requires-clause-fit c = set-up-runs c.self.inside.originals.setup
 pub go_calmly-gone-requires-clause-sound : goal.go_calmly-gone-requires-clause-sound
 go_calmly-gone-requires-clause-sound c =
     calm-attempted c.self.inside.originals.setup c.self.inside.originals.loaded c.self.inside.hand c.self.inside.started c.self.inside.broken c.self.inside.clock
-    c.self.inside.markers c.self.inside.parts c.self.invariant.machine c.args.self.now (seen-is c.self.invariant c.self.view_is) c.if-not-self.false c.if-self.false
+    c.self.inside.initializing c.self.inside.parts c.self.invariant.machine c.args.self.now (seen-is c.self.invariant c.self.view_is) c.if-not-self.false c.if-self.false
     c.is_resting-resting.result c.is_resting-resting.ensures
     c.hand_now-hand.result (c.hand_now-hand.ensures c.self.inside.originals.setup.world)
 
@@ -37,32 +37,32 @@ go_calmly-gone-requires-clause-calm c = c.is_calm.ensures c.if-not-is_calm.false
 -- nothing was done
 pub invariant_of-self : goal.invariant_of-self
 invariant_of-self c =
-    subst (λ s. Keeps c.self.inside.originals.setup c.self.inside.originals.loaded c.self.inside.hand c.self.inside.started c.self.inside.broken c.self.inside.clock s) (sym (subst (λ o. IfNone o (state_of c.self.inside.markers c.go_calmly-gone.new.parts ≡ state_of c.self.inside.markers c.self.inside.parts)) c.in_default.is c.go_calmly-gone.ensures.none)) c.self.invariant
+    subst (λ s. Keeps c.self.inside.originals.setup c.self.inside.originals.loaded c.self.inside.hand c.self.inside.started c.self.inside.broken c.self.inside.clock s) (sym (subst (λ o. IfNone o (state_of c.self.inside.initializing c.go_calmly-gone.new.parts ≡ state_of c.self.inside.initializing c.self.inside.parts)) c.in_default.is c.go_calmly-gone.ensures.none)) c.self.invariant
 
 pub returns-in_default-clause-held : goal.returns-in_default-clause-held
 returns-in_default-clause-held c =
-    never-stale (subst (λ s. Keeps c.self.inside.originals.setup c.self.inside.originals.loaded c.self.inside.hand c.self.inside.started c.self.inside.broken c.self.inside.clock s) (sym (subst (λ o. IfNone o (state_of c.self.inside.markers c.go_calmly-gone.new.parts ≡ state_of c.self.inside.markers c.self.inside.parts)) c.in_default.is c.go_calmly-gone.ensures.none)) c.self.invariant) refl
+    never-stale (subst (λ s. Keeps c.self.inside.originals.setup c.self.inside.originals.loaded c.self.inside.hand c.self.inside.started c.self.inside.broken c.self.inside.clock s) (sym (subst (λ o. IfNone o (state_of c.self.inside.initializing c.go_calmly-gone.new.parts ≡ state_of c.self.inside.initializing c.self.inside.parts)) c.in_default.is c.go_calmly-gone.ensures.none)) c.self.invariant) refl
 
 -- it has gone on
 pub invariant_of-self-2 : goal.invariant_of-self-2
 invariant_of-self-2 c = record {
   machine = calm-machine c.self.inside.originals.setup c.self.inside.originals.loaded c.self.inside.hand c.self.inside.started c.self.inside.broken c.self.inside.clock
-      c.self.inside.markers c.self.inside.parts c.self.invariant.machine c.args.self.now (seen-is c.self.invariant c.self.view_is) c.if-not-self.false c.if-self.false
+      c.self.inside.initializing c.self.inside.parts c.self.invariant.machine c.args.self.now (seen-is c.self.invariant c.self.view_is) c.if-not-self.false c.if-self.false
       c.is_resting-resting.result c.is_resting-resting.ensures
       c.hand_now-hand.result (c.hand_now-hand.ensures c.self.inside.originals.setup.world) c.go_calmly-gone.new.parts c.in-Some.gone
-      (subst (λ o. IfSome o (λ gone. GoesCalmly c.self.inside.originals.setup c.self.inside.markers c.hand_now-hand.result c.self.inside.parts gone c.go_calmly-gone.new.parts)) c.in-Some.is c.go_calmly-gone.ensures.goes)
-      (subst (λ o. IfSome o (λ gone. GoesOnFrom c.self.inside.originals.setup c.hand_now-hand.result (state_of c.self.inside.markers c.self.inside.parts) gone (state_of c.self.inside.markers c.go_calmly-gone.new.parts))) c.in-Some.is c.go_calmly-gone.ensures.hands)
-      (subst (λ o. IfSome o (λ gone. IsSoundIn c.self.inside.originals.setup (state_of c.self.inside.markers c.self.inside.parts) → IsSoundIn c.self.inside.originals.setup (state_of c.self.inside.markers c.go_calmly-gone.new.parts))) c.in-Some.is c.go_calmly-gone.ensures.sound)
-      (subst (λ o. IfSome o (λ gone. c.hand_now-hand.result.moves ≡ true → c.hand_now-hand.result.told ≡ false → state_of c.self.inside.markers c.self.inside.parts ≡ starts_with c.self.inside.originals.setup.world → IsSoundIn c.self.inside.originals.setup (state_of c.self.inside.markers c.go_calmly-gone.new.parts))) c.in-Some.is c.go_calmly-gone.ensures.starts)
+      (subst (λ o. IfSome o (λ gone. GoesCalmly c.self.inside.originals.setup c.self.inside.initializing c.hand_now-hand.result c.self.inside.parts gone c.go_calmly-gone.new.parts)) c.in-Some.is c.go_calmly-gone.ensures.goes)
+      (subst (λ o. IfSome o (λ gone. GoesOnFrom c.self.inside.originals.setup c.hand_now-hand.result (state_of c.self.inside.initializing c.self.inside.parts) gone (state_of c.self.inside.initializing c.go_calmly-gone.new.parts))) c.in-Some.is c.go_calmly-gone.ensures.hands)
+      (subst (λ o. IfSome o (λ gone. IsSoundIn c.self.inside.originals.setup (state_of c.self.inside.initializing c.self.inside.parts) → IsSoundIn c.self.inside.originals.setup (state_of c.self.inside.initializing c.go_calmly-gone.new.parts))) c.in-Some.is c.go_calmly-gone.ensures.sound)
+      (subst (λ o. IfSome o (λ gone. c.hand_now-hand.result.moves ≡ true → c.hand_now-hand.result.told ≡ false → state_of c.self.inside.initializing c.self.inside.parts ≡ starts_with c.self.inside.originals.setup.world → IsSoundIn c.self.inside.originals.setup (state_of c.self.inside.initializing c.go_calmly-gone.new.parts))) c.in-Some.is c.go_calmly-gone.ensures.starts)
       c.clock_in-self-inside.result c.clock_in-self-inside.ensures c.left-self-inside.result c.left-self-inside.ensures;
   tidy = λ whole. calm-tidy c.self.inside.originals.setup c.self.inside.originals.loaded c.self.inside.hand c.self.inside.started c.self.inside.broken c.self.inside.clock
-      c.self.inside.markers c.self.inside.parts c.self.invariant.machine c.args.self.now (seen-is c.self.invariant c.self.view_is) c.if-not-self.false c.if-self.false
+      c.self.inside.initializing c.self.inside.parts c.self.invariant.machine c.args.self.now (seen-is c.self.invariant c.self.view_is) c.if-not-self.false c.if-self.false
       c.is_resting-resting.result c.is_resting-resting.ensures
       c.hand_now-hand.result (c.hand_now-hand.ensures c.self.inside.originals.setup.world) c.go_calmly-gone.new.parts c.in-Some.gone
-      (subst (λ o. IfSome o (λ gone. GoesCalmly c.self.inside.originals.setup c.self.inside.markers c.hand_now-hand.result c.self.inside.parts gone c.go_calmly-gone.new.parts)) c.in-Some.is c.go_calmly-gone.ensures.goes)
-      (subst (λ o. IfSome o (λ gone. GoesOnFrom c.self.inside.originals.setup c.hand_now-hand.result (state_of c.self.inside.markers c.self.inside.parts) gone (state_of c.self.inside.markers c.go_calmly-gone.new.parts))) c.in-Some.is c.go_calmly-gone.ensures.hands)
-      (subst (λ o. IfSome o (λ gone. IsSoundIn c.self.inside.originals.setup (state_of c.self.inside.markers c.self.inside.parts) → IsSoundIn c.self.inside.originals.setup (state_of c.self.inside.markers c.go_calmly-gone.new.parts))) c.in-Some.is c.go_calmly-gone.ensures.sound)
-      (subst (λ o. IfSome o (λ gone. c.hand_now-hand.result.moves ≡ true → c.hand_now-hand.result.told ≡ false → state_of c.self.inside.markers c.self.inside.parts ≡ starts_with c.self.inside.originals.setup.world → IsSoundIn c.self.inside.originals.setup (state_of c.self.inside.markers c.go_calmly-gone.new.parts))) c.in-Some.is c.go_calmly-gone.ensures.starts)
+      (subst (λ o. IfSome o (λ gone. GoesCalmly c.self.inside.originals.setup c.self.inside.initializing c.hand_now-hand.result c.self.inside.parts gone c.go_calmly-gone.new.parts)) c.in-Some.is c.go_calmly-gone.ensures.goes)
+      (subst (λ o. IfSome o (λ gone. GoesOnFrom c.self.inside.originals.setup c.hand_now-hand.result (state_of c.self.inside.initializing c.self.inside.parts) gone (state_of c.self.inside.initializing c.go_calmly-gone.new.parts))) c.in-Some.is c.go_calmly-gone.ensures.hands)
+      (subst (λ o. IfSome o (λ gone. IsSoundIn c.self.inside.originals.setup (state_of c.self.inside.initializing c.self.inside.parts) → IsSoundIn c.self.inside.originals.setup (state_of c.self.inside.initializing c.go_calmly-gone.new.parts))) c.in-Some.is c.go_calmly-gone.ensures.sound)
+      (subst (λ o. IfSome o (λ gone. c.hand_now-hand.result.moves ≡ true → c.hand_now-hand.result.told ≡ false → state_of c.self.inside.initializing c.self.inside.parts ≡ starts_with c.self.inside.originals.setup.world → IsSoundIn c.self.inside.originals.setup (state_of c.self.inside.initializing c.go_calmly-gone.new.parts))) c.in-Some.is c.go_calmly-gone.ensures.starts)
       c.clock_in-self-inside.result c.clock_in-self-inside.ensures c.left-self-inside.result c.left-self-inside.ensures (c.self.invariant.tidy whole);
 }
 
@@ -70,52 +70,52 @@ pub returns-clause-stops : goal.returns-clause-stops
 returns-clause-stops c =
     subst (Stops c.args.self.now c.in-Some.gone.due)
     (sym (plain-view c.self.inside.originals.setup c.self.inside.originals.loaded c.left-self-inside.result c.self.inside.started c.self.inside.broken c.clock_in-self-inside.result
-    (state_of c.self.inside.markers c.go_calmly-gone.new.parts) (λ whole. calm-tidy c.self.inside.originals.setup c.self.inside.originals.loaded c.self.inside.hand c.self.inside.started c.self.inside.broken c.self.inside.clock
-    c.self.inside.markers c.self.inside.parts c.self.invariant.machine c.args.self.now (seen-is c.self.invariant c.self.view_is) c.if-not-self.false c.if-self.false
+    (state_of c.self.inside.initializing c.go_calmly-gone.new.parts) (λ whole. calm-tidy c.self.inside.originals.setup c.self.inside.originals.loaded c.self.inside.hand c.self.inside.started c.self.inside.broken c.self.inside.clock
+    c.self.inside.initializing c.self.inside.parts c.self.invariant.machine c.args.self.now (seen-is c.self.invariant c.self.view_is) c.if-not-self.false c.if-self.false
     c.is_resting-resting.result c.is_resting-resting.ensures
     c.hand_now-hand.result (c.hand_now-hand.ensures c.self.inside.originals.setup.world) c.go_calmly-gone.new.parts c.in-Some.gone
-    (subst (λ o. IfSome o (λ gone. GoesCalmly c.self.inside.originals.setup c.self.inside.markers c.hand_now-hand.result c.self.inside.parts gone c.go_calmly-gone.new.parts)) c.in-Some.is c.go_calmly-gone.ensures.goes)
-    (subst (λ o. IfSome o (λ gone. GoesOnFrom c.self.inside.originals.setup c.hand_now-hand.result (state_of c.self.inside.markers c.self.inside.parts) gone (state_of c.self.inside.markers c.go_calmly-gone.new.parts))) c.in-Some.is c.go_calmly-gone.ensures.hands)
-    (subst (λ o. IfSome o (λ gone. IsSoundIn c.self.inside.originals.setup (state_of c.self.inside.markers c.self.inside.parts) → IsSoundIn c.self.inside.originals.setup (state_of c.self.inside.markers c.go_calmly-gone.new.parts))) c.in-Some.is c.go_calmly-gone.ensures.sound)
-    (subst (λ o. IfSome o (λ gone. c.hand_now-hand.result.moves ≡ true → c.hand_now-hand.result.told ≡ false → state_of c.self.inside.markers c.self.inside.parts ≡ starts_with c.self.inside.originals.setup.world → IsSoundIn c.self.inside.originals.setup (state_of c.self.inside.markers c.go_calmly-gone.new.parts))) c.in-Some.is c.go_calmly-gone.ensures.starts)
+    (subst (λ o. IfSome o (λ gone. GoesCalmly c.self.inside.originals.setup c.self.inside.initializing c.hand_now-hand.result c.self.inside.parts gone c.go_calmly-gone.new.parts)) c.in-Some.is c.go_calmly-gone.ensures.goes)
+    (subst (λ o. IfSome o (λ gone. GoesOnFrom c.self.inside.originals.setup c.hand_now-hand.result (state_of c.self.inside.initializing c.self.inside.parts) gone (state_of c.self.inside.initializing c.go_calmly-gone.new.parts))) c.in-Some.is c.go_calmly-gone.ensures.hands)
+    (subst (λ o. IfSome o (λ gone. IsSoundIn c.self.inside.originals.setup (state_of c.self.inside.initializing c.self.inside.parts) → IsSoundIn c.self.inside.originals.setup (state_of c.self.inside.initializing c.go_calmly-gone.new.parts))) c.in-Some.is c.go_calmly-gone.ensures.sound)
+    (subst (λ o. IfSome o (λ gone. c.hand_now-hand.result.moves ≡ true → c.hand_now-hand.result.told ≡ false → state_of c.self.inside.initializing c.self.inside.parts ≡ starts_with c.self.inside.originals.setup.world → IsSoundIn c.self.inside.originals.setup (state_of c.self.inside.initializing c.go_calmly-gone.new.parts))) c.in-Some.is c.go_calmly-gone.ensures.starts)
     c.clock_in-self-inside.result c.clock_in-self-inside.ensures c.left-self-inside.result c.left-self-inside.ensures (c.self.invariant.tidy whole))))
     (calm-stops c.self.inside.originals.setup c.self.inside.originals.loaded c.self.inside.hand c.self.inside.started c.self.inside.broken c.self.inside.clock
-    c.self.inside.markers c.self.inside.parts c.self.invariant.machine c.args.self.now (seen-is c.self.invariant c.self.view_is) c.if-not-self.false c.if-self.false
+    c.self.inside.initializing c.self.inside.parts c.self.invariant.machine c.args.self.now (seen-is c.self.invariant c.self.view_is) c.if-not-self.false c.if-self.false
     c.is_resting-resting.result c.is_resting-resting.ensures
     c.hand_now-hand.result (c.hand_now-hand.ensures c.self.inside.originals.setup.world) c.go_calmly-gone.new.parts c.in-Some.gone
-    (subst (λ o. IfSome o (λ gone. GoesCalmly c.self.inside.originals.setup c.self.inside.markers c.hand_now-hand.result c.self.inside.parts gone c.go_calmly-gone.new.parts)) c.in-Some.is c.go_calmly-gone.ensures.goes)
-    (subst (λ o. IfSome o (λ gone. GoesOnFrom c.self.inside.originals.setup c.hand_now-hand.result (state_of c.self.inside.markers c.self.inside.parts) gone (state_of c.self.inside.markers c.go_calmly-gone.new.parts))) c.in-Some.is c.go_calmly-gone.ensures.hands)
-    (subst (λ o. IfSome o (λ gone. IsSoundIn c.self.inside.originals.setup (state_of c.self.inside.markers c.self.inside.parts) → IsSoundIn c.self.inside.originals.setup (state_of c.self.inside.markers c.go_calmly-gone.new.parts))) c.in-Some.is c.go_calmly-gone.ensures.sound)
-    (subst (λ o. IfSome o (λ gone. c.hand_now-hand.result.moves ≡ true → c.hand_now-hand.result.told ≡ false → state_of c.self.inside.markers c.self.inside.parts ≡ starts_with c.self.inside.originals.setup.world → IsSoundIn c.self.inside.originals.setup (state_of c.self.inside.markers c.go_calmly-gone.new.parts))) c.in-Some.is c.go_calmly-gone.ensures.starts)
+    (subst (λ o. IfSome o (λ gone. GoesCalmly c.self.inside.originals.setup c.self.inside.initializing c.hand_now-hand.result c.self.inside.parts gone c.go_calmly-gone.new.parts)) c.in-Some.is c.go_calmly-gone.ensures.goes)
+    (subst (λ o. IfSome o (λ gone. GoesOnFrom c.self.inside.originals.setup c.hand_now-hand.result (state_of c.self.inside.initializing c.self.inside.parts) gone (state_of c.self.inside.initializing c.go_calmly-gone.new.parts))) c.in-Some.is c.go_calmly-gone.ensures.hands)
+    (subst (λ o. IfSome o (λ gone. IsSoundIn c.self.inside.originals.setup (state_of c.self.inside.initializing c.self.inside.parts) → IsSoundIn c.self.inside.originals.setup (state_of c.self.inside.initializing c.go_calmly-gone.new.parts))) c.in-Some.is c.go_calmly-gone.ensures.sound)
+    (subst (λ o. IfSome o (λ gone. c.hand_now-hand.result.moves ≡ true → c.hand_now-hand.result.told ≡ false → state_of c.self.inside.initializing c.self.inside.parts ≡ starts_with c.self.inside.originals.setup.world → IsSoundIn c.self.inside.originals.setup (state_of c.self.inside.initializing c.go_calmly-gone.new.parts))) c.in-Some.is c.go_calmly-gone.ensures.starts)
     c.clock_in-self-inside.result c.clock_in-self-inside.ensures c.left-self-inside.result c.left-self-inside.ensures)
 
 pub returns-clause-leaves : goal.returns-clause-leaves
 returns-clause-leaves c =
     subst (IfLeaves (telling.Due c.in-Some.gone.due))
     (sym (plain-view c.self.inside.originals.setup c.self.inside.originals.loaded c.left-self-inside.result c.self.inside.started c.self.inside.broken c.clock_in-self-inside.result
-    (state_of c.self.inside.markers c.go_calmly-gone.new.parts) (λ whole. calm-tidy c.self.inside.originals.setup c.self.inside.originals.loaded c.self.inside.hand c.self.inside.started c.self.inside.broken c.self.inside.clock
-    c.self.inside.markers c.self.inside.parts c.self.invariant.machine c.args.self.now (seen-is c.self.invariant c.self.view_is) c.if-not-self.false c.if-self.false
+    (state_of c.self.inside.initializing c.go_calmly-gone.new.parts) (λ whole. calm-tidy c.self.inside.originals.setup c.self.inside.originals.loaded c.self.inside.hand c.self.inside.started c.self.inside.broken c.self.inside.clock
+    c.self.inside.initializing c.self.inside.parts c.self.invariant.machine c.args.self.now (seen-is c.self.invariant c.self.view_is) c.if-not-self.false c.if-self.false
     c.is_resting-resting.result c.is_resting-resting.ensures
     c.hand_now-hand.result (c.hand_now-hand.ensures c.self.inside.originals.setup.world) c.go_calmly-gone.new.parts c.in-Some.gone
-    (subst (λ o. IfSome o (λ gone. GoesCalmly c.self.inside.originals.setup c.self.inside.markers c.hand_now-hand.result c.self.inside.parts gone c.go_calmly-gone.new.parts)) c.in-Some.is c.go_calmly-gone.ensures.goes)
-    (subst (λ o. IfSome o (λ gone. GoesOnFrom c.self.inside.originals.setup c.hand_now-hand.result (state_of c.self.inside.markers c.self.inside.parts) gone (state_of c.self.inside.markers c.go_calmly-gone.new.parts))) c.in-Some.is c.go_calmly-gone.ensures.hands)
-    (subst (λ o. IfSome o (λ gone. IsSoundIn c.self.inside.originals.setup (state_of c.self.inside.markers c.self.inside.parts) → IsSoundIn c.self.inside.originals.setup (state_of c.self.inside.markers c.go_calmly-gone.new.parts))) c.in-Some.is c.go_calmly-gone.ensures.sound)
-    (subst (λ o. IfSome o (λ gone. c.hand_now-hand.result.moves ≡ true → c.hand_now-hand.result.told ≡ false → state_of c.self.inside.markers c.self.inside.parts ≡ starts_with c.self.inside.originals.setup.world → IsSoundIn c.self.inside.originals.setup (state_of c.self.inside.markers c.go_calmly-gone.new.parts))) c.in-Some.is c.go_calmly-gone.ensures.starts)
+    (subst (λ o. IfSome o (λ gone. GoesCalmly c.self.inside.originals.setup c.self.inside.initializing c.hand_now-hand.result c.self.inside.parts gone c.go_calmly-gone.new.parts)) c.in-Some.is c.go_calmly-gone.ensures.goes)
+    (subst (λ o. IfSome o (λ gone. GoesOnFrom c.self.inside.originals.setup c.hand_now-hand.result (state_of c.self.inside.initializing c.self.inside.parts) gone (state_of c.self.inside.initializing c.go_calmly-gone.new.parts))) c.in-Some.is c.go_calmly-gone.ensures.hands)
+    (subst (λ o. IfSome o (λ gone. IsSoundIn c.self.inside.originals.setup (state_of c.self.inside.initializing c.self.inside.parts) → IsSoundIn c.self.inside.originals.setup (state_of c.self.inside.initializing c.go_calmly-gone.new.parts))) c.in-Some.is c.go_calmly-gone.ensures.sound)
+    (subst (λ o. IfSome o (λ gone. c.hand_now-hand.result.moves ≡ true → c.hand_now-hand.result.told ≡ false → state_of c.self.inside.initializing c.self.inside.parts ≡ starts_with c.self.inside.originals.setup.world → IsSoundIn c.self.inside.originals.setup (state_of c.self.inside.initializing c.go_calmly-gone.new.parts))) c.in-Some.is c.go_calmly-gone.ensures.starts)
     c.clock_in-self-inside.result c.clock_in-self-inside.ensures c.left-self-inside.result c.left-self-inside.ensures (c.self.invariant.tidy whole))))
     (calm-leaves c.self.inside.originals.setup c.self.inside.originals.loaded c.self.inside.hand c.self.inside.started c.self.inside.broken c.self.inside.clock
-    c.self.inside.markers c.self.inside.parts c.self.invariant.machine c.args.self.now (seen-is c.self.invariant c.self.view_is) c.if-not-self.false c.if-self.false
+    c.self.inside.initializing c.self.inside.parts c.self.invariant.machine c.args.self.now (seen-is c.self.invariant c.self.view_is) c.if-not-self.false c.if-self.false
     c.is_resting-resting.result c.is_resting-resting.ensures
     c.hand_now-hand.result (c.hand_now-hand.ensures c.self.inside.originals.setup.world) c.go_calmly-gone.new.parts c.in-Some.gone
-    (subst (λ o. IfSome o (λ gone. GoesCalmly c.self.inside.originals.setup c.self.inside.markers c.hand_now-hand.result c.self.inside.parts gone c.go_calmly-gone.new.parts)) c.in-Some.is c.go_calmly-gone.ensures.goes)
-    (subst (λ o. IfSome o (λ gone. GoesOnFrom c.self.inside.originals.setup c.hand_now-hand.result (state_of c.self.inside.markers c.self.inside.parts) gone (state_of c.self.inside.markers c.go_calmly-gone.new.parts))) c.in-Some.is c.go_calmly-gone.ensures.hands)
-    (subst (λ o. IfSome o (λ gone. IsSoundIn c.self.inside.originals.setup (state_of c.self.inside.markers c.self.inside.parts) → IsSoundIn c.self.inside.originals.setup (state_of c.self.inside.markers c.go_calmly-gone.new.parts))) c.in-Some.is c.go_calmly-gone.ensures.sound)
-    (subst (λ o. IfSome o (λ gone. c.hand_now-hand.result.moves ≡ true → c.hand_now-hand.result.told ≡ false → state_of c.self.inside.markers c.self.inside.parts ≡ starts_with c.self.inside.originals.setup.world → IsSoundIn c.self.inside.originals.setup (state_of c.self.inside.markers c.go_calmly-gone.new.parts))) c.in-Some.is c.go_calmly-gone.ensures.starts)
+    (subst (λ o. IfSome o (λ gone. GoesCalmly c.self.inside.originals.setup c.self.inside.initializing c.hand_now-hand.result c.self.inside.parts gone c.go_calmly-gone.new.parts)) c.in-Some.is c.go_calmly-gone.ensures.goes)
+    (subst (λ o. IfSome o (λ gone. GoesOnFrom c.self.inside.originals.setup c.hand_now-hand.result (state_of c.self.inside.initializing c.self.inside.parts) gone (state_of c.self.inside.initializing c.go_calmly-gone.new.parts))) c.in-Some.is c.go_calmly-gone.ensures.hands)
+    (subst (λ o. IfSome o (λ gone. IsSoundIn c.self.inside.originals.setup (state_of c.self.inside.initializing c.self.inside.parts) → IsSoundIn c.self.inside.originals.setup (state_of c.self.inside.initializing c.go_calmly-gone.new.parts))) c.in-Some.is c.go_calmly-gone.ensures.sound)
+    (subst (λ o. IfSome o (λ gone. c.hand_now-hand.result.moves ≡ true → c.hand_now-hand.result.told ≡ false → state_of c.self.inside.initializing c.self.inside.parts ≡ starts_with c.self.inside.originals.setup.world → IsSoundIn c.self.inside.originals.setup (state_of c.self.inside.initializing c.go_calmly-gone.new.parts))) c.in-Some.is c.go_calmly-gone.ensures.starts)
     c.clock_in-self-inside.result c.clock_in-self-inside.ensures c.left-self-inside.result c.left-self-inside.ensures)
 
 pub returns-clause-going : goal.returns-clause-going
 returns-clause-going c =
     calm-going c.self.inside.originals.setup c.self.inside.originals.loaded c.self.inside.hand c.self.inside.started c.self.inside.broken c.self.inside.clock
-    c.self.inside.markers c.self.inside.parts c.self.invariant.machine c.args.self.now (seen-is c.self.invariant c.self.view_is) c.if-not-self.false c.if-self.false
+    c.self.inside.initializing c.self.inside.parts c.self.invariant.machine c.args.self.now (seen-is c.self.invariant c.self.view_is) c.if-not-self.false c.if-self.false
     c.is_resting-resting.result c.is_resting-resting.ensures
     (c.is_calm.ensures c.if-not-is_calm.false).ending
 

@@ -1,4 +1,4 @@
-use Rattle.prepared_code.specs.Markers.{state_of}
+use Rattle.prepared_code.specs.Initializations.{state_of}
 use Rattle.jvm_machine.proofs.Shown.{rest-shows}
 use Rattle.jvm_machine.proofs.HeldVersions.{seen-is}
 use Rattle.jvm_machine.proofs.machine.Vm.ending.Goals as goal
@@ -6,4 +6,4 @@ use Rattle.jvm_machine.proofs.machine.Vm.ending.Goals as goal
 pub returns : goal.returns
 returns c = λ whole resting.
     (rest-shows c.self.inside.originals.setup c.self.inside.originals.loaded c.self.inside.hand c.self.inside.started c.self.inside.broken c.self.inside.clock
-    (state_of c.self.inside.markers c.self.inside.parts) c.self.invariant.machine c.args.self.now (seen-is c.self.invariant c.self.view_is) whole resting).ending
+    (state_of c.self.inside.initializing c.self.inside.parts) c.self.invariant.machine c.args.self.now (seen-is c.self.invariant c.self.view_is) whole resting).ending

@@ -1,6 +1,6 @@
 use Rattle.std.proofs.Common.{◌≡◌, sym, ap, ap₂, subst, ◌∙◌}
 use Rattle.prepared_code.specs.ClassVersions.{class_versions}
-use Rattle.prepared_code.specs.Markers.{state_of}
+use Rattle.prepared_code.specs.Initializations.{state_of}
 use Rattle.prepared_code.specs.Tables.{Adds, AreOfMethods, Versions}
 use Rattle.prepared_code.specs.Versions.{Setup}
 use Rattle.prepared_code.proofs.ClassVersionLaws.{versions-below}
@@ -21,57 +21,57 @@ install-requires c =
 pub invariant_of-self : goal.invariant_of-self
 invariant_of-self c = record {
   machine = subst (λ l. IsMachine c.install.new.self.setup l c.self.inside.hand
-      (seen c.install.new.self.setup (state_of c.self.inside.markers c.self.inside.parts) c.self.inside.started c.self.inside.broken c.self.inside.clock c.self.inside.hand) (state_of c.self.inside.markers c.self.inside.parts)) (sym c.install.ensures.loaded)
+      (seen c.install.new.self.setup (state_of c.self.inside.initializing c.self.inside.parts) c.self.inside.started c.self.inside.broken c.self.inside.clock c.self.inside.hand) (state_of c.self.inside.initializing c.self.inside.parts)) (sym c.install.ensures.loaded)
       (either-way (IsMachine c.install.new.self.setup c.self.inside.originals.loaded c.self.inside.hand
-      (seen c.install.new.self.setup (state_of c.self.inside.markers c.self.inside.parts) c.self.inside.started c.self.inside.broken c.self.inside.clock c.self.inside.hand) (state_of c.self.inside.markers c.self.inside.parts)) c.install.result
+      (seen c.install.new.self.setup (state_of c.self.inside.initializing c.self.inside.parts) c.self.inside.started c.self.inside.broken c.self.inside.clock c.self.inside.hand) (state_of c.self.inside.initializing c.self.inside.parts)) c.install.result
       (on-ok-then (Adds c.self.inside.parts.frames.frames (class_versions c.self.inside.originals.setup.world.program c.args.class c.args.image c.args.homes.now)
       c.self.inside.originals.setup.versions c.install.new.self.setup.versions) (IsMachine c.install.new.self.setup c.self.inside.originals.loaded c.self.inside.hand
-      (seen c.install.new.self.setup (state_of c.self.inside.markers c.self.inside.parts) c.self.inside.started c.self.inside.broken c.self.inside.clock c.self.inside.hand) (state_of c.self.inside.markers c.self.inside.parts)) c.install.result
-      (installed-machine c.self.inside.started c.self.inside.broken c.self.inside.clock c.self.inside.hand (state_of c.self.inside.markers c.self.inside.parts) c.self.inside.originals.loaded
+      (seen c.install.new.self.setup (state_of c.self.inside.initializing c.self.inside.parts) c.self.inside.started c.self.inside.broken c.self.inside.clock c.self.inside.hand) (state_of c.self.inside.initializing c.self.inside.parts)) c.install.result
+      (installed-machine c.self.inside.started c.self.inside.broken c.self.inside.clock c.self.inside.hand (state_of c.self.inside.initializing c.self.inside.parts) c.self.inside.originals.loaded
       (ap (λ (v : View). v.broken) (seen-is c.self.invariant c.self.view_is) ∙ c.requires.whole) c.self.inside.originals.setup c.self.inside.parts.frames.frames
-      (parts-pinned c.self.inside.markers c.self.inside.parts) c.self.invariant.machine (subst (λ (v : View). IsFormed v.program) (sym (seen-is c.self.invariant c.self.view_is)) c.requires.formed)
+      (parts-pinned c.self.inside.initializing c.self.inside.parts) c.self.invariant.machine (subst (λ (v : View). IsFormed v.program) (sym (seen-is c.self.invariant c.self.view_is)) c.requires.formed)
       c.args.class c.args.marks.now c.args.image c.args.homes.now (subst (λ (v : View). IsImageOf v.program c.args.class c.args.marks.now c.args.image c.args.homes.now) (sym (seen-is c.self.invariant c.self.view_is)) c.requires.image)
       c.requires.pool c.install.new.self.setup c.install.ensures.world) c.install.ensures.ok)
       (on-err-then (c.install.new.self.setup.versions ≡ c.self.inside.originals.setup.versions) (IsMachine c.install.new.self.setup c.self.inside.originals.loaded c.self.inside.hand
-      (seen c.install.new.self.setup (state_of c.self.inside.markers c.self.inside.parts) c.self.inside.started c.self.inside.broken c.self.inside.clock c.self.inside.hand) (state_of c.self.inside.markers c.self.inside.parts)) c.install.result
+      (seen c.install.new.self.setup (state_of c.self.inside.initializing c.self.inside.parts) c.self.inside.started c.self.inside.broken c.self.inside.clock c.self.inside.hand) (state_of c.self.inside.initializing c.self.inside.parts)) c.install.result
       (λ versions. subst (λ (w : Setup). IsMachine w c.self.inside.originals.loaded c.self.inside.hand
-      (seen w (state_of c.self.inside.markers c.self.inside.parts) c.self.inside.started c.self.inside.broken c.self.inside.clock c.self.inside.hand) (state_of c.self.inside.markers c.self.inside.parts))
+      (seen w (state_of c.self.inside.initializing c.self.inside.parts) c.self.inside.started c.self.inside.broken c.self.inside.clock c.self.inside.hand) (state_of c.self.inside.initializing c.self.inside.parts))
       (sym (ap₂ (λ world versions. let w : Setup = record { world = world; versions = versions } in w) c.install.ensures.world versions)) c.self.invariant.machine) c.install.ensures.err));
-  tidy = λ whole. either-way (IsTidy c.install.new.self.setup.versions (state_of c.self.inside.markers c.self.inside.parts).stack) c.install.result
+  tidy = λ whole. either-way (IsTidy c.install.new.self.setup.versions (state_of c.self.inside.initializing c.self.inside.parts).stack) c.install.result
       (on-ok-then (Adds c.self.inside.parts.frames.frames (class_versions c.self.inside.originals.setup.world.program c.args.class c.args.image c.args.homes.now)
-      c.self.inside.originals.setup.versions c.install.new.self.setup.versions) (IsTidy c.install.new.self.setup.versions (state_of c.self.inside.markers c.self.inside.parts).stack) c.install.result
+      c.self.inside.originals.setup.versions c.install.new.self.setup.versions) (IsTidy c.install.new.self.setup.versions (state_of c.self.inside.initializing c.self.inside.parts).stack) c.install.result
       (λ adds.
-      tidy-added (state_of c.self.inside.markers c.self.inside.parts).stack c.self.inside.parts.frames.frames (λ k. pinned-runs k c.self.inside.parts.frames.frames c.self.inside.markers)
+      tidy-added (state_of c.self.inside.initializing c.self.inside.parts).stack c.self.inside.parts.frames.frames (λ k. pinned-runs k c.self.inside.parts.frames.frames c.self.inside.initializing)
       (class_versions c.self.inside.originals.setup.world.program c.args.class c.args.image c.args.homes.now)
       c.self.inside.originals.setup.versions c.install.new.self.setup.versions
       (subst (λ n. AreOfMethods n (class_versions c.self.inside.originals.setup.world.program c.args.class c.args.image c.args.homes.now)) (sym c.self.invariant.machine.has.are.count)
       (versions-below c.self.inside.originals.setup.world.program c.args.class c.args.image c.args.homes.now))
       adds (c.self.invariant.tidy whole)) c.install.ensures.ok)
-      (on-err-then (c.install.new.self.setup.versions ≡ c.self.inside.originals.setup.versions) (IsTidy c.install.new.self.setup.versions (state_of c.self.inside.markers c.self.inside.parts).stack) c.install.result
-      (λ versions. subst (λ (v : Versions). IsTidy v (state_of c.self.inside.markers c.self.inside.parts).stack) (sym versions) (c.self.invariant.tidy whole)) c.install.ensures.err);
+      (on-err-then (c.install.new.self.setup.versions ≡ c.self.inside.originals.setup.versions) (IsTidy c.install.new.self.setup.versions (state_of c.self.inside.initializing c.self.inside.parts).stack) c.install.result
+      (λ versions. subst (λ (v : Versions). IsTidy v (state_of c.self.inside.initializing c.self.inside.parts).stack) (sym versions) (c.self.invariant.tidy whole)) c.install.ensures.err);
 }
 
 pub returns-clause-ok : goal.returns-clause-ok
 returns-clause-ok c =
     on-ok-then (Adds c.self.inside.parts.frames.frames (class_versions c.self.inside.originals.setup.world.program c.args.class c.args.image c.args.homes.now)
-    c.self.inside.originals.setup.versions c.install.new.self.setup.versions) ((viewed c.install.new.self.setup (state_of c.self.inside.markers c.self.inside.parts) c.self.inside.started c.self.inside.broken c.self.inside.clock c.self.inside.hand) ≡ with_class c.args.class c.args.marks.now c.args.self.now) c.install.result
+    c.self.inside.originals.setup.versions c.install.new.self.setup.versions) ((viewed c.install.new.self.setup (state_of c.self.inside.initializing c.self.inside.parts) c.self.inside.started c.self.inside.broken c.self.inside.clock c.self.inside.hand) ≡ with_class c.args.class c.args.marks.now c.args.self.now) c.install.result
     (λ adds. plain-view c.install.new.self.setup c.self.inside.originals.loaded c.self.inside.hand c.self.inside.started c.self.inside.broken c.self.inside.clock
-    (state_of c.self.inside.markers c.self.inside.parts) (λ whole.
-    tidy-added (state_of c.self.inside.markers c.self.inside.parts).stack c.self.inside.parts.frames.frames (λ k. pinned-runs k c.self.inside.parts.frames.frames c.self.inside.markers)
+    (state_of c.self.inside.initializing c.self.inside.parts) (λ whole.
+    tidy-added (state_of c.self.inside.initializing c.self.inside.parts).stack c.self.inside.parts.frames.frames (λ k. pinned-runs k c.self.inside.parts.frames.frames c.self.inside.initializing)
     (class_versions c.self.inside.originals.setup.world.program c.args.class c.args.image c.args.homes.now)
     c.self.inside.originals.setup.versions c.install.new.self.setup.versions
     (subst (λ n. AreOfMethods n (class_versions c.self.inside.originals.setup.world.program c.args.class c.args.image c.args.homes.now)) (sym c.self.invariant.machine.has.are.count)
     (versions-below c.self.inside.originals.setup.world.program c.args.class c.args.image c.args.homes.now))
     adds (c.self.invariant.tidy whole))
-    ∙ (installed-seen c.self.inside.started c.self.inside.broken c.self.inside.clock c.self.inside.hand (state_of c.self.inside.markers c.self.inside.parts) c.self.inside.originals.loaded
+    ∙ (installed-seen c.self.inside.started c.self.inside.broken c.self.inside.clock c.self.inside.hand (state_of c.self.inside.initializing c.self.inside.parts) c.self.inside.originals.loaded
     (ap (λ (v : View). v.broken) (seen-is c.self.invariant c.self.view_is) ∙ c.requires.whole) c.self.inside.originals.setup c.self.inside.parts.frames.frames
-    (parts-pinned c.self.inside.markers c.self.inside.parts) c.self.invariant.machine (subst (λ (v : View). IsFormed v.program) (sym (seen-is c.self.invariant c.self.view_is)) c.requires.formed)
+    (parts-pinned c.self.inside.initializing c.self.inside.parts) c.self.invariant.machine (subst (λ (v : View). IsFormed v.program) (sym (seen-is c.self.invariant c.self.view_is)) c.requires.formed)
     c.args.class c.args.marks.now c.args.image c.args.homes.now (subst (λ (v : View). IsImageOf v.program c.args.class c.args.marks.now c.args.image c.args.homes.now) (sym (seen-is c.self.invariant c.self.view_is)) c.requires.image)
     c.requires.pool c.install.new.self.setup c.install.ensures.world adds
     ∙ ap (with_class c.args.class c.args.marks.now) (seen-is c.self.invariant c.self.view_is))) c.install.ensures.ok
 
 pub returns-clause-err : goal.returns-clause-err
 returns-clause-err c =
-    on-err-then (c.install.new.self.setup.versions ≡ c.self.inside.originals.setup.versions) ((viewed c.install.new.self.setup (state_of c.self.inside.markers c.self.inside.parts) c.self.inside.started c.self.inside.broken c.self.inside.clock c.self.inside.hand) ≡ c.args.self.now) c.install.result
-    (λ versions. ap (λ (w : Setup). viewed w (state_of c.self.inside.markers c.self.inside.parts) c.self.inside.started c.self.inside.broken c.self.inside.clock c.self.inside.hand) (ap₂ (λ world versions. let w : Setup = record { world = world; versions = versions } in w) c.install.ensures.world versions)
+    on-err-then (c.install.new.self.setup.versions ≡ c.self.inside.originals.setup.versions) ((viewed c.install.new.self.setup (state_of c.self.inside.initializing c.self.inside.parts) c.self.inside.started c.self.inside.broken c.self.inside.clock c.self.inside.hand) ≡ c.args.self.now) c.install.result
+    (λ versions. ap (λ (w : Setup). viewed w (state_of c.self.inside.initializing c.self.inside.parts) c.self.inside.started c.self.inside.broken c.self.inside.clock c.self.inside.hand) (ap₂ (λ world versions. let w : Setup = record { world = world; versions = versions } in w) c.install.ensures.world versions)
     ∙ c.self.view_is) c.install.ensures.err

@@ -2,9 +2,9 @@ use Rattle.std.proofs.Common.{◌≤◌, false, sym, ap, subst, ◌∙◌}
 use Rattle.jvm_model.specs.declared.program.Program.{Program}
 use Rattle.jvm_model.specs.Running.Run.{before}
 use Rattle.jvm_model.specs.Basis.SharedState.{built_in_from}
-use Rattle.prepared_code.specs.Markers.{state_of}
+use Rattle.prepared_code.specs.Initializations.{state_of}
 use Rattle.prepared_code.specs.Tables.{AreAllCurrent}
-use Rattle.prepared_code.proofs.MarkedParts.{plain-state}
+use Rattle.prepared_code.proofs.InitializingParts.{plain-state}
 use Rattle.prepared_code.proofs.OriginalsRun.{original-current}
 use Rattle.jvm_machine.proofs.HeldVersions.{plain-view, tidy-current}
 use Rattle.jvm_machine.proofs.Fresh.{fresh-machine, fresh-seen}

@@ -1,5 +1,5 @@
 use Rattle.std.proofs.Common.{◌+◌, sym, ap, subst, ◌∙◌}
-use Rattle.prepared_code.specs.Markers.{state_of}
+use Rattle.prepared_code.specs.Initializations.{state_of}
 use Rattle.prepared_code.proofs.StandingSteps.{set-up-runs}
 use Rattle.jvm_machine.specs.Several.{Passes, none}
 use Rattle.jvm_machine.specs.View.{is_resting}
@@ -26,10 +26,10 @@ pass_steps-made-requires-clause-calm c = c.is_calm.ensures c.if-not-is_calm.fals
 pub invariant_of-self : goal.invariant_of-self
 invariant_of-self c = record {
   machine = plain-machine c.self.inside.originals.setup c.self.inside.originals.loaded c.self.inside.hand c.self.inside.started c.self.inside.broken c.self.inside.clock
-      c.self.inside.markers c.self.inside.parts c.self.invariant.machine c.args.self.now (seen-is c.self.invariant c.self.view_is) c.if-not-self.false c.if-self.false c.requires.resting c.pass_steps-made.result c.pass_steps-made.new.parts c.pass_steps-made.ensures.made;
+      c.self.inside.initializing c.self.inside.parts c.self.invariant.machine c.args.self.now (seen-is c.self.invariant c.self.view_is) c.if-not-self.false c.if-self.false c.requires.resting c.pass_steps-made.result c.pass_steps-made.new.parts c.pass_steps-made.ensures.made;
   tidy = λ whole.
       plain-tidy c.self.inside.originals.setup c.self.inside.originals.loaded c.self.inside.hand c.self.inside.started c.self.inside.broken c.self.inside.clock
-      c.self.inside.markers c.self.inside.parts c.self.invariant.machine c.args.self.now (seen-is c.self.invariant c.self.view_is) c.if-not-self.false c.if-self.false c.requires.resting c.pass_steps-made.result c.pass_steps-made.new.parts c.pass_steps-made.ensures.made
+      c.self.inside.initializing c.self.inside.parts c.self.invariant.machine c.args.self.now (seen-is c.self.invariant c.self.view_is) c.if-not-self.false c.if-self.false c.requires.resting c.pass_steps-made.result c.pass_steps-made.new.parts c.pass_steps-made.ensures.made
       (c.self.invariant.tidy whole);
 }
 
@@ -37,12 +37,12 @@ pub returns-clause-passes : goal.returns-clause-passes
 returns-clause-passes c =
     subst (Passes c.args.self.now c.pass_steps-made.result)
     (sym (plain-view c.self.inside.originals.setup c.self.inside.originals.loaded c.self.inside.hand c.self.inside.started c.self.inside.broken (c.self.inside.clock + c.pass_steps-made.result)
-    (state_of c.self.inside.markers c.pass_steps-made.new.parts) (λ whole.
+    (state_of c.self.inside.initializing c.pass_steps-made.new.parts) (λ whole.
     plain-tidy c.self.inside.originals.setup c.self.inside.originals.loaded c.self.inside.hand c.self.inside.started c.self.inside.broken c.self.inside.clock
-    c.self.inside.markers c.self.inside.parts c.self.invariant.machine c.args.self.now (seen-is c.self.invariant c.self.view_is) c.if-not-self.false c.if-self.false c.requires.resting c.pass_steps-made.result c.pass_steps-made.new.parts c.pass_steps-made.ensures.made
+    c.self.inside.initializing c.self.inside.parts c.self.invariant.machine c.args.self.now (seen-is c.self.invariant c.self.view_is) c.if-not-self.false c.if-self.false c.requires.resting c.pass_steps-made.result c.pass_steps-made.new.parts c.pass_steps-made.ensures.made
     (c.self.invariant.tidy whole))))
     (plain-passes c.self.inside.originals.setup c.self.inside.originals.loaded c.self.inside.hand c.self.inside.started c.self.inside.broken c.self.inside.clock
-    c.self.inside.markers c.self.inside.parts c.self.invariant.machine c.args.self.now (seen-is c.self.invariant c.self.view_is) c.if-not-self.false c.if-self.false c.requires.resting c.pass_steps-made.result c.pass_steps-made.new.parts c.pass_steps-made.ensures.made)
+    c.self.inside.initializing c.self.inside.parts c.self.invariant.machine c.args.self.now (seen-is c.self.invariant c.self.view_is) c.if-not-self.false c.if-self.false c.requires.resting c.pass_steps-made.result c.pass_steps-made.new.parts c.pass_steps-made.ensures.made)
 
 pub returns-clause-rests : goal.returns-clause-rests
 returns-clause-rests c = ap is_resting (seen-is c.self.invariant c.self.view_is) ∙ c.requires.resting

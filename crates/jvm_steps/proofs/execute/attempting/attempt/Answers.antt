@@ -4,10 +4,10 @@ use Rattle.std.specs.Option.{IfSome}
 use Rattle.jvm_model.specs.Running.Run.{with_loaded}
 use Rattle.prepared_code.specs.Versions.{Setup}
 use Rattle.jvm_steps.specs.Instructions.Acts.{attempts_on, awaited_in, awaited_on}
-use Rattle.prepared_code.specs.Markers.{state_of}
+use Rattle.prepared_code.specs.Initializations.{state_of}
 use Rattle.prepared_code.specs.Ready.{CanRun, IsSoundIn}
 use Rattle.jvm_steps.specs.Moves.Turning.{loads_in, loads_none}
-use Rattle.jvm_steps.proofs.Marked.Beneath.{nothing-there}
+use Rattle.jvm_steps.proofs.Initializing.Beneath.{nothing-there}
 use Rattle.jvm_steps.proofs.Loads.LoadedApart.{nothing-loads}
 use Rattle.jvm_steps.proofs.execute.attempting.attempt.Goals as goal
 
@@ -15,13 +15,13 @@ pub returns-in_default-clause-answer : goal.returns-in_default-clause-answer
 returns-in_default-clause-answer c =
     let w = c.args.originals.now.setup in
     let p = c.args.parts.now in
-    sym (ap (awaited_on w (state_of c.args.markers.now p)) (nothing-there w c.args.markers.now p (sym c.where_now.ensures ∙ c.in_default.is) c.requires.unmarked))
+    sym (ap (awaited_on w (state_of c.args.initializing.now p)) (nothing-there w c.args.initializing.now p (sym c.where_now.ensures ∙ c.in_default.is) c.requires.executing))
 
 pub returns-in_default-clause-state : goal.returns-in_default-clause-state
 returns-in_default-clause-state c =
     let w = c.args.originals.now.setup in
     let p = c.args.parts.now in
-    sym (ap (attempts_on w (state_of c.args.markers.now p)) (nothing-there w c.args.markers.now p (sym c.where_now.ensures ∙ c.in_default.is) c.requires.unmarked))
+    sym (ap (attempts_on w (state_of c.args.initializing.now p)) (nothing-there w c.args.initializing.now p (sym c.where_now.ensures ∙ c.in_default.is) c.requires.executing))
 
 pub attempt_there-requires-clause-linked : goal.attempt_there-requires-clause-linked
 attempt_there-requires-clause-linked c = c.in_ok-prepare.ensures.loaded ∙ c.requires.linked
@@ -31,7 +31,7 @@ attempt_there-requires-clause-fit c = subst CanRun (sym c.in_ok-prepare.ensures.
 
 pub attempt_there-requires-clause-sound : goal.attempt_there-requires-clause-sound
 attempt_there-requires-clause-sound c =
-    subst (λ (w : Setup). IsSoundIn w (state_of c.args.markers.now c.args.parts.now)) (sym c.in_ok-prepare.ensures.setup) c.requires.sound
+    subst (λ (w : Setup). IsSoundIn w (state_of c.args.initializing.now c.args.parts.now)) (sym c.in_ok-prepare.ensures.setup) c.requires.sound
 
 pub attempt_there-requires-clause-here : goal.attempt_there-requires-clause-here
 attempt_there-requires-clause-here c = sym c.where_now.ensures ∙ c.in-Some.is
@@ -41,11 +41,11 @@ returns-clause-world c = c.attempt_there.ensures.world ∙ c.in_ok-prepare.ensur
 
 pub returns-clause-answer : goal.returns-clause-answer
 returns-clause-answer c =
-    subst (λ (w : Setup). IfOk c.attempt_there.result (λ o. o ≡ awaited_in w (state_of c.args.markers.now c.args.parts.now))) c.in_ok-prepare.ensures.setup
+    subst (λ (w : Setup). IfOk c.attempt_there.result (λ o. o ≡ awaited_in w (state_of c.args.initializing.now c.args.parts.now))) c.in_ok-prepare.ensures.setup
     c.attempt_there.ensures.answer
 
 pub returns-clause-state : goal.returns-clause-state
 returns-clause-state c =
-    let s = state_of c.args.markers.now c.args.parts.now in
-    subst (λ (w : Setup). OnOk c.attempt_there.result (state_of c.attempt_there.new.markers c.attempt_there.new.parts ≡ attempts_on w s s.stack)) c.in_ok-prepare.ensures.setup
+    let s = state_of c.args.initializing.now c.args.parts.now in
+    subst (λ (w : Setup). OnOk c.attempt_there.result (state_of c.attempt_there.new.initializing c.attempt_there.new.parts ≡ attempts_on w s s.stack)) c.in_ok-prepare.ensures.setup
     c.attempt_there.ensures.state

@@ -1,7 +1,7 @@
 use Rattle.std.proofs.Common.{sym, ap, ◌∙◌}
 use Rattle.jvm_steps.specs.Instructions.Acts.{attempts_on, awaited_on}
-use Rattle.prepared_code.specs.Markers.{state_of}
-use Rattle.jvm_steps.proofs.Marked.Beneath.{awaits-unnamed, loads-unnamed, nothing-there}
+use Rattle.prepared_code.specs.Initializations.{state_of}
+use Rattle.jvm_steps.proofs.Initializing.Beneath.{awaits-unnamed, loads-unnamed, nothing-there}
 use Rattle.jvm_steps.proofs.Moves.Sounded.{objects-linked}
 use Rattle.jvm_steps.proofs.execute.attempting.attempt_there.Goals as goal
 
@@ -11,11 +11,11 @@ attempt_line-requires-clause-objects c =
 
 pub returns-clause-answer : goal.returns-clause-answer
 returns-clause-answer c =
-    sym (awaits-unnamed c.args.originals.now.setup c.args.markers.now c.args.parts.now c.args.here c.requires.here c.requires.unmarked
+    sym (awaits-unnamed c.args.originals.now.setup c.args.initializing.now c.args.parts.now c.args.here c.requires.here c.requires.executing
     (sym c.named_at.ensures ∙ c.if-named_at.false))
 
 pub returns-clause-linked : goal.returns-clause-linked
 returns-clause-linked c =
     c.requires.linked
-    ∙ loads-unnamed c.args.originals.now.setup c.args.markers.now c.args.parts.now c.args.here c.requires.here c.requires.unmarked
-    (sym c.named_at.ensures ∙ c.if-named_at.false) (state_of c.args.markers.now c.attempt_line.new.parts) c.in_ok-attempt_line.ensures
+    ∙ loads-unnamed c.args.originals.now.setup c.args.initializing.now c.args.parts.now c.args.here c.requires.here c.requires.executing
+    (sym c.named_at.ensures ∙ c.if-named_at.false) (state_of c.args.initializing.now c.attempt_line.new.parts) c.in_ok-attempt_line.ensures

@@ -1,21 +1,21 @@
 use Rattle.std.proofs.Common.{◌≡◌, ◌+◌, sym, subst, ◌∙◌, arith}
-use Rattle.prepared_code.specs.Markers.{state_of}
+use Rattle.prepared_code.specs.Initializations.{state_of}
 use Rattle.jvm_steps.specs.Instructions.Passing.{Passes, steps_if}
-use Rattle.jvm_steps.proofs.Marked.Behind.{leads-sound}
+use Rattle.jvm_steps.proofs.Initializing.Behind.{leads-sound}
 use Rattle.jvm_steps.proofs.Silent.SilentSteps.{passes-alone, passes-on}
 use Rattle.jvm_steps.proofs.execute.passing.pass_steps.Goals as goal
 
 pub loop-made-init : goal.loop-made-init
 loop-made-init c = (
   c.plain_steps-made.ensures.within,
-  passes-alone c.args.originals.now.setup c.args.markers.now c.args.parts.now c.plain_steps-made.new.parts c.plain_steps-made.result
+  passes-alone c.args.originals.now.setup c.args.initializing.now c.args.parts.now c.plain_steps-made.new.parts c.plain_steps-made.result
       c.plain_steps-made.ensures.made c.requires.calm,
 )
 
 pub loop-made-preserved : goal.loop-made-preserved
 loop-made-preserved c =
     let w = c.args.originals.now.setup in
-    let ms = c.args.markers.now in
+    let ms = c.args.initializing.now in
     let one = subst (λ b. Passes w ms c.loop-made.parts (steps_if b) c.pass_line.new.parts) c.if-pass_line.true c.pass_line.ensures in
     let first = passes-on w ms c.args.parts.now c.loop-made.parts c.pass_line.new.parts c.loop-made.made 1 c.loop-made.invariant.1 one in (
       omega (arith, c.loop-made-test.true, c.plain_steps-made-in-loop-made.ensures.within),
@@ -29,7 +29,7 @@ pass_line-requires-clause-linked c = c.requires.linked ∙ sym c.loop-made.invar
 
 pub pass_line-requires-clause-sound : goal.pass_line-requires-clause-sound
 pass_line-requires-clause-sound c =
-    leads-sound c.args.originals.now.setup c.requires.run (state_of c.args.markers.now c.args.parts.now) c.loop-made.made (state_of c.args.markers.now c.loop-made.parts)
+    leads-sound c.args.originals.now.setup c.requires.run (state_of c.args.initializing.now c.args.parts.now) c.loop-made.made (state_of c.args.initializing.now c.loop-made.parts)
     c.loop-made.invariant.1.leads c.requires.sound
 
 pub pass_line-requires-clause-calm : goal.pass_line-requires-clause-calm
@@ -38,7 +38,7 @@ pass_line-requires-clause-calm c = c.loop-made.invariant.1.calm
 pub returns-else-pass_line-clause-made : goal.returns-else-pass_line-clause-made
 returns-else-pass_line-clause-made c =
     let w = c.args.originals.now.setup in
-    let ms = c.args.markers.now in
+    let ms = c.args.initializing.now in
     let none = subst (λ b. Passes w ms c.loop-made.parts (steps_if b) c.pass_line.new.parts) c.if-pass_line.false c.pass_line.ensures in
     let same : c.loop-made.made + 0 ≡ c.loop-made.made = omega arith in
     subst (λ k. Passes w ms c.args.parts.now k c.pass_line.new.parts) same

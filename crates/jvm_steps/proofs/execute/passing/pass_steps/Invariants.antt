@@ -4,7 +4,7 @@ use Rattle.jvm_steps.specs.Instructions.Passing.{Passes}
 use Rattle.jvm_steps.proofs.execute.passing.pass_steps.Given as goal
 
 abbrev pub invariant-loop-made : goal.invariant-loop-made
-invariant-loop-made l = (l.made ≤ l.most) × Passes l.originals.setup l.markers l.fn.parts l.made l.parts
+invariant-loop-made l = (l.made ≤ l.most) × Passes l.originals.setup l.initializing l.fn.parts l.made l.parts
 
 abbrev pub decreases-loop-made : goal.decreases-loop-made
 decreases-loop-made l = l.most - l.made

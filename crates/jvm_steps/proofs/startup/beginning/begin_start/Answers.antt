@@ -7,7 +7,7 @@ use Rattle.jvm_steps.proofs.startup.beginning.begin_start.Goals as goal
 pub returns-then-arguments_fit-clause-loads : goal.returns-then-arguments_fit-clause-loads
 returns-then-arguments_fit-clause-loads c =
     on_ok_weaker c.load_main.result
-    (begun-loads c.args.originals.now.setup c.args.markers.now c.load_main.new.markers c.args.parts.now c.load_main.new.parts
+    (begun-loads c.args.originals.now.setup c.args.initializing.now c.load_main.new.initializing c.args.parts.now c.load_main.new.parts
     (sym (ap arguments_fit c.program.ensures.program) ∙ (sym c.arguments_fit.ensures ∙ c.if-arguments_fit.true)) c.requires.at_start.before)
     c.load_main.ensures.state
 

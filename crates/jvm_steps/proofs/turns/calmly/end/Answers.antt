@@ -9,14 +9,14 @@ use Rattle.jvm_steps.proofs.turns.calmly.end.Goals as goal
 pub returns-then-told-clause-some : goal.returns-then-told-clause-some
 returns-then-told-clause-some c =
     let w = c.args.originals.now.setup in
-    let ms = c.args.markers.now in
+    let ms = c.args.initializing.now in
     subst (λ b. TriesCalmly w ms b c.args.parts.now Nothing c.leave.new.parts) (sym c.if-told.true)
     (subst (λ b. TriesIf b w ms true c.args.parts.now Nothing c.leave.new.parts) c.if-not-leave.false c.leave.ensures)
 
 pub returns-clause-some : goal.returns-clause-some
 returns-clause-some c =
     let w = c.args.originals.now.setup in
-    let ms = c.args.markers.now in
+    let ms = c.args.initializing.now in
     subst (λ b. TriesCalmly w ms b c.args.parts.now (Ends kind.Leave) c.args.parts.now) (sym c.if-told.false)
     (stops-calmly w c.requires.run ms c.args.parts.now c.args.here c.args.line.now c.requires.here c.requires.calm c.requires.line (ap returns_by c.requires.ends)
     (sym c.is_marked.ensures ∙ c.if-not-is_marked.false))

@@ -1,5 +1,5 @@
 use Rattle.std.proofs.Common.{sym, ap, subst, ◌+◌, ◌∙◌}
-use Rattle.prepared_code.specs.Markers.{state_of}
+use Rattle.prepared_code.specs.Initializations.{state_of}
 use Rattle.prepared_code.specs.Standing.{IsRunOf}
 use Rattle.prepared_code.specs.Tables.{AreAllCurrent, Releases}
 use Rattle.prepared_code.specs.Versions.{Setup}
@@ -17,8 +17,8 @@ returns-clause-same c = λ all.
 pub returns-clause-stands : goal.returns-clause-stands
 returns-clause-stands c = λ clock is.
     let w : Setup = c.args.originals.now.setup in
-    let after = state_of c.steps_on.new.markers c.steps_on.new.parts in
+    let after = state_of c.steps_on.new.initializing c.steps_on.new.parts in
     let on : IsRunOf w (clock + c.in_ok-made.made) after =
-    subst (IsRunOf w (clock + c.in_ok-made.made)) (sym c.in_ok-made.ensures.made.made) (run-of-more w clock c.in_ok-made.made (state_of c.args.markers.now c.args.parts.now) is) in
-    run-of-released w c.release.new.self.setup c.steps_on.new.markers c.steps_on.new.parts (clock + c.in_ok-made.made) (c.release.ensures.world ∙ ap (λ (u : Setup). u.world) c.in_ok-made.ensures.world)
+    subst (IsRunOf w (clock + c.in_ok-made.made)) (sym c.in_ok-made.ensures.made.made) (run-of-more w clock c.in_ok-made.made (state_of c.args.initializing.now c.args.parts.now) is) in
+    run-of-released w c.release.new.self.setup c.steps_on.new.initializing c.steps_on.new.parts (clock + c.in_ok-made.made) (c.release.ensures.world ∙ ap (λ (u : Setup). u.world) c.in_ok-made.ensures.world)
     (subst (λ (u : Setup). Releases c.steps_on.new.parts.frames.frames u.versions c.release.new.self.setup.versions) c.in_ok-made.ensures.world c.release.ensures.released) on

@@ -1,5 +1,5 @@
 use Rattle.std.proofs.Common.{◌≡◌, suc, ◌+◌, sym, ap, subst, ◌∙◌, arith}
-use Rattle.prepared_code.specs.Markers.{state_of}
+use Rattle.prepared_code.specs.Initializations.{state_of}
 use Rattle.prepared_code.specs.Standing.{IsRunOf}
 use Rattle.prepared_code.specs.Tables.{AreAllCurrent, Releases}
 use Rattle.prepared_code.specs.Versions.{Setup}
@@ -18,8 +18,8 @@ pub returns-clause-stands : goal.returns-clause-stands
 returns-clause-stands c = λ clock is.
     let later : suc clock ≡ clock + 1 = omega arith in
     let w : Setup = c.args.originals.now.setup in
-    let after = state_of c.step_once.new.markers c.step_once.new.parts in
+    let after = state_of c.step_once.new.initializing c.step_once.new.parts in
     let on : IsRunOf w (clock + 1) after =
-    subst (λ n. IsRunOf w n after) later (run-of-steps w clock (state_of c.args.markers.now c.args.parts.now) after is c.in_ok-step_once.ensures.state) in
-    run-of-released w c.release.new.self.setup c.step_once.new.markers c.step_once.new.parts (clock + 1) (c.release.ensures.world ∙ ap (λ (u : Setup). u.world) c.in_ok-step_once.ensures.world)
+    subst (λ n. IsRunOf w n after) later (run-of-steps w clock (state_of c.args.initializing.now c.args.parts.now) after is c.in_ok-step_once.ensures.state) in
+    run-of-released w c.release.new.self.setup c.step_once.new.initializing c.step_once.new.parts (clock + 1) (c.release.ensures.world ∙ ap (λ (u : Setup). u.world) c.in_ok-step_once.ensures.world)
     (subst (λ (u : Setup). Releases c.step_once.new.parts.frames.frames u.versions c.release.new.self.setup.versions) c.in_ok-step_once.ensures.world c.release.ensures.released) on

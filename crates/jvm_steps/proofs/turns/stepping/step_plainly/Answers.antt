@@ -1,13 +1,13 @@
 use Rattle.std.proofs.Common.{sym, ◌∙◌}
-use Rattle.prepared_code.specs.Markers.{state_of}
-use Rattle.jvm_steps.proofs.Marked.Beneath.{not-some}
+use Rattle.prepared_code.specs.Initializations.{state_of}
+use Rattle.jvm_steps.proofs.Initializing.Beneath.{not-some}
 use Rattle.jvm_steps.proofs.Silent.Leading.{leads-none}
 use Rattle.jvm_steps.proofs.Moves.LineSteps.{none-of}
 use Rattle.jvm_steps.proofs.turns.stepping.step_plainly.Goals as goal
 use Rattle.std.proofs.Common.{length}
 
 pub returns-then-is_some-clause-made : goal.returns-then-is_some-clause-made
-returns-then-is_some-clause-made c = leads-none c.args.originals.now.setup (state_of c.args.markers.now c.args.parts.now)
+returns-then-is_some-clause-made c = leads-none c.args.originals.now.setup (state_of c.args.initializing.now c.args.parts.now)
 
 pub pass_steps-requires-clause-calm : goal.pass_steps-requires-clause-calm
 pass_steps-requires-clause-calm c =
@@ -15,7 +15,7 @@ pass_steps-requires-clause-calm c =
     record {
       ending = c.requires.ending;
       thrown = not-some p.thrown (sym c.is_some.ensures ∙ c.if-is_some.false);
-      unmarked = none-of c.args.markers.now (length p.frames.frames) (sym c.is_unmarked.ensures ∙ c.if-not-is_unmarked.false);
+      executing = none-of c.args.initializing.now (length p.frames.frames) (sym c.is_executing.ensures ∙ c.if-not-is_executing.false);
     }
 
 pub returns-clause-made : goal.returns-clause-made

@@ -1,6 +1,6 @@
 -- so many steps lead to the state, in the same world, and the linker has loaded what the state has
 use Rattle.std.proofs.Common.{◌≡◌, ◌≤◌, ◌-◌}
-use Rattle.prepared_code.specs.Markers.{state_of}
+use Rattle.prepared_code.specs.Initializations.{state_of}
 use Rattle.prepared_code.specs.Runs.{Leads}
 use Rattle.jvm_steps.proofs.turns.stepping.steps_on.Given as goal
 
@@ -8,7 +8,7 @@ pub record Loops (l : goal.Live-loop-made) : Type 0 where
   pub within : l.made ≤ l.most
   pub world : l.originals.setup ≡ l.fn.originals.setup
   pub linked : l.originals.loaded ≡ l.parts.shared.loaded
-  pub leads : Leads l.fn.originals.setup (state_of l.fn.markers l.fn.parts) l.made (state_of l.markers l.parts)
+  pub leads : Leads l.fn.originals.setup (state_of l.fn.initializing l.fn.parts) l.made (state_of l.initializing l.parts)
 
 abbrev pub invariant-loop-made : goal.invariant-loop-made
 invariant-loop-made l = Loops l

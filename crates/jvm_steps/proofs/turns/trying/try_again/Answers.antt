@@ -1,12 +1,12 @@
 use Rattle.jvm_steps.specs.Instructions.Acts.{attempts_on}
-use Rattle.prepared_code.specs.Markers.{state_of}
+use Rattle.prepared_code.specs.Initializations.{state_of}
 use Rattle.jvm_steps.proofs.Moves.Followed.{follows-in}
 use Rattle.jvm_steps.proofs.turns.trying.try_again.Goals as goal
 
 pub returns-clause-reaches : goal.returns-clause-reaches
 returns-clause-reaches c =
     let w = c.args.originals.now.setup in
-    let s = state_of c.args.markers.now c.args.parts.now in
+    let s = state_of c.args.initializing.now c.args.parts.now in
     follows-in c.follow.result w c.attempt.new.originals.setup c.args.depth c.args.passed.now c.follow.new.passed
-    (state_of c.attempt.new.markers c.attempt.new.parts) (attempts_on w s s.stack) (state_of c.follow.new.markers c.follow.new.parts)
+    (state_of c.attempt.new.initializing c.attempt.new.parts) (attempts_on w s s.stack) (state_of c.follow.new.initializing c.follow.new.parts)
     c.in_ok-attempt.ensures.world c.in_ok-attempt.ensures.state c.follow.ensures.reaches

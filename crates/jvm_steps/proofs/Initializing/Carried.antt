@@ -1,4 +1,4 @@
--- What a line does to the frames alone it does beneath the markers on them, and so do the moves of frames.
+-- What a line does to the frames alone it does beneath the initializations on them, and so do the moves of frames.
 use Rattle.std.proofs.Common.{◌≡◌, ℕ, suc, Bool, true, false, cond, List, [], ◌∷◌, length, map, Option, Some, None, nat_le, nat_lt, refl, sym, ap, subst, ◌∙◌}
 use Rattle.std.specs.Prelude.{is_some}
 use Rattle.std.specs.Option.{option_map, option_map_or}
@@ -28,65 +28,65 @@ use Rattle.jvm_basic.specs.Rules.{rule_of}
 use Rattle.prepared_code.specs.declared.line.Action.{Action}
 use Rattle.prepared_code.specs.declared.line.Action.TheVariants as action
 use Rattle.prepared_code.specs.declared.line.Line.{Line}
-use Rattle.prepared_code.specs.declared.markers.Marker.{Marker}
+use Rattle.prepared_code.specs.declared.initializations.Initialization.{Initialization}
 use Rattle.prepared_code.specs.declared.parts.Parts.{Parts}
 use Rattle.jvm_steps.specs.Instructions.Acts.{placed_line, comes_to, resumes_line, gives_back_line, returns_or_ends, acts_return, acts_by, acts, is_named, acts_end, ends_initializer}
-use Rattle.prepared_code.specs.Markers.{initializing, marker_on, stack_of, with_markers}
+use Rattle.prepared_code.specs.Initializations.{initializing_entry, initialization_on, stack_of, with_initializations}
 use Rattle.jvm_steps.specs.Moves.Settling.{after_move}
 use Rattle.prepared_code.specs.States.{active, frame_in, state_in}
 use Rattle.jvm_steps.proofs.Instructions.LineActs.{stays, throws-stays, watches-stays, measures-stays, loads-stays, makes-silent, stores-silent, string-silent}
-use Rattle.prepared_code.proofs.MarkedStacks.{length-active, none-more, none-left, stack-empty, stack-plain, stack-frame, live-stack}
+use Rattle.prepared_code.proofs.InitializingStacks.{length-active, none-more, none-left, stack-empty, stack-plain, stack-frame, live-stack}
 use Rattle.prepared_code.specs.Tables.{Versions}
 use Rattle.prepared_code.specs.Versions.{Setup, listing_of, line_at, next_in}
 
--- no marker stands above the frame that is taken off
-abbrev pub IsFree : List Marker → State → Type 0
-IsFree ms s = marker_on (suc (length s.stack)) ms ≡ None
+-- no initialization stands above the frame that is taken off
+abbrev pub IsFree : List Initialization → State → Type 0
+IsFree ms s = initialization_on (suc (length s.stack)) ms ≡ None
 
 -- a line with this action does not end the activation
 abbrev pub goes_within : Action → Bool
 goes_within (action.Return k) = false
 goes_within _ = true
 
-module _ (ms : List Marker) where
+module _ (ms : List Initialization) where
   -- ---- a frame is put back
 
   framed : (s : State) (f : Frame) → IsFree ms s → stack_of (Active f ∷ s.stack) ms ≡ Active f ∷ stack_of s.stack ms
   framed s f free = stack-frame (Active f) s.stack ms free
 
-  breaks-carried : (s : State) (f : Frame) (own : ℕ) → IsFree ms s → with_markers ms (breaks s f own) ≡ breaks (with_markers ms s) f own
+  breaks-carried : (s : State) (f : Frame) (own : ℕ) → IsFree ms s → with_initializations ms (breaks s f own) ≡ breaks (with_initializations ms s) f own
   breaks-carried s f own free = ap (λ es. record s { stack = es; ending = Some (Unverifiable f.method own) }) (framed s f free)
 
-  throws-carried : (s : State) (f : Frame) (a : Allocated) → IsFree ms s → with_markers ms (throws_at s f a) ≡ throws_at (with_markers ms s) f a
+  throws-carried : (s : State) (f : Frame) (a : Allocated) → IsFree ms s → with_initializations ms (throws_at s f a) ≡ throws_at (with_initializations ms s) f a
   throws-carried s f a free = ap (λ es. record s { stack = es; shared = a.shared; thrown = Some a.reference }) (framed s f free)
 
   goes-carried : (s : State) (f : Frame) (own : ℕ) (l : Locals) (o : Operands) (place : Option ℕ) → IsFree ms s
-      → with_markers ms (goes s f own l o place) ≡ goes (with_markers ms s) f own l o place
+      → with_initializations ms (goes s f own l o place) ≡ goes (with_initializations ms s) f own l o place
   goes-carried s f own l o None free = breaks-carried s f own free
   goes-carried s f own l o (Some place) free = by (nat_le (height_of o) f.max_stack) where
     g : Frame
     g = record f { place = place; locals = l; operands = o }
 
-    by : (b : Bool) → with_markers ms (cond b (with_frame s g) (breaks s f own)) ≡ cond b (with_frame (with_markers ms s) g) (breaks (with_markers ms s) f own)
+    by : (b : Bool) → with_initializations ms (cond b (with_frame s g) (breaks s f own)) ≡ cond b (with_frame (with_initializations ms s) g) (breaks (with_initializations ms s) f own)
     by true = ap (λ es. record s { stack = es }) (framed s g free)
     by false = breaks-carried s f own free
 
   -- ---- an outcome after which the activation stays
 
   subroutine-carried : (i : Instruction) (s : State) (f : Frame) (next : Option ℕ) → IsFree ms s
-      → with_markers ms (enters_subroutine s f i next) ≡ enters_subroutine (with_markers ms s) f i next
+      → with_initializations ms (enters_subroutine s f i next) ≡ enters_subroutine (with_initializations ms s) f i next
   subroutine-carried i s f None free = breaks-carried s f i.own free
   subroutine-carried i s f (Some next) free = goes-carried s f i.own f.locals (Addr next ∷ f.operands) _ free
 
   begins-carried : (w : Setup) (t : Listing) (s : State) (f : Frame) (m : ℕ) (args : List Datum) (rest : Operands) → IsFree ms s
-      → with_markers ms (begins w.world t s f m args rest).after ≡ (begins w.world t (with_markers ms s) f m args rest).after
+      → with_initializations ms (begins w.world t s f m args rest).after ≡ (begins w.world t (with_initializations ms s) f m args rest).after
   begins-carried w t s f m args rest free =
       ap (λ es. record s { stack = es })
       (stack-frame (Active (new_frame w.world t m args)) (Active (record f { operands = rest }) ∷ s.stack) ms (none-more (suc (length s.stack)) ms free)
       ∙ ap (λ es. let all : List Entry = Active (new_frame w.world t m args) ∷ es in all) (framed s (record f { operands = rest }) free))
 
   invokes-carried : (w : Setup) (t : Listing) (i : Instruction) (s : State) (f : Frame) (m : ℕ) (args : List Datum) (rest : Operands) → IsFree ms s
-      → with_markers ms (invokes w.world t i s f m args rest).after ≡ (invokes w.world t i (with_markers ms s) f m args rest).after
+      → with_initializations ms (invokes w.world t i s f m args rest).after ≡ (invokes w.world t i (with_initializations ms s) f m args rest).after
   invokes-carried w t i s f m args rest free =
       by (has_room w.world m args) (nat_lt (suc (live_in s.stack)) most_live)
       ∙ ap (λ n. (told (has_room w.world m args) (nat_lt (suc n) most_live)).after) (sym (live-stack s.stack ms))
@@ -95,15 +95,15 @@ module _ (ms : List Marker) where
       over x = still (throws_at x f (raised w.world x.shared stack_overflow None))
 
       told : Bool → Bool → Turn
-      told b few = cond b (cond few (begins w.world t (with_markers ms s) f m args rest) (over (with_markers ms s))) (still (breaks (with_markers ms s) f i.own))
+      told b few = cond b (cond few (begins w.world t (with_initializations ms s) f m args rest) (over (with_initializations ms s))) (still (breaks (with_initializations ms s) f i.own))
 
-      by : (b few : Bool) → with_markers ms (cond b (cond few (begins w.world t s f m args rest) (over s)) (still (breaks s f i.own))).after ≡ (told b few).after
+      by : (b few : Bool) → with_initializations ms (cond b (cond few (begins w.world t s f m args rest) (over s)) (still (breaks s f i.own))).after ≡ (told b few).after
       by true true = begins-carried w t s f m args rest free
       by true false = throws-carried s f (raised w.world s.shared stack_overflow None) free
       by false few = breaks-carried s f i.own free
 
   pub applies-carried : (w : Setup) (t : Listing) (i : Instruction) (q : Outcome) → stays q ≡ true → (s : State) (f : Frame) → IsFree ms s
-      → with_markers ms (applies w.world t i q s f).after ≡ (applies w.world t i q (with_markers ms s) f).after
+      → with_initializations ms (applies w.world t i q s f).after ≡ (applies w.world t i q (with_initializations ms s) f).after
   applies-carried w t i (GoesOn l o to) kept s f free = goes-carried s f i.own l o (place_of i to) free
   applies-carried w t i Subroutine kept s f free = subroutine-carried i s f i.next free
   applies-carried w t i (Invokes m args rest) kept s f free = invokes-carried w t i s f m args rest free
@@ -117,14 +117,14 @@ module _ (ms : List Marker) where
 
   -- ---- a line
 
-  pub comes-carried : (w : Setup) (line : Line) (s : State) (f : Frame) (x : Comes) → IsFree ms s → with_markers ms (comes_to w line s f x) ≡ comes_to w line (with_markers ms s) f x
+  pub comes-carried : (w : Setup) (line : Line) (s : State) (f : Frame) (x : Comes) → IsFree ms s → with_initializations ms (comes_to w line s f x) ≡ comes_to w line (with_initializations ms s) f x
   comes-carried w line s f (Goes l o place) free = goes-carried s f line.instr.at l o (Some place) free
   comes-carried w line s f (Divides class) free = throws-carried s f (raised w.world s.shared arithmetic_exception (Some by_zero)) free
   comes-carried w line s f Fails free = breaks-carried s f line.instr.at free
   comes-carried w line s f Leaves free = breaks-carried s f line.instr.at free
 
   action-carried : (w : Setup) (line : Line) (s : State) (f : Frame) (a : Action) → IsFree ms s → is_named a ≡ false → goes_within a ≡ true
-      → with_markers ms (acts_by w line s f a) ≡ acts_by w line (with_markers ms s) f a
+      → with_initializations ms (acts_by w line s f a) ≡ acts_by w line (with_initializations ms s) f a
   action-carried w line s f (action.Named n) free none within = absurd (false≢true (sym none))
   action-carried w line s f action.Local free none within = comes-carried w line s f (rule_of line.instr line.constant line.next f.locals f.operands) free
   action-carried w line s f (action.Return k) free none within = absurd (false≢true within)
@@ -154,25 +154,25 @@ module _ (ms : List Marker) where
   -- ---- a return
 
   resumes-carried : (s : State) (caller : Frame) (d : Option Datum) (lo : Option Line) → IsFree ms s
-      → with_markers ms (resumes_line s caller d lo) ≡ resumes_line (with_markers ms s) caller d lo
+      → with_initializations ms (resumes_line s caller d lo) ≡ resumes_line (with_initializations ms s) caller d lo
   resumes-carried s caller d None free = breaks-carried s caller 0 free
   resumes-carried s caller d (Some line) free =
       goes-carried s caller line.instr.at caller.locals (with_value (option_map as_value d) caller.operands) (next_in line) free
 
-  -- to a caller without a marker on it
-  back-carried : (v : Versions) (s : State) (d : Option Datum) (fs : List PlacedFrame) → marker_on (length (map active fs)) ms ≡ None
-      → with_markers ms (gives_back_line v (record s { stack = map active fs }) d (map active fs))
+  -- to a caller without an initialization on it
+  back-carried : (v : Versions) (s : State) (d : Option Datum) (fs : List PlacedFrame) → initialization_on (length (map active fs)) ms ≡ None
+      → with_initializations ms (gives_back_line v (record s { stack = map active fs }) d (map active fs))
       ≡ gives_back_line v (record s { stack = stack_of (map active fs) ms }) d (stack_of (map active fs) ms)
   back-carried v s d [] none =
-      let nothing : stack_of [] ms ≡ [] = stack-empty ms ∙ ap (map initializing) (none-left ms none) in
+      let nothing : stack_of [] ms ≡ [] = stack-empty ms ∙ ap (map initializing_entry) (none-left ms none) in
       sym (ap (λ es. gives_back_line v (record s { stack = stack_of [] ms }) d es) nothing)
   back-carried v s d (f ∷ fs) none =
       resumes-carried (record s { stack = map active fs }) _ d (line_at v f.version f.place) none
       ∙ sym (ap (λ es. gives_back_line v (record s { stack = es }) d es) (stack-frame (active f) (map active fs) ms none))
 
-  return-carried : (w : Setup) (line : Line) (s : State) (f : Frame) (fs : List PlacedFrame) (q : Outcome) → marker_on (length (map active fs)) ms ≡ None
-      → with_markers ms (returns_or_ends w line (record s { stack = map active fs }) f q)
-      ≡ returns_or_ends w line (with_markers ms (record s { stack = map active fs })) f q
+  return-carried : (w : Setup) (line : Line) (s : State) (f : Frame) (fs : List PlacedFrame) (q : Outcome) → initialization_on (length (map active fs)) ms ≡ None
+      → with_initializations ms (returns_or_ends w line (record s { stack = map active fs }) f q)
+      ≡ returns_or_ends w line (with_initializations ms (record s { stack = map active fs })) f q
   return-carried w line s f fs (Returns d) none = back-carried w.versions s d fs none
   return-carried w line s f fs (Breaks b) none = refl
   return-carried w line s f fs (GoesOn m o to) none = refl
@@ -183,17 +183,17 @@ module _ (ms : List Marker) where
   return-carried w line s f fs (Initializes c) none = refl
   return-carried w line s f fs (Exits n) none = refl
 
-  -- every line, where no marker stands beneath the frame at a return
+  -- every line, where no initialization stands beneath the frame at a return
   pub line-carried : (w : Setup) (line : Line) (s : State) (f : Frame) (fs : List PlacedFrame) → s.stack ≡ map active fs → IsFree ms s → is_named line.action ≡ false
-      → (goes_within line.action ≡ false → marker_on (length (map active fs)) ms ≡ None)
-      → with_markers ms (acts w line s f) ≡ acts w line (with_markers ms s) f
+      → (goes_within line.action ≡ false → initialization_on (length (map active fs)) ms ≡ None)
+      → with_initializations ms (acts w line s f) ≡ acts w line (with_initializations ms s) f
   line-carried w line s f fs is free none beneath_it = by line.action none beneath_it where
-    by : (a : Action) → is_named a ≡ false → (goes_within a ≡ false → marker_on (length (map active fs)) ms ≡ None)
-        → with_markers ms (acts_by w line s f a) ≡ acts_by w line (with_markers ms s) f a
+    by : (a : Action) → is_named a ≡ false → (goes_within a ≡ false → initialization_on (length (map active fs)) ms ≡ None)
+        → with_initializations ms (acts_by w line s f a) ≡ acts_by w line (with_initializations ms s) f a
     by (action.Return k) none below =
-        ap (λ es. with_markers ms (acts_return w line k (record s { stack = es }) f)) is
+        ap (λ es. with_initializations ms (acts_return w line k (record s { stack = es }) f)) is
         ∙ (return-carried w line s f fs (returns k f.operands) (below refl)
-        ∙ sym (ap (λ es. acts_return w line k (with_markers ms (record s { stack = es })) f) is))
+        ∙ sym (ap (λ es. acts_return w line k (with_initializations ms (record s { stack = es })) f) is))
     by action.Local none below = action-carried w line s f action.Local free none refl
     by (action.Named n) none below = absurd (false≢true (sym none))
     by action.Athrow none below = action-carried w line s f action.Athrow free none refl
@@ -207,8 +207,8 @@ module _ (ms : List Marker) where
   -- ---- a return of a static initializer
 
   ends-by : (w : Setup) (line : Line) (s : State) (f : Frame) (c : ℕ) (rest : List Entry) (part : _) (q : Outcome) → stack_of s.stack ms ≡ Initializing c part ∷ rest
-      → with_markers ms (ends_initializer line s f q) ≡ returns_or_ends w line (with_markers ms s) f q
-  ends-by w line s f c rest part (Returns d) is = sym (ap (gives_back_line w.versions (with_markers ms s) d) is)
+      → with_initializations ms (ends_initializer line s f q) ≡ returns_or_ends w line (with_initializations ms s) f q
+  ends-by w line s f c rest part (Returns d) is = sym (ap (gives_back_line w.versions (with_initializations ms s) d) is)
   ends-by w line s f c rest part (Breaks b) is = refl
   ends-by w line s f c rest part (GoesOn m o to) is = refl
   ends-by w line s f c rest part Subroutine is = refl
@@ -219,17 +219,17 @@ module _ (ms : List Marker) where
   ends-by w line s f c rest part (Exits n) is = refl
 
   pub end-carried : (w : Setup) (line : Line) (k : Option Kind) (s : State) (f : Frame) (c : ℕ) (rest : List Entry) (part : _) → stack_of s.stack ms ≡ Initializing c part ∷ rest
-      → with_markers ms (acts_end line k s f) ≡ acts_return w line k (with_markers ms s) f
+      → with_initializations ms (acts_end line k s f) ≡ acts_return w line k (with_initializations ms s) f
   end-carried w line k s f c rest part is = ends-by w line s f c rest part (returns k f.operands) is
 
-  -- ---- the moves of frames, where no marker stands on the current one
+  -- ---- the moves of frames, where no initialization stands on the current one
 
   abbrev after_of : State → Option Turn → State
   after_of s o = option_map_or (λ (turn : Turn). turn.after) o s
 
   pub record IsCarried (w : Setup) (s : State) : Type 0 where
-    pub moved : with_markers ms (after_move w s) ≡ after_move w (with_markers ms s)
-    pub found : is_some (move w.world (listing_of w.versions) s) ≡ is_some (move w.world (listing_of w.versions) (with_markers ms s))
+    pub moved : with_initializations ms (after_move w s) ≡ after_move w (with_initializations ms s)
+    pub found : is_some (move w.world (listing_of w.versions) s) ≡ is_some (move w.world (listing_of w.versions) (with_initializations ms s))
 
   module _ (w : Setup) (begun : Bool) (shared : Shared) (output : List ℕ) where
     abbrev t : Listing
@@ -241,16 +241,16 @@ module _ (ms : List Marker) where
     -- the moves of the frames and of the whole stack, by what they are made of
     abbrev AreCarried : List Entry → List Entry → Option ℕ → Option Ending → Type 0
     AreCarried es all thrown ending =
-        (with_markers ms (after_of (at es thrown ending) (moves w.world t (at es thrown ending) ending thrown es)) ≡ after_of (at all thrown ending) (moves w.world t (at all thrown ending) ending thrown all))
+        (with_initializations ms (after_of (at es thrown ending) (moves w.world t (at es thrown ending) ending thrown es)) ≡ after_of (at all thrown ending) (moves w.world t (at all thrown ending) ending thrown all))
         × (is_some (moves w.world t (at es thrown ending) ending thrown es) ≡ is_some (moves w.world t (at all thrown ending) ending thrown all))
 
-    caught-carried : (es : List Entry) (r : ℕ) (f : Frame) (h : Option ℕ) → marker_on (suc (length es)) ms ≡ None
-        → with_markers ms (caught w.world t (at es (Some r) None) r f h).after ≡ (caught w.world t (at (stack_of es ms) (Some r) None) r f h).after
+    caught-carried : (es : List Entry) (r : ℕ) (f : Frame) (h : Option ℕ) → initialization_on (suc (length es)) ms ≡ None
+        → with_initializations ms (caught w.world t (at es (Some r) None) r f h).after ≡ (caught w.world t (at (stack_of es ms) (Some r) None) r f h).after
     caught-carried es r f None none = refl
     caught-carried es r f (Some target) none = goes-carried (at es None None) f (own_at t f) f.locals (Ref r ∷ []) (Some target) none
 
-    main-carried : (b : Bool) → marker_on 0 ms ≡ None → with_markers ms (main_or_end w.world t (at [] None None) b).after ≡ (main_or_end w.world t (at [] None None) b).after
-    main-carried true none = ap (λ es. at es None (Some Returned)) (stack-empty ms ∙ ap (map initializing) (none-left ms none))
+    main-carried : (b : Bool) → initialization_on 0 ms ≡ None → with_initializations ms (main_or_end w.world t (at [] None None) b).after ≡ (main_or_end w.world t (at [] None None) b).after
+    main-carried true none = ap (λ es. at es None (Some Returned)) (stack-empty ms ∙ ap (map initializing_entry) (none-left ms none))
     main-carried false none = by (has_room w.world w.world.program.main argument_array) where
       begun_main : State
       begun_main = record (at [] None None) { begun = true; stack = Active (new_frame w.world t w.world.program.main argument_array) ∷ [] }
@@ -258,29 +258,29 @@ module _ (ms : List Marker) where
       chosen : Bool → Turn
       chosen b = cond b (record { after = begun_main; changes = Began w.world.program.main ∷ [] }) (still (at [] None (Some (Unverifiable w.world.program.main 0))))
 
-      by : (b : Bool) → with_markers ms (chosen b).after ≡ (chosen b).after
+      by : (b : Bool) → with_initializations ms (chosen b).after ≡ (chosen b).after
       by true =
           ap (λ es. record begun_main { stack = es })
           (ap (stack_of (Active (new_frame w.world t w.world.program.main argument_array) ∷ [])) (none-left ms none) ∙ stack-plain (Active (new_frame w.world t w.world.program.main argument_array) ∷ []))
-      by false = ap (λ es. at es None (Some (Unverifiable w.world.program.main 0))) (stack-empty ms ∙ ap (map initializing) (none-left ms none))
+      by false = ap (λ es. at es None (Some (Unverifiable w.world.program.main 0))) (stack-empty ms ∙ ap (map initializing_entry) (none-left ms none))
 
-    moves-carried : (fs : List PlacedFrame) (thrown : Option ℕ) (ending : Option Ending) → marker_on (length (map active fs)) ms ≡ None
+    moves-carried : (fs : List PlacedFrame) (thrown : Option ℕ) (ending : Option Ending) → initialization_on (length (map active fs)) ms ≡ None
         → AreCarried (map active fs) (stack_of (map active fs) ms) thrown ending
     moves-carried fs thrown (Some e) none = (refl, refl)
     moves-carried [] (Some r) None none =
-        let nothing : stack_of [] ms ≡ [] = stack-empty ms ∙ ap (map initializing) (none-left ms none) in
+        let nothing : stack_of [] ms ≡ [] = stack-empty ms ∙ ap (map initializing_entry) (none-left ms none) in
         subst (λ all. AreCarried [] all (Some r) None) (sym nothing) (ap (λ es. at es (Some r) (Some (Uncaught (class_of w.world.program shared r)))) nothing, refl)
     moves-carried (f ∷ fs) (Some r) None none =
         subst (λ all. AreCarried (map active (f ∷ fs)) all (Some r) None) (sym (stack-frame (active f) (map active fs) ms none))
         (caught-carried (map active fs) r (frame_in f) (handler_for w.world (class_of w.world.program shared r) f.place (t.handlers f.version)) none, refl)
     moves-carried [] None None none =
-        let nothing : stack_of [] ms ≡ [] = stack-empty ms ∙ ap (map initializing) (none-left ms none) in
+        let nothing : stack_of [] ms ≡ [] = stack-empty ms ∙ ap (map initializing_entry) (none-left ms none) in
         subst (λ all. AreCarried [] all None None) (sym nothing) (main-carried begun none, refl)
     moves-carried (f ∷ fs) None None none =
         subst (λ all. AreCarried (map active (f ∷ fs)) all None None) (sym (stack-frame (active f) (map active fs) ms none))
         (ap (λ es. at es None None) (stack-frame (active f) (map active fs) ms none), refl)
 
-  pub move-carried : (w : Setup) (p : Parts) → marker_on (length p.frames.frames) ms ≡ None → IsCarried w (state_in p)
+  pub move-carried : (w : Setup) (p : Parts) → initialization_on (length p.frames.frames) ms ≡ None → IsCarried w (state_in p)
   move-carried w p none =
-      let both = moves-carried w p.begun p.shared p.output p.frames.frames p.thrown p.ending (ap (λ n. marker_on n ms) (length-active p.frames.frames) ∙ none) in
+      let both = moves-carried w p.begun p.shared p.output p.frames.frames p.thrown p.ending (ap (λ n. initialization_on n ms) (length-active p.frames.frames) ∙ none) in
       record { moved = both.0; found = both.1 }

@@ -10,12 +10,12 @@ use Rattle.jvm_model.specs.Running.Run.{is_ready, step}
 use Rattle.jvm_model.specs.Basis.SharedState.{phase_of}
 use Rattle.jvm_model.proofs.Soundness.SoundListingRuns.{sound-step}
 use Rattle.jvm_model.proofs.Soundness.SoundListingSteps.{sound-settled}
-use Rattle.prepared_code.specs.declared.markers.Marker.{Marker}
+use Rattle.prepared_code.specs.declared.initializations.Initialization.{Initialization}
 use Rattle.prepared_code.specs.declared.parts.Parts.{Parts}
 use Rattle.jvm_steps.specs.Instructions.Acts.{attempts_on, awaited_in, goes_on_in}
-use Rattle.prepared_code.specs.Markers.{is_unmarked, marker_on, state_of}
+use Rattle.prepared_code.specs.Initializations.{is_executing, initialization_on, state_of}
 use Rattle.prepared_code.specs.Runs.{Leads, steps_from, steps_from-zero, steps_from-suc}
-use Rattle.jvm_steps.proofs.Moves.LineSteps.{IsGoing, behind, going-again, going-on, none-of, step-again, step-attempts, step-awaits, unmarked}
+use Rattle.jvm_steps.proofs.Moves.LineSteps.{IsGoing, behind, going-again, going-on, none-of, step-again, step-attempts, step-awaits, executing}
 use Rattle.jvm_steps.proofs.Loads.MovesLoad.{settled-loaded}
 use Rattle.jvm_steps.proofs.Moves.Sounded.{attempted-sound}
 use Rattle.prepared_code.specs.Versions.{Setup, listing_of}
@@ -26,12 +26,12 @@ both true b e = (refl, e)
 both false b e = absurd (false≢true e)
 
 -- a frame that stands on top goes on
-goes-there : (ms : List Marker) (p : Parts) → IsGoing (state_of ms p) → goes_on_in ms p ≡ true
-goes-there ms p going = ap (λ e. is_none e && (has_frame p.frames.frames && is_unmarked ms p)) going.ending ∙ unmarked ms p going
+goes-there : (ms : List Initialization) (p : Parts) → IsGoing (state_of ms p) → goes_on_in ms p ≡ true
+goes-there ms p going = ap (λ e. is_none e && (has_frame p.frames.frames && is_executing ms p)) going.ending ∙ executing ms p going
 
-pub none-there : (ms : List Marker) (p : Parts) → goes_on_in ms p ≡ true → marker_on (length p.frames.frames) ms ≡ None
+pub none-there : (ms : List Initialization) (p : Parts) → goes_on_in ms p ≡ true → initialization_on (length p.frames.frames) ms ≡ None
 none-there ms p goes =
-    none-of ms (length p.frames.frames) (both (has_frame p.frames.frames) (is_unmarked ms p) (both (is_none p.ending) (has_frame p.frames.frames && is_unmarked ms p) goes).1).1
+    none-of ms (length p.frames.frames) (both (has_frame p.frames.frames) (is_executing ms p) (both (is_none p.ending) (has_frame p.frames.frames && is_executing ms p) goes).1).1
 
 -- ---- the world stays
 
@@ -50,8 +50,8 @@ loaded-behind w old new loaded settles same =
 -- ---- a step whose instruction awaits a class
 
 -- the parts before, with the attempt and the moves behind it
-module _ (w : Setup) (run : CanRun w) (ms : List Marker) (p : Parts) (goes : goes_on_in ms p ≡ true) (o : Option ℕ) (c : ℕ) (answer : o ≡ awaited_in w (state_of ms p)) (some : o ≡ Some c)
-    (mid : State) (attempted : mid ≡ attempts_on w (state_of ms p) (state_of ms p).stack) (ms_then : List Marker) (then_there : Parts)
+module _ (w : Setup) (run : CanRun w) (ms : List Initialization) (p : Parts) (goes : goes_on_in ms p ≡ true) (o : Option ℕ) (c : ℕ) (answer : o ≡ awaited_in w (state_of ms p)) (some : o ≡ Some c)
+    (mid : State) (attempted : mid ≡ attempts_on w (state_of ms p) (state_of ms p).stack) (ms_then : List Initialization) (then_there : Parts)
     (settles : state_of ms_then then_there ≡ behind w mid) where
   going : IsGoing (state_of ms p)
   going = going-on ms p goes
@@ -63,8 +63,8 @@ module _ (w : Setup) (run : CanRun w) (ms : List Marker) (p : Parts) (goes : goe
   not-ready isnt = step-awaits w run (state_of ms p) going c awaits mid (state_of ms_then then_there) attempted settles isnt
 
   module _ (ready : is_ready (phase_of then_there.shared c) ≡ true) where
-    pub unmarked-again : marker_on (length then_there.frames.frames) ms_then ≡ None
-    unmarked-again =
+    pub executing-again : initialization_on (length then_there.frames.frames) ms_then ≡ None
+    executing-again =
         none-there ms_then then_there
         (goes-there ms_then then_there (going-again w run (state_of ms p) going c awaits mid (state_of ms_then then_there) attempted settles ready))
 
@@ -80,7 +80,7 @@ module _ (w : Setup) (run : CanRun w) (ms : List Marker) (p : Parts) (goes : goe
 
 -- ---- a step whose instruction awaits none
 
-pub attempts-all : (w : Setup) → CanRun w → (ms : List Marker) (p : Parts) → goes_on_in ms p ≡ true → (o : Option ℕ) → o ≡ awaited_in w (state_of ms p) → o ≡ None
+pub attempts-all : (w : Setup) → CanRun w → (ms : List Initialization) (p : Parts) → goes_on_in ms p ≡ true → (o : Option ℕ) → o ≡ awaited_in w (state_of ms p) → o ≡ None
     → (mid after : State) → mid ≡ attempts_on w (state_of ms p) (state_of ms p).stack → after ≡ behind w mid → after ≡ (step w.world (listing_of w.versions) (state_of ms p)).after
 attempts-all w run ms p goes o answer none mid after attempted settles =
     step-attempts w run (state_of ms p) (going-on ms p goes) (sym answer ∙ none) mid after attempted settles
