@@ -14,8 +14,8 @@ use Rattle.jvm_model.specs.Instructions.ReferenceRules.{does_named}
 use Rattle.jvm_model.specs.Instructions.ObjectRules.{done}
 use Rattle.jvm_model.proofs.Loading.LoadsAgain.{newly-loaded, resolved-again}
 use Rattle.class_linker.specs.Linkers.{LinkerView}
-use Rattle.jvm_named.specs.declared.asked.Refusal.{Refusal}
-use Rattle.jvm_named.specs.Answers.{done_on, found_view, refusal_view}
+use Rattle.jvm_named.specs.declared.asked.AbruptCompletion.{AbruptCompletion}
+use Rattle.jvm_named.specs.Answers.{done_on, found_view, abrupt_view}
 use Rattle.jvm_named.specs.Attempts.{IsFound, attempts, linker_with, world_over}
 use Rattle.jvm_named.specs.Natives.{HasBuiltIn}
 use Rattle.jvm_named.specs.Objects.{AreLoaded, HasLoadedCaller, IsResolved}
@@ -44,12 +44,12 @@ linker_is l new loaded e f =
 
 -- ---- what is found
 
-pub found_by : (l : LinkerView) (n : SymbolicReference) (o : Operands) (r : Result ℕ Refusal) → resolves n o ≡ true
+pub found_by : (l : LinkerView) (n : SymbolicReference) (o : Operands) (r : Result ℕ AbruptCompletion) → resolves n o ≡ true
     → found_view r ≡ resolved_kind l.program l.loaded (resolved_name n) → IfOk r (λ kind. IsResolved l (resolved_name n) kind) → IsFound l n o (Some r)
 found_by l n o (Ok kind) is found resolved = (is, found, resolved)
 found_by l n o (Err e) is found resolved = (is, found)
 
-pub resolved_later : (l new : LinkerView) (n : SymbolicReference) (o : Operands) (r : Result ℕ Refusal) → resolves n o ≡ true
+pub resolved_later : (l new : LinkerView) (n : SymbolicReference) (o : Operands) (r : Result ℕ AbruptCompletion) → resolves n o ≡ true
     → new.program ≡ l.program → new.loaded ≡ (load_of l.program l.loaded (resolved_name n)).loaded
     → found_view r ≡ resolved_kind l.program l.loaded (resolved_name n) → found_view r ≡ resolved_kind new.program new.loaded (resolved_name n)
 resolved_later l new n o r is e f found =
@@ -64,8 +64,8 @@ pub done_skipped : (w : World) (n : SymbolicReference) (s : Shared) (f : FramesV
     → done s (skips n (top_locals f.frames) (top_operands f.frames)) ≡ done_on (does_named w n s) f
 done_skipped w n s f is = sym (skipped w n s (top_locals f.frames) (top_operands f.frames) is)
 
-pub done_refused : (w : World) (n : SymbolicReference) (s : Shared) (f : FramesView) (e : Refusal) → resolves n (top_operands f.frames) ≡ true
-    → Err (refusal_view e) ≡ resolved_kind w.program s.loaded (resolved_name n) → done s (refusal_view e) ≡ done_on (does_named w n s) f
+pub done_refused : (w : World) (n : SymbolicReference) (s : Shared) (f : FramesView) (e : AbruptCompletion) → resolves n (top_operands f.frames) ≡ true
+    → Err (abrupt_view e) ≡ resolved_kind w.program s.loaded (resolved_name n) → done s (abrupt_view e) ≡ done_on (does_named w n s) f
 done_refused w n s f e is found =
     sym (behind w n s (top_locals f.frames) (top_operands f.frames) is
     ∙ ap (λ r. unless_refused s r (λ kind. does_resolved w kind n s (top_locals f.frames) (top_operands f.frames))) (sym found))

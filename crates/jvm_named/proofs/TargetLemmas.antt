@@ -23,10 +23,10 @@ use Rattle.jvm_named.specs.declared.known.Chosen.{Chosen}
 use Rattle.jvm_named.specs.Known.{IsFixed}
 use Rattle.jvm_named.specs.Passing.{is_usable}
 use Rattle.jvm_named.specs.declared.asked.Asked.TheVariants.{Refused}
-use Rattle.jvm_named.specs.declared.asked.Refusal.{Refusal}
-use Rattle.jvm_named.specs.declared.asked.Refusal.TheVariants as refusal
+use Rattle.jvm_named.specs.declared.asked.AbruptCompletion.{AbruptCompletion}
+use Rattle.jvm_named.specs.declared.asked.AbruptCompletion.TheVariants as refusal
 use Rattle.jvm_named.specs.declared.targets.Target.{Target as TheTarget}
-use Rattle.jvm_named.specs.Answers.{refusal_view}
+use Rattle.jvm_named.specs.Answers.{abrupt_view}
 use Rattle.jvm_named.specs.Does.{IsDone, changed}
 use Rattle.jvm_named.specs.Objects.{class_at_kind}
 use Rattle.jvm_named.specs.Callees.{chosen_place}
@@ -110,18 +110,18 @@ does-target w found s l o t is enough =
 
 -- ---- a refusal changes nothing
 
-pub refuses : (d : Done) (next : ℕ) (f : FramesView) (s : Shared) (out : List ℕ) (e : Refusal) → d ≡ done s (refusal_view e)
+pub refuses : (d : Done) (next : ℕ) (f : FramesView) (s : Shared) (out : List ℕ) (e : AbruptCompletion) → d ≡ done s (abrupt_view e)
     → IsDone d next (changed f s out) (changed f s out) (Refused e)
 refuses d next f s out e is = subst (λ d. IsDone d next (changed f s out) (changed f s out) (Refused e)) (sym is) (by e) where
-  by : (e : Refusal) → IsDone (done s (refusal_view e)) next (changed f s out) (changed f s out) (Refused e)
+  by : (e : AbruptCompletion) → IsDone (done s (abrupt_view e)) next (changed f s out) (changed f s out) (Refused e)
   by (refusal.Raises class message) = record { answer = refl; frames = refl; shared = refl; output = sym (append-nil out) }
   by (refusal.Throws object) = record { answer = refl; frames = refl; shared = refl; output = sym (append-nil out) }
   by (refusal.Initializes class) = record { answer = refl; frames = refl; shared = refl; output = sym (append-nil out) }
   by (refusal.Exits status) = record { answer = refl; frames = refl; shared = refl; output = sym (append-nil out) }
   by refusal.Breaks = record { answer = refl; frames = refl; shared = refl; output = sym (append-nil out) }
 
-pub refuses-target : (w : World) (found : Result Target Outcome) (s : Shared) (l : Locals) (o : Operands) (e : Refusal) → Err (refusal_view e) ≡ found
-    → invokes_target w found s l o ≡ done s (refusal_view e)
+pub refuses-target : (w : World) (found : Result Target Outcome) (s : Shared) (l : Locals) (o : Operands) (e : AbruptCompletion) → Err (abrupt_view e) ≡ found
+    → invokes_target w found s l o ≡ done s (abrupt_view e)
 refuses-target w found s l o e is = ap (λ x. invokes_target w x s l o) (sym is)
 
 -- ---- a static method that was found

@@ -18,8 +18,8 @@ use Rattle.jvm_named.specs.declared.place.Place.{Place}
 use Rattle.jvm_named.specs.Members.{at_place}
 use Rattle.jvm_named.specs.declared.asked.Exception.{Exception}
 use Rattle.jvm_named.specs.declared.asked.Exception.TheVariants as exception
-use Rattle.jvm_named.specs.declared.asked.Refusal.{Refusal}
-use Rattle.jvm_named.specs.declared.asked.Refusal.TheVariants as refusal
+use Rattle.jvm_named.specs.declared.asked.AbruptCompletion.{AbruptCompletion}
+use Rattle.jvm_named.specs.declared.asked.AbruptCompletion.TheVariants as refusal
 use Rattle.jvm_named.specs.declared.asked.Asked.{Asked}
 use Rattle.jvm_named.specs.declared.asked.Asked.TheVariants as asked
 
@@ -48,21 +48,21 @@ exception_numbered number =
     if number == 49 then exception.NoSuchField else
     if number == 50 then exception.NoSuchMethod else exception.IncompatibleClassChange
 
-abbrev pub refusal_view : Refusal → Outcome
-refusal_view (refusal.Raises e message) = Raises (exception_name e) message
-refusal_view (refusal.Throws object) = Throws object
-refusal_view (refusal.Initializes class) = Initializes class
-refusal_view (refusal.Exits status) = Exits status
-refusal_view refusal.Breaks = Breaks false
+abbrev pub abrupt_view : AbruptCompletion → Outcome
+abrupt_view (refusal.Raises e message) = Raises (exception_name e) message
+abrupt_view (refusal.Throws object) = Throws object
+abrupt_view (refusal.Initializes class) = Initializes class
+abrupt_view (refusal.Exits status) = Exits status
+abrupt_view refusal.Breaks = Breaks false
 
 -- what a step finds, or what it asks for where it is refused
-abbrev pub found_view : {A : Type 0} → Result A Refusal → Result A Outcome
+abbrev pub found_view : {A : Type 0} → Result A AbruptCompletion → Result A Outcome
 found_view (Ok x) = Ok x
-found_view (Err e) = Err (refusal_view e)
+found_view (Err e) = Err (abrupt_view e)
 
-abbrev pub place_found : Result Place Refusal → Result MemberPlace Outcome
+abbrev pub place_found : Result Place AbruptCompletion → Result MemberPlace Outcome
 place_found (Ok m) = Ok (at_place m)
-place_found (Err e) = Err (refusal_view e)
+place_found (Err e) = Err (abrupt_view e)
 
 -- ---- answers
 
@@ -80,7 +80,7 @@ abbrev pub answer_view : Asked → Answer
 answer_view asked.Next = Continues
 answer_view asked.TooDeep = Exceeds
 answer_view (asked.Invokes method count) = Calls method count
-answer_view (asked.Refused e) = Stops (refusal_view e)
+answer_view (asked.Refused e) = Stops (abrupt_view e)
 
 abbrev pub answer_in : Outcome → List PlacedFrame → Answer
 answer_in (GoesOn l o Next) fs = if can_hold o fs then Continues else Exceeds

@@ -7,8 +7,8 @@ use Rattle.jvm_model.specs.Basis.Data.{Operands, World}
 use Rattle.jvm_model.specs.Instructions.SymbolicReference.{SymbolicReference, newly_loaded, resolved_kind, resolved_name, resolves}
 use Rattle.jvm_model.specs.Instructions.ReferenceRules.{does_named}
 use Rattle.class_linker.specs.Linkers.{LinkerView}
-use Rattle.jvm_named.specs.declared.asked.Refusal.{Refusal}
-use Rattle.jvm_named.specs.Answers.{Rule, refusal_view}
+use Rattle.jvm_named.specs.declared.asked.AbruptCompletion.{AbruptCompletion}
+use Rattle.jvm_named.specs.Answers.{Rule, abrupt_view}
 use Rattle.jvm_named.specs.Objects.{IsResolved}
 
 -- with the classes that the instruction loads
@@ -40,8 +40,8 @@ abbrev pub attempts : World → SymbolicReference → Shared → FramesView → 
 attempts w n s f l o = does_named w n (shared_loaded w.program n s f) l o
 
 -- what was found for the name, over what is loaded now: nothing where nothing is resolved
-abbrev pub IsFound : LinkerView → SymbolicReference → Operands → Option (Result ℕ Refusal) → Type 0
+abbrev pub IsFound : LinkerView → SymbolicReference → Operands → Option (Result ℕ AbruptCompletion) → Type 0
 IsFound l n o None = resolves n o ≡ false
-IsFound l n o (Some (Err e)) = (resolves n o ≡ true) × (Err (refusal_view e) ≡ resolved_kind l.program l.loaded (resolved_name n))
+IsFound l n o (Some (Err e)) = (resolves n o ≡ true) × (Err (abrupt_view e) ≡ resolved_kind l.program l.loaded (resolved_name n))
 IsFound l n o (Some (Ok kind)) =
     (resolves n o ≡ true) × (Ok kind ≡ resolved_kind l.program l.loaded (resolved_name n)) × IsResolved l (resolved_name n) kind

@@ -9,10 +9,10 @@ use Rattle.jvm_model.specs.Basis.Data.{Datum, Locals, Operands, Next, Outcome, G
 use Rattle.jvm_model.specs.Instructions.FieldRules as rules
 use Rattle.jvm_model.specs.Instructions.SymbolicReference.{extends, is_below_kind}
 use Rattle.jvm_model.specs.Instructions.ObjectRules.{done}
-use Rattle.jvm_named.specs.declared.asked.Refusal.{Refusal}
+use Rattle.jvm_named.specs.declared.asked.AbruptCompletion.{AbruptCompletion}
 use Rattle.jvm_named.specs.declared.fields.Owner.{Owner}
 use Rattle.jvm_named.specs.declared.fields.Putting.{Putting}
-use Rattle.jvm_named.specs.Answers.{refusal_view}
+use Rattle.jvm_named.specs.Answers.{abrupt_view}
 use Rattle.jvm_named.specs.Objects.{class_at_kind}
 
 -- the field is not static
@@ -24,9 +24,9 @@ abbrev pub has_field_at : Program → Option ℕ → ℕ → ℕ → Bool
 has_field_at p lower upper class = is_below_kind p lower (Some upper) && extends p (class_at_kind p lower) class
 
 -- the object that has a field
-abbrev pub owner_found : Result Owner Refusal → Result ℕ Outcome
+abbrev pub owner_found : Result Owner AbruptCompletion → Result ℕ Outcome
 owner_found (Ok owner) = Ok owner.object
-owner_found (Err e) = Err (refusal_view e)
+owner_found (Err e) = Err (abrupt_view e)
 
 abbrev pub putting_view : Putting → rules.Putting
 putting_view x = record { object = x.object; datum = x.datum }

@@ -23,8 +23,8 @@ use Rattle.jvm_named.specs.declared.targets.Selecting.{Selecting as Chosen}
 use Rattle.jvm_named.specs.declared.targets.Selecting.TheVariants as chosen
 use Rattle.jvm_named.specs.declared.targets.Target.{Target as TheTarget}
 use Rattle.jvm_named.specs.Objects.{class_at_kind}
-use Rattle.jvm_named.specs.declared.asked.Refusal.{Refusal}
-use Rattle.jvm_named.specs.Answers.{refusal_view}
+use Rattle.jvm_named.specs.declared.asked.AbruptCompletion.{AbruptCompletion}
+use Rattle.jvm_named.specs.Answers.{abrupt_view}
 use Rattle.jvm_named.specs.Callees.{chosen_place}
 use Rattle.jvm_named.specs.Resolved.{method_found}
 
@@ -51,9 +51,9 @@ reference_in _ = 0
 
 -- ---- what a step finds, by a view, or what is asked for where it is refused
 
-abbrev pub found_as : {A B : Type 0} → (A → B) → Result A Refusal → Result B Outcome
+abbrev pub found_as : {A B : Type 0} → (A → B) → Result A AbruptCompletion → Result B Outcome
 found_as view (Ok x) = Ok (view x)
-found_as view (Err e) = Err (refusal_view e)
+found_as view (Err e) = Err (abrupt_view e)
 
 -- ---- the method
 

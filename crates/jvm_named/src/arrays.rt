@@ -7,7 +7,7 @@ ghost use Rattle.jvm_model.specs.Basis.Values.{int_of};
 ghost use Rattle.jvm_named.specs.Answers.{Answers, Moves, Shares};
 ghost use Rattle.jvm_named.specs.Objects.{AreLoaded, IsUsable};
 
-use crate::asked::{Asked, Exception, Refusal};
+use crate::asked::{AbruptCompletion, Asked, Exception};
 use crate::creation::RESERVED;
 use crate::instances::ARRAY;
 use crate::moving::replace;
@@ -35,7 +35,7 @@ fn make_array(
     ensures objects { OnOk result (AreLoaded linker.now shared.new.heap) }
 {
     if !shared.heap.has_room(1 + count as usize) {
-        return Ok(Asked::Refused(Refusal::Throws(RESERVED)));
+        return Ok(Asked::Refused(AbruptCompletion::Throws(RESERVED)));
     }
     match shared.heap.array(kind, Datum::Int(0), count) {
         Ok(number) => Ok(replace(frames, Value::Ref(number), next)),
@@ -63,10 +63,10 @@ fn make_counted(
     ensures objects { OnOk result (AreLoaded linker.now shared.new.heap) }
 {
     let Some(count) = int_of(frames) else {
-        return Ok(Asked::Refused(Refusal::Breaks));
+        return Ok(Asked::Refused(AbruptCompletion::Breaks));
     };
     if count < 0 {
-        return Ok(Asked::Refused(Refusal::Raises(Exception::NegativeArraySize, None)));
+        return Ok(Asked::Refused(AbruptCompletion::Raises(Exception::NegativeArraySize, None)));
     }
     make_array(linker, shared, frames, kind, count as u32, next)
 }

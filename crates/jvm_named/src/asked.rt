@@ -23,7 +23,7 @@ pub enum Exception {
 /// is thrown; that the class at this position is initialized before; the end of the program with a status; or its end where the code is
 /// unverifiable. The frame is as it was.
 #[derive(Debug, Drop)]
-pub enum Refusal {
+pub enum AbruptCompletion {
     Raises(Exception, Option<Text16>),
     Throws(u32),
     Initializes(u32),
@@ -41,5 +41,5 @@ pub enum Asked {
     TooDeep,
     /// The method with this number is invoked with so many topmost operands as its arguments, which the frame still has.
     Invokes(u32, u16),
-    Refused(Refusal),
+    Refused(AbruptCompletion),
 }

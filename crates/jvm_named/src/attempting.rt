@@ -18,7 +18,7 @@ ghost use Rattle.jvm_named.specs.Numbers.{AreNumbers};
 ghost use Rattle.jvm_named.specs.Objects.{AreLoaded, HasDimensions, HasLoadedCaller};
 ghost use Rattle.jvm_named.specs.Resolved.{skips};
 
-use crate::asked::{Asked, Refusal};
+use crate::asked::{AbruptCompletion, Asked};
 use crate::doing::do_resolved;
 use crate::known::{Found, Known};
 use crate::moving::{keep, replace};
@@ -84,7 +84,7 @@ fn find(
     loaded: &mut Seq<u32>,
     frames: &Frames,
     naming: &SymbolicReference,
-) -> Result<Option<Result<u32, Refusal>>, NoMemory>
+) -> Result<Option<Result<u32, AbruptCompletion>>, NoMemory>
     requires linked { linker.old.loaded ≡ loaded.old }
     requires root { IsLoaded linker.old (user_count linker.old.program) }
     ensures found { IfOk result (λ found. IsFound linker.new (symbolic_view naming.now)
@@ -107,7 +107,7 @@ fn find_loaded(
     loaded: &mut Seq<u32>,
     frames: &Frames,
     naming: &SymbolicReference,
-) -> Result<Option<Option<Result<u32, Refusal>>>, NoMemory>
+) -> Result<Option<Option<Result<u32, AbruptCompletion>>>, NoMemory>
     requires linked { linker.old.loaded ≡ loaded.old }
     requires root { IsLoaded linker.old (user_count linker.old.program) }
     ensures some { IfOk result (λ o. is_some o ≡ loads_nothing linker.old.program loaded.old
@@ -152,7 +152,7 @@ fn do_found(
     input: &[u8],
     output: &mut Seq<u8>,
     naming: &SymbolicReference,
-    found: Option<Result<u32, Refusal>>,
+    found: Option<Result<u32, AbruptCompletion>>,
     next: u16,
     learnt: &mut Option<Known>,
 ) -> Result<Asked, NoMemory>

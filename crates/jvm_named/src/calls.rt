@@ -22,7 +22,7 @@ ghost use Rattle.jvm_named.specs.Members.{at_place};
 ghost use Rattle.jvm_named.specs.Resolved.{invokes_instance, invokes_static_method};
 ghost use Rattle.jvm_named.specs.Targets.{HasCaller, selecting_view, data_in};
 
-use crate::asked::{Asked, Exception, Refusal};
+use crate::asked::{AbruptCompletion, Asked, Exception};
 use crate::instances::user_count;
 use crate::known::{Callee, Chosen, Found};
 use crate::natives::{run_native, run_numbered};
@@ -62,7 +62,7 @@ fn invoke_native(
     ensures objects { OnOk result (AreLoaded linker.now shared.new.heap) }
 {
     if m.class < user_count(linker) {
-        return Ok(Asked::Refused(Refusal::Raises(Exception::UnsatisfiedLink, None)));
+        return Ok(Asked::Refused(AbruptCompletion::Raises(Exception::UnsatisfiedLink, None)));
     }
     run_native(alloc, linker, shared, frames, input, output, m, count, next)
 }
@@ -93,7 +93,7 @@ fn invoke_found(
     ensures objects { OnOk result (AreLoaded linker.now shared.new.heap) }
 {
     if is_abstract(linker.program(), m) {
-        return Ok(Asked::Refused(Refusal::Raises(Exception::AbstractMethod, None)));
+        return Ok(Asked::Refused(AbruptCompletion::Raises(Exception::AbstractMethod, None)));
     }
     match numbers.number(m.class, m.position) {
         Some(number) => Ok(Asked::Invokes(number, count)),
@@ -172,7 +172,7 @@ fn invoke_selected(
         Some(m) => invoke_chosen(
             alloc, linker, numbers, shared, frames, input, output, m, count, next,
         ),
-        None => Ok(Asked::Refused(Refusal::Raises(Exception::AbstractMethod, None))),
+        None => Ok(Asked::Refused(AbruptCompletion::Raises(Exception::AbstractMethod, None))),
     }
 }
 

@@ -10,7 +10,7 @@ ghost use Rattle.jvm_named.specs.Answers.{answer_of, answer_view, frames_of};
 ghost use Rattle.jvm_named.specs.Known.{IsClassFound};
 ghost use Rattle.jvm_named.specs.Objects.{AreLoaded, IsResolved};
 
-use crate::asked::{Asked, Exception, Refusal};
+use crate::asked::{AbruptCompletion, Asked, Exception};
 use crate::instances::kind_of_object;
 use crate::known::Found;
 use crate::moving::{keep, replace};
@@ -73,12 +73,12 @@ pub fn cast(
     ensures found { IsClassFound found.new linker.now.program kind }
 {
     let Some(object) = ref_of(frames) else {
-        return Asked::Refused(Refusal::Breaks);
+        return Asked::Refused(AbruptCompletion::Breaks);
     };
     if is_of(linker, shared, name, kind, found, object) {
         keep(frames, next)
     } else {
-        Asked::Refused(Refusal::Raises(Exception::ClassCast, None))
+        Asked::Refused(AbruptCompletion::Raises(Exception::ClassCast, None))
     }
 }
 
@@ -109,7 +109,7 @@ pub fn tell_instance(
     ensures found { IsClassFound found.new linker.now.program kind }
 {
     let Some(object) = ref_of(frames) else {
-        return Asked::Refused(Refusal::Breaks);
+        return Asked::Refused(AbruptCompletion::Breaks);
     };
     let answer = is_of(linker, shared, name, kind, found, object);
     replace(frames, int_for(answer), next)

@@ -7,7 +7,7 @@ ghost use Rattle.jvm_named.specs.Answers.{Answers, Moves, Shares};
 ghost use Rattle.jvm_named.specs.Natives.{HasBuiltIn, object_or_full};
 ghost use Rattle.jvm_named.specs.Objects.{AreLoaded};
 
-use crate::asked::{Asked, Refusal};
+use crate::asked::{AbruptCompletion, Asked};
 use crate::creation::RESERVED;
 use crate::moving::put;
 use class_linker::Linker;
@@ -48,6 +48,6 @@ pub fn push_class_object(
 {
     match class_object(&mut shared.heap, &mut shared.made, kind)? {
         Some(object) => Ok(put(frames, Value::Ref(object), next)),
-        None => Ok(Asked::Refused(Refusal::Throws(RESERVED))),
+        None => Ok(Asked::Refused(AbruptCompletion::Throws(RESERVED))),
     }
 }

@@ -13,7 +13,7 @@ ghost use Rattle.jvm_named.specs.Known.{IsClassFound, IsMade};
 ghost use Rattle.jvm_named.specs.Objects.{AreLoaded, IsUsable};
 ghost use Rattle.jvm_named.specs.Resolved.{makes_new};
 
-use crate::asked::{Asked, Exception, Refusal};
+use crate::asked::{AbruptCompletion, Asked, Exception};
 use crate::classes::{has_no_instances, is_text_class};
 use crate::instances::class_of_kind;
 use crate::known::Found;
@@ -82,7 +82,7 @@ fn make_fields(
 {
     let kinds = linker.layout(class);
     if !shared.heap.has_room(1 + kinds.len()) {
-        return Ok(Asked::Refused(Refusal::Throws(RESERVED)));
+        return Ok(Asked::Refused(AbruptCompletion::Throws(RESERVED)));
     }
     let fields = zeros(alloc, kinds)?;
     match shared.heap.instance(kind, fields.as_slice()) {
@@ -112,7 +112,7 @@ fn make_text(
     ensures objects { OnOk result (AreLoaded linker.now shared.new.heap) }
 {
     if !shared.heap.has_room(1) {
-        return Ok(Asked::Refused(Refusal::Throws(RESERVED)));
+        return Ok(Asked::Refused(AbruptCompletion::Throws(RESERVED)));
     }
     match shared.heap.text(kind, &[]) {
         Ok(number) => Ok(put(frames, Value::Ref(number), next)),
@@ -180,7 +180,7 @@ fn make_instance(
     ensures found { IsClassFound found.new linker.now.program kind }
 {
     match made_of(linker, kind, class, found) {
-        None => Ok(Asked::Refused(Refusal::Raises(Exception::Instantiation, None))),
+        None => Ok(Asked::Refused(AbruptCompletion::Raises(Exception::Instantiation, None))),
         Some(true) => make_text(linker, shared, frames, kind, next),
         Some(false) => make_fields(alloc, linker, shared, frames, kind, class, next),
     }
@@ -220,7 +220,7 @@ fn make_initialized(
         Some(Phase::Running) => make_instance(
             alloc, linker, shared, frames, kind, class, found, next,
         ),
-        Some(Phase::Fresh) => Ok(Asked::Refused(Refusal::Initializes(class))),
+        Some(Phase::Fresh) => Ok(Asked::Refused(AbruptCompletion::Initializes(class))),
         Some(Phase::Erroneous) => raise_unusable(alloc, linker, class),
         None => raise_unusable(alloc, linker, class),
     }

@@ -21,7 +21,7 @@ ghost use Rattle.jvm_named.specs.Members.{at_place, reference_of};
 ghost use Rattle.jvm_named.specs.Objects.{AreLoaded, IsResolved};
 ghost use Rattle.jvm_named.specs.Resolved.{field_found, gets_instance, puts_instance};
 
-use crate::asked::{Asked, Exception, Refusal};
+use crate::asked::{AbruptCompletion, Asked, Exception};
 use crate::held::{held_by, narrowed};
 use crate::instances::{class_of_kind, kind_of_object};
 use crate::known::Found;
@@ -143,7 +143,7 @@ fn field_owner(
     kind: u32,
     field: Place,
     object: u32,
-) -> Result<Owner, Refusal>
+) -> Result<Owner, AbruptCompletion>
     requires named { kind_named linker.now.program member.now.class ≡ Some kind }
     requires objects { AreLoaded linker.now shared.now.heap }
     ensures owner { owner_found result ≡ field_owner linker.now.program shared.now
@@ -156,11 +156,11 @@ fn field_owner(
         (λ owner. has_field_at linker.now.program (Some owner.kind) kind field.class ≡ true) }
 {
     if object == 0 {
-        return Err(Refusal::Raises(Exception::NullPointer, None));
+        return Err(AbruptCompletion::Raises(Exception::NullPointer, None));
     }
     match owner_of(linker, &shared.heap, kind, field, object) {
         Some(owner) => Ok(owner),
-        None => Err(Refusal::Breaks),
+        None => Err(AbruptCompletion::Breaks),
     }
 }
 
@@ -191,7 +191,7 @@ pub fn known_owner(
     field: Place,
     last: u32,
     object: u32,
-) -> Result<u32, Refusal>
+) -> Result<u32, AbruptCompletion>
     requires named { kind_named linker.now.program member.now.class ≡ Some kind }
     requires objects { AreLoaded linker.now shared.now.heap }
     requires own { has_field_at linker.now.program (Some last) kind field.class ≡ true }
@@ -200,12 +200,12 @@ pub fn known_owner(
     ensures object { IfOk result (λ object. (object == 0) ≡ false) }
 {
     if object == 0 {
-        return Err(Refusal::Raises(Exception::NullPointer, None));
+        return Err(AbruptCompletion::Raises(Exception::NullPointer, None));
     }
     if has_field(linker, &shared.heap, kind, field, last, object) {
         Ok(object)
     } else {
-        Err(Refusal::Breaks)
+        Err(AbruptCompletion::Breaks)
     }
 }
 
@@ -221,7 +221,7 @@ fn read_slot(shared: &Shared, frames: &mut Frames, object: u32, slot: u32, next:
 {
     match shared.heap.get(object, slot) {
         Some(datum) => replace(frames, value_of(datum), next),
-        None => Asked::Refused(Refusal::Breaks),
+        None => Asked::Refused(AbruptCompletion::Breaks),
     }
 }
 
@@ -251,7 +251,7 @@ fn read_field(
         IsFoundAs found.new linker.now.program kind n }
 {
     let Some(object) = ref_of(frames) else {
-        return Ok(Asked::Refused(Refusal::Breaks));
+        return Ok(Asked::Refused(AbruptCompletion::Breaks));
     };
     match field_owner(linker, shared, member, kind, field, object) {
         Ok(owner) => match slot_of(linker, owner.class, field) {
@@ -288,7 +288,7 @@ pub fn read_known(
         (reference_of member.now) (at_place field) (ref_of o) shared.now l o) next frames.old }
 {
     let Some(object) = ref_of(frames) else {
-        return Asked::Refused(Refusal::Breaks);
+        return Asked::Refused(AbruptCompletion::Breaks);
     };
     match known_owner(linker, shared, member, kind, field, last, object) {
         Ok(owner) => read_slot(shared, frames, owner, slot, next),
@@ -435,7 +435,7 @@ fn write_field(
         IsFoundAs found.new linker.now.program kind n }
 {
     let Some(putting) = putting_of(frames, held_by(member.descriptor.units())) else {
-        return Ok(Asked::Refused(Refusal::Breaks));
+        return Ok(Asked::Refused(AbruptCompletion::Breaks));
     };
     match field_owner(linker, shared, member, kind, field, putting.object) {
         Ok(owner) => match slot_of(linker, owner.class, field) {
@@ -479,7 +479,7 @@ fn write_known(
     ensures objects { OnOk result (AreLoaded linker.now shared.new.heap) }
 {
     let Some(putting) = putting_of(frames, held_by(member.descriptor.units())) else {
-        return Ok(Asked::Refused(Refusal::Breaks));
+        return Ok(Asked::Refused(AbruptCompletion::Breaks));
     };
     match known_owner(linker, shared, member, kind, field, last, putting.object) {
         Ok(owner) => {

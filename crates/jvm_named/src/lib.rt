@@ -34,7 +34,7 @@ mod symbolic_reference;
 mod targets;
 mod values;
 
-pub use asked::{Asked, Exception, Refusal};
+pub use asked::{AbruptCompletion, Asked, Exception};
 pub use attempting::{attempt, attempt_known, attempt_loaded, resolved_name};
 pub use constants::set_constants;
 pub use instances::{is_instance, user_count};

@@ -11,7 +11,7 @@ ghost use Rattle.jvm_named.specs.Members.{at_place, reference_of};
 ghost use Rattle.jvm_named.specs.Objects.{IsUsable};
 ghost use Rattle.jvm_named.specs.Resolved.{field_found};
 
-use crate::asked::{Exception, Refusal};
+use crate::asked::{AbruptCompletion, Exception};
 use crate::instances::class_of_kind;
 use crate::place::Place;
 use crate::resolution::exception_numbered;
@@ -33,14 +33,18 @@ pub fn is_static_field(linker: &Linker, m: Place) -> bool
 }
 
 /// The field of a class that a name stands for, static or not.
-fn resolved_field(linker: &Linker, class: u32, member: &MemberName) -> Result<Place, Refusal>
+fn resolved_field(
+    linker: &Linker,
+    class: u32,
+    member: &MemberName,
+) -> Result<Place, AbruptCompletion>
     requires { IsLoaded linker.now class }
     ensures { place_found result
         ≡ found (resolved_field linker.now.program class (reference_of member.now).member) }
 {
     match linker.resolve_field(class, &member.name, &member.descriptor) {
         Resolved::Found(class, position) => Ok(Place { class, position }),
-        Resolved::Throws(number) => Err(Refusal::Raises(exception_numbered(number), None)),
+        Resolved::Throws(number) => Err(AbruptCompletion::Raises(exception_numbered(number), None)),
     }
 }
 
@@ -50,7 +54,7 @@ pub fn field_found(
     kind: u32,
     is_static: bool,
     member: &MemberName,
-) -> Result<Place, Refusal>
+) -> Result<Place, AbruptCompletion>
     requires { IsUsable linker.now kind }
     ensures { place_found result
         ≡ field_found linker.now.program kind is_static (reference_of member.now) }
@@ -62,6 +66,6 @@ pub fn field_found(
     if is_static_field(linker, m) == is_static {
         Ok(m)
     } else {
-        Err(Refusal::Raises(Exception::IncompatibleClassChange, None))
+        Err(AbruptCompletion::Raises(Exception::IncompatibleClassChange, None))
     }
 }

@@ -13,7 +13,7 @@ ghost use Rattle.jvm_named.specs.Answers.{Answers, Moves, Shares};
 ghost use Rattle.jvm_named.specs.Arrays.{capped, int_at, lengths_from};
 ghost use Rattle.jvm_named.specs.Objects.{AreLoaded, IsUsable};
 
-use crate::asked::{Asked, Exception, Refusal};
+use crate::asked::{AbruptCompletion, Asked, Exception};
 use crate::creation::RESERVED;
 use crate::fields::put_slot;
 use crate::instances::ARRAY;
@@ -203,7 +203,7 @@ fn make_lengths(
     ensures objects { OnOk result (AreLoaded linker.now shared.new.heap) }
 {
     if !has_room_for(&shared.heap, lengths)? {
-        return Ok(Asked::Refused(Refusal::Throws(RESERVED)));
+        return Ok(Asked::Refused(AbruptCompletion::Throws(RESERVED)));
     }
     let made = make_all(&mut shared.heap, kind, lengths)?;
     Ok(replace_many(frames, Value::Ref(made.array), dimensions as u16, next))
@@ -234,7 +234,7 @@ fn make_counts(
     ensures objects { OnOk result (AreLoaded linker.now shared.new.heap) }
 {
     let Some(lengths) = lengths_of(alloc, counts)? else {
-        return Ok(Asked::Refused(Refusal::Raises(Exception::NegativeArraySize, None)));
+        return Ok(Asked::Refused(AbruptCompletion::Raises(Exception::NegativeArraySize, None)));
     };
     let lengths = lengths.as_slice();
     make_lengths(linker, shared, frames, kind, lengths, dimensions, next)
@@ -267,7 +267,7 @@ pub fn make_arrays(
 {
     recall(frames);
     let Some(counts) = counts_of(alloc, frames, dimensions)? else {
-        return Ok(Asked::Refused(Refusal::Breaks));
+        return Ok(Asked::Refused(AbruptCompletion::Breaks));
     };
     let counts = counts.as_slice();
     make_counts(

@@ -13,7 +13,7 @@ ghost use Rattle.jvm_model.specs.Instructions.InvocationRules.{reference_to};
 ghost use Rattle.jvm_model.specs.Instructions.NativeRules.{runs_native, runs_number, thrown_by};
 ghost use Rattle.jvm_model.specs.Basis.Values.{as_value, with_value};
 ghost use Rattle.native_ops.specs.Calls.{is_done};
-ghost use Rattle.jvm_named.specs.Answers.{answer_of, answer_view, frames_of, refusal_view};
+ghost use Rattle.jvm_named.specs.Answers.{answer_of, answer_view, frames_of, abrupt_view};
 ghost use Rattle.jvm_named.specs.Attempts.{world_over};
 ghost use Rattle.jvm_named.specs.Does.{Does, changed};
 ghost use Rattle.jvm_named.specs.Members.{at_place};
@@ -22,7 +22,7 @@ ghost use Rattle.jvm_named.specs.Objects.{AreLoaded};
 ghost use Rattle.jvm_named.specs.Passing.{IfRan, is_next, runs_native_call};
 ghost use Rattle.jvm_named.specs.Targets.{as_datum, data_in};
 
-use crate::asked::{Asked, Exception, Refusal};
+use crate::asked::{AbruptCompletion, Asked, Exception};
 use crate::creation::RESERVED;
 use crate::moving::{drop_operands, replace_operands};
 use crate::passing::{NativeCall, went_on};
@@ -105,16 +105,16 @@ fn arguments(alloc: Global, frames: &Frames, count: u16) -> Result<Seq<Datum>, N
 
 /// What is asked for where the exception of the built-in class at this place is thrown. The one of a heap that is full was made before the
 /// start.
-fn thrown_by(place: u16) -> Refusal
-    ensures { refusal_view result ≡ thrown_by place }
+fn thrown_by(place: u16) -> AbruptCompletion
+    ensures { abrupt_view result ≡ thrown_by place }
 {
     if place == OUT_OF_MEMORY {
-        return Refusal::Throws(RESERVED);
+        return AbruptCompletion::Throws(RESERVED);
     }
     if place < BUILT_IN {
-        Refusal::Raises(Exception::BuiltIn(place), None)
+        AbruptCompletion::Raises(Exception::BuiltIn(place), None)
     } else {
-        Refusal::Breaks
+        AbruptCompletion::Breaks
     }
 }
 
@@ -145,8 +145,8 @@ fn conclude(frames: &mut Frames, native: Native, count: u16, next: u16) -> Resul
     match native {
         Native::Value(value) => Ok(give(frames, value, count, next)),
         Native::Throws(place) => Ok(Asked::Refused(thrown_by(place))),
-        Native::Exit(status) => Ok(Asked::Refused(Refusal::Exits(status))),
-        Native::Bad => Ok(Asked::Refused(Refusal::Breaks)),
+        Native::Exit(status) => Ok(Asked::Refused(AbruptCompletion::Exits(status))),
+        Native::Bad => Ok(Asked::Refused(AbruptCompletion::Breaks)),
         Native::NoMemory => Err(NoMemory),
     }
 }
@@ -346,6 +346,6 @@ pub fn run_native(
         Some(number) => run_numbered(
             alloc, linker, shared, frames, input, output, number, count, next,
         ),
-        None => Ok(Asked::Refused(Refusal::Breaks)),
+        None => Ok(Asked::Refused(AbruptCompletion::Breaks)),
     }
 }

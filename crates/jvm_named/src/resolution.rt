@@ -9,7 +9,7 @@ ghost use Rattle.jvm_named.specs.Answers.{exception_numbered, found_view};
 ghost use Rattle.jvm_named.specs.Objects.{IsResolved};
 ghost use Rattle.class_index.specs.Indices.{IsLinkable};
 
-use crate::asked::{Exception, Refusal};
+use crate::asked::{AbruptCompletion, Exception};
 use class_linker::{Linker, Loaded};
 use jf_bytes::{NoMemory, Seq, Text16};
 
@@ -38,7 +38,7 @@ pub fn resolve(
     linker: &mut Linker,
     loaded: &mut Seq<u32>,
     name: &Text16,
-) -> Result<Result<u32, Refusal>, NoMemory>
+) -> Result<Result<u32, AbruptCompletion>, NoMemory>
     requires linked { linker.old.loaded ≡ loaded.old }
     requires root { IsLoaded linker.old (user_count linker.old.program) }
     ensures found { IfOk result (λ r. found_view r
@@ -58,7 +58,7 @@ pub fn resolve(
         }
         Loaded::Throws(number, classes, message) => {
             loaded.extend_from_slice(classes.as_slice())?;
-            Ok(Err(Refusal::Raises(exception_numbered(number), message)))
+            Ok(Err(AbruptCompletion::Raises(exception_numbered(number), message)))
         }
         Loaded::NoMemory => Err(NoMemory),
     }

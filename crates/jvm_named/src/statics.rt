@@ -19,7 +19,7 @@ ghost use Rattle.jvm_named.specs.Members.{at_place, reference_of};
 ghost use Rattle.jvm_named.specs.Objects.{IsUsable};
 ghost use Rattle.jvm_named.specs.Resolved.{gets_static, puts_static};
 
-use crate::asked::{Asked, Exception, Refusal};
+use crate::asked::{AbruptCompletion, Asked, Exception};
 use crate::classes::name_at;
 use crate::held::{held_by, narrowed};
 use crate::known::Found;
@@ -46,10 +46,13 @@ pub fn raise_unusable(alloc: Global, linker: &Linker, class: u32) -> Result<Aske
         ≡ Stops (Raises no_class_definition (name_at linker.now.program class))) }
 {
     let Some(name) = name_at(linker, class) else {
-        return Ok(Asked::Refused(Refusal::Raises(Exception::NoClassDefinition, None)));
+        return Ok(Asked::Refused(AbruptCompletion::Raises(Exception::NoClassDefinition, None)));
     };
     let units = Vec::from_slice(alloc, name.units())?;
-    Ok(Asked::Refused(Refusal::Raises(Exception::NoClassDefinition, Some(Text16::new(units)))))
+    Ok(Asked::Refused(AbruptCompletion::Raises(
+        Exception::NoClassDefinition,
+        Some(Text16::new(units)),
+    )))
 }
 
 // ---- getstatic
@@ -73,7 +76,7 @@ pub fn push_field(shared: &Shared, frames: &mut Frames, field: Place, next: u16)
 {
     match static_at(shared, field) {
         Some(datum) => put(frames, value_of(datum), next),
-        None => Asked::Refused(Refusal::Breaks),
+        None => Asked::Refused(AbruptCompletion::Breaks),
     }
 }
 
@@ -94,7 +97,7 @@ fn push_static(
     match shared.phases.at(field.class as usize) {
         Some(Phase::Ready) => Ok(push_field(shared, frames, field, next)),
         Some(Phase::Running) => Ok(push_field(shared, frames, field, next)),
-        Some(Phase::Fresh) => Ok(Asked::Refused(Refusal::Initializes(field.class))),
+        Some(Phase::Fresh) => Ok(Asked::Refused(AbruptCompletion::Initializes(field.class))),
         Some(Phase::Erroneous) => raise_unusable(alloc, linker, field.class),
         None => raise_unusable(alloc, linker, field.class),
     }
@@ -189,7 +192,7 @@ fn set_field(
     ensures heap { shared.new.heap ≡ shared.old.heap }
 {
     let Some(datum) = held_of(frames, kind) else {
-        return Asked::Refused(Refusal::Breaks);
+        return Asked::Refused(AbruptCompletion::Breaks);
     };
     let position = field.position as usize;
     set_static(alloc, &mut shared.statics, field.class, position, datum);
@@ -220,7 +223,7 @@ fn put_field(
     match shared.phases.at(field.class as usize) {
         Some(Phase::Ready) => Ok(set_field(alloc, shared, frames, field, kind, next)),
         Some(Phase::Running) => Ok(set_field(alloc, shared, frames, field, kind, next)),
-        Some(Phase::Fresh) => Ok(Asked::Refused(Refusal::Initializes(field.class))),
+        Some(Phase::Fresh) => Ok(Asked::Refused(AbruptCompletion::Initializes(field.class))),
         Some(Phase::Erroneous) => raise_unusable(alloc, linker, field.class),
         None => raise_unusable(alloc, linker, field.class),
     }

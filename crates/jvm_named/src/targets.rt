@@ -15,7 +15,7 @@ ghost use Rattle.jvm_model.specs.Basis.SharedState.{class_of_kind, no_class_defi
 ghost use Rattle.jvm_model.specs.Classes.SuperCalls.{invoked_special};
 ghost use Rattle.class_index.specs.Members.{place_view};
 ghost use Rattle.class_linker.specs.Linkers.{IsLoaded};
-ghost use Rattle.jvm_named.specs.Answers.{place_found, refusal_view};
+ghost use Rattle.jvm_named.specs.Answers.{place_found, abrupt_view};
 ghost use Rattle.jvm_named.specs.Callees.{HasCallee, chosen_place};
 ghost use Rattle.jvm_named.specs.Known.{IsFoundAs, IsSite, symbolic_reference_by};
 ghost use Rattle.jvm_named.specs.Members.{at_place};
@@ -25,7 +25,7 @@ ghost use Rattle.jvm_named.specs.Resolved.{method_found};
 ghost use Rattle.jvm_named.specs.Targets.{HasCaller, selecting_view, found_as, instance_target};
 ghost use Rattle.jvm_named.specs.Targets.{receiver_class, static_target, target_in, unready_by};
 
-use crate::asked::{Exception, Refusal};
+use crate::asked::{AbruptCompletion, Exception};
 use crate::callees::callee_of;
 use crate::classes::name_at;
 use crate::instances::{class_of_kind, kind_of_object};
@@ -94,26 +94,26 @@ fn found_in(
     class: u32,
     interface: bool,
     member: &MemberName,
-) -> Result<Place, Refusal>
+) -> Result<Place, AbruptCompletion>
     requires { IsLoaded linker.now class }
     ensures { place_found result ≡ found (resolved_method linker.now.program class interface
         (name_type_of member.now.name member.now.descriptor)) }
 {
     match linker.resolve_method(class, interface, &member.name, &member.descriptor) {
         Resolved::Found(class, position) => Ok(Place { class, position }),
-        Resolved::Throws(number) => Err(Refusal::Raises(exception_numbered(number), None)),
+        Resolved::Throws(number) => Err(AbruptCompletion::Raises(exception_numbered(number), None)),
     }
 }
 
 /// The method, where it is static as it is asked for, or is not.
-fn fitting(program: &Program, m: Place, fixed: bool) -> Result<Place, Refusal>
+fn fitting(program: &Program, m: Place, fixed: bool) -> Result<Place, AbruptCompletion>
     ensures { place_found result
         ≡ where_fitting (beq (is_static program.now (at_place m)) fixed) (at_place m) }
 {
     if is_static(program, m) == fixed {
         Ok(m)
     } else {
-        Err(Refusal::Raises(Exception::IncompatibleClassChange, None))
+        Err(AbruptCompletion::Raises(Exception::IncompatibleClassChange, None))
     }
 }
 
@@ -124,7 +124,7 @@ fn method_found(
     interface: bool,
     fixed: bool,
     method: &MethodName,
-) -> Result<Place, Refusal>
+) -> Result<Place, AbruptCompletion>
     requires { IsUsable linker.now kind }
     ensures { place_found result
         ≡ method_found linker.now.program kind interface fixed method.now }
@@ -139,13 +139,16 @@ fn method_found(
 // ---- receivers
 
 /// What a receiver asks for that is not of the named class.
-fn not_of_class(by: Selecting<'_>) -> Refusal
-    ensures { refusal_view result ≡ not_of_class (selecting_view by.entry) }
+fn not_of_class(by: Selecting<'_>) -> AbruptCompletion
+    ensures { abrupt_view result ≡ not_of_class (selecting_view by.entry) }
 {
     match by {
-        Selecting::Virtual => Refusal::Breaks,
-        Selecting::OfInterface => Refusal::Raises(Exception::IncompatibleClassChange, None),
-        Selecting::Special(_, _) => Refusal::Breaks,
+        Selecting::Virtual => AbruptCompletion::Breaks,
+        Selecting::OfInterface => AbruptCompletion::Raises(
+            Exception::IncompatibleClassChange,
+            None,
+        ),
+        Selecting::Special(_, _) => AbruptCompletion::Breaks,
     }
 }
 
@@ -186,7 +189,7 @@ fn receiver_kind(
     kind: u32,
     last: Option<u32>,
     object: u32,
-) -> Result<u32, Refusal>
+) -> Result<u32, AbruptCompletion>
     requires objects { AreLoaded linker.now heap.now }
     requires resolved { IsResolved linker.now method.now.class kind }
     requires last { IfSome last
@@ -198,7 +201,7 @@ fn receiver_kind(
         (λ lower. is_below_kind linker.now.program (Some lower) (Some kind) ≡ true) }
 {
     if object == 0 {
-        return Err(Refusal::Raises(Exception::NullPointer, None));
+        return Err(AbruptCompletion::Raises(Exception::NullPointer, None));
     }
     let Some(lower) = kind_of_object(linker, heap, object) else {
         return Err(not_of_class(by));
@@ -331,7 +334,7 @@ fn known_target(
     kind: u32,
     site: Site,
     found: &mut Found,
-) -> Result<Target, Refusal>
+) -> Result<Target, AbruptCompletion>
     requires objects { AreLoaded linker.now heap.now }
     requires resolved { IsResolved linker.now method.now.class kind }
     requires caller { HasCaller linker.now (selecting_view by) }
@@ -347,7 +350,7 @@ fn known_target(
         (symbolic_reference_by (selecting_view by.entry) method.now) }
 {
     let Some(count) = argument_count(true, method, frames) else {
-        return Err(Refusal::Breaks);
+        return Err(AbruptCompletion::Breaks);
     };
     let object = receiver_below(frames, count);
     let last = Some(site.last);
@@ -371,7 +374,7 @@ fn target_by_name(
     method: &MethodName,
     kind: u32,
     found: &mut Found,
-) -> Result<Target, Refusal>
+) -> Result<Target, AbruptCompletion>
     requires objects { AreLoaded linker.now heap.now }
     requires resolved { IsResolved linker.now method.now.class kind }
     requires caller { HasCaller linker.now (selecting_view by) }
@@ -390,7 +393,7 @@ fn target_by_name(
         Err(refusal) => return Err(refusal),
     };
     let Some(count) = argument_count(true, method, frames) else {
-        return Err(Refusal::Breaks);
+        return Err(AbruptCompletion::Breaks);
     };
     let object = receiver_below(frames, count);
     match receiver_kind(linker, heap, by, method, kind, None, object) {
@@ -414,7 +417,7 @@ pub fn instance_target(
     method: &MethodName,
     kind: u32,
     found: &mut Found,
-) -> Result<Target, Refusal>
+) -> Result<Target, AbruptCompletion>
     requires objects { AreLoaded linker.now heap.now }
     requires resolved { IsResolved linker.now method.now.class kind }
     requires caller { HasCaller linker.now (selecting_view by) }
@@ -444,15 +447,15 @@ fn copied(alloc: Global, text: &Text16) -> Result<Text16, NoMemory>
 }
 
 /// NoClassDefFoundError, with the name of the class that can not be used.
-fn unusable(alloc: Global, linker: &Linker, class: u32) -> Result<Refusal, NoMemory>
-    ensures { IfOk result (λ refusal. refusal_view refusal
+fn unusable(alloc: Global, linker: &Linker, class: u32) -> Result<AbruptCompletion, NoMemory>
+    ensures { IfOk result (λ refusal. abrupt_view refusal
         ≡ Raises no_class_definition (name_at linker.now.program class)) }
 {
     let message = match name_at(linker, class) {
         Some(name) => Some(copied(alloc, name)?),
         None => None,
     };
-    Ok(Refusal::Raises(Exception::NoClassDefinition, message))
+    Ok(AbruptCompletion::Raises(Exception::NoClassDefinition, message))
 }
 
 /// What is asked for where a class has to be initialized before, or can not be used (5.5).
@@ -461,14 +464,14 @@ fn unready(
     linker: &Linker,
     class: u32,
     phase: Option<Phase>,
-) -> Result<Option<Refusal>, NoMemory>
-    ensures { IfOk result (λ refusal. option_map refusal_view refusal
+) -> Result<Option<AbruptCompletion>, NoMemory>
+    ensures { IfOk result (λ refusal. option_map abrupt_view refusal
         ≡ unready_by linker.now.program class phase) }
 {
     match phase {
         Some(Phase::Ready) => Ok(None),
         Some(Phase::Running) => Ok(None),
-        Some(Phase::Fresh) => Ok(Some(Refusal::Initializes(class))),
+        Some(Phase::Fresh) => Ok(Some(AbruptCompletion::Initializes(class))),
         Some(Phase::Erroneous) => Ok(Some(unusable(alloc, linker, class)?)),
         None => Ok(Some(unusable(alloc, linker, class)?)),
     }
@@ -481,7 +484,7 @@ fn static_found(
     method: &MethodName,
     kind: u32,
     found: &mut Found,
-) -> Result<Chosen, Refusal>
+) -> Result<Chosen, AbruptCompletion>
     requires usable { IsUsable linker.now kind }
     requires numbers { AreNumbers linker.now.program numbers.now }
     requires found { IsFoundAs found.old linker.now.program kind (Invokestatic method.now) }
@@ -514,7 +517,7 @@ pub fn static_target(
     method: &MethodName,
     kind: u32,
     found: &mut Found,
-) -> Result<Result<Target, Refusal>, NoMemory>
+) -> Result<Result<Target, AbruptCompletion>, NoMemory>
     requires usable { IsUsable linker.now kind }
     requires numbers { AreNumbers linker.now.program numbers.now }
     requires found { IsFoundAs found.old linker.now.program kind (Invokestatic method.now) }
@@ -540,6 +543,6 @@ pub fn static_target(
             selected: Some(m),
             count,
         })),
-        None => Ok(Err(Refusal::Breaks)),
+        None => Ok(Err(AbruptCompletion::Breaks)),
     }
 }

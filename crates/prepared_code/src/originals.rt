@@ -58,8 +58,8 @@ use frame_stack::Frames;
 use jf_bytes::{NoMemory, Seq};
 use jvm_model::{Mark, Program, Shared};
 use jvm_named::{
-    Asked, Known, MethodNumbers, Refusal, Selections, attempt, attempt_known, attempt_loaded,
-    known_code, resolve,
+    AbruptCompletion, Asked, Known, MethodNumbers, Selections, attempt, attempt_known,
+    attempt_loaded, known_code, resolve,
 };
 use std::alloc::Global;
 use std::marker::Model;
@@ -210,7 +210,7 @@ fn attempt_line(
         ),
         _ => {
             *learnt = None;
-            Ok(Asked::Refused(Refusal::Breaks))
+            Ok(Asked::Refused(AbruptCompletion::Breaks))
         }
     }
 }
@@ -334,7 +334,7 @@ fn attempt_line_known(
                 alloc, linker, numbers, shared, frames, input, output, naming, next, known,
             )
         }
-        _ => Ok(Asked::Refused(Refusal::Breaks)),
+        _ => Ok(Asked::Refused(AbruptCompletion::Breaks)),
     }
 }
 
@@ -664,7 +664,7 @@ impl Originals {
         &mut self,
         alloc: Global,
         loaded: &mut Seq<u32>,
-    ) -> Result<Result<u32, Refusal>, NoMemory>
+    ) -> Result<Result<u32, AbruptCompletion>, NoMemory>
         requires linked { self.old.loaded ≡ loaded.old }
         requires root { IsLoaded (linker_in self.old) (user_count self.old.setup.world.program) }
         ensures found { let p = self.old.setup.world.program in IfOk result
@@ -729,7 +729,7 @@ impl Originals {
         ensures world { self.new.setup ≡ self.old.setup }
     {
         let Some(line) = line_there(&self.linker, &self.versions, version, place) else {
-            return Ok(Asked::Refused(Refusal::Breaks));
+            return Ok(Asked::Refused(AbruptCompletion::Breaks));
         };
         if let Some(before) = self.cells.get(version, place) {
             let mut known = before;

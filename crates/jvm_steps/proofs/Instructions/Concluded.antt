@@ -11,9 +11,9 @@ use Rattle.jvm_model.specs.Basis.Data.{Locals, Operands, SymbolicReference, Next
 use Rattle.jvm_model.specs.Running.Run.{starts}
 use Rattle.jvm_named.specs.declared.asked.Asked.{Asked}
 use Rattle.jvm_named.specs.declared.asked.Asked.TheVariants as asked
-use Rattle.jvm_named.specs.declared.asked.Refusal.{Refusal}
-use Rattle.jvm_named.specs.declared.asked.Refusal.TheVariants as refusal
-use Rattle.jvm_named.specs.Answers.{Answer, Continues, Exceeds, Stops, answer_in, answer_view, frames_in, refusal_view}
+use Rattle.jvm_named.specs.declared.asked.AbruptCompletion.{AbruptCompletion}
+use Rattle.jvm_named.specs.declared.asked.AbruptCompletion.TheVariants as refusal
+use Rattle.jvm_named.specs.Answers.{Answer, Continues, Exceeds, Stops, answer_in, answer_view, frames_in, abrupt_view}
 use Rattle.prepared_code.specs.declared.line.Line.{Line}
 use Rattle.prepared_code.specs.declared.initializations.Initialization.{Initialization}
 use Rattle.prepared_code.specs.declared.parts.Here.{Here}
@@ -47,7 +47,7 @@ abbrev pub CanAnswer : Answer → Type 0
 CanAnswer (Stops q) = CanStop q
 CanAnswer a = Unit {0}
 
-refusals-stop : (r : Refusal) → CanStop (refusal_view r)
+refusals-stop : (r : AbruptCompletion) → CanStop (abrupt_view r)
 refusals-stop (refusal.Raises e message) = tt
 refusals-stop (refusal.Throws object) = tt
 refusals-stop (refusal.Initializes class) = tt

@@ -4,7 +4,7 @@
 ghost use Rattle.std.specs.Prelude.{◌≡◌, Some, None, IfOk, OnOk};
 ghost use Rattle.std.specs.Option.{option_map};
 ghost use Rattle.jvm_model.specs.Running.Run.{starts};
-ghost use Rattle.jvm_named.specs.Answers.{answer_view, exception_name, refusal_view};
+ghost use Rattle.jvm_named.specs.Answers.{answer_view, exception_name, abrupt_view};
 ghost use Rattle.jvm_steps.specs.Instructions.Acts.{raised_in};
 ghost use Rattle.jvm_steps.specs.Instructions.Asked.{concluded, refused_in, starts_in};
 ghost use Rattle.prepared_code.specs.States.{state_in};
@@ -14,7 +14,7 @@ use crate::unwind::exceptions::kind_raised;
 use crate::unwind::raising::{break_at, throw_kind, throw_kind_with};
 use jf_bytes::{NoMemory, Text16};
 use jvm_model::Ending;
-use jvm_named::{Asked, Exception, Refusal};
+use jvm_named::{AbruptCompletion, Asked, Exception};
 use prepared_code::{Here, Originals, Parts};
 use std::alloc::Global;
 
@@ -43,27 +43,27 @@ fn refuse(
     originals: &Originals,
     parts: &mut Parts,
     here: Here,
-    refusal: Refusal,
+    refusal: AbruptCompletion,
 ) -> Result<Option<u32>, NoMemory>
-    ensures answer { IfOk result (λ o. o ≡ starts (refusal_view refusal)) }
+    ensures answer { IfOk result (λ o. o ≡ starts (abrupt_view refusal)) }
     ensures state { OnOk result (state_in parts.new
-        ≡ refused_in originals.now.setup here (refusal_view refusal) parts.old) }
+        ≡ refused_in originals.now.setup here (abrupt_view refusal) parts.old) }
 {
     match refusal {
-        Refusal::Raises(exception, message) => {
+        AbruptCompletion::Raises(exception, message) => {
             raise_named(alloc, originals, parts, exception, message)?;
             Ok(None)
         }
-        Refusal::Throws(object) => {
+        AbruptCompletion::Throws(object) => {
             parts.thrown = Some(object);
             Ok(None)
         }
-        Refusal::Initializes(class) => Ok(Some(class)),
-        Refusal::Exits(status) => {
+        AbruptCompletion::Initializes(class) => Ok(Some(class)),
+        AbruptCompletion::Exits(status) => {
             parts.ending = Some(Ending::Exited(status));
             Ok(None)
         }
-        Refusal::Breaks => {
+        AbruptCompletion::Breaks => {
             break_at(alloc, originals, parts, here)?;
             Ok(None)
         }

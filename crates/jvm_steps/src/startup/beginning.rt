@@ -19,7 +19,7 @@ use crate::unwind::handlers::class_of;
 use crate::unwind::settling::settle;
 use jf_bytes::{NoMemory, Stack};
 use jvm_model::{Ending, Phase, Shared};
-use jvm_named::Refusal;
+use jvm_named::AbruptCompletion;
 use prepared_code::{Initialization, Originals, Parts, arguments_fit, main_class, make_arguments};
 use std::alloc::Global;
 
@@ -70,7 +70,7 @@ fn begin_class(
     parts: &mut Parts,
     initializing: &mut Stack<Initialization>,
     class: u32,
-    found: Result<u32, Refusal>,
+    found: Result<u32, AbruptCompletion>,
 ) -> Result<(), NoMemory>
     ensures state { OnOk result (state_of initializing.new parts.new
         ≡ begun_by originals.now.setup.world class (found_view found)
@@ -79,14 +79,14 @@ fn begin_class(
 {
     match found {
         Ok(_) => initialize(parts, initializing, class),
-        Err(Refusal::Raises(exception, message)) => {
+        Err(AbruptCompletion::Raises(exception, message)) => {
             raise_named(alloc, originals, parts, exception, message)
         }
         // These do not come.
-        Err(Refusal::Throws(_)) => initialize(parts, initializing, class),
-        Err(Refusal::Initializes(_)) => initialize(parts, initializing, class),
-        Err(Refusal::Exits(_)) => initialize(parts, initializing, class),
-        Err(Refusal::Breaks) => initialize(parts, initializing, class),
+        Err(AbruptCompletion::Throws(_)) => initialize(parts, initializing, class),
+        Err(AbruptCompletion::Initializes(_)) => initialize(parts, initializing, class),
+        Err(AbruptCompletion::Exits(_)) => initialize(parts, initializing, class),
+        Err(AbruptCompletion::Breaks) => initialize(parts, initializing, class),
     }
 }
 
