@@ -9,7 +9,7 @@ use Rattle.jvm_model.specs.Classes.Load.{is_among}
 use Rattle.jvm_model.specs.Classes.Lookup.{interfaces_of, is_subtype, superclass_of, superclasses_within}
 use Rattle.class_index.proofs.OrderLemmas.{equal}
 use Rattle.class_linker.specs.Passing.{IsChain}
-use Rattle.class_linker.specs.Rows.{AreRows, Rows, has_row}
+use Rattle.class_linker.specs.LoadedClasses.{AreLoadedClasses, LoadedClasses, holds_class}
 use Rattle.class_linker.proofs.LoadLemmas.{among-append}
 use Rattle.class_linker.proofs.OverridingLaws.{either, or_true}
 use Rattle.class_linker.proofs.Subtypes.{IsIn, above_direct, among_flat, direct_has, itself}
@@ -24,38 +24,38 @@ equals_itself n = grind (arith)
 among_second : (x : ℕ) (xs ys : List ℕ) → is_among x ys ≡ true → is_among x (xs ++ ys) ≡ true
 among_second x xs ys h = among-append x xs ys ∙ (ap (λ b. is_among x xs || b) h ∙ or_true (is_among x xs))
 
-module _ (p : Program) (rows : Rows) (are : AreRows p rows) where
+module _ (p : Program) (rows : LoadedClasses) (are : AreLoadedClasses p rows) where
   -- a superclass is a direct supertype
   direct : (c s : ℕ) → is_among s (superclass_of p c) ≡ true → is_among s (interfaces_of p c ++ superclass_of p c) ≡ true
   direct c s there = among_second s (interfaces_of p c) (superclass_of p c) there
 
   -- each superclass is a supertype
-  supers_above : (n c d : ℕ) → has_row rows c ≡ true → is_among d (superclasses_within p n c) ≡ true → is_subtype p c d ≡ true
+  supers_above : (n c d : ℕ) → holds_class rows c ≡ true → is_among d (superclasses_within p n c) ≡ true → is_subtype p c d ≡ true
   supers_above zero c d has h = absurd (false_true h)
   supers_above (suc n) c d has h =
       by (either (d == c) (is_among d (flat_map (superclasses_within p n) (superclass_of p c))) h) (supers_above n)
     where
       behind : IsIn (superclasses_within p n) (superclass_of p c) d
-          → ((s x : ℕ) → has_row rows s ≡ true → is_among x (superclasses_within p n s) ≡ true → is_subtype p s x ≡ true) → is_subtype p c d ≡ true
+          → ((s x : ℕ) → holds_class rows s ≡ true → is_among x (superclasses_within p n s) ≡ true → is_subtype p s x ≡ true) → is_subtype p c d ≡ true
       behind i rest =
           let there = direct c i.class i.there in
           above_direct p rows are c i.class d has there (rest i.class d (direct_has p rows are c i.class has there) i.within)
 
       by : ((d == c) ≡ true) ⊎ (is_among d (flat_map (superclasses_within p n) (superclass_of p c)) ≡ true)
-          → ((s x : ℕ) → has_row rows s ≡ true → is_among x (superclasses_within p n s) ≡ true → is_subtype p s x ≡ true) → is_subtype p c d ≡ true
+          → ((s x : ℕ) → holds_class rows s ≡ true → is_among x (superclasses_within p n s) ≡ true → is_subtype p s x ≡ true) → is_subtype p c d ≡ true
       by (inl same) rest = ap (is_subtype p c) (equal d c same) ∙ itself p rows are c has
       by (inr k) rest = behind (among_flat (superclasses_within p n) (superclass_of p c) d k) rest
 
   -- the direct superclass has a row
-  pub super_has : (c s : ℕ) → has_row rows c ≡ true → super_of p c ≡ Some s → has_row rows s ≡ true
+  pub super_has : (c s : ℕ) → holds_class rows c ≡ true → super_of p c ≡ Some s → holds_class rows s ≡ true
   super_has c s has is =
       direct_has p rows are c s has (direct c s (ap (λ o. is_among s (option_to_list o)) is ∙ ap (λ b. b || false) (equals_itself s)))
 
-  pub chain : (n c : ℕ) → has_row rows c ≡ true → IsChain p (superclasses_within p n c)
+  pub chain : (n c : ℕ) → holds_class rows c ≡ true → IsChain p (superclasses_within p n c)
   chain zero c has = tt
   chain (suc n) c has = (λ d there. supers_above (suc n) c d has (ap (λ b. (d == c) || b) there ∙ or_true (d == c)), by (super_of p c) refl (chain n))
     where
-      by : (o : Option ℕ) → super_of p c ≡ o → ((s : ℕ) → has_row rows s ≡ true → IsChain p (superclasses_within p n s))
+      by : (o : Option ℕ) → super_of p c ≡ o → ((s : ℕ) → holds_class rows s ≡ true → IsChain p (superclasses_within p n s))
           → IsChain p (flat_map (superclasses_within p n) (option_to_list o))
       by None is rest = tt
       by (Some s) is rest =

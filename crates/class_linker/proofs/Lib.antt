@@ -1,4 +1,4 @@
-mod RowLemmas
+mod LoadedClassLemmas
 mod LoadLemmas
 pub mod LoadWalks
 mod LoadLoop

@@ -9,7 +9,7 @@ use Rattle.const_pool.specs.References.{named_class}
 use Rattle.jvm_model.specs.Classes.Load as load
 use Rattle.jvm_model.specs.declared.program.Program.{Program}
 use Rattle.class_linker.specs.declared.loading.State.{State}
-use Rattle.class_linker.specs.Rows.{AreKept, AreRows, Rows, has_row}
+use Rattle.class_linker.specs.LoadedClasses.{AreKept, AreLoadedClasses, LoadedClasses, holds_class}
 use Rattle.class_linker.specs.States.{IsLater, IsState, needs_at, needs_in}
 use Rattle.class_index.proofs.OrderLemmas.{equal}
 
@@ -56,14 +56,14 @@ among-front class xs ys is = among-append class xs ys ∙ ap (λ b. b || load.is
 
 -- ---- a state after a row was made
 
-module _ (p : Program) (s : State) (rows : Rows) (is : IsState p s) (are : AreRows p rows) (kept : AreKept s.rows rows) where
+module _ (p : Program) (s : State) (rows : LoadedClasses) (is : IsState p s) (are : AreLoadedClasses p rows) (kept : AreKept s.rows rows) where
   pub state_same : (loaded : List ℕ) → loaded ≡ s.loaded → IsState p (record { rows = rows; loaded = loaded })
   state_same loaded same = record {
     rows = are;
     loaded = λ c among. kept c (is.loaded c (ap (load.is_among c) (sym same) ∙ among));
   }
 
-  pub state_more : (class : ℕ) (loaded : List ℕ) → loaded ≡ s.loaded ++ class ∷ [] → has_row rows class ≡ true
+  pub state_more : (class : ℕ) (loaded : List ℕ) → loaded ≡ s.loaded ++ class ∷ [] → holds_class rows class ≡ true
       → IsState p (record { rows = rows; loaded = loaded })
   state_more class loaded more has = record {
     rows = are;
@@ -71,16 +71,16 @@ module _ (p : Program) (s : State) (rows : Rows) (is : IsState p s) (are : AreRo
   }
     where
       by : (c : ℕ) (before last : Bool) → load.is_among c s.loaded ≡ before → (c == class) ≡ last
-          → (load.is_among c s.loaded || ((c == class) || false)) ≡ true → has_row rows c ≡ true
+          → (load.is_among c s.loaded || ((c == class) || false)) ≡ true → holds_class rows c ≡ true
       by c true last was is_last among = kept c (is.loaded c was)
-      by c false true was is_last among = ap (has_row rows) (equal c class is_last) ∙ has
+      by c false true was is_last among = ap (holds_class rows) (equal c class is_last) ∙ has
       by c false false was is_last among =
           absurd (false_true (sym (ap₂ (λ a b. a || (b || false)) was is_last) ∙ among))
 
-pub later_same : (s : State) (rows : Rows) (loaded : List ℕ) → AreKept s.rows rows → loaded ≡ s.loaded → IsLater s (record { rows = rows; loaded = loaded })
+pub later_same : (s : State) (rows : LoadedClasses) (loaded : List ℕ) → AreKept s.rows rows → loaded ≡ s.loaded → IsLater s (record { rows = rows; loaded = loaded })
 later_same s rows loaded kept same = record { rows = kept; loaded = ap (take (length s.loaded)) same ∙ take-length s.loaded }
 
-pub later_more : (s : State) (rows : Rows) (loaded more : List ℕ) → AreKept s.rows rows → loaded ≡ s.loaded ++ more
+pub later_more : (s : State) (rows : LoadedClasses) (loaded more : List ℕ) → AreKept s.rows rows → loaded ≡ s.loaded ++ more
     → IsLater s (record { rows = rows; loaded = loaded })
 later_more s rows loaded more kept same =
     record { rows = kept; loaded = ap (take (length s.loaded)) same ∙ take-append_seam s.loaded more }

@@ -10,7 +10,7 @@ use Rattle.jvm_model.specs.Classes.Load.{is_among}
 use Rattle.jvm_model.specs.Classes.Lookup.{MemberPlace, is_subtype, method_at, place_in, supertypes}
 use Rattle.jvm_model.specs.Classes.Selection.{Overrides, directly, through, is_open, is_private, is_reached, overrides, package_at, passed_at, passes_on, same_package, signature_of, stands_below}
 use Rattle.class_index.specs.Members.{is_declared_as}
-use Rattle.class_linker.specs.Rows.{AreRows, Rows, has_row}
+use Rattle.class_linker.specs.LoadedClasses.{AreLoadedClasses, LoadedClasses, holds_class}
 use Rattle.class_index.proofs.OrderLemmas.{equal}
 use Rattle.class_index.proofs.MemberTexts.{both}
 use Rattle.class_linker.proofs.OverridingLaws.{IsBelow, below, declared, either, joined, not_true, or_true, same_signature}
@@ -169,8 +169,8 @@ module _ (p : Program) where
           through m1 m2 i.m3 (stands m1 m2 b) (directly m1 i.m3 (stands m1 i.m3 i.lower) (reached m1.class i.m3 i.own (inl i.free)))
           (directly i.m3 m2 (stands i.m3 m2 i.upper) i.reaches)
 
-  module _ (rows : Rows) (are : AreRows p rows) where
-    below_both : (m1 m3 m2 : MemberPlace) → has_row rows m1.class ≡ true → IsBelow p m1 m3 → IsBelow p m3 m2 → IsBelow p m1 m2
+  module _ (rows : LoadedClasses) (are : AreLoadedClasses p rows) where
+    below_both : (m1 m3 m2 : MemberPlace) → holds_class rows m1.class ≡ true → IsBelow p m1 m3 → IsBelow p m3 m2 → IsBelow p m1 m2
     below_both m1 m3 m2 has lower upper = record {
       other = apart p rows are m1.class m3.class m2.class has lower.sub lower.other upper.sub upper.other;
       sub = goes_on p rows are m1.class m3.class m2.class has lower.sub upper.sub;
@@ -182,7 +182,7 @@ module _ (p : Program) where
         → is_reached p m3.class m2 ≡ true → IsPassed m1 m2
     by_third m1 m3 m2 lower upper own free reaches = record { m3 = m3; lower = lower; upper = upper; own = own; free = free; reaches = reaches }
 
-    near : (m1 m3 m2 : MemberPlace) → has_row rows m1.class ≡ true → IsBelow p m1 m3 → IsBelow p m3 m2 → (is_reached p m1.class m3 ≡ true) ⊎ IsPassed m1 m3
+    near : (m1 m3 m2 : MemberPlace) → holds_class rows m1.class ≡ true → IsBelow p m1 m3 → IsBelow p m3 m2 → (is_reached p m1.class m3 ≡ true) ⊎ IsPassed m1 m3
         → is_reached p m3.class m2 ≡ true → same_package p m3.class m2.class ≡ true → (is_reached p m1.class m2 ≡ true) ⊎ IsPassed m1 m2
     near m1 m3 m2 has lower upper (inl r) reaches same = by (why_reached m1.class m3 r)
       where
@@ -197,7 +197,7 @@ module _ (p : Program) where
             inr (by_third m1 i.m3 m2 i.lower (below_both i.m3 m3 m2 (above_has p rows are m1.class i.m3.class has i.lower.sub) i.upper upper) i.own i.free
             (reached i.m3.class m2 (not_private m3.class m2 reaches) (inr (one_package i.m3.class m3.class m2.class here same))))
 
-    far : (m1 m3 m2 : MemberPlace) → has_row rows m1.class ≡ true → IsBelow p m1 m3 → (is_reached p m1.class m3 ≡ true) ⊎ IsPassed m1 m3 → IsBelow p m3 m2
+    far : (m1 m3 m2 : MemberPlace) → holds_class rows m1.class ≡ true → IsBelow p m1 m3 → (is_reached p m1.class m3 ≡ true) ⊎ IsPassed m1 m3 → IsBelow p m3 m2
         → (is_reached p m3.class m2 ≡ true) ⊎ IsPassed m3 m2 → (is_reached p m1.class m2 ≡ true) ⊎ IsPassed m1 m2
     far m1 m3 m2 has lower first upper (inr i) = inr (by_third m1 i.m3 m2 (below_both m1 m3 i.m3 has lower i.lower) i.upper i.own i.free i.reaches)
     far m1 m3 m2 has lower first upper (inl r) = by (why_reached m3.class m2 r)
@@ -207,11 +207,11 @@ module _ (p : Program) where
         by (inr same) = near m1 m3 m2 has lower upper first r same
 
     -- what is in the relation passes the test
-    pub related : (m1 m2 : MemberPlace) → Overrides p m1 m2 → has_row rows m1.class ≡ true → overrides p m1 m2 ≡ true
+    pub related : (m1 m2 : MemberPlace) → Overrides p m1 m2 → holds_class rows m1.class ≡ true → overrides p m1 m2 ≡ true
     related m1 m2 (directly _ _ stands_so reaches) has = back m1 m2 (below p m1 m2 stands_so) (inl reaches)
     related m1 m2 (through _ _ m3 stands_so lower upper) has = by (how m1 m3 (related m1 m3 lower has)) (related m3 m2 upper)
       where
-        by : IsBelow p m1 m3 × ((is_reached p m1.class m3 ≡ true) ⊎ IsPassed m1 m3) → (has_row rows m3.class ≡ true → overrides p m3 m2 ≡ true) → overrides p m1 m2 ≡ true
+        by : IsBelow p m1 m3 × ((is_reached p m1.class m3 ≡ true) ⊎ IsPassed m1 m3) → (holds_class rows m3.class ≡ true → overrides p m3 m2 ≡ true) → overrides p m1 m2 ≡ true
         by (b, first) rest = with_upper (how m3 m2 (rest (above_has p rows are m1.class m3.class has b.sub)))
           where
             with_upper : IsBelow p m3 m2 × ((is_reached p m3.class m2 ≡ true) ⊎ IsPassed m3 m2) → overrides p m1 m2 ≡ true

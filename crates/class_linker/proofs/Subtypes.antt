@@ -5,7 +5,7 @@ use Rattle.std.proofs.lemmas.List.Concat.{flat_map-append}
 use Rattle.jvm_model.specs.declared.program.Program.{Program}
 use Rattle.jvm_model.specs.Classes.Load.{is_among}
 use Rattle.jvm_model.specs.Classes.Lookup.{interfaces_of, is_subtype, superclass_of, supertypes, supertypes_within}
-use Rattle.class_linker.specs.Rows.{AreRows, Rows, all_rows, has_row, supertypes_in}
+use Rattle.class_linker.specs.LoadedClasses.{AreLoadedClasses, LoadedClasses, holds_all, holds_class, supertypes_in}
 use Rattle.class_linker.proofs.LoadLemmas.{among-append, among-front}
 use Rattle.class_index.proofs.OrderLemmas.{equal}
 use Rattle.class_linker.proofs.Walked.{bound, searched_among, supertypes_rows, supertypes_walked}
@@ -67,7 +67,7 @@ flat_length f (e ∷ ds) d there = by (d == e) refl there (flat_length f ds d)
     by true same k rest = subst (λ c. length (f d) ≤ length (f c ++ flat_map f ds)) (equal d e same) (omega (arith, length-append (f d) (flat_map f ds)))
     by false other k rest = omega (arith, length-append (f e) (flat_map f ds), rest k)
 
-all_at : (rows : Rows) (xs : List ℕ) (d : ℕ) → all_rows rows xs ≡ true → is_among d xs ≡ true → has_row rows d ≡ true
+all_at : (rows : LoadedClasses) (xs : List ℕ) (d : ℕ) → holds_all rows xs ≡ true → is_among d xs ≡ true → holds_class rows d ≡ true
 all_at rows [] d all there = absurd (false_true there)
 all_at rows (x ∷ xs) d all there = by (d == x) refl there (λ k. all_at rows xs d (second all) k)
   where
@@ -75,20 +75,20 @@ all_at rows (x ∷ xs) d all there = by (d == x) refl there (λ k. all_at rows x
     first true b h = refl
     first false b h = absurd (false_true h)
 
-    second : (has_row rows x && all_rows rows xs) ≡ true → all_rows rows xs ≡ true
-    second h = behind (has_row rows x) h
+    second : (holds_class rows x && holds_all rows xs) ≡ true → holds_all rows xs ≡ true
+    second h = behind (holds_class rows x) h
       where
-        behind : (a : Bool) → (a && all_rows rows xs) ≡ true → all_rows rows xs ≡ true
+        behind : (a : Bool) → (a && holds_all rows xs) ≡ true → holds_all rows xs ≡ true
         behind true h = h
         behind false h = absurd (false_true h)
 
-    by : (b : Bool) → (d == x) ≡ b → (b || is_among d xs) ≡ true → (is_among d xs ≡ true → has_row rows d ≡ true) → has_row rows d ≡ true
-    by true same k rest = ap (has_row rows) (equal d x same) ∙ first (has_row rows x) (all_rows rows xs) all
+    by : (b : Bool) → (d == x) ≡ b → (b || is_among d xs) ≡ true → (is_among d xs ≡ true → holds_class rows d ≡ true) → holds_class rows d ≡ true
+    by true same k rest = ap (holds_class rows) (equal d x same) ∙ first (holds_class rows x) (holds_all rows xs) all
     by false other k rest = rest k
 
 -- ---- above a class that has a row
 
-module _ (p : Program) (rows : Rows) (are : AreRows p rows) where
+module _ (p : Program) (rows : LoadedClasses) (are : AreLoadedClasses p rows) where
   abbrev directs : ℕ → List ℕ
   directs c = interfaces_of p c ++ superclass_of p c
 
@@ -96,23 +96,23 @@ module _ (p : Program) (rows : Rows) (are : AreRows p rows) where
   together n c = ap (λ l. c ∷ l) (sym (flat_map-append (supertypes_within p n) (interfaces_of p c) (superclass_of p c)))
 
   -- one step more gives the same
-  stepped : (c : ℕ) → has_row rows c ≡ true → supertypes p c ≡ c ∷ flat_map (supertypes p) (interfaces_of p c ++ superclass_of p c)
+  stepped : (c : ℕ) → holds_class rows c ≡ true → supertypes p c ≡ c ∷ flat_map (supertypes p) (interfaces_of p c ++ superclass_of p c)
   stepped c has =
       are.ends c (length p.classes) has (bound p rows are)
       ∙ (sym (are.ends c (suc (length p.classes)) has (let most = bound p rows are in omega (arith, most)))
       ∙ together (length p.classes) c)
 
-  pub itself : (c : ℕ) → has_row rows c ≡ true → is_among c (supertypes p c) ≡ true
+  pub itself : (c : ℕ) → holds_class rows c ≡ true → is_among c (supertypes p c) ≡ true
   itself c has = ap (is_among c) (stepped c has)
       ∙ ap (λ b. b || is_among c (flat_map (supertypes p) (interfaces_of p c ++ superclass_of p c))) (equals_itself c)
 
-  pub above_has : (c x : ℕ) → has_row rows c ≡ true → is_subtype p c x ≡ true → has_row rows x ≡ true
+  pub above_has : (c x : ℕ) → holds_class rows c ≡ true → is_subtype p c x ≡ true → holds_class rows x ≡ true
   above_has c x has sub =
       all_at rows (supertypes_in rows c) x (supertypes_rows p rows are c has)
       (searched_among x (supertypes_in rows c) (supertypes p c) (supertypes_walked p rows are c has) ∙ sub)
 
   -- a direct supertype is above
-  rows_nonempty : (rs : Rows) (c : ℕ) → has_row rs c ≡ true → 0 < length rs
+  rows_nonempty : (rs : LoadedClasses) (c : ℕ) → holds_class rs c ≡ true → 0 < length rs
   rows_nonempty [] c has = absurd (false_true has)
   rows_nonempty (r ∷ rs) c has = omega arith
 
@@ -126,20 +126,20 @@ module _ (p : Program) (rows : Rows) (are : AreRows p rows) where
     pub fewer : length (supertypes p x) < length (supertypes p c)
     pub more : (y : ℕ) → is_among y (supertypes p x) ≡ true → is_among y (supertypes p c) ≡ true
 
-  nonempty : (c : ℕ) → has_row rows c ≡ true → 0 < length p.classes
+  nonempty : (c : ℕ) → holds_class rows c ≡ true → 0 < length p.classes
   nonempty c has = subst (λ n. 0 < n) are.places (rows_nonempty rows c has)
 
-  pub above_direct : (c d x : ℕ) → has_row rows c ≡ true → is_among d (interfaces_of p c ++ superclass_of p c) ≡ true
+  pub above_direct : (c d x : ℕ) → holds_class rows c ≡ true → is_among d (interfaces_of p c ++ superclass_of p c) ≡ true
       → is_among x (supertypes p d) ≡ true → is_among x (supertypes p c) ≡ true
   above_direct c d x has there h =
       ap (is_among x) (stepped c has)
       ∙ (ap (λ b. (x == c) || b) (flat_among (supertypes p) (interfaces_of p c ++ superclass_of p c) d x there h) ∙ or_true (x == c))
 
-  pub direct_has : (c d : ℕ) → has_row rows c ≡ true → is_among d (interfaces_of p c ++ superclass_of p c) ≡ true → has_row rows d ≡ true
+  pub direct_has : (c d : ℕ) → holds_class rows c ≡ true → is_among d (interfaces_of p c ++ superclass_of p c) ≡ true → holds_class rows d ≡ true
   direct_has c d has there =
       above_has c d has (above_direct c d d has there (among_own (length p.classes) d (nonempty c has)))
 
-  below_direct : (c d : ℕ) → has_row rows c ≡ true → is_among d (interfaces_of p c ++ superclass_of p c) ≡ true → IsBelow c d
+  below_direct : (c d : ℕ) → holds_class rows c ≡ true → is_among d (interfaces_of p c ++ superclass_of p c) ≡ true → IsBelow c d
   below_direct c d has there = record {
     fewer = fewer;
     more = λ y h. above_direct c d y has there h;
@@ -155,28 +155,28 @@ module _ (p : Program) (rows : Rows) (are : AreRows p rows) where
     more = λ y h. below.more y (above.more y h);
   }
 
-  climb : (n c x : ℕ) → has_row rows c ≡ true → is_among x (supertypes_within p n c) ≡ true → (x ≡ c) ⊎ IsBelow c x
+  climb : (n c x : ℕ) → holds_class rows c ≡ true → is_among x (supertypes_within p n c) ≡ true → (x ≡ c) ⊎ IsBelow c x
   climb zero c x has h = absurd (false_true h)
   climb (suc n) c x has h =
       by (either (x == c) (is_among x (flat_map (supertypes_within p n) (interfaces_of p c ++ superclass_of p c))) (ap (is_among x) (sym (together n c)) ∙ h))
       (climb n)
     where
       behind : IsIn (supertypes_within p n) (interfaces_of p c ++ superclass_of p c) x
-          → ((d y : ℕ) → has_row rows d ≡ true → is_among y (supertypes_within p n d) ≡ true → (y ≡ d) ⊎ IsBelow d y) → IsBelow c x
+          → ((d y : ℕ) → holds_class rows d ≡ true → is_among y (supertypes_within p n d) ≡ true → (y ≡ d) ⊎ IsBelow d y) → IsBelow c x
       behind i rest =
           further c i.class x (below_direct c i.class has i.there) (rest i.class x (direct_has c i.class has i.there) i.within)
 
       by : ((x == c) ≡ true) ⊎ (is_among x (flat_map (supertypes_within p n) (interfaces_of p c ++ superclass_of p c)) ≡ true)
-          → ((d y : ℕ) → has_row rows d ≡ true → is_among y (supertypes_within p n d) ≡ true → (y ≡ d) ⊎ IsBelow d y) → (x ≡ c) ⊎ IsBelow c x
+          → ((d y : ℕ) → holds_class rows d ≡ true → is_among y (supertypes_within p n d) ≡ true → (y ≡ d) ⊎ IsBelow d y) → (x ≡ c) ⊎ IsBelow c x
       by (inl same) rest = inl (equal x c same)
       by (inr k) rest = inr (behind (among_flat (supertypes_within p n) (interfaces_of p c ++ superclass_of p c) x k) rest)
 
-  climbs : (c x : ℕ) → has_row rows c ≡ true → is_subtype p c x ≡ true → (x ≡ c) ⊎ IsBelow c x
+  climbs : (c x : ℕ) → holds_class rows c ≡ true → is_subtype p c x ≡ true → (x ≡ c) ⊎ IsBelow c x
   climbs c x has sub = climb (length p.classes) c x has sub
 
   -- ---- what follows
 
-  pub goes_on : (c x y : ℕ) → has_row rows c ≡ true → is_subtype p c x ≡ true → is_subtype p x y ≡ true → is_subtype p c y ≡ true
+  pub goes_on : (c x y : ℕ) → holds_class rows c ≡ true → is_subtype p c x ≡ true → is_subtype p x y ≡ true → is_subtype p c y ≡ true
   goes_on c x y has sub then = by (climbs c x has sub)
     where
       by : (x ≡ c) ⊎ IsBelow c x → is_subtype p c y ≡ true
@@ -184,14 +184,14 @@ module _ (p : Program) (rows : Rows) (are : AreRows p rows) where
       by (inr below) = below.more y then
 
   -- proper supertypes have fewer above them
-  pub fewer_above : (c x : ℕ) → has_row rows c ≡ true → is_subtype p c x ≡ true → (c == x) ≡ false → length (supertypes p x) < length (supertypes p c)
+  pub fewer_above : (c x : ℕ) → holds_class rows c ≡ true → is_subtype p c x ≡ true → (c == x) ≡ false → length (supertypes p x) < length (supertypes p c)
   fewer_above c x has sub other = by (climbs c x has sub)
     where
       by : (x ≡ c) ⊎ IsBelow c x → length (supertypes p x) < length (supertypes p c)
       by (inl same) = absurd (false_true (sym other ∙ (ap (λ k. c == k) same ∙ equals_itself c)))
       by (inr below) = below.fewer
 
-  pub apart : (c x y : ℕ) → has_row rows c ≡ true → is_subtype p c x ≡ true → (c == x) ≡ false → is_subtype p x y ≡ true → (x == y) ≡ false
+  pub apart : (c x y : ℕ) → holds_class rows c ≡ true → is_subtype p c x ≡ true → (c == x) ≡ false → is_subtype p x y ≡ true → (x == y) ≡ false
       → (c == y) ≡ false
   apart c x y has sub other then another = by (c == y) refl
     where

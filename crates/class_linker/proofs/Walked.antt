@@ -10,17 +10,17 @@ use Rattle.jvm_model.specs.Classes.Load.{is_among}
 use Rattle.jvm_model.specs.Classes.Lookup.{first_in, is_subtype, place_in, superclasses, superinterfaces, supertypes}
 use Rattle.class_index.specs.Orders.{IsSearchedAs}
 use Rattle.class_index.proofs.OrderLemmas.{first_in_both}
-use Rattle.class_linker.specs.Rows.{AreKept, AreRows, Rows, all_rows, has_row, layout_in, row_count, superclasses_in, superinterfaces_in, supertypes_in}
-use Rattle.class_linker.proofs.RowLemmas.{layout_is, superclasses_are, superclasses_have, superinterfaces_are, supertypes_are, supertypes_have}
+use Rattle.class_linker.specs.LoadedClasses.{AreKept, AreLoadedClasses, LoadedClasses, holds_all, holds_class, layout_in, held_count, superclasses_in, superinterfaces_in, supertypes_in}
+use Rattle.class_linker.proofs.LoadedClassLemmas.{layout_is, superclasses_are, superclasses_have, superinterfaces_are, supertypes_are, supertypes_have}
 
-module _ (p : Program) (rows : Rows) (are : AreRows p rows) where
-  pub bound : row_count rows ≤ length p.classes
-  bound = subst (λ n. row_count rows ≤ n) are.places (count_by-le-length is_some rows)
+module _ (p : Program) (rows : LoadedClasses) (are : AreLoadedClasses p rows) where
+  pub bound : held_count rows ≤ length p.classes
+  bound = subst (λ n. held_count rows ≤ n) are.places (count_by-le-length is_some rows)
 
   nothing_lost : AreKept rows rows
   nothing_lost class has = has
 
-  module _ (class : ℕ) (has : has_row rows class ≡ true) where
+  module _ (class : ℕ) (has : holds_class rows class ≡ true) where
     pub superclasses_walked : superclasses_in rows class ≡ superclasses p class
     superclasses_walked = superclasses_are p rows are (length p.classes) bound class has
 
@@ -33,10 +33,10 @@ module _ (p : Program) (rows : Rows) (are : AreRows p rows) where
     pub supertypes_walked : IsSearchedAs (supertypes_in rows class) (supertypes p class)
     supertypes_walked = supertypes_are p rows are (length p.classes) bound class has
 
-    pub superclasses_rows : all_rows rows (superclasses_in rows class) ≡ true
+    pub superclasses_rows : holds_all rows (superclasses_in rows class) ≡ true
     superclasses_rows = superclasses_have p rows are rows nothing_lost class has
 
-    pub supertypes_rows : all_rows rows (supertypes_in rows class) ≡ true
+    pub supertypes_rows : holds_all rows (supertypes_in rows class) ≡ true
     supertypes_rows = supertypes_have p rows are rows nothing_lost class has
 
 -- ---- a class among those that are searched
@@ -57,7 +57,7 @@ searched_any test xs ys same = any_is test xs ∙ (ap is_some (same (λ k. if te
 pub searched_among : (c : ℕ) (xs ys : List ℕ) → IsSearchedAs xs ys → is_among c xs ≡ is_among c ys
 searched_among c xs ys same = searched_any (λ other. c == other) xs ys same
 
-pub subtype_walked : (p : Program) (rows : Rows) → AreRows p rows → (lower upper : ℕ) → has_row rows lower ≡ true
+pub subtype_walked : (p : Program) (rows : LoadedClasses) → AreLoadedClasses p rows → (lower upper : ℕ) → holds_class rows lower ≡ true
     → is_among upper (supertypes_in rows lower) ≡ is_subtype p lower upper
 subtype_walked p rows are lower upper has =
     searched_among upper (supertypes_in rows lower) (supertypes p lower) (supertypes_walked p rows are lower has)

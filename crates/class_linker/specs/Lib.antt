@@ -1,4 +1,4 @@
-pub mod Rows
+pub mod LoadedClasses
 pub mod States
 pub mod Linkers
 pub mod Places

@@ -15,7 +15,7 @@ use Rattle.class_linker.specs.declared.loading.Need.{Need}
 use Rattle.class_linker.specs.declared.loading.Begun.{Begun}
 use Rattle.class_linker.specs.declared.loading.Begun.TheVariants as begun
 use Rattle.class_linker.specs.declared.loading.State.{State}
-use Rattle.class_linker.specs.Rows.{AreKept, AreRows, Rows, has_row}
+use Rattle.class_linker.specs.LoadedClasses.{AreKept, AreLoadedClasses, LoadedClasses, holds_class}
 
 -- ---- what the code has, as the definitions have it
 
@@ -39,13 +39,13 @@ needs_in c = needs_at c false c.super_class ++ flat_map (needs_at c true) c.inte
 
 -- ---- the state
 
-abbrev pub HaveRows : Rows → List ℕ → Type 0
-HaveRows rows loaded = (class : ℕ) → load.is_among class loaded ≡ true → has_row rows class ≡ true
+abbrev pub HaveLoadedClasses : LoadedClasses → List ℕ → Type 0
+HaveLoadedClasses rows loaded = (class : ℕ) → load.is_among class loaded ≡ true → holds_class rows class ≡ true
 
 -- each loaded class has a row
 pub record IsState (p : Program) (s : State) : Type 0 where
-  pub rows : AreRows p s.rows
-  pub loaded : HaveRows s.rows s.loaded
+  pub rows : AreLoadedClasses p s.rows
+  pub loaded : HaveLoadedClasses s.rows s.loaded
 
 -- rows are kept, and what is loaded more stands behind
 pub record IsLater (before after : State) : Type 0 where

@@ -7,9 +7,9 @@ ghost use Rattle.jvm_model.specs.Classes.Kinds.{base_of_element, is_above_arrays
 ghost use Rattle.jvm_model.specs.Classes.Kinds.{is_subbase, is_subkind};
 ghost use Rattle.class_linker.specs.Linkers.{parts_of};
 ghost use Rattle.class_index.specs.Meanings.{element_view};
-ghost use Rattle.class_linker.specs.Rows.{AreRows, has_row};
+ghost use Rattle.class_linker.specs.LoadedClasses.{AreLoadedClasses, holds_class};
 
-use crate::rows::Row;
+use crate::loaded_classes::LoadedClass;
 use crate::walks::is_subtype;
 use class_index::{Element, Index, meaning_of};
 
@@ -97,10 +97,10 @@ fn is_above_arrays(base: u32) -> bool
 }
 
 /// Whether elements of one kind are of another.
-fn is_subbase(index: &Index, rows: &[Option<Row>], lower: u32, upper: u32) -> bool
-    requires rows { AreRows index.now rows.now }
+fn is_subbase(index: &Index, rows: &[Option<LoadedClass>], lower: u32, upper: u32) -> bool
+    requires rows { AreLoadedClasses index.now rows.now }
     requires has { (class : ℕ) → class_of_base index.now lower ≡ Some class
-        → has_row rows.now class ≡ true }
+        → holds_class rows.now class ≡ true }
     requires lower { lower < 16777216 }
     requires upper { upper < 16777216 }
     ensures { result ≡ is_subbase index.now lower upper }
@@ -118,10 +118,10 @@ fn is_subbase(index: &Index, rows: &[Option<Row>], lower: u32, upper: u32) -> bo
 }
 
 /// Whether what has one kind also has another.
-pub fn is_subkind(index: &Index, rows: &[Option<Row>], lower: u32, upper: u32) -> bool
-    requires rows { AreRows index.now rows.now }
+pub fn is_subkind(index: &Index, rows: &[Option<LoadedClass>], lower: u32, upper: u32) -> bool
+    requires rows { AreLoadedClasses index.now rows.now }
     requires has { (class : ℕ) → class_of_base index.now (parts_of lower).base ≡ Some class
-        → has_row rows.now class ≡ true }
+        → holds_class rows.now class ≡ true }
     ensures { result ≡ is_subkind index.now (parts_of lower) (parts_of upper) }
 {
     let deep = lower / DIMENSION;

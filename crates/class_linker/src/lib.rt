@@ -5,11 +5,11 @@
 mod answers;
 mod kinds;
 mod linker;
+mod loaded_classes;
 mod loading;
 mod overriding;
 mod place;
 mod resolving;
-mod rows;
 mod selecting;
 mod super_calls;
 mod telling;

@@ -17,11 +17,11 @@ ghost use Rattle.jvm_model.specs.Classes.SuperCalls.{invoked_special};
 
 use crate::answers::{Loaded, Resolved};
 use crate::kinds::is_subkind;
+use crate::loaded_classes::LoadedClass;
 use crate::loading::State;
 use crate::overriding::overrides;
 use crate::place::Place;
 use crate::resolving::{resolved_field, resolved_method};
-use crate::rows::Row;
 use crate::selecting::selected;
 use crate::super_calls::invoked_special;
 use crate::telling::answer;
@@ -54,7 +54,7 @@ impl Model for Linker {
 }
 
 /// A place for the row of each of so many classes.
-fn no_rows(alloc: Global, count: usize) -> Result<Seq<Option<Row>>, NoMemory>
+fn no_loaded_classes(alloc: Global, count: usize) -> Result<Seq<Option<LoadedClass>>, NoMemory>
     ensures { IfOk result (λ rows. rows ≡ replicate count None) }
 {
     let mut rows = Seq::with_capacity(alloc, count)?;
@@ -70,7 +70,7 @@ impl Linker {
         requires { IsLinkable program }
         ensures { IfOk result (λ l. l ≡ linker_of program) }
     {
-        let rows = no_rows(alloc, program.classes.len())?;
+        let rows = no_loaded_classes(alloc, program.classes.len())?;
         let index = Index::new(alloc, program)?;
         Ok(Linker {
             alloc,

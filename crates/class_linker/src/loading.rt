@@ -5,13 +5,13 @@ ghost use Rattle.std.specs.Prelude.{IfOk, None, OnOk, take};
 ghost use Rattle.jvm_model.specs.Classes.Load.{Loading, NoClass, is_among, is_met, load_named, load_of};
 ghost use Rattle.jvm_model.specs.Classes.Load.{needs_of};
 ghost use Rattle.jvm_model.specs.Classes.Lookup.{interfaces_of, superclass_of};
-ghost use Rattle.class_linker.specs.Rows.{AreKept, AreRows, all_rows, has_row, row_made};
+ghost use Rattle.class_linker.specs.LoadedClasses.{AreKept, AreLoadedClasses, holds_all, holds_class, loaded_class_made};
 ghost use Rattle.class_linker.specs.States.{IfFresh, IsLater, IsState, loading_view};
 ghost use Rattle.class_linker.specs.States.{HasNeeds, as_standing, class_loading, fault_view};
 ghost use Rattle.class_linker.specs.States.{named_loading, need_view, path_behind};
 ghost use Rattle.class_linker.specs.States.{needs_at, needs_in, standing_loading};
 
-use crate::rows::{Row, has_row, row_made};
+use crate::loaded_classes::{LoadedClass, holds_class, loaded_class_made};
 use class_index::{Element, Index, Order, is_array_name, meaning_of};
 use const_pool::ClassFile;
 use jf_bytes::{NoMemory, Seq, Text16};
@@ -57,7 +57,7 @@ pub enum Begun<'a> {
 /// The rows of the classes, and which are loaded, in order. A row may stay when its class could not be loaded after all.
 #[derive(Drop)]
 pub struct State {
-    pub rows: Seq<Option<Row>>,
+    pub rows: Seq<Option<LoadedClass>>,
     pub loaded: Order,
 }
 
@@ -121,17 +121,22 @@ fn needs_of(alloc: Global, index: &Index, class: u32) -> Result<Seq<Need<'_>>, N
 // ---- a class that is loaded
 
 /// Puts the row of a class in its place.
-#[tactic(auto, using(crate::proofs::RowLemmas::put_rows, crate::proofs::RowLemmas::put_kept, crate::proofs::RowLemmas::put_there))]
-fn put_row(index: &Index, rows: &mut Seq<Option<Row>>, class: u32, row: Row)
-    requires rows { AreRows index.now rows.old }
+#[tactic(auto, using(crate::proofs::LoadedClassLemmas::put_loaded_classes, crate::proofs::LoadedClassLemmas::put_kept, crate::proofs::LoadedClassLemmas::put_there))]
+fn put_loaded_class(
+    index: &Index,
+    rows: &mut Seq<Option<LoadedClass>>,
+    class: u32,
+    row: LoadedClass,
+)
+    requires rows { AreLoadedClasses index.now rows.old }
     requires within { class < length rows.old }
-    requires none { has_row rows.old class ≡ false }
-    requires interfaces { all_rows rows.old (interfaces_of index.now class) ≡ true }
-    requires above { all_rows rows.old (superclass_of index.now class) ≡ true }
-    requires made { row ≡ row_made index.now rows.old class }
-    ensures rows { AreRows index.now rows.new }
+    requires none { holds_class rows.old class ≡ false }
+    requires interfaces { holds_all rows.old (interfaces_of index.now class) ≡ true }
+    requires above { holds_all rows.old (superclass_of index.now class) ≡ true }
+    requires made { row ≡ loaded_class_made index.now rows.old class }
+    ensures rows { AreLoadedClasses index.now rows.new }
     ensures kept { AreKept rows.old rows.new }
-    ensures there { has_row rows.new class ≡ true }
+    ensures there { holds_class rows.new class ≡ true }
 {
     rows.set(class as usize, Some(row));
 }
@@ -140,20 +145,20 @@ fn put_row(index: &Index, rows: &mut Seq<Option<Row>>, class: u32, row: Row)
 fn prepare(
     alloc: Global,
     index: &Index,
-    rows: &mut Seq<Option<Row>>,
+    rows: &mut Seq<Option<LoadedClass>>,
     class: u32,
 ) -> Result<(), NoMemory>
-    requires rows { AreRows index.now rows.old }
+    requires rows { AreLoadedClasses index.now rows.old }
     requires within { class < length rows.old }
-    requires interfaces { all_rows rows.old (interfaces_of index.now class) ≡ true }
-    requires above { all_rows rows.old (superclass_of index.now class) ≡ true }
-    ensures rows { AreRows index.now rows.new }
+    requires interfaces { holds_all rows.old (interfaces_of index.now class) ≡ true }
+    requires above { holds_all rows.old (superclass_of index.now class) ≡ true }
+    ensures rows { AreLoadedClasses index.now rows.new }
     ensures kept { AreKept rows.old rows.new }
-    ensures there { OnOk result (has_row rows.new class ≡ true) }
+    ensures there { OnOk result (holds_class rows.new class ≡ true) }
 {
-    if !has_row(rows.as_slice(), class) {
-        let row = row_made(alloc, index, rows.as_slice(), class)?;
-        put_row(index, rows, class, row);
+    if !holds_class(rows.as_slice(), class) {
+        let row = loaded_class_made(alloc, index, rows.as_slice(), class)?;
+        put_loaded_class(index, rows, class, row);
     }
     Ok(())
 }
@@ -163,8 +168,8 @@ fn finish(alloc: Global, index: &Index, state: &mut State, class: u32) -> Result
     requires state { IsState index.now state.old }
     requires within { class < length state.old.rows }
     requires fresh { is_among class state.old.loaded ≡ false }
-    requires interfaces { all_rows state.old.rows (interfaces_of index.now class) ≡ true }
-    requires above { all_rows state.old.rows (superclass_of index.now class) ≡ true }
+    requires interfaces { holds_all state.old.rows (interfaces_of index.now class) ≡ true }
+    requires above { holds_all state.old.rows (superclass_of index.now class) ≡ true }
     ensures state { IsState index.now state.new }
     ensures later { IsLater state.old state.new }
     ensures loaded { OnOk result (state.new.loaded ≡ state.old.loaded ++ class ∷ []) }
@@ -278,8 +283,8 @@ fn close(
     requires state { IsState index.now state.old }
     requires within { class < length state.old.rows }
     requires fresh { is_among class state.old.loaded ≡ false }
-    requires interfaces { all_rows state.old.rows (interfaces_of index.now class) ≡ true }
-    requires above { all_rows state.old.rows (superclass_of index.now class) ≡ true }
+    requires interfaces { holds_all state.old.rows (interfaces_of index.now class) ≡ true }
+    requires above { holds_all state.old.rows (superclass_of index.now class) ≡ true }
     ensures state { IsState index.now state.new }
     ensures later { IsLater state.old state.new }
     ensures loaded { OnOk result (state.new.loaded ≡ state.old.loaded ++ class ∷ []) }

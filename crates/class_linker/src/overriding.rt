@@ -10,10 +10,10 @@ ghost use Rattle.jvm_model.specs.Classes.Selection.{is_reached, is_static, overr
 ghost use Rattle.jvm_model.specs.Classes.Selection.{passes_on, same_package, signature_of, stands_below};
 ghost use Rattle.class_index.specs.Members.{is_declared_as, wanted_view};
 ghost use Rattle.class_linker.specs.Places.{at_place};
-ghost use Rattle.class_linker.specs.Rows.{AreRows, all_rows, has_row};
+ghost use Rattle.class_linker.specs.LoadedClasses.{AreLoadedClasses, holds_all, holds_class};
 
+use crate::loaded_classes::LoadedClass;
 use crate::place::Place;
-use crate::rows::Row;
 use crate::walks::{is_subtype, supertypes_of};
 use class_index::{
     ABSTRACT, Index, PRIVATE, PROTECTED, PUBLIC, STATIC, Wanted, has_flag, in_same_package,
@@ -112,9 +112,9 @@ fn is_declared_as(index: &Index, m1: Place, m2: Place) -> bool
 }
 
 /// Whether the class of the first method is a proper subtype of the second one's, with the same name and descriptor.
-pub fn stands_below(index: &Index, rows: &[Option<Row>], m1: Place, m2: Place) -> bool
-    requires rows { AreRows index.now rows.now }
-    requires has { has_row rows.now m1.class ≡ true }
+pub fn stands_below(index: &Index, rows: &[Option<LoadedClass>], m1: Place, m2: Place) -> bool
+    requires rows { AreLoadedClasses index.now rows.now }
+    requires has { holds_class rows.now m1.class ≡ true }
     ensures { result ≡ stands_below index.now (at_place m1) (at_place m2) }
 {
     m1.class != m2.class
@@ -130,10 +130,10 @@ pub fn is_reached(index: &Index, class: u32, m: Place) -> bool
 }
 
 /// Whether the third method, between the two, makes the first one override the second.
-fn passes_on(index: &Index, rows: &[Option<Row>], m1: Place, m2: Place, m3: Place) -> bool
-    requires rows { AreRows index.now rows.now }
-    requires first { has_row rows.now m1.class ≡ true }
-    requires third { has_row rows.now m3.class ≡ true }
+fn passes_on(index: &Index, rows: &[Option<LoadedClass>], m1: Place, m2: Place, m3: Place) -> bool
+    requires rows { AreLoadedClasses index.now rows.now }
+    requires first { holds_class rows.now m1.class ≡ true }
+    requires third { holds_class rows.now m3.class ≡ true }
     ensures { result ≡ passes_on index.now (at_place m1) (at_place m2) (at_place m3) }
 {
     stands_below(index, rows, m1, m3)
@@ -144,10 +144,10 @@ fn passes_on(index: &Index, rows: &[Option<Row>], m1: Place, m2: Place, m3: Plac
 }
 
 /// Whether such a method is declared in the class.
-fn passed_at(index: &Index, rows: &[Option<Row>], m1: Place, m2: Place, class: u32) -> bool
-    requires rows { AreRows index.now rows.now }
-    requires first { has_row rows.now m1.class ≡ true }
-    requires has { has_row rows.now class ≡ true }
+fn passed_at(index: &Index, rows: &[Option<LoadedClass>], m1: Place, m2: Place, class: u32) -> bool
+    requires rows { AreLoadedClasses index.now rows.now }
+    requires first { holds_class rows.now m1.class ≡ true }
+    requires has { holds_class rows.now class ≡ true }
     ensures { result ≡ passed_at index.now (at_place m1) (at_place m2) class }
 {
     match signature_of(index, m2) {
@@ -160,10 +160,16 @@ fn passed_at(index: &Index, rows: &[Option<Row>], m1: Place, m2: Place, class: u
 }
 
 /// Whether such a method is declared in one of the classes.
-fn passed_among(index: &Index, rows: &[Option<Row>], m1: Place, m2: Place, classes: &[u32]) -> bool
-    requires rows { AreRows index.now rows.now }
-    requires first { has_row rows.now m1.class ≡ true }
-    requires have { all_rows rows.now classes.now ≡ true }
+fn passed_among(
+    index: &Index,
+    rows: &[Option<LoadedClass>],
+    m1: Place,
+    m2: Place,
+    classes: &[u32],
+) -> bool
+    requires rows { AreLoadedClasses index.now rows.now }
+    requires first { holds_class rows.now m1.class ≡ true }
+    requires have { holds_all rows.now classes.now ≡ true }
     ensures { result ≡ list_any (passed_at index.now (at_place m1) (at_place m2)) classes.now }
 {
     for class in classes {
@@ -175,9 +181,9 @@ fn passed_among(index: &Index, rows: &[Option<Row>], m1: Place, m2: Place, class
 }
 
 /// Whether such a method is declared above the first one.
-pub fn is_passed(index: &Index, rows: &[Option<Row>], m1: Place, m2: Place) -> bool
-    requires rows { AreRows index.now rows.now }
-    requires first { has_row rows.now m1.class ≡ true }
+pub fn is_passed(index: &Index, rows: &[Option<LoadedClass>], m1: Place, m2: Place) -> bool
+    requires rows { AreLoadedClasses index.now rows.now }
+    requires first { holds_class rows.now m1.class ≡ true }
     ensures { result ≡ list_any (passed_at index.now (at_place m1) (at_place m2))
         (supertypes index.now m1.class) }
 {
@@ -185,9 +191,9 @@ pub fn is_passed(index: &Index, rows: &[Option<Row>], m1: Place, m2: Place) -> b
 }
 
 /// Whether the first method stands below the second, which its class reaches or another method passes on.
-fn passes_test(index: &Index, rows: &[Option<Row>], m1: Place, m2: Place) -> bool
-    requires rows { AreRows index.now rows.now }
-    requires first { has_row rows.now m1.class ≡ true }
+fn passes_test(index: &Index, rows: &[Option<LoadedClass>], m1: Place, m2: Place) -> bool
+    requires rows { AreLoadedClasses index.now rows.now }
+    requires first { holds_class rows.now m1.class ≡ true }
     ensures { result ≡ overrides index.now (at_place m1) (at_place m2) }
 {
     stands_below(index, rows, m1, m2)
@@ -195,9 +201,9 @@ fn passes_test(index: &Index, rows: &[Option<Row>], m1: Place, m2: Place) -> boo
 }
 
 /// Whether the first method overrides the second.
-pub fn overrides(index: &Index, rows: &[Option<Row>], m1: Place, m2: Place) -> bool
-    requires rows { AreRows index.now rows.now }
-    requires first { has_row rows.now m1.class ≡ true }
+pub fn overrides(index: &Index, rows: &[Option<LoadedClass>], m1: Place, m2: Place) -> bool
+    requires rows { AreLoadedClasses index.now rows.now }
+    requires first { holds_class rows.now m1.class ≡ true }
     ensures test { result ≡ overrides index.now (at_place m1) (at_place m2) }
     ensures relation { IsTrue result ↔ Overrides index.now (at_place m1) (at_place m2) }
 {

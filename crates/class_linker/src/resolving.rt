@@ -11,10 +11,10 @@ ghost use Rattle.class_index.specs.Members.{place_view};
 ghost use Rattle.class_linker.specs.Linkers.{class_order, error_number, inherited_order};
 ghost use Rattle.class_linker.specs.Linkers.{interface_order, method_in, resolved_of};
 ghost use Rattle.class_index.specs.Members.{wanted_view};
-ghost use Rattle.class_linker.specs.Rows.{AreRows, has_row};
+ghost use Rattle.class_linker.specs.LoadedClasses.{AreLoadedClasses, holds_class};
 
 use crate::answers::Resolved;
-use crate::rows::Row;
+use crate::loaded_classes::LoadedClass;
 use crate::walks::{superclasses_of, superinterfaces_of, supertypes_of};
 use class_index::{Index, Wanted, first_field, first_method, method_at};
 
@@ -54,12 +54,12 @@ pub fn incompatible_change() -> u16
 /// The field of a class, or the first one above it.
 fn sought_field(
     index: &Index,
-    rows: &[Option<Row>],
+    rows: &[Option<LoadedClass>],
     class: u32,
     wanted: &Wanted<'_>,
 ) -> Option<(u32, u16)>
-    requires rows { AreRows index.now rows.now }
-    requires has { has_row rows.now class ≡ true }
+    requires rows { AreLoadedClasses index.now rows.now }
+    requires has { holds_class rows.now class ≡ true }
     ensures { option_map place_view result
         ≡ first_in (field_at index.now (wanted_view wanted.now)) (supertypes index.now class) }
 {
@@ -69,12 +69,12 @@ fn sought_field(
 /// What a field reference of a class stands for.
 pub fn resolved_field(
     index: &Index,
-    rows: &[Option<Row>],
+    rows: &[Option<LoadedClass>],
     class: u32,
     wanted: &Wanted<'_>,
 ) -> Resolved
-    requires rows { AreRows index.now rows.now }
-    requires has { has_row rows.now class ≡ true }
+    requires rows { AreLoadedClasses index.now rows.now }
+    requires has { holds_class rows.now class ≡ true }
     ensures { result ≡ resolved_of (resolved_field index.now class (wanted_view wanted.now)) }
 {
     match sought_field(index, rows, class, wanted) {
@@ -99,12 +99,12 @@ fn object_method(index: &Index, wanted: &Wanted<'_>) -> Option<(u32, u16)>
 /// The method of a class or its superclasses.
 fn superclass_method(
     index: &Index,
-    rows: &[Option<Row>],
+    rows: &[Option<LoadedClass>],
     class: u32,
     wanted: &Wanted<'_>,
 ) -> Option<(u32, u16)>
-    requires rows { AreRows index.now rows.now }
-    requires has { has_row rows.now class ≡ true }
+    requires rows { AreLoadedClasses index.now rows.now }
+    requires has { holds_class rows.now class ≡ true }
     ensures { option_map place_view result
         ≡ method_in index.now (wanted_view wanted.now) (superclasses index.now class) }
 {
@@ -114,12 +114,12 @@ fn superclass_method(
 /// The method of a class's superinterfaces.
 fn superinterface_method(
     index: &Index,
-    rows: &[Option<Row>],
+    rows: &[Option<LoadedClass>],
     class: u32,
     wanted: &Wanted<'_>,
 ) -> Option<(u32, u16)>
-    requires rows { AreRows index.now rows.now }
-    requires has { has_row rows.now class ≡ true }
+    requires rows { AreLoadedClasses index.now rows.now }
+    requires has { holds_class rows.now class ≡ true }
     ensures { option_map place_view result
         ≡ method_in index.now (wanted_view wanted.now) (superinterfaces index.now class) }
 {
@@ -130,12 +130,12 @@ fn superinterface_method(
 #[tactic(auto, using(crate::proofs::Walked::first_of_both))]
 fn inherited_method(
     index: &Index,
-    rows: &[Option<Row>],
+    rows: &[Option<LoadedClass>],
     class: u32,
     wanted: &Wanted<'_>,
 ) -> Option<(u32, u16)>
-    requires rows { AreRows index.now rows.now }
-    requires has { has_row rows.now class ≡ true }
+    requires rows { AreLoadedClasses index.now rows.now }
+    requires has { holds_class rows.now class ≡ true }
     ensures { option_map place_view result
         ≡ method_in index.now (wanted_view wanted.now) (inherited_order index.now class) }
 {
@@ -148,12 +148,12 @@ fn inherited_method(
 /// The method of an interface, of its superinterfaces, or of java/lang/Object.
 fn sought_above_interface(
     index: &Index,
-    rows: &[Option<Row>],
+    rows: &[Option<LoadedClass>],
     class: u32,
     wanted: &Wanted<'_>,
 ) -> Option<(u32, u16)>
-    requires rows { AreRows index.now rows.now }
-    requires has { has_row rows.now class ≡ true }
+    requires rows { AreLoadedClasses index.now rows.now }
+    requires has { holds_class rows.now class ≡ true }
     ensures { option_map place_view result
         ≡ method_in index.now (wanted_view wanted.now) (interface_order index.now class) }
 {
@@ -167,12 +167,12 @@ fn sought_above_interface(
 #[tactic(auto, using(crate::proofs::Walked::first_of_both))]
 fn sought_above_class(
     index: &Index,
-    rows: &[Option<Row>],
+    rows: &[Option<LoadedClass>],
     class: u32,
     wanted: &Wanted<'_>,
 ) -> Option<(u32, u16)>
-    requires rows { AreRows index.now rows.now }
-    requires has { has_row rows.now class ≡ true }
+    requires rows { AreLoadedClasses index.now rows.now }
+    requires has { holds_class rows.now class ≡ true }
     ensures { option_map place_view result
         ≡ method_in index.now (wanted_view wanted.now) (class_order index.now class) }
 {
@@ -184,12 +184,12 @@ fn sought_above_class(
 
 fn sought_method(
     index: &Index,
-    rows: &[Option<Row>],
+    rows: &[Option<LoadedClass>],
     class: u32,
     wanted: &Wanted<'_>,
 ) -> Option<(u32, u16)>
-    requires rows { AreRows index.now rows.now }
-    requires has { has_row rows.now class ≡ true }
+    requires rows { AreLoadedClasses index.now rows.now }
+    requires has { holds_class rows.now class ≡ true }
     ensures { option_map place_view result
         ≡ method_in index.now (wanted_view wanted.now) (method_order index.now class) }
 {
@@ -203,13 +203,13 @@ fn sought_method(
 /// What a method reference of a class stands for.
 pub fn resolved_method(
     index: &Index,
-    rows: &[Option<Row>],
+    rows: &[Option<LoadedClass>],
     class: u32,
     interface: bool,
     wanted: &Wanted<'_>,
 ) -> Resolved
-    requires rows { AreRows index.now rows.now }
-    requires has { has_row rows.now class ≡ true }
+    requires rows { AreLoadedClasses index.now rows.now }
+    requires has { holds_class rows.now class ≡ true }
     ensures { result
         ≡ resolved_of (resolved_method index.now class interface (wanted_view wanted.now)) }
 {

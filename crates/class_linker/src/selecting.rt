@@ -7,13 +7,13 @@ ghost use Rattle.jvm_model.specs.Classes.Selection.{candidate, fits, nearest, ov
 ghost use Rattle.jvm_model.specs.Classes.Selection.{selected};
 ghost use Rattle.class_linker.specs.Passing.{IsChain, IsUnpassed};
 ghost use Rattle.class_linker.specs.Places.{at_place};
-ghost use Rattle.class_linker.specs.Rows.{AreRows, all_rows, has_row};
+ghost use Rattle.class_linker.specs.LoadedClasses.{AreLoadedClasses, holds_all, holds_class};
 
+use crate::loaded_classes::LoadedClass;
 use crate::overriding::{
     is_abstract, is_passed, is_reached, is_static, signature_of, stands_below,
 };
 use crate::place::Place;
-use crate::rows::Row;
 use crate::walks::superclasses_of;
 use class_index::{Index, method_at};
 
@@ -27,13 +27,13 @@ fn same_member(a: Place, b: Place) -> bool
 /// does.
 fn overrides_while(
     index: &Index,
-    rows: &[Option<Row>],
+    rows: &[Option<LoadedClass>],
     own: Place,
     m: Place,
     passing: &mut bool,
 ) -> bool
-    requires rows { AreRows index.now rows.now }
-    requires has { has_row rows.now own.class ≡ true }
+    requires rows { AreLoadedClasses index.now rows.now }
+    requires has { holds_class rows.now own.class ≡ true }
     requires known { passing.old ≡ false → IsUnpassed index.now (at_place m) own.class }
     ensures test { result ≡ overrides index.now (at_place own) (at_place m) }
     ensures known { passing.new ≡ false → IsUnpassed index.now (at_place m) own.class }
@@ -53,14 +53,14 @@ fn overrides_while(
 /// Whether a class may have the method for the resolved one.
 fn fits(
     index: &Index,
-    rows: &[Option<Row>],
+    rows: &[Option<LoadedClass>],
     interface: bool,
     m: Place,
     own: Place,
     passing: &mut bool,
 ) -> bool
-    requires rows { AreRows index.now rows.now }
-    requires has { has_row rows.now own.class ≡ true }
+    requires rows { AreLoadedClasses index.now rows.now }
+    requires has { holds_class rows.now own.class ≡ true }
     requires known { passing.old ≡ false → IsUnpassed index.now (at_place m) own.class }
     ensures test { result ≡ fits index.now interface (at_place m) (at_place own) }
     ensures known { passing.new ≡ false → IsUnpassed index.now (at_place m) own.class }
@@ -77,14 +77,14 @@ fn fits(
 /// What the class has for the resolved method.
 fn candidate(
     index: &Index,
-    rows: &[Option<Row>],
+    rows: &[Option<LoadedClass>],
     interface: bool,
     m: Place,
     class: u32,
     passing: &mut bool,
 ) -> Option<u16>
-    requires rows { AreRows index.now rows.now }
-    requires has { has_row rows.now class ≡ true }
+    requires rows { AreLoadedClasses index.now rows.now }
+    requires has { holds_class rows.now class ≡ true }
     requires known { passing.old ≡ false → IsUnpassed index.now (at_place m) class }
     ensures found { result ≡ candidate index.now interface (at_place m) class }
     ensures known { passing.new ≡ false → IsUnpassed index.now (at_place m) class }
@@ -108,13 +108,13 @@ fn candidate(
 /// The first that one of the classes has. Where nothing passes the method on to a class, nothing does to those behind it.
 fn first_candidate(
     index: &Index,
-    rows: &[Option<Row>],
+    rows: &[Option<LoadedClass>],
     interface: bool,
     m: Place,
     classes: &[u32],
 ) -> Option<Place>
-    requires rows { AreRows index.now rows.now }
-    requires have { all_rows rows.now classes.now ≡ true }
+    requires rows { AreLoadedClasses index.now rows.now }
+    requires have { holds_all rows.now classes.now ≡ true }
     requires chain { IsChain index.now classes.now }
     ensures { option_map at_place result
         ≡ first_in (candidate index.now interface (at_place m)) classes.now }
@@ -134,13 +134,13 @@ fn first_candidate(
 /// The nearest one from the class upwards.
 pub fn nearest(
     index: &Index,
-    rows: &[Option<Row>],
+    rows: &[Option<LoadedClass>],
     receiver: u32,
     interface: bool,
     m: Place,
 ) -> Option<Place>
-    requires rows { AreRows index.now rows.now }
-    requires has { has_row rows.now receiver ≡ true }
+    requires rows { AreLoadedClasses index.now rows.now }
+    requires has { holds_class rows.now receiver ≡ true }
     ensures { option_map at_place result ≡ nearest index.now receiver interface (at_place m) }
 {
     first_candidate(
@@ -155,13 +155,13 @@ pub fn nearest(
 /// The method that is invoked for the resolved one.
 pub fn selected(
     index: &Index,
-    rows: &[Option<Row>],
+    rows: &[Option<LoadedClass>],
     receiver: u32,
     interface: bool,
     m: Place,
 ) -> Option<Place>
-    requires rows { AreRows index.now rows.now }
-    requires has { has_row rows.now receiver ≡ true }
+    requires rows { AreLoadedClasses index.now rows.now }
+    requires has { holds_class rows.now receiver ≡ true }
     ensures { option_map at_place result ≡ selected index.now receiver interface (at_place m) }
 {
     let found = nearest(index, rows, receiver, interface, m)?;

@@ -5,13 +5,13 @@ ghost use Rattle.std.specs.Option.{option_map};
 ghost use Rattle.jvm_model.specs.Classes.Load.{is_among};
 ghost use Rattle.jvm_model.specs.Basis.Programs.{super_of};
 ghost use Rattle.class_linker.specs.Places.{at_place};
-ghost use Rattle.class_linker.specs.Rows.{AreRows, has_row};
+ghost use Rattle.class_linker.specs.LoadedClasses.{AreLoadedClasses, holds_class};
 ghost use Rattle.jvm_model.specs.Classes.SuperCalls.{invoked_special, is_inherited, is_initializer};
 ghost use Rattle.jvm_model.specs.Classes.SuperCalls.{nearest_above, taken};
 
+use crate::loaded_classes::LoadedClass;
 use crate::overriding::{is_abstract, signature_of};
 use crate::place::Place;
-use crate::rows::Row;
 use crate::selecting::nearest;
 use crate::walks::{is_superclass, superclass_of};
 use class_index::Index;
@@ -27,9 +27,9 @@ fn is_initializer(index: &Index, m: Place) -> bool
 }
 
 /// Whether it is declared in a proper superclass of the caller.
-fn is_inherited(index: &Index, rows: &[Option<Row>], caller: u32, m: Place) -> bool
-    requires rows { AreRows index.now rows.now }
-    requires has { has_row rows.now caller ≡ true }
+fn is_inherited(index: &Index, rows: &[Option<LoadedClass>], caller: u32, m: Place) -> bool
+    requires rows { AreLoadedClasses index.now rows.now }
+    requires has { holds_class rows.now caller ≡ true }
     ensures { result ≡ is_inherited index.now caller (at_place m) }
 {
     match superclass_of(index, rows, caller) {
@@ -39,9 +39,14 @@ fn is_inherited(index: &Index, rows: &[Option<Row>], caller: u32, m: Place) -> b
 }
 
 /// The nearest one from the caller's direct superclass upwards.
-fn nearest_above(index: &Index, rows: &[Option<Row>], caller: u32, m: Place) -> Option<Place>
-    requires rows { AreRows index.now rows.now }
-    requires has { has_row rows.now caller ≡ true }
+fn nearest_above(
+    index: &Index,
+    rows: &[Option<LoadedClass>],
+    caller: u32,
+    m: Place,
+) -> Option<Place>
+    requires rows { AreLoadedClasses index.now rows.now }
+    requires has { holds_class rows.now caller ≡ true }
     ensures { option_map at_place result ≡ nearest_above index.now caller (at_place m) }
 {
     let above = superclass_of(index, rows, caller)?;
@@ -49,9 +54,9 @@ fn nearest_above(index: &Index, rows: &[Option<Row>], caller: u32, m: Place) -> 
 }
 
 /// The method that is taken for the resolved one, be it abstract.
-fn taken(index: &Index, rows: &[Option<Row>], caller: u32, m: Place) -> Option<Place>
-    requires rows { AreRows index.now rows.now }
-    requires has { has_row rows.now caller ≡ true }
+fn taken(index: &Index, rows: &[Option<LoadedClass>], caller: u32, m: Place) -> Option<Place>
+    requires rows { AreLoadedClasses index.now rows.now }
+    requires has { holds_class rows.now caller ≡ true }
     ensures { option_map at_place result ≡ taken index.now caller (at_place m) }
 {
     if is_inherited(index, rows, caller, m) && !is_initializer(index, m) {
@@ -62,9 +67,14 @@ fn taken(index: &Index, rows: &[Option<Row>], caller: u32, m: Place) -> Option<P
 }
 
 /// The method that a caller invokes for the resolved one.
-pub fn invoked_special(index: &Index, rows: &[Option<Row>], caller: u32, m: Place) -> Option<Place>
-    requires rows { AreRows index.now rows.now }
-    requires has { has_row rows.now caller ≡ true }
+pub fn invoked_special(
+    index: &Index,
+    rows: &[Option<LoadedClass>],
+    caller: u32,
+    m: Place,
+) -> Option<Place>
+    requires rows { AreLoadedClasses index.now rows.now }
+    requires has { holds_class rows.now caller ≡ true }
     ensures { option_map at_place result ≡ invoked_special index.now caller (at_place m) }
 {
     let found = taken(index, rows, caller, m)?;

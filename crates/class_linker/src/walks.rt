@@ -8,20 +8,20 @@ ghost use Rattle.jvm_model.specs.Classes.Lookup.{superinterfaces, supertypes};
 ghost use Rattle.jvm_model.specs.Basis.Programs.{super_of};
 ghost use Rattle.class_index.specs.Orders.{IsSearchedAs};
 ghost use Rattle.class_linker.specs.Passing.{IsChain};
-ghost use Rattle.class_linker.specs.Rows.{AreRows, all_rows, has_row};
+ghost use Rattle.class_linker.specs.LoadedClasses.{AreLoadedClasses, holds_all, holds_class};
 
-use crate::rows::{
-    Row, has_supertype, layout_in, superclasses_in, superinterfaces_in, supertypes_in,
+use crate::loaded_classes::{
+    LoadedClass, has_supertype, layout_in, superclasses_in, superinterfaces_in, supertypes_in,
 };
 use class_index::Index;
 use const_pool::Kind;
 
 /// A class and its superclasses, upwards.
-pub fn superclasses_of<'a>(index: &Index, rows: &'a [Option<Row>], class: u32) -> &'a [u32]
-    requires rows { AreRows index.now rows.now }
-    requires has { has_row rows.now class ≡ true }
+pub fn superclasses_of<'a>(index: &Index, rows: &'a [Option<LoadedClass>], class: u32) -> &'a [u32]
+    requires rows { AreLoadedClasses index.now rows.now }
+    requires has { holds_class rows.now class ≡ true }
     ensures all { result.now ≡ superclasses index.now class }
-    ensures rows { all_rows rows.now result.now ≡ true }
+    ensures rows { holds_all rows.now result.now ≡ true }
     ensures chain { IsChain index.now result.now }
 {
     superclasses_in(rows, class)
@@ -29,56 +29,60 @@ pub fn superclasses_of<'a>(index: &Index, rows: &'a [Option<Row>], class: u32) -
 
 /// A class's direct superclass.
 #[tactic(auto, using(crate::proofs::Chains::super_has))]
-pub fn superclass_of(index: &Index, rows: &[Option<Row>], class: u32) -> Option<u32>
-    requires rows { AreRows index.now rows.now }
-    requires has { has_row rows.now class ≡ true }
+pub fn superclass_of(index: &Index, rows: &[Option<LoadedClass>], class: u32) -> Option<u32>
+    requires rows { AreLoadedClasses index.now rows.now }
+    requires has { holds_class rows.now class ≡ true }
     ensures above { result ≡ super_of index.now class }
-    ensures has { IfSome result (λ above. has_row rows.now above ≡ true) }
+    ensures has { IfSome result (λ above. holds_class rows.now above ≡ true) }
 {
     index.super_of(class)
 }
 
 /// Whether a class is the other one or inherits from it.
-pub fn is_superclass(index: &Index, rows: &[Option<Row>], lower: u32, upper: u32) -> bool
-    requires rows { AreRows index.now rows.now }
-    requires has { has_row rows.now lower ≡ true }
+pub fn is_superclass(index: &Index, rows: &[Option<LoadedClass>], lower: u32, upper: u32) -> bool
+    requires rows { AreLoadedClasses index.now rows.now }
+    requires has { holds_class rows.now lower ≡ true }
     ensures { result ≡ is_among upper (superclasses index.now lower) }
 {
     superclasses_of(index, rows, lower).contains(&upper)
 }
 
 /// The superinterfaces of a class, as they are searched.
-pub fn superinterfaces_of<'a>(index: &Index, rows: &'a [Option<Row>], class: u32) -> &'a [u32]
-    requires rows { AreRows index.now rows.now }
-    requires has { has_row rows.now class ≡ true }
+pub fn superinterfaces_of<'a>(
+    index: &Index,
+    rows: &'a [Option<LoadedClass>],
+    class: u32,
+) -> &'a [u32]
+    requires rows { AreLoadedClasses index.now rows.now }
+    requires has { holds_class rows.now class ≡ true }
     ensures { IsSearchedAs result.now (superinterfaces index.now class) }
 {
     superinterfaces_in(rows, class)
 }
 
 /// All supertypes of a class, as they are searched.
-pub fn supertypes_of<'a>(index: &Index, rows: &'a [Option<Row>], class: u32) -> &'a [u32]
-    requires rows { AreRows index.now rows.now }
-    requires has { has_row rows.now class ≡ true }
+pub fn supertypes_of<'a>(index: &Index, rows: &'a [Option<LoadedClass>], class: u32) -> &'a [u32]
+    requires rows { AreLoadedClasses index.now rows.now }
+    requires has { holds_class rows.now class ≡ true }
     ensures searched { IsSearchedAs result.now (supertypes index.now class) }
-    ensures rows { all_rows rows.now result.now ≡ true }
+    ensures rows { holds_all rows.now result.now ≡ true }
 {
     supertypes_in(rows, class)
 }
 
 /// A class and all that it inherits from or implements, each once.
-pub fn each_supertype<'a>(index: &Index, rows: &'a [Option<Row>], class: u32) -> &'a [u32]
-    requires rows { AreRows index.now rows.now }
-    requires has { has_row rows.now class ≡ true }
+pub fn each_supertype<'a>(index: &Index, rows: &'a [Option<LoadedClass>], class: u32) -> &'a [u32]
+    requires rows { AreLoadedClasses index.now rows.now }
+    requires has { holds_class rows.now class ≡ true }
     ensures { (upper : ℕ) → is_among upper result.now ≡ is_subtype index.now class upper }
 {
     supertypes_in(rows, class)
 }
 
 /// The kinds of the slots of a class's objects.
-pub fn layout_of<'a>(index: &Index, rows: &'a [Option<Row>], class: u32) -> &'a [Kind]
-    requires rows { AreRows index.now rows.now }
-    requires has { has_row rows.now class ≡ true }
+pub fn layout_of<'a>(index: &Index, rows: &'a [Option<LoadedClass>], class: u32) -> &'a [Kind]
+    requires rows { AreLoadedClasses index.now rows.now }
+    requires has { holds_class rows.now class ≡ true }
     ensures { result.now ≡ layout index.now class }
 {
     layout_in(rows, class)
@@ -86,9 +90,9 @@ pub fn layout_of<'a>(index: &Index, rows: &'a [Option<Row>], class: u32) -> &'a 
 
 /// How many slots of a class's objects the fields of its superclasses take.
 #[tactic(auto, using(crate::proofs::Inherited::layout_one))]
-fn slots_of_superclass(index: &Index, rows: &[Option<Row>], class: u32) -> usize
-    requires rows { AreRows index.now rows.now }
-    requires has { has_row rows.now class ≡ true }
+fn slots_of_superclass(index: &Index, rows: &[Option<LoadedClass>], class: u32) -> usize
+    requires rows { AreLoadedClasses index.now rows.now }
+    requires has { holds_class rows.now class ≡ true }
     ensures { result ≡ length (flat_map (layout index.now) (superclass_of index.now class)) }
 {
     match superclass_of(index, rows, class) {
@@ -99,9 +103,9 @@ fn slots_of_superclass(index: &Index, rows: &[Option<Row>], class: u32) -> usize
 
 /// The same, of a class that the lower one is or inherits from.
 #[tactic(auto, using(crate::proofs::Inherited::superclass_has))]
-pub fn slots_above(index: &Index, rows: &[Option<Row>], lower: u32, class: u32) -> usize
-    requires rows { AreRows index.now rows.now }
-    requires has { has_row rows.now lower ≡ true }
+pub fn slots_above(index: &Index, rows: &[Option<LoadedClass>], lower: u32, class: u32) -> usize
+    requires rows { AreLoadedClasses index.now rows.now }
+    requires has { holds_class rows.now lower ≡ true }
     requires extends { is_among class (superclasses index.now lower) ≡ true }
     ensures { result ≡ length (flat_map (layout index.now) (superclass_of index.now class)) }
 {
@@ -111,9 +115,9 @@ pub fn slots_above(index: &Index, rows: &[Option<Row>], lower: u32, class: u32) 
 }
 
 /// Whether a class is the other one, or inherits from it, or implements it.
-pub fn is_subtype(index: &Index, rows: &[Option<Row>], lower: u32, upper: u32) -> bool
-    requires rows { AreRows index.now rows.now }
-    requires has { has_row rows.now lower ≡ true }
+pub fn is_subtype(index: &Index, rows: &[Option<LoadedClass>], lower: u32, upper: u32) -> bool
+    requires rows { AreLoadedClasses index.now rows.now }
+    requires has { holds_class rows.now lower ≡ true }
     ensures { result ≡ is_subtype index.now lower upper }
 {
     has_supertype(rows, lower, upper)

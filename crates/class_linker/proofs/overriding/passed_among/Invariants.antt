@@ -3,11 +3,11 @@ use Rattle.std.proofs.Common.{◌≡◌, true, drop}
 use Rattle.std.specs.List.{list_any}
 use Rattle.jvm_model.specs.Classes.Selection.{passed_at}
 use Rattle.class_linker.specs.Places.{at_place}
-use Rattle.class_linker.specs.Rows.{all_rows}
+use Rattle.class_linker.specs.LoadedClasses.{holds_all}
 use Rattle.class_linker.proofs.overriding.passed_among.Given as goal
 
 abbrev pub invariant-loop-class : goal.invariant-loop-class
 invariant-loop-class l =
     (list_any (passed_at l.index (at_place l.m1) (at_place l.m2)) (drop l.class-index l.classes)
     ≡ list_any (passed_at l.index (at_place l.m1) (at_place l.m2)) l.classes)
-    × (all_rows l.rows (drop l.class-index l.classes) ≡ true)
+    × (holds_all l.rows (drop l.class-index l.classes) ≡ true)

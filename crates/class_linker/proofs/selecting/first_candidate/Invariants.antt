@@ -4,14 +4,14 @@ use Rattle.jvm_model.specs.Classes.Lookup.{first_in}
 use Rattle.jvm_model.specs.Classes.Selection.{candidate}
 use Rattle.class_linker.specs.Passing.{AreUnpassed, IsChain}
 use Rattle.class_linker.specs.Places.{at_place}
-use Rattle.class_linker.specs.Rows.{all_rows}
+use Rattle.class_linker.specs.LoadedClasses.{holds_all}
 use Rattle.class_linker.proofs.selecting.first_candidate.Given as goal
 
 abbrev pub invariant-loop-class : goal.invariant-loop-class
 invariant-loop-class l = record {
   decides : first_in (candidate l.index l.interface (at_place l.m)) (drop l.class-index l.classes)
       ≡ first_in (candidate l.index l.interface (at_place l.m)) l.classes;
-  rows : all_rows l.rows (drop l.class-index l.classes) ≡ true;
+  rows : holds_all l.rows (drop l.class-index l.classes) ≡ true;
   chain : IsChain l.index (drop l.class-index l.classes);
   known : l.passing ≡ false → AreUnpassed l.index (at_place l.m) (drop l.class-index l.classes);
 }

@@ -1,6 +1,6 @@
 use Rattle.std.proofs.Common.{◌∙◌, ap, subst, sym, length}
 use Rattle.class_linker.specs.Passing.{IsChain}
-use Rattle.class_linker.specs.Rows.{all_rows}
+use Rattle.class_linker.specs.LoadedClasses.{holds_all}
 use Rattle.class_linker.proofs.Chains.{chain}
 use Rattle.class_linker.proofs.Walked.{superclasses_rows, superclasses_walked}
 use Rattle.class_linker.proofs.walks.superclasses_of.Goals as goal
@@ -11,7 +11,7 @@ returns-clause-all c =
 
 pub returns-clause-rows : goal.returns-clause-rows
 returns-clause-rows c =
-    ap (all_rows c.args.rows.now) c.superclasses_in.ensures
+    ap (holds_all c.args.rows.now) c.superclasses_in.ensures
     ∙ superclasses_rows c.args.index.now c.args.rows.now c.requires.rows c.args.class c.requires.has
 
 pub returns-clause-chain : goal.returns-clause-chain

@@ -1,7 +1,7 @@
 use Rattle.std.proofs.Common.{◌∙◌, ap, sym, subst}
 use Rattle.jvm_model.specs.Classes.Lookup.{supertypes}
 use Rattle.class_index.specs.Orders.{IsSearchedAs}
-use Rattle.class_linker.specs.Rows.{all_rows}
+use Rattle.class_linker.specs.LoadedClasses.{holds_all}
 use Rattle.class_linker.proofs.Walked.{supertypes_rows, supertypes_walked}
 use Rattle.class_linker.proofs.walks.supertypes_of.Goals as goal
 
@@ -12,5 +12,5 @@ returns-clause-searched c =
 
 pub returns-clause-rows : goal.returns-clause-rows
 returns-clause-rows c =
-    ap (all_rows c.args.rows.now) c.supertypes_in.ensures
+    ap (holds_all c.args.rows.now) c.supertypes_in.ensures
     ∙ supertypes_rows c.args.index.now c.args.rows.now c.requires.rows c.args.class c.requires.has

@@ -1,9 +1,9 @@
 use Rattle.std.proofs.Common.{◌∙◌, ap, subst, sym}
 use Rattle.class_linker.specs.Linkers.{IsKnown, LinkerView}
-use Rattle.class_linker.specs.Rows.{has_row}
+use Rattle.class_linker.specs.LoadedClasses.{holds_class}
 use Rattle.class_linker.proofs.linker.Linker.subtype.Goals as goal
 
 pub is_subkind-requires-clause-has : goal.is_subkind-requires-clause-has
 is_subkind-requires-clause-has c class of =
-    ap (λ rows. has_row rows class) c.as_slice.ensures
+    ap (λ rows. holds_class rows class) c.as_slice.ensures
     ∙ c.self.invariant.loaded class (subst (λ (l : LinkerView). IsKnown l c.args.lower) (sym c.self.view_is) c.requires class of)

@@ -7,11 +7,11 @@ ghost use Rattle.jvm_model.specs.Classes.Load.{is_among};
 ghost use Rattle.jvm_model.specs.Classes.Lookup.{superclass_of};
 ghost use Rattle.jvm_model.specs.Basis.Programs.{class_at};
 ghost use Rattle.class_index.specs.Orders.{with_classes};
-ghost use Rattle.class_linker.specs.Rows.{has_row, layout_in, layout_made, row_at, row_made};
-ghost use Rattle.class_linker.specs.Rows.{superclasses_made, superinterfaces_made};
-ghost use Rattle.class_linker.specs.Rows.{supertypes_in, superclasses_in, superinterfaces_in};
-ghost use Rattle.class_linker.specs.Rows.{supertypes_made, with_interface, with_interfaces};
-ghost use Rattle.class_linker.specs.Rows.{with_supertypes};
+ghost use Rattle.class_linker.specs.LoadedClasses.{holds_class, layout_in, layout_made, loaded_class_at, loaded_class_made};
+ghost use Rattle.class_linker.specs.LoadedClasses.{superclasses_made, superinterfaces_made};
+ghost use Rattle.class_linker.specs.LoadedClasses.{supertypes_in, superclasses_in, superinterfaces_in};
+ghost use Rattle.class_linker.specs.LoadedClasses.{supertypes_made, with_interface, with_interfaces};
+ghost use Rattle.class_linker.specs.LoadedClasses.{with_supertypes};
 
 use class_index::{Index, Order, STATIC, has_flag};
 use const_pool::{ClassFile, Kind, Member};
@@ -20,7 +20,7 @@ use std::alloc::Global;
 
 /// The walks over the supertypes of a class, and the kinds of an object's slots.
 #[derive(Drop)]
-pub struct Row {
+pub struct LoadedClass {
     pub superclasses: Seq<u32>,
     pub superinterfaces: Order,
     pub supertypes: Order,
@@ -28,8 +28,8 @@ pub struct Row {
 }
 
 /// The row of a class, where it was loaded.
-pub fn row_at(rows: &[Option<Row>], class: u32) -> Option<&Row>
-    ensures { option_copied result ≡ row_at rows.now class }
+pub fn loaded_class_at(rows: &[Option<LoadedClass>], class: u32) -> Option<&LoadedClass>
+    ensures { option_copied result ≡ loaded_class_at rows.now class }
 {
     match rows.get(class as usize) {
         Some(row) => row.as_ref(),
@@ -38,55 +38,55 @@ pub fn row_at(rows: &[Option<Row>], class: u32) -> Option<&Row>
 }
 
 /// Whether a class has a row.
-pub fn has_row(rows: &[Option<Row>], class: u32) -> bool
-    ensures { result ≡ has_row rows.now class }
+pub fn holds_class(rows: &[Option<LoadedClass>], class: u32) -> bool
+    ensures { result ≡ holds_class rows.now class }
 {
-    row_at(rows, class).is_some()
+    loaded_class_at(rows, class).is_some()
 }
 
 // ---- parts, which are empty where there is no row
 
-pub fn superclasses_in(rows: &[Option<Row>], class: u32) -> &[u32]
+pub fn superclasses_in(rows: &[Option<LoadedClass>], class: u32) -> &[u32]
     ensures { result.now ≡ superclasses_in rows.now class }
 {
-    match row_at(rows, class) {
+    match loaded_class_at(rows, class) {
         Some(row) => row.superclasses.as_slice(),
         None => &[],
     }
 }
 
-pub fn superinterfaces_in(rows: &[Option<Row>], class: u32) -> &[u32]
+pub fn superinterfaces_in(rows: &[Option<LoadedClass>], class: u32) -> &[u32]
     ensures { result.now ≡ superinterfaces_in rows.now class }
 {
-    match row_at(rows, class) {
+    match loaded_class_at(rows, class) {
         Some(row) => row.superinterfaces.as_slice(),
         None => &[],
     }
 }
 
-pub fn supertypes_in(rows: &[Option<Row>], class: u32) -> &[u32]
+pub fn supertypes_in(rows: &[Option<LoadedClass>], class: u32) -> &[u32]
     ensures { result.now ≡ supertypes_in rows.now class }
 {
-    match row_at(rows, class) {
+    match loaded_class_at(rows, class) {
         Some(row) => row.supertypes.as_slice(),
         None => &[],
     }
 }
 
-pub fn layout_in(rows: &[Option<Row>], class: u32) -> &[Kind]
+pub fn layout_in(rows: &[Option<LoadedClass>], class: u32) -> &[Kind]
     ensures { result.now ≡ layout_in rows.now class }
 {
-    match row_at(rows, class) {
+    match loaded_class_at(rows, class) {
         Some(row) => row.layout.as_slice(),
         None => &[],
     }
 }
 
 /// Whether a class is among the supertypes of a class that was loaded.
-pub fn has_supertype(rows: &[Option<Row>], lower: u32, upper: u32) -> bool
+pub fn has_supertype(rows: &[Option<LoadedClass>], lower: u32, upper: u32) -> bool
     ensures { result ≡ is_among upper (supertypes_in rows.now lower) }
 {
-    match row_at(rows, lower) {
+    match loaded_class_at(rows, lower) {
         Some(row) => row.supertypes.has(upper),
         None => false,
     }
@@ -97,7 +97,7 @@ pub fn has_supertype(rows: &[Option<Row>], lower: u32, upper: u32) -> bool
 fn superclasses_made(
     alloc: Global,
     index: &Index,
-    rows: &[Option<Row>],
+    rows: &[Option<LoadedClass>],
     class: u32,
 ) -> Result<Seq<u32>, NoMemory>
     ensures { IfOk result (λ classes. classes ≡ superclasses_made index.now rows.now class) }
@@ -111,7 +111,11 @@ fn superclasses_made(
 }
 
 /// Adds an interface and its superinterfaces.
-fn add_interface(order: &mut Order, rows: &[Option<Row>], class: u32) -> Result<(), NoMemory>
+fn add_interface(
+    order: &mut Order,
+    rows: &[Option<LoadedClass>],
+    class: u32,
+) -> Result<(), NoMemory>
     ensures { OnOk result (order.new ≡ with_interface rows.now order.old class) }
 {
     order.add(class)?;
@@ -119,7 +123,11 @@ fn add_interface(order: &mut Order, rows: &[Option<Row>], class: u32) -> Result<
 }
 
 /// Adds interfaces, each with its superinterfaces.
-fn add_interfaces(order: &mut Order, rows: &[Option<Row>], classes: &[u32]) -> Result<(), NoMemory>
+fn add_interfaces(
+    order: &mut Order,
+    rows: &[Option<LoadedClass>],
+    classes: &[u32],
+) -> Result<(), NoMemory>
     ensures { OnOk result (order.new ≡ with_interfaces rows.now order.old classes.now) }
 {
     for class in classes {
@@ -132,7 +140,7 @@ fn add_interfaces(order: &mut Order, rows: &[Option<Row>], classes: &[u32]) -> R
 fn add_inherited(
     order: &mut Order,
     index: &Index,
-    rows: &[Option<Row>],
+    rows: &[Option<LoadedClass>],
     class: u32,
 ) -> Result<(), NoMemory>
     ensures { OnOk result (order.new ≡ with_classes order.old
@@ -147,7 +155,7 @@ fn add_inherited(
 fn superinterfaces_made(
     alloc: Global,
     index: &Index,
-    rows: &[Option<Row>],
+    rows: &[Option<LoadedClass>],
     class: u32,
 ) -> Result<Order, NoMemory>
     ensures { IfOk result (λ order. order ≡ superinterfaces_made index.now rows.now class) }
@@ -162,7 +170,11 @@ fn superinterfaces_made(
 }
 
 /// Adds classes, each with its supertypes.
-fn add_supertypes(order: &mut Order, rows: &[Option<Row>], classes: &[u32]) -> Result<(), NoMemory>
+fn add_supertypes(
+    order: &mut Order,
+    rows: &[Option<LoadedClass>],
+    classes: &[u32],
+) -> Result<(), NoMemory>
     ensures { OnOk result (order.new ≡ with_supertypes rows.now order.old classes.now) }
 {
     for class in classes {
@@ -175,7 +187,7 @@ fn add_supertypes(order: &mut Order, rows: &[Option<Row>], classes: &[u32]) -> R
 fn add_superclass(
     order: &mut Order,
     index: &Index,
-    rows: &[Option<Row>],
+    rows: &[Option<LoadedClass>],
     class: u32,
 ) -> Result<(), NoMemory>
     ensures { OnOk result (order.new
@@ -190,7 +202,7 @@ fn add_superclass(
 fn supertypes_made(
     alloc: Global,
     index: &Index,
-    rows: &[Option<Row>],
+    rows: &[Option<LoadedClass>],
     class: u32,
 ) -> Result<Order, NoMemory>
     ensures { IfOk result (λ order. order ≡ supertypes_made index.now rows.now class) }
@@ -246,7 +258,7 @@ fn add_own(kinds: &mut Seq<Kind>, file: &ClassFile) -> Result<(), NoMemory>
 fn layout_made(
     alloc: Global,
     index: &Index,
-    rows: &[Option<Row>],
+    rows: &[Option<LoadedClass>],
     class: u32,
 ) -> Result<Seq<Kind>, NoMemory>
     ensures { IfOk result (λ kinds. kinds ≡ layout_made index.now rows.now class) }
@@ -262,15 +274,15 @@ fn layout_made(
 }
 
 /// The row of a class.
-pub fn row_made(
+pub fn loaded_class_made(
     alloc: Global,
     index: &Index,
-    rows: &[Option<Row>],
+    rows: &[Option<LoadedClass>],
     class: u32,
-) -> Result<Row, NoMemory>
-    ensures { IfOk result (λ row. row ≡ row_made index.now rows.now class) }
+) -> Result<LoadedClass, NoMemory>
+    ensures { IfOk result (λ row. row ≡ loaded_class_made index.now rows.now class) }
 {
-    Ok(Row {
+    Ok(LoadedClass {
         superclasses: superclasses_made(alloc, index, rows, class)?,
         superinterfaces: superinterfaces_made(alloc, index, rows, class)?,
         supertypes: supertypes_made(alloc, index, rows, class)?,

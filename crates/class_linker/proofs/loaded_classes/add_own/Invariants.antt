@@ -4,7 +4,7 @@ use Rattle.std.specs.Prelude.{not}
 use Rattle.const_pool.specs.declared.class.Member.{Member}
 use Rattle.jvm_model.specs.Classes.Layouts.{field_kind, own_kinds}
 use Rattle.jvm_model.specs.Basis.Methods.{has_flag}
-use Rattle.class_linker.proofs.rows.add_own.Given as goal
+use Rattle.class_linker.proofs.loaded_classes.add_own.Given as goal
 
 abbrev pub invariant-loop-field : goal.invariant-loop-field
 invariant-loop-field l =
