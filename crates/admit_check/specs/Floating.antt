@@ -15,7 +15,7 @@ use Rattle.op_table.specs.Opcodes.{row_of}
 use Rattle.base_classes.specs.Soundness.{has_float}
 use Rattle.admit_check.specs.declared.error.AdmitError.{AdmitError}
 use Rattle.admit_check.specs.declared.error.AdmitError.TheVariants.{FloatingPoint}
-use Rattle.admit_check.specs.declared.error.Place.TheVariants as place
+use Rattle.admit_check.specs.declared.error.FloatingPointUse.TheVariants as place
 use Rattle.admit_check.specs.Checks.{fault_if, first_of, first_in, first_from}
 use Rattle.admit_check.specs.Codes.{readings_of}
 use Rattle.admit_check.specs.FloatingFrames.{floating_frames}

@@ -17,7 +17,7 @@ use Rattle.stackmap_shift.specs.declared.frames.VType.TheVariants.{Float, Double
 use Rattle.stackmap_shift.specs.Frames.{frames_of}
 use Rattle.admit_check.specs.declared.error.AdmitError.{AdmitError}
 use Rattle.admit_check.specs.declared.error.AdmitError.TheVariants.{FloatingPoint}
-use Rattle.admit_check.specs.declared.error.Place.TheVariants as place
+use Rattle.admit_check.specs.declared.error.FloatingPointUse.TheVariants as place
 use Rattle.admit_check.specs.Checks.{fault_if, first_in, first_from}
 use Rattle.admit_check.specs.CodeTables.{is_frame_name}
 

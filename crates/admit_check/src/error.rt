@@ -11,7 +11,7 @@ use thiserror::Error;
 /// A place in a class: the position of a field or of a method, and for code and for a frame the position of its method and the
 /// offset of the instruction or of the frame.
 #[derive(Clone, Copy, Debug, PartialEq, Eq)]
-pub enum Place {
+pub enum FloatingPointUse {
     Field(u16),
     Method(u16),
     Code(u16, u16),
@@ -62,7 +62,7 @@ pub enum AdmitError {
     BadCode(u32, u16, u16, CodeCause),
     /// The class uses a float or a double at this place.
     #[error("floating point")]
-    FloatingPoint(u32, Place),
+    FloatingPoint(u32, FloatingPointUse),
     /// The method at this position can't be rewritten with probes, because it would pass this limit.
     #[error("a method cannot be profiled")]
     NotProfilable(u32, u16, Cause),

@@ -13,7 +13,7 @@ ghost use Rattle.admit_check.specs.Floating.{first_floating, floating_offset, fl
 ghost use Rattle.admit_check.specs.Floating.{floating_body, floating_fault};
 ghost use Rattle.admit_check.specs.Codes.{read_as, readings_of};
 
-use crate::error::{AdmitError, Place};
+use crate::error::{AdmitError, FloatingPointUse};
 use crate::floating_frames::floating_frames;
 use crate::texts::is_array_name;
 use code_model::{Arg, Code, Instr};
@@ -167,7 +167,7 @@ fn field_fault(number: u32, pool: &Pool, fields: &[Member]) -> Option<AdmitError
 {
     for (at, field) in fields.iter().enumerate() {
         if describes_floats(pool, field) {
-            return Some(AdmitError::FloatingPoint(number, Place::Field(at as u16)));
+            return Some(AdmitError::FloatingPoint(number, FloatingPointUse::Field(at as u16)));
         }
     }
     None
@@ -180,7 +180,7 @@ fn method_fault(number: u32, pool: &Pool, methods: &[Member]) -> Option<AdmitErr
 {
     for (at, method) in methods.iter().enumerate() {
         if describes_floats(pool, method) {
-            return Some(AdmitError::FloatingPoint(number, Place::Method(at as u16)));
+            return Some(AdmitError::FloatingPoint(number, FloatingPointUse::Method(at as u16)));
         }
     }
     None
@@ -193,7 +193,10 @@ fn body_fault(number: u32, pool: &Pool, codes: &[Option<Code>]) -> Option<AdmitE
 {
     for (at, code) in codes.iter().enumerate() {
         if let Some(offset) = floating_offset(pool, code) {
-            return Some(AdmitError::FloatingPoint(number, Place::Code(at as u16, offset)));
+            return Some(AdmitError::FloatingPoint(
+                number,
+                FloatingPointUse::Code(at as u16, offset),
+            ));
         }
     }
     None

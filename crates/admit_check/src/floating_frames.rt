@@ -13,7 +13,7 @@ ghost use Rattle.admit_check.specs.FloatingFrames.{floating_frames_of, floating_
 
 use crate::code_tables::is_frame_name;
 use crate::codes::code_of;
-use crate::error::{AdmitError, Place};
+use crate::error::{AdmitError, FloatingPointUse};
 use const_pool::{ClassFile, Member, Pool, Raw};
 use jf_bytes::NoMemory;
 use stackmap_shift::{Frame, FrameError, FrameKind, VType, read_frames};
@@ -118,7 +118,7 @@ fn frame_fault(
 {
     for (at, method) in methods.iter().enumerate() {
         if let Some(offset) = floating_tables(alloc, pool, method)? {
-            let place = Place::Frame(at as u16, offset);
+            let place = FloatingPointUse::Frame(at as u16, offset);
             return Ok(Some(AdmitError::FloatingPoint(number, place)));
         }
     }

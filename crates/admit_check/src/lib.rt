@@ -17,4 +17,4 @@ mod twins;
 mod uses;
 
 pub use admission::{admit, admit_class};
-pub use error::{AdmitError, CodeCause, Place, ShapeCause};
+pub use error::{AdmitError, CodeCause, FloatingPointUse, ShapeCause};

@@ -28,7 +28,7 @@ use crate::lookup::{
 use class_index::{Order, Wanted};
 use class_linker::Linker;
 use jf_bytes::{NoMemory, Text16, from_utf8};
-use jvm_named::{MemberName, MethodNumbers, Place, SymbolicReference, resolved_name};
+use jvm_named::{DeclaredMember, MemberName, MethodNumbers, SymbolicReference, resolved_name};
 use std::alloc::Global;
 
 // ---- of one method or class
@@ -96,7 +96,7 @@ fn add_selections_of(
     lineage: &Lineage,
     interface: bool,
     class: u32,
-    m: Place,
+    m: DeclaredMember,
     classes: &[u32],
     found: &mut Order,
 ) -> Result<(), NoMemory>
@@ -120,7 +120,7 @@ fn add_selections(
     lineage: &Lineage,
     interface: bool,
     class: u32,
-    m: Place,
+    m: DeclaredMember,
     found: &mut Order,
 ) -> Result<(), NoMemory>
     requires known { AreKnown linker.now numbers.now lineage.now }
@@ -164,7 +164,7 @@ fn special_number(
     linker: &Linker,
     numbers: &MethodNumbers,
     caller: &Text16,
-    m: Place,
+    m: DeclaredMember,
 ) -> Option<u32>
     requires numbers { AreNumbers linker.now.program numbers.now }
     requires caller { (class : ℕ) → class_named linker.now.program caller.now ≡ Some class →

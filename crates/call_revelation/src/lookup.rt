@@ -19,7 +19,9 @@ use class_index::{Wanted, meaning_of, method_at};
 use class_linker::{Linker, Resolved};
 use jf_bytes::Text16;
 use jvm_model::Program;
-use jvm_named::{MemberName, MethodNumbers, Place, is_static, is_static_field, user_count};
+use jvm_named::{
+    DeclaredMember, MemberName, MethodNumbers, is_static, is_static_field, user_count,
+};
 
 // ---- classes
 
@@ -49,7 +51,7 @@ pub fn class_with_methods(linker: &Linker, lineage: &Lineage, name: &Text16) -> 
 // ---- methods
 
 /// The method, where it is static as it is asked for, or is not.
-fn method_kept(program: &Program, m: Place, fixed: bool) -> Option<Place>
+fn method_kept(program: &Program, m: DeclaredMember, fixed: bool) -> Option<DeclaredMember>
     ensures { option_map at_place result
         ≡ found_where (is_static program.now) fixed (Found (at_place m)) }
 {
@@ -67,7 +69,7 @@ pub fn method_found(
     interface: bool,
     fixed: bool,
     member: &MemberName,
-) -> Option<Place>
+) -> Option<DeclaredMember>
     requires { IsLoaded linker.now class }
     ensures { option_map at_place result
         ≡ found_where (is_static linker.now.program) fixed
@@ -75,7 +77,7 @@ pub fn method_found(
 {
     match linker.resolve_method(class, interface, &member.name, &member.descriptor) {
         Resolved::Found(class, position) => {
-            method_kept(linker.program(), Place { class, position }, fixed)
+            method_kept(linker.program(), DeclaredMember { class, position }, fixed)
         }
         Resolved::Throws(_) => None,
     }
@@ -84,7 +86,7 @@ pub fn method_found(
 // ---- fields
 
 /// The field, where it is static.
-fn field_kept(linker: &Linker, m: Place) -> Option<Place>
+fn field_kept(linker: &Linker, m: DeclaredMember) -> Option<DeclaredMember>
     ensures { option_map at_place result
         ≡ found_where (is_static_field linker.now.program) true (Found (at_place m)) }
 {
@@ -96,14 +98,18 @@ fn field_kept(linker: &Linker, m: Place) -> Option<Place>
 }
 
 /// The static field that a reference stands for in a class.
-pub fn static_field_found(linker: &Linker, class: u32, member: &MemberName) -> Option<Place>
+pub fn static_field_found(
+    linker: &Linker,
+    class: u32,
+    member: &MemberName,
+) -> Option<DeclaredMember>
     requires { IsLoaded linker.now class }
     ensures { option_map at_place result
         ≡ found_where (is_static_field linker.now.program) true
         (resolved_field linker.now.program class (reference_of member.now).member) }
 {
     match linker.resolve_field(class, &member.name, &member.descriptor) {
-        Resolved::Found(class, position) => field_kept(linker, Place { class, position }),
+        Resolved::Found(class, position) => field_kept(linker, DeclaredMember { class, position }),
         Resolved::Throws(_) => None,
     }
 }
@@ -149,7 +155,7 @@ pub fn selected_number(
     linker: &Linker,
     numbers: &MethodNumbers,
     interface: bool,
-    m: Place,
+    m: DeclaredMember,
     receiver: u32,
 ) -> Option<u32>
     requires numbers { AreNumbers linker.now.program numbers.now }
@@ -167,7 +173,7 @@ fn selected_below(
     numbers: &MethodNumbers,
     interface: bool,
     class: u32,
-    m: Place,
+    m: DeclaredMember,
     lower: u32,
 ) -> Option<u32>
     requires numbers { AreNumbers linker.now.program numbers.now }
@@ -188,7 +194,7 @@ pub fn selection_of(
     lineage: &Lineage,
     interface: bool,
     class: u32,
-    m: Place,
+    m: DeclaredMember,
     lower: u32,
 ) -> Option<u32>
     requires { AreKnown linker.now numbers.now lineage.now }

@@ -1,5 +1,5 @@
 pub mod LoadedClasses
 pub mod States
 pub mod Linkers
-pub mod Places
+pub mod DeclaredMethods
 pub mod Passing

@@ -3,12 +3,12 @@
 #![tactic(auto)]
 
 mod answers;
+mod declared_method;
 mod kinds;
 mod linker;
 mod loaded_classes;
 mod loading;
 mod overriding;
-mod place;
 mod resolving;
 mod selecting;
 mod super_calls;

@@ -16,11 +16,11 @@ ghost use Rattle.class_linker.specs.Linkers.{loaded_by, parts_of, resolved_of};
 ghost use Rattle.jvm_model.specs.Classes.SuperCalls.{invoked_special};
 
 use crate::answers::{Loaded, Resolved};
+use crate::declared_method::DeclaredMethod;
 use crate::kinds::is_subkind;
 use crate::loaded_classes::LoadedClass;
 use crate::loading::State;
 use crate::overriding::overrides;
-use crate::place::Place;
 use crate::resolving::{resolved_field, resolved_method};
 use crate::selecting::selected;
 use crate::super_calls::invoked_special;
@@ -202,7 +202,7 @@ impl Linker {
             ≡ selected self.now.program receiver interface (place_in class position) }
     {
         let rows = self.state.rows.as_slice();
-        let m = Place { class, position };
+        let m = DeclaredMethod { class, position };
         let found = selected(&self.index, rows, receiver, interface, m)?;
         Some((found.class, found.position))
     }
@@ -217,7 +217,12 @@ impl Linker {
             ≡ invoked_special self.now.program caller (place_in class position) }
     {
         let rows = self.state.rows.as_slice();
-        let found = invoked_special(&self.index, rows, caller, Place { class, position })?;
+        let found = invoked_special(
+            &self.index,
+            rows,
+            caller,
+            DeclaredMethod { class, position },
+        )?;
         Some((found.class, found.position))
     }
 
@@ -229,8 +234,8 @@ impl Linker {
         ensures relation { IsTrue result ↔ Overrides self.now.program (place_in class position)
             (place_in above above_position) }
     {
-        let m1 = Place { class, position };
-        let m2 = Place {
+        let m1 = DeclaredMethod { class, position };
+        let m2 = DeclaredMethod {
             class: above,
             position: above_position,
         };

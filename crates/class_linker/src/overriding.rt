@@ -9,11 +9,11 @@ ghost use Rattle.jvm_model.specs.Classes.Selection.{Overrides, access_of, is_abs
 ghost use Rattle.jvm_model.specs.Classes.Selection.{is_reached, is_static, overrides, passed_at};
 ghost use Rattle.jvm_model.specs.Classes.Selection.{passes_on, same_package, signature_of, stands_below};
 ghost use Rattle.class_index.specs.Members.{is_declared_as, wanted_view};
-ghost use Rattle.class_linker.specs.Places.{at_place};
+ghost use Rattle.class_linker.specs.DeclaredMethods.{at_place};
 ghost use Rattle.class_linker.specs.LoadedClasses.{AreLoadedClasses, holds_all, holds_class};
 
+use crate::declared_method::DeclaredMethod;
 use crate::loaded_classes::LoadedClass;
-use crate::place::Place;
 use crate::walks::{is_subtype, supertypes_of};
 use class_index::{
     ABSTRACT, Index, PRIVATE, PROTECTED, PUBLIC, STATIC, Wanted, has_flag, in_same_package,
@@ -23,7 +23,7 @@ use class_index::{
 // ---- a method
 
 /// Its flags.
-fn access_of(index: &Index, m: Place) -> u16
+fn access_of(index: &Index, m: DeclaredMethod) -> u16
     ensures { result ≡ access_of index.now (at_place m) }
 {
     match index.file(m.class) {
@@ -35,26 +35,26 @@ fn access_of(index: &Index, m: Place) -> u16
     }
 }
 
-fn is_private(index: &Index, m: Place) -> bool
+fn is_private(index: &Index, m: DeclaredMethod) -> bool
     ensures { result ≡ is_private index.now (at_place m) }
 {
     has_flag(access_of(index, m), PRIVATE)
 }
 
-pub fn is_static(index: &Index, m: Place) -> bool
+pub fn is_static(index: &Index, m: DeclaredMethod) -> bool
     ensures { result ≡ is_static index.now (at_place m) }
 {
     has_flag(access_of(index, m), STATIC)
 }
 
-pub fn is_abstract(index: &Index, m: Place) -> bool
+pub fn is_abstract(index: &Index, m: DeclaredMethod) -> bool
     ensures { result ≡ is_abstract index.now (at_place m) }
 {
     has_flag(access_of(index, m), ABSTRACT)
 }
 
 /// Whether it is public or protected.
-fn is_open(index: &Index, m: Place) -> bool
+fn is_open(index: &Index, m: DeclaredMethod) -> bool
     ensures { result ≡ is_open index.now (at_place m) }
 {
     let access = access_of(index, m);
@@ -62,7 +62,7 @@ fn is_open(index: &Index, m: Place) -> bool
 }
 
 /// Its name and descriptor.
-pub fn signature_of(index: &Index, m: Place) -> Option<Wanted<'_>>
+pub fn signature_of(index: &Index, m: DeclaredMethod) -> Option<Wanted<'_>>
     ensures { option_map wanted_view result ≡ signature_of index.now (at_place m) }
 {
     let file = index.file(m.class)?;
@@ -99,7 +99,7 @@ fn same_package(index: &Index, a: u32, b: u32) -> bool
 // ---- overriding
 
 /// Whether the class of the first method has, for the second one's name and descriptor, that method.
-fn is_declared_as(index: &Index, m1: Place, m2: Place) -> bool
+fn is_declared_as(index: &Index, m1: DeclaredMethod, m2: DeclaredMethod) -> bool
     ensures { result ≡ is_declared_as index.now (at_place m1) (at_place m2) }
 {
     match signature_of(index, m2) {
@@ -112,7 +112,12 @@ fn is_declared_as(index: &Index, m1: Place, m2: Place) -> bool
 }
 
 /// Whether the class of the first method is a proper subtype of the second one's, with the same name and descriptor.
-pub fn stands_below(index: &Index, rows: &[Option<LoadedClass>], m1: Place, m2: Place) -> bool
+pub fn stands_below(
+    index: &Index,
+    rows: &[Option<LoadedClass>],
+    m1: DeclaredMethod,
+    m2: DeclaredMethod,
+) -> bool
     requires rows { AreLoadedClasses index.now rows.now }
     requires has { holds_class rows.now m1.class ≡ true }
     ensures { result ≡ stands_below index.now (at_place m1) (at_place m2) }
@@ -123,14 +128,20 @@ pub fn stands_below(index: &Index, rows: &[Option<LoadedClass>], m1: Place, m2: 
 }
 
 /// Whether the method can be overridden from the class itself.
-pub fn is_reached(index: &Index, class: u32, m: Place) -> bool
+pub fn is_reached(index: &Index, class: u32, m: DeclaredMethod) -> bool
     ensures { result ≡ is_reached index.now class (at_place m) }
 {
     !is_private(index, m) && (is_open(index, m) || same_package(index, class, m.class))
 }
 
 /// Whether the third method, between the two, makes the first one override the second.
-fn passes_on(index: &Index, rows: &[Option<LoadedClass>], m1: Place, m2: Place, m3: Place) -> bool
+fn passes_on(
+    index: &Index,
+    rows: &[Option<LoadedClass>],
+    m1: DeclaredMethod,
+    m2: DeclaredMethod,
+    m3: DeclaredMethod,
+) -> bool
     requires rows { AreLoadedClasses index.now rows.now }
     requires first { holds_class rows.now m1.class ≡ true }
     requires third { holds_class rows.now m3.class ≡ true }
@@ -144,7 +155,13 @@ fn passes_on(index: &Index, rows: &[Option<LoadedClass>], m1: Place, m2: Place, 
 }
 
 /// Whether such a method is declared in the class.
-fn passed_at(index: &Index, rows: &[Option<LoadedClass>], m1: Place, m2: Place, class: u32) -> bool
+fn passed_at(
+    index: &Index,
+    rows: &[Option<LoadedClass>],
+    m1: DeclaredMethod,
+    m2: DeclaredMethod,
+    class: u32,
+) -> bool
     requires rows { AreLoadedClasses index.now rows.now }
     requires first { holds_class rows.now m1.class ≡ true }
     requires has { holds_class rows.now class ≡ true }
@@ -152,7 +169,7 @@ fn passed_at(index: &Index, rows: &[Option<LoadedClass>], m1: Place, m2: Place, 
 {
     match signature_of(index, m2) {
         Some(wanted) => match method_at(index, &wanted, class) {
-            Some(position) => passes_on(index, rows, m1, m2, Place { class, position }),
+            Some(position) => passes_on(index, rows, m1, m2, DeclaredMethod { class, position }),
             None => false,
         },
         None => false,
@@ -163,8 +180,8 @@ fn passed_at(index: &Index, rows: &[Option<LoadedClass>], m1: Place, m2: Place, 
 fn passed_among(
     index: &Index,
     rows: &[Option<LoadedClass>],
-    m1: Place,
-    m2: Place,
+    m1: DeclaredMethod,
+    m2: DeclaredMethod,
     classes: &[u32],
 ) -> bool
     requires rows { AreLoadedClasses index.now rows.now }
@@ -181,7 +198,12 @@ fn passed_among(
 }
 
 /// Whether such a method is declared above the first one.
-pub fn is_passed(index: &Index, rows: &[Option<LoadedClass>], m1: Place, m2: Place) -> bool
+pub fn is_passed(
+    index: &Index,
+    rows: &[Option<LoadedClass>],
+    m1: DeclaredMethod,
+    m2: DeclaredMethod,
+) -> bool
     requires rows { AreLoadedClasses index.now rows.now }
     requires first { holds_class rows.now m1.class ≡ true }
     ensures { result ≡ list_any (passed_at index.now (at_place m1) (at_place m2))
@@ -191,7 +213,12 @@ pub fn is_passed(index: &Index, rows: &[Option<LoadedClass>], m1: Place, m2: Pla
 }
 
 /// Whether the first method stands below the second, which its class reaches or another method passes on.
-fn passes_test(index: &Index, rows: &[Option<LoadedClass>], m1: Place, m2: Place) -> bool
+fn passes_test(
+    index: &Index,
+    rows: &[Option<LoadedClass>],
+    m1: DeclaredMethod,
+    m2: DeclaredMethod,
+) -> bool
     requires rows { AreLoadedClasses index.now rows.now }
     requires first { holds_class rows.now m1.class ≡ true }
     ensures { result ≡ overrides index.now (at_place m1) (at_place m2) }
@@ -201,7 +228,12 @@ fn passes_test(index: &Index, rows: &[Option<LoadedClass>], m1: Place, m2: Place
 }
 
 /// Whether the first method overrides the second.
-pub fn overrides(index: &Index, rows: &[Option<LoadedClass>], m1: Place, m2: Place) -> bool
+pub fn overrides(
+    index: &Index,
+    rows: &[Option<LoadedClass>],
+    m1: DeclaredMethod,
+    m2: DeclaredMethod,
+) -> bool
     requires rows { AreLoadedClasses index.now rows.now }
     requires first { holds_class rows.now m1.class ≡ true }
     ensures test { result ≡ overrides index.now (at_place m1) (at_place m2) }

@@ -6,18 +6,18 @@ ghost use Rattle.jvm_model.specs.Classes.Lookup.{first_in};
 ghost use Rattle.jvm_model.specs.Classes.Selection.{candidate, fits, nearest, overrides, same_member};
 ghost use Rattle.jvm_model.specs.Classes.Selection.{selected};
 ghost use Rattle.class_linker.specs.Passing.{IsChain, IsUnpassed};
-ghost use Rattle.class_linker.specs.Places.{at_place};
+ghost use Rattle.class_linker.specs.DeclaredMethods.{at_place};
 ghost use Rattle.class_linker.specs.LoadedClasses.{AreLoadedClasses, holds_all, holds_class};
 
+use crate::declared_method::DeclaredMethod;
 use crate::loaded_classes::LoadedClass;
 use crate::overriding::{
     is_abstract, is_passed, is_reached, is_static, signature_of, stands_below,
 };
-use crate::place::Place;
 use crate::walks::superclasses_of;
 use class_index::{Index, method_at};
 
-fn same_member(a: Place, b: Place) -> bool
+fn same_member(a: DeclaredMethod, b: DeclaredMethod) -> bool
     ensures { result ≡ same_member (at_place a) (at_place b) }
 {
     a.class == b.class && a.position == b.position
@@ -28,8 +28,8 @@ fn same_member(a: Place, b: Place) -> bool
 fn overrides_while(
     index: &Index,
     rows: &[Option<LoadedClass>],
-    own: Place,
-    m: Place,
+    own: DeclaredMethod,
+    m: DeclaredMethod,
     passing: &mut bool,
 ) -> bool
     requires rows { AreLoadedClasses index.now rows.now }
@@ -55,8 +55,8 @@ fn fits(
     index: &Index,
     rows: &[Option<LoadedClass>],
     interface: bool,
-    m: Place,
-    own: Place,
+    m: DeclaredMethod,
+    own: DeclaredMethod,
     passing: &mut bool,
 ) -> bool
     requires rows { AreLoadedClasses index.now rows.now }
@@ -79,7 +79,7 @@ fn candidate(
     index: &Index,
     rows: &[Option<LoadedClass>],
     interface: bool,
-    m: Place,
+    m: DeclaredMethod,
     class: u32,
     passing: &mut bool,
 ) -> Option<u16>
@@ -96,7 +96,7 @@ fn candidate(
         rows,
         interface,
         m,
-        Place { class, position },
+        DeclaredMethod { class, position },
         passing,
     ) {
         Some(position)
@@ -110,9 +110,9 @@ fn first_candidate(
     index: &Index,
     rows: &[Option<LoadedClass>],
     interface: bool,
-    m: Place,
+    m: DeclaredMethod,
     classes: &[u32],
-) -> Option<Place>
+) -> Option<DeclaredMethod>
     requires rows { AreLoadedClasses index.now rows.now }
     requires have { holds_all rows.now classes.now ≡ true }
     requires chain { IsChain index.now classes.now }
@@ -122,7 +122,7 @@ fn first_candidate(
     let mut passing = true;
     for class in classes {
         if let Some(position) = candidate(index, rows, interface, m, *class, &mut passing) {
-            return Some(Place {
+            return Some(DeclaredMethod {
                 class: *class,
                 position,
             });
@@ -137,8 +137,8 @@ pub fn nearest(
     rows: &[Option<LoadedClass>],
     receiver: u32,
     interface: bool,
-    m: Place,
-) -> Option<Place>
+    m: DeclaredMethod,
+) -> Option<DeclaredMethod>
     requires rows { AreLoadedClasses index.now rows.now }
     requires has { holds_class rows.now receiver ≡ true }
     ensures { option_map at_place result ≡ nearest index.now receiver interface (at_place m) }
@@ -158,8 +158,8 @@ pub fn selected(
     rows: &[Option<LoadedClass>],
     receiver: u32,
     interface: bool,
-    m: Place,
-) -> Option<Place>
+    m: DeclaredMethod,
+) -> Option<DeclaredMethod>
     requires rows { AreLoadedClasses index.now rows.now }
     requires has { holds_class rows.now receiver ≡ true }
     ensures { option_map at_place result ≡ selected index.now receiver interface (at_place m) }

@@ -4,20 +4,20 @@ ghost use Rattle.std.specs.Prelude.{◌≡◌, IfSome, true};
 ghost use Rattle.std.specs.Option.{option_map};
 ghost use Rattle.jvm_model.specs.Classes.Load.{is_among};
 ghost use Rattle.jvm_model.specs.Basis.Programs.{super_of};
-ghost use Rattle.class_linker.specs.Places.{at_place};
+ghost use Rattle.class_linker.specs.DeclaredMethods.{at_place};
 ghost use Rattle.class_linker.specs.LoadedClasses.{AreLoadedClasses, holds_class};
 ghost use Rattle.jvm_model.specs.Classes.SuperCalls.{invoked_special, is_inherited, is_initializer};
 ghost use Rattle.jvm_model.specs.Classes.SuperCalls.{nearest_above, taken};
 
+use crate::declared_method::DeclaredMethod;
 use crate::loaded_classes::LoadedClass;
 use crate::overriding::{is_abstract, signature_of};
-use crate::place::Place;
 use crate::selecting::nearest;
 use crate::walks::{is_superclass, superclass_of};
 use class_index::Index;
 
 /// Whether it is an instance initialization method (2.9).
-fn is_initializer(index: &Index, m: Place) -> bool
+fn is_initializer(index: &Index, m: DeclaredMethod) -> bool
     ensures { result ≡ is_initializer index.now (at_place m) }
 {
     match signature_of(index, m) {
@@ -27,7 +27,7 @@ fn is_initializer(index: &Index, m: Place) -> bool
 }
 
 /// Whether it is declared in a proper superclass of the caller.
-fn is_inherited(index: &Index, rows: &[Option<LoadedClass>], caller: u32, m: Place) -> bool
+fn is_inherited(index: &Index, rows: &[Option<LoadedClass>], caller: u32, m: DeclaredMethod) -> bool
     requires rows { AreLoadedClasses index.now rows.now }
     requires has { holds_class rows.now caller ≡ true }
     ensures { result ≡ is_inherited index.now caller (at_place m) }
@@ -43,8 +43,8 @@ fn nearest_above(
     index: &Index,
     rows: &[Option<LoadedClass>],
     caller: u32,
-    m: Place,
-) -> Option<Place>
+    m: DeclaredMethod,
+) -> Option<DeclaredMethod>
     requires rows { AreLoadedClasses index.now rows.now }
     requires has { holds_class rows.now caller ≡ true }
     ensures { option_map at_place result ≡ nearest_above index.now caller (at_place m) }
@@ -54,7 +54,12 @@ fn nearest_above(
 }
 
 /// The method that is taken for the resolved one, be it abstract.
-fn taken(index: &Index, rows: &[Option<LoadedClass>], caller: u32, m: Place) -> Option<Place>
+fn taken(
+    index: &Index,
+    rows: &[Option<LoadedClass>],
+    caller: u32,
+    m: DeclaredMethod,
+) -> Option<DeclaredMethod>
     requires rows { AreLoadedClasses index.now rows.now }
     requires has { holds_class rows.now caller ≡ true }
     ensures { option_map at_place result ≡ taken index.now caller (at_place m) }
@@ -71,8 +76,8 @@ pub fn invoked_special(
     index: &Index,
     rows: &[Option<LoadedClass>],
     caller: u32,
-    m: Place,
-) -> Option<Place>
+    m: DeclaredMethod,
+) -> Option<DeclaredMethod>
     requires rows { AreLoadedClasses index.now rows.now }
     requires has { holds_class rows.now caller ≡ true }
     ensures { option_map at_place result ≡ invoked_special index.now caller (at_place m) }

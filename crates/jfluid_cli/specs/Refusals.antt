@@ -8,8 +8,8 @@ use Rattle.admit_check.specs.declared.error.AdmitError.{AdmitError}
 use Rattle.admit_check.specs.declared.error.AdmitError.TheVariants as admit
 use Rattle.admit_check.specs.declared.error.CodeCause.{CodeCause}
 use Rattle.admit_check.specs.declared.error.CodeCause.TheVariants as code
-use Rattle.admit_check.specs.declared.error.Place.{Place}
-use Rattle.admit_check.specs.declared.error.Place.TheVariants as place
+use Rattle.admit_check.specs.declared.error.FloatingPointUse.{FloatingPointUse}
+use Rattle.admit_check.specs.declared.error.FloatingPointUse.TheVariants as place
 use Rattle.admit_check.specs.declared.error.ShapeCause.{ShapeCause}
 use Rattle.admit_check.specs.declared.error.ShapeCause.TheVariants as shape
 use Rattle.inject_events.specs.declared.error.Cause.{Cause}
@@ -124,7 +124,7 @@ limit_word limit.Frames = codes "Frames"
 limit_word limit.Length = codes "Length"
 limit_word limit.Branch = codes "Branch"
 
-abbrev pub place_text : Place → List ℕ
+abbrev pub place_text : FloatingPointUse → List ℕ
 place_text (place.Field n) = codes "Field " ++ decimal n
 place_text (place.Method n) = codes "Method " ++ decimal n
 place_text (place.Code n at) = codes "Code " ++ (decimal n ++ (codes " " ++ decimal at))

@@ -6,7 +6,7 @@ ghost use Rattle.jfluid_cli.specs.Refusals.{admission_cause as cause_told, class
 ghost use Rattle.jfluid_cli.specs.Refusals.{place_text as place_told, shape_word as shape_told};
 ghost use Rattle.jfluid_cli.specs.Refusals.{limit_word as limit_told};
 
-use admit_check::{AdmitError, CodeCause, Place, ShapeCause};
+use admit_check::{AdmitError, CodeCause, FloatingPointUse, ShapeCause};
 use inject_events::Cause;
 use std::alloc::{AllocError, Global};
 
@@ -77,14 +77,14 @@ fn limit_word(cause: Cause) -> &'static str
 }
 
 /// A place, with its numbers.
-fn place_text(alloc: Global, place: Place) -> Result<String, AllocError>
+fn place_text(alloc: Global, place: FloatingPointUse) -> Result<String, AllocError>
     ensures { IfOk result (λ text. string_bytes text ≡ place_told place) }
 {
     match place {
-        Place::Field(field) => format!(in alloc; "Field {field}"),
-        Place::Method(method) => format!(in alloc; "Method {method}"),
-        Place::Code(method, at) => format!(in alloc; "Code {method} {at}"),
-        Place::Frame(method, at) => format!(in alloc; "Frame {method} {at}"),
+        FloatingPointUse::Field(field) => format!(in alloc; "Field {field}"),
+        FloatingPointUse::Method(method) => format!(in alloc; "Method {method}"),
+        FloatingPointUse::Code(method, at) => format!(in alloc; "Code {method} {at}"),
+        FloatingPointUse::Frame(method, at) => format!(in alloc; "Frame {method} {at}"),
     }
 }
 

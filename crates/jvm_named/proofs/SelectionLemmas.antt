@@ -24,7 +24,7 @@ use Rattle.jvm_named.specs.Objects.{class_at_kind}
 use Rattle.jvm_named.specs.Targets.{Target, data_in, instance_target, receiver_class, target_in}
 use Rattle.jvm_named.proofs.KnownLemmas.{of_site}
 use Rattle.jvm_named.specs.declared.selections.Selection.{Selection}
-use Rattle.jvm_named.specs.declared.place.Place.{Place}
+use Rattle.jvm_named.specs.declared.declared_member.DeclaredMember.{DeclaredMember}
 use Rattle.jvm_named.specs.Selections.{AreSelections, IsSelection, Slots, selecting_by, selection_for, site_for}
 
 no-selection : {A : Type 0} (s : A) → None ≡ Some s → ⊥
@@ -61,7 +61,7 @@ free-slot p (x ∷ xs) are (suc at) s e = free-slot p xs (tail-of p x xs are) at
 pub free_selection : (p : Program) (xs : Slots) → AreSelections p xs → AreSelections p (xs ++ None ∷ [])
 free_selection p xs are = record { each = free-slot p xs are.each }
 
-pub in-parts : (p : Program) (s : Selection) (kind : ℕ) (interface : Bool) (method : Place) (last : ℕ) → s.site.last ≡ last → s.site.method ≡ method → s.kind ≡ kind
+pub in-parts : (p : Program) (s : Selection) (kind : ℕ) (interface : Bool) (method : DeclaredMember) (last : ℕ) → s.site.last ≡ last → s.site.method ≡ method → s.kind ≡ kind
     → s.interface ≡ interface → IsSelection p s → IsSelection p (selection_for kind interface (site_for method last s.site.chosen))
 in-parts p s kind interface method last at_last at_method at_kind at_interface is =
     subst (λ k. IsSelection p (selection_for k interface (site_for method last s.site.chosen))) at_kind
@@ -98,7 +98,7 @@ module _ (l : LinkerView) (r : Reference) (interface : Bool) (known : Known) (si
 
 -- ---- the target, where what is selected for the receiver's kind is known
 
-module _ (p : Program) (kind : ℕ) (by : Selecting) (r : Reference) (h : HeapView) (o : Operands) (count last : ℕ) (m : Place) (c : Chosen)
+module _ (p : Program) (kind : ℕ) (by : Selecting) (r : Reference) (h : HeapView) (o : Operands) (count last : ℕ) (m : DeclaredMember) (c : Chosen)
     (given : Some (data_in count o) ≡ arguments_by true r.member o) (named : kind_named p r.class ≡ Some kind)
     (there : (receiver_in (data_in count o) == 0) ≡ false) (of : Some last ≡ kind_at (receiver_in (data_in count o)) h)
     (site : IsSite p kind by r (site_for m last c)) where

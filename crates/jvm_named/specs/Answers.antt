@@ -14,7 +14,7 @@ use Rattle.jvm_model.specs.Instructions.InvocationRules.{abstract_method, unsati
 use Rattle.jvm_model.specs.Classes.Load.{circular_class}
 use Rattle.jvm_model.specs.Classes.Lookup.{MemberPlace, incompatible_change}
 use Rattle.jvm_model.specs.Basis.SharedState.{negative_array_size, no_class_definition, no_such_field, no_such_method, null_pointer}
-use Rattle.jvm_named.specs.declared.place.Place.{Place}
+use Rattle.jvm_named.specs.declared.declared_member.DeclaredMember.{DeclaredMember}
 use Rattle.jvm_named.specs.Members.{at_place}
 use Rattle.jvm_named.specs.declared.asked.Exception.{Exception}
 use Rattle.jvm_named.specs.declared.asked.Exception.TheVariants as exception
@@ -60,7 +60,7 @@ abbrev pub found_view : {A : Type 0} → Result A AbruptCompletion → Result A 
 found_view (Ok x) = Ok x
 found_view (Err e) = Err (abrupt_view e)
 
-abbrev pub place_found : Result Place AbruptCompletion → Result MemberPlace Outcome
+abbrev pub place_found : Result DeclaredMember AbruptCompletion → Result MemberPlace Outcome
 place_found (Ok m) = Ok (at_place m)
 place_found (Err e) = Err (abrupt_view e)
 

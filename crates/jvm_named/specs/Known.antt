@@ -15,7 +15,7 @@ use Rattle.jvm_named.specs.declared.known.Found.{Found}
 use Rattle.jvm_named.specs.declared.known.Found.TheVariants as found
 use Rattle.jvm_named.specs.declared.known.Known.{Known}
 use Rattle.jvm_named.specs.declared.known.Site.{Site}
-use Rattle.jvm_named.specs.declared.place.Place.{Place}
+use Rattle.jvm_named.specs.declared.declared_member.DeclaredMember.{DeclaredMember}
 use Rattle.jvm_named.specs.Callees.{HasCallee, chosen_place}
 use Rattle.jvm_named.specs.Fields.{has_field_at}
 use Rattle.jvm_named.specs.Members.{at_place}
@@ -25,18 +25,18 @@ use Rattle.jvm_named.specs.Resolved.{field_found, method_found}
 -- ---- fields
 
 -- an instance field that a name stands for, its slot, and a kind whose objects have it
-pub record IsField (p : Program) (kind : ℕ) (r : Reference) (field : Place) (slot last : ℕ) : Type 0 where
+pub record IsField (p : Program) (kind : ℕ) (r : Reference) (field : DeclaredMember) (slot last : ℕ) : Type 0 where
   pub named : field_found p kind false r ≡ Ok (at_place field)
   pub stands : slot ≡ slot_of p (at_place field)
   pub own : has_field_at p (Some last) kind field.class ≡ true
 
-abbrev pub IsFieldOf : SymbolicReference → Program → ℕ → Place → ℕ → ℕ → Type 0
+abbrev pub IsFieldOf : SymbolicReference → Program → ℕ → DeclaredMember → ℕ → ℕ → Type 0
 IsFieldOf (Getfield r) p kind field slot last = IsField p kind r field slot last
 IsFieldOf (Putfield r) p kind field slot last = IsField p kind r field slot last
 IsFieldOf n p kind field slot last = Unit {0}
 
 -- a static field that a name stands for
-abbrev pub IsStaticOf : SymbolicReference → Program → ℕ → Place → Type 0
+abbrev pub IsStaticOf : SymbolicReference → Program → ℕ → DeclaredMember → Type 0
 IsStaticOf (Getstatic r) p kind field = field_found p kind true r ≡ Ok (at_place field)
 IsStaticOf (Putstatic r) p kind field = field_found p kind true r ≡ Ok (at_place field)
 IsStaticOf n p kind field = Unit {0}

@@ -7,7 +7,7 @@ use Rattle.const_pool.specs.References.{Reference, name_type_of}
 use Rattle.jvm_model.specs.Basis.Descriptors.{shape_of}
 use Rattle.jvm_model.specs.Classes.Lookup.{MemberPlace, place_in}
 use Rattle.jvm_named.specs.declared.symbolic_reference.MemberName.{MemberName}
-use Rattle.jvm_named.specs.declared.place.Place.{Place}
+use Rattle.jvm_named.specs.declared.declared_member.DeclaredMember.{DeclaredMember}
 
 abbrev pub reference_of : MemberName → Reference
 reference_of m = record { class = m.class; member = name_type_of m.name m.descriptor }
@@ -17,5 +17,5 @@ abbrev pub params_by : List ℕ → Option (List Kind)
 params_by descriptor = option_map (λ (shape : Shape). shape.params) (shape_of descriptor)
 
 -- where a member stands
-abbrev pub at_place : Place → MemberPlace
+abbrev pub at_place : DeclaredMember → MemberPlace
 at_place m = place_in m.class m.position

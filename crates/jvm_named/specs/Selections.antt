@@ -6,7 +6,7 @@ use Rattle.jvm_model.specs.Instructions.SymbolicReference.{is_below_kind}
 use Rattle.jvm_model.specs.Basis.SharedState.{class_of_kind}
 use Rattle.jvm_named.specs.declared.known.Chosen.{Chosen}
 use Rattle.jvm_named.specs.declared.known.Site.{Site}
-use Rattle.jvm_named.specs.declared.place.Place.{Place}
+use Rattle.jvm_named.specs.declared.declared_member.DeclaredMember.{DeclaredMember}
 use Rattle.jvm_named.specs.declared.selections.Selection.{Selection}
 use Rattle.jvm_named.specs.Callees.{HasCallee, chosen_place}
 use Rattle.jvm_named.specs.Members.{at_place}
@@ -26,7 +26,7 @@ pub record IsSelection (p : Program) (s : Selection) : Type 0 where
   pub callee : HasCallee p s.site.chosen
 
 -- the same in parts
-abbrev pub site_for : Place → ℕ → Chosen → Site
+abbrev pub site_for : DeclaredMember → ℕ → Chosen → Site
 site_for method last chosen = record { method = method; last = last; chosen = chosen }
 
 abbrev pub selection_for : ℕ → Bool → Site → Selection

@@ -7,16 +7,16 @@ ghost use Rattle.jvm_named.specs.Callees.{IsCallee};
 ghost use Rattle.jvm_named.specs.Members.{at_place};
 ghost use Rattle.jvm_named.specs.Numbers.{AreNumbers};
 
+use crate::declared_member::DeclaredMember;
 use crate::instances::user_count;
 use crate::known::Callee;
 use crate::natives::native_at;
 use crate::numbers::MethodNumbers;
-use crate::place::Place;
 use crate::targets::is_abstract;
 use class_linker::Linker;
 
 /// The native method that stands there, if it is one of a built-in class.
-fn native_callee(linker: &Linker, m: Place) -> Callee
+fn native_callee(linker: &Linker, m: DeclaredMember) -> Callee
     requires concrete { is_abstract linker.now.program (at_place m) ≡ false }
     requires codeless { number_of_method linker.now.program m.class m.position ≡ None }
     ensures { IsCallee result linker.now.program (at_place m) }
@@ -31,7 +31,7 @@ fn native_callee(linker: &Linker, m: Place) -> Callee
 }
 
 /// What is invoked of a method. One that raises is looked at again.
-pub fn callee_of(linker: &Linker, numbers: &MethodNumbers, m: Place) -> Callee
+pub fn callee_of(linker: &Linker, numbers: &MethodNumbers, m: DeclaredMember) -> Callee
     requires { AreNumbers linker.now.program numbers.now }
     ensures { IsCallee result linker.now.program (at_place m) }
 {

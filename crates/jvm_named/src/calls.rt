@@ -23,11 +23,11 @@ ghost use Rattle.jvm_named.specs.Resolved.{invokes_instance, invokes_static_meth
 ghost use Rattle.jvm_named.specs.Targets.{HasCaller, selecting_view, data_in};
 
 use crate::asked::{AbruptCompletion, Asked, Exception};
+use crate::declared_member::DeclaredMember;
 use crate::instances::user_count;
 use crate::known::{Callee, Chosen, Found};
 use crate::natives::{run_native, run_numbered};
 use crate::numbers::MethodNumbers;
-use crate::place::Place;
 use crate::symbolic_reference::MethodName;
 use crate::targets::{Selecting, instance_target, is_abstract, static_target};
 use class_linker::Linker;
@@ -46,7 +46,7 @@ fn invoke_native(
     frames: &mut Frames,
     input: &[u8],
     output: &mut Seq<u8>,
-    m: Place,
+    m: DeclaredMember,
     count: u16,
     next: u16,
 ) -> Result<Asked, NoMemory>
@@ -76,7 +76,7 @@ fn invoke_found(
     frames: &mut Frames,
     input: &[u8],
     output: &mut Seq<u8>,
-    m: Place,
+    m: DeclaredMember,
     count: u16,
     next: u16,
 ) -> Result<Asked, NoMemory>

@@ -22,12 +22,12 @@ ghost use Rattle.jvm_named.specs.Objects.{AreLoaded, IsResolved};
 ghost use Rattle.jvm_named.specs.Resolved.{field_found, gets_instance, puts_instance};
 
 use crate::asked::{AbruptCompletion, Asked, Exception};
+use crate::declared_member::DeclaredMember;
 use crate::held::{held_by, narrowed};
 use crate::instances::{class_of_kind, kind_of_object};
 use crate::known::Found;
 use crate::members::field_found;
 use crate::moving::{drop_two, replace};
-use crate::place::Place;
 use crate::symbolic_reference::MemberName;
 use crate::values::datum_of;
 use class_index::{STATIC, has_flag};
@@ -81,7 +81,7 @@ fn fields_before(file: &ClassFile, position: u16) -> usize
 
 /// The slot of a field in the objects of a class that is the field's or inherits from it; None where it would not fit into a u32, which
 /// no class has memory for.
-fn slot_of(linker: &Linker, lower: u32, field: Place) -> Option<u32>
+fn slot_of(linker: &Linker, lower: u32, field: DeclaredMember) -> Option<u32>
     requires loaded { IsLoaded linker.now lower }
     requires extends { extends linker.now.program lower field.class ≡ true }
     ensures { IfSome result (λ slot. slot ≡ slot_of linker.now.program (at_place field)) }
@@ -107,7 +107,13 @@ pub struct Owner {
 }
 
 /// The object with its kind and class, where it is of the kind that an instruction names and has the field.
-fn owner_of(linker: &Linker, heap: &Heap, kind: u32, field: Place, object: u32) -> Option<Owner>
+fn owner_of(
+    linker: &Linker,
+    heap: &Heap,
+    kind: u32,
+    field: DeclaredMember,
+    object: u32,
+) -> Option<Owner>
     requires { AreLoaded linker.now heap.now }
     ensures has { is_some result
         ≡ has_field_at linker.now.program (kind_at object heap.now) kind field.class }
@@ -141,7 +147,7 @@ fn field_owner(
     shared: &Shared,
     member: &MemberName,
     kind: u32,
-    field: Place,
+    field: DeclaredMember,
     object: u32,
 ) -> Result<Owner, AbruptCompletion>
     requires named { kind_named linker.now.program member.now.class ≡ Some kind }
@@ -166,7 +172,14 @@ fn field_owner(
 
 /// Whether an object has a field that the objects of the last kind have; mostly it is of that kind.
 #[inline(always)]
-fn has_field(linker: &Linker, heap: &Heap, kind: u32, field: Place, last: u32, object: u32) -> bool
+fn has_field(
+    linker: &Linker,
+    heap: &Heap,
+    kind: u32,
+    field: DeclaredMember,
+    last: u32,
+    object: u32,
+) -> bool
     requires objects { AreLoaded linker.now heap.now }
     requires own { has_field_at linker.now.program (Some last) kind field.class ≡ true }
     ensures { result ≡ has_field_at linker.now.program (kind_at object heap.now) kind field.class }
@@ -188,7 +201,7 @@ pub fn known_owner(
     shared: &Shared,
     member: &MemberName,
     kind: u32,
-    field: Place,
+    field: DeclaredMember,
     last: u32,
     object: u32,
 ) -> Result<u32, AbruptCompletion>
@@ -232,7 +245,7 @@ fn read_field(
     frames: &mut Frames,
     member: &MemberName,
     kind: u32,
-    field: Place,
+    field: DeclaredMember,
     found: &mut Found,
     next: u16,
 ) -> Result<Asked, NoMemory>
@@ -273,7 +286,7 @@ pub fn read_known(
     frames: &mut Frames,
     member: &MemberName,
     kind: u32,
-    field: Place,
+    field: DeclaredMember,
     slot: u32,
     last: u32,
     next: u16,
@@ -411,7 +424,7 @@ fn write_field(
     frames: &mut Frames,
     member: &MemberName,
     kind: u32,
-    field: Place,
+    field: DeclaredMember,
     found: &mut Found,
     next: u16,
 ) -> Result<Asked, NoMemory>
@@ -458,7 +471,7 @@ fn write_known(
     frames: &mut Frames,
     member: &MemberName,
     kind: u32,
-    field: Place,
+    field: DeclaredMember,
     slot: u32,
     last: u32,
     next: u16,

@@ -1,7 +1,7 @@
 //! What the names of an instruction came to, kept so that it is done again without a look-up (JVM
 //! Specification 5.4.3).
 
-use crate::place::Place;
+use crate::declared_member::DeclaredMember;
 
 /// What is invoked of a method: its code or what is native, each by its number, or what is looked up again.
 #[derive(Clone, Copy, Debug, PartialEq, Eq)]
@@ -14,14 +14,14 @@ pub enum Callee {
 /// A method that was found, and what is invoked of it.
 #[derive(Clone, Copy, Debug, PartialEq, Eq)]
 pub struct Chosen {
-    pub place: Place,
+    pub place: DeclaredMember,
     pub callee: Callee,
 }
 
 /// A method that a name stands for, the kind of the last receiver, and the method that was selected for it.
 #[derive(Clone, Copy, Debug, PartialEq, Eq)]
 pub struct Site {
-    pub method: Place,
+    pub method: DeclaredMember,
     pub last: u32,
     pub chosen: Chosen,
 }
@@ -32,9 +32,9 @@ pub enum Found {
     /// Nothing that is kept: it is looked up again.
     Nothing,
     /// An instance field, its slot, and a kind whose objects have it: that of the object whose field it was last.
-    Field(Place, u32, u32),
+    Field(DeclaredMember, u32, u32),
     /// A static field.
-    Static(Place),
+    Static(DeclaredMember),
     /// A static method.
     Fixed(Chosen),
     /// An instance method.

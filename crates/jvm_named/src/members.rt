@@ -12,15 +12,15 @@ ghost use Rattle.jvm_named.specs.Objects.{IsUsable};
 ghost use Rattle.jvm_named.specs.Resolved.{field_found};
 
 use crate::asked::{AbruptCompletion, Exception};
+use crate::declared_member::DeclaredMember;
 use crate::instances::class_of_kind;
-use crate::place::Place;
 use crate::resolution::exception_numbered;
 use crate::symbolic_reference::MemberName;
 use class_index::{STATIC, has_flag};
 use class_linker::{Linker, Resolved};
 
 /// Whether the field is static.
-pub fn is_static_field(linker: &Linker, m: Place) -> bool
+pub fn is_static_field(linker: &Linker, m: DeclaredMember) -> bool
     ensures { result ≡ is_static_field linker.now.program (at_place m) }
 {
     let Some(file) = linker.index().file(m.class) else {
@@ -37,13 +37,13 @@ fn resolved_field(
     linker: &Linker,
     class: u32,
     member: &MemberName,
-) -> Result<Place, AbruptCompletion>
+) -> Result<DeclaredMember, AbruptCompletion>
     requires { IsLoaded linker.now class }
     ensures { place_found result
         ≡ found (resolved_field linker.now.program class (reference_of member.now).member) }
 {
     match linker.resolve_field(class, &member.name, &member.descriptor) {
-        Resolved::Found(class, position) => Ok(Place { class, position }),
+        Resolved::Found(class, position) => Ok(DeclaredMember { class, position }),
         Resolved::Throws(number) => Err(AbruptCompletion::Raises(exception_numbered(number), None)),
     }
 }
@@ -54,7 +54,7 @@ pub fn field_found(
     kind: u32,
     is_static: bool,
     member: &MemberName,
-) -> Result<Place, AbruptCompletion>
+) -> Result<DeclaredMember, AbruptCompletion>
     requires { IsUsable linker.now kind }
     ensures { place_found result
         ≡ field_found linker.now.program kind is_static (reference_of member.now) }

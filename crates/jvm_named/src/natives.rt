@@ -24,9 +24,9 @@ ghost use Rattle.jvm_named.specs.Targets.{as_datum, data_in};
 
 use crate::asked::{AbruptCompletion, Asked, Exception};
 use crate::creation::RESERVED;
+use crate::declared_member::DeclaredMember;
 use crate::moving::{drop_operands, replace_operands};
 use crate::passing::{NativeCall, went_on};
-use crate::place::Place;
 use base_classes::native_of;
 use class_linker::Linker;
 use const_pool::MemberRef;
@@ -48,7 +48,7 @@ const OUT_OF_MEMORY: u16 = 51;
 // ---- which method it is
 
 /// The name of the class that declares a method, and its name and descriptor.
-fn reference_to(program: &Program, m: Place) -> Option<MemberRef<'_>>
+fn reference_to(program: &Program, m: DeclaredMember) -> Option<MemberRef<'_>>
     ensures { option_map reference_view result ≡ reference_to program.now (at_place m) }
 {
     let file = program.classes.get(m.class as usize)?;
@@ -270,7 +270,7 @@ pub fn pass_native(
 // ---- a native method
 
 /// The number of a native method of a built-in class.
-pub fn native_at(program: &Program, m: Place) -> Option<u16>
+pub fn native_at(program: &Program, m: DeclaredMember) -> Option<u16>
     ensures number { result
         ≡ option_and_then native_number (reference_to program.now (at_place m)) }
     ensures stands { IfSome result (λ n. IsSome (slice_get native_methods n)) }
@@ -327,7 +327,7 @@ pub fn run_native(
     frames: &mut Frames,
     input: &[u8],
     output: &mut Seq<u8>,
-    m: Place,
+    m: DeclaredMember,
     count: u16,
     next: u16,
 ) -> Result<Asked, NoMemory>

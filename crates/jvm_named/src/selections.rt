@@ -8,8 +8,8 @@ ghost use Rattle.jvm_named.specs.Known.{IsKnown};
 ghost use Rattle.jvm_named.specs.Names.{symbolic_view};
 ghost use Rattle.jvm_named.specs.Selections.{AreSelections, IsSelection, selection_for, site_for};
 
+use crate::declared_member::DeclaredMember;
 use crate::known::{Chosen, Found, Known, Site};
-use crate::place::Place;
 use crate::symbolic_reference::SymbolicReference;
 use jf_bytes::{NoMemory, Seq};
 use std::alloc::Global;
@@ -50,7 +50,7 @@ impl Model for Selections {
 
 /// A hash of what it is selected for.
 #[inline(always)]
-fn hash_of(kind: u32, method: Place, last: u32) -> usize {
+fn hash_of(kind: u32, method: DeclaredMember, last: u32) -> usize {
     let mixed = last.wrapping_mul(31).wrapping_add(method.class);
     let mixed = mixed.wrapping_mul(31).wrapping_add(method.position as u32);
     mixed.wrapping_mul(31).wrapping_add(kind) as usize
@@ -64,7 +64,7 @@ fn slot_at(hash: usize, behind: usize, count: usize) -> usize {
 
 /// Whether it was selected for this.
 #[inline(always)]
-fn is_for(s: &Selection, kind: u32, interface: bool, method: Place, last: u32) -> bool
+fn is_for(s: &Selection, kind: u32, interface: bool, method: DeclaredMember, last: u32) -> bool
     ensures last { result ≡ true → s.now.site.last ≡ last }
     ensures method { result ≡ true → s.now.site.method ≡ method }
     ensures kind { result ≡ true → s.now.kind ≡ kind }
@@ -80,7 +80,7 @@ fn chosen_in(
     at: usize,
     kind: u32,
     interface: bool,
-    method: Place,
+    method: DeclaredMember,
     last: u32,
 ) -> Option<Chosen>
     ensures { (p : Program) → AreSelections p slots.now → IfSome result
@@ -191,7 +191,13 @@ impl Selections {
 
     /// What is selected for receivers of the last kind, if it is kept.
     #[inline(always)]
-    pub fn chosen(&self, kind: u32, interface: bool, method: Place, last: u32) -> Option<Chosen>
+    pub fn chosen(
+        &self,
+        kind: u32,
+        interface: bool,
+        method: DeclaredMember,
+        last: u32,
+    ) -> Option<Chosen>
         ensures { (p : Program) → AreSelections p self.now → IfSome result
             (λ c. IsSelection p (selection_for kind interface (site_for method last c))) }
     {

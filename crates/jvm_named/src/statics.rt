@@ -21,11 +21,11 @@ ghost use Rattle.jvm_named.specs.Resolved.{gets_static, puts_static};
 
 use crate::asked::{AbruptCompletion, Asked, Exception};
 use crate::classes::name_at;
+use crate::declared_member::DeclaredMember;
 use crate::held::{held_by, narrowed};
 use crate::known::Found;
 use crate::members::field_found;
 use crate::moving::{drop_one, put};
-use crate::place::Place;
 use crate::static_fields::set_static;
 use crate::symbolic_reference::MemberName;
 use crate::values::datum_of;
@@ -58,7 +58,7 @@ pub fn raise_unusable(alloc: Global, linker: &Linker, class: u32) -> Result<Aske
 // ---- getstatic
 
 /// The value of a static field.
-fn static_at(shared: &Shared, field: Place) -> Option<Datum>
+fn static_at(shared: &Shared, field: DeclaredMember) -> Option<Datum>
     ensures { result ≡ static_at shared.now (static_field (at_place field)) }
 {
     shared
@@ -68,7 +68,7 @@ fn static_at(shared: &Shared, field: Place) -> Option<Datum>
 }
 
 /// The value of a static field goes on top; its class is initialized, or is being.
-pub fn push_field(shared: &Shared, frames: &mut Frames, field: Place, next: u16) -> Asked
+pub fn push_field(shared: &Shared, frames: &mut Frames, field: DeclaredMember, next: u16) -> Asked
     ensures answer { answer_view result ≡ answer_of (pushes (option_map as_value
         (static_at shared.now (static_field (at_place field))))) frames.old }
     ensures frames { frames.new ≡ frames_of (pushes (option_map as_value
@@ -86,7 +86,7 @@ fn push_static(
     linker: &Linker,
     shared: &Shared,
     frames: &mut Frames,
-    field: Place,
+    field: DeclaredMember,
     next: u16,
 ) -> Result<Asked, NoMemory>
     ensures answer { Answers result
@@ -179,7 +179,7 @@ fn set_field(
     alloc: Global,
     shared: &mut Shared,
     frames: &mut Frames,
-    field: Place,
+    field: DeclaredMember,
     kind: Kind,
     next: u16,
 ) -> Asked
@@ -205,7 +205,7 @@ fn put_field(
     linker: &Linker,
     shared: &mut Shared,
     frames: &mut Frames,
-    field: Place,
+    field: DeclaredMember,
     kind: Kind,
     next: u16,
 ) -> Result<Asked, NoMemory>

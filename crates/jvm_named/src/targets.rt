@@ -28,10 +28,10 @@ ghost use Rattle.jvm_named.specs.Targets.{receiver_class, static_target, target_
 use crate::asked::{AbruptCompletion, Exception};
 use crate::callees::callee_of;
 use crate::classes::name_at;
+use crate::declared_member::DeclaredMember;
 use crate::instances::{class_of_kind, kind_of_object};
 use crate::known::{Chosen, Found, Site};
 use crate::numbers::MethodNumbers;
-use crate::place::Place;
 use crate::receivers::{argument_count, receiver_below};
 use crate::resolution::exception_numbered;
 use crate::symbolic_reference::{MemberName, MethodName};
@@ -61,7 +61,7 @@ pub struct Target {
 // ---- methods
 
 /// The flags of a method.
-fn access_of(program: &Program, m: Place) -> u16
+fn access_of(program: &Program, m: DeclaredMember) -> u16
     ensures { result ≡ access_of program.now (at_place m) }
 {
     match program.classes.get(m.class as usize) {
@@ -74,13 +74,13 @@ fn access_of(program: &Program, m: Place) -> u16
 }
 
 /// Whether a method is static (JVM Specification 4.6).
-pub fn is_static(program: &Program, m: Place) -> bool
+pub fn is_static(program: &Program, m: DeclaredMember) -> bool
     ensures { result ≡ is_static program.now (at_place m) }
 {
     has_flag(access_of(program, m), STATIC)
 }
 
-pub fn is_abstract(program: &Program, m: Place) -> bool
+pub fn is_abstract(program: &Program, m: DeclaredMember) -> bool
     ensures { result ≡ is_abstract program.now (at_place m) }
 {
     has_flag(access_of(program, m), ABSTRACT)
@@ -94,19 +94,23 @@ fn found_in(
     class: u32,
     interface: bool,
     member: &MemberName,
-) -> Result<Place, AbruptCompletion>
+) -> Result<DeclaredMember, AbruptCompletion>
     requires { IsLoaded linker.now class }
     ensures { place_found result ≡ found (resolved_method linker.now.program class interface
         (name_type_of member.now.name member.now.descriptor)) }
 {
     match linker.resolve_method(class, interface, &member.name, &member.descriptor) {
-        Resolved::Found(class, position) => Ok(Place { class, position }),
+        Resolved::Found(class, position) => Ok(DeclaredMember { class, position }),
         Resolved::Throws(number) => Err(AbruptCompletion::Raises(exception_numbered(number), None)),
     }
 }
 
 /// The method, where it is static as it is asked for, or is not.
-fn fitting(program: &Program, m: Place, fixed: bool) -> Result<Place, AbruptCompletion>
+fn fitting(
+    program: &Program,
+    m: DeclaredMember,
+    fixed: bool,
+) -> Result<DeclaredMember, AbruptCompletion>
     ensures { place_found result
         ≡ where_fitting (beq (is_static program.now (at_place m)) fixed) (at_place m) }
 {
@@ -124,7 +128,7 @@ fn method_found(
     interface: bool,
     fixed: bool,
     method: &MethodName,
-) -> Result<Place, AbruptCompletion>
+) -> Result<DeclaredMember, AbruptCompletion>
     requires { IsUsable linker.now kind }
     ensures { place_found result
         ≡ method_found linker.now.program kind interface fixed method.now }
@@ -215,15 +219,15 @@ fn receiver_kind(
 // ---- selection
 
 /// A place as the linker gives it.
-fn placed(found: Option<(u32, u16)>) -> Option<Place>
+fn placed(found: Option<(u32, u16)>) -> Option<DeclaredMember>
     ensures { option_map at_place result ≡ option_map place_view found }
 {
     let (class, position) = found?;
-    Some(Place { class, position })
+    Some(DeclaredMember { class, position })
 }
 
 /// What invokespecial takes in the class of this name.
-fn selected_special(linker: &Linker, caller: &Text16, m: Place) -> Option<Place>
+fn selected_special(linker: &Linker, caller: &Text16, m: DeclaredMember) -> Option<DeclaredMember>
     requires { (class : ℕ) → class_named linker.now.program caller.now ≡ Some class →
         IsLoaded linker.now class }
     ensures { option_map at_place result ≡ option_and_then
@@ -235,7 +239,12 @@ fn selected_special(linker: &Linker, caller: &Text16, m: Place) -> Option<Place>
 }
 
 /// What the receiver's class has for the resolved method, or what the caller's class takes.
-fn selected_by(linker: &Linker, by: Selecting<'_>, m: Place, class: u32) -> Option<Place>
+fn selected_by(
+    linker: &Linker,
+    by: Selecting<'_>,
+    m: DeclaredMember,
+    class: u32,
+) -> Option<DeclaredMember>
     requires loaded { IsLoaded linker.now class }
     requires caller { HasCaller linker.now (selecting_view by) }
     ensures { option_map at_place result
@@ -259,7 +268,7 @@ fn select_anew(
     by: Selecting<'_>,
     method: &MethodName,
     kind: u32,
-    m: Place,
+    m: DeclaredMember,
     lower: u32,
     found: &mut Found,
 ) -> Option<Chosen>

@@ -18,13 +18,13 @@ parameter_of_class name =
     if bytes_eq name (codes "java/lang/Enum") then Extending enum_kind else Below throwable_kind
 
 -- in front of a type, behind `[`, and within the name of a class, of which so much is read
-pub data Place : Type 0 where
-  outside : Place
-  in_array : Place
-  in_class : List ℕ → Place
+pub data DescriptorPosition : Type 0 where
+  outside : DescriptorPosition
+  in_array : DescriptorPosition
+  in_class : List ℕ → DescriptorPosition
 
 -- I, C and Z are ints here; the one type of array is [C
-abbrev pub parameters_from : Place → List ℕ → List Parameter
+abbrev pub parameters_from : DescriptorPosition → List ℕ → List Parameter
 parameters_from outside [] = []
 parameters_from in_array [] = []
 parameters_from (in_class name) [] = []

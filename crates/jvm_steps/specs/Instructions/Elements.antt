@@ -16,7 +16,7 @@ use Rattle.jvm_basic.specs.Outcomes.{GoesOn, Rule, after, effect_of}
 use Rattle.jvm_basic.specs.Rules.{replaces, rule_of}
 use Rattle.jvm_steps.specs.declared.execute.elements.Led.{Led}
 use Rattle.jvm_steps.specs.declared.execute.elements.Led.TheVariants as led
-use Rattle.jvm_steps.specs.declared.execute.elements.Place.{Place}
+use Rattle.jvm_steps.specs.declared.execute.elements.ArrayElement.{ArrayElement}
 use Rattle.jvm_steps.specs.declared.execute.elements.Storing.{Storing as TheStoring}
 use Rattle.prepared_code.specs.declared.line.Action.{Action}
 use Rattle.prepared_code.specs.declared.line.Action.TheVariants as action
@@ -31,7 +31,7 @@ access_of led.ToAnother = ToAnother
 access_of led.Outside = Outside
 access_of (led.Inside slot) = Inside slot
 
-abbrev pub place_by : Place → ℕ × ℤ
+abbrev pub place_by : ArrayElement → ℕ × ℤ
 place_by x = (x.array, x.index)
 
 abbrev pub storing_by : TheStoring → Storing

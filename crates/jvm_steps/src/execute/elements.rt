@@ -42,7 +42,7 @@ pub enum Led {
 
 /// An array and an index.
 #[derive(Clone, Copy)]
-pub struct Place {
+pub struct ArrayElement {
     pub array: u32,
     pub index: i32,
 }
@@ -50,7 +50,7 @@ pub struct Place {
 /// What is stored, and where.
 #[derive(Clone, Copy)]
 pub struct Storing {
-    pub place: Place,
+    pub place: ArrayElement,
     pub datum: Datum,
 }
 
@@ -108,7 +108,7 @@ fn led_in(heap: &Heap, array: u32, index: i32) -> Led
 
 /// Where an instruction of a kind is led.
 #[inline(always)]
-fn led_to(heap: &Heap, kind: Kind, place: &Place) -> Led
+fn led_to(heap: &Heap, kind: Kind, place: &ArrayElement) -> Led
     ensures { access_of result ≡ access_to kind place.now.array place.now.index heap.now }
 {
     if place.array == 0 {
@@ -159,11 +159,11 @@ fn refuse(
 /// The array and the index on top.
 #[tactic(auto, using(crate::proofs::Instructions::QuickElements::place_is))]
 #[inline(always)]
-fn place_of(frames: &Frames) -> Option<Place>
+fn place_of(frames: &Frames) -> Option<ArrayElement>
     ensures { option_map place_by result ≡ place_of (top_operands frames.now.frames) }
 {
     match frames.reference_and_int() {
-        Some((array, index)) => Some(Place { array, index }),
+        Some((array, index)) => Some(ArrayElement { array, index }),
         None => None,
     }
 }
@@ -178,7 +178,7 @@ fn int_storing_of(frames: &Frames) -> Option<Storing>
     };
     match frames.peek(2) {
         Some(Value::Ref(array)) => Some(Storing {
-            place: Place { array, index },
+            place: ArrayElement { array, index },
             datum: Datum::Int(n),
         }),
         _ => None,
@@ -199,7 +199,7 @@ fn any_storing_of(frames: &Frames, kind: Kind) -> Option<Storing>
     };
     let datum = datum_of(kind, value)?;
     Some(Storing {
-        place: Place { array, index },
+        place: ArrayElement { array, index },
         datum,
     })
 }
@@ -218,7 +218,7 @@ fn storing_of(frames: &Frames, kind: Kind) -> Option<Storing>
 /// The element to which an instruction of a kind is led.
 #[tactic(auto, using(crate::proofs::Instructions::ElementLemmas::element_in))]
 #[inline(always)]
-fn element_at(heap: &Heap, kind: Kind, place: &Place) -> Option<Datum>
+fn element_at(heap: &Heap, kind: Kind, place: &ArrayElement) -> Option<Datum>
     ensures { let access = access_to kind place.now.array place.now.index heap.now in
         result ≡ element_at access place.now.array heap.now }
 {
@@ -355,7 +355,7 @@ fn reference_for(heap: &Heap, array: u32, index: i32) -> Option<u32>
 
 /// The element to which an instruction of a kind is led: an int or a reference by one look-up.
 #[inline(always)]
-fn element_for(heap: &Heap, kind: Kind, place: &Place) -> Option<Datum>
+fn element_for(heap: &Heap, kind: Kind, place: &ArrayElement) -> Option<Datum>
     ensures { let access = access_to kind place.now.array place.now.index heap.now in
         IfSome result (λ datum. element_at access place.now.array heap.now ≡ Some datum) }
 {
@@ -388,7 +388,7 @@ fn int_slot(heap: &Heap, array: u32, index: i32) -> Option<u32>
 
 /// The slot of an element, where an instruction of a kind is led to one: of an int by one look-up.
 #[inline(always)]
-fn slot_for(heap: &Heap, kind: Kind, place: &Place) -> Option<u32>
+fn slot_for(heap: &Heap, kind: Kind, place: &ArrayElement) -> Option<u32>
     ensures { let access = access_to kind place.now.array place.now.index heap.now in
         IfSome result (λ slot. access ≡ Inside slot) }
 {

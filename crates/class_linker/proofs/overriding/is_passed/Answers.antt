@@ -1,7 +1,7 @@
 use Rattle.std.proofs.Common.{◌∙◌}
 use Rattle.jvm_model.specs.Classes.Lookup.{supertypes}
 use Rattle.jvm_model.specs.Classes.Selection.{passed_at}
-use Rattle.class_linker.specs.Places.{at_place}
+use Rattle.class_linker.specs.DeclaredMethods.{at_place}
 use Rattle.class_linker.proofs.Walked.{searched_any}
 use Rattle.class_linker.proofs.overriding.is_passed.Goals as goal
 

@@ -1,5 +1,5 @@
 use Rattle.std.proofs.Common.{◌∙◌, sym}
-use Rattle.class_linker.specs.Places.{at_place}
+use Rattle.class_linker.specs.DeclaredMethods.{at_place}
 use Rattle.class_linker.proofs.OverridingTest.{related, tested}
 use Rattle.class_linker.proofs.overriding.overrides.Goals as goal
 

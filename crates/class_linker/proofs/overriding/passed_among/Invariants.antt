@@ -2,7 +2,7 @@
 use Rattle.std.proofs.Common.{◌≡◌, true, drop}
 use Rattle.std.specs.List.{list_any}
 use Rattle.jvm_model.specs.Classes.Selection.{passed_at}
-use Rattle.class_linker.specs.Places.{at_place}
+use Rattle.class_linker.specs.DeclaredMethods.{at_place}
 use Rattle.class_linker.specs.LoadedClasses.{holds_all}
 use Rattle.class_linker.proofs.overriding.passed_among.Given as goal
 

@@ -1,6 +1,6 @@
 use Rattle.std.proofs.Common.{sym, ◌∙◌}
 use Rattle.jvm_model.specs.Classes.Selection.{candidate}
-use Rattle.class_linker.specs.Places.{at_place}
+use Rattle.class_linker.specs.DeclaredMethods.{at_place}
 use Rattle.class_linker.proofs.Searches.{behind, chain_behind, first, first_has, left, passed_over}
 use Rattle.class_linker.proofs.selecting.first_candidate.Goals as goal
 

@@ -3,7 +3,7 @@ use Rattle.std.proofs.Common.{◌≡◌, true, false, drop}
 use Rattle.jvm_model.specs.Classes.Lookup.{first_in}
 use Rattle.jvm_model.specs.Classes.Selection.{candidate}
 use Rattle.class_linker.specs.Passing.{AreUnpassed, IsChain}
-use Rattle.class_linker.specs.Places.{at_place}
+use Rattle.class_linker.specs.DeclaredMethods.{at_place}
 use Rattle.class_linker.specs.LoadedClasses.{holds_all}
 use Rattle.class_linker.proofs.selecting.first_candidate.Given as goal
 

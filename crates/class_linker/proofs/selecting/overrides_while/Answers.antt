@@ -1,5 +1,5 @@
 use Rattle.std.proofs.Common.{◌∙◌, sym}
-use Rattle.class_linker.specs.Places.{at_place}
+use Rattle.class_linker.specs.DeclaredMethods.{at_place}
 use Rattle.class_linker.proofs.PassedOn.{unpassed, not_passed}
 use Rattle.class_linker.proofs.selecting.overrides_while.Goals as goal
 
