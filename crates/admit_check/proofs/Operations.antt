@@ -27,7 +27,7 @@ use Rattle.jvm_model.specs.declared.family.Family.TheVariants as family
 use Rattle.jvm_model.specs.Basis.Data.{Anewarray, Checkcast, Constant, Getfield, Getstatic, Instanceof, Invokeinterface, Invokestatic, Invokevirtual, Local, Multianewarray, Named, SymbolicReference, New, Newarray, Operation, Putfield, Putstatic, Within}
 use Rattle.jvm_model.specs.Basis.Families.{family_of, rows}
 use Rattle.jvm_model.specs.Classes.Kinds.{meaning_of}
-use Rattle.jvm_model.specs.Codes.Lines.{given_operation, has_dimensions, interface_reference, array_reference, multi_of, named_by, named_interface_method, symbolic_reference_of, newarray_of, number_of, object_among, object_constant, object_rows, operation_by, operation_of, other_operation, special_of}
+use Rattle.jvm_model.specs.Codes.Lines.{pool_constant_operation, has_dimensions, interface_reference, array_reference, multi_of, named_by, named_interface_method, symbolic_reference_of, newarray_of, number_of, object_among, object_constant, object_rows, operation_by, operation_of, other_operation, special_of}
 use Rattle.jvm_model.specs.Basis.Programs.{name_of}
 use Rattle.jvm_model.proofs.Running.Opcodes.{all_below, all_below-each}
 use Rattle.admit_check.specs.Floating.{is_floating_entry, is_floating_index, is_floating_instr, is_floating_operand}
@@ -86,8 +86,8 @@ is_other op form.Array = op == 188
 is_other op _ = false
 
 abbrev fits_family : Bool → ℕ → Family → Form → Bool
-fits_family floats op family.Given f = is_index f && is_in_range 18 20 op
-fits_family floats op family.Immediate f = is_value f
+fits_family floats op family.PoolConstant f = is_index f && is_in_range 18 20 op
+fits_family floats op family.OperandConstant f = is_value f
 fits_family floats op (family.Load k) f = is_slot f
 fits_family floats op (family.Store k) f = is_slot f
 fits_family floats op family.Ret f = is_slot f
@@ -96,7 +96,7 @@ fits_family floats op (family.Branch test) f = is_jump f
 fits_family floats op family.Goto f = is_jump f
 fits_family floats op family.Jsr f = is_jump f
 fits_family floats op family.Switch f = is_switch f
-fits_family floats op family.Elsewhere f = floats || is_other op f
+fits_family floats op family.NotLocal f = floats || is_other op f
 fits_family floats op _ f = true
 
 abbrev fits_at : Bool → ℕ → Bool
@@ -321,7 +321,7 @@ module _ (c : ClassFile) (named : is_some (name_of c) ≡ true) where
   slot-is (Some k) entry e = ap (λ (x : Const). Some x) (entry-is k entry e)
 
   abbrev given_by : Option Const → Option Operation
-  given_by o = given_operation (option_map Within (option_map (λ d. let l : Local = Constant d in l) (option_and_then number_of o))) (option_and_then (object_constant c.pool) o)
+  given_by o = pool_constant_operation (option_map Within (option_map (λ d. let l : Local = Constant d in l) (option_and_then number_of o))) (option_and_then (object_constant c.pool) o)
 
   loaded-there : (index : ℕ) (entry : Const) → HaveTexts c.pool → slice_get c.pool index ≡ Some entry → is_loadable c.pool entry ≡ true → is_floating_entry c.pool index entry ≡ false
       → is_some (given_by (Some entry)) ≡ true
@@ -368,7 +368,7 @@ module _ (c : ClassFile) (named : is_some (name_of c) ≡ true) where
       ]
 
   constant-there : (op index : ℕ) → HaveTexts c.pool → is_in_range 18 20 op ≡ true → fits_use c.pool op index (pool_use op) ≡ true → is_floating_index c.pool index ≡ false
-      → is_some (operation_by c op (arg.Pool index) family.Given) ≡ true
+      → is_some (operation_by c op (arg.Pool index) family.PoolConstant) ≡ true
   constant-there op index texts given used floats =
       let found = given-used op index given used in
       let slot = slot-is (slice_get c.pool index) found.0 found.1 in
@@ -395,19 +395,19 @@ module _ (c : ClassFile) (named : is_some (name_of c) ≡ true) where
         by true is e = absurd (false≢true (sym e))
         by false is e = refl
 
-    at-index : (index : ℕ) → i.arg ≡ arg.Pool index → (b : Bool) → is_in_range 18 20 i.op ≡ true → is_some (operation_by c i.op i.arg family.Given) ≡ true
+    at-index : (index : ℕ) → i.arg ≡ arg.Pool index → (b : Bool) → is_in_range 18 20 i.op ≡ true → is_some (operation_by c i.op i.arg family.PoolConstant) ≡ true
     at-index index is b given =
-        ap (λ a. is_some (operation_by c i.op a family.Given)) is
+        ap (λ a. is_some (operation_by c i.op a family.PoolConstant)) is
         ∙ constant-there i.op index texts given (subst (λ a. fits_pool c.pool (record i { arg = a }) ≡ true) is pool) (subst (λ a. is_floating_operand c.pool a ≡ false) is no-operand-floats)
 
-    given-there : (f : Form) → HasShape f i.arg → (is_index f && is_in_range 18 20 i.op) ≡ true → is_some (operation_by c i.op i.arg family.Given) ≡ true
+    given-there : (f : Form) → HasShape f i.arg → (is_index f && is_in_range 18 20 i.op) ≡ true → is_some (operation_by c i.op i.arg family.PoolConstant) ≡ true
     given-there form.PoolByte shape e = at-index shape.0 shape.1 true e
     given-there form.Pool shape e = at-index shape.0 shape.1 true e
     given-there _ shape e = absurd (false≢true e)
 
-    value-there : (f : Form) → HasShape f i.arg → is_value f ≡ true → is_some (operation_by c i.op i.arg family.Immediate) ≡ true
-    value-there form.Byte shape e = ap (λ a. is_some (operation_by c i.op a family.Immediate)) shape.1
-    value-there form.Short shape e = ap (λ a. is_some (operation_by c i.op a family.Immediate)) shape.1
+    value-there : (f : Form) → HasShape f i.arg → is_value f ≡ true → is_some (operation_by c i.op i.arg family.OperandConstant) ≡ true
+    value-there form.Byte shape e = ap (λ a. is_some (operation_by c i.op a family.OperandConstant)) shape.1
+    value-there form.Short shape e = ap (λ a. is_some (operation_by c i.op a family.OperandConstant)) shape.1
     value-there _ shape e = absurd (false≢true e)
 
     slot-there : (x : Family) → ((slot : ℕ) → is_some (operation_by c i.op (arg.Local slot) x) ≡ true) → (f : Form) → HasShape f i.arg → is_slot f ≡ true
@@ -431,9 +431,9 @@ module _ (c : ClassFile) (named : is_some (name_of c) ≡ true) where
     switch-there _ shape e = absurd (false≢true e)
 
     by-family : (x : Family) (f : Form) → HasShape f i.arg → fits_family false i.op x f ≡ true → is_some (operation_by c i.op i.arg x) ≡ true
-    by-family family.Elsewhere f shape e = other-there f i shape e pool type
-    by-family family.Given f shape e = given-there f shape e
-    by-family family.Immediate f shape e = value-there f shape e
+    by-family family.NotLocal f shape e = other-there f i shape e pool type
+    by-family family.PoolConstant f shape e = given-there f shape e
+    by-family family.OperandConstant f shape e = value-there f shape e
     by-family (family.Load k) f shape e = slot-there (family.Load k) (λ slot. refl) f shape e
     by-family (family.Store k) f shape e = slot-there (family.Store k) (λ slot. refl) f shape e
     by-family family.Ret f shape e = slot-there family.Ret (λ slot. refl) f shape e
@@ -446,7 +446,7 @@ module _ (c : ClassFile) (named : is_some (name_of c) ≡ true) where
     by-family (family.Constant d) f shape e = refl
     by-family (family.LoadFrom k slot) f shape e = refl
     by-family (family.StoreTo k slot) f shape e = refl
-    by-family (family.Arrange op) f shape e = refl
+    by-family (family.ManageStack op) f shape e = refl
     by-family (family.BinaryOfInts op) f shape e = refl
     by-family (family.BinaryOfLongs op) f shape e = refl
     by-family (family.DivisionOfInts op) f shape e = refl

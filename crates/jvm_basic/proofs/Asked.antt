@@ -19,7 +19,7 @@ use Rattle.jvm_model.specs.Basis.Data.{Outcome as Asked, GoesOn as AsksOn, Break
 use Rattle.jvm_model.specs.Codes.Lines.{value_in, slot_in, increment_in, target_in, keys_in, targets_of}
 use Rattle.jvm_model.specs.Instructions.LocalRules
 use Rattle.jvm_model.specs.Basis.StackForms.{forms_of}
-use Rattle.jvm_model.specs.Basis.Values.{datum_of, loaded, is_storable, local_in, has_slots, stored, int_of, arranged}
+use Rattle.jvm_model.specs.Basis.Values.{datum_of, loaded, is_storable, local_in, has_slots, stored, int_of, managed_stack}
 use Rattle.jvm_basic.specs.Outcomes.{Rule, Leaves, top_locals, effect_in, frames_in, effect_of, after}
 use Rattle.jvm_basic.specs.Rules.{datum_in, placed, going, needs, does, rule_by}
 
@@ -123,8 +123,8 @@ needs-map make (Some x) rule next targets l o each = each x
 pub does-is : (f : Family) (a : Arg) (c : Option Value) (next : ℕ) (l : Locals) (o : Operands) → does f a c next l o ≡ rule_by f a (option_and_then datum_in c) next l o
 does-is family.Nop a c next l o = refl
 does-is (family.Constant d) a c next l o = refl
-does-is family.Given a c next l o = needs-map Constant (option_and_then datum_in c) _ next (targets_of a) l o (λ d. refl)
-does-is family.Immediate a c next l o = needs-map Constant (value_in a) _ next (targets_of a) l o (λ d. refl)
+does-is family.PoolConstant a c next l o = needs-map Constant (option_and_then datum_in c) _ next (targets_of a) l o (λ d. refl)
+does-is family.OperandConstant a c next l o = needs-map Constant (value_in a) _ next (targets_of a) l o (λ d. refl)
 does-is (family.Load k) a c next l o =
     needs-map (Load k) (slot_in a) _ next (targets_of a) l o
     (λ n. simple-any _ next (targets_of a) l o (pushes-simple (loaded k (slice_get l n)) l o))
@@ -132,7 +132,7 @@ does-is (family.LoadFrom k slot) a c next l o = simple-any _ next (targets_of a)
 does-is (family.Store k) a c next l o =
     needs-map (Store k) (slot_in a) _ next (targets_of a) l o (λ n. simple-any _ next (targets_of a) l o (stores-simple k n l o))
 does-is (family.StoreTo k slot) a c next l o = simple-any _ next (targets_of a) l o (stores-simple k slot l o)
-does-is (family.Arrange op) a c next l o = simple-any _ next (targets_of a) l o (leaves-simple (arranged (forms_of op) o) l)
+does-is (family.ManageStack op) a c next l o = simple-any _ next (targets_of a) l o (leaves-simple (managed_stack (forms_of op) o) l)
 does-is (family.BinaryOfInts op) a c next l o = simple-any _ next (targets_of a) l o (replaces-simple 2 _ l o)
 does-is (family.BinaryOfLongs op) a c next l o = simple-any _ next (targets_of a) l o (replaces-simple 2 _ l o)
 does-is (family.DivisionOfInts op) a c next l o = divides-any _ next (targets_of a) l o
@@ -150,7 +150,7 @@ does-is family.Jsr a c next l o = jsr-any a next l o
 does-is family.Ret a c next l o = needs-map Ret (slot_in a) _ next (targets_of a) l o (λ n. back-any (local_in l n) next (targets_of a) l o)
 does-is family.Switch a c next l o = needs-map Switch (keys_in a) _ next (targets_of a) l o (λ keys. switch-any keys (int_of o) next (targets_of a) l o)
 does-is (family.Return k) a c next l o = return-left k next (targets_of a) l o
-does-is family.Elsewhere a c next l o = refl
+does-is family.NotLocal a c next l o = refl
 
 pub effect-is : (f : Family) (a : Arg) (c : Option Value) (next : ℕ) (s : FramesView)
     → effect_of (does f a c next) s ≡ effect_of (rule_by f a (option_and_then datum_in c) next) s

@@ -24,7 +24,7 @@ use Rattle.jvm_model.specs.Basis.Data.{Locals, Operands}
 use Rattle.jvm_basic.specs.Outcomes.{Outcome, GoesOn, Raises, Breaks, Leaves, Rule, can_hold, with_top, effect_in, frames_in, asked, effect_of, after}
 use Rattle.jvm_model.specs.Basis.Values.{loaded, int_of, ints_of, longs_of, local_in}
 use Rattle.jvm_model.specs.Basis.StackForms.{forms_of}
-use Rattle.jvm_model.specs.Basis.Values.{arranged}
+use Rattle.jvm_model.specs.Basis.Values.{managed_stack}
 use Rattle.jvm_model.specs.Basis.Data.{Keys, Next as Behind, Target, Back}
 use Rattle.jvm_model.specs.Basis.Data.{Outcome as Asked, GoesOn as AsksOn, Breaks as AsksBreak}
 use Rattle.jvm_model.specs.Codes.Lines.{value_in, slot_in, increment_in, target_in, keys_in, targets_of}
@@ -125,7 +125,7 @@ quotient-lacks op w make (Some p) = by (int_eq p.1 (pos 0)) (LocalRules.divided_
 
 -- the families that are left to others
 abbrev other : Family → Bool
-other family.Elsewhere = true
+other family.NotLocal = true
 other (family.Return k) = true
 other _ = false
 
@@ -135,13 +135,13 @@ left-comes = record { left = refl; throws = refl; only = λ class e. absurd (fal
 comes : (f : Family) (a : Arg) (c : Option Value) (next : ℕ) (l : Locals) (o : Operands) → Comes (does f a c next l o) (other f) (divides_by_zero f o)
 comes family.Nop a c next l o = stays-comes _ refl
 comes (family.Constant d) a c next l o = stays-comes _ refl
-comes family.Given a c next l o = stays-comes _ (needs-stays (option_and_then datum_in c) _ l o (λ d. refl))
-comes family.Immediate a c next l o = stays-comes _ (needs-stays (value_in a) _ l o (λ d. refl))
+comes family.PoolConstant a c next l o = stays-comes _ (needs-stays (option_and_then datum_in c) _ l o (λ d. refl))
+comes family.OperandConstant a c next l o = stays-comes _ (needs-stays (value_in a) _ l o (λ d. refl))
 comes (family.Load k) a c next l o = stays-comes _ (needs-stays (slot_in a) _ l o (λ n. simple-stays _ next [] l o (pushes-simple (loaded k (slice_get l n)) l o)))
 comes (family.LoadFrom k slot) a c next l o = stays-comes _ (simple-stays _ next [] l o (pushes-simple (loaded k (slice_get l slot)) l o))
 comes (family.Store k) a c next l o = stays-comes _ (needs-stays (slot_in a) _ l o (λ n. simple-stays _ next [] l o (stores-simple k n l o)))
 comes (family.StoreTo k slot) a c next l o = stays-comes _ (simple-stays _ next [] l o (stores-simple k slot l o))
-comes (family.Arrange op) a c next l o = stays-comes _ (simple-stays _ next [] l o (leaves-simple (arranged (forms_of op) o) l))
+comes (family.ManageStack op) a c next l o = stays-comes _ (simple-stays _ next [] l o (leaves-simple (managed_stack (forms_of op) o) l))
 comes (family.BinaryOfInts op) a c next l o = stays-comes _ (simple-stays _ next [] l o (replaces-simple 2 _ l o))
 comes (family.BinaryOfLongs op) a c next l o = stays-comes _ (simple-stays _ next [] l o (replaces-simple 2 _ l o))
 comes (family.DivisionOfInts op) a c next l o = divides-comes _ next l o _ (quotient-lacks op w32 Int (ints_of o))
@@ -159,7 +159,7 @@ comes family.Jsr a c next l o = stays-comes _ (needs-stays (target_in a) _ l o (
 comes family.Ret a c next l o = stays-comes _ (needs-stays (slot_in a) _ l o (λ n. simple-stays _ 0 [] l o (back-simple (local_in l n) l o)))
 comes family.Switch a c next l o = stays-comes _ (needs-stays (keys_in a) _ l o (λ keys. switch-stays keys (int_of o) (targets_of a) l o))
 comes (family.Return k) a c next l o = left-comes
-comes family.Elsewhere a c next l o = left-comes
+comes family.NotLocal a c next l o = left-comes
 
 rule-comes : (f : Family) (a : Arg) (c : Option Value) (next : ℕ) (l : Locals) (o : Operands)
     → Comes (rule_by f a (option_and_then datum_in c) next l o) (other f) (divides_by_zero f o)

@@ -42,7 +42,7 @@ branch-is (IsNull null) target next = refl
 hot-is : (f : Family) (a : Arg) (c : Option Value) (next : ℕ) → is_alone (hot_by f a next) ≡ true → does_hot (hot_by f a next) ≡ does f a c next
 unfolding hot_by
 hot-is (family.Constant (datum.Int n)) a c next alone = refl
-hot-is family.Immediate (arg.Value n) c next alone = refl
+hot-is family.OperandConstant (arg.Value n) c next alone = refl
 hot-is (family.Load k) (arg.Local slot) c next alone = load-is k slot next alone
 hot-is (family.LoadFrom k slot) a c next alone = load-is k slot next alone
 hot-is (family.Store k) (arg.Local slot) c next alone = store-is k slot next alone
@@ -74,7 +74,7 @@ no-branch (IsNull null) target next = refl
 pub no-element : (f : Family) (a : Arg) (next : ℕ) → is_element (hot_by f a next) ≡ false
 unfolding hot_by
 no-element (family.Constant (datum.Int n)) a next = refl
-no-element family.Immediate (arg.Value n) next = refl
+no-element family.OperandConstant (arg.Value n) next = refl
 no-element (family.Load k) (arg.Local slot) next = no-load k slot next
 no-element (family.LoadFrom k slot) a next = no-load k slot next
 no-element (family.Store k) (arg.Local slot) next = no-store k slot next

@@ -22,7 +22,7 @@ use Rattle.jvm_basic.specs.Outcomes.{Rule, Outcome, GoesOn, Raises, Breaks, Leav
 use Rattle.jvm_model.specs.Basis.Values.{int_of, long_of, ref_of, ints_of, longs_of, long_and_int_of, refs_of, local_in, has_kind, loaded, is_storable, has_slots, stored}
 use Rattle.jvm_model.specs.Basis.Data.{StackForm}
 use Rattle.jvm_model.specs.Basis.StackForms.{forms_of}
-use Rattle.jvm_model.specs.Basis.Values.{has_form, puts_on, arranged}
+use Rattle.jvm_model.specs.Basis.Values.{has_form, puts_on, managed_stack}
 use Rattle.jvm_model.specs.Basis.Data.{Keys, Next as Behind}
 use Rattle.jvm_model.specs.Basis.Data.{GoesOn as AsksOn, Breaks as AsksBreak}
 use Rattle.jvm_model.specs.Codes.Lines.{value_in, slot_in, increment_in, target_in, keys_in, targets_of}
@@ -150,14 +150,14 @@ increments-breaks (Some (slot, d)) next l o = by (local_in l slot)
     by (Some (Ref n)) = refl
     by (Some (Addr n)) = refl
 
-arranges-breaks : (forms : List StackForm) (next : ℕ) (l : Locals) (o : Operands)
-    → breaks (placed next [] l o (LocalRules.leaves (arranged forms o) l)) ≡ not (list_any (fits_form o) forms)
-arranges-breaks [] next l o = refl
-arranges-breaks (form ∷ forms) next l o =
-    by (has_form form.takes o) (puts_on form.puts o (drop (length form.takes) o)) (list_any (fits_form o) forms) (arranges-breaks forms next l o)
+manages_stack-breaks : (forms : List StackForm) (next : ℕ) (l : Locals) (o : Operands)
+    → breaks (placed next [] l o (LocalRules.leaves (managed_stack forms o) l)) ≡ not (list_any (fits_form o) forms)
+manages_stack-breaks [] next l o = refl
+manages_stack-breaks (form ∷ forms) next l o =
+    by (has_form form.takes o) (puts_on form.puts o (drop (length form.takes) o)) (list_any (fits_form o) forms) (manages_stack-breaks forms next l o)
   where
-    by : (b : Bool) (p : Operands) (c : Bool) → breaks (placed next [] l o (LocalRules.leaves (arranged forms o) l)) ≡ not c
-        → breaks (placed next [] l o (LocalRules.leaves (if b then Some p else arranged forms o) l)) ≡ not (b || c)
+    by : (b : Bool) (p : Operands) (c : Bool) → breaks (placed next [] l o (LocalRules.leaves (managed_stack forms o) l)) ≡ not c
+        → breaks (placed next [] l o (LocalRules.leaves (if b then Some p else managed_stack forms o) l)) ≡ not (b || c)
     by true p c h = refl
     by false p c h = h
 
@@ -214,13 +214,13 @@ back-breaks (Some slot) l o = by (local_in l slot)
 does-breaks : (f : Family) (a : Arg) (c : Option Value) (next : ℕ) (l : Locals) (o : Operands) → breaks (does f a c next l o) ≡ not (has_needs f a c l o)
 does-breaks family.Nop a c next l o = refl
 does-breaks (family.Constant d) a c next l o = refl
-does-breaks family.Given a c next l o = given-breaks (option_and_then datum_in c) _ l o (λ d. refl)
-does-breaks family.Immediate a c next l o = given-breaks (value_in a) _ l o (λ d. refl)
+does-breaks family.PoolConstant a c next l o = given-breaks (option_and_then datum_in c) _ l o (λ d. refl)
+does-breaks family.OperandConstant a c next l o = given-breaks (value_in a) _ l o (λ d. refl)
 does-breaks (family.Load k) a c next l o = loads-breaks k (slot_in a) next l o
 does-breaks (family.LoadFrom k slot) a c next l o = loads-breaks k (Some slot) next l o
 does-breaks (family.Store k) a c next l o = stores-breaks k (slot_in a) next l o
 does-breaks (family.StoreTo k slot) a c next l o = stores-breaks k (Some slot) next l o
-does-breaks (family.Arrange op) a c next l o = arranges-breaks (forms_of op) next l o
+does-breaks (family.ManageStack op) a c next l o = manages_stack-breaks (forms_of op) next l o
 does-breaks (family.BinaryOfInts op) a c next l o = calculated-breaks 2 _ (ints_of o) _ next l o (ints-stand o)
 does-breaks (family.BinaryOfLongs op) a c next l o = calculated-breaks 2 _ (longs_of o) _ next l o (longs-stand o)
 does-breaks (family.DivisionOfInts op) a c next l o = divides-breaks _ (ints_of o) _ next l o (ints-stand o)
@@ -236,7 +236,7 @@ does-breaks family.Jsr a c next l o = given-breaks (target_in a) _ l o (λ t. re
 does-breaks family.Ret a c next l o = back-breaks (slot_in a) l o
 does-breaks family.Switch a c next l o = switches-breaks a l o
 does-breaks (family.Return k) a c next l o = refl
-does-breaks family.Elsewhere a c next l o = refl
+does-breaks family.NotLocal a c next l o = refl
 
 rule-breaks : (f : Family) (a : Arg) (c : Option Value) (next : ℕ) (l : Locals) (o : Operands)
     → breaks (rule_by f a (option_and_then datum_in c) next l o) ≡ not (has_needs f a c l o)

@@ -129,8 +129,8 @@ x = l 5
 abbrev y : Value
 y = l 6
 
-abbrev arranged : List Case
-arranged =
+abbrev managed_stack : List Case
+managed_stack =
     -- pop, pop2
     case 87 (a ∷ b ∷ []) (b ∷ []) ∷ case 88 (a ∷ b ∷ c ∷ []) (c ∷ []) ∷ case 88 (x ∷ c ∷ []) (c ∷ [])
     -- dup, dup_x1, dup_x2
@@ -145,19 +145,19 @@ arranged =
     -- swap
     ∷ case 95 (a ∷ b ∷ c ∷ []) (b ∷ a ∷ c ∷ []) ∷ []
 
-arranged-are : map done arranged ≡ map wanted arranged
+managed_stack-are : map done managed_stack ≡ map wanted managed_stack
 unfolding family_of rows
-arranged-are = refl
+managed_stack-are = refl
 
 -- each on a mix that it does not take
-abbrev not-arranged : List Case
-not-arranged =
+abbrev not-managed_stack : List Case
+not-managed_stack =
     case 87 (x ∷ []) [] ∷ case 88 (a ∷ x ∷ []) [] ∷ case 89 (x ∷ []) [] ∷ case 90 (a ∷ x ∷ []) [] ∷ case 91 (a ∷ b ∷ x ∷ []) []
     ∷ case 92 (a ∷ x ∷ []) [] ∷ case 93 (x ∷ y ∷ []) [] ∷ case 94 (a ∷ x ∷ b ∷ []) [] ∷ case 95 (x ∷ a ∷ []) [] ∷ []
 
-not-arranged-are : map done not-arranged ≡ Breaks ∷ Breaks ∷ Breaks ∷ Breaks ∷ Breaks ∷ Breaks ∷ Breaks ∷ Breaks ∷ Breaks ∷ []
+not-managed_stack-are : map done not-managed_stack ≡ Breaks ∷ Breaks ∷ Breaks ∷ Breaks ∷ Breaks ∷ Breaks ∷ Breaks ∷ Breaks ∷ Breaks ∷ []
 unfolding family_of rows
-not-arranged-are = refl
+not-managed_stack-are = refl
 
 -- ---- branches to 40, and switches
 

@@ -38,7 +38,7 @@ hot_branch (IsNull null) target next = hot.IfNull next null target
 -- an instruction of a family, with the place behind it
 unfoldable pub hot_by : Family → Arg → ℕ → Hot
 hot_by (family.Constant (datum.Int n)) a next = hot.Push next n
-hot_by family.Immediate (arg.Value n) next = hot.Push next n
+hot_by family.OperandConstant (arg.Value n) next = hot.Push next n
 hot_by (family.Load k) (arg.Local slot) next = hot_load k slot next
 hot_by (family.LoadFrom k slot) a next = hot_load k slot next
 hot_by (family.Store k) (arg.Local slot) next = hot_store k slot next

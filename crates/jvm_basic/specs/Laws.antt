@@ -9,7 +9,7 @@ use Rattle.code_model.specs.declared.instr.Arg.{Arg}
 use Rattle.code_model.specs.declared.instr.Instr.{Instr}
 use Rattle.code_model.specs.Instructions.{instruction_at}
 use Rattle.jvm_model.specs.declared.family.Family.{Family}
-use Rattle.jvm_model.specs.declared.family.Family.TheVariants.{DivisionOfInts, DivisionOfLongs, Immediate, Load, Store, Ret, Iinc, Branch, Goto, Jsr, Switch}
+use Rattle.jvm_model.specs.declared.family.Family.TheVariants.{DivisionOfInts, DivisionOfLongs, OperandConstant, Load, Store, Ret, Iinc, Branch, Goto, Jsr, Switch}
 use Rattle.jvm_model.specs.Basis.Data.{Operands}
 use Rattle.jvm_model.specs.Basis.Families.{family_of}
 use Rattle.jvm_model.specs.Codes.Lines.{value_in, slot_in, increment_in, target_in, keys_in}
@@ -48,7 +48,7 @@ pub data Need : Type 0 where
   Choice : Need
 
 abbrev pub need_of : Family → Need
-need_of Immediate = Number
+need_of OperandConstant = Number
 need_of (Load k) = Slot
 need_of (Store k) = Slot
 need_of Ret = Slot

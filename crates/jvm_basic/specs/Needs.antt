@@ -70,13 +70,13 @@ operands_of (OfReferences same) = reference ∷ reference ∷ []
 operands_of (IsNull null) = reference ∷ []
 
 abbrev pub has_needs : Family → Arg → Option Value → Locals → Operands → Bool
-has_needs family.Given a c l o = is_some (option_and_then datum_in c)
-has_needs family.Immediate a c l o = is_some (value_in a)
+has_needs family.PoolConstant a c l o = is_some (option_and_then datum_in c)
+has_needs family.OperandConstant a c l o = is_some (value_in a)
 has_needs (family.Load k) a c l o = reads (has_kind k) (slot_in a) l
 has_needs (family.LoadFrom k slot) a c l o = reads (has_kind k) (Some slot) l
 has_needs (family.Store k) a c l o = stand (is_storable k ∷ []) o && takes_slots (slot_in a) l o
 has_needs (family.StoreTo k slot) a c l o = stand (is_storable k ∷ []) o && takes_slots (Some slot) l o
-has_needs (family.Arrange op) a c l o = list_any (fits_form o) (forms_of op)
+has_needs (family.ManageStack op) a c l o = list_any (fits_form o) (forms_of op)
 has_needs (family.BinaryOfInts op) a c l o = stand (int ∷ int ∷ []) o
 has_needs (family.BinaryOfLongs op) a c l o = stand (long ∷ long ∷ []) o
 has_needs (family.DivisionOfInts op) a c l o = stand (int ∷ int ∷ []) o

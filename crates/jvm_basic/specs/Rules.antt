@@ -26,7 +26,7 @@ use Rattle.jvm_model.specs.Basis.Families.{family_of}
 use Rattle.jvm_model.specs.Codes.Lines.{value_in, slot_in, increment_in, target_in, keys_in, local_of, targets_of}
 use Rattle.jvm_model.specs.Instructions.LocalRules
 use Rattle.jvm_model.specs.Basis.StackForms.{forms_of}
-use Rattle.jvm_model.specs.Basis.Values.{arranged}
+use Rattle.jvm_model.specs.Basis.Values.{managed_stack}
 use Rattle.jvm_basic.specs.Outcomes.{Rule, Outcome, GoesOn, Raises, Breaks, Leaves}
 
 -- ---- places
@@ -78,7 +78,7 @@ datum_in (Ref r) = Some (datum.Ref r)
 datum_in (Addr place) = None
 
 abbrev pub rule_by : Family → Arg → Option Datum → ℕ → Rule
-rule_by family.Elsewhere a c next l o = Leaves
+rule_by family.NotLocal a c next l o = Leaves
 rule_by f a c next l o = needs (local_of f a c) (λ i. going (LocalRules.within i) next (targets_of a)) l o
 
 -- With the constant that an ldc has, and the place behind the instruction. An operand of another form than the instruction's
@@ -106,8 +106,8 @@ stores k slot next = needs slot (λ n. going (LocalRules.stores k n) next [])
 abbrev pub increments : Option (ℕ × ℤ) → ℕ → Rule
 increments x next = needs x (λ p. going (LocalRules.within (Iinc p.0 p.1)) next [])
 
-abbrev pub arranges : List StackForm → ℕ → Rule
-arranges forms next = going (λ l o. LocalRules.leaves (arranged forms o) l) next []
+abbrev pub manages_stack : List StackForm → ℕ → Rule
+manages_stack forms next = going (λ l o. LocalRules.leaves (managed_stack forms o) l) next []
 
 abbrev pub calculates : IntOperator → ℕ → Rule
 calculates op next = going (LocalRules.calculates op) next []
@@ -155,13 +155,13 @@ goes_back slot = needs slot (λ n. going (LocalRules.within (Ret n)) 0 [])
 abbrev pub does : Family → Arg → Option Value → ℕ → Rule
 does family.Nop a c next = going (LocalRules.within Nop) next []
 does (family.Constant d) a c next = going (LocalRules.within (Constant d)) next []
-does family.Given a c next = gives c next
-does family.Immediate a c next = pushes_number a next
+does family.PoolConstant a c next = gives c next
+does family.OperandConstant a c next = pushes_number a next
 does (family.Load k) a c next = loads k (slot_in a) next
 does (family.LoadFrom k slot) a c next = loads k (Some slot) next
 does (family.Store k) a c next = stores k (slot_in a) next
 does (family.StoreTo k slot) a c next = stores k (Some slot) next
-does (family.Arrange op) a c next = arranges (forms_of op) next
+does (family.ManageStack op) a c next = manages_stack (forms_of op) next
 does (family.BinaryOfInts op) a c next = calculates op next
 does (family.BinaryOfLongs op) a c next = calculates_long op next
 does (family.DivisionOfInts op) a c next = divides_ints op next
@@ -177,4 +177,4 @@ does family.Jsr a c next = calls_subroutine (target_in a) next
 does family.Ret a c next = goes_back (slot_in a)
 does family.Switch a c next = switches a
 does (family.Return k) a c next = λ l o. Leaves
-does family.Elsewhere a c next = λ l o. Leaves
+does family.NotLocal a c next = λ l o. Leaves

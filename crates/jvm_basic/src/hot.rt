@@ -75,7 +75,7 @@ pub fn hot_by(family: Family, arg: &Arg, next: u16) -> Hot
 {
     match (family, arg) {
         (Family::Constant(Datum::Int(n)), _) => Hot::Push(next, n),
-        (Family::Immediate, Arg::Value(n)) => Hot::Push(next, *n),
+        (Family::OperandConstant, Arg::Value(n)) => Hot::Push(next, *n),
         (Family::Load(kind), Arg::Local(slot)) => hot_load(kind, *slot, next),
         (Family::LoadFrom(kind, slot), _) => hot_load(kind, slot, next),
         (Family::Store(kind), Arg::Local(slot)) => hot_store(kind, *slot, next),

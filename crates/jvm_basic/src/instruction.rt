@@ -20,7 +20,7 @@ use crate::effect::Effect;
 use crate::locals::{go_back, increment, load, load_from, store, store_to};
 use crate::moving::{go_on, put};
 use crate::reading::recall;
-use crate::stack::arrange;
+use crate::stack::manage_stack;
 use code_model::{Arg, Instr};
 use frame_stack::Frames;
 use heap_objects::{Datum, Value};
@@ -36,7 +36,7 @@ fn pass(frames: &mut Frames, next: u16) -> Effect
 }
 
 /// ldc, ldc_w, ldc2_w.
-fn put_given(frames: &mut Frames, constant: Option<Value>, next: u16) -> Effect
+fn put_pool_constant(frames: &mut Frames, constant: Option<Value>, next: u16) -> Effect
     ensures effect { result ≡ effect_of (gives constant next) frames.old }
     ensures frames { frames.new ≡ after (gives constant next) frames.old }
 {
@@ -60,7 +60,7 @@ pub fn value_of(datum: Datum) -> Value
 }
 
 /// bipush, sipush.
-fn put_immediate(frames: &mut Frames, arg: &Arg, next: u16) -> Effect
+fn put_operand(frames: &mut Frames, arg: &Arg, next: u16) -> Effect
     ensures effect { result ≡ effect_of (pushes_number arg.now next) frames.old }
     ensures frames { frames.new ≡ after (pushes_number arg.now next) frames.old }
 {
@@ -85,13 +85,13 @@ fn do_family(
     match family {
         Family::Nop => pass(frames, next),
         Family::Constant(datum) => put(frames, value_of(datum), next),
-        Family::Given => put_given(frames, constant, next),
-        Family::Immediate => put_immediate(frames, arg, next),
+        Family::PoolConstant => put_pool_constant(frames, constant, next),
+        Family::OperandConstant => put_operand(frames, arg, next),
         Family::Load(kind) => load(frames, kind, arg, next),
         Family::LoadFrom(kind, slot) => load_from(frames, kind, slot, next),
         Family::Store(kind) => store(frames, kind, arg, next),
         Family::StoreTo(kind, slot) => store_to(frames, kind, slot, next),
-        Family::Arrange(op) => arrange(frames, op, next),
+        Family::ManageStack(op) => manage_stack(frames, op, next),
         Family::BinaryOfInts(op) => calculate(frames, op, next),
         Family::BinaryOfLongs(op) => calculate_long(frames, op, next),
         Family::DivisionOfInts(op) => divide_ints(frames, op, next),
@@ -106,7 +106,7 @@ fn do_family(
         Family::Jsr => call_subroutine(frames, arg, next),
         Family::Ret => go_back(frames, arg),
         Family::Switch => switch(frames, arg),
-        Family::Return(_) | Family::Elsewhere => Effect::Other,
+        Family::Return(_) | Family::NotLocal => Effect::Other,
     }
 }
 

@@ -8,17 +8,17 @@ ghost use Rattle.jvm_model.specs.Basis.Values.{has_form};
 ghost use Rattle.jvm_model.specs.Basis.StackForms.{forms_of};
 ghost use Rattle.jvm_basic.specs.Copies.{values_of, has_room_for, has_room_for_some, with_some};
 ghost use Rattle.jvm_basic.specs.Copies.{with_inserted, inserts, copies_one, copies_two, swaps};
-ghost use Rattle.jvm_basic.specs.Rules.{arranges};
-ghost use Rattle.jvm_model.specs.declared.family.Arrangement.TheVariants.{Pop, Pop2, Dup, DupX1};
-ghost use Rattle.jvm_model.specs.declared.family.Arrangement.TheVariants.{DupX2, Dup2, Dup2X1};
-ghost use Rattle.jvm_model.specs.declared.family.Arrangement.TheVariants.{Dup2X2, Swap};
+ghost use Rattle.jvm_basic.specs.Rules.{manages_stack};
+ghost use Rattle.jvm_model.specs.declared.family.StackInstruction.TheVariants.{Pop, Pop2, Dup, DupX1};
+ghost use Rattle.jvm_model.specs.declared.family.StackInstruction.TheVariants.{DupX2, Dup2, Dup2X1};
+ghost use Rattle.jvm_model.specs.declared.family.StackInstruction.TheVariants.{Dup2X2, Swap};
 
 use crate::effect::Effect;
 use crate::moving::{drop_one, drop_two};
 use crate::reading::recall;
 use frame_stack::Frames;
 use heap_objects::Value;
-use jvm_model::Arrangement;
+use jvm_model::StackInstruction;
 
 fn is_long(value: Value) -> bool
     ensures { result ≡ is_long value }
@@ -162,8 +162,8 @@ fn swap(frames: &mut Frames, place: u16) -> Effect
 }
 
 fn pop(frames: &mut Frames, next: u16) -> Effect
-    ensures effect { result ≡ effect_of (arranges (forms_of Pop) next) frames.old }
-    ensures frames { frames.new ≡ after (arranges (forms_of Pop) next) frames.old }
+    ensures effect { result ≡ effect_of (manages_stack (forms_of Pop) next) frames.old }
+    ensures frames { frames.new ≡ after (manages_stack (forms_of Pop) next) frames.old }
 {
     if fits(frames, &[false]) {
         return drop_one(frames, next);
@@ -172,8 +172,8 @@ fn pop(frames: &mut Frames, next: u16) -> Effect
 }
 
 fn pop2(frames: &mut Frames, next: u16) -> Effect
-    ensures effect { result ≡ effect_of (arranges (forms_of Pop2) next) frames.old }
-    ensures frames { frames.new ≡ after (arranges (forms_of Pop2) next) frames.old }
+    ensures effect { result ≡ effect_of (manages_stack (forms_of Pop2) next) frames.old }
+    ensures frames { frames.new ≡ after (manages_stack (forms_of Pop2) next) frames.old }
 {
     if fits(frames, &[false, false]) {
         return drop_two(frames, next);
@@ -186,8 +186,8 @@ fn pop2(frames: &mut Frames, next: u16) -> Effect
 
 #[tactic(auto, using(crate::proofs::ByForms::by_forms))]
 fn dup(frames: &mut Frames, next: u16) -> Effect
-    ensures effect { result ≡ effect_of (arranges (forms_of Dup) next) frames.old }
-    ensures frames { frames.new ≡ after (arranges (forms_of Dup) next) frames.old }
+    ensures effect { result ≡ effect_of (manages_stack (forms_of Dup) next) frames.old }
+    ensures frames { frames.new ≡ after (manages_stack (forms_of Dup) next) frames.old }
 {
     if fits(frames, &[false]) {
         return copy_one(frames, 1, next);
@@ -197,8 +197,8 @@ fn dup(frames: &mut Frames, next: u16) -> Effect
 
 #[tactic(auto, using(crate::proofs::ByForms::by_forms))]
 fn dup_x1(frames: &mut Frames, next: u16) -> Effect
-    ensures effect { result ≡ effect_of (arranges (forms_of DupX1) next) frames.old }
-    ensures frames { frames.new ≡ after (arranges (forms_of DupX1) next) frames.old }
+    ensures effect { result ≡ effect_of (manages_stack (forms_of DupX1) next) frames.old }
+    ensures frames { frames.new ≡ after (manages_stack (forms_of DupX1) next) frames.old }
 {
     if fits(frames, &[false, false]) {
         return copy_one(frames, 2, next);
@@ -208,8 +208,8 @@ fn dup_x1(frames: &mut Frames, next: u16) -> Effect
 
 #[tactic(auto, using(crate::proofs::ByForms::by_forms))]
 fn dup_x2(frames: &mut Frames, next: u16) -> Effect
-    ensures effect { result ≡ effect_of (arranges (forms_of DupX2) next) frames.old }
-    ensures frames { frames.new ≡ after (arranges (forms_of DupX2) next) frames.old }
+    ensures effect { result ≡ effect_of (manages_stack (forms_of DupX2) next) frames.old }
+    ensures frames { frames.new ≡ after (manages_stack (forms_of DupX2) next) frames.old }
 {
     if fits(frames, &[false, false, false]) {
         return copy_one(frames, 3, next);
@@ -222,8 +222,8 @@ fn dup_x2(frames: &mut Frames, next: u16) -> Effect
 
 #[tactic(auto, using(crate::proofs::ByForms::by_forms))]
 fn dup2(frames: &mut Frames, next: u16) -> Effect
-    ensures effect { result ≡ effect_of (arranges (forms_of Dup2) next) frames.old }
-    ensures frames { frames.new ≡ after (arranges (forms_of Dup2) next) frames.old }
+    ensures effect { result ≡ effect_of (manages_stack (forms_of Dup2) next) frames.old }
+    ensures frames { frames.new ≡ after (manages_stack (forms_of Dup2) next) frames.old }
 {
     if fits(frames, &[false, false]) {
         return copy_two(frames, 2, next);
@@ -236,8 +236,8 @@ fn dup2(frames: &mut Frames, next: u16) -> Effect
 
 #[tactic(auto, using(crate::proofs::ByForms::by_forms))]
 fn dup2_x1(frames: &mut Frames, next: u16) -> Effect
-    ensures effect { result ≡ effect_of (arranges (forms_of Dup2X1) next) frames.old }
-    ensures frames { frames.new ≡ after (arranges (forms_of Dup2X1) next) frames.old }
+    ensures effect { result ≡ effect_of (manages_stack (forms_of Dup2X1) next) frames.old }
+    ensures frames { frames.new ≡ after (manages_stack (forms_of Dup2X1) next) frames.old }
 {
     if fits(frames, &[false, false, false]) {
         return copy_two(frames, 3, next);
@@ -250,8 +250,8 @@ fn dup2_x1(frames: &mut Frames, next: u16) -> Effect
 
 #[tactic(auto, using(crate::proofs::ByForms::by_forms))]
 fn dup2_x2(frames: &mut Frames, next: u16) -> Effect
-    ensures effect { result ≡ effect_of (arranges (forms_of Dup2X2) next) frames.old }
-    ensures frames { frames.new ≡ after (arranges (forms_of Dup2X2) next) frames.old }
+    ensures effect { result ≡ effect_of (manages_stack (forms_of Dup2X2) next) frames.old }
+    ensures frames { frames.new ≡ after (manages_stack (forms_of Dup2X2) next) frames.old }
 {
     if fits(frames, &[false, false, false, false]) {
         return copy_two(frames, 4, next);
@@ -270,8 +270,8 @@ fn dup2_x2(frames: &mut Frames, next: u16) -> Effect
 
 #[tactic(auto, using(crate::proofs::ByForms::by_forms))]
 fn swap_shorts(frames: &mut Frames, next: u16) -> Effect
-    ensures effect { result ≡ effect_of (arranges (forms_of Swap) next) frames.old }
-    ensures frames { frames.new ≡ after (arranges (forms_of Swap) next) frames.old }
+    ensures effect { result ≡ effect_of (manages_stack (forms_of Swap) next) frames.old }
+    ensures frames { frames.new ≡ after (manages_stack (forms_of Swap) next) frames.old }
 {
     if fits(frames, &[false, false]) {
         return swap(frames, next);
@@ -280,19 +280,19 @@ fn swap_shorts(frames: &mut Frames, next: u16) -> Effect
 }
 
 /// pop to swap.
-pub fn arrange(frames: &mut Frames, op: Arrangement, next: u16) -> Effect
-    ensures effect { result ≡ effect_of (arranges (forms_of op) next) frames.old }
-    ensures frames { frames.new ≡ after (arranges (forms_of op) next) frames.old }
+pub fn manage_stack(frames: &mut Frames, op: StackInstruction, next: u16) -> Effect
+    ensures effect { result ≡ effect_of (manages_stack (forms_of op) next) frames.old }
+    ensures frames { frames.new ≡ after (manages_stack (forms_of op) next) frames.old }
 {
     match op {
-        Arrangement::Pop => pop(frames, next),
-        Arrangement::Pop2 => pop2(frames, next),
-        Arrangement::Dup => dup(frames, next),
-        Arrangement::DupX1 => dup_x1(frames, next),
-        Arrangement::DupX2 => dup_x2(frames, next),
-        Arrangement::Dup2 => dup2(frames, next),
-        Arrangement::Dup2X1 => dup2_x1(frames, next),
-        Arrangement::Dup2X2 => dup2_x2(frames, next),
-        Arrangement::Swap => swap_shorts(frames, next),
+        StackInstruction::Pop => pop(frames, next),
+        StackInstruction::Pop2 => pop2(frames, next),
+        StackInstruction::Dup => dup(frames, next),
+        StackInstruction::DupX1 => dup_x1(frames, next),
+        StackInstruction::DupX2 => dup_x2(frames, next),
+        StackInstruction::Dup2 => dup2(frames, next),
+        StackInstruction::Dup2X1 => dup2_x1(frames, next),
+        StackInstruction::Dup2X2 => dup2_x2(frames, next),
+        StackInstruction::Swap => swap_shorts(frames, next),
     }
 }

@@ -22,7 +22,7 @@ use Rattle.jvm_model.specs.Rewriting.StandsFor.{mark_at}
 use Rattle.jvm_model.specs.Rewriting.StandsForRun.{StandsFor}
 use Rattle.jvm_model.specs.Turns.StepPauses.{IsLoaded}
 use Rattle.jvm_model.specs.Turns.Told.{Held, held_after, helds}
-use Rattle.jvm_model.proofs.Elsewhere.ClosedPrograms.{program-agrees}
+use Rattle.jvm_model.proofs.Relocated.ClosedPrograms.{program-agrees}
 use Rattle.jvm_model.proofs.Turns.HandBegins.{begin-loads, hand-begins, hand-starts}
 use Rattle.jvm_model.proofs.Turns.RestStands.{step_loads-same}
 use Rattle.jvm_model.proofs.Turns.RestTells.{NoLoads, no-first, rest-no}

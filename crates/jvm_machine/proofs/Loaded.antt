@@ -19,7 +19,7 @@ use Rattle.jvm_model.specs.Soundness.Sound.{IsFit}
 use Rattle.jvm_model.specs.Turns.Told.{Held, helds}
 use Rattle.jvm_model.specs.Soundness.SoundListings.{IsSound, IsSoundEntry, IsSoundListing}
 use Rattle.jvm_model.proofs.Running.Attempts.{loaded-after}
-use Rattle.jvm_model.proofs.Elsewhere.ClosedPrograms.{program-agrees}
+use Rattle.jvm_model.proofs.Relocated.ClosedPrograms.{program-agrees}
 use Rattle.jvm_model.proofs.Loading.LoadedMoves.{settled-loaded}
 use Rattle.jvm_model.proofs.Soundness.SoundRuns.{with-loaded-is}
 use Rattle.jvm_model.proofs.Soundness.SoundListingRuns.{at-goes}

@@ -13,7 +13,7 @@ use Rattle.jvm_model.specs.Running.Run.{before, run, step, turn, turn_in-more}
 use Rattle.jvm_model.specs.Rewriting.StandsFor.{mark_at}
 use Rattle.jvm_model.specs.Turns.StepPauses.{step_pause}
 use Rattle.jvm_model.specs.Turns.Told.{Held, helds, mark_now}
-use Rattle.jvm_model.proofs.Elsewhere.ClosedPrograms.{program-agrees}
+use Rattle.jvm_model.proofs.Relocated.ClosedPrograms.{program-agrees}
 use Rattle.jvm_model.proofs.Running.OnlyReturns.{ends-by-return}
 use Rattle.jvm_model.proofs.Turns.RestStands.{rest-same_changes}
 use Rattle.jvm_model.proofs.Turns.RestTells.{no-first, rest-no}

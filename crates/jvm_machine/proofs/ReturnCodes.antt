@@ -14,9 +14,9 @@ use Rattle.code_model.specs.declared.instr.Arg.TheVariants as arg
 use Rattle.code_model.specs.declared.instr.Instr.{Instr}
 use Rattle.jvm_model.specs.declared.family.Family.{Family}
 use Rattle.jvm_model.specs.declared.family.Family.TheVariants as family
-use Rattle.jvm_model.specs.Basis.Data.{Arrange, BinaryOfInts, BinaryOfLongs, Branch, Constant, Datum, DivisionOfInts, DivisionOfLongs, Goto, Iinc, Jsr, Lcmp, LdcClass, LdcString, Load, Local, Named, SymbolicReference, Newarray, Nop, Operation, Ret, ShiftOfLong, Store, Switch, UnaryOfInt, UnaryOfLong, Within}
+use Rattle.jvm_model.specs.Basis.Data.{ManageStack, BinaryOfInts, BinaryOfLongs, Branch, Constant, Datum, DivisionOfInts, DivisionOfLongs, Goto, Iinc, Jsr, Lcmp, LdcClass, LdcString, Load, Local, Named, SymbolicReference, Newarray, Nop, Operation, Ret, ShiftOfLong, Store, Switch, UnaryOfInt, UnaryOfLong, Within}
 use Rattle.jvm_model.specs.Basis.Families.{family_of, rows}
-use Rattle.jvm_model.specs.Codes.Lines.{ObjectRow, constant_in, given_operation, has_dimensions, increment_in, interface_reference, keys_in, array_reference, named_by, symbolic_reference_of, newarray_of, object_among, object_constant, object_constant_in, object_rows, operation_by, operation_of, other_operation, slot_in, target_in, value_in}
+use Rattle.jvm_model.specs.Codes.Lines.{ObjectRow, constant_in, pool_constant_operation, has_dimensions, increment_in, interface_reference, keys_in, array_reference, named_by, symbolic_reference_of, newarray_of, object_among, object_constant, object_constant_in, object_rows, operation_by, operation_of, other_operation, slot_in, target_in, value_in}
 use Rattle.jvm_model.specs.Turns.StepPauses.{is_return}
 use Rattle.jvm_model.specs.Rewriting.Versions.{is_return_opcode}
 use Rattle.jvm_model.proofs.Running.Opcodes.{all_below, all_below-each}
@@ -117,21 +117,21 @@ object-stays c (arg.Target t) = none-stays
 object-stays c (arg.Table d low ts) = none-stays
 object-stays c (arg.Lookup d ks ts) = none-stays
 
-given-stays : (x : Option Datum) (y : Option Operation) → Stays y → Stays (given_operation (option_map Within (option_map Constant x)) y)
+given-stays : (x : Option Datum) (y : Option Operation) → Stays y → Stays (pool_constant_operation (option_map Within (option_map Constant x)) y)
 given-stays None y stays = stays
 given-stays (Some d) y stays = some-stays (Within (Constant d)) refl
 
 family-stays : (c : ClassFile) (op : ℕ) (a : Arg) (f : Family) → returns f ≡ false → Stays (operation_by c op a f)
-family-stays c op a family.Elsewhere other = other-stays c op a
-family-stays c op a family.Given other = given-stays (constant_in c.pool a) (object_constant_in c.pool a) (object-stays c a)
+family-stays c op a family.NotLocal other = other-stays c op a
+family-stays c op a family.PoolConstant other = given-stays (constant_in c.pool a) (object_constant_in c.pool a) (object-stays c a)
 family-stays c op a family.Nop other = some-stays (Within Nop) refl
 family-stays c op a (family.Constant d) other = some-stays (Within (Constant d)) refl
-family-stays c op a family.Immediate other = within-stays Constant (λ d. refl) (value_in a)
+family-stays c op a family.OperandConstant other = within-stays Constant (λ d. refl) (value_in a)
 family-stays c op a (family.Load k) other = within-stays (Load k) (λ d. refl) (slot_in a)
 family-stays c op a (family.LoadFrom k slot) other = some-stays (Within (Load k slot)) refl
 family-stays c op a (family.Store k) other = within-stays (Store k) (λ d. refl) (slot_in a)
 family-stays c op a (family.StoreTo k slot) other = some-stays (Within (Store k slot)) refl
-family-stays c op a (family.Arrange x) other = some-stays (Within (Arrange x)) refl
+family-stays c op a (family.ManageStack x) other = some-stays (Within (ManageStack x)) refl
 family-stays c op a (family.BinaryOfInts x) other = some-stays (Within (BinaryOfInts x)) refl
 family-stays c op a (family.BinaryOfLongs x) other = some-stays (Within (BinaryOfLongs x)) refl
 family-stays c op a (family.DivisionOfInts x) other = some-stays (Within (DivisionOfInts x)) refl

@@ -10,7 +10,7 @@ use Rattle.jvm_model.specs.Running.Applies.{live_in}
 use Rattle.jvm_model.specs.Running.Run.{before, run}
 use Rattle.jvm_model.specs.Rewriting.StandsForRun.{at_homes, forgotten}
 use Rattle.jvm_model.specs.Turns.Told.{helds}
-use Rattle.jvm_model.proofs.Elsewhere.AppliesMoves.{live-moves}
+use Rattle.jvm_model.proofs.Relocated.AppliesMoves.{live-moves}
 use Rattle.jvm_steps.specs.declared.turns.hands.Hand.{Hand}
 use Rattle.prepared_code.specs.Versions.{Setup, mark_of, method_of}
 use Rattle.jvm_machine.specs.Machine.{IsMachine, Stands, seen}

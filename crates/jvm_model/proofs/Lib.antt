@@ -6,5 +6,5 @@ pub mod Running
 pub mod Events
 pub mod Turns
 pub mod Images
-pub mod Elsewhere
+pub mod Relocated
 pub mod Revealing

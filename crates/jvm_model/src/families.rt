@@ -3,27 +3,27 @@
 ghost use Rattle.std.specs.Prelude.{◌≡◌, ◌<◌, Some, slice_get};
 ghost use Rattle.jvm_model.specs.Basis.Families.{family_of};
 
-use crate::family::Arrangement::{Dup, Dup2, Dup2X1, Dup2X2, DupX1, DupX2, Pop, Pop2, Swap};
 use crate::family::Comparison::{AtLeast, AtMost, Equal, Greater, Less, NotEqual};
 use crate::family::Division::{Quotient, Remainder};
 use crate::family::Family;
 use crate::family::Family::{
-    Arrange, BinaryOfInts, BinaryOfLongs, Branch, Constant, DivisionOfInts, DivisionOfLongs,
-    Elsewhere, Given, Goto, Iinc, Immediate, Jsr, Lcmp, Load, LoadFrom, Nop, Ret, Return,
-    ShiftOfLong, Store, StoreTo, Switch, UnaryOfInt, UnaryOfLong,
+    BinaryOfInts, BinaryOfLongs, Branch, Constant, DivisionOfInts, DivisionOfLongs, Goto, Iinc,
+    Jsr, Lcmp, Load, LoadFrom, ManageStack, Nop, NotLocal, OperandConstant, PoolConstant, Ret,
+    Return, ShiftOfLong, Store, StoreTo, Switch, UnaryOfInt, UnaryOfLong,
 };
 use crate::family::IntOperator::{Iadd, Iand, Imul, Ior, Ishl, Ishr, Isub, Iushr, Ixor};
 use crate::family::LongOperator::{Ladd, Land, Lmul, Lor, Lsub, Lxor};
 use crate::family::LongShift::{Lshl, Lshr, Lushr};
 use crate::family::OfInt::{I2b, I2c, I2l, I2s, Ineg};
 use crate::family::OfLong::{L2i, Lneg};
+use crate::family::StackInstruction::{Dup, Dup2, Dup2X1, Dup2X2, DupX1, DupX2, Pop, Pop2, Swap};
 use crate::family::Test::{IsNull, OfInts, OfReferences, WithZero};
 use const_pool::Kind;
 use heap_objects::Datum::{Int, Long, Ref};
 
 macro_rules! family_row {
     (-) => {
-        Elsewhere
+        NotLocal
     };
     ([$name:tt $family:expr]) => {
         $family
@@ -44,7 +44,7 @@ const FAMILIES: [Family; 256] = family_rows![
     [iconst_3 Constant(Int(3))] [iconst_4 Constant(Int(4))] [iconst_5 Constant(Int(5))]
     [lconst_0 Constant(Long(0))] [lconst_1 Constant(Long(1))] - - - - -
     // 16 to 31
-    [bipush Immediate] [sipush Immediate] [ldc Given] [ldc_w Given] [ldc2_w Given]
+    [bipush OperandConstant] [sipush OperandConstant] [ldc PoolConstant] [ldc_w PoolConstant] [ldc2_w PoolConstant]
     [iload Load(Kind::Int)] [lload Load(Kind::Long)] - - [aload Load(Kind::Ref)]
     [iload_0 LoadFrom(Kind::Int, 0)] [iload_1 LoadFrom(Kind::Int, 1)]
     [iload_2 LoadFrom(Kind::Int, 2)] [iload_3 LoadFrom(Kind::Int, 3)]
@@ -64,9 +64,9 @@ const FAMILIES: [Family; 256] = family_rows![
     [astore_1 StoreTo(Kind::Ref, 1)] [astore_2 StoreTo(Kind::Ref, 2)]
     [astore_3 StoreTo(Kind::Ref, 3)] -
     // 80 to 95
-    - - - - - - - [pop Arrange(Pop)] [pop2 Arrange(Pop2)] [dup Arrange(Dup)] [dup_x1 Arrange(DupX1)]
-    [dup_x2 Arrange(DupX2)] [dup2 Arrange(Dup2)] [dup2_x1 Arrange(Dup2X1)] [dup2_x2 Arrange(Dup2X2)]
-    [swap Arrange(Swap)]
+    - - - - - - - [pop ManageStack(Pop)] [pop2 ManageStack(Pop2)] [dup ManageStack(Dup)] [dup_x1 ManageStack(DupX1)]
+    [dup_x2 ManageStack(DupX2)] [dup2 ManageStack(Dup2)] [dup2_x1 ManageStack(Dup2X1)] [dup2_x2 ManageStack(Dup2X2)]
+    [swap ManageStack(Swap)]
     // 96 to 111
     [iadd BinaryOfInts(Iadd)] [ladd BinaryOfLongs(Ladd)] - - [isub BinaryOfInts(Isub)]
     [lsub BinaryOfLongs(Lsub)] - - [imul BinaryOfInts(Imul)] [lmul BinaryOfLongs(Lmul)] - -

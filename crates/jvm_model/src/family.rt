@@ -83,7 +83,7 @@ pub enum Test {
 
 /// The stack instructions.
 #[derive(Clone, Copy)]
-pub enum Arrangement {
+pub enum StackInstruction {
     Pop,
     Pop2,
     Dup,
@@ -102,9 +102,9 @@ pub enum Family {
     /// aconst_null, iconst, lconst
     Constant(Datum),
     /// ldc, ldc_w, ldc2_w: the constant that is given
-    Given,
+    PoolConstant,
     /// bipush, sipush: the operand
-    Immediate,
+    OperandConstant,
     /// iload, lload, aload
     Load(Kind),
     /// iload_0 to aload_3
@@ -114,7 +114,7 @@ pub enum Family {
     /// istore_0 to astore_3
     StoreTo(Kind, u16),
     /// pop to swap
-    Arrange(Arrangement),
+    ManageStack(StackInstruction),
     BinaryOfInts(IntOperator),
     BinaryOfLongs(LongOperator),
     /// idiv, irem
@@ -140,5 +140,5 @@ pub enum Family {
     /// ireturn, lreturn, areturn, return: the kind of the result, where there is one
     Return(Option<Kind>),
     /// It needs more than its frame, takes or gives a float or a double, or is no instruction.
-    Elsewhere,
+    NotLocal,
 }

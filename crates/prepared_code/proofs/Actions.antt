@@ -46,8 +46,8 @@ local-acted None = refl
 local-acted (Some i) = refl
 
 -- of a family that tells by itself what its instructions do
-pub family-acted : (c : ClassFile) (op : ℕ) (a : Arg) (f : Family) → (f ≡ family.Elsewhere → ⊥) → (f ≡ family.Given → ⊥)
+pub family-acted : (c : ClassFile) (op : ℕ) (a : Arg) (f : Family) → (f ≡ family.NotLocal → ⊥) → (f ≡ family.PoolConstant → ⊥)
     → option_map local_action (local_of f a (constant_in c.pool a)) ≡ option_map action_of (operation_by c op a f)
-family-acted c op a family.Elsewhere apart given = absurd (apart refl)
-family-acted c op a family.Given apart given = absurd (given refl)
+family-acted c op a family.NotLocal apart given = absurd (apart refl)
+family-acted c op a family.PoolConstant apart given = absurd (given refl)
 family-acted c op a f apart given = local-acted (local_of f a (constant_in c.pool a))

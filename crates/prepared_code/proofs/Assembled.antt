@@ -8,7 +8,7 @@ use Rattle.jvm_model.specs.Basis.Data.{World}
 use Rattle.jvm_model.specs.Codes.Originals.{original}
 use Rattle.jvm_model.specs.Running.Run.{start, step}
 use Rattle.jvm_model.specs.Rewriting.StandsForRun.{StandsFor}
-use Rattle.jvm_model.proofs.Elsewhere.StandsForRun.{start-stands_for}
+use Rattle.jvm_model.proofs.Relocated.StandsForRun.{start-stands_for}
 use Rattle.prepared_code.specs.Tables.{IsAdded, Version, Versions}
 use Rattle.prepared_code.specs.Entries.{original_versions}
 use Rattle.jvm_model.specs.Codes.ProgramPlaces.{HasClosedCodes, is_place_in}
@@ -18,7 +18,7 @@ use Rattle.prepared_code.specs.Versions.{current_of, method_of, listing_of}
 use Rattle.frame_stack.specs.FrameLists.{PlacedFrame}
 use Rattle.prepared_code.specs.Standing.{IsPinned}
 use Rattle.prepared_code.specs.VersionListings.{AreVersions, IsVersionOf, homes_with}
-use Rattle.jvm_model.proofs.Elsewhere.ClosedPrograms.{program-agrees}
+use Rattle.jvm_model.proofs.Relocated.ClosedPrograms.{program-agrees}
 use Rattle.prepared_code.proofs.OriginalListings.{original-are}
 use Rattle.prepared_code.proofs.VersionsAgree.{versions-agree}
 use Rattle.prepared_code.proofs.VersionsRun.{added-versions, count-added, kept-stands, same-added, step-stands}

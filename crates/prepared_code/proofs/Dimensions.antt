@@ -20,7 +20,7 @@ use Rattle.jvm_model.specs.declared.program.Program.{Program}
 use Rattle.jvm_model.specs.Basis.Data.{Local, Return, Operation, Within, Named, SymbolicReference, New, Getfield, Putfield, Getstatic, Putstatic, Invokevirtual, Invokespecial, Invokestatic, Invokeinterface, Checkcast, Instanceof, Anewarray, Multianewarray, LdcClass, Athrow, Monitor, Newarray, Arraylength, LoadElement, StoreElement, LdcString}
 use Rattle.jvm_model.specs.Basis.Families.{family_of}
 use Rattle.jvm_model.specs.Classes.Kinds.{meaning_of}
-use Rattle.jvm_model.specs.Codes.Lines.{ObjectRow, constant_in, given_operation, has_dimensions, interface_reference, local_of, array_reference, named_by, symbolic_reference_of, object_among, object_constant, object_constant_in, object_rows, operation_by, operation_of, other_operation}
+use Rattle.jvm_model.specs.Codes.Lines.{ObjectRow, constant_in, pool_constant_operation, has_dimensions, interface_reference, local_of, array_reference, named_by, symbolic_reference_of, object_among, object_constant, object_constant_in, object_rows, operation_by, operation_of, other_operation}
 use Rattle.jvm_model.specs.Basis.Methods.{method_code}
 use Rattle.jvm_model.specs.Basis.Programs.{class_at, place_of_method}
 use Rattle.jvm_named.specs.Names.{symbolic_view}
@@ -89,13 +89,13 @@ constant : (c : ClassFile) (a : Arg) → IfSome (object_constant_in c.pool a) Di
 constant c (arg.Pool index) = entry-of c (slice_get c.pool index)
 constant c _ = tt
 
-given : (c : ClassFile) (a : Arg) (number : Option Local) → IfSome (given_operation (option_map Within number) (object_constant_in c.pool a)) Dimensioned
+given : (c : ClassFile) (a : Arg) (number : Option Local) → IfSome (pool_constant_operation (option_map Within number) (object_constant_in c.pool a)) Dimensioned
 given c a None = constant c a
 given c a (Some i) = tt
 
 pub by-family : (c : ClassFile) (op : ℕ) (a : Arg) (f : Family) → IfSome (operation_by c op a f) Dimensioned
-by-family c op a family.Elsewhere = other c op a
-by-family c op a family.Given = given c a (local_of family.Given a (constant_in c.pool a))
+by-family c op a family.NotLocal = other c op a
+by-family c op a family.PoolConstant = given c a (local_of family.PoolConstant a (constant_in c.pool a))
 by-family c op a f = within (local_of f a (constant_in c.pool a))
 
 -- ---- lines

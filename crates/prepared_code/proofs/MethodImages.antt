@@ -20,7 +20,7 @@ use Rattle.jvm_model.specs.Codes.ProgramPlaces.{IsClosedCode, is_place_in}
 use Rattle.prepared_code.specs.Rewritten.{rewritten_version}
 use Rattle.prepared_code.specs.VersionListings.{IsVersionOf}
 use Rattle.prepared_code.proofs.ImageVersions.{image-version}
-use Rattle.jvm_model.proofs.Elsewhere.PlacesOf.{places-of}
+use Rattle.jvm_model.proofs.Relocated.PlacesOf.{places-of}
 use Rattle.prepared_code.specs.LaidMethods.{CanBeLaid, NamesClass}
 
 module _ (p : Program) (method : ℕ) (here : MethodPlace) (c image : ClassFile) (old : CodeAttribute)

@@ -14,7 +14,7 @@ use Rattle.jvm_model.specs.Codes.Originals.{original}
 use Rattle.jvm_model.specs.Running.Run.{run, start, step, turn_in-zero, turn_in-suc}
 use Rattle.jvm_model.specs.Soundness.Sound.{IsFit}
 use Rattle.jvm_model.specs.Rewriting.StandsForRun.{StandsFor}
-use Rattle.jvm_model.proofs.Elsewhere.StandsForRun.{start-stands_for}
+use Rattle.jvm_model.proofs.Relocated.StandsForRun.{start-stands_for}
 use Rattle.prepared_code.specs.Tables.{Adds, IsAdded, Releases, Version, Versions}
 use Rattle.const_pool.specs.declared.class.ClassFile.{ClassFile}
 use Rattle.code_model.specs.declared.laying.Homes.{Homes}
@@ -33,7 +33,7 @@ use Rattle.prepared_code.specs.Versions.{Setup, current_of, method_of, listing_o
 use Rattle.prepared_code.specs.VersionListings.{homes_left, homes_with}
 use Rattle.prepared_code.proofs.Added.{lines-added, lines-left}
 use Rattle.prepared_code.proofs.Assembled.{at-first}
-use Rattle.jvm_model.proofs.Elsewhere.ClosedPrograms.{program-agrees}
+use Rattle.jvm_model.proofs.Relocated.ClosedPrograms.{program-agrees}
 use Rattle.prepared_code.proofs.ClassVersionLaws.{versions-of}
 use Rattle.prepared_code.proofs.OriginalVersions.{original-own}
 use Rattle.jvm_model.proofs.Soundness.SoundListingRuns.{sound-start, sound-step}

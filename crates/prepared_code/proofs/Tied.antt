@@ -18,9 +18,9 @@ use Rattle.code_model.specs.Instructions.{instruction_at, end_of}
 use Rattle.jvm_model.specs.declared.family.Family.{Family}
 use Rattle.jvm_model.specs.declared.family.Family.TheVariants as family
 use Rattle.jvm_model.specs.declared.program.Program.{Program}
-use Rattle.jvm_model.specs.Basis.Data.{Locals, Operands, Local, Nop, Constant, Load, Store, Arrange, BinaryOfInts, BinaryOfLongs, DivisionOfInts, DivisionOfLongs, ShiftOfLong, UnaryOfInt, UnaryOfLong, Lcmp, Iinc, Branch, Goto, Switch, Jsr, Ret, Return, SymbolicReference, New, Getfield, Putfield, Getstatic, Putstatic, Invokevirtual, Invokespecial, Invokestatic, Invokeinterface, Checkcast, Instanceof, Anewarray, Multianewarray, LdcClass, Operation, Within, Named, Athrow, Monitor, Newarray, Arraylength, LoadElement, StoreElement, LdcString, Instruction}
+use Rattle.jvm_model.specs.Basis.Data.{Locals, Operands, Local, Nop, Constant, Load, Store, ManageStack, BinaryOfInts, BinaryOfLongs, DivisionOfInts, DivisionOfLongs, ShiftOfLong, UnaryOfInt, UnaryOfLong, Lcmp, Iinc, Branch, Goto, Switch, Jsr, Ret, Return, SymbolicReference, New, Getfield, Putfield, Getstatic, Putstatic, Invokevirtual, Invokespecial, Invokestatic, Invokeinterface, Checkcast, Instanceof, Anewarray, Multianewarray, LdcClass, Operation, Within, Named, Athrow, Monitor, Newarray, Arraylength, LoadElement, StoreElement, LdcString, Instruction}
 use Rattle.jvm_model.specs.Basis.Families.{family_of}
-use Rattle.jvm_model.specs.Codes.Lines.{value_in, slot_in, increment_in, target_in, keys_in, local_of, constant_in, given_operation, has_dimensions, interface_reference, array_reference, named_by, symbolic_reference_of, ObjectRow, object_among, object_constant, object_constant_in, object_rows, other_operation, operation_by, is_last, next_of, targets_of, instruction_of}
+use Rattle.jvm_model.specs.Codes.Lines.{value_in, slot_in, increment_in, target_in, keys_in, local_of, constant_in, pool_constant_operation, has_dimensions, interface_reference, array_reference, named_by, symbolic_reference_of, ObjectRow, object_among, object_constant, object_constant_in, object_rows, other_operation, operation_by, is_last, next_of, targets_of, instruction_of}
 use Rattle.jvm_model.specs.Instructions.LocalRules.{within}
 use Rattle.jvm_model.specs.Basis.Methods.{method_code}
 use Rattle.jvm_model.specs.Codes.Originals.{original}
@@ -61,13 +61,13 @@ known-last k l b is e = ap is_last (sym (same_Some k l e)) ∙ is
 last-same : (f : Family) (a : Arg) (c : Option Datum) (l : Local) → local_of f a c ≡ Some l → is_last l ≡ is_last_family f
 last-same family.Nop a c l e = known-last Nop l false refl e
 last-same (family.Constant d) a c l e = known-last (Constant d) l false refl e
-last-same family.Given a c l e = made-last Constant false (λ d. refl) c l e
-last-same family.Immediate a c l e = made-last Constant false (λ d. refl) (value_in a) l e
+last-same family.PoolConstant a c l e = made-last Constant false (λ d. refl) c l e
+last-same family.OperandConstant a c l e = made-last Constant false (λ d. refl) (value_in a) l e
 last-same (family.Load k) a c l e = made-last (Load k) false (λ n. refl) (slot_in a) l e
 last-same (family.LoadFrom k slot) a c l e = known-last (Load k slot) l false refl e
 last-same (family.Store k) a c l e = made-last (Store k) false (λ n. refl) (slot_in a) l e
 last-same (family.StoreTo k slot) a c l e = known-last (Store k slot) l false refl e
-last-same (family.Arrange op) a c l e = known-last (Arrange op) l false refl e
+last-same (family.ManageStack op) a c l e = known-last (ManageStack op) l false refl e
 last-same (family.BinaryOfInts op) a c l e = known-last (BinaryOfInts op) l false refl e
 last-same (family.BinaryOfLongs op) a c l e = known-last (BinaryOfLongs op) l false refl e
 last-same (family.DivisionOfInts op) a c l e = known-last (DivisionOfInts op) l false refl e
@@ -83,7 +83,7 @@ last-same family.Jsr a c l e = made-last (λ target. Jsr) false (λ t. refl) (ta
 last-same family.Ret a c l e = made-last Ret true (λ n. refl) (slot_in a) l e
 last-same family.Switch a c l e = made-last Switch true (λ keys. refl) (keys_in a) l e
 last-same (family.Return k) a c l e = known-last (Return k) l true refl e
-last-same family.Elsewhere a c l e = absurd (none-some l e)
+last-same family.NotLocal a c l e = absurd (none-some l e)
 
 -- none of them is athrow
 local-throws : (l : Local) → is_athrow (local_action l) ≡ false
@@ -97,9 +97,9 @@ datum-back (Some (datum.Int n)) = refl
 datum-back (Some (datum.Long n)) = refl
 datum-back (Some (datum.Ref r)) = refl
 
-rule-by-is : (f : Family) → (f ≡ family.Elsewhere → ⊥) → (a : Arg) (c : Option Datum) (next : ℕ) (m : Locals) (o : Operands)
+rule-by-is : (f : Family) → (f ≡ family.NotLocal → ⊥) → (a : Arg) (c : Option Datum) (next : ℕ) (m : Locals) (o : Operands)
     → rule_by f a c next m o ≡ needs (local_of f a c) (λ l. going (within l) next (targets_of a)) m o
-rule-by-is family.Elsewhere apart a c next m o = absurd (apart refl)
+rule-by-is family.NotLocal apart a c next m o = absurd (apart refl)
 rule-by-is f apart a c next m o = refl
 
 -- ---- operations that see objects
@@ -141,7 +141,7 @@ module _ (c : ClassFile) (i : Instr) where
       ∙ ap (λ x. cond (is_last_family x) None (Some (end_of i))) (sym is)
       ∙ ap (λ b. cond b None (cond (is_last_family (family_of i.op)) None (Some (end_of i)))) (sym (local-throws l))
 
-  rule-same : (f : Family) → (f ≡ family.Elsewhere → ⊥) → family_of i.op ≡ f → (l : Local) → local_of f i.arg constant ≡ Some l → (m : Locals) (o : Operands)
+  rule-same : (f : Family) → (f ≡ family.NotLocal → ⊥) → family_of i.op ≡ f → (l : Local) → local_of f i.arg constant ≡ Some l → (m : Locals) (o : Operands)
       → rule_of i (option_map as_value constant) (end_of i) m o ≡ placed (end_of i) (targets_of i.arg) m o (within l m o)
   rule-same f apart is l e m o =
       ap (λ x. rule_by x i.arg (option_and_then datum_in (option_map as_value constant)) (end_of i) m o) is
@@ -159,7 +159,7 @@ module _ (c : ClassFile) (i : Instr) where
     local (Within x) = x
     local _ = l
 
-  tied-local : (f : Family) → (f ≡ family.Elsewhere → ⊥) → family_of i.op ≡ f → (x : Option Local) → local_of f i.arg constant ≡ x
+  tied-local : (f : Family) → (f ≡ family.NotLocal → ⊥) → family_of i.op ≡ f → (x : Option Local) → local_of f i.arg constant ≡ x
       → Tie (the_line (option_map Within x)) (the_instruction (option_map Within x))
   tied-local f apart is None e = tt
   tied-local f apart is (Some l) e = record {
@@ -176,7 +176,7 @@ module _ (c : ClassFile) (i : Instr) where
   -- ---- instructions with names
 
   -- control goes on behind an instruction of no family, but for athrow
-  behind : family_of i.op ≡ family.Elsewhere → Some (end_of i) ≡ cond (is_last_family (family_of i.op)) None (Some (end_of i))
+  behind : family_of i.op ≡ family.NotLocal → Some (end_of i) ≡ cond (is_last_family (family_of i.op)) None (Some (end_of i))
   behind is = ap (λ x. cond (is_last_family x) None (Some (end_of i))) (sym is)
 
   abbrev TiedOperation : Option Operation → Type 0
@@ -186,7 +186,7 @@ module _ (c : ClassFile) (i : Instr) where
   either true x y tx ty = tx
   either false x y tx ty = ty
 
-  tied-naming : family_of i.op ≡ family.Elsewhere → (o : Option SymbolicReference) → TiedOperation (option_and_then named_by o)
+  tied-naming : family_of i.op ≡ family.NotLocal → (o : Option SymbolicReference) → TiedOperation (option_and_then named_by o)
   tied-naming is None = tt
   tied-naming is (Some n) =
       either (has_dimensions n) (Some (Named n)) None
@@ -194,7 +194,7 @@ module _ (c : ClassFile) (i : Instr) where
 
   -- ---- instructions that see objects
 
-  tied-object : family_of i.op ≡ family.Elsewhere → (op : Operation) → is_object op ≡ true → TiedOperation (Some op)
+  tied-object : family_of i.op ≡ family.NotLocal → (op : Operation) → is_object op ≡ true → TiedOperation (Some op)
   tied-object is Athrow object = record { op = Athrow; is = refl; tied = record { action = refl; next = refl; alone = λ k same. absurd cc; within = λ k same. absurd cc } }
   tied-object is Monitor object = record { op = Monitor; is = refl; tied = record { action = refl; next = behind is; alone = λ k same. absurd cc; within = λ k same. absurd cc } }
   tied-object is (Newarray code) object = record { op = Newarray code; is = refl; tied = record { action = refl; next = behind is; alone = λ k same. absurd cc; within = λ k same. absurd cc } }
@@ -205,13 +205,13 @@ module _ (c : ClassFile) (i : Instr) where
   tied-object is (Named n) object = absurd (false≢true object)
   tied-object is (LdcString units) object = absurd (false≢true object)
 
-  tied-rows : family_of i.op ≡ family.Elsewhere → (rows : List ObjectRow) → are_objects rows ≡ true → TiedOperation (object_among rows i.op)
+  tied-rows : family_of i.op ≡ family.NotLocal → (rows : List ObjectRow) → are_objects rows ≡ true → TiedOperation (object_among rows i.op)
   tied-rows is [] objects = tt
   tied-rows is (r ∷ rest) objects =
       let all = both (is_object r.operation) (are_objects rest) objects in
       either (i.op == r.op) _ _ (tied-object is r.operation all.0) (tied-rows is rest all.1)
 
-  tied-other : family_of i.op ≡ family.Elsewhere → (a : Arg) → TiedOperation (other_operation c i.op a)
+  tied-other : family_of i.op ≡ family.NotLocal → (a : Arg) → TiedOperation (other_operation c i.op a)
   tied-other is (arg.Pool index) = tied-naming is (symbolic_reference_of c i.op index)
   tied-other is (arg.Interface index count zero) = tied-naming is (interface_reference c i.op index)
   tied-other is (arg.Multi index dimensions) = tied-naming is (array_reference c i.op index dimensions)
@@ -221,39 +221,39 @@ module _ (c : ClassFile) (i : Instr) where
 
   -- ---- ldc: of a String or a Class where it is of no number
 
-  behind-ldc : family_of i.op ≡ family.Given → Some (end_of i) ≡ cond (is_last_family (family_of i.op)) None (Some (end_of i))
+  behind-ldc : family_of i.op ≡ family.PoolConstant → Some (end_of i) ≡ cond (is_last_family (family_of i.op)) None (Some (end_of i))
   behind-ldc is = ap (λ x. cond (is_last_family x) None (Some (end_of i))) (sym is)
 
-  tied-string : family_of i.op ≡ family.Given → (text : Option (List ℕ)) → TiedOperation (option_map LdcString text)
+  tied-string : family_of i.op ≡ family.PoolConstant → (text : Option (List ℕ)) → TiedOperation (option_map LdcString text)
   tied-string is None = tt
   tied-string is (Some units) = record { op = LdcString units; is = refl; tied = record { action = refl; next = behind-ldc is; alone = λ k same. absurd cc; within = λ k same. absurd cc } }
 
-  tied-class : family_of i.op ≡ family.Given → (text : Option (List ℕ)) → TiedOperation (option_map (λ name. Named (LdcClass name)) text)
+  tied-class : family_of i.op ≡ family.PoolConstant → (text : Option (List ℕ)) → TiedOperation (option_map (λ name. Named (LdcClass name)) text)
   tied-class is None = tt
   tied-class is (Some name) = record { op = Named (LdcClass name); is = refl; tied = record { action = refl; next = behind-ldc is; alone = λ k same. absurd cc; within = λ k same. absurd cc } }
 
-  tied-entry : family_of i.op ≡ family.Given → (entry : Const) → TiedOperation (object_constant c.pool entry)
+  tied-entry : family_of i.op ≡ family.PoolConstant → (entry : Const) → TiedOperation (object_constant c.pool entry)
   tied-entry is (const.Text index) = tied-string is (named_text c.pool index)
   tied-entry is (const.Class index) = tied-class is (named_text c.pool index)
   tied-entry is _ = tt
 
-  tied-constant : family_of i.op ≡ family.Given → (a : Arg) → TiedOperation (object_constant_in c.pool a)
+  tied-constant : family_of i.op ≡ family.PoolConstant → (a : Arg) → TiedOperation (object_constant_in c.pool a)
   tied-constant is (arg.Pool index) = by (slice_get c.pool index) where
     by : (o : Option Const) → TiedOperation (option_and_then (object_constant c.pool) o)
     by None = tt
     by (Some entry) = tied-entry is entry
   tied-constant is _ = tt
 
-  tied-given : family_of i.op ≡ family.Given → (x : Option Local) → local_of family.Given i.arg constant ≡ x
-      → TiedOperation (given_operation (option_map Within x) (object_constant_in c.pool i.arg))
+  tied-given : family_of i.op ≡ family.PoolConstant → (x : Option Local) → local_of family.PoolConstant i.arg constant ≡ x
+      → TiedOperation (pool_constant_operation (option_map Within x) (object_constant_in c.pool i.arg))
   tied-given is None e = tied-constant is i.arg
-  tied-given is (Some l) e = tied-local family.Given (λ same. absurd cc) is (Some l) e
+  tied-given is (Some l) e = tied-local family.PoolConstant (λ same. absurd cc) is (Some l) e
 
   -- ---- every instruction
 
   tied-by : (f : Family) → family_of i.op ≡ f → TiedOperation (operation_by c i.op i.arg f)
-  tied-by family.Elsewhere is = tied-other is i.arg
-  tied-by family.Given is = tied-given is (local_of family.Given i.arg constant) refl
+  tied-by family.NotLocal is = tied-other is i.arg
+  tied-by family.PoolConstant is = tied-given is (local_of family.PoolConstant i.arg constant) refl
   tied-by f is = tied-local f (λ e. absurd cc) is (local_of f i.arg constant) refl
 
   pub tied-instruction : Tie (line_of c i) (instruction_of c i)

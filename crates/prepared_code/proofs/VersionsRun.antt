@@ -17,7 +17,7 @@ use Rattle.jvm_model.specs.Running.Run.{step}
 use Rattle.jvm_model.specs.Soundness.Sound.{CanAttempt, HasClass, IsFit}
 use Rattle.jvm_model.specs.Rewriting.StandsForRun.{KeepVersions, StandsFor, at_homes}
 use Rattle.jvm_model.proofs.Soundness.SoundLines.{can-attempt}
-use Rattle.jvm_model.proofs.Elsewhere.StandsForRun.{stands_for-kept, step-stands_for}
+use Rattle.jvm_model.proofs.Relocated.StandsForRun.{stands_for-kept, step-stands_for}
 use Rattle.prepared_code.specs.Tables.{IsAdded, Releases, Version, Versions, version_at}
 use Rattle.prepared_code.specs.Ready.{CanRun, IsKept, IsOwnLine, RunsIn}
 use Rattle.jvm_model.specs.Soundness.SoundListings.{IsSoundEntry}

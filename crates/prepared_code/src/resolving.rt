@@ -6,9 +6,9 @@ ghost use Rattle.std.specs.Option.{option_map};
 ghost use Rattle.code_model.specs.Instructions.{end_of};
 ghost use Rattle.jvm_model.specs.Basis.Data.{Within};
 ghost use Rattle.jvm_model.specs.Codes.Lines.{constant_in, local_of, number_of};
-ghost use Rattle.jvm_model.specs.Codes.Lines.{given_operation, object_constant, object_constant_in};
+ghost use Rattle.jvm_model.specs.Codes.Lines.{pool_constant_operation, object_constant, object_constant_in};
 ghost use Rattle.jvm_model.specs.Basis.Values.{as_value};
-ghost use Rattle.jvm_model.specs.declared.family.Family.TheVariants.{Given};
+ghost use Rattle.jvm_model.specs.declared.family.Family.TheVariants.{PoolConstant};
 ghost use Rattle.jvm_model.specs.Codes.Lines.{newarray_of, object_among, object_rows};
 ghost use Rattle.jvm_model.specs.Codes.Lines.{other_operation, operation_of};
 ghost use Rattle.jvm_model.specs.Basis.Families.{family_of};
@@ -52,9 +52,9 @@ fn constant_in(pool: &Pool, arg: &Arg) -> Option<Datum>
 }
 
 /// What an ldc does, where its constant is a number.
-fn number_given(pool: &Pool, arg: &Arg) -> Option<Action>
+fn pool_number(pool: &Pool, arg: &Arg) -> Option<Action>
     ensures { let constant = constant_in pool.now arg.now in
-        result ≡ option_map local_action (local_of Given arg.now constant) }
+        result ≡ option_map local_action (local_of PoolConstant arg.now constant) }
 {
     match constant_in(pool, arg) {
         Some(_) => Some(Action::Local),
@@ -89,11 +89,11 @@ fn object_given(alloc: Global, pool: &Pool, arg: &Arg) -> Result<Option<Action>,
 /// What an ldc does: it pushes a number, or else a String or a Class.
 fn given(alloc: Global, pool: &Pool, arg: &Arg) -> Result<Option<Action>, NoMemory>
     ensures { let constant = constant_in pool.now arg.now in
-        let number = option_map Within (local_of Given arg.now constant) in
+        let number = option_map Within (local_of PoolConstant arg.now constant) in
         IfOk result (λ a. a ≡ option_map action_of
-        (given_operation number (object_constant_in pool.now arg.now))) }
+        (pool_constant_operation number (object_constant_in pool.now arg.now))) }
 {
-    match number_given(pool, arg) {
+    match pool_number(pool, arg) {
         Some(action) => Ok(Some(action)),
         None => object_given(alloc, pool, arg),
     }
@@ -105,10 +105,10 @@ fn local_action(family: Family, pool: &Pool, arg: &Arg) -> Option<Action>
         ≡ option_map local_action (local_of family arg.now (constant_in pool.now arg.now)) }
 {
     match family {
-        Family::Elsewhere => None,
+        Family::NotLocal => None,
         Family::Return(kind) => Some(Action::Return(kind)),
-        Family::Given => number_given(pool, arg),
-        Family::Immediate => match arg {
+        Family::PoolConstant => pool_number(pool, arg),
+        Family::OperandConstant => match arg {
             Arg::Value(_) => Some(Action::Local),
             _ => None,
         },
@@ -209,8 +209,8 @@ fn action_of(
     ensures { IfOk result (λ a. a ≡ option_map action_of (operation_of class.now instr.now)) }
 {
     match family {
-        Family::Elsewhere => other_action(alloc, class, instr.op, &instr.arg),
-        Family::Given => given(alloc, &class.pool, &instr.arg),
+        Family::NotLocal => other_action(alloc, class, instr.op, &instr.arg),
+        Family::PoolConstant => given(alloc, &class.pool, &instr.arg),
         family => Ok(local_action(family, &class.pool, &instr.arg)),
     }
 }

@@ -19,7 +19,7 @@ use Rattle.jvm_model.specs.Basis.Data.{Instruction, Operation}
 use Rattle.jvm_model.specs.Codes.Lines.{code_instruction, ends, instruction_of, next_of, operation_of, targets_of}
 use Rattle.jvm_model.specs.Codes.Moved.{moved_instruction}
 use Rattle.jvm_model.specs.Codes.Homed.{with_own}
-use Rattle.jvm_model.proofs.Elsewhere.MovedOperations.{operation-moves, targets-move}
+use Rattle.jvm_model.proofs.Relocated.MovedOperations.{operation-moves, targets-move}
 
 -- it is as long, wherever its targets lead
 operand-long : (h : ℕ → ℕ) (place : ℕ) (w : Width) (a : Arg) → operand_len place w (moved_arg h a) ≡ operand_len place w a

@@ -28,7 +28,7 @@ use Rattle.jvm_model.specs.Basis.Data.{Datum, Constant, SymbolicReference, New, 
 use Rattle.jvm_model.specs.Basis.Families.{family_of}
 use Rattle.jvm_model.specs.Basis.Descriptors.{same_text}
 use Rattle.jvm_model.specs.Rewriting.Images.{with_code_among, IsMarkedMember, IsMemberImage, next_number, AreMemberImages, IsRewritten}
-use Rattle.jvm_model.specs.Codes.Lines.{number_of, constant_in, named_interface_method, special_of, symbolic_reference_of, interface_reference, multi_of, array_reference, named_by, other_operation, given_operation, object_constant, operation_by, operation_of}
+use Rattle.jvm_model.specs.Codes.Lines.{number_of, constant_in, named_interface_method, special_of, symbolic_reference_of, interface_reference, multi_of, array_reference, named_by, other_operation, pool_constant_operation, object_constant, operation_by, operation_of}
 use Rattle.jvm_model.specs.Basis.Programs.{name_of}
 use Rattle.jvm_model.specs.Small.Resolved.{own_method, resolved_name, resolved_in}
 use Rattle.jvm_model.specs.Basis.Methods.{code_among, code_of, same_text_at, is_member, method_from, method_named}

@@ -143,7 +143,7 @@ in_map : {A B : Type 0} (f : A → B) (o : Option A) (y : B) → option_map f o 
 in_map f None y e = absurd (none-some y e)
 in_map f (Some x) y e = (x, refl, same_Some (f x) y e)
 
-invokestatic-elsewhere : family_of 184 ≡ family.Elsewhere
+invokestatic-elsewhere : family_of 184 ≡ family.NotLocal
 unfolding family_of rows
 invokestatic-elsewhere = refl
 

@@ -5,13 +5,13 @@ use Rattle.heap_objects.specs.declared.datum.Datum.{Datum}
 use Rattle.heap_objects.specs.declared.Value.{Value}
 use Rattle.heap_objects.specs.declared.Value.TheVariants.{Int, Long, Ref, Addr}
 use Rattle.const_pool.specs.declared.descriptor.Kind.{Kind}
-use Rattle.jvm_model.specs.Basis.Data.{Program, Shared, Locals, Operands, Local, Nop, Constant, Load, Store, Arrange, BinaryOfInts, BinaryOfLongs, DivisionOfInts, DivisionOfLongs, ShiftOfLong, UnaryOfInt, UnaryOfLong, Lcmp, Iinc, Branch, Goto, Switch, Jsr, Ret, Return, Keys, Outcome, GoesOn, Next, Throws, Raises, Breaks, World}
+use Rattle.jvm_model.specs.Basis.Data.{Program, Shared, Locals, Operands, Local, Nop, Constant, Load, Store, ManageStack, BinaryOfInts, BinaryOfLongs, DivisionOfInts, DivisionOfLongs, ShiftOfLong, UnaryOfInt, UnaryOfLong, Lcmp, Iinc, Branch, Goto, Switch, Jsr, Ret, Return, Keys, Outcome, GoesOn, Next, Throws, Raises, Breaks, World}
 use Rattle.jvm_model.specs.Instructions.LocalRules.{divides_these, goes_back, goes_if, holds, increments, leaves, pushes, replaces, returns, returns_datum, stores, switches_on, tests, within}
 use Rattle.jvm_model.specs.Classes.Lookup.{is_below}
 use Rattle.jvm_model.specs.Instructions.ObjectRules.{Access, ToNull, ToAnother, Outside, Inside, access_to, loads_at, loads_element, measures, refused, throws, watches}
 use Rattle.jvm_model.specs.Basis.SharedState.{class_of, null_pointer, throwable}
 use Rattle.jvm_model.specs.Basis.StackForms.{forms_of}
-use Rattle.jvm_model.specs.Basis.Values.{arranged, datum_of, int_of, is_storable, has_slots, local_in, stored}
+use Rattle.jvm_model.specs.Basis.Values.{managed_stack, datum_of, int_of, is_storable, has_slots, local_in, stored}
 use Rattle.jvm_model.specs.Soundness.Climbing.{Begins}
 
 -- ---- instructions that see their frame alone
@@ -81,7 +81,7 @@ module _ (p : Program) (loaded_classes ms : List ℕ) where
   within-sound (Constant d) l o = tt
   within-sound (Load k slot) l o = pushes-sound _ l o
   within-sound (Store k slot) l o = stores-sound k slot l o
-  within-sound (Arrange op) l o = leaves-sound (arranged (forms_of op) o) l
+  within-sound (ManageStack op) l o = leaves-sound (managed_stack (forms_of op) o) l
   within-sound (BinaryOfInts op) l o = replaces-sound 2 _ l o
   within-sound (BinaryOfLongs op) l o = replaces-sound 2 _ l o
   within-sound (DivisionOfInts op) l o = divides-sound _ l o

@@ -15,12 +15,12 @@ use Rattle.jvm_model.specs.Soundness.Suited.{StaySuited}
 use Rattle.jvm_model.specs.Profiling.Targets.{operations_of}
 use Rattle.jvm_model.specs.Soundness.Whole.{HasSoundCodes, IsWhole}
 use Rattle.jvm_model.proofs.Revealing.CalledRuns.{RunStands, run-sound, run-told, start-loaded}
-use Rattle.jvm_model.proofs.Elsewhere.ClosedBy.{closed-by}
+use Rattle.jvm_model.proofs.Relocated.ClosedBy.{closed-by}
 use Rattle.jvm_model.proofs.Loading.Library.{library-bare, library-order}
 use Rattle.jvm_model.proofs.Loading.LoadOrder.{before-order, load-order}
 use Rattle.jvm_model.proofs.Events.Marked.{suits-run}
 use Rattle.jvm_model.proofs.Soundness.Ranked.{AreInOrder, none-ranked, order-ranked, ranked-climbs, run-keeps, run-ranked}
-use Rattle.jvm_model.proofs.Elsewhere.StandingFrames.{closed-stands, places-stand}
+use Rattle.jvm_model.proofs.Relocated.StandingFrames.{closed-stands, places-stand}
 
 -- What is asked of a program: that it is fit, that nothing stands above java/lang/Object, that the built-in classes stand each behind what it
 -- needs, that its main method is one, and that its codes are such as admission accepts.

@@ -16,7 +16,7 @@ use Rattle.native_ops.specs.Numbers.{out_of_memory_error}
 use Rattle.base_classes.specs.Natives.{native_number}
 use Rattle.jvm_model.specs.declared.program.Program.{Program}
 use Rattle.jvm_model.specs.declared.state.Phase.{Phase}
-use Rattle.jvm_model.specs.Basis.Data.{Keys, Fresh, Running, Ready, Erroneous, Locals, Operands, Shared, World, Local, Nop, Constant, Load, Store, Arrange, BinaryOfInts, BinaryOfLongs, DivisionOfInts, DivisionOfLongs, ShiftOfLong, UnaryOfInt, UnaryOfLong, Lcmp, Iinc, Branch, Goto, Switch, Jsr, Ret, Return, SymbolicReference, Operation, Within, Named, Athrow, Monitor, Newarray, Arraylength, LoadElement, StoreElement, LdcString, Outcome, GoesOn, Throws, Raises, Breaks, Done}
+use Rattle.jvm_model.specs.Basis.Data.{Keys, Fresh, Running, Ready, Erroneous, Locals, Operands, Shared, World, Local, Nop, Constant, Load, Store, ManageStack, BinaryOfInts, BinaryOfLongs, DivisionOfInts, DivisionOfLongs, ShiftOfLong, UnaryOfInt, UnaryOfLong, Lcmp, Iinc, Branch, Goto, Switch, Jsr, Ret, Return, SymbolicReference, Operation, Within, Named, Athrow, Monitor, Newarray, Arraylength, LoadElement, StoreElement, LdcString, Outcome, GoesOn, Throws, Raises, Breaks, Done}
 use Rattle.jvm_model.specs.Classes.Load.{Fault}
 use Rattle.jvm_model.specs.Classes.Lookup.{MemberPlace, Resolution, Found, Fails}
 use Rattle.jvm_model.specs.Instructions.LocalRules.{pushes, replaces, leaves, stores, increments, divides_these, goes_if, switches_on, goes_back, within}
@@ -140,7 +140,7 @@ within-only Nop l o e = on refl
 within-only (Constant d) l o e = on refl
 within-only (Load k slot) l o e = pushes-only _ l o
 within-only (Store k slot) l o e = stores-only k slot l o
-within-only (Arrange op) l o e = leaves-only _ l
+within-only (ManageStack op) l o e = leaves-only _ l
 within-only (BinaryOfInts op) l o e = replaces-only 2 _ l o
 within-only (BinaryOfLongs op) l o e = replaces-only 2 _ l o
 within-only (DivisionOfInts op) l o e = divides-only _ l o

@@ -29,9 +29,9 @@ use Rattle.const_pool.specs.declared.descriptor.Kind.{Kind}
 use Rattle.const_pool.specs.declared.descriptor.Kind.TheVariants as kind
 use Rattle.jvm_model.specs.declared.family.Family.{Family}
 use Rattle.jvm_model.specs.declared.family.Family.TheVariants as family
-use Rattle.jvm_model.specs.Basis.Data.{Datum, IntOperator, Iadd, Isub, Imul, Local, Nop, Constant, Load, Store, Arrange, BinaryOfInts, BinaryOfLongs, DivisionOfInts, DivisionOfLongs, ShiftOfLong, UnaryOfInt, UnaryOfLong, Lcmp, Iinc, Branch, Goto, Switch, Jsr, Ret, Return, SymbolicReference, Getstatic, Invokestatic, Invokevirtual, LdcClass, Operation, Within, Named, Newarray, LdcString}
+use Rattle.jvm_model.specs.Basis.Data.{Datum, IntOperator, Iadd, Isub, Imul, Local, Nop, Constant, Load, Store, ManageStack, BinaryOfInts, BinaryOfLongs, DivisionOfInts, DivisionOfLongs, ShiftOfLong, UnaryOfInt, UnaryOfLong, Lcmp, Iinc, Branch, Goto, Switch, Jsr, Ret, Return, SymbolicReference, Getstatic, Invokestatic, Invokevirtual, LdcClass, Operation, Within, Named, Newarray, LdcString}
 use Rattle.jvm_model.specs.Basis.Families.{rows, family_of}
-use Rattle.jvm_model.specs.Codes.Lines.{value_in, slot_in, increment_in, target_in, keys_in, local_of, constant_in, symbolic_reference_of, interface_reference, array_reference, has_dimensions, named_by, ObjectRow, object_rows, object_among, newarray_of, other_operation, operation_by, operation_of, targets_of as offsets_of, ends, given_operation, object_constant, object_constant_in}
+use Rattle.jvm_model.specs.Codes.Lines.{value_in, slot_in, increment_in, target_in, keys_in, local_of, constant_in, symbolic_reference_of, interface_reference, array_reference, has_dimensions, named_by, ObjectRow, object_rows, object_among, newarray_of, other_operation, operation_by, operation_of, targets_of as offsets_of, ends, pool_constant_operation, object_constant, object_constant_in}
 use Rattle.jvm_model.specs.Small.Resolved.{own_method, resolved_local, resolved_name, resolved_in, resolved_of}
 use Rattle.jvm_model.specs.Instructions.Rules.{is_out, is_println}
 use Rattle.jvm_model.specs.Small.SmallClass.{is_return}
@@ -78,8 +78,8 @@ agree-same false false e = refl
 abbrev runs : Family → Bool
 runs family.Nop = true
 runs (family.Constant d) = true
-runs family.Given = true
-runs family.Immediate = true
+runs family.PoolConstant = true
+runs family.OperandConstant = true
 runs (family.Load k) = true
 runs (family.LoadFrom k slot) = true
 runs (family.BinaryOfInts op) = true
@@ -181,13 +181,13 @@ made-fits f make o i e fits = let x = in_map make o i e in subst (Fits f) x.1 (f
 family-fits : (f : Family) (a : Arg) (d : Option Datum) (i : Local) → local_of f a d ≡ Some i → Fits f i
 family-fits family.Nop a d i e = is-fits family.Nop Nop i e (going family.Nop Nop resolved.Nop refl refl refl refl)
 family-fits (family.Constant n) a d i e = is-fits (family.Constant n) (Constant n) i e (constant-fits (family.Constant n) n refl refl)
-family-fits family.Given a d i e = made-fits family.Given Constant d i e (λ x. constant-fits family.Given x refl refl)
-family-fits family.Immediate a d i e = made-fits family.Immediate Constant (value_in a) i e (λ x. constant-fits family.Immediate x refl refl)
+family-fits family.PoolConstant a d i e = made-fits family.PoolConstant Constant d i e (λ x. constant-fits family.PoolConstant x refl refl)
+family-fits family.OperandConstant a d i e = made-fits family.OperandConstant Constant (value_in a) i e (λ x. constant-fits family.OperandConstant x refl refl)
 family-fits (family.Load k) a d i e = made-fits (family.Load k) (Load k) (slot_in a) i e (λ slot. load-fits (family.Load k) k slot refl refl)
 family-fits (family.LoadFrom k slot) a d i e = is-fits (family.LoadFrom k slot) (Load k slot) i e (load-fits (family.LoadFrom k slot) k slot refl refl)
 family-fits (family.Store k) a d i e = made-fits (family.Store k) (Store k) (slot_in a) i e (λ slot. never (family.Store k) (Store k slot) refl)
 family-fits (family.StoreTo k slot) a d i e = is-fits (family.StoreTo k slot) (Store k slot) i e (never (family.StoreTo k slot) (Store k slot) refl)
-family-fits (family.Arrange op) a d i e = is-fits (family.Arrange op) (Arrange op) i e (never (family.Arrange op) (Arrange op) refl)
+family-fits (family.ManageStack op) a d i e = is-fits (family.ManageStack op) (ManageStack op) i e (never (family.ManageStack op) (ManageStack op) refl)
 family-fits (family.BinaryOfInts op) a d i e = is-fits (family.BinaryOfInts op) (BinaryOfInts op) i e (binary-fits op)
 family-fits (family.BinaryOfLongs op) a d i e = is-fits (family.BinaryOfLongs op) (BinaryOfLongs op) i e (never (family.BinaryOfLongs op) (BinaryOfLongs op) refl)
 family-fits (family.DivisionOfInts op) a d i e = is-fits (family.DivisionOfInts op) (DivisionOfInts op) i e (never (family.DivisionOfInts op) (DivisionOfInts op) refl)
@@ -203,7 +203,7 @@ family-fits family.Jsr a d i e = made-fits family.Jsr (λ target. Jsr) (target_i
 family-fits family.Ret a d i e = made-fits family.Ret Ret (slot_in a) i e (λ slot. never family.Ret (Ret slot) refl)
 family-fits family.Switch a d i e = made-fits family.Switch Switch (keys_in a) i e (λ keys. never family.Switch (Switch keys) refl)
 family-fits (family.Return k) a d i e = is-fits (family.Return k) (Return k) i e (return-fits k)
-family-fits family.Elsewhere a d i e = absurd (none-some i e)
+family-fits family.NotLocal a d i e = absurd (none-some i e)
 
 -- ---- instructions that name something do not return
 
@@ -336,14 +336,14 @@ constant-unresolved c _ o e = absurd (none-some o e)
 abbrev IsOperationBy : ClassFile → ℕ → Arg → Family → Operation → Type 0
 IsOperationBy c op a f o = (other_operation c op a ≡ Some o) ⊎ IsWithin f a (constant_in c.pool a) o ⊎ IsUnresolved c o
 
-given-within : (c : ClassFile) (op : ℕ) (a : Arg) (o : Operation) (number : Option Operation) → option_map Within (local_of family.Given a (constant_in c.pool a)) ≡ number
-    → given_operation number (object_constant_in c.pool a) ≡ Some o → IsOperationBy c op a family.Given o
-given-within c op a o (Some number) is e = inr (inl (local-within family.Given a (constant_in c.pool a) o (is ∙ e)))
+given-within : (c : ClassFile) (op : ℕ) (a : Arg) (o : Operation) (number : Option Operation) → option_map Within (local_of family.PoolConstant a (constant_in c.pool a)) ≡ number
+    → pool_constant_operation number (object_constant_in c.pool a) ≡ Some o → IsOperationBy c op a family.PoolConstant o
+given-within c op a o (Some number) is e = inr (inl (local-within family.PoolConstant a (constant_in c.pool a) o (is ∙ e)))
 given-within c op a o None is e = inr (inr (constant-unresolved c a o e))
 
 operation-within : (c : ClassFile) (op : ℕ) (a : Arg) (f : Family) (o : Operation) → operation_by c op a f ≡ Some o → IsOperationBy c op a f o
-operation-within c op a family.Elsewhere o e = inl e
-operation-within c op a family.Given o e = given-within c op a o (option_map Within (local_of family.Given a (constant_in c.pool a))) refl e
+operation-within c op a family.NotLocal o e = inl e
+operation-within c op a family.PoolConstant o e = given-within c op a o (option_map Within (local_of family.PoolConstant a (constant_in c.pool a))) refl e
 operation-within c op a f o e = inr (inl (local-within f a (constant_in c.pool a) o e))
 
 -- An operation returns exactly where its opcode is a return's.

@@ -5,9 +5,9 @@ use Rattle.jvm_model.specs.Instructions.Does.{does, loads}
 use Rattle.jvm_model.specs.Instructions.ObjectRules.{done, measures, array_kind, makes, place_of, loads_element, storing_of, stores_element, watches, throws}
 use Rattle.jvm_model.specs.Basis.Values.{int_of, ref_of}
 use Rattle.jvm_model.specs.Codes.Moved.{moved_locals, moved_operands, moved_done}
-use Rattle.jvm_model.proofs.Elsewhere.WithinMoves.{within-moves}
-use Rattle.jvm_model.proofs.Elsewhere.ObjectMoves.{int_of-moves, ref_of-moves, place_of-moves, storing_of-moves, measures-moves, makes-moves, loads_element-moves, stores_element-moves, watches-moves, throws-moves}
-use Rattle.jvm_model.proofs.Elsewhere.NamedMoves.{named-moves, newly_loaded-moves, string-moves}
+use Rattle.jvm_model.proofs.Relocated.WithinMoves.{within-moves}
+use Rattle.jvm_model.proofs.Relocated.ObjectMoves.{int_of-moves, ref_of-moves, place_of-moves, storing_of-moves, measures-moves, makes-moves, loads_element-moves, stores_element-moves, watches-moves, throws-moves}
+use Rattle.jvm_model.proofs.Relocated.NamedMoves.{named-moves, newly_loaded-moves, string-moves}
 
 module _ (h : ℕ → ℕ) where
   pub does-moves : (w : World) (op : Operation) (s : Shared) (l : Locals) (o : Operands) → does w op s (moved_locals h l) (moved_operands h o) ≡ moved_done h (does w op s l o)

@@ -15,7 +15,7 @@ use Rattle.jvm_model.specs.declared.family.Family.{Family}
 use Rattle.jvm_model.specs.declared.family.Family.TheVariants as family
 use Rattle.jvm_model.specs.Basis.Data.{Constant, SymbolicReference, New, Getfield, Putfield, Getstatic, Putstatic, Invokevirtual, Invokestatic, Invokeinterface, Checkcast, Instanceof, Anewarray, LdcClass, Operation, Within, Named, LdcString}
 use Rattle.jvm_model.specs.Basis.Families.{family_of}
-use Rattle.jvm_model.specs.Codes.Lines.{number_of, named_interface_method, special_of, symbolic_reference_of, interface_reference, multi_of, array_reference, named_by, other_operation, given_operation, object_constant, operation_by, operation_of}
+use Rattle.jvm_model.specs.Codes.Lines.{number_of, named_interface_method, special_of, symbolic_reference_of, interface_reference, multi_of, array_reference, named_by, other_operation, pool_constant_operation, object_constant, operation_by, operation_of}
 use Rattle.jvm_model.specs.Basis.Programs.{name_of}
 use Rattle.jvm_model.proofs.Images.ImagePools.{slice_get-more, named_text-more, named_class-more, named_field-more, named_method-more, named_interface_method-more}
 use Rattle.std.specs.List.{AllByRecursion}
@@ -120,7 +120,7 @@ other_operation-kept c image op a o has e = e
 
 -- what an entry of the pool is to an ldc
 abbrev given_by : List Const → Option Const → Option Operation
-given_by pool entry = given_operation (option_map Within (option_map Constant (option_and_then number_of entry))) (option_and_then (object_constant pool) entry)
+given_by pool entry = pool_constant_operation (option_map Within (option_map Constant (option_and_then number_of entry))) (option_and_then (object_constant pool) entry)
 
 entry-kept : (c image : ClassFile) (entry : Const) (o : Operation) → HasMore c image → given_by c.pool (Some entry) ≡ Some o → given_by image.pool (Some entry) ≡ Some o
 entry-kept c image (const.Integer n) o has e = e
@@ -129,7 +129,7 @@ entry-kept c image (const.Text i) o has e = map-kept LdcString (named_text c.poo
 entry-kept c image (const.Class i) o has e = map-kept (λ name. Named (LdcClass name)) (named_text c.pool i) (named_text image.pool i) o (text-kept c image i has) e
 entry-kept c image _ o has e = absurd (none-some o e)
 
-given-kept : (c image : ClassFile) (a : Arg) (o : Operation) → HasMore c image → operation_by c 18 a family.Given ≡ Some o → operation_by image 18 a family.Given ≡ Some o
+given-kept : (c image : ClassFile) (a : Arg) (o : Operation) → HasMore c image → operation_by c 18 a family.PoolConstant ≡ Some o → operation_by image 18 a family.PoolConstant ≡ Some o
 given-kept c image (arg.Pool index) o has e = by (slice_get c.pool index) refl e
   where
     by : (x : Option Const) → slice_get c.pool index ≡ x → given_by c.pool x ≡ Some o → given_by image.pool (slice_get image.pool index) ≡ Some o
@@ -140,8 +140,8 @@ given-kept c image (arg.Pool index) o has e = by (slice_get c.pool index) refl e
 given-kept c image _ o has e = absurd (none-some o e)
 
 operation_by-kept : (c image : ClassFile) (op : ℕ) (a : Arg) (f : Family) (o : Operation) → HasMore c image → operation_by c op a f ≡ Some o → operation_by image op a f ≡ Some o
-operation_by-kept c image op a family.Elsewhere o has e = other_operation-kept c image op a o has e
-operation_by-kept c image op a family.Given o has e = given-kept c image a o has e
+operation_by-kept c image op a family.NotLocal o has e = other_operation-kept c image op a o has e
+operation_by-kept c image op a family.PoolConstant o has e = given-kept c image a o has e
 operation_by-kept c image op a f o has e = e
 
 -- an instruction that does something in the class does it there

@@ -6,7 +6,7 @@ use Rattle.heap_objects.specs.declared.Value.{Value}
 use Rattle.heap_objects.specs.declared.Value.TheVariants.{Int, Long, Ref, Addr}
 use Rattle.heap_objects.specs.Heaps.{HeapView, interned_number, with_interned, with_slot_at}
 use Rattle.const_pool.specs.declared.descriptor.Kind.{Kind}
-use Rattle.jvm_model.specs.Basis.Data.{Locals, Operands, Local, Nop, Constant, Load, Store, Arrange, BinaryOfInts, BinaryOfLongs, DivisionOfInts, DivisionOfLongs, ShiftOfLong, UnaryOfInt, UnaryOfLong, Lcmp, Iinc, Branch, Goto, Switch, Jsr, Ret, Return, Keys, Shared, Operation, Within, Named, Athrow, Monitor, Newarray, Arraylength, LoadElement, StoreElement, LdcString, Outcome, GoesOn, Next, Throws, Raises, Breaks, Done, Program, World}
+use Rattle.jvm_model.specs.Basis.Data.{Locals, Operands, Local, Nop, Constant, Load, Store, ManageStack, BinaryOfInts, BinaryOfLongs, DivisionOfInts, DivisionOfLongs, ShiftOfLong, UnaryOfInt, UnaryOfLong, Lcmp, Iinc, Branch, Goto, Switch, Jsr, Ret, Return, Keys, Shared, Operation, Within, Named, Athrow, Monitor, Newarray, Arraylength, LoadElement, StoreElement, LdcString, Outcome, GoesOn, Next, Throws, Raises, Breaks, Done, Program, World}
 use Rattle.jvm_model.specs.Instructions.ConstantRules.{pushes_string}
 use Rattle.jvm_model.specs.Running.Constants.{can_intern}
 use Rattle.jvm_model.specs.Instructions.Does.{does, loads}
@@ -16,7 +16,7 @@ use Rattle.jvm_model.specs.Instructions.ObjectRules.{Access, ToNull, ToAnother, 
 use Rattle.jvm_model.specs.Basis.SharedState.{array_store, class_of, kind_for, null_pointer, string, throwable}
 use Rattle.jvm_model.specs.Soundness.Sound.{CanAttempt, IsFit, IsSoundDone, IsSoundOutcome, IsSoundShared}
 use Rattle.jvm_model.specs.Basis.StackForms.{forms_of}
-use Rattle.jvm_model.specs.Basis.Values.{arranged, datum_of, int_of, is_storable, has_slots, local_in, ref_of, stored}
+use Rattle.jvm_model.specs.Basis.Values.{managed_stack, datum_of, int_of, is_storable, has_slots, local_in, ref_of, stored}
 use Rattle.jvm_model.proofs.Soundness.SoundKinds.{has-root, kind-usable, of-primitive}
 use Rattle.jvm_model.proofs.Soundness.SoundObjects.{objects-interned, objects-slot, with-heap}
 use Rattle.jvm_model.proofs.Soundness.SoundRules.{array-fine, sound-named}
@@ -88,7 +88,7 @@ module _ (p : Program) (loaded_classes : List ℕ) where
   within-sound (Constant d) l o = tt
   within-sound (Load k slot) l o = pushes-sound _ l o
   within-sound (Store k slot) l o = stores-sound k slot l o
-  within-sound (Arrange op) l o = leaves-sound (arranged (forms_of op) o) l
+  within-sound (ManageStack op) l o = leaves-sound (managed_stack (forms_of op) o) l
   within-sound (BinaryOfInts op) l o = replaces-sound 2 _ l o
   within-sound (BinaryOfLongs op) l o = replaces-sound 2 _ l o
   within-sound (DivisionOfInts op) l o = divides-sound _ l o

@@ -18,7 +18,7 @@ use Rattle.jvm_model.specs.declared.family.Family.{Family}
 use Rattle.jvm_model.specs.declared.family.Family.TheVariants as family
 use Rattle.jvm_model.specs.Basis.Data.{Local, MethodPlace, SymbolicReference, New, Getfield, Putfield, Getstatic, Putstatic, Invokevirtual, Invokespecial, Invokestatic, Invokeinterface, Checkcast, Instanceof, Anewarray, Multianewarray, LdcClass, Operation, Within, Named, Athrow, Monitor, Newarray, Arraylength, LoadElement, StoreElement, LdcString, Instruction, Program}
 use Rattle.jvm_model.specs.Basis.Families.{family_of}
-use Rattle.jvm_model.specs.Codes.Lines.{ObjectRow, code_instruction, constant_in, given_operation, has_dimensions, instruction_of, interface_reference, local_of, method_instruction, array_reference, multi_of, named_by, named_interface_method, symbolic_reference_of, newarray_of, next_of, object_among, object_constant, object_constant_in, object_rows, operation_by, operation_of, other_operation, special_of, targets_of}
+use Rattle.jvm_model.specs.Codes.Lines.{ObjectRow, code_instruction, constant_in, pool_constant_operation, has_dimensions, instruction_of, interface_reference, local_of, method_instruction, array_reference, multi_of, named_by, named_interface_method, symbolic_reference_of, newarray_of, next_of, object_among, object_constant, object_constant_in, object_rows, operation_by, operation_of, other_operation, special_of, targets_of}
 use Rattle.jvm_model.specs.Basis.Methods.{method_code}
 use Rattle.jvm_model.specs.Codes.Originals.{original}
 use Rattle.jvm_model.specs.Basis.Programs.{class_at, name_of, place_of_method}
@@ -139,21 +139,21 @@ module _ (c : ClassFile) where
   object-constant-formed (arg.Pool index) = entry-at-formed (slice_get c.pool index)
   object-constant-formed _ = tt
 
-  given-formed : (number : Option Operation) (a : Arg) → IfSome number IsFormed → IfSome (given_operation number (object_constant_in c.pool a)) IsFormed
+  given-formed : (number : Option Operation) (a : Arg) → IfSome number IsFormed → IfSome (pool_constant_operation number (object_constant_in c.pool a)) IsFormed
   given-formed (Some op) a formed = formed
   given-formed None a formed = object-constant-formed a
 
   family-formed : (op : ℕ) (a : Arg) (f : Family) → IfSome (operation_by c op a f) IsFormed
-  family-formed op a family.Elsewhere = other-formed op a
+  family-formed op a family.NotLocal = other-formed op a
   family-formed op a family.Nop = tt
   family-formed op a (family.Constant d) = tt
-  family-formed op a family.Given = given-formed (option_map Within (local_of family.Given a (constant_in c.pool a))) a (within-formed _)
-  family-formed op a family.Immediate = within-formed _
+  family-formed op a family.PoolConstant = given-formed (option_map Within (local_of family.PoolConstant a (constant_in c.pool a))) a (within-formed _)
+  family-formed op a family.OperandConstant = within-formed _
   family-formed op a (family.Load k) = within-formed _
   family-formed op a (family.LoadFrom k slot) = tt
   family-formed op a (family.Store k) = within-formed _
   family-formed op a (family.StoreTo k slot) = tt
-  family-formed op a (family.Arrange o) = tt
+  family-formed op a (family.ManageStack o) = tt
   family-formed op a (family.BinaryOfInts o) = tt
   family-formed op a (family.BinaryOfLongs o) = tt
   family-formed op a (family.DivisionOfInts o) = tt

@@ -13,8 +13,8 @@ use Rattle.jvm_model.specs.Turns.Rest.{Todo, Attempt, Moves}
 use Rattle.jvm_model.specs.Turns.Told.{Held}
 use Rattle.jvm_model.specs.Turns.StepPauses.{EndsByReturn}
 use Rattle.jvm_model.specs.Turns.InHand.{Versioned, InHand, GoesOn, goes_from, popped}
-use Rattle.jvm_model.proofs.Elsewhere.MovesMove.{move-moves}
-use Rattle.jvm_model.proofs.Elsewhere.StepMoves.{placed-places}
+use Rattle.jvm_model.proofs.Relocated.MovesMove.{move-moves}
+use Rattle.jvm_model.proofs.Relocated.StepMoves.{placed-places}
 use Rattle.jvm_model.proofs.Turns.GoesOn.{attempt-goes, moves-go, unwound-goes, unwinds-here}
 
 -- ---- a move that unwinds takes the current frame off

@@ -14,9 +14,9 @@ use Rattle.jvm_model.specs.Turns.Told.{Held, helds, mark_now}
 use Rattle.jvm_model.specs.Turns.Pauses.{later_of, Nothing, is_end, stop_from, Pause, paused, passed_by, stop_of, Unwinds}
 use Rattle.jvm_model.specs.Turns.StepPauses.{step_pause, EndsByReturn, is_at_return, Awaits, IsLoaded}
 use Rattle.jvm_model.specs.Turns.InHand.{Versioned, original_of, versioned_of, InHand, GoesOn}
-use Rattle.jvm_model.proofs.Elsewhere.MovesMove.{move-moves}
-use Rattle.jvm_model.proofs.Elsewhere.StepMoves.{placed-places, step-moves, settled-moves, next-placed}
-use Rattle.jvm_model.proofs.Elsewhere.StandsForRun.{named-own, named-original}
+use Rattle.jvm_model.proofs.Relocated.MovesMove.{move-moves}
+use Rattle.jvm_model.proofs.Relocated.StepMoves.{placed-places, step-moves, settled-moves, next-placed}
+use Rattle.jvm_model.proofs.Relocated.StandsForRun.{named-own, named-original}
 use Rattle.jvm_model.proofs.Turns.RestStands.{loads-same}
 use Rattle.jvm_model.proofs.Turns.Rests.{nothing-left}
 use Rattle.jvm_model.proofs.Turns.Pausing.{paused-is}

@@ -10,8 +10,8 @@ use Rattle.jvm_model.specs.Turns.Rest.{step_loads, Todo, Attempt, Moves, rest}
 use Rattle.jvm_model.specs.Turns.Told.{Held, helds}
 use Rattle.jvm_model.specs.Turns.StepPauses.{Awaits, IsLoaded}
 use Rattle.jvm_model.specs.Turns.InHand.{Versioned, original_of, InHand, behind_load}
-use Rattle.jvm_model.proofs.Elsewhere.StepMoves.{starts-still}
-use Rattle.jvm_model.proofs.Elsewhere.StandsForRun.{at_homes-kept, forgotten-kept, placed-kept}
+use Rattle.jvm_model.proofs.Relocated.StepMoves.{starts-still}
+use Rattle.jvm_model.proofs.Relocated.StandsForRun.{at_homes-kept, forgotten-kept, placed-kept}
 use Rattle.jvm_model.proofs.Turns.Rests.{step-loads, step_loads-again}
 use Rattle.jvm_model.proofs.Turns.RestStands.{loaded-stands_for, step_loads-same}
 

@@ -15,9 +15,9 @@ use Rattle.jvm_model.specs.Turns.Told.{Held, held_by, helds, mark_now}
 use Rattle.jvm_model.specs.Turns.Pauses.{Due, Nothing, Ends, Begins, unless_off, changes_due, Pause, pause_by, pauses, paused, passed_by}
 use Rattle.jvm_model.specs.Turns.StepPauses.{attempted, pause_behind, turn_pause, is_nothing, again_pause, leave_due, line_pause, frame_pause, stack_pause, step_pause}
 use Rattle.jvm_model.proofs.Running.Operations.{does-moves}
-use Rattle.jvm_model.proofs.Elsewhere.AppliesMoves.{applies-moves}
-use Rattle.jvm_model.proofs.Elsewhere.MovesMove.{move-moves, left-moves}
-use Rattle.jvm_model.proofs.Elsewhere.StepMoves.{placed-places, placed-state, next-placed, applied-placed, done-placed, starts-moves, IsReadyAt, tail_of, top_place, top_frame}
+use Rattle.jvm_model.proofs.Relocated.AppliesMoves.{applies-moves}
+use Rattle.jvm_model.proofs.Relocated.MovesMove.{move-moves, left-moves}
+use Rattle.jvm_model.proofs.Relocated.StepMoves.{placed-places, placed-state, next-placed, applied-placed, done-placed, starts-moves, IsReadyAt, tail_of, top_place, top_frame}
 
 abbrev pub moved_pause : Moving → Pause → Pause
 moved_pause m p = record p { state = moved m p.state }

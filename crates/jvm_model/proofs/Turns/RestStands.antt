@@ -8,8 +8,8 @@ use Rattle.jvm_model.specs.Turns.Rest.{loads_at, loads_on, step_loads, Todo, Att
 use Rattle.jvm_model.specs.Codes.Moved.{Moving, moved, moved_frame, moved_stack, moved_instruction, ArePlaces, Agrees, self, IsPlaced}
 use Rattle.jvm_model.specs.Rewriting.StandsForRun.{named, forgotten, at_homes, norm_by, StandsFor, IsOfVersions}
 use Rattle.jvm_model.proofs.Running.Operations.{loads-moves}
-use Rattle.jvm_model.proofs.Elsewhere.StepMoves.{placed-places}
-use Rattle.jvm_model.proofs.Elsewhere.StandsForRun.{named-original, step-stands_for, step-same_changes, moves-stand_for, moves-same_changes}
+use Rattle.jvm_model.proofs.Relocated.StepMoves.{placed-places}
+use Rattle.jvm_model.proofs.Relocated.StandsForRun.{named-original, step-stands_for, step-same_changes, moves-stand_for, moves-same_changes}
 
 -- ---- loads
 

@@ -5,7 +5,7 @@ use Rattle.heap_objects.specs.declared.Value.TheVariants.{Int, Long, Ref, Addr}
 use Rattle.jvm_model.specs.Basis.Data.{Pop, DupX1, Dup2X2, Operation, Nop, Constant, Within, Athrow, Unverifiable, Loads, Left, Unwound}
 use Rattle.jvm_model.specs.Running.Run.{turn_in}
 use Rattle.jvm_model.specs.Profiling.Activations.{trace_in}
-use Rattle.jvm_model.specs.Basis.Values.{arranged}
+use Rattle.jvm_model.specs.Basis.Values.{managed_stack}
 use Rattle.jvm_model.specs.Basis.StackForms.{forms_of}
 use Rattle.jvm_model.proofs.Worked.WorkedPrograms.{Routine, Sketches, after, changes_of, trace_by, member, main_member, routine, main_routine, alone, at, int, null, ireturn, returns, call}
 
@@ -111,11 +111,11 @@ no_local_there-changes = refl
 
 -- ---- stack instructions, by which of the topmost operands are long
 
-pub dup_x1-puts : arranged (forms_of DupX1) (Int (pos 1) ∷ Ref 2 ∷ Int (pos 3) ∷ []) ≡ Some (Int (pos 1) ∷ Ref 2 ∷ Int (pos 1) ∷ Int (pos 3) ∷ [])
+pub dup_x1-puts : managed_stack (forms_of DupX1) (Int (pos 1) ∷ Ref 2 ∷ Int (pos 3) ∷ []) ≡ Some (Int (pos 1) ∷ Ref 2 ∷ Int (pos 1) ∷ Int (pos 3) ∷ [])
 dup_x1-puts = refl
 
-pub dup2_x2-puts : arranged (forms_of Dup2X2) (Long (pos 1) ∷ Int (pos 2) ∷ Addr 3 ∷ []) ≡ Some (Long (pos 1) ∷ Int (pos 2) ∷ Addr 3 ∷ Long (pos 1) ∷ [])
+pub dup2_x2-puts : managed_stack (forms_of Dup2X2) (Long (pos 1) ∷ Int (pos 2) ∷ Addr 3 ∷ []) ≡ Some (Long (pos 1) ∷ Int (pos 2) ∷ Addr 3 ∷ Long (pos 1) ∷ [])
 dup2_x2-puts = refl
 
-pub pop-refuses : arranged (forms_of Pop) (Long (pos 1) ∷ []) ≡ None
+pub pop-refuses : managed_stack (forms_of Pop) (Long (pos 1) ∷ []) ≡ None
 pop-refuses = refl

@@ -16,7 +16,7 @@ use Rattle.jvm_model.specs.declared.event.EventKind.{EventKind}
 use Rattle.jvm_model.specs.declared.event.EventKind.TheVariants as kind
 use Rattle.jvm_model.specs.declared.event.Mark.{Mark}
 use Rattle.jvm_model.specs.declared.event.Mark.TheVariants.{Off, Plain, Root}
-use Rattle.jvm_model.specs.Basis.Data.{Iadd, Dup, Operation, Instruction, Arrange, Within, BinaryOfInts}
+use Rattle.jvm_model.specs.Basis.Data.{Iadd, Dup, Operation, Instruction, ManageStack, Within, BinaryOfInts}
 use Rattle.jvm_model.specs.Running.Run.{turn_in}
 use Rattle.jvm_model.specs.Profiling.Activations.{no_trace, trace_in}
 use Rattle.jvm_model.specs.Profiling.EventLists.{Marking, all_told}
@@ -163,7 +163,7 @@ abbrev overriding : Sketches
 overriding = record {
   classes = alone (codes "N") (
       main_routine 2 (
-      at 0 3 (new (codes "B")) ∷ at 3 1 (Within (Arrange Dup))
+      at 0 3 (new (codes "B")) ∷ at 3 1 (Within (ManageStack Dup))
       ∷ at 4 3 (call_special (codes "N") (codes "B") (codes "<init>") (codes "()V"))
       ∷ at 7 3 (call_virtual (codes "A") (codes "v") (codes "()I")) ∷ at 10 1 pop ∷ at 11 1 returns ∷ [])
       ∷ [])

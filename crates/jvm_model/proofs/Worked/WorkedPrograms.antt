@@ -7,7 +7,7 @@ use Rattle.const_pool.specs.declared.descriptor.Kind.TheVariants as kind
 use Rattle.const_pool.specs.declared.class.ClassFile.{ClassFile}
 use Rattle.const_pool.specs.declared.class.Attribute.TheVariants.{Code}
 use Rattle.const_pool.specs.References.{NameAndType, Reference}
-use Rattle.jvm_model.specs.Basis.Data.{Pop, Ending, Uncaught, Entry, Active, Initializing, Constant, Load, Arrange, Return, Operation, Within, Named, New, Getstatic, Putstatic, Invokestatic, Invokevirtual, Invokespecial, Operands, Instruction, Catcher, Listing, World, Change, State, Turn}
+use Rattle.jvm_model.specs.Basis.Data.{Pop, Ending, Uncaught, Entry, Active, Initializing, Constant, Load, ManageStack, Return, Operation, Within, Named, New, Getstatic, Putstatic, Invokestatic, Invokevirtual, Invokespecial, Operands, Instruction, Catcher, Listing, World, Change, State, Turn}
 use Rattle.jvm_model.specs.Codes.Lines.{next_of}
 use Rattle.jvm_model.specs.Basis.Programs.{numbered, class_named}
 use Rattle.jvm_model.specs.Running.Run.{turn_in}
@@ -188,7 +188,7 @@ abbrev pub aload_0 : Operation
 aload_0 = Within (Load kind.Ref 0)
 
 abbrev pub pop : Operation
-pop = Within (Arrange Pop)
+pop = Within (ManageStack Pop)
 
 abbrev pub ireturn : Operation
 ireturn = Within (Return (Some kind.Int))

@@ -16,7 +16,7 @@ use Rattle.base_classes.specs.ThrowableClasses.{throwable_classes}
 use Rattle.base_classes.specs.Natives.{native_methods}
 use Rattle.native_ops.specs.KindsViews.{is_among}
 use Rattle.native_ops.specs.Rows.{rows}
-use Rattle.jvm_model.specs.Basis.Data.{Dup, Arrange, BinaryOfInts, Iadd, WithZero, Equal, Branch, Within, Athrow, Fresh, Ready, Erroneous, Returned, Loads, Began, Unwound}
+use Rattle.jvm_model.specs.Basis.Data.{Dup, ManageStack, BinaryOfInts, Iadd, WithZero, Equal, Branch, Within, Athrow, Fresh, Ready, Erroneous, Returned, Loads, Began, Unwound}
 use Rattle.jvm_model.specs.Classes.Load.{circular_class}
 use Rattle.jvm_model.specs.Classes.Lookup.{incompatible_change}
 use Rattle.jvm_model.specs.Running.Run.{turn_in}
@@ -82,7 +82,7 @@ abbrev overriding : Sketches
 overriding = record {
   classes = alone (codes "N") (
       main_routine 2 (
-      at 0 3 (new (codes "B")) ∷ at 3 1 (Within (Arrange Dup))
+      at 0 3 (new (codes "B")) ∷ at 3 1 (Within (ManageStack Dup))
       ∷ at 4 3 (call_special (codes "N") (codes "B") (codes "<init>") (codes "()V"))
       ∷ at 7 3 (call_virtual (codes "A") (codes "v") (codes "()I")) ∷ at 10 1 pop ∷ at 11 1 returns ∷ [])
       ∷ [])

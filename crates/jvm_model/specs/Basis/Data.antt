@@ -24,8 +24,8 @@ pub use Rattle.jvm_model.specs.declared.family.Comparison.{Comparison}
 pub use Rattle.jvm_model.specs.declared.family.Comparison.TheVariants.{Equal, NotEqual, Less, AtLeast, Greater, AtMost}
 pub use Rattle.jvm_model.specs.declared.family.Test.{Test}
 pub use Rattle.jvm_model.specs.declared.family.Test.TheVariants.{WithZero, OfInts, OfReferences, IsNull}
-pub use Rattle.jvm_model.specs.declared.family.Arrangement.{Arrangement}
-pub use Rattle.jvm_model.specs.declared.family.Arrangement.TheVariants.{Pop, Pop2, Dup, DupX1, DupX2, Dup2, Dup2X1, Dup2X2, Swap}
+pub use Rattle.jvm_model.specs.declared.family.StackInstruction.{StackInstruction}
+pub use Rattle.jvm_model.specs.declared.family.StackInstruction.TheVariants.{Pop, Pop2, Dup, DupX1, DupX2, Dup2, Dup2X1, Dup2X2, Swap}
 pub use Rattle.jvm_model.specs.declared.state.Frame.{Frame}
 pub use Rattle.jvm_model.specs.declared.state.Part.{Part}
 pub use Rattle.jvm_model.specs.declared.state.Part.TheVariants.{Constants, Superclass, Initializer, Finish}
@@ -70,7 +70,7 @@ pub data Local : Type 0 where
   -- istore, lstore, astore
   Store : Kind → ℕ → Local
   -- pop, pop2, dup, .., swap: by the first form that fits
-  Arrange : Arrangement → Local
+  ManageStack : StackInstruction → Local
   -- iadd, .., ixor: from two ints an int
   BinaryOfInts : IntOperator → Local
   -- ladd, .., lxor but for the shifts: from two longs a long

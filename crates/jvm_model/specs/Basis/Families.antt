@@ -10,9 +10,9 @@ use Rattle.jvm_model.specs.declared.family.OfInt.TheVariants.{Ineg, I2l, I2b, I2
 use Rattle.jvm_model.specs.declared.family.OfLong.TheVariants.{Lneg, L2i}
 use Rattle.jvm_model.specs.declared.family.Comparison.TheVariants.{Equal, NotEqual, Less, AtLeast, Greater, AtMost}
 use Rattle.jvm_model.specs.declared.family.Test.TheVariants.{WithZero, OfInts, OfReferences, IsNull}
-use Rattle.jvm_model.specs.declared.family.Arrangement.TheVariants.{Pop, Pop2, Dup, DupX1, DupX2, Dup2, Dup2X1, Dup2X2, Swap}
+use Rattle.jvm_model.specs.declared.family.StackInstruction.TheVariants.{Pop, Pop2, Dup, DupX1, DupX2, Dup2, Dup2X1, Dup2X2, Swap}
 use Rattle.jvm_model.specs.declared.family.Family.{Family}
-use Rattle.jvm_model.specs.declared.family.Family.TheVariants.{Nop, Constant, Given, Immediate, Load, LoadFrom, Store, StoreTo, Arrange, BinaryOfInts, BinaryOfLongs, DivisionOfInts, DivisionOfLongs, ShiftOfLong, UnaryOfInt, UnaryOfLong, Lcmp, Iinc, Branch, Goto, Jsr, Ret, Switch, Return, Elsewhere}
+use Rattle.jvm_model.specs.declared.family.Family.TheVariants.{Nop, Constant, PoolConstant, OperandConstant, Load, LoadFrom, Store, StoreTo, ManageStack, BinaryOfInts, BinaryOfLongs, DivisionOfInts, DivisionOfLongs, ShiftOfLong, UnaryOfInt, UnaryOfLong, Lcmp, Iinc, Branch, Goto, Jsr, Ret, Switch, Return, NotLocal}
 
 pub record Row : Type 0 where
   pub op : ℕ
@@ -23,7 +23,7 @@ row op family = record { op = op; family = family }
 
 -- An opcode without a row sees more than its frame, takes or gives a float or a double, or is no instruction.
 abbrev pub family_among : List Row → ℕ → Family
-family_among [] op = Elsewhere
+family_among [] op = NotLocal
 family_among (r ∷ rs) op = if op == r.op then r.family else family_among rs op
 
 unfoldable pub rows : List Row
@@ -39,9 +39,9 @@ rows =
     -- lconst_0, lconst_1
     row 9 (Constant (Long (pos 0))) ∷ row 10 (Constant (Long (pos 1))) ∷
     -- bipush, sipush
-    row 16 Immediate ∷ row 17 Immediate ∷
+    row 16 OperandConstant ∷ row 17 OperandConstant ∷
     -- ldc, ldc_w, ldc2_w
-    row 18 Given ∷ row 19 Given ∷ row 20 Given ∷
+    row 18 PoolConstant ∷ row 19 PoolConstant ∷ row 20 PoolConstant ∷
     -- iload, lload, aload
     row 21 (Load kind.Int) ∷ row 22 (Load kind.Long) ∷ row 25 (Load kind.Ref) ∷
     -- iload_0 to lload_3
@@ -61,9 +61,9 @@ rows =
     row 75 (StoreTo kind.Ref 0) ∷ row 76 (StoreTo kind.Ref 1) ∷ row 77 (StoreTo kind.Ref 2) ∷
     row 78 (StoreTo kind.Ref 3) ∷
     -- pop to swap
-    row 87 (Arrange Pop) ∷ row 88 (Arrange Pop2) ∷ row 89 (Arrange Dup) ∷ row 90 (Arrange DupX1) ∷
-    row 91 (Arrange DupX2) ∷ row 92 (Arrange Dup2) ∷ row 93 (Arrange Dup2X1) ∷ row 94 (Arrange Dup2X2) ∷
-    row 95 (Arrange Swap) ∷
+    row 87 (ManageStack Pop) ∷ row 88 (ManageStack Pop2) ∷ row 89 (ManageStack Dup) ∷ row 90 (ManageStack DupX1) ∷
+    row 91 (ManageStack DupX2) ∷ row 92 (ManageStack Dup2) ∷ row 93 (ManageStack Dup2X1) ∷ row 94 (ManageStack Dup2X2) ∷
+    row 95 (ManageStack Swap) ∷
     -- add, sub, mul, div, rem, neg: of ints, of longs
     row 96 (BinaryOfInts Iadd) ∷ row 97 (BinaryOfLongs Ladd) ∷ row 100 (BinaryOfInts Isub) ∷
     row 101 (BinaryOfLongs Lsub) ∷ row 104 (BinaryOfInts Imul) ∷ row 105 (BinaryOfLongs Lmul) ∷

@@ -1,12 +1,12 @@
 -- The nine stack instructions as forms (JVM Specification 6.5): by which of the topmost operands are long, what is put in
 -- their place, by position, the top first.
 use Rattle.std.specs.Prelude.{ℕ, Bool, true, false, List, [], ◌∷◌}
-use Rattle.jvm_model.specs.Basis.Data.{StackForm, Arrangement, Pop, Pop2, Dup, DupX1, DupX2, Dup2, Dup2X1, Dup2X2, Swap}
+use Rattle.jvm_model.specs.Basis.Data.{StackForm, StackInstruction, Pop, Pop2, Dup, DupX1, DupX2, Dup2, Dup2X1, Dup2X2, Swap}
 
 abbrev pub form : List Bool → List ℕ → StackForm
 form takes puts = record { takes = takes; puts = puts }
 
-abbrev pub forms_of : Arrangement → List StackForm
+abbrev pub forms_of : StackInstruction → List StackForm
 forms_of Pop = form (false ∷ []) [] ∷ []
 forms_of Pop2 = form (false ∷ false ∷ []) [] ∷ form (true ∷ []) [] ∷ []
 forms_of Dup = form (false ∷ []) (0 ∷ 0 ∷ []) ∷ []

@@ -128,7 +128,7 @@ puts_on [] o below = below
 puts_on (i ∷ is) o below = with_value (slice_get o i) (puts_on is o below)
 
 -- by the first form that fits
-abbrev pub arranged : List StackForm → Operands → Option Operands
-arranged [] o = None
-arranged (form ∷ more) o =
-    if has_form form.takes o then Some (puts_on form.puts o (drop (length form.takes) o)) else arranged more o
+abbrev pub managed_stack : List StackForm → Operands → Option Operands
+managed_stack [] o = None
+managed_stack (form ∷ more) o =
+    if has_form form.takes o then Some (puts_on form.puts o (drop (length form.takes) o)) else managed_stack more o

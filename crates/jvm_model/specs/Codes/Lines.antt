@@ -16,7 +16,7 @@ use Rattle.code_model.specs.declared.instr.Arg.TheVariants as arg
 use Rattle.code_model.specs.Instructions.{instruction_at, end_of}
 use Rattle.jvm_model.specs.declared.family.Family.{Family}
 use Rattle.jvm_model.specs.declared.family.Family.TheVariants as family
-use Rattle.jvm_model.specs.Basis.Data.{Datum, Keys, Consecutive, Listed, Local, Nop, Constant, Load, Store, Arrange, BinaryOfInts, BinaryOfLongs, DivisionOfInts, DivisionOfLongs, ShiftOfLong, UnaryOfInt, UnaryOfLong, Lcmp, Iinc, Branch, Goto, Switch, Jsr, Ret, Return, SymbolicReference, New, Getfield, Putfield, Getstatic, Putstatic, Invokevirtual, Invokespecial, Invokestatic, Invokeinterface, Checkcast, Instanceof, Anewarray, Multianewarray, LdcClass, Operation, Within, Named, Athrow, Monitor, Newarray, Arraylength, LoadElement, StoreElement, LdcString, Instruction}
+use Rattle.jvm_model.specs.Basis.Data.{Datum, Keys, Consecutive, Listed, Local, Nop, Constant, Load, Store, ManageStack, BinaryOfInts, BinaryOfLongs, DivisionOfInts, DivisionOfLongs, ShiftOfLong, UnaryOfInt, UnaryOfLong, Lcmp, Iinc, Branch, Goto, Switch, Jsr, Ret, Return, SymbolicReference, New, Getfield, Putfield, Getstatic, Putstatic, Invokevirtual, Invokespecial, Invokestatic, Invokeinterface, Checkcast, Instanceof, Anewarray, Multianewarray, LdcClass, Operation, Within, Named, Athrow, Monitor, Newarray, Arraylength, LoadElement, StoreElement, LdcString, Instruction}
 use Rattle.jvm_model.specs.Basis.Families.{family_of}
 use Rattle.jvm_model.specs.Classes.Kinds.{meaning_of}
 use Rattle.jvm_model.specs.Basis.Methods.{method_code}
@@ -50,13 +50,13 @@ keys_in _ = None
 abbrev pub local_of : Family → Arg → Option Datum → Option Local
 local_of family.Nop a c = Some Nop
 local_of (family.Constant d) a c = Some (Constant d)
-local_of family.Given a c = option_map Constant c
-local_of family.Immediate a c = option_map Constant (value_in a)
+local_of family.PoolConstant a c = option_map Constant c
+local_of family.OperandConstant a c = option_map Constant (value_in a)
 local_of (family.Load k) a c = option_map (Load k) (slot_in a)
 local_of (family.LoadFrom k slot) a c = Some (Load k slot)
 local_of (family.Store k) a c = option_map (Store k) (slot_in a)
 local_of (family.StoreTo k slot) a c = Some (Store k slot)
-local_of (family.Arrange op) a c = Some (Arrange op)
+local_of (family.ManageStack op) a c = Some (ManageStack op)
 local_of (family.BinaryOfInts op) a c = Some (BinaryOfInts op)
 local_of (family.BinaryOfLongs op) a c = Some (BinaryOfLongs op)
 local_of (family.DivisionOfInts op) a c = Some (DivisionOfInts op)
@@ -72,7 +72,7 @@ local_of family.Jsr a c = option_map (λ target. Jsr) (target_in a)
 local_of family.Ret a c = option_map Ret (slot_in a)
 local_of family.Switch a c = option_map Switch (keys_in a)
 local_of (family.Return k) a c = Some (Return k)
-local_of family.Elsewhere a c = None
+local_of family.NotLocal a c = None
 
 -- the number that an entry of the pool is; texts and classes are none
 abbrev pub number_of : Const → Option Datum
@@ -186,15 +186,15 @@ object_constant_in pool (arg.Pool index) = option_and_then (object_constant pool
 object_constant_in pool _ = None
 
 -- a number, or else an object
-abbrev pub given_operation : Option Operation → Option Operation → Option Operation
-given_operation (Some number) object = Some number
-given_operation None object = object
+abbrev pub pool_constant_operation : Option Operation → Option Operation → Option Operation
+pool_constant_operation (Some number) object = Some number
+pool_constant_operation None object = object
 
 -- by its family
 abbrev pub operation_by : ClassFile → ℕ → Arg → Family → Option Operation
-operation_by c op a family.Elsewhere = other_operation c op a
-operation_by c op a family.Given =
-    given_operation (option_map Within (local_of family.Given a (constant_in c.pool a))) (object_constant_in c.pool a)
+operation_by c op a family.NotLocal = other_operation c op a
+operation_by c op a family.PoolConstant =
+    pool_constant_operation (option_map Within (local_of family.PoolConstant a (constant_in c.pool a))) (object_constant_in c.pool a)
 operation_by c op a f = option_map Within (local_of f a (constant_in c.pool a))
 
 -- what an instruction of the class does

@@ -6,8 +6,8 @@ use Rattle.std.specs.Int.{Width, w8, w16, w32, w64, int_wrap, int_bit_and, int_b
 use Rattle.heap_objects.specs.declared.Value.TheVariants.{Int, Long, Addr}
 use Rattle.const_pool.specs.declared.descriptor.Kind.{Kind}
 use Rattle.int_ops.specs.Arithmetic.{wrapped_sum, wrapped_difference, wrapped_product, wrapped_negation, wrapped_quotient, shifted_left, shifted_right, shifted_right_unsigned, comparison, zero_extended}
-use Rattle.jvm_model.specs.Basis.Data.{Datum, Value, Locals, Operands, IntOperator, Iadd, Isub, Imul, Ishl, Ishr, Iushr, Iand, Ior, Ixor, LongOperator, Ladd, Lsub, Lmul, Land, Lor, Lxor, Division, Quotient, Remainder, LongShift, Lshl, Lshr, Lushr, OfInt, Ineg, I2l, I2b, I2c, I2s, OfLong, Lneg, L2i, Comparison, Equal, NotEqual, Less, AtLeast, Greater, AtMost, Test, WithZero, OfInts, OfReferences, IsNull, Keys, Consecutive, Listed, Local, Nop, Constant, Load, Store, Arrange, BinaryOfInts, BinaryOfLongs, DivisionOfInts, DivisionOfLongs, ShiftOfLong, UnaryOfInt, UnaryOfLong, Lcmp, Iinc, Branch, Goto, Switch, Jsr, Ret, Return, Where, Next, Target, Back, Outcome, GoesOn, Subroutine, Returns, Raises, Breaks}
-use Rattle.jvm_model.specs.Basis.Values.{as_value, datum_of, loaded, is_storable, local_in, has_slots, stored, int_of, long_of, ref_of, ints_of, longs_of, long_and_int_of, refs_of, arranged}
+use Rattle.jvm_model.specs.Basis.Data.{Datum, Value, Locals, Operands, IntOperator, Iadd, Isub, Imul, Ishl, Ishr, Iushr, Iand, Ior, Ixor, LongOperator, Ladd, Lsub, Lmul, Land, Lor, Lxor, Division, Quotient, Remainder, LongShift, Lshl, Lshr, Lushr, OfInt, Ineg, I2l, I2b, I2c, I2s, OfLong, Lneg, L2i, Comparison, Equal, NotEqual, Less, AtLeast, Greater, AtMost, Test, WithZero, OfInts, OfReferences, IsNull, Keys, Consecutive, Listed, Local, Nop, Constant, Load, Store, ManageStack, BinaryOfInts, BinaryOfLongs, DivisionOfInts, DivisionOfLongs, ShiftOfLong, UnaryOfInt, UnaryOfLong, Lcmp, Iinc, Branch, Goto, Switch, Jsr, Ret, Return, Where, Next, Target, Back, Outcome, GoesOn, Subroutine, Returns, Raises, Breaks}
+use Rattle.jvm_model.specs.Basis.Values.{as_value, datum_of, loaded, is_storable, local_in, has_slots, stored, int_of, long_of, ref_of, ints_of, longs_of, long_and_int_of, refs_of, managed_stack}
 use Rattle.jvm_model.specs.Basis.StackForms.{forms_of}
 
 -- ---- the operand stack
@@ -204,7 +204,7 @@ within Nop l o = GoesOn l o Next
 within (Constant d) l o = GoesOn l (as_value d ∷ o) Next
 within (Load k slot) l o = pushes (loaded k (slice_get l slot)) l o
 within (Store k slot) l o = stores k slot l o
-within (Arrange op) l o = leaves (arranged (forms_of op) o) l
+within (ManageStack op) l o = leaves (managed_stack (forms_of op) o) l
 within (BinaryOfInts op) l o = calculates op l o
 within (BinaryOfLongs op) l o = calculates_long op l o
 within (DivisionOfInts op) l o = divides_ints op l o

@@ -18,7 +18,7 @@ use Rattle.jvm_model.specs.declared.state.State.{State}
 use Rattle.jvm_model.specs.Running.Applies.{enters_subroutine, goes, resumes, gives_back, applies}
 use Rattle.jvm_model.specs.Instructions.ConstantRules.{pushes_string}
 use Rattle.jvm_model.specs.Running.Constants.{can_intern}
-use Rattle.jvm_model.specs.Basis.Data.{Locals, Operands, Listing, Local, Nop, Constant, Load, Store, Arrange, BinaryOfInts, BinaryOfLongs, DivisionOfInts, DivisionOfLongs, ShiftOfLong, UnaryOfInt, UnaryOfLong, Lcmp, Iinc, Branch, Goto, Switch, Jsr, Ret, Return, SymbolicReference, New, Getfield, Putfield, Getstatic, Putstatic, Invokevirtual, Invokespecial, Invokestatic, Invokeinterface, Checkcast, Instanceof, Anewarray, Multianewarray, LdcClass, Operation, Within, Named, Athrow, Monitor, Newarray, Arraylength, LoadElement, StoreElement, LdcString, Instruction, Outcome, GoesOn, Subroutine, Invokes, Returns, Throws, Raises, Initializes, Exits, Breaks, Next, Target, Back, Done, Keys}
+use Rattle.jvm_model.specs.Basis.Data.{Locals, Operands, Listing, Local, Nop, Constant, Load, Store, ManageStack, BinaryOfInts, BinaryOfLongs, DivisionOfInts, DivisionOfLongs, ShiftOfLong, UnaryOfInt, UnaryOfLong, Lcmp, Iinc, Branch, Goto, Switch, Jsr, Ret, Return, SymbolicReference, New, Getfield, Putfield, Getstatic, Putstatic, Invokevirtual, Invokespecial, Invokestatic, Invokeinterface, Checkcast, Instanceof, Anewarray, Multianewarray, LdcClass, Operation, Within, Named, Athrow, Monitor, Newarray, Arraylength, LoadElement, StoreElement, LdcString, Instruction, Outcome, GoesOn, Subroutine, Invokes, Returns, Throws, Raises, Initializes, Exits, Breaks, Next, Target, Back, Done, Keys}
 use Rattle.jvm_model.specs.Codes.Lines.{ends, is_last, targets_of}
 use Rattle.jvm_model.specs.Instructions.LocalRules.{arithmetic_exception, by_zero, divides_these, goes_if, holds, tests, switches_on, goes_back, replaces, returns, returns_datum, within}
 use Rattle.jvm_model.specs.Classes.Lookup.{is_below}
@@ -29,7 +29,7 @@ use Rattle.jvm_model.specs.Instructions.ReferenceRules.{does_named}
 use Rattle.jvm_model.specs.Running.Run.{starts, with_loaded}
 use Rattle.jvm_model.specs.Basis.SharedState.{class_of, null_pointer, throwable}
 use Rattle.jvm_model.specs.Basis.StackForms.{forms_of}
-use Rattle.jvm_model.specs.Basis.Values.{datum_of, loaded, local_in, int_of, ref_of, arranged}
+use Rattle.jvm_model.specs.Basis.Values.{datum_of, loaded, local_in, int_of, ref_of, managed_stack}
 use Rattle.jvm_basic.specs.Rules.{goes_at, placed}
 use Rattle.jvm_basic.proofs.Asked.{is_simple, pushes-simple, replaces-simple, leaves-simple, stores-simple, increments-simple}
 use Rattle.prepared_code.specs.declared.line.Action.{Action}
@@ -101,7 +101,7 @@ within-own Nop m o h = refl
 within-own (Constant d) m o h = refl
 within-own (Load k slot) m o h = simple-own _ (pushes-simple (loaded k (slice_get m slot)) m o)
 within-own (Store k slot) m o h = simple-own _ (stores-simple k slot m o)
-within-own (Arrange op) m o h = simple-own _ (leaves-simple (arranged (forms_of op) o) m)
+within-own (ManageStack op) m o h = simple-own _ (leaves-simple (managed_stack (forms_of op) o) m)
 within-own (BinaryOfInts op) m o h = simple-own _ (replaces-simple 2 _ m o)
 within-own (BinaryOfLongs op) m o h = simple-own _ (replaces-simple 2 _ m o)
 within-own (DivisionOfInts op) m o h = divides-own _ m o

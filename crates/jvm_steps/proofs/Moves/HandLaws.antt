@@ -10,7 +10,7 @@ use Rattle.jvm_model.specs.Codes.Originals.{original}
 use Rattle.jvm_model.specs.Turns.Pauses.{Pause}
 use Rattle.jvm_model.specs.Running.Run.{starts_with, with_loaded}
 use Rattle.jvm_model.specs.Turns.Told.{Held}
-use Rattle.jvm_model.proofs.Elsewhere.ClosedPrograms.{program-agrees}
+use Rattle.jvm_model.proofs.Relocated.ClosedPrograms.{program-agrees}
 use Rattle.jvm_model.proofs.Turns.GoesAll.{all-goes}
 use Rattle.jvm_model.proofs.Running.OnlyReturns.{ends-by-return}
 use Rattle.jvm_steps.specs.declared.turns.hands.Gone.{Gone}

@@ -12,8 +12,8 @@ use Rattle.jvm_model.specs.Running.Moves.{move, left, then_turn, settles, settle
 use Rattle.jvm_model.specs.Running.Run.{tries, attempt, starts, is_ready, is_quiet, goes_on, goes_again, steps_by, with_loaded, loaded_turn, steps_at, steps_on, step, before, arguments_made, main_loading, main_classes, main_loads, starts_unless, opened, starts_if, starts_with, start, turn_in, turn_in-zero, turn_in-suc}
 use Rattle.jvm_model.specs.Codes.Moved.{Moving, moved_locals, moved_operands, moved_outcome, moved_done, moved_frame, moved_stack, moved, moved_turn, moved_instruction, IsPlace, ArePlaces, Agrees, self, IsPlaced}
 use Rattle.jvm_model.proofs.Running.Operations.{does-moves, loads-moves}
-use Rattle.jvm_model.proofs.Elsewhere.AppliesMoves.{applies-moves, chosen_turn-moves}
-use Rattle.jvm_model.proofs.Elsewhere.MovesMove.{move-moves, left-moves}
+use Rattle.jvm_model.proofs.Relocated.AppliesMoves.{applies-moves, chosen_turn-moves}
+use Rattle.jvm_model.proofs.Relocated.MovesMove.{move-moves, left-moves}
 
 -- ---- placed states
 

@@ -12,7 +12,7 @@ use Rattle.jvm_model.specs.Basis.Programs.{max_stack_of, max_locals_of}
 use Rattle.jvm_model.specs.Basis.SharedState.{raised, stack_overflow}
 use Rattle.jvm_model.specs.Running.Applies.{still, with_frame, breaks, goes, place_of, enters_subroutine, new_frame, throws_at, has_room, begins, live_in, most_live, begins_beside, invokes, resumes, gives_back, applies}
 use Rattle.jvm_model.specs.Codes.Moved.{Moving, moved_slot, moved_locals, moved_operands, moved_where, moved_outcome, moved_frame, moved_stack, moved, moved_turn, moved_instruction, ArePlaces, Agrees}
-use Rattle.jvm_model.proofs.Elsewhere.WithinMoves.{found-moves, long-moves, with-moves}
+use Rattle.jvm_model.proofs.Relocated.WithinMoves.{found-moves, long-moves, with-moves}
 
 -- ---- parts of a frame
 

@@ -6,7 +6,7 @@ use Rattle.jvm_model.specs.Basis.Data.{Instruction, Catcher, Listing, World}
 use Rattle.jvm_model.specs.Running.Run.{turn_in}
 use Rattle.jvm_model.specs.Codes.Moved.{moved_instruction, moved_catcher, IsPlace, HaveBounds, Agrees, self, IsPlaced}
 use Rattle.jvm_model.specs.Codes.Closed.{IsWithin, IsClosed, norm_of, laid_out}
-use Rattle.jvm_model.proofs.Elsewhere.StepMoves.{turn_in-placed}
+use Rattle.jvm_model.proofs.Relocated.StepMoves.{turn_in-placed}
 
 module _ (is_place : ℕ → ℕ → Bool) where
   -- ---- places

@@ -11,8 +11,8 @@ use Rattle.const_pool.specs.declared.descriptor.Kind.TheVariants as kind
 use Rattle.int_ops.specs.Arithmetic.{wrapped_sum}
 use Rattle.frame_stack.specs.Widths.{is_long, width}
 use Rattle.frame_stack.specs.FrameLists.{is_long_slot, without_long_before, with_value as with_slot}
-use Rattle.jvm_model.specs.Basis.Data.{Datum, Value, Locals, Operands, IntOperator, LongOperator, Division, LongShift, OfInt, Ineg, I2l, I2b, I2c, I2s, OfLong, Lneg, L2i, Test, WithZero, OfInts, OfReferences, IsNull, StackForm, Keys, Local, Nop, Constant, Load, Store, Arrange, BinaryOfInts, BinaryOfLongs, DivisionOfInts, DivisionOfLongs, ShiftOfLong, UnaryOfInt, UnaryOfLong, Lcmp, Iinc, Branch, Goto, Switch, Jsr, Ret, Return, Next, Outcome, GoesOn, Breaks}
-use Rattle.jvm_model.specs.Basis.Values.{as_value, datum_of, has_kind, loaded, is_storable, local_in, has_slots, stored, with_value, same_width, has_form, puts_on, arranged}
+use Rattle.jvm_model.specs.Basis.Data.{Datum, Value, Locals, Operands, IntOperator, LongOperator, Division, LongShift, OfInt, Ineg, I2l, I2b, I2c, I2s, OfLong, Lneg, L2i, Test, WithZero, OfInts, OfReferences, IsNull, StackForm, Keys, Local, Nop, Constant, Load, Store, ManageStack, BinaryOfInts, BinaryOfLongs, DivisionOfInts, DivisionOfLongs, ShiftOfLong, UnaryOfInt, UnaryOfLong, Lcmp, Iinc, Branch, Goto, Switch, Jsr, Ret, Return, Next, Outcome, GoesOn, Breaks}
+use Rattle.jvm_model.specs.Basis.Values.{as_value, datum_of, has_kind, loaded, is_storable, local_in, has_slots, stored, with_value, same_width, has_form, puts_on, managed_stack}
 use Rattle.jvm_model.specs.Basis.StackForms.{forms_of}
 use Rattle.jvm_model.specs.Instructions.LocalRules.{pushes, leaves, stores, increments, divided, of_int, of_long, calculates, calculates_long, shifts, compares_longs, divides_these, divides_ints, divides_longs, converts_int, converts_long, where_if, holds, tests, goes_if, branches, switches, goes_back, returns_datum, returns, within}
 use Rattle.jvm_model.specs.Codes.Moved.{moved_value, moved_slot, moved_locals, moved_operands, moved_where, moved_outcome}
@@ -159,11 +159,11 @@ module _ (h : ℕ → ℕ) where
       ∙ ap Some (puts_on-moves form.puts o (drop (length form.takes) o))
   form_put-moves false form o other' other same = same
 
-  arranged-moves : (forms : List StackForm) (o : Operands) → arranged forms (moved_operands h o) ≡ option_map (moved_operands h) (arranged forms o)
-  arranged-moves [] o = refl
-  arranged-moves (form ∷ more) o =
-      ap (λ b. if b then Some (puts_on form.puts (moved_operands h o) (drop (length form.takes) (moved_operands h o))) else arranged more (moved_operands h o)) (form-moves form.takes o)
-      ∙ form_put-moves (has_form form.takes o) form o _ (arranged more o) (arranged-moves more o)
+  managed_stack-moves : (forms : List StackForm) (o : Operands) → managed_stack forms (moved_operands h o) ≡ option_map (moved_operands h) (managed_stack forms o)
+  managed_stack-moves [] o = refl
+  managed_stack-moves (form ∷ more) o =
+      ap (λ b. if b then Some (puts_on form.puts (moved_operands h o) (drop (length form.takes) (moved_operands h o))) else managed_stack more (moved_operands h o)) (form-moves form.takes o)
+      ∙ form_put-moves (has_form form.takes o) form o _ (managed_stack more o) (managed_stack-moves more o)
 
   leaves-moves : (o : Option Operands) (l : Locals) → leaves (option_map (moved_operands h) o) (moved_locals h l) ≡ moved_outcome h (leaves o l)
   leaves-moves None l = refl
@@ -281,7 +281,7 @@ module _ (h : ℕ → ℕ) where
   within-moves (Constant d) l o = ap (λ v. GoesOn (moved_locals h l) (v ∷ moved_operands h o) Next) (datum-moves d)
   within-moves (Load k slot) l o = load-moves k slot l o
   within-moves (Store k slot) l o = stores-moves k slot l o
-  within-moves (Arrange op) l o = ap (λ x. leaves x (moved_locals h l)) (arranged-moves (forms_of op) o) ∙ leaves-moves (arranged (forms_of op) o) l
+  within-moves (ManageStack op) l o = ap (λ x. leaves x (moved_locals h l)) (managed_stack-moves (forms_of op) o) ∙ leaves-moves (managed_stack (forms_of op) o) l
   within-moves (BinaryOfInts op) l o = calculates-moves op l o
   within-moves (BinaryOfLongs op) l o = calculates_long-moves op l o
   within-moves (DivisionOfInts op) l o = divides_ints-moves op l o

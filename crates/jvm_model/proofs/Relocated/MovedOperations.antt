@@ -13,7 +13,7 @@ use Rattle.jvm_model.specs.declared.family.Family.{Family}
 use Rattle.jvm_model.specs.declared.family.Family.TheVariants as family
 use Rattle.jvm_model.specs.Basis.Data.{Keys, Consecutive, Local, Switch, Branch, Goto, Jsr, Ret, Load, Store, Constant, Iinc, Within}
 use Rattle.jvm_model.specs.Basis.Families.{family_of}
-use Rattle.jvm_model.specs.Codes.Lines.{constant_in, given_operation, increment_in, keys_in, local_of, object_constant_in, operation_by, operation_of, other_operation, slot_in, target_in, targets_of, value_in}
+use Rattle.jvm_model.specs.Codes.Lines.{constant_in, pool_constant_operation, increment_in, keys_in, local_of, object_constant_in, operation_by, operation_of, other_operation, slot_in, target_in, targets_of, value_in}
 
 constant-moves : (pool : List Const) (h : ℕ → ℕ) (a : Arg) → constant_in pool (moved_arg h a) ≡ constant_in pool a
 constant-moves pool h (arg.Pool index) = refl
@@ -82,7 +82,7 @@ operand-same h (arg.Multi index dimensions) = record { value = refl; slot = refl
 operand-same h (arg.Array code) = record { value = refl; slot = refl; increment = refl; jumps = λ l. refl; keys = refl }
 
 local-same : (f : Family) (a b : Arg) (c : Option Datum) → SameOperand a b → local_of f a c ≡ local_of f b c
-local-same family.Immediate a b c same = ap (option_map Constant) same.value
+local-same family.OperandConstant a b c same = ap (option_map Constant) same.value
 local-same (family.Load k) a b c same = ap (option_map (Load k)) same.slot
 local-same (family.Store k) a b c same = ap (option_map (Store k)) same.slot
 local-same family.Iinc a b c same = ap (option_map (λ p. Iinc p.0 p.1)) same.increment
@@ -94,10 +94,10 @@ local-same family.Switch a b c same = ap (option_map Switch) same.keys
 local-same _ a b c same = refl
 
 by-moves : (c : ClassFile) (op : ℕ) (h : ℕ → ℕ) (a : Arg) (f : Family) → operation_by c op (moved_arg h a) f ≡ operation_by c op a f
-by-moves c op h a family.Elsewhere = other-moves c op h a
-by-moves c op h a family.Given =
-    ap (λ d. given_operation (option_map Within (local_of family.Given (moved_arg h a) d)) (object_constant_in c.pool (moved_arg h a))) (constant-moves c.pool h a)
-    ∙ ap (given_operation (option_map Within (local_of family.Given a (constant_in c.pool a)))) (object-moves c.pool h a)
+by-moves c op h a family.NotLocal = other-moves c op h a
+by-moves c op h a family.PoolConstant =
+    ap (λ d. pool_constant_operation (option_map Within (local_of family.PoolConstant (moved_arg h a) d)) (object_constant_in c.pool (moved_arg h a))) (constant-moves c.pool h a)
+    ∙ ap (pool_constant_operation (option_map Within (local_of family.PoolConstant a (constant_in c.pool a)))) (object-moves c.pool h a)
 by-moves c op h a f =
     ap (λ d. option_map Within (local_of f (moved_arg h a) d)) (constant-moves c.pool h a)
     ∙ ap (option_map Within) (local-same f (moved_arg h a) a (constant_in c.pool a) (operand-same h a))

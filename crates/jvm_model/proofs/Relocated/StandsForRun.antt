@@ -8,7 +8,7 @@ use Rattle.jvm_model.specs.Running.Moves.{settled}
 use Rattle.jvm_model.specs.Running.Run.{step, start}
 use Rattle.jvm_model.specs.Codes.Moved.{moved_locals, moved_operands, moved_frame, moved_stack, moved_turn, moved_instruction, moved_catcher, Agrees, self}
 use Rattle.jvm_model.specs.Rewriting.StandsForRun.{named, forgotten, at_homes, norm_by, StandsFor, IsOfVersions, KeepVersions}
-use Rattle.jvm_model.proofs.Elsewhere.StepMoves.{settled-moves, settled-placed, step-moves, step-placed, start-moves, start-placed}
+use Rattle.jvm_model.proofs.Relocated.StepMoves.{settled-moves, settled-placed, step-moves, step-placed, start-moves, start-placed}
 
 same-instruction : (i : Option Instruction) → i ≡ option_map (moved_instruction (λ place. place)) i
 same-instruction None = refl

@@ -15,7 +15,7 @@ use Rattle.jvm_model.specs.Instructions.LocalRules.{replaces}
 use Rattle.jvm_model.specs.Instructions.ObjectRules.{done, array_length, measures, makes_array, makes, Access, ToNull, ToAnother, Outside, Inside, access_to, loads_at, place_of, loads_element, fits_array, stores_at, Storing, storing_of, stores_element, watches, throws}
 use Rattle.jvm_model.specs.Instructions.Rules.{when_ready}
 use Rattle.jvm_model.specs.Codes.Moved.{moved_value, moved_locals, moved_operands, moved_outcome, moved_done}
-use Rattle.jvm_model.proofs.Elsewhere.WithinMoves.{found-moves, kind-moves}
+use Rattle.jvm_model.proofs.Relocated.WithinMoves.{found-moves, kind-moves}
 
 reverse-moves : {A B : Type 0} (f : A → B) (xs : List A) → reverse (map f xs) ≡ map f (reverse xs)
 reverse-moves f [] = refl

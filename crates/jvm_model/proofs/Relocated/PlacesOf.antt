@@ -12,7 +12,7 @@ use Rattle.jvm_model.specs.Codes.Moved.{IsPlace}
 use Rattle.jvm_model.specs.Codes.Places.{is_start_in}
 use Rattle.jvm_model.specs.Basis.Programs.{code_of_method}
 use Rattle.jvm_model.specs.Codes.ProgramPlaces.{IsStartOrEnd, is_place_in, is_place_of, reading_of}
-use Rattle.jvm_model.proofs.Elsewhere.ClosedPrograms.{nth-any}
+use Rattle.jvm_model.proofs.Relocated.ClosedPrograms.{nth-any}
 
 module _ (p : Program) (method : ℕ) (old : CodeAttribute) (coded : code_of_method p method ≡ Some old) (instrs : List Instr) (reads : Reads old.code 0 instrs)
     (read : Reads old.code 0 (reading_of old)) (some : 0 < length instrs) where

@@ -39,8 +39,8 @@ use Rattle.jvm_model.specs.Instructions.CreationRules.{allocates, is_text_class,
 use Rattle.jvm_model.specs.Instructions.InvocationRules.{named_method, with_receiver, arguments_by, receiver_in, abstract_method, unsatisfied_link, reference_to, invokes_native, invokes_number, invokes_selected, invokes_with_static, invokes_static_method, Selecting, Virtual, OfInterface, Special, names_interface, not_of_class, selected_by, invokes_on, invokes_instance}
 use Rattle.jvm_model.specs.Instructions.NativeRules.{kinds_in, outcome_of, runs_native, runs_number, seen_by_natives, thrown_by}
 use Rattle.jvm_model.specs.Codes.Moved.{moved_value, moved_locals, moved_operands, moved_outcome, moved_done}
-use Rattle.jvm_model.proofs.Elsewhere.WithinMoves.{found-moves, kind-moves, pushed-moves}
-use Rattle.jvm_model.proofs.Elsewhere.ObjectMoves.{chosen-moves, chosen_outcome-moves, ready-moves, arguments-moves, int_of-moves, ref_of-moves, goes_on-moves, replaces-moves, makes-moves}
+use Rattle.jvm_model.proofs.Relocated.WithinMoves.{found-moves, kind-moves, pushed-moves}
+use Rattle.jvm_model.proofs.Relocated.ObjectMoves.{chosen-moves, chosen_outcome-moves, ready-moves, arguments-moves, int_of-moves, ref_of-moves, goes_on-moves, replaces-moves, makes-moves}
 
 module _ (h : ℕ → ℕ) where
   -- ---- what is found step by step

@@ -21,7 +21,7 @@ use Rattle.jvm_model.specs.Codes.Moved.{Agrees, self}
 use Rattle.jvm_model.specs.Codes.Originals.{catcher_of, method_handlers, original}
 use Rattle.jvm_model.specs.Codes.Places.{is_start_in}
 use Rattle.jvm_model.specs.Basis.Programs.{class_at, code_of_method, place_of_method}
-use Rattle.jvm_model.proofs.Elsewhere.ClosedCode.{closed-agrees}
+use Rattle.jvm_model.proofs.Relocated.ClosedCode.{closed-agrees}
 use Rattle.jvm_model.specs.Codes.ProgramPlaces.{HasClosedCodes, HasPlaces, IsClosedCode, is_place_in, is_place_of, reading_of}
 use Rattle.jvm_model.proofs.Images.HomedListings.{nth-all}
 

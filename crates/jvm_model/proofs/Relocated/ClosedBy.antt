@@ -18,7 +18,7 @@ use Rattle.jvm_model.specs.Basis.Methods.{method_code}
 use Rattle.jvm_model.specs.Codes.Originals.{catcher_of, method_handlers, original}
 use Rattle.jvm_model.specs.Codes.Places.{is_place, is_start_in, read_from}
 use Rattle.jvm_model.specs.Basis.Programs.{class_at, place_of_method}
-use Rattle.jvm_model.proofs.Elsewhere.StandingFrames.{Stand, place-start, read-stand}
+use Rattle.jvm_model.proofs.Relocated.StandingFrames.{Stand, place-start, read-stand}
 use Rattle.jvm_model.specs.Soundness.Calls.{is_end, places_of}
 use Rattle.jvm_model.specs.Soundness.Whole.{FitsHandler, HasSoundCode, HasSoundCodes, instrs_of, is_stop}
 

@@ -10,7 +10,7 @@ use Rattle.jvm_model.specs.Basis.SharedState.{phase_of, class_of, stack_overflow
 use Rattle.jvm_model.specs.Running.Applies.{still, with_frame, goes, new_frame, has_room, live_in, most_live}
 use Rattle.jvm_model.specs.Running.Moves.{covers, handler_for, own_at, caught, at_part, after_super, with_super, raises, runs_initializer, initializes, argument_array, main_or_end, moves, move, weight, weights, fresh, unit, unless, left}
 use Rattle.jvm_model.specs.Codes.Moved.{Moving, moved_locals, moved_frame, moved_stack, moved, moved_turn, moved_instruction, moved_catcher, IsPlace, ArePlaces, HaveBounds, Agrees}
-use Rattle.jvm_model.proofs.Elsewhere.AppliesMoves.{goes-moves, frame-moves, chosen_turn-moves, live-moves}
+use Rattle.jvm_model.proofs.Relocated.AppliesMoves.{goes-moves, frame-moves, chosen_turn-moves, live-moves}
 
 chosen_target-moves : (h : ℕ → ℕ) (b : Bool) (x : ℕ) (y : Option ℕ) → (if b then Some (h x) else option_map h y) ≡ option_map h (if b then Some x else y)
 chosen_target-moves h true x y = refl

@@ -16,7 +16,7 @@ use Rattle.jvm_model.specs.Codes.Originals.{original}
 use Rattle.jvm_model.specs.Codes.Closed.{IsClosed, norm_of}
 use Rattle.jvm_model.specs.Codes.Moved.{moved_stack, self}
 use Rattle.jvm_model.specs.Running.Run.{run}
-use Rattle.jvm_model.proofs.Elsewhere.ClosedCode.{closed-placed}
+use Rattle.jvm_model.proofs.Relocated.ClosedCode.{closed-placed}
 use Rattle.jvm_model.specs.Codes.Places.{is_place, is_start_in, method_reading, read_from}
 use Rattle.jvm_model.specs.Basis.Programs.{class_at, place_of_method}
 use Rattle.jvm_model.specs.Soundness.Sound.{IsFit}
