@@ -10,7 +10,7 @@ use Rattle.call_revelation.specs.declared.reveal.Reveal.{Reveal}
 use Rattle.call_revelation.specs.Books.{IsBookOf, code_at}
 use Rattle.call_revelation.specs.CalledClasses.{AreHanded}
 use Rattle.call_revelation.specs.Lineages.{IsLineage}
-use Rattle.call_revelation.specs.Reveals.{IsFront, IsGrown, IsKept, IsRevelation, now_of}
+use Rattle.call_revelation.specs.Reveals.{IsPrefix, IsGrown, IsKept, IsRevelation, now_of}
 use Rattle.call_revelation.proofs.CalledLemmas.{fewer-handed}
 use Rattle.call_revelation.proofs.Fronts.{front-among, front-self, front-take, front-then}
 
@@ -44,7 +44,7 @@ grown-then p a b c first second = record {
 }
 
 pub grown-lineage : (p : Program) (old new : Reveal) → IsKept p old → new ≡ (record old { lineage = new.lineage }) → IsLineage p new.lineage
-    → IsFront old.lineage.loaded new.lineage.loaded → AreHanded p new.lineage.loaded old.named → IsGrown p old new
+    → IsPrefix old.lineage.loaded new.lineage.loaded → AreHanded p new.lineage.loaded old.named → IsGrown p old new
 grown-lineage p old new kept same lineage front handed = subst (IsGrown p old) (sym same) (record {
   lineage = lineage;
   book = kept.book;
@@ -103,7 +103,7 @@ grown-read p old book named kept booked codes handed more = record {
 }
 
 -- more targets, and more that is stale
-pub grown-more : (p : Program) (old mid : Reveal) (targets stale : List ℕ) → IsGrown p old mid → IsFront mid.targets targets → IsFront mid.stale stale
+pub grown-more : (p : Program) (old mid : Reveal) (targets stale : List ℕ) → IsGrown p old mid → IsPrefix mid.targets targets → IsPrefix mid.stale stale
     → IsGrown p old (record mid { targets = targets; stale = stale })
 grown-more p old mid targets stale grown first second =
     grown-then p old mid (record mid { targets = targets; stale = stale }) grown (record {
@@ -118,7 +118,7 @@ grown-more p old mid targets stale grown first second =
       same = refl;
     })
 
-not-before : (a b : List ℕ) (m : ℕ) → IsFront a b → is_among m b ≡ false → is_among m a ≡ false
+not-before : (a b : List ℕ) (m : ℕ) → IsPrefix a b → is_among m b ≡ false → is_among m a ≡ false
 not-before a b m front none = by (is_among m a) refl
   where
     by : (t : Bool) → is_among m a ≡ t → is_among m a ≡ false
@@ -130,9 +130,9 @@ abbrev pub cut_lineage : Lineage → List ℕ → Lineage
 cut_lineage v loaded = record { loaded = loaded; below = v.below }
 
 module _ (p : Program) (old : Reveal) (is : IsRevelation p old) (lineage : Lineage) (book : Book) (named : Named) (stale : List ℕ)
-    (lined : IsLineage p lineage) (front : IsFront old.lineage.loaded lineage.loaded) (booked : IsBookOf p book)
+    (lined : IsLineage p lineage) (front : IsPrefix old.lineage.loaded lineage.loaded) (booked : IsBookOf p book)
     (codes : (m : ℕ) → is_some (code_at old.book.codes m) ≡ true → is_some (code_at book.codes m) ≡ true) (handed : AreHanded p lineage.loaded named)
-    (called : (class : ℕ) → is_among class old.named.classes ≡ true → is_among class named.classes ≡ true) (staled : IsFront old.stale stale) where
+    (called : (class : ℕ) → is_among class old.named.classes ≡ true → is_among class named.classes ≡ true) (staled : IsPrefix old.stale stale) where
   abbrev back : Reveal
   back = record old { lineage = cut_lineage lineage old.lineage.loaded; book = book; named = named; stale = stale }
 

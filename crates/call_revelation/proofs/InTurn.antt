@@ -9,7 +9,7 @@ use Rattle.jvm_model.specs.Soundness.Sound.{HasSupertypes}
 use Rattle.jvm_model.proofs.Loading.LoadOrder.{order-behind}
 use Rattle.class_linker.specs.Linkers.{IsLoaded, LinkerView}
 use Rattle.call_revelation.specs.declared.reveal.Reveal.{Reveal}
-use Rattle.call_revelation.specs.Reveals.{AreLoading, IsAhead, IsFront, IsGrown, IsRevelation}
+use Rattle.call_revelation.specs.Reveals.{AreLoading, IsAhead, IsPrefix, IsGrown, IsRevelation}
 use Rattle.call_revelation.proofs.Adding.{among-append, or-later}
 use Rattle.call_revelation.proofs.Fronts.{front-drop}
 use Rattle.call_revelation.proofs.Grown.{grown-self, grown-then}
@@ -85,15 +85,15 @@ all-loaded l first now classes rest none so = sym (append-nothing now.lineage.lo
 
 -- ---- what a linker has loaded behind a list
 
-pub behind-linked : (l : LinkerView) (a : List ℕ) (front : IsFront a l.loaded) → AllByRecursion (IsLoaded l) (drop (length a) l.loaded)
+pub behind-linked : (l : LinkerView) (a : List ℕ) (front : IsPrefix a l.loaded) → AllByRecursion (IsLoaded l) (drop (length a) l.loaded)
 behind-linked l a front =
     all-behind l.loaded (drop (length a) l.loaded)
     (λ x h. ap (is_among x) front.is
     ∙ (among-append x a front.rest ∙ or-later (is_among x a) (is_among x front.rest) (sym (ap (is_among x) (front-drop a l.loaded front)) ∙ h)))
 
-pub behind-order : (p : Program) (a all : List ℕ) (front : IsFront a all) → IsLoadOrder p [] all → IsLoadOrder p a (drop (length a) all)
+pub behind-order : (p : Program) (a all : List ℕ) (front : IsPrefix a all) → IsLoadOrder p [] all → IsLoadOrder p a (drop (length a) all)
 behind-order p a all front order =
     subst (IsLoadOrder p a) (sym (front-drop a all front)) (order-behind p [] a front.rest (subst (IsLoadOrder p []) front.is order))
 
-pub behind-whole : (a all : List ℕ) (front : IsFront a all) → a ++ drop (length a) all ≡ all
+pub behind-whole : (a all : List ℕ) (front : IsPrefix a all) → a ++ drop (length a) all ≡ all
 behind-whole a all front = ap (λ k. a ++ k) (front-drop a all front) ∙ sym front.is

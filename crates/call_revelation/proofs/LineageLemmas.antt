@@ -10,7 +10,7 @@ use Rattle.jvm_model.specs.Soundness.Sound.{HasSupertypes}
 use Rattle.class_index.specs.Orders.{with_class}
 use Rattle.call_revelation.specs.declared.lineage.Lineage.{Lineage}
 use Rattle.call_revelation.specs.Lineages.{AreFollowed, IsClosed, IsLed, IsLineage, IsNoted, LeadTo, direct, noted}
-use Rattle.call_revelation.specs.Reveals.{IsFront}
+use Rattle.call_revelation.specs.Reveals.{IsPrefix}
 use Rattle.call_revelation.specs.Tables.{Adds, list_at, with_item}
 use Rattle.call_revelation.proofs.Adding.{among-append, either, equal, itself, or-false, or-first, or-later}
 use Rattle.call_revelation.proofs.Fronts.{front-among}
@@ -244,7 +244,7 @@ take-next (x ∷ xs) more (suc at) d class within h =
     ]
 
 -- what stands in the list of the next one was added
-pub followed-next : (below : List (List ℕ)) (found new : List ℕ) (at d next : ℕ) → at < length found → next ≡ get_or found at d → IsFront found new
+pub followed-next : (below : List (List ℕ)) (found new : List ℕ) (at d next : ℕ) → at < length found → next ≡ get_or found at d → IsPrefix found new
     → Adds found new (list_at below next) → AreFollowed below (take at found) found → AreFollowed below (take (at + 1) new) new
 followed-next below found new at d next small there front adds before class lower among within =
     elim (take-next found front.rest at d class small

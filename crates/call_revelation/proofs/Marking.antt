@@ -19,7 +19,7 @@ use Rattle.call_revelation.specs.Books.{IsBookOf, code_at, gathered}
 use Rattle.call_revelation.specs.CalledClasses.{AreHanded, HasCalled, HasUppers}
 use Rattle.call_revelation.specs.Lineages.{IsLineage}
 use Rattle.call_revelation.specs.Ranks.{flag_at}
-use Rattle.call_revelation.specs.Reveals.{IsAhead, IsFront, IsKept, IsRevelation, is_placed, mark_by, mark_kept, now_of}
+use Rattle.call_revelation.specs.Reveals.{IsAhead, IsPrefix, IsKept, IsRevelation, is_placed, mark_by, mark_kept, now_of}
 use Rattle.call_revelation.specs.Tables.{Adds, list_at}
 use Rattle.class_index.specs.Orders.{with_class}
 use Rattle.call_revelation.proofs.Adding.{among-append, among-filter, among-with, either, equal, neither, or-false, or-first}
@@ -345,7 +345,7 @@ quieted p r is flags stale long off staled = record {
 }
 
 -- more that is stale does no harm
-pub staler : (p : Program) (r : Reveal) → IsRevelation p r → (stale : List ℕ) → IsFront r.stale stale → IsRevelation p (record r { stale = stale })
+pub staler : (p : Program) (r : Reveal) → IsRevelation p r → (stale : List ℕ) → IsPrefix r.stale stale → IsRevelation p (record r { stale = stale })
 staler p r is stale front = reselected p r is r.selected stale (λ m none. (before m none (is_among m r.stale) refl, refl))
   where
     before : (m : ℕ) → is_among m stale ≡ false → (b : Bool) → is_among m r.stale ≡ b → is_among m r.stale ≡ false

@@ -108,7 +108,7 @@ pub record IsAhead (l : LinkerView) (r : Reveal) : Type 0 where
 -- ---- what a call leaves that stops
 
 -- the second list begins with the first
-pub record IsFront (xs ys : List ℕ) : Type 0 where
+pub record IsPrefix (xs ys : List ℕ) : Type 0 where
   pub rest : List ℕ
   pub is : ys ≡ xs ++ rest
 
@@ -120,9 +120,9 @@ pub record IsGrown (p : Program) (old new : Reveal) : Type 0 where
   pub codes : (m : ℕ) → is_some (code_at old.book.codes m) ≡ true → is_some (code_at new.book.codes m) ≡ true
   pub named : AreHanded p new.lineage.loaded new.named
   pub called : (class : ℕ) → is_among class old.named.classes ≡ true → is_among class new.named.classes ≡ true
-  pub loaded : IsFront old.lineage.loaded new.lineage.loaded
-  pub targets : IsFront old.targets new.targets
-  pub stale : IsFront old.stale new.stale
+  pub loaded : IsPrefix old.lineage.loaded new.lineage.loaded
+  pub targets : IsPrefix old.targets new.targets
+  pub stale : IsPrefix old.stale new.stale
   pub same : new ≡ (record old { lineage = new.lineage; book = new.book; named = new.named; targets = new.targets; stale = new.stale })
 
 -- so far these classes were loaded in order, and the rest is to come

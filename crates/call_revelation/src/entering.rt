@@ -7,7 +7,7 @@ ghost use Rattle.jvm_model.specs.Profiling.Revealed.{with_method_entered, with_n
 ghost use Rattle.jvm_model.specs.Soundness.Sound.{HasClass};
 ghost use Rattle.jvm_model.specs.Profiling.Targets.{operations_of, targets_in};
 ghost use Rattle.call_revelation.specs.Books.{code_at};
-ghost use Rattle.call_revelation.specs.Reveals.{IsAhead, IsFront, IsGrown, IsKept, IsRevelation};
+ghost use Rattle.call_revelation.specs.Reveals.{IsAhead, IsPrefix, IsGrown, IsKept, IsRevelation};
 ghost use Rattle.call_revelation.specs.Ranks.{flag_at};
 ghost use Rattle.call_revelation.specs.Reveals.{now_of};
 

@@ -2,7 +2,7 @@
 
 ghost use Rattle.std.specs.Prelude.{◌≡◌, OnOk};
 ghost use Rattle.class_index.specs.Orders.{with_classes};
-ghost use Rattle.call_revelation.specs.Reveals.{IsFront};
+ghost use Rattle.call_revelation.specs.Reveals.{IsPrefix};
 
 use class_index::Order;
 use jf_bytes::NoMemory;
@@ -10,7 +10,7 @@ use jf_bytes::NoMemory;
 /// Adds these, each once.
 pub fn add_more(order: &mut Order, items: &[u32]) -> Result<(), NoMemory>
     ensures added { OnOk result (order.new ≡ with_classes order.old items.now) }
-    ensures front { IsFront order.old order.new }
+    ensures prefix { IsPrefix order.old order.new }
 {
     for item in items {
         order.add(*item)?;

@@ -15,7 +15,7 @@ ghost use Rattle.call_revelation.specs.Books.{Begins, called_by, called_from};
 ghost use Rattle.call_revelation.specs.Books.{gathered, symbolic_reference_at, of_entered};
 ghost use Rattle.call_revelation.specs.CalledClasses.{AreHanded};
 ghost use Rattle.call_revelation.specs.Lineages.{IsLineage, LeadTo};
-ghost use Rattle.call_revelation.specs.Reveals.{IsAhead, IsFront, IsGrown, IsKept, IsRevelation};
+ghost use Rattle.call_revelation.specs.Reveals.{IsAhead, IsPrefix, IsGrown, IsKept, IsRevelation};
 ghost use Rattle.call_revelation.specs.Ranks.{flag_at};
 ghost use Rattle.call_revelation.specs.Reveals.{now_of};
 ghost use Rattle.call_revelation.specs.Tables.{Adds, list_at};
@@ -205,7 +205,7 @@ impl Reveal {
             self.old.named }
         ensures same { self.new ≡ (record self.old { lineage = self.new.lineage }) }
         ensures lineage { IsLineage linker.now.program self.new.lineage }
-        ensures front { IsFront self.old.lineage.loaded self.new.lineage.loaded }
+        ensures prefix { IsPrefix self.old.lineage.loaded self.new.lineage.loaded }
         ensures handed { AreHanded linker.now.program self.new.lineage.loaded self.old.named }
         ensures loaded { OnOk result (self.new.lineage.loaded
             ≡ self.old.lineage.loaded ++ new ∷ []) }
@@ -303,7 +303,7 @@ impl Reveal {
     pub fn loaded(&mut self, alloc: Global, linker: &Linker) -> Result<(), NoMemory>
         requires revelation { IsRevelation linker.now.program self.old }
         requires ahead { IsAhead linker.now self.old }
-        requires front { IsFront self.old.lineage.loaded linker.now.loaded }
+        requires prefix { IsPrefix self.old.lineage.loaded linker.now.loaded }
         requires order { IsLoadOrder linker.now.program [] linker.now.loaded }
         ensures revelation { IsRevelation linker.now.program self.new }
         ensures now { OnOk result (now_of self.new

@@ -1,7 +1,7 @@
 //! One class file, from its bytes to its class and back.
 
 ghost use Rattle.std.specs.Prelude.{◌≡◌, ◌≢◌, ◌⊎◌, Err, IfOk, IfErr, OnOk};
-ghost use Rattle.jf_bytes.specs.Streams.{Rose, PutsAll, PutsFront, IsFetched};
+ghost use Rattle.jf_bytes.specs.Streams.{Rose, PutsAll, PutsPrefix, IsFetched};
 ghost use Rattle.class_reader.specs.declared.error.ReadError.{ReadError as Fault};
 ghost use Rattle.class_reader.specs.Files.{IsFirstFault, most_bytes};
 ghost use Rattle.class_copy.specs.Copies.{IsSomeFile, IsFileTold, PutsFile, IsAnswer};
@@ -99,7 +99,7 @@ pub fn copy_file<F: Files, O: Sink>(
     ensures copied { OnOk result
         (PutsFile PutsAll (F.contents files.old) name.now (O.taken out.old) (O.taken out.new)) }
     ensures in_part { result ≡ Err CopyError.NotPut
-        → PutsFile PutsFront (F.contents files.old) name.now (O.taken out.old) (O.taken out.new) }
+        → PutsFile PutsPrefix (F.contents files.old) name.now (O.taken out.old) (O.taken out.new) }
     ensures nothing { IfErr result (λ e.
         e ≢ CopyError.NotPut → O.taken out.new ≡ O.taken out.old) }
 {

@@ -1,7 +1,7 @@
 //! One class file, from its bytes to those of its image.
 
 ghost use Rattle.std.specs.Prelude.{◌≡◌, ◌≢◌, ◌≤◌, ◌⊎◌, [], None, Err, IfOk, IfErr, OnOk};
-ghost use Rattle.jf_bytes.specs.Streams.{Rose, PutsAll, PutsFront, IsFetched};
+ghost use Rattle.jf_bytes.specs.Streams.{Rose, PutsAll, PutsPrefix, IsFetched};
 ghost use Rattle.class_reader.specs.Files.{most_bytes};
 ghost use Rattle.inject_events.specs.Answers.{IsProfilable, IsReadableClass};
 ghost use Rattle.class_image.specs.Imaging.{IsAdmittedFile, IsImageOf, IsClassRefusal, IsRefusal, HasImage, IsFileRefusal, PutsImage, IsTold};
@@ -133,7 +133,7 @@ fn image_of_file<F: Files>(
 /// Puts an image.
 fn put_image<O: Sink>(out: &mut O, image: &[u8]) -> Result<(), ImageError>
     ensures all { OnOk result (PutsAll (O.taken out.old) (O.taken out.new) image.now) }
-    ensures front { PutsFront (O.taken out.old) (O.taken out.new) image.now }
+    ensures prefix { PutsPrefix (O.taken out.old) (O.taken out.new) image.now }
     ensures only { IfErr result (λ e. e ≡ ImageError.NotPut) }
     ensures not_put { result ≡ Err ImageError.NotPut
         → Rose (O.faults out.old) (O.faults out.new) }
@@ -157,7 +157,7 @@ pub fn image_file<F: Files, O: Sink>(
     ensures put { OnOk result (PutsImage PutsAll (F.contents files.old) name.now first.now marks.now
         (O.taken out.old) (O.taken out.new)) }
     ensures in_part { result ≡ Err ImageError.NotPut
-        → PutsImage PutsFront (F.contents files.old) name.now first.now marks.now
+        → PutsImage PutsPrefix (F.contents files.old) name.now first.now marks.now
         (O.taken out.old) (O.taken out.new) }
     ensures nothing { IfErr result (λ e.
         e ≢ ImageError.NotPut → O.taken out.new ≡ O.taken out.old) }

@@ -29,7 +29,7 @@ single_begins : (bytes : List ℕ) → (1 ≤ get_or bytes 0 0) × (get_or bytes
 single_begins [] h = absurd (omega (arith, h.0))
 single_begins (a ∷ rest) h = record {
   fits = omega (arith, h.1);
-  front = rw (unit_bytes-one a (omega (arith, h.0)) (omega (arith, h.1))) refl;
+  prefix = rw (unit_bytes-one a (omega (arith, h.0)) (omega (arith, h.1))) refl;
 }
 
 double_begins : (bytes : List ℕ) (most : ℕ) → IsDoubleLead (get_or bytes 0 0) most
@@ -42,7 +42,7 @@ double_begins (a ∷ b ∷ rest) most lead h =
       | inl z ↦ inl (z.0, omega (arith, z.1, h.0, h.1))
       | inr m ↦ inr (m.0, m.1, h.0, omega (arith, m.2, h.1))
     ] in
-    record { fits = omega arith; front = rw (double_spelled a b kind) refl }
+    record { fits = omega arith; prefix = rw (double_spelled a b kind) refl }
 
 triple_begins : (bytes : List ℕ) (least : ℕ) → IsTripleLead (get_or bytes 0 0) least
     → (least ≤ get_or bytes 1 0) × (get_or bytes 1 0 ≤ 191) → (128 ≤ get_or bytes 2 0) × (get_or bytes 2 0 ≤ 191)
@@ -57,7 +57,7 @@ triple_begins (a ∷ b ∷ c ∷ rest) least lead h k =
     ] in
     let below : a < 240 = elim lead [ inl z ↦ omega (arith, z.0) | inr m ↦ m.1 ] in
     let spelled = triple_spelled a b c kind below (omega (arith, h.1)) k.0 (omega (arith, k.1)) in
-    record { fits = omega arith; front = rw spelled refl }
+    record { fits = omega arith; prefix = rw spelled refl }
 
 double_front : (bytes : List ℕ) (most : ℕ) → 0 < length bytes → IsDoubleLead (get_or bytes 0 0) most
     → IsFront bytes (double_unit (get_or bytes 0 0) (get_or bytes 1 0) most)
@@ -114,8 +114,8 @@ begins_text : (bytes : List ℕ) (unit : ℕ) → BeginsWith bytes unit
     → (length (unit_bytes unit) ≤ length bytes) × IsSpelling (take (length (unit_bytes unit)) bytes) (unit ∷ [])
 begins_text bytes unit begins =
     let size = length (unit_bytes unit) in
-    let within : size ≤ length bytes = omega (arith, length-take size bytes, ap length begins.front) in
-    (within, record { fit = (begins.fits, tt); spelled = append-nil (unit_bytes unit) ∙ sym begins.front })
+    let within : size ≤ length bytes = omega (arith, length-take size bytes, ap length begins.prefix) in
+    (within, record { fit = (begins.fits, tt); spelled = append-nil (unit_bytes unit) ∙ sym begins.prefix })
 
 -- what is behind a unit's bytes gives what they give together
 after_one : (bytes : List ℕ) (unit : ℕ) (rest : Result (List ℕ) ℕ) → BeginsWith bytes unit

@@ -49,7 +49,7 @@ impl From<AllocError> for InputError {
 fn take_some<I: Source>(source: &mut I, buf: &mut [u8]) -> Result<usize, Failed>
     requires { 0 < length buf.old }
     ensures within { IfOk result (λ n. n ≤ length buf.new) }
-    ensures front { IfOk result (λ n.
+    ensures prefix { IfOk result (λ n.
         Consumes (I.left source.old) (I.left source.new) (take n buf.new)) }
     ensures end { IfOk result (λ n. n ≡ 0 → IsAtEnd (I.left source.new)) }
     ensures stays { OnErr result (I.left source.new ≡ I.left source.old) }

@@ -9,7 +9,7 @@ use Rattle.jvm_model.specs.declared.event.Event.{Event}
 use Rattle.jvm_model.specs.declared.event.EventKind.{EventKind}
 use Rattle.jvm_model.specs.declared.event.EventKind.TheVariants.{Root, Enter, Leave, Unwind}
 use Rattle.jvm_model.specs.Profiling.Paths.{Context, same_path, is_outside, is_inside, distinct, contexts_of}
-use Rattle.context_tree.specs.Profiles.{Profile, parent_path, last_method, credited, opened, told, taken}
+use Rattle.context_tree.specs.Profiles.{Profile, parent_path, last_method, credited, opened, event_told, taken}
 use Rattle.context_tree.specs.Counts.{path_by, path_after, opens, paths_opened, paths_stepped, AreInOrder}
 use Rattle.context_tree.specs.Laws.{FoldsToCounts}
 use Rattle.context_tree.proofs.SamePaths.{same_path-is, same_path-refl, is_outside-cons, is_outside-push, path-split}
@@ -90,7 +90,7 @@ abbrev opening : List ℕ → EventKind → ℕ → List (List ℕ)
 opening path kind method = if opens path kind then path_by kind method path ∷ [] else []
 
 record Goes (kind : EventKind) (method : ℕ) (begun made : List (List ℕ)) (path : List ℕ) (clock : ℕ) : Type 0 where
-  to : told kind method (profile_at begun made path clock) ≡ profile_at (begun ++ opening path kind method) made (path_by kind method path) clock
+  to : event_told kind method (profile_at begun made path clock) ≡ profile_at (begun ++ opening path kind method) made (path_by kind method path) clock
   begins : IsBegun (begun ++ opening path kind method) (path_by kind method path)
 
 goes_opened : (method : ℕ) (begun made : List (List ℕ)) (path : List ℕ) (clock : ℕ) → IsBegun begun path → AreOfBegun begun made
@@ -168,7 +168,7 @@ folds (e ∷ events) begun made path clock last way of order =
     next = goes e.kind e.method begun more path e.clock way of_more
 
     here : taken (profile_at begun made path clock) e ≡ profile_at (begun ++ opening path e.kind e.method) more (path_after path e) e.clock
-    here = ap (told e.kind e.method) (credited_at begun made path clock e.clock) ∙ next.to
+    here = ap (event_told e.kind e.method) (credited_at begun made path clock e.clock) ∙ next.to
 
     begun_all : (begun ++ opening path e.kind e.method) ++ paths_opened (path_after path e) events ≡ begun ++ paths_opened path (e ∷ events)
     begun_all = append_assoc begun (opening path e.kind e.method) (paths_opened (path_after path e) events)

@@ -5,7 +5,7 @@ use Rattle.std.proofs.lemmas.List.{map-append}
 use Rattle.jvm_model.specs.declared.event.EventKind.{EventKind}
 use Rattle.jvm_model.specs.declared.event.EventKind.TheVariants.{Root, Enter, Leave, Unwind}
 use Rattle.jvm_model.specs.Profiling.Paths.{Context, same_path, is_outside}
-use Rattle.context_tree.specs.Profiles.{Profile, has_path, with_own, with_call, call_begun, opened, told, credited}
+use Rattle.context_tree.specs.Profiles.{Profile, has_path, with_own, with_call, call_begun, opened, event_told, credited}
 use Rattle.context_tree.proofs.SamePaths.{path-goes_on}
 
 -- the steps since the last clock were made in this path
@@ -65,7 +65,7 @@ opened-credited method clock p =
     ap (λ (l : List Context). record { contexts = l; «open» = p.open ++ method ∷ []; clock = clock })
     (call_begun-with_own (p.open ++ method ∷ []) p.open (clock - p.clock) p.contexts (path-goes_on p.open method))
 
-pub told-credited : (kind : EventKind) (method clock : ℕ) (p : Profile) → told kind method (credited clock p) ≡ credited_in p.open clock (told kind method p)
+pub told-credited : (kind : EventKind) (method clock : ℕ) (p : Profile) → event_told kind method (credited clock p) ≡ credited_in p.open clock (event_told kind method p)
 told-credited Root method clock p = opened-credited method clock p
 told-credited Enter method clock p = by (is_outside p.open)
   where

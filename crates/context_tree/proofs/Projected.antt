@@ -17,7 +17,7 @@ use Rattle.jvm_model.specs.Running.Run.{turn, run}
 use Rattle.jvm_model.specs.Codes.Originals.{original}
 use Rattle.jvm_model.specs.Profiling.Activations.{Activation, Trace, no_trace, current, with_begin, without_current, with_end, changed, all_changed, trace, trace_before, trace_in-zero, trace_in-suc}
 use Rattle.jvm_model.specs.Profiling.Projection.{is_root, is_selected, paths_of, path_at, who, paths_made, paths_made-zero, paths_made-suc, projection}
-use Rattle.jvm_model.specs.Profiling.EventLists.{Marking, begin_events, end_events, end_of, told, all_told, step_events, events_of, events_of-zero, events_of-suc, full_marking}
+use Rattle.jvm_model.specs.Profiling.EventLists.{Marking, begin_events, end_events, end_of, events_told, all_told, step_events, events_of, events_of-zero, events_of-suc, full_marking}
 use Rattle.jvm_model.proofs.Events.Chains.{slice_get_at, IsBelow, is_inside-cons, path_in, paths_of-push, paths_of-ended, path_at-push, path_at-last, path_at-found}
 use Rattle.jvm_model.proofs.Events.Traces.{IsLive, AreLive, IsTrace, no_trace-is, trace_in-is, changed-keeps, current-below, ended_in, ended_at-found}
 use Rattle.context_tree.specs.Profiles.{parent_path}
@@ -241,12 +241,12 @@ end-follows acts marking k goes step t is suited = ends t.live refl is where
           → Follows acts step t after (record { kind = k; method = a.method; clock = step } ∷ [])
           → (gone_on a.method root path ≡ [] → path ≡ [] → Follows acts step t after [])
           → Follows acts step t after (end_events k step a.method mark)
-      by a root path mark after (in_full e) told none =
-          subst (λ m. Follows acts step t after (end_events k step a.method m)) (sym e) (subst (Follows acts step t after) (sym (exit-is k step a.method root)) told)
-      by a root path mark after (outside e gone empty) told none = subst (λ m. Follows acts step t after (end_events k step a.method m)) (sym e) (none gone empty)
+      by a root path mark after (in_full e) events_told none =
+          subst (λ m. Follows acts step t after (end_events k step a.method m)) (sym e) (subst (Follows acts step t after) (sym (exit-is k step a.method root)) events_told)
+      by a root path mark after (outside e gone empty) events_told none = subst (λ m. Follows acts step t after (end_events k step a.method m)) (sym e) (none gone empty)
 
 pub changed-follows : (acts : List Act) (marking : Marking) (step : ℕ) (t : Trace) (c : Change) → IsTrace t → AreSuited acts marking t.activations
-    → AreSuited acts marking (changed step t c).activations → Follows acts step t (changed step t c) (told marking step t c)
+    → AreSuited acts marking (changed step t c).activations → Follows acts step t (changed step t c) (events_told marking step t c)
 changed-follows acts marking step t (Loads classes) is suited then_suited = same-follows acts step t
 changed-follows acts marking step t (Began method) is suited then_suited =
     let a : Activation = record { method = method; parent = current t.live; begin = step; «end» = None } in
@@ -288,7 +288,7 @@ all_changed-follows : (acts : List Act) (marking : Marking) (step : ℕ) (t : Tr
 all_changed-follows acts marking step t [] is stay = same-follows acts step t
 all_changed-follows acts marking step t (c ∷ more) is stay =
     let next = changed step t c in
-    then-follows acts step t next (all_changed step next more) (told marking step t c) (all_told marking step next more)
+    then-follows acts step t next (all_changed step next more) (events_told marking step t c) (all_told marking step next more)
     (changed-follows acts marking step t c is stay.0 (first_suited acts marking step next more stay.1))
     (all_changed-follows acts marking step next more (changed-keeps step t c is) stay.1)
 

@@ -13,7 +13,7 @@ use Rattle.jvm_model.specs.declared.event.Mark.TheVariants.{Off, Plain, Root}
 use Rattle.jvm_model.specs.Profiling.Activations.{Activation, Trace, current, changed, all_changed, trace_before}
 use Rattle.jvm_model.specs.Running.Changes.{EndThenBegin, AreOrdered}
 use Rattle.jvm_model.specs.Basis.Data.{Change, Loads, Began, Left, Unwound, World}
-use Rattle.jvm_model.specs.Profiling.EventLists.{Marking, all_told, begin_events, end_events, end_of, step_events, told}
+use Rattle.jvm_model.specs.Profiling.EventLists.{Marking, all_told, begin_events, end_events, end_of, step_events, events_told}
 use Rattle.jvm_model.specs.Codes.Originals.{original}
 use Rattle.jvm_model.specs.Profiling.Paths.{is_inside}
 use Rattle.jvm_model.specs.Profiling.Projection.{is_selected}
@@ -111,11 +111,11 @@ module _ (acts : List Act) (marking : Marking) (step : ℕ) where
 
   pub change-matches : (seen : Seen) (s : Standing) (c : Change) → ((classes : List ℕ) → c ≡ Loads classes → ⊥) → IsTrace s.trace → AreSuited acts marking s.trace.activations
       → AreSuited acts marking (changed step s.trace c).activations → Matches acts seen s
-      → Matches acts (fold seen_event seen (told marking step s.trace c)) (after_change acts step s c)
+      → Matches acts (fold seen_event seen (events_told marking step s.trace c)) (after_change acts step s c)
   change-matches seen s (Loads classes) other is suited then_suited m = absurd (other classes refl)
   change-matches seen s (Began method) other is suited then_suited m =
       let a : Activation = record { method = method; parent = current s.trace.live; begin = step; «end» = None } in
-      let moves = events-move (told marking step s.trace (Began method)) seen in
+      let moves = events-move (events_told marking step s.trace (Began method)) seen in
       let last = path_at-last acts s.trace.activations a in
       let suits : Suits (is_selected acts step method) (gone_on method (is_selected acts step method) (open_of acts s.trace)) (marking step method) =
       subst (λ q. Suits (is_selected acts step method) q (marking step method)) last (then_suited (length s.trace.activations) a (slice_get_at s.trace.activations a [])) in
@@ -126,24 +126,24 @@ module _ (acts : List Act) (marking : Marking) (step : ℕ) where
             ∙ (ap (λ l. if is_inside (gone_on method (is_selected acts step method) (open_of acts s.trace)) then with_entered method l else l) m.entered
             ∙ ap (λ q. if is_inside q then with_entered method s.entered else s.entered) (sym last));
         loaded = moves.loaded ∙ m.loaded;
-        path = moves.path ∙ (ap (λ q. fold path_after q (told marking step s.trace (Began method))) m.path
+        path = moves.path ∙ (ap (λ q. fold path_after q (events_told marking step s.trace (Began method))) m.path
             ∙ (changed-follows acts marking step s.trace (Began method) is suited then_suited).path);
       }
   change-matches seen s Left other is suited then_suited m =
-      let moves = events-move (told marking step s.trace Left) seen in
+      let moves = events-move (events_told marking step s.trace Left) seen in
       record {
         selected = moves.selected ∙ m.selected;
         entered = end_of-enters marking kind.Leave (λ path. refl) step s.trace seen ∙ m.entered;
         loaded = moves.loaded ∙ m.loaded;
-        path = moves.path ∙ (ap (λ q. fold path_after q (told marking step s.trace Left)) m.path ∙ (changed-follows acts marking step s.trace Left is suited then_suited).path);
+        path = moves.path ∙ (ap (λ q. fold path_after q (events_told marking step s.trace Left)) m.path ∙ (changed-follows acts marking step s.trace Left is suited then_suited).path);
       }
   change-matches seen s Unwound other is suited then_suited m =
-      let moves = events-move (told marking step s.trace Unwound) seen in
+      let moves = events-move (events_told marking step s.trace Unwound) seen in
       record {
         selected = moves.selected ∙ m.selected;
         entered = end_of-enters marking kind.Unwind (λ path. refl) step s.trace seen ∙ m.entered;
         loaded = moves.loaded ∙ m.loaded;
-        path = moves.path ∙ (ap (λ q. fold path_after q (told marking step s.trace Unwound)) m.path ∙ (changed-follows acts marking step s.trace Unwound is suited then_suited).path);
+        path = moves.path ∙ (ap (λ q. fold path_after q (events_told marking step s.trace Unwound)) m.path ∙ (changed-follows acts marking step s.trace Unwound is suited then_suited).path);
       }
 
   pub first-suited : (t : Trace) (changes : List Change) → StaySuited acts marking step t changes → AreSuited acts marking t.activations
@@ -168,12 +168,12 @@ module _ (acts : List Act) (marking : Marking) (step : ℕ) where
   then-match seen s c more other is stay m rest =
       let next = after_change acts step s c in
       let same = change-trace s c in
-      let behind = rest (fold seen_event seen (told marking step s.trace c)) next (subst IsTrace (sym same) (changed-keeps step s.trace c is))
+      let behind = rest (fold seen_event seen (events_told marking step s.trace c)) next (subst IsTrace (sym same) (changed-keeps step s.trace c is))
       (subst (λ t. StaySuited acts marking step t more) (sym same) stay.1)
       (change-matches seen s c other is stay.0 (first-suited (changed step s.trace c) more stay.1) m) in
       subst (λ r. Matches acts r (after_changes acts step next more))
-      (sym (fold-append (told marking step s.trace c) (all_told marking step (changed step s.trace c) more) seen))
-      (subst (λ t. Matches acts (fold seen_event (fold seen_event seen (told marking step s.trace c)) (all_told marking step t more)) (after_changes acts step next more)) same behind)
+      (sym (fold-append (events_told marking step s.trace c) (all_told marking step (changed step s.trace c) more) seen))
+      (subst (λ t. Matches acts (fold seen_event (fold seen_event seen (events_told marking step s.trace c)) (all_told marking step t more)) (after_changes acts step next more)) same behind)
 
   ends-match : (changes : List Change) → EndThenBegin changes → (seen : Seen) (s : Standing) → IsTrace s.trace → StaySuited acts marking step s.trace changes → Matches acts seen s
       → Matches acts (fold seen_event seen (all_told marking step s.trace changes)) (after_changes acts step s changes)

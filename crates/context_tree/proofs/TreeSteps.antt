@@ -11,7 +11,7 @@ use Rattle.jvm_model.specs.declared.event.EventKind.TheVariants.{Root, Enter, Le
 use Rattle.jvm_model.specs.Profiling.Paths.{Context, same_path, is_outside}
 use Rattle.context_tree.specs.declared.node.Node.{Node}
 use Rattle.context_tree.specs.declared.table.NodeTable.{NodeTable}
-use Rattle.context_tree.specs.Profiles.{Profile, has_path, parent_path, with_call, opened, closed, told, taken}
+use Rattle.context_tree.specs.Profiles.{Profile, has_path, parent_path, with_call, opened, closed, event_told, taken}
 use Rattle.context_tree.specs.NodeTables.{child_by, changed_at, called, stepped, own_in, given, fresh, grown, entered_at, opened_in, opened_inside, parent_in, closed_in, told_in, taken_in}
 use Rattle.context_tree.specs.TreeViews.{path_at, paths_in, contexts_with, contexts_in, profile_in, AreBehind, AreApart, same_node, entries_below, IsTree}
 use Rattle.context_tree.proofs.SamePaths.{is_outside-push, parent_path-push}
@@ -204,7 +204,7 @@ follows_inside t tree method (Some i) e =
     ap (λ q. is_outside (path_at q (paths_in t.nodes))) e ∙ ap is_outside goes.0 ∙ is_outside-push (path_at n.parent (paths_in t.nodes)) n.method in
     subst (λ p. Follows t p (opened_in method t)) (sym (ap (λ b. if b then profile_in t else opened method (profile_in t)) inside)) (follows_opened t tree method)
 
-pub follows_told : (t : NodeTable) → IsTree t → (kind : EventKind) (method : ℕ) → Follows t (told kind method (profile_in t)) (told_in kind method t)
+pub follows_told : (t : NodeTable) → IsTree t → (kind : EventKind) (method : ℕ) → Follows t (event_told kind method (profile_in t)) (told_in kind method t)
 follows_told t tree Root method = follows_opened t tree method
 follows_told t tree Enter method = follows_inside t tree method t.open refl
 follows_told t tree Leave method = follows_closed t tree
@@ -219,7 +219,7 @@ pub record Taken (t : NodeTable) (e : Event) : Type 0 where
 pub taken_is : (t : NodeTable) → IsTree t → (e : Event) → t.clock ≤ e.clock → Taken t e
 taken_is t tree e le =
     let u : NodeTable = told_in e.kind e.method t in
-    let f : Follows t (told e.kind e.method (profile_in t)) u = follows_told t tree e.kind e.method in
+    let f : Follows t (event_told e.kind e.method (profile_in t)) u = follows_told t tree e.kind e.method in
     let later : u.clock ≤ e.clock = omega (arith, f.clock, le) in
     let open_path : path_at t.open (paths_in u.nodes) ≡ path_at t.open (paths_in t.nodes) =
     ap (path_at t.open) f.paths ∙ path_at-append t.open (paths_in t.nodes) f.more (valid_path t tree t.open tree.within) in

@@ -60,14 +60,14 @@ abbrev pub closed : Profile → Profile
 closed p = record p { «open» = parent_path p.open }
 
 -- A root opens an entry; another method's entry opens one where one is open; leaving and unwinding close the last open one.
-abbrev pub told : EventKind → ℕ → Profile → Profile
-told Root method p = opened method p
-told Enter method p = if is_outside p.open then p else opened method p
-told Leave method p = closed p
-told Unwind method p = closed p
+abbrev pub event_told : EventKind → ℕ → Profile → Profile
+event_told Root method p = opened method p
+event_told Enter method p = if is_outside p.open then p else opened method p
+event_told Leave method p = closed p
+event_told Unwind method p = closed p
 
 abbrev pub taken : Profile → Event → Profile
-taken p e = told e.kind e.method (credited e.clock p)
+taken p e = event_told e.kind e.method (credited e.clock p)
 
 -- after these events, one after another
 abbrev pub profile_of : List Event → Profile

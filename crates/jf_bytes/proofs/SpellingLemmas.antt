@@ -99,13 +99,13 @@ first_bad-one bytes a b bad bad' =
 pub spelling-more : (bytes xs : List ℕ) (unit at : ℕ) → IsSpelling (take at bytes) xs → BeginsWith (drop at bytes) unit
     → IsSpelling (take (at + length (unit_bytes unit)) bytes) (xs ++ unit ∷ [])
 spelling-more bytes xs unit at h begins =
-    let one : IsSpelling (take (length (unit_bytes unit)) (drop at bytes)) (unit ∷ []) = record { fit = (begins.fits, tt); spelled = append-nil (unit_bytes unit) ∙ sym begins.front } in
+    let one : IsSpelling (take (length (unit_bytes unit)) (drop at bytes)) (unit ∷ []) = record { fit = (begins.fits, tt); spelled = append-nil (unit_bytes unit) ∙ sym begins.prefix } in
     subst (λ t. IsSpelling t (xs ++ unit ∷ [])) (sym (take-add at (length (unit_bytes unit)) bytes)) (IsSpelling-append (take at bytes) _ xs (unit ∷ []) h one)
 
 -- the unit's bytes are there
 pub begins-within : (bytes : List ℕ) (unit at : ℕ) → BeginsWith (drop at bytes) unit → at ≤ length bytes → at + length (unit_bytes unit) ≤ length bytes
 begins-within bytes unit at begins within =
-    omega (arith, length-drop at bytes, length-take (length (unit_bytes unit)) (drop at bytes), ap length begins.front)
+    omega (arith, length-drop at bytes, length-take (length (unit_bytes unit)) (drop at bytes), ap length begins.prefix)
 
 -- where all bytes are read, the units so far are the only text
 pub spelling_all : (bytes xs ys : List ℕ) (at : ℕ) → length bytes ≤ at → IsSpelling (take at bytes) xs → IsSpelling bytes ys → xs ≡ ys

@@ -3,7 +3,7 @@ use Rattle.std.proofs.Common.{◌≡◌, ◌+◌, ℕ, List, ◌++◌, Option, N
 use Rattle.std.proofs.lemmas.List.{take-append-le}
 use Rattle.std.proofs.Math.Seq.{take-append-add, take-length}
 use Rattle.std.specs.Io.KnownBytes.{append_known}
-use Rattle.jf_bytes.specs.Streams.{PutsFront}
+use Rattle.jf_bytes.specs.Streams.{PutsPrefix}
 
 -- two parts, one after the other, are both together
 pub append_known-append : (old : Option (List ℕ)) (xs ys : List ℕ) → append_known (append_known old xs) ys ≡ append_known old (xs ++ ys)
@@ -11,22 +11,22 @@ append_known-append None xs ys = refl
 append_known-append (Some known) xs ys = ap Some (append_assoc known xs ys)
 
 -- nothing was put
-pub PutsFront-nothing : (old : Option (List ℕ)) (bytes : List ℕ) → PutsFront old old bytes
-PutsFront-nothing None bytes = (0, omega arith, refl)
-PutsFront-nothing (Some known) bytes = (0, omega arith, ap Some (sym (append-nil known)))
+pub PutsPrefix-nothing : (old : Option (List ℕ)) (bytes : List ℕ) → PutsPrefix old old bytes
+PutsPrefix-nothing None bytes = (0, omega arith, refl)
+PutsPrefix-nothing (Some known) bytes = (0, omega arith, ap Some (sym (append-nil known)))
 
 -- all bytes were put
-pub PutsFront-all : (old new : Option (List ℕ)) (bytes : List ℕ) → new ≡ append_known old bytes → PutsFront old new bytes
-PutsFront-all old new bytes all = (length bytes, omega arith, all ∙ ap (append_known old) (sym (take-length bytes)))
+pub PutsPrefix-all : (old new : Option (List ℕ)) (bytes : List ℕ) → new ≡ append_known old bytes → PutsPrefix old new bytes
+PutsPrefix-all old new bytes all = (length bytes, omega arith, all ∙ ap (append_known old) (sym (take-length bytes)))
 
 -- the first part was not put whole
-pub PutsFront-first : (old new : Option (List ℕ)) (xs ys : List ℕ) → PutsFront old new xs → PutsFront old new (xs ++ ys)
-PutsFront-first old new xs ys front =
+pub PutsPrefix-first : (old new : Option (List ℕ)) (xs ys : List ℕ) → PutsPrefix old new xs → PutsPrefix old new (xs ++ ys)
+PutsPrefix-first old new xs ys front =
     (front.0, omega (arith, front.1, length-append xs ys), front.2 ∙ ap (append_known old) (sym (take-append-le front.0 xs ys front.1)))
 
 -- the first part was put whole, and the second in part
-pub PutsFront-second : (old mid new : Option (List ℕ)) (xs ys : List ℕ) → mid ≡ append_known old xs → PutsFront mid new ys → PutsFront old new (xs ++ ys)
-PutsFront-second old mid new xs ys first front = (
+pub PutsPrefix-second : (old mid new : Option (List ℕ)) (xs ys : List ℕ) → mid ≡ append_known old xs → PutsPrefix mid new ys → PutsPrefix old new (xs ++ ys)
+PutsPrefix-second old mid new xs ys first front = (
   length xs + front.0,
   omega (arith, front.1, length-append xs ys),
   front.2 ∙ ap (λ known. append_known known (take front.0 ys)) first ∙ append_known-append old xs (take front.0 ys)

@@ -20,8 +20,8 @@ abbrev pub WritesFirst : Option (List ℕ) → Option (List ℕ) → List ℕ �
 WritesFirst old new bytes n = Appends old new (take n bytes)
 
 -- the writer got some of the bytes, from the first on
-abbrev pub WritesFront : Option (List ℕ) → Option (List ℕ) → List ℕ → Type 0
-WritesFront old new bytes = (n : ℕ) × (n ≤ length bytes) × WritesFirst old new bytes n
+abbrev pub WritesPrefix : Option (List ℕ) → Option (List ℕ) → List ℕ → Type 0
+WritesPrefix old new bytes = (n : ℕ) × (n ≤ length bytes) × WritesFirst old new bytes n
 
 -- the faults so far, and the name of the last fetch that failed
 pub record DiskView : Type 0 where

@@ -29,7 +29,7 @@ pub record IsFirstBad (bytes : List ℕ) (at : ℕ) : Type 0 where
 -- the bytes begin with those of the unit
 pub record BeginsWith (bytes : List ℕ) (unit : ℕ) : Type 0 where
   pub fits : unit < 2 ^ 16
-  pub front : take (length (unit_bytes unit)) bytes ≡ unit_bytes unit
+  pub prefix : take (length (unit_bytes unit)) bytes ≡ unit_bytes unit
 
 -- a first byte of two, and the greatest second: after 192 the one byte of U+0000, after the others any six bits
 abbrev pub IsDoubleLead : ℕ → ℕ → Type 0

@@ -19,16 +19,16 @@ pub record HasCause {A E : Type 0} (old new : ℕ) (result : Result A E) : Type 
   pub failed : OnErr result (Rose old new)
 
 -- the first n of the bytes were the first that the source had left
-abbrev pub TakesFront : Option (List ℕ) → Option (List ℕ) → List ℕ → ℕ → Type 0
-TakesFront old new bytes n = old ≡ prepend_known (take n bytes) new
+abbrev pub TakesPrefix : Option (List ℕ) → Option (List ℕ) → List ℕ → ℕ → Type 0
+TakesPrefix old new bytes n = old ≡ prepend_known (take n bytes) new
 
 -- the sink took all of the bytes
 abbrev pub PutsAll : Option (List ℕ) → Option (List ℕ) → List ℕ → Type 0
 PutsAll old new bytes = new ≡ append_known old bytes
 
 -- the sink took the first n of the bytes
-abbrev pub PutsFront : Option (List ℕ) → Option (List ℕ) → List ℕ → Type 0
-PutsFront old new bytes = (n : ℕ) × (n ≤ length bytes) × (new ≡ append_known old (take n bytes))
+abbrev pub PutsPrefix : Option (List ℕ) → Option (List ℕ) → List ℕ → Type 0
+PutsPrefix old new bytes = (n : ℕ) × (n ≤ length bytes) × (new ≡ append_known old (take n bytes))
 
 -- the names of files with their contents
 abbrev pub Told : Type 0

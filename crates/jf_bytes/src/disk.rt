@@ -19,7 +19,7 @@ const CHUNK: usize = 4096;
 /// What a reader gives, or its first `most` + 1 bytes where it gives more.
 fn read_up_to<S: Read>(alloc: Global, reader: &mut S, most: usize) -> Result<Vec<u8>, FetchError>
     ensures within { IfOk result (λ bytes. vec_len bytes ≤ most + 1) }
-    ensures front { IfOk result (λ bytes. ReadsUpTo (S.remaining reader.old) most bytes.items) }
+    ensures prefix { IfOk result (λ bytes. ReadsUpTo (S.remaining reader.old) most bytes.items) }
 {
     let mut bytes = Vec::new(alloc);
     let mut chunk = [0u8; CHUNK];

@@ -3,7 +3,7 @@
 ghost use Rattle.std.specs.Prelude.{◌≡◌, ◌+◌, ◌≤◌, ◌<◌, ◌↔◌, [], Some, None, ◌++◌, length, take, drop, map, min, vec_items, vec_len, string_bytes, is_err, IfOk, IsErr, OnOk, OnErr, IsErrOf, IsTrue, IsFalse};
 ghost use Rattle.std.specs.List.{zip};
 ghost use Rattle.std.specs.Option.{option_copied};
-ghost use Rattle.jf_bytes.specs.Streams.{HasCause, TakesFront, PutsAll, PutsFront, FetchCause, contents_at, IsFetched, IsAbsent, NamesLast};
+ghost use Rattle.jf_bytes.specs.Streams.{HasCause, TakesPrefix, PutsAll, PutsPrefix, FetchCause, contents_at, IsFetched, IsAbsent, NamesLast};
 ghost use Rattle.jf_bytes.specs.Calls.{first_calls, is_failing, after_call};
 ghost use Rattle.jf_bytes.specs.Memory.{empty_sink, take_count, after_take, put_fails, after_put, fetch_fails, is_fault, after_fetch};
 
@@ -62,7 +62,7 @@ impl Calls {
 /// Copies as many bytes as fit to the front of a buffer, and answers how many.
 fn fill(bytes: &[u8], buf: &mut [u8]) -> usize
     ensures count { result ≡ min (length buf.old) (length bytes.now) }
-    ensures front { bytes.now ≡ take result buf.new ++ drop result bytes.now }
+    ensures prefix { bytes.now ≡ take result buf.new ++ drop result bytes.now }
 {
     let count = buf.len().min(bytes.len());
     buf[..count].copy_from_slice(&bytes[..count]);
@@ -110,7 +110,8 @@ impl Source for MemSource {
     fn take(&mut self, buf: &mut [u8]) -> Result<usize, Failed>
         requires { 0 < length buf.old }
         ensures within { IfOk result (λ n. n ≤ length buf.new) }
-        ensures front { IfOk result (TakesFront (Some self.old.left) (Some self.new.left) buf.new) }
+        ensures prefix { IfOk result
+            (TakesPrefix (Some self.old.left) (Some self.new.left) buf.new) }
         ensures end { IfOk result (λ n. (n ≡ 0) ↔ (self.old.left ≡ [])) }
         ensures stays { OnErr result (Some self.new.left ≡ Some self.old.left) }
         ensures cause { HasCause self.old.calls.faults self.new.calls.faults result }
@@ -175,7 +176,7 @@ impl Sink for MemSink {
 
     fn put(&mut self, bytes: &[u8]) -> Result<(), Failed>
         ensures all { OnOk result (PutsAll (Some self.old.bytes) (Some self.new.bytes) bytes.now) }
-        ensures front { PutsFront (Some self.old.bytes) (Some self.new.bytes) bytes.now }
+        ensures prefix { PutsPrefix (Some self.old.bytes) (Some self.new.bytes) bytes.now }
         ensures cause { HasCause self.old.calls.faults self.new.calls.faults result }
         ensures fails { is_err result ≡ put_fails self.old bytes.now }
         ensures after { self.new ≡ after_put self.old bytes.now }

@@ -3,7 +3,7 @@
 ghost use Rattle.std.specs.Prelude.{◌≡◌, ◌≤◌, ◌<◌, [], None, length, take, IfOk, OnOk, OnErr, IsOk};
 ghost use Rattle.std.specs.Io.KnownBytes.{Appends, IsAtEnd, Keeps};
 ghost use Rattle.jf_bytes.specs.Streams.{HasCause};
-ghost use Rattle.jf_bytes.specs.Adapters.{ReadsFirst, WritesFirst, WritesFront};
+ghost use Rattle.jf_bytes.specs.Adapters.{ReadsFirst, WritesFirst, WritesPrefix};
 
 use crate::error::Failed;
 use crate::streams::{Sink, Source};
@@ -13,7 +13,7 @@ use std::marker::Model;
 /// One read, again where a signal cuts it short.
 pub(crate) fn read_some<R: Read>(reader: &mut R, buf: &mut [u8]) -> Result<usize, Failed>
     ensures within { IfOk result (λ n. n ≤ length buf.new) }
-    ensures front { IfOk result
+    ensures prefix { IfOk result
         (ReadsFirst (R.remaining reader.old) (R.remaining reader.new) buf.new) }
     ensures end { IfOk result (λ n. n ≡ 0 → 0 < length buf.old → IsAtEnd (R.remaining reader.new)) }
     ensures err { OnErr result (Keeps (R.remaining reader.old) (R.remaining reader.new)) }
@@ -34,7 +34,7 @@ pub(crate) fn read_some<R: Read>(reader: &mut R, buf: &mut [u8]) -> Result<usize
 /// One write, again where a signal cuts it short.
 fn write_some<W: Write>(writer: &mut W, bytes: &[u8]) -> Result<usize, Failed>
     ensures within { IfOk result (λ n. n ≤ length bytes.now) }
-    ensures front { IfOk result
+    ensures prefix { IfOk result
         (WritesFirst (W.contents writer.old) (W.contents writer.new) bytes.now) }
     ensures err { OnErr result (Keeps (W.contents writer.old) (W.contents writer.new)) }
 {
@@ -54,7 +54,7 @@ fn write_some<W: Write>(writer: &mut W, bytes: &[u8]) -> Result<usize, Failed>
 /// Writes all bytes. A write that takes nothing of what is left ends it, as an error does.
 pub(crate) fn write_whole<W: Write>(writer: &mut W, bytes: &[u8]) -> Result<(), Failed>
     ensures all { OnOk result (Appends (W.contents writer.old) (W.contents writer.new) bytes.now) }
-    ensures front { WritesFront (W.contents writer.old) (W.contents writer.new) bytes.now }
+    ensures prefix { WritesPrefix (W.contents writer.old) (W.contents writer.new) bytes.now }
     ensures nothing { bytes.now ≡ [] → IsOk result }
 {
     let mut written = 0;
@@ -156,7 +156,7 @@ impl<W: Write> Sink for StdSink<W> {
         // What the writer got, where it knows its bytes.
         ensures written { OnOk result
             (Appends (W.contents self.old.inner) (W.contents self.new.inner) bytes.now) }
-        ensures written_front { WritesFront (W.contents self.old.inner)
+        ensures written_front { WritesPrefix (W.contents self.old.inner)
             (W.contents self.new.inner) bytes.now }
     {
         let answer = write_whole(&mut self.writer, bytes);

@@ -7,7 +7,7 @@
 
 ghost use Rattle.std.specs.Prelude.{◌≡◌, ◌<◌, ◌≤◌, ◌↔◌, ℕ, List, [], length, IfOk, IfSome, OnOk, OnErr, IsErr};
 ghost use Rattle.std.specs.declared.option.Option.{Option};
-ghost use Rattle.jf_bytes.specs.Streams.{HasCause, TakesFront, PutsAll, PutsFront, FetchCause, Told, IsFetched, IsAbsent, NamesLast};
+ghost use Rattle.jf_bytes.specs.Streams.{HasCause, TakesPrefix, PutsAll, PutsPrefix, FetchCause, Told, IsFetched, IsAbsent, NamesLast};
 
 use crate::error::{Failed, FetchError};
 use std::alloc::Global;
@@ -25,7 +25,7 @@ pub trait Source {
     fn take(&mut self, buf: &mut [u8]) -> Result<usize, Failed>
         requires { 0 < length buf.old }
         ensures within { IfOk result (λ n. n ≤ length buf.new) }
-        ensures front { IfOk result (TakesFront (left self.old) (left self.new) buf.new) }
+        ensures prefix { IfOk result (TakesPrefix (left self.old) (left self.new) buf.new) }
         ensures end { IfOk result (λ n. IfSome (left self.old) (λ old. (n ≡ 0) ↔ (old ≡ []))) }
         ensures stays { OnErr result (left self.new ≡ left self.old) }
         ensures cause { HasCause (faults self.old) (faults self.new) result };
@@ -42,7 +42,7 @@ pub trait Sink {
     /// Appends all bytes. A put that fails may have appended a prefix of them.
     fn put(&mut self, bytes: &[u8]) -> Result<(), Failed>
         ensures all { OnOk result (PutsAll (taken self.old) (taken self.new) bytes.now) }
-        ensures front { PutsFront (taken self.old) (taken self.new) bytes.now }
+        ensures prefix { PutsPrefix (taken self.old) (taken self.new) bytes.now }
         ensures cause { HasCause (faults self.old) (faults self.new) result };
 }
 

@@ -44,7 +44,7 @@ fn front_char(units: &[u16]) -> (Option<char>, usize)
     ensures one { 0 < result.1 }
     ensures two { result.1 ≤ 2 }
     ensures within { result.1 ≤ length units.now }
-    ensures front { utf16_chars units.now ≡ result.0 ∷ utf16_chars (drop result.1 units.now) }
+    ensures prefix { utf16_chars units.now ≡ result.0 ∷ utf16_chars (drop result.1 units.now) }
 {
     let (first, second) = (unit_at(units, 0), unit_at(units, 1));
     if is_pair(first, second) {

@@ -110,7 +110,7 @@ fresh-along s fresh = record {
   taken = tt;
   to_come = all-of (IsToCome s) s.program.acts (λ a. record {
     later = subst (λ n. n ≤ a.moment) (sym fresh.clock) (omega arith);
-    behind = λ started. absurd (let e : false ≡ true = sym fresh.early ∙ started in cc);
+    behind = λ started. absurd (let e : false ≡ true = sym fresh.before_the_run ∙ started in cc);
   });
 }
 

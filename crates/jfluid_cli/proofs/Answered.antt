@@ -46,7 +46,7 @@ pub run-answer : {A : Type 0} (r : Result ℕ Refusal) (outcome : Result A Stop)
     → MatchResult r (λ status. IsRun summary asked budget s status k) (IsStopped s)
 run-answer (Ok status) (Ok x) s summary asked budget ran k ok gathers shown why unshown carried calm = record {
   output = gathered-out ran k.session.value budget s.out.taken s.out_after.taken gathers carried;
-  calm = calm;
+  without_fault = calm;
   shown = shown;
 }
 run-answer (Ok status) (Err e) s summary asked budget ran k ok gathers shown why unshown carried calm = absurd (not_ok ok)

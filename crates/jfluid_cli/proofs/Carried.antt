@@ -3,7 +3,7 @@ use Rattle.std.proofs.Common.{◌≡◌, ℕ, ◌≤◌, Bool, true, false, List
 use Rattle.std.specs.Prelude.{Result, Ok, Err, is_some, IfSome, IsSome, IsSomeAnd, MatchResult}
 use Rattle.std.specs.Io.KnownBytes.{Consumes, IsAtEnd}
 use Rattle.std.specs.Option.{option_map_or, option_and_then}
-use Rattle.jf_bytes.specs.Streams.{PutsFront}
+use Rattle.jf_bytes.specs.Streams.{PutsPrefix}
 use Rattle.plan_text.specs.declared.plan.Plan.{Plan}
 use Rattle.jvm_model.specs.declared.program.Program.{Program}
 use Rattle.jvm_model.specs.Running.Run.{output_of}
@@ -18,7 +18,7 @@ use Rattle.jfluid_cli.specs.Asking.{asked_by}
 use Rattle.jfluid_cli.specs.Causes.{Given, AreContentsOf, OfProgram}
 use Rattle.jfluid_cli.specs.Sinks.{FilesView, SourceView, Streams, FailsOnce, IsUntold}
 use Rattle.jfluid_cli.specs.Contents.{SpellAlone, classes_for}
-use Rattle.jfluid_cli.specs.Stages.{IsEarly, IsInputRefusal, IsPrepared, HasFetchCause, is_early, IsStopped, IsSameRun, IsCarried}
+use Rattle.jfluid_cli.specs.Stages.{IsBeforeTheRun, IsInputRefusal, IsPrepared, HasFetchCause, is_before_the_run, IsStopped, IsSameRun, IsCarried}
 use Rattle.jfluid_cli.specs.Origins.{HasOrigin, IsOnlyProgram}
 use Rattle.jfluid_cli.specs.Refusals.{status_of}
 use Rattle.jfluid_cli.specs.Runs.{PutsAtMost, RunsProgram, SameProgram, IsCarriedOut, output_at, world_on}
@@ -39,7 +39,7 @@ pub nothing-made : (c : Call) → c.kept ≡ None → IsUntold c.streams.out c.s
 nothing-made c none out images rest = record {
   origin = subst (λ (o : Option Kept). IfSome o (HasOrigin (given_of c))) (sym none) tt;
   only = subst (λ (o : Option Kept). IfSome o IsOnlyProgram) (sym none) tt;
-  front = subst (λ (o : Option Kept). IfSome o
+  prefix = subst (λ (o : Option Kept). IfSome o
       (λ k. PutsAtMost k.session.value (budget_of (words_of c) k.plan) c.streams.out.taken c.streams.out_after.taken))
       (sym none) tt;
   rest = rest;
@@ -52,8 +52,8 @@ nothing-made c none out images rest = record {
   held = subst (λ (o : Option Kept). IfSome o (λ k. k.session.value.stale ≡ false)) (sym none) tt;
 }
 
-other-early : (s n : ℕ) → is_early n ≡ false → is_early s ≡ true → s ≡ n → ⊥
-other-early s n late early same = not_both (sym late ∙ (ap is_early (sym same) ∙ early))
+other-early : (s n : ℕ) → is_before_the_run n ≡ false → is_before_the_run s ≡ true → s ≡ n → ⊥
+other-early s n late early same = not_both (sym late ∙ (ap is_before_the_run (sym same) ∙ early))
 
 -- ---- before the input is taken
 
@@ -64,40 +64,40 @@ fetches-of named files old new PlanNotFetched cause =
     inr (record { rose = cause.failed refl; name = inl (cause.plan_is refl) })
 fetches-of named files old new (NotFetched at) cause =
     inr (record { rose = cause.failed refl; name = inr (at, cause.name_is at refl) })
-fetches-of named files old new (Clap text) cause = inl (cause.calm (λ seven. absurd cc))
-fetches-of named files old new Words cause = inl (cause.calm (λ seven. absurd cc))
-fetches-of named files old new (BadPlan fault) cause = inl (cause.calm (λ seven. absurd cc))
-fetches-of named files old new (NotRead at fault) cause = inl (cause.calm (λ seven. absurd cc))
-fetches-of named files old new (NotAdmitted fault) cause = inl (cause.calm (λ seven. absurd cc))
-fetches-of named files old new InputFailed cause = inl (cause.calm (λ seven. absurd cc))
-fetches-of named files old new OutFailed cause = inl (cause.calm (λ seven. absurd cc))
-fetches-of named files old new NoMemory cause = inl (cause.calm (λ seven. absurd cc))
-fetches-of named files old new InputTooLong cause = inl (cause.calm (λ seven. absurd cc))
+fetches-of named files old new (Clap text) cause = inl (cause.without_fault (λ seven. absurd cc))
+fetches-of named files old new Words cause = inl (cause.without_fault (λ seven. absurd cc))
+fetches-of named files old new (BadPlan fault) cause = inl (cause.without_fault (λ seven. absurd cc))
+fetches-of named files old new (NotRead at fault) cause = inl (cause.without_fault (λ seven. absurd cc))
+fetches-of named files old new (NotAdmitted fault) cause = inl (cause.without_fault (λ seven. absurd cc))
+fetches-of named files old new InputFailed cause = inl (cause.without_fault (λ seven. absurd cc))
+fetches-of named files old new OutFailed cause = inl (cause.without_fault (λ seven. absurd cc))
+fetches-of named files old new NoMemory cause = inl (cause.without_fault (λ seven. absurd cc))
+fetches-of named files old new InputTooLong cause = inl (cause.without_fault (λ seven. absurd cc))
 
-pub refused-early : (c : Call) (r : Refusal) → c.kept ≡ None → c.input_after ≡ c.input → IsEarly (given_of c) r
+pub refused-early : (c : Call) (r : Refusal) → c.kept ≡ None → c.input_after ≡ c.input → IsBeforeTheRun (given_of c) r
     → HasFetchCause (plan_word (words_of c)) (file_words (words_of c)) c.files c.files_after r
     → IsRefused c r
 refused-early c r none input early fetch = record {
   cause = early.cause;
   refused = λ _. none;
-  made = λ six. absurd (other-early (status_of r) 6 refl early.early six);
+  made = λ six. absurd (other-early (status_of r) 6 refl early.before_the_run six);
   untaken = λ _. input;
-  one_more = λ eleven. absurd (other-early (status_of r) 11 refl early.early eleven);
-  taken = λ five. absurd (other-early (status_of r) 5 refl early.early five);
+  one_more = λ eleven. absurd (other-early (status_of r) 11 refl early.before_the_run eleven);
+  taken = λ five. absurd (other-early (status_of r) 5 refl early.before_the_run five);
   fetches = fetches-of (plan_word (words_of c)) (file_words (words_of c)) c.files c.files_after r fetch;
-  not_taken = λ five. absurd (other-early (status_of r) 5 refl early.early five);
-  stopped = λ six. absurd (other-early (status_of r) 6 refl early.early six);
-  unshown = λ six. absurd (other-early (status_of r) 6 refl early.early six);
+  not_taken = λ five. absurd (other-early (status_of r) 5 refl early.before_the_run five);
+  stopped = λ six. absurd (other-early (status_of r) 6 refl early.before_the_run six);
+  unshown = λ six. absurd (other-early (status_of r) 6 refl early.before_the_run six);
   not_fetched = fetch.failed;
   plan_name = fetch.plan_is;
   name = fetch.name_is;
-  calm = λ other nine. fetch.calm other;
-  calm_input = λ other nine. ap (λ (s : SourceView). s.faults) input;
+  without_fault = λ other nine. fetch.without_fault other;
+  input_without_fault = λ other nine. ap (λ (s : SourceView). s.faults) input;
 }
 
 pub carried-early : (c : Call) (r : Refusal) → c.kept ≡ None
     → IsUntold c.streams.out c.streams.out_after → IsUntold c.streams.report c.streams.report_after
-    → IsUntold c.streams.images c.streams.images_after → c.input_after ≡ c.input → IsEarly (given_of c) r
+    → IsUntold c.streams.images c.streams.images_after → c.input_after ≡ c.input → IsBeforeTheRun (given_of c) r
     → HasFetchCause (plan_word (words_of c)) (file_words (words_of c)) c.files c.files_after r
     → IsCarried c (Err r)
 carried-early c r none out report images input early fetch = record {
@@ -119,7 +119,7 @@ plan-said words r e = sym (ap (option_and_then (λ (x : Read). x.plan)) e)
 pub carried-refused : (c : Call) (words : Read) (r : Refusal) → accepted (words_of c) ≡ Some words
     → c.kept ≡ None → IsUntold c.streams.out c.streams.out_after
     → IsUntold c.streams.report c.streams.report_after → IsUntold c.streams.images c.streams.images_after
-    → c.input_after ≡ c.input → IsEarly (given_of c) r → HasFetchCause words.plan words.files c.files c.files_after r
+    → c.input_after ≡ c.input → IsBeforeTheRun (given_of c) r → HasFetchCause words.plan words.files c.files c.files_after r
     → IsCarried c (Err r)
 carried-refused c words r read none out report images input early fetch =
     carried-early c r none out report images input early
@@ -146,8 +146,8 @@ memory-refused c fetches = record {
   not_fetched = λ seven. absurd cc;
   plan_name = λ is. absurd (let e : ◌≡◌ {A = ℕ} 9 7 = ap status_of is in cc);
   name = λ at is. absurd (let e : ◌≡◌ {A = ℕ} 9 7 = ap status_of is in cc);
-  calm = λ seven other. absurd (other refl);
-  calm_input = λ five other. absurd (other refl);
+  without_fault = λ seven other. absurd (other refl);
+  input_without_fault = λ five other. absurd (other refl);
 }
 
 pub carried-memory : (c : Call) → c.kept ≡ None → IsUntold c.streams.out c.streams.out_after
@@ -202,8 +202,8 @@ refused-input c r none calm of (inl (failed, rose, takes)) = subst (IsRefused c)
   not_fetched = λ seven. absurd cc;
   plan_name = λ is. absurd (let e : ◌≡◌ {A = ℕ} 5 7 = ap status_of is in cc);
   name = λ at is. absurd (let e : ◌≡◌ {A = ℕ} 5 7 = ap status_of is in cc);
-  calm = λ seven nine. calm;
-  calm_input = λ five nine. absurd (five refl);
+  without_fault = λ seven nine. calm;
+  input_without_fault = λ five nine. absurd (five refl);
 })
 refused-input c r none calm of (inr (inl (failed, long, more, same))) = subst (IsRefused c) (sym failed) (record {
   cause = (of, long);
@@ -219,8 +219,8 @@ refused-input c r none calm of (inr (inl (failed, long, more, same))) = subst (I
   not_fetched = λ seven. absurd cc;
   plan_name = λ is. absurd (let e : ◌≡◌ {A = ℕ} 11 7 = ap status_of is in cc);
   name = λ at is. absurd (let e : ◌≡◌ {A = ℕ} 11 7 = ap status_of is in cc);
-  calm = λ seven nine. calm;
-  calm_input = λ five nine. same;
+  without_fault = λ seven nine. calm;
+  input_without_fault = λ five nine. same;
 })
 refused-input c r none calm of (inr (inr (memory, same, takes))) =
     subst (IsRefused c) (sym memory) (memory-refused c (inl calm))
@@ -316,10 +316,10 @@ made-true c budget made k is kept same front images unasked = record {
       (made-origin c budget made k is same);
   only = subst (λ (o : Option Kept). IfSome o IsOnlyProgram) (sym kept)
       (made-only c budget made k is same);
-  front = subst (λ (o : Option Kept). IfSome o
+  prefix = subst (λ (o : Option Kept). IfSome o
       (λ x. PutsAtMost x.session.value (budget_of (words_of c) x.plan) c.streams.out.taken c.streams.out_after.taken))
       (sym kept)
-      (subst (PutsFront c.streams.out.taken c.streams.out_after.taken)
+      (subst (PutsPrefix c.streams.out.taken c.streams.out_after.taken)
       (outputs-same made.session.value k.session.value budget (budget_of (words_of c) k.plan) same.program
       (budget-is c budget made k is same)) front);
   rest = is.rest;
@@ -343,7 +343,7 @@ made-run c budget made k status is same ran =
     record {
       output = subst (λ (n : ℕ). IsCarriedOut k.session.value n c.streams.out.taken c.streams.out_after.taken)
           (budget-is c budget made k is same) ran.output;
-      calm = ran.calm;
+      without_fault = ran.without_fault;
       shown = ran.shown;
     }
 
@@ -351,7 +351,7 @@ made-run c budget made k status is same ran =
 stopped-refused : (c : Call) (k : Kept) (r : Refusal) → OfProgram (given_of c) → c.kept ≡ Some k
     → c.files_after ≡ c.files → c.input_after.faults ≡ c.input.faults
     → IsStopped c.streams r → IsRefused c r
-stopped-refused c k r of kept calm calm_input stopped = elim stopped.why [
+stopped-refused c k r of kept calm input_without_fault stopped = elim stopped.why [
   | inl (failed, rose) ↦ subst (IsRefused c) (sym failed) (record {
     cause = of;
     refused = λ early. absurd (not_both early);
@@ -366,8 +366,8 @@ stopped-refused c k r of kept calm calm_input stopped = elim stopped.why [
     not_fetched = λ seven. absurd cc;
     plan_name = λ is. absurd (let e : ◌≡◌ {A = ℕ} 6 7 = ap status_of is in cc);
     name = λ at is. absurd (let e : ◌≡◌ {A = ℕ} 6 7 = ap status_of is in cc);
-    calm = λ seven nine. calm;
-    calm_input = λ five nine. calm_input;
+    without_fault = λ seven nine. calm;
+    input_without_fault = λ five nine. input_without_fault;
   })
   | inr memory ↦ subst (IsRefused c) (sym memory) (memory-refused c (inl calm))
 ]
@@ -386,7 +386,7 @@ run-asked : (c : Call) (budget : ℕ) (made : Kept)
     → IsSomeAnd c.kept (λ x. PutsImages (asks_images (words_of c)) x.session.value c.streams)
     → (asks_images (words_of c) ≡ false → IsUntold c.streams.images c.streams.images_after)
     → c.files_after ≡ c.files → c.input_after.faults ≡ c.input.faults → IsCarried c r
-run-asked c budget made (Ok status) is same ran front images unasked calm calm_input =
+run-asked c budget made (Ok status) is same ran front images unasked calm input_without_fault =
     let k = some-kept c.kept (IsSameRun made) same in
     let asked = asks_images (words_of c) in
     let summary = is_generated (words_of c) in
@@ -398,20 +398,20 @@ run-asked c budget made (Ok status) is same ran front images unasked calm calm_i
         made =
             subst (λ (o : Option Kept). IsSomeAnd o (IsRunAsked (words_of c) c.streams status)) (sym k.1)
             (made-run c budget made k.0 status is k.2 here);
-        calm = calm;
-        calm_input = calm_input;
+        without_fault = calm;
+        input_without_fault = input_without_fault;
       };
       refused = tt;
       untold = tt;
     }
-run-asked c budget made (Err r) is same stopped front images unasked calm calm_input =
+run-asked c budget made (Err r) is same stopped front images unasked calm input_without_fault =
     let k = some-kept c.kept (IsSameRun made) same in
     let asked = asks_images (words_of c) in
     record {
       always = made-true c budget made k.0 is k.1 k.2 front (kept-images c.kept k.0 asked c.streams k.1 images) unasked;
       ran = tt;
       refused = stopped-refused c k.0 r
-          (of-program (given_of c) made.plan budget made.classes is.program is.prepared) k.1 calm calm_input
+          (of-program (given_of c) made.plan budget made.classes is.program is.prepared) k.1 calm input_without_fault
           stopped;
       untold = stopped.untold;
     }

@@ -10,10 +10,10 @@ use Rattle.jvm_model.specs.Running.Run.{ending_of}
 use Rattle.jvm_model.proofs.Running.Growth.{run-stays}
 use Rattle.profile_session.specs.Sessions.{Profiling, world_of}
 use Rattle.jfluid_cli.specs.Runs.{ending_at, IsCarriedOut, world_on}
-use Rattle.jfluid_cli.specs.Top.{IsCalm}
+use Rattle.jfluid_cli.specs.Top.{IsWithoutFault}
 
 -- a calm count did not rise
-pub calm_not_rose : (old new : ℕ) → IsCalm old new → Rose old new → ⊥
+pub calm_not_rose : (old new : ℕ) → IsWithoutFault old new → Rose old new → ⊥
 calm_not_rose old new calm rose =
     let same : new ≡ old = calm.same in
     let low : new < greatest = calm.low in

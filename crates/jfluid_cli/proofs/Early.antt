@@ -20,7 +20,7 @@ use Rattle.jfluid_cli.specs.Asking.{Asked, asked_by, IsPlanFor}
 use Rattle.jfluid_cli.specs.Causes.{Given, Accepts, AreContentsOf, Because, OfClasses}
 use Rattle.jfluid_cli.specs.Contents.{AreContentsBy, AreFetched, AreToldAs, SpellAlone, classes_for}
 use Rattle.jfluid_cli.specs.Sinks.{FilesView}
-use Rattle.jfluid_cli.specs.Stages.{AreReadWith, HasFetchCause, IsFetchedFor, IsFetchFault, IsFetchRefusal, IsPlanRefusal, IsReadRefusal, IsWordsRefusal, IsEarly, IsLoaded, is_early}
+use Rattle.jfluid_cli.specs.Stages.{AreReadWith, HasFetchCause, IsFetchedFor, IsFetchFault, IsFetchRefusal, IsPlanRefusal, IsReadRefusal, IsWordsRefusal, IsBeforeTheRun, IsLoaded, is_before_the_run}
 use Rattle.jfluid_cli.specs.Top.{IsProgram, HasRefused, answer_for}
 use Rattle.jfluid_cli.specs.Words.{Command, accepted, command_with}
 use Rattle.jfluid_cli.proofs.Spelled.{files-alone}
@@ -29,10 +29,10 @@ use Rattle.jfluid_cli.proofs.ToldFiles.{told-contents, fronts-files, fronts-faul
 -- ---- the words and their plan
 
 -- words that are refused
-pub due-words : (g : Given) (r : Refusal) → IsWordsRefusal g.words r → IsEarly g r
-due-words g (refusal.Clap text) is = record { cause = is; early = refl }
-due-words g refusal.Words is = record { cause = inl is; early = refl }
-due-words g refusal.NoMemory is = record { cause = tt; early = refl }
+pub due-words : (g : Given) (r : Refusal) → IsWordsRefusal g.words r → IsBeforeTheRun g r
+due-words g (refusal.Clap text) is = record { cause = is; before_the_run = refl }
+due-words g refusal.Words is = record { cause = inl is; before_the_run = refl }
+due-words g refusal.NoMemory is = record { cause = tt; before_the_run = refl }
 due-words g (refusal.Plan fault) is = absurd is
 due-words g (NotRead at fault) is = absurd is
 due-words g (NotAdmitted fault) is = absurd is
@@ -43,37 +43,37 @@ due-words g (NotFetched at) is = absurd is
 due-words g refusal.InputTooLong is = absurd is
 
 -- want of memory always is due
-pub due-memory : (g : Given) → IsEarly g NoMemory
-due-memory g = record { cause = tt; early = refl }
+pub due-memory : (g : Given) → IsBeforeTheRun g NoMemory
+due-memory g = record { cause = tt; before_the_run = refl }
 
 -- a plan that has a fault
 due-fault-of : (g : Given) (words : Read) (fault : PlanError) → accepted g.words ≡ Some words
-    → ((fault ≡ plan.NoMemory → ⊥) → IsPlanFor g.told words (Err fault)) → IsEarly g (refusal_of fault)
+    → ((fault ≡ plan.NoMemory → ⊥) → IsPlanFor g.told words (Err fault)) → IsBeforeTheRun g (refusal_of fault)
 due-fault-of g words plan.TooLong read is =
-    record { cause = (words, read, record { fault_is = is (λ e. cc e); other = λ e. cc e }); early = refl }
+    record { cause = (words, read, record { fault_is = is (λ e. cc e); other = λ e. cc e }); before_the_run = refl }
 due-fault-of g words (plan.BadLine number cause) read is =
-    record { cause = (words, read, record { fault_is = is (λ e. cc e); other = λ e. cc e }); early = refl }
+    record { cause = (words, read, record { fault_is = is (λ e. cc e); other = λ e. cc e }); before_the_run = refl }
 due-fault-of g words (plan.Backwards number) read is =
-    record { cause = (words, read, record { fault_is = is (λ e. cc e); other = λ e. cc e }); early = refl }
+    record { cause = (words, read, record { fault_is = is (λ e. cc e); other = λ e. cc e }); before_the_run = refl }
 due-fault-of g words (plan.AlreadySelected number) read is =
-    record { cause = (words, read, record { fault_is = is (λ e. cc e); other = λ e. cc e }); early = refl }
+    record { cause = (words, read, record { fault_is = is (λ e. cc e); other = λ e. cc e }); before_the_run = refl }
 due-fault-of g words (plan.NotSelected number) read is =
-    record { cause = (words, read, record { fault_is = is (λ e. cc e); other = λ e. cc e }); early = refl }
+    record { cause = (words, read, record { fault_is = is (λ e. cc e); other = λ e. cc e }); before_the_run = refl }
 due-fault-of g words (plan.TooMany number) read is =
-    record { cause = (words, read, record { fault_is = is (λ e. cc e); other = λ e. cc e }); early = refl }
+    record { cause = (words, read, record { fault_is = is (λ e. cc e); other = λ e. cc e }); before_the_run = refl }
 due-fault-of g words plan.NoMemory read is = due-memory g
 
 pub due-plan : (g : Given) (words : Read) (told : Option Told) (r : Refusal) → accepted g.words ≡ Some words
-    → g.told ≡ told → IsPlanRefusal told words r → IsEarly g r
+    → g.told ≡ told → IsPlanRefusal told words r → IsBeforeTheRun g r
 due-plan g words told r read same (inl (failed, named)) =
-    subst (IsEarly g) (sym failed) (record { cause = (words, read, named); early = refl })
+    subst (IsBeforeTheRun g) (sym failed) (record { cause = (words, read, named); before_the_run = refl })
 due-plan g words told r read same (inr (fault, is, holds)) =
-    subst (IsEarly g) (sym is) (due-fault-of g words fault read
+    subst (IsBeforeTheRun g) (sym is) (due-fault-of g words fault read
     (λ other. subst (λ (t : Option Told). IsPlanFor t words (Err fault)) (sym same) (holds other)))
 
 -- words and a plan with no main class
 pub due-mainless : (g : Given) (words : Read) (p : Plan) → AreReadWith g words p → None ≡ chosen words p
-    → IsEarly g refusal.Words
+    → IsBeforeTheRun g refusal.Words
 due-mainless g words p with_plan none = record {
   cause = inr (
     words,
@@ -84,7 +84,7 @@ due-mainless g words p with_plan none = record {
       none = ap (option_map (command_with words p)) (sym none);
     },
   );
-  early = refl;
+  before_the_run = refl;
 }
 
 -- what they ask for else
@@ -106,15 +106,15 @@ told-by told k contents own told_as =
     subst (λ (o : Option Generation). AreContentsBy told o k.files contents) (sym own) told_as
 
 -- where the words are accepted, a refusal is due for its cause
-pub due : (g : Given) (r : Refusal) → is_early (status_of r) ≡ true → Because g r → IsEarly g r
-due g r early cause = record { cause = cause; early = early }
+pub due : (g : Given) (r : Refusal) → is_before_the_run (status_of r) ≡ true → Because g r → IsBeforeTheRun g r
+due g r early cause = record { cause = cause; before_the_run = early }
 
 -- the fetch of a file failed behind those of the earlier ones
 pub due-fetch : (g : Given) (k : Command) (told : Option Told) (r : Refusal) → Accepts g k
-    → g.told ≡ told → IsFetchRefusal told k.files r → IsEarly g r
+    → g.told ≡ told → IsFetchRefusal told k.files r → IsBeforeTheRun g r
 due-fetch g k told r accepts same (inl (at, failed, fetch)) =
     let have = told-contents told (take at k.files) fetch.fronts fetch.earlier in
-    subst (IsEarly g) (sym failed) (due g (NotFetched at) refl (record {
+    subst (IsBeforeTheRun g) (sym failed) (due g (NotFetched at) refl (record {
       command = k;
       accepts = accepts;
       within = fetch.within;
@@ -122,21 +122,21 @@ due-fetch g k told r accepts same (inl (at, failed, fetch)) =
       told_as = subst (λ (t : Option Told). AreToldAs t (take at k.files) have.contents)
           (sym same) have.told_as;
     }))
-due-fetch g k told r accepts same (inr memory) = subst (IsEarly g) (sym memory) (due-memory g)
+due-fetch g k told r accepts same (inr memory) = subst (IsBeforeTheRun g) (sym memory) (due-memory g)
 
 -- the contents of what was fetched are no class files
 pub due-unread : (g : Given) (asked : Asked) (fronts : List (List ℕ)) (r : Refusal)
-    → IsFetchedFor g asked fronts → IsReadRefusal fronts r → IsEarly g r
+    → IsFetchedFor g asked fronts → IsReadRefusal fronts r → IsBeforeTheRun g r
 due-unread g asked fronts r f (inl (at, fault, unread, is)) =
     let have = told-contents g.told f.command.files fronts f.fetched in
-    subst (IsEarly g) (sym unread) (due g (NotRead at fault) refl (record {
+    subst (IsBeforeTheRun g) (sym unread) (due g (NotRead at fault) refl (record {
       command = f.command;
       accepts = f.accepts;
       contents = have.contents;
       told_as = told-by g.told f.command have.contents f.own have.told_as;
       holds = fronts-fault have.contents fronts at fault have.fronts_are is;
     }))
-due-unread g asked fronts r f (inr memory) = subst (IsEarly g) (sym memory) (due-memory g)
+due-unread g asked fronts r f (inr memory) = subst (IsBeforeTheRun g) (sym memory) (due-memory g)
 
 -- the classes of what was fetched are refused
 of-classes : (g : Given) (asked : Asked) (fronts : List (List ℕ)) (classes : List ClassFile)
@@ -158,7 +158,7 @@ of-classes g asked fronts classes why f alone is =
 
 pub due-fault : (g : Given) (asked : Asked) (fronts : List (List ℕ)) (classes : List ClassFile)
     (fault : AdmitError) → IsFetchedFor g asked fronts → SpellAlone fronts classes
-    → answer_for asked classes ≡ Err fault → IsEarly g (NotAdmitted fault)
+    → answer_for asked classes ≡ Err fault → IsBeforeTheRun g (NotAdmitted fault)
 due-fault g asked fronts classes fault f alone is =
     due g (NotAdmitted fault) refl (of-classes g asked fronts classes fault f alone is)
 
@@ -168,9 +168,9 @@ not-both e = cc
 -- a fault of admission that is no want of memory
 pub due-admission : (g : Given) (asked : Asked) (fronts : List (List ℕ)) (classes : List ClassFile)
     (fault : AdmitError) → IsFetchedFor g asked fronts → SpellAlone fronts classes
-    → (fault ≢ admit.NoMemory → answer_for asked classes ≡ Err fault) → IsEarly g (refusal_for fault)
+    → (fault ≢ admit.NoMemory → answer_for asked classes ≡ Err fault) → IsBeforeTheRun g (refusal_for fault)
 due-admission g asked fronts classes fault f alone is = by (is_memory fault) refl where
-  by : (b : Bool) → is_memory fault ≡ b → IsEarly g (cond b NoMemory (NotAdmitted fault))
+  by : (b : Bool) → is_memory fault ≡ b → IsBeforeTheRun g (cond b NoMemory (NotAdmitted fault))
   by true memory = due-memory g
   by false other =
       due-fault g asked fronts classes fault f alone
@@ -221,7 +221,7 @@ no-fault named words old new r s same is other = record {
   failed = λ seven. absurd (other (sym (ap status_of is) ∙ seven));
   plan_is = λ failed. absurd (other (sym (ap status_of is) ∙ ap status_of failed));
   name_is = λ at failed. absurd (other (sym (ap status_of is) ∙ ap status_of failed));
-  calm = λ _. same;
+  without_fault = λ _. same;
 }
 
 -- it failed behind fetches that did not
@@ -231,7 +231,7 @@ later-fault named words old mid new r calm cause = record {
   failed = λ seven. subst (λ (f : FilesView). Rose f.faults new.faults) calm (cause.failed seven);
   plan_is = cause.plan_is;
   name_is = cause.name_is;
-  calm = λ other. cause.calm other ∙ calm;
+  without_fault = λ other. cause.without_fault other ∙ calm;
 }
 
 same-place : (a b : ℕ) → NotFetched a ≡ NotFetched b → a ≡ b
@@ -251,7 +251,7 @@ one-fault named words at word old mid new r there calm (inl (failed, rose, last)
       (let same : at ≡ k = same-place at k (sym failed ∙ is) in
       ap (slice_get words) (sym same)
       ∙ (there ∙ ap (λ (name : List ℕ). let o : Option (List ℕ) = Some name in o) (sym last)));
-  calm = λ other. absurd (other (ap status_of failed));
+  without_fault = λ other. absurd (other (ap status_of failed));
 }
 one-fault named words at word old mid new r there calm (inr (memory, same)) =
     no-fault named words old new r NoMemory (same ∙ calm) memory (λ seven. cc)

@@ -5,7 +5,7 @@ use Rattle.std.specs.Option.{option_map_or}
 use Rattle.std.proofs.lemmas.Bool.{cases_eq}
 use Rattle.std.proofs.lemmas.Option.{none-some}
 use Rattle.jf_bytes.specs.declared.error.NoMemory.{NoMemory as OutOfMemory}
-use Rattle.jf_bytes.specs.Streams.{Told, PutsAll, PutsFront, Rose}
+use Rattle.jf_bytes.specs.Streams.{Told, PutsAll, PutsPrefix, Rose}
 use Rattle.const_pool.specs.declared.class.ClassFile.{ClassFile}
 use Rattle.plan_text.specs.declared.plan.Plan.{Plan}
 use Rattle.jvm_model.specs.declared.program.Program.{Program}
@@ -15,7 +15,7 @@ use Rattle.profile_session.specs.Sessions.{Profiling}
 use Rattle.jfluid_cli.specs.declared.kept.Kept.{Kept}
 use Rattle.jfluid_cli.specs.declared.refusal.Refusal.{Refusal}
 use Rattle.jfluid_cli.specs.declared.refusal.Refusal.TheVariants.{Clap, Words, Plan as BadPlan, NotRead, NotAdmitted, InputFailed, OutFailed, PlanNotFetched, NotFetched, NoMemory, InputTooLong}
-use Rattle.jfluid_cli.specs.Calls.{Call, given_of, words_of, IsReported, IsRunAsked, IsShown, IsTrueOf, IsRefused, IsAnswered, IsEndingOf, PutsLine, CalmFiles, CalmInput, AllCalm}
+use Rattle.jfluid_cli.specs.Calls.{Call, given_of, words_of, IsReported, IsRunAsked, IsShown, IsTrueOf, IsRefused, IsAnswered, IsEndingOf, PutsLine, FilesWithoutFault, InputWithoutFault, AllWithoutFault}
 use Rattle.jfluid_cli.specs.Asking.{asked_by, HasBadRoot}
 use Rattle.jfluid_cli.specs.Causes.{HasBadPlan, HasLongInput, IsAccepted, IsUnfit, OfWords}
 use Rattle.jfluid_cli.specs.Contents.{classes_for}
@@ -83,7 +83,7 @@ held-and (Some k) P Q R some p q = (k, p, q, some)
 
 -- ---- a run
 
-reported-reached : (c : Call) (status : ℕ) (k : Kept) → IsRunAsked (words_of c) c.streams status k → AllCalm c
+reported-reached : (c : Call) (status : ℕ) (k : Kept) → IsRunAsked (words_of c) c.streams status k → AllWithoutFault c
     → IsReported (is_generated (words_of c)) k.session.value c.streams.report c.streams.report_after status
     → status ≡ status_of_ending (ending_at k.session.value (budget_of (words_of c) k.plan))
 reported-reached c status k ran calm reported = elim (cases_eq status 8) [
@@ -96,7 +96,7 @@ reported-reached c status k ran calm reported = elim (cases_eq status 8) [
 ]
 
 -- its status is that of the ending at the budget
-run-reached : (c : Call) (status : ℕ) (k : Kept) → IsRunAsked (words_of c) c.streams status k → AllCalm c
+run-reached : (c : Call) (status : ℕ) (k : Kept) → IsRunAsked (words_of c) c.streams status k → AllWithoutFault c
     → status ≡ status_of_ending (ending_at k.session.value (budget_of (words_of c) k.plan))
 run-reached c status k ran calm = elim ran.shown [
   | inl (imaged, reported) ↦ reported-reached c status k ran calm reported
@@ -106,7 +106,7 @@ run-reached c status k ran calm = elim ran.shown [
 
 run-complete : (c : Call) (status : ℕ) (k : Kept) (p : Program)
     → HasOrigin (given_of c) k → IsOnlyProgram k → IsRunAsked (words_of c) c.streams status k
-    → (a : IsAccepted (given_of c) p) → AllCalm c
+    → (a : IsAccepted (given_of c) p) → AllWithoutFault c
     → status ≡ status_of_ending (ending_of (world_on p a.input) a.admitted.command.budget)
 run-complete c status k p o alone ran a calm =
     let budget : ℕ = budget_of (words_of c) k.plan in
@@ -161,7 +161,7 @@ answered-run c status heard carried =
       rootless = λ own three. absurd (not_both (ap is_run (sym three) ∙ run));
       rootless_only = λ none some calm. absurd
           (not-unfit g (kept-program g k.0 o) (rootless-unfit g none some));
-      input_only = λ long calm calm_input. absurd (kept-short g k.0 o long);
+      input_only = λ long calm input_without_fault. absurd (kept-short g k.0 o long);
       made = λ calm. each-kept c.kept (IsRunAsked (words_of c) c.streams status) (IsEndingOf c status)
           carried.ran.made (λ kept ran. inl (run-reached c status kept ran calm));
       complete = λ p a calm. inl (run-complete c status k.0 p o k.2 k.3 a calm);
@@ -186,11 +186,11 @@ root-only c r refused bad = elim (accepted-or (given_of c) r refused.cause) [
   ]
 ]
 
-calm-fetch : (c : Call) (r : Refusal) → IsRefused c r → CalmFiles c → status_of r ≡ 7 → ⊥
+calm-fetch : (c : Call) (r : Refusal) → IsRefused c r → FilesWithoutFault c → status_of r ≡ 7 → ⊥
 calm-fetch c r refused calm seven =
     calm_not_rose c.files.faults c.files_after.faults calm (refused.not_fetched seven)
 
-plan-only : (c : Call) (r : Refusal) → IsRefused c r → HasBadPlan (given_of c) → CalmFiles c
+plan-only : (c : Call) (r : Refusal) → IsRefused c r → HasBadPlan (given_of c) → FilesWithoutFault c
     → (status_of r ≡ 2) ⊎ (status_of r ≡ 9)
 plan-only c r refused bad calm = elim (accepted-or (given_of c) r refused.cause) [
   | inl early ↦ early
@@ -201,7 +201,7 @@ plan-only c r refused bad calm = elim (accepted-or (given_of c) r refused.cause)
   ]
 ]
 
-file-only : (c : Call) (r : Refusal) → IsRefused c r → IsUnfit (given_of c) → CalmFiles c
+file-only : (c : Call) (r : Refusal) → IsRefused c r → IsUnfit (given_of c) → FilesWithoutFault c
     → (status_of r ≡ 3) ⊎ (status_of r ≡ 9)
 file-only c r refused unfit calm =
     let g = given_of c in
@@ -218,15 +218,15 @@ file-only c r refused unfit calm =
     is_late : ℕ → Type 0
     is_late s = is_among (5 ∷ 6 ∷ 11 ∷ []) s ≡ true
 
-input-only : (c : Call) (r : Refusal) → IsTrueOf c → IsRefused c r → HasLongInput (given_of c) → CalmFiles c
-    → CalmInput c → (status_of r ≡ 11) ⊎ (status_of r ≡ 9)
-input-only c r always refused long calm calm_input =
+input-only : (c : Call) (r : Refusal) → IsTrueOf c → IsRefused c r → HasLongInput (given_of c) → FilesWithoutFault c
+    → InputWithoutFault c → (status_of r ≡ 11) ⊎ (status_of r ≡ 9)
+input-only c r always refused long calm input_without_fault =
     let g = given_of c in
     let d = long.admitted in
     by-status r ((status_of r ≡ 11) ⊎ (status_of r ≡ 9))
     (λ two. absurd (two-refused g r d.command (tells c.told d.files d.telling) refused.cause two d.accepts))
     (λ three. absurd (three-refused g r long.program refused.cause three d))
-    (λ five. absurd (calm_not_rose c.input.faults c.input_after.faults calm_input (refused.not_taken five)))
+    (λ five. absurd (calm_not_rose c.input.faults c.input_after.faults input_without_fault (refused.not_taken five)))
     (λ six. let k = held c.kept (HasOrigin g) IsOnlyProgram (refused.made six) always.origin always.only in
     absurd (kept-short g k.0 k.1 long))
     (λ seven. absurd (calm-fetch c r refused calm seven))
@@ -234,7 +234,7 @@ input-only c r always refused long calm calm_input =
     (λ eleven. inl eleven)
 
 refused-complete : (c : Call) (r : Refusal) (p : Program) → IsRefused c r → IsAccepted (given_of c) p
-    → AllCalm c → status_of r ≡ 9
+    → AllWithoutFault c → status_of r ≡ 9
 refused-complete c r p refused a calm =
     let g = given_of c in
     let d = a.admitted in
@@ -249,7 +249,7 @@ refused-complete c r p refused a calm =
     (λ eleven. absurd (not-long g p (long-told g r refused.cause eleven) a))
 
 -- something is kept where the output failed, or perhaps where memory ran out
-refused-reached : (c : Call) (r : Refusal) (status : ℕ) → status ≡ status_of r → IsRefused c r → AllCalm c
+refused-reached : (c : Call) (r : Refusal) (status : ℕ) → status ≡ status_of r → IsRefused c r → AllWithoutFault c
     → IfSome c.kept (IsEndingOf c status)
 refused-reached c r status is refused calm =
     by-status r (IfSome c.kept (IsEndingOf c status))
@@ -296,7 +296,7 @@ answered-refusal c r status unheard is always refused line = record {
   rootless = λ own three. three-rootless (given_of c) r refused.cause (sym is ∙ three) own;
   rootless_only = λ none some calm. same-status 3
       (file-only c r refused (rootless-unfit (given_of c) none some) calm);
-  input_only = λ long calm calm_input. same-status 11 (input-only c r always refused long calm calm_input);
+  input_only = λ long calm input_without_fault. same-status 11 (input-only c r always refused long calm input_without_fault);
   made = λ calm. refused-reached c r status is refused calm;
   complete = λ p a calm. inr (is ∙ refused-complete c r p refused a calm);
 }
@@ -314,7 +314,7 @@ put-line : (old mid new : SinkView) (said wanted : List ℕ) → IsUntold old mi
     → PutsOrRose mid new said → PutsOrRose old new wanted
 put-line old mid new said wanted untold is puts =
     let here : PutsOrRose old new said = record {
-      front = subst (λ (o : Option (List ℕ)). PutsFront o new.taken said) untold.taken puts.front;
+      prefix = subst (λ (o : Option (List ℕ)). PutsPrefix o new.taken said) untold.taken puts.prefix;
       whole = elim puts.whole [
         | inl all ↦ inl (subst (λ (o : Option (List ℕ)). PutsAll o new.taken said) untold.taken all)
         | inr rose ↦ inr (subst (λ (n : ℕ). Rose n new.faults) untold.faults rose)
@@ -343,15 +343,15 @@ answered-told c after r told status said unheard carried was is named puts =
       not_fetched = carried.refused.not_fetched;
       plan_name = carried.refused.plan_name;
       name = carried.refused.name;
-      calm = carried.refused.calm;
-      calm_input = carried.refused.calm_input;
+      without_fault = carried.refused.without_fault;
+      input_without_fault = carried.refused.input_without_fault;
     } in
     answered-refusal d told status unheard is
     (record {
       origin = carried.always.origin;
       only = carried.always.only;
       rest = carried.always.rest;
-      front = carried.always.front;
+      prefix = carried.always.prefix;
       ended = carried.always.ended;
       nothing = carried.always.nothing;
       images = carried.always.images;

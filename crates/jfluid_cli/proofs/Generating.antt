@@ -21,7 +21,7 @@ use Rattle.jfluid_cli.specs.Asking.{asked_by}
 use Rattle.jfluid_cli.specs.Causes.{Given, Accepts, AreContentsOf}
 use Rattle.jfluid_cli.specs.Contents.{AreContentsBy, SpellAlone, SpellsAlone}
 use Rattle.jfluid_cli.specs.Refusals.{is_memory, refusal_for}
-use Rattle.jfluid_cli.specs.Stages.{IsEarly, IsLoaded}
+use Rattle.jfluid_cli.specs.Stages.{IsBeforeTheRun, IsLoaded}
 use Rattle.jfluid_cli.specs.Top.{answer_for}
 use Rattle.jfluid_cli.specs.Words.{Command, command_for, command_with}
 use Rattle.jfluid_cli.proofs.Accepted.{accepted-sound}
@@ -101,9 +101,9 @@ not-both e = cc e
 
 -- a fault of admission that is no want of memory
 pub due-generated : (g : Given) (k : Command) (o : Generation) (fault : AdmitError) → Accepts g k → IsGeneratedOf k o
-    → IsRefusedFor (admission_of_generated o.seed o.size k.plan) fault → IsEarly g (refusal_for fault)
+    → IsRefusedFor (admission_of_generated o.seed o.size k.plan) fault → IsBeforeTheRun g (refusal_for fault)
 due-generated g k o fault accepts is refused = by (is_memory fault) refl where
-  by : (b : Bool) → is_memory fault ≡ b → IsEarly g (cond b NoMemory (NotAdmitted fault))
+  by : (b : Bool) → is_memory fault ≡ b → IsBeforeTheRun g (cond b NoMemory (NotAdmitted fault))
   by true memory = due-memory g
   by false other =
       due g (NotAdmitted fault) refl (record {

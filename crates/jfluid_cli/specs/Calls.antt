@@ -2,7 +2,7 @@
 use Rattle.std.specs.Prelude.{◌≡◌, ◌≢◌, ℕ, ◌⊎◌, Bool, true, false, List, Option, Some, None, Result, slice_get, IfSome, IsErr, IsSome, IsSomeAnd}
 use Rattle.jf_bytes.specs.declared.error.NoMemory.{NoMemory}
 use Rattle.std.specs.Io.KnownBytes.{IsAtEnd}
-use Rattle.jf_bytes.specs.Streams.{Told, PutsAll, PutsFront, Rose}
+use Rattle.jf_bytes.specs.Streams.{Told, PutsAll, PutsPrefix, Rose}
 use Rattle.command_line.specs.Input.{TakesAtMost, TakesOneMore, most_input, most_taken}
 use Rattle.jvm_model.specs.declared.program.Program.{Program}
 use Rattle.jvm_model.specs.Running.Run.{ending_of}
@@ -17,7 +17,7 @@ use Rattle.jfluid_cli.specs.Origins.{HasOrigin, IsOnlyProgram}
 use Rattle.jfluid_cli.specs.Refusals.{status_of, refusal_line}
 use Rattle.jfluid_cli.specs.Runs.{IsCarriedOut, PutsAtMost, ending_at, world_on}
 use Rattle.jfluid_cli.specs.Sinks.{SinkView, SourceView, FilesView, Streams, FailsOnce, IsUntold, PutsOrRose}
-use Rattle.jfluid_cli.specs.Top.{IsCalm, is_run, is_refused, is_unadmitted, is_status, report_of, status_of_ending}
+use Rattle.jfluid_cli.specs.Top.{IsWithoutFault, is_run, is_refused, is_unadmitted, is_status, report_of, status_of_ending}
 use Rattle.jfluid_cli.specs.Words.{accepted, asks_images, budget_of, file_words, is_generated, plan_word, words_in}
 
 -- ---- a call
@@ -44,7 +44,7 @@ given_of c = record { words = words_of c; told = c.told; left = c.input.left }
 
 -- what was put to images is a front of those that are asked for
 abbrev pub PutsImages : Bool → Profiling → Streams → Type 0
-PutsImages asked v s = PutsFront s.images.taken s.images_after.taken (images_of asked v)
+PutsImages asked v s = PutsPrefix s.images.taken s.images_after.taken (images_of asked v)
 
 pub record IsTrueOf (c : Call) : Type 0 where
   -- what is kept came from words, files and input, and is all that the files spell
@@ -55,7 +55,7 @@ pub record IsTrueOf (c : Call) : Type 0 where
   -- with any status the source gave bytes from its front alone, at most one more than the limit
   pub rest : TakesAtMost most_taken c.input.left c.input_after.left
   -- a front of the output at the budget was put, and nothing where nothing was made
-  pub front :
+  pub prefix :
       let s = c.streams in
       IfSome c.kept
       (λ k. PutsAtMost k.session.value (budget_of (words_of c) k.plan) s.out.taken s.out_after.taken)
@@ -75,8 +75,8 @@ pub record IsReported (summary : Bool) (v : Profiling) (old new : SinkView) (sta
   pub known : is_status status ≡ true
   pub ending : status ≢ 8 → status ≡ status_of_ending (ending_at v v.clock)
   pub reported : status ≢ 8 → PutsAll old.taken new.taken (report_of summary v)
-  pub calm : status ≢ 8 → new.faults ≡ old.faults
-  pub reported_in_part : status ≡ 8 → PutsFront old.taken new.taken (report_of summary v)
+  pub without_fault : status ≢ 8 → new.faults ≡ old.faults
+  pub reported_in_part : status ≡ 8 → PutsPrefix old.taken new.taken (report_of summary v)
   pub not_reported : status ≡ 8 → Rose old.faults new.faults
 
 -- The images of a run that are asked for were put, and behind them its report; or a put of them
@@ -89,7 +89,7 @@ IsShown summary asked v images images_after report report_after status =
 -- The run of what is kept was carried out up to its end or the budget; what was put is its output.
 pub record IsRun (summary asked : Bool) (budget : ℕ) (s : Streams) (status : ℕ) (k : Kept) : Type 0 where
   pub output : IsCarriedOut k.session.value budget s.out.taken s.out_after.taken
-  pub calm : s.out_after.faults ≡ s.out.faults
+  pub without_fault : s.out_after.faults ≡ s.out.faults
   pub shown : IsShown summary asked k.session.value s.images s.images_after s.report s.report_after status
 
 -- the run that the words ask for with the plan that is kept; of a generated program sums are reported
@@ -100,8 +100,8 @@ IsRunAsked words s status k =
 -- The run of the words, with nothing else failed.
 pub record IsRunOf (c : Call) (status : ℕ) : Type 0 where
   pub made : IsSomeAnd c.kept (IsRunAsked (words_of c) c.streams status)
-  pub calm : c.files_after ≡ c.files
-  pub calm_input : c.input_after.faults ≡ c.input.faults
+  pub without_fault : c.files_after ≡ c.files
+  pub input_without_fault : c.input_after.faults ≡ c.input.faults
 
 -- ---- a refusal
 
@@ -131,8 +131,8 @@ pub record IsRefused (c : Call) (r : Refusal) : Type 0 where
   pub name :
       (at : ℕ) → r ≡ NotFetched at →
       slice_get (file_words (words_of c)) at ≡ Some c.files_after.last_failed
-  pub calm : status_of r ≢ 7 → status_of r ≢ 9 → c.files_after ≡ c.files
-  pub calm_input : status_of r ≢ 5 → status_of r ≢ 9 → c.input_after.faults ≡ c.input.faults
+  pub without_fault : status_of r ≢ 7 → status_of r ≢ 9 → c.files_after ≡ c.files
+  pub input_without_fault : status_of r ≢ 5 → status_of r ≢ 9 → c.input_after.faults ≡ c.input.faults
 
 -- its line was put, or a front of it where the report's count of faults rose
 abbrev pub PutsLine : Call → Refusal → Type 0
@@ -143,19 +143,19 @@ PutsLine c r =
 -- ---- the answer
 
 -- the count is as before, and can still rise: no fetch failed, no take
-abbrev pub CalmFiles : Call → Type 0
-CalmFiles c = IsCalm c.files.faults c.files_after.faults
+abbrev pub FilesWithoutFault : Call → Type 0
+FilesWithoutFault c = IsWithoutFault c.files.faults c.files_after.faults
 
-abbrev pub CalmInput : Call → Type 0
-CalmInput c = IsCalm c.input.faults c.input_after.faults
+abbrev pub InputWithoutFault : Call → Type 0
+InputWithoutFault c = IsWithoutFault c.input.faults c.input_after.faults
 
 -- no count rose, and each still can
-pub record AllCalm (c : Call) : Type 0 where
-  pub files : CalmFiles c
-  pub input : CalmInput c
-  pub out : IsCalm c.streams.out.faults c.streams.out_after.faults
-  pub report : IsCalm c.streams.report.faults c.streams.report_after.faults
-  pub images : IsCalm c.streams.images.faults c.streams.images_after.faults
+pub record AllWithoutFault (c : Call) : Type 0 where
+  pub files : FilesWithoutFault c
+  pub input : InputWithoutFault c
+  pub out : IsWithoutFault c.streams.out.faults c.streams.out_after.faults
+  pub report : IsWithoutFault c.streams.report.faults c.streams.report_after.faults
+  pub images : IsWithoutFault c.streams.images.faults c.streams.images_after.faults
 
 -- The status is that of the ending at the budget of the session that was made, unless memory ran out.
 abbrev pub IsEndingOf : Call → ℕ → Kept → Type 0
@@ -181,21 +181,21 @@ pub record IsAnswered (c : Call) (status : ℕ) : Type 0 where
   -- and wherever the word for a root names no method
   pub root_only : OfWords (given_of c) HasBadRoot → (status ≡ 2) ⊎ (status ≡ 9)
   -- and wherever the plan that the files tell is refused, or names no main class and no word does
-  pub plan_only : HasBadPlan (given_of c) → CalmFiles c → (status ≡ 2) ⊎ (status ≡ 9)
+  pub plan_only : HasBadPlan (given_of c) → FilesWithoutFault c → (status ≡ 2) ⊎ (status ≡ 9)
   -- 3 wherever words and plan are accepted, and all files are told or generated, but no program
-  pub file_only : IsUnfit (given_of c) → CalmFiles c → (status ≡ 3) ⊎ (status ≡ 9)
+  pub file_only : IsUnfit (given_of c) → FilesWithoutFault c → (status ≡ 3) ⊎ (status ≡ 9)
   -- of words that generate their program 3 only where an action names no method of it with Code
   pub rootless : is_generated (words_of c) ≡ true → status ≡ 3 → HasNoRoot (given_of c)
   -- and wherever one does
   pub rootless_only :
-      HasNoRoot (given_of c) → IsSome c.told → CalmFiles c → (status ≡ 3) ⊎ (status ≡ 9)
+      HasNoRoot (given_of c) → IsSome c.told → FilesWithoutFault c → (status ≡ 3) ⊎ (status ≡ 9)
   -- 11 wherever a program is told, and more input than the limit
   pub input_only :
-      HasLongInput (given_of c) → CalmFiles c → CalmInput c → (status ≡ 11) ⊎ (status ≡ 9)
+      HasLongInput (given_of c) → FilesWithoutFault c → InputWithoutFault c → (status ≡ 11) ⊎ (status ≡ 9)
   -- the status of its run at the budget wherever a session was made, and nothing failed
-  pub made : AllCalm c → IfSome c.kept (IsEndingOf c status)
+  pub made : AllWithoutFault c → IfSome c.kept (IsEndingOf c status)
   -- and the status of the run on the input at the budget wherever all is accepted
   pub complete :
-      (p : Program) → (a : IsAccepted (given_of c) p) → AllCalm c →
+      (p : Program) → (a : IsAccepted (given_of c) p) → AllWithoutFault c →
       (status ≡ status_of_ending (ending_of (world_on p a.input) a.admitted.command.budget))
       ⊎ (status ≡ 9)

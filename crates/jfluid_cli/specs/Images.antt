@@ -2,7 +2,7 @@
 use Rattle.std.specs.Prelude.{◌≡◌, ℕ, ◌++◌, Bool, List, [], length, Result, Ok, Err, if◌then◌else◌}
 use Rattle.std.specs.List.{flat_map}
 use Rattle.const_pool.specs.Pool.{u4, u8}
-use Rattle.jf_bytes.specs.Streams.{PutsAll, PutsFront, Rose}
+use Rattle.jf_bytes.specs.Streams.{PutsAll, PutsPrefix, Rose}
 use Rattle.profile_session.specs.declared.swap.Swap.{Swap}
 use Rattle.profile_session.specs.Sessions.{AreSwapsOf, Profiling, entries_of, swaps_of}
 use Rattle.jfluid_cli.specs.declared.images.Unput.{Unput}
@@ -30,9 +30,9 @@ UnputCause old new (Err Failed) = Rose old new
 pub record IsImaged (asked : Bool) (v : Profiling) (old new : SinkView) : Type 0 where
   pub entries : AreSwapsOf v.program (entries_of v) (swaps_of v)
   pub put : PutsAll old.taken new.taken (images_of asked v)
-  pub calm : new.faults ≡ old.faults
+  pub without_fault : new.faults ≡ old.faults
 
 -- A put of them failed behind a front of them.
 pub record IsUnimaged (asked : Bool) (v : Profiling) (old new : SinkView) : Type 0 where
-  pub put : PutsFront old.taken new.taken (images_of asked v)
+  pub put : PutsPrefix old.taken new.taken (images_of asked v)
   pub failed : Rose old.faults new.faults

@@ -1,6 +1,6 @@
 -- What clauses see of a call's sinks, source and files, before and after.
 use Rattle.std.specs.Prelude.{◌≡◌, ℕ, ◌⊎◌, List, Option, Some, slice_get}
-use Rattle.jf_bytes.specs.Streams.{PutsAll, PutsFront, Rose}
+use Rattle.jf_bytes.specs.Streams.{PutsAll, PutsPrefix, Rose}
 
 -- ---- a sink
 
@@ -19,7 +19,7 @@ pub record IsUntold (old new : SinkView) : Type 0 where
 
 -- These bytes were put, or a front of them where the count of faults rose.
 pub record PutsOrRose (old new : SinkView) (bytes : List ℕ) : Type 0 where
-  pub front : PutsFront old.taken new.taken bytes
+  pub prefix : PutsPrefix old.taken new.taken bytes
   pub whole : PutsAll old.taken new.taken bytes ⊎ Rose old.faults new.faults
 
 -- out, report and images, before and after

@@ -28,13 +28,13 @@ use Rattle.jfluid_cli.specs.Words.{Command, accepted, AreClaps, AreRefused}
 -- ---- before a session is made
 
 -- the statuses of a refusal before the input is taken
-abbrev pub is_early : ℕ → Bool
-is_early = is_among (2 ∷ 3 ∷ 7 ∷ 9 ∷ [])
+abbrev pub is_before_the_run : ℕ → Bool
+is_before_the_run = is_among (2 ∷ 3 ∷ 7 ∷ 9 ∷ [])
 
 -- A refusal before the input is taken.
-pub record IsEarly (g : Given) (r : Refusal) : Type 0 where
+pub record IsBeforeTheRun (g : Given) (r : Refusal) : Type 0 where
   pub cause : Because g r
-  pub early : is_early (status_of r) ≡ true
+  pub before_the_run : is_before_the_run (status_of r) ≡ true
 
 -- why words are not accepted: for clap or for a rule of the program's own, or memory ran out
 abbrev pub IsWordsRefusal : List (List ℕ) → Refusal → Type 0
@@ -103,7 +103,7 @@ pub record HasFetchCause (named : Option (List ℕ)) (files : List (List ℕ)) (
   pub failed : status_of r ≡ 7 → Rose old.faults new.faults
   pub plan_is : r ≡ PlanNotFetched → named ≡ Some new.last_failed
   pub name_is : (at : ℕ) → r ≡ NotFetched at → slice_get files at ≡ Some new.last_failed
-  pub calm : status_of r ≢ 7 → new ≡ old
+  pub without_fault : status_of r ≢ 7 → new ≡ old
 
 -- a fetch of one file is refused so where the count rose, and leaves its name, or memory ran out
 abbrev pub IsFetchFault : List ℕ → Refusal → FilesView → FilesView → Refusal → Type 0

@@ -96,6 +96,6 @@ report_of summary s = report_on summary s.program s.input s.clock
 -- ---- counts of faults
 
 -- the count is as before, and can still rise
-pub record IsCalm (old new : ℕ) : Type 0 where
+pub record IsWithoutFault (old new : ℕ) : Type 0 where
   pub same : new ≡ old
   pub low : new < greatest

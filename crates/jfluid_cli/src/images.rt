@@ -1,7 +1,7 @@
 //! What is shown of a run: its images, the records of its swaps, and behind them its report.
 
 ghost use Rattle.std.specs.Prelude.{◌≡◌, true, false, if◌then◌else◌, IfErr, IfOk, MatchResult, OnOk};
-ghost use Rattle.jf_bytes.specs.Streams.{PutsAll, PutsFront};
+ghost use Rattle.jf_bytes.specs.Streams.{PutsAll, PutsPrefix};
 ghost use Rattle.profile_session.specs.Answers.{Gathers};
 ghost use Rattle.jfluid_cli.specs.Calls.{IsShown};
 ghost use Rattle.jfluid_cli.specs.Images.{IsImaged, UnputCause, images_of, swap_record, swap_records};
@@ -40,8 +40,8 @@ fn record_of(alloc: Global, swap: &Swap) -> Result<Vec<u8>, NoMemory>
 fn put_record<G: Sink>(alloc: Global, swap: &Swap, images: &mut G) -> Result<(), Unput>
     ensures all { let bytes = swap_record swap.now in
         OnOk result (PutsAll (G.taken images.old) (G.taken images.new) bytes) }
-    ensures front { let bytes = swap_record swap.now in
-        PutsFront (G.taken images.old) (G.taken images.new) bytes }
+    ensures prefix { let bytes = swap_record swap.now in
+        PutsPrefix (G.taken images.old) (G.taken images.new) bytes }
     ensures cause { UnputCause (G.faults images.old) (G.faults images.new) result }
 {
     let Ok(bytes) = record_of(alloc, swap) else {
@@ -57,8 +57,8 @@ fn put_record<G: Sink>(alloc: Global, swap: &Swap, images: &mut G) -> Result<(),
 fn put_records<G: Sink>(alloc: Global, swaps: &[Swap], images: &mut G) -> Result<(), Unput>
     ensures all { let bytes = swap_records swaps.now in
         OnOk result (PutsAll (G.taken images.old) (G.taken images.new) bytes) }
-    ensures front { let bytes = swap_records swaps.now in
-        PutsFront (G.taken images.old) (G.taken images.new) bytes }
+    ensures prefix { let bytes = swap_records swaps.now in
+        PutsPrefix (G.taken images.old) (G.taken images.new) bytes }
     ensures cause { UnputCause (G.faults images.old) (G.faults images.new) result }
 {
     for swap in swaps {
@@ -78,8 +78,8 @@ fn put_images<G: Sink>(
     ensures all { let old = sink_view (G.taken images.old) (G.faults images.old) in
         let new = sink_view (G.taken images.new) (G.faults images.new) in
         OnOk result (IsImaged asked session.now old new) }
-    ensures front { let bytes = images_of asked session.now in
-        PutsFront (G.taken images.old) (G.taken images.new) bytes }
+    ensures prefix { let bytes = images_of asked session.now in
+        PutsPrefix (G.taken images.old) (G.taken images.new) bytes }
     ensures cause { UnputCause (G.faults images.old) (G.faults images.new) result }
     ensures unasked { let old = sink_view (G.taken images.old) (G.faults images.old) in
         let new = sink_view (G.taken images.new) (G.faults images.new) in
@@ -114,8 +114,8 @@ pub fn show<G: Sink, P: Sink>(
         MatchResult result
         (IsShown summary asked session.new before after old new)
         (λ e. (e ≡ Refusal.NoMemory) × IsUntold old new) }
-    ensures front { let bytes = images_of asked session.new in
-        PutsFront (G.taken images.old) (G.taken images.new) bytes }
+    ensures prefix { let bytes = images_of asked session.new in
+        PutsPrefix (G.taken images.old) (G.taken images.new) bytes }
     ensures unasked { let before = sink_view (G.taken images.old) (G.faults images.old) in
         let after = sink_view (G.taken images.new) (G.faults images.new) in
         asked ≡ false → IsUntold before after }

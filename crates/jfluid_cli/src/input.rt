@@ -15,7 +15,7 @@ use std::alloc::Global;
 pub fn take<I: Source>(alloc: Global, input: &mut I) -> Result<Seq<u8>, Refusal>
     ensures all { IfOk result (λ bytes. IfSome (I.left input.old) (λ all. bytes ≡ all)) }
     ensures short { IfOk result (λ bytes. length bytes ≤ most_input) }
-    ensures calm { IsOk result → I.faults input.new ≡ I.faults input.old }
+    ensures without_fault { IsOk result → I.faults input.new ≡ I.faults input.old }
     ensures taken { IfOk result (Consumes (I.left input.old) (I.left input.new)) }
     ensures ended { IsOk result → IsAtEnd (I.left input.new) }
     ensures refused { IfErr result (IsInputRefusal

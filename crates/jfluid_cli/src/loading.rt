@@ -13,7 +13,7 @@ ghost use Rattle.jfluid_cli.specs.Contents.{AreFetched, IsFrontFor, SpellsAlone,
 ghost use Rattle.jfluid_cli.specs.Refusals.{is_memory as of_memory, refusal_for as refusal_of_fault, status_of};
 ghost use Rattle.jfluid_cli.specs.Sinks.{files_view};
 ghost use Rattle.jfluid_cli.specs.Stages.{AreReadWith, IsFetchedFor, IsFetchFault, IsFetchRefusal, IsUnread};
-ghost use Rattle.jfluid_cli.specs.Stages.{IsReadRefusal, IsPrepared, IsEarly, HasFetchCause};
+ghost use Rattle.jfluid_cli.specs.Stages.{IsReadRefusal, IsPrepared, IsBeforeTheRun, HasFetchCause};
 ghost use Rattle.jfluid_cli.specs.Top.{IsProgram};
 ghost use Rattle.jfluid_cli.specs.Words.{accepted};
 ghost use Rattle.program_fit.specs.Runnable.{IsAdmitted};
@@ -109,9 +109,10 @@ fn read_program(
     ensures alone { IfOk result (λ p. SpellAlone contents.now (classes_for contents.now p)) }
     ensures admitted { IfOk result IsAdmitted }
     ensures acts { IfOk result (λ p. CanBeTaken p.acts) }
-    ensures early { (g : Given) → IsFetchedFor g (asked_for main.now plan.now) contents.now →
-        IfErr result (IsEarly g) }
-    ensures calm { IfErr result (λ e. status_of e ≢ 7) }
+    ensures before_the_run { (g : Given) → IsFetchedFor g (asked_for main.now plan.now) contents.now
+        →
+        IfErr result (IsBeforeTheRun g) }
+    ensures without_fault { IfErr result (λ e. status_of e ≢ 7) }
 {
     let classes = match read_all(alloc, contents) {
         Ok(classes) => classes,
@@ -129,7 +130,7 @@ fn read_program(
 fn fetch<F: Files>(alloc: Global, at: u32, name: &str, files: &mut F) -> Result<Seq<u8>, Refusal>
     ensures found { IfOk result (IsFrontFor (F.contents files.old) name.now) }
     ensures stay { F.contents files.new ≡ F.contents files.old }
-    ensures calm { let old = files_view (F.faults files.old) (F.last_failed files.old) in
+    ensures without_fault { let old = files_view (F.faults files.old) (F.last_failed files.old) in
         let new = files_view (F.faults files.new) (F.last_failed files.new) in
         IsOk result → new ≡ old }
     ensures failed { let old = files_view (F.faults files.old) (F.last_failed files.old) in
@@ -157,7 +158,7 @@ fn fetch_all<F: Files>(
         (named : Option (List ℕ)) →
         IfErr result (HasFetchCause named (texts names.now) old new) }
     ensures stay { F.contents files.new ≡ F.contents files.old }
-    ensures calm { let old = files_view (F.faults files.old) (F.last_failed files.old) in
+    ensures without_fault { let old = files_view (F.faults files.old) (F.last_failed files.old) in
         let new = files_view (F.faults files.new) (F.last_failed files.new) in
         IsOk result → new ≡ old }
 {
@@ -211,10 +212,10 @@ fn load_files<F: Files>(
     ensures small { IfOk result (λ l. l.budget ≤ greatest_steps) }
     ensures admitted { IfOk result (λ l. IsAdmitted l.program) }
     ensures acts { IfOk result (λ l. CanBeTaken l.program.acts) }
-    ensures early { (g : Given) → AreReadWith g (read_in words.now) plan.now →
-        g.told ≡ F.contents files.old → IfErr result (IsEarly g) }
+    ensures before_the_run { (g : Given) → AreReadWith g (read_in words.now) plan.now →
+        g.told ≡ F.contents files.old → IfErr result (IsBeforeTheRun g) }
     ensures stay { F.contents files.new ≡ F.contents files.old }
-    ensures calm { let old = files_view (F.faults files.old) (F.last_failed files.old) in
+    ensures without_fault { let old = files_view (F.faults files.old) (F.last_failed files.old) in
         let new = files_view (F.faults files.new) (F.last_failed files.new) in
         IsOk result → new ≡ old }
     ensures cause { let old = files_view (F.faults files.old) (F.last_failed files.old) in
@@ -255,9 +256,9 @@ fn load_generated(
     ensures small { IfOk result (λ l. l.budget ≤ greatest_steps) }
     ensures admitted { IfOk result (λ l. IsAdmitted l.program) }
     ensures acts { IfOk result (λ l. CanBeTaken l.program.acts) }
-    ensures early { (g : Given) → AreReadWith g (read_in words.now) plan.now →
-        IfErr result (IsEarly g) }
-    ensures calm { IfErr result (λ e. status_of e ≢ 7) }
+    ensures before_the_run { (g : Given) → AreReadWith g (read_in words.now) plan.now →
+        IfErr result (IsBeforeTheRun g) }
+    ensures without_fault { IfErr result (λ e. status_of e ≢ 7) }
 {
     let Some(command) = command_of(words, plan) else {
         return Err(Refusal::Words);
@@ -288,10 +289,10 @@ fn load<F: Files>(
     ensures small { IfOk result (λ l. l.budget ≤ greatest_steps) }
     ensures admitted { IfOk result (λ l. IsAdmitted l.program) }
     ensures acts { IfOk result (λ l. CanBeTaken l.program.acts) }
-    ensures early { (g : Given) → AreReadWith g (read_in words.now) plan.now →
-        g.told ≡ F.contents files.old → IfErr result (IsEarly g) }
+    ensures before_the_run { (g : Given) → AreReadWith g (read_in words.now) plan.now →
+        g.told ≡ F.contents files.old → IfErr result (IsBeforeTheRun g) }
     ensures stay { F.contents files.new ≡ F.contents files.old }
-    ensures calm { let old = files_view (F.faults files.old) (F.last_failed files.old) in
+    ensures without_fault { let old = files_view (F.faults files.old) (F.last_failed files.old) in
         let new = files_view (F.faults files.new) (F.last_failed files.new) in
         IsOk result → new ≡ old }
     ensures cause { let old = files_view (F.faults files.old) (F.last_failed files.old) in
@@ -314,10 +315,10 @@ pub fn prepare<F: Files>(alloc: Global, words: &Words<'_>, files: &mut F) -> Res
     ensures small { IfOk result (λ l. l.budget ≤ greatest_steps) }
     ensures admitted { IfOk result (λ l. IsAdmitted l.program) }
     ensures acts { IfOk result (λ l. CanBeTaken l.program.acts) }
-    ensures early { (g : Given) → accepted g.words ≡ Some (read_in words.now) →
-        g.told ≡ F.contents files.old → IfErr result (IsEarly g) }
+    ensures before_the_run { (g : Given) → accepted g.words ≡ Some (read_in words.now) →
+        g.told ≡ F.contents files.old → IfErr result (IsBeforeTheRun g) }
     ensures stay { F.contents files.new ≡ F.contents files.old }
-    ensures calm { let old = files_view (F.faults files.old) (F.last_failed files.old) in
+    ensures without_fault { let old = files_view (F.faults files.old) (F.last_failed files.old) in
         let new = files_view (F.faults files.new) (F.last_failed files.new) in
         IsOk result → new ≡ old }
     ensures cause { let old = files_view (F.faults files.old) (F.last_failed files.old) in

@@ -53,7 +53,7 @@ fn read_text(alloc: Global, bytes: &[u8]) -> Result<Plan, Refusal>
 fn fetch_plan<F: Files>(alloc: Global, name: &str, files: &mut F) -> Result<Seq<u8>, Refusal>
     ensures found { IfOk result (IsFetched (F.contents files.old) name.now most_bytes) }
     ensures stay { F.contents files.new ≡ F.contents files.old }
-    ensures calm { let old = files_view (F.faults files.old) (F.last_failed files.old) in
+    ensures without_fault { let old = files_view (F.faults files.old) (F.last_failed files.old) in
         let new = files_view (F.faults files.new) (F.last_failed files.new) in
         IsOk result → new ≡ old }
     ensures failed { let old = files_view (F.faults files.old) (F.last_failed files.old) in
@@ -73,7 +73,7 @@ fn told_plan<F: Files>(alloc: Global, name: &str, files: &mut F) -> Result<Plan,
         IsToldPlan (F.contents files.old) name.now (Ok plan)) }
     ensures within { IfOk result IsWithin }
     ensures stay { F.contents files.new ≡ F.contents files.old }
-    ensures calm { let old = files_view (F.faults files.old) (F.last_failed files.old) in
+    ensures without_fault { let old = files_view (F.faults files.old) (F.last_failed files.old) in
         let new = files_view (F.faults files.new) (F.last_failed files.new) in
         IsOk result → new ≡ old }
     ensures refused { IfErr result (IsToldRefusal (F.contents files.old) name.now) }
@@ -110,7 +110,7 @@ pub fn plan_of<F: Files>(alloc: Global, words: &Words<'_>, files: &mut F) -> Res
     ensures within { IfOk result IsWithin }
     ensures alternate { IfOk result (λ plan. AlternateRoots [] plan.actions) }
     ensures stay { F.contents files.new ≡ F.contents files.old }
-    ensures calm { let old = files_view (F.faults files.old) (F.last_failed files.old) in
+    ensures without_fault { let old = files_view (F.faults files.old) (F.last_failed files.old) in
         let new = files_view (F.faults files.new) (F.last_failed files.new) in
         IsOk result → new ≡ old }
     ensures refused { IfErr result (IsPlanRefusal (F.contents files.old) (read_in words.now)) }

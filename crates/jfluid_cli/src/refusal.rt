@@ -202,7 +202,7 @@ pub fn put_bytes<P: Sink>(report: &mut P, bytes: &[u8]) -> bool
         let new = sink_view (P.taken report.new) (P.faults report.new) in
         PutsOrRose old new bytes.now }
     ensures whole { result ≡ true → PutsAll (P.taken report.old) (P.taken report.new) bytes.now }
-    ensures calm { result ≡ true → P.faults report.new ≡ P.faults report.old }
+    ensures without_fault { result ≡ true → P.faults report.new ≡ P.faults report.old }
     ensures failed { result ≡ false → Rose (P.faults report.old) (P.faults report.new) }
 {
     report.put(bytes).is_ok()

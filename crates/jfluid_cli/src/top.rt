@@ -6,7 +6,7 @@ ghost use Rattle.command_line.specs.Raw.{AreTexts};
 ghost use Rattle.command_line.specs.Words.{IsSound, read_in, texts};
 ghost use Rattle.profile_session.specs.Answers.{Gathers};
 ghost use Rattle.jfluid_cli.specs.Actions.{CanBeTaken};
-ghost use Rattle.jf_bytes.specs.Streams.{PutsFront};
+ghost use Rattle.jf_bytes.specs.Streams.{PutsPrefix};
 ghost use Rattle.jfluid_cli.specs.Calls.{Call, IsRun, IsShown, IsAnswered};
 ghost use Rattle.jfluid_cli.specs.Images.{images_of};
 ghost use Rattle.jfluid_cli.specs.Stages.{IsStopped, IsSameRun, IsCarried};
@@ -49,8 +49,8 @@ fn answer<P: Sink, G: Sink>(
         MatchResult result
         (IsShown summary asked session.new before after old new)
         (λ e. IsUntold old new) }
-    ensures front { let bytes = images_of asked session.new in
-        PutsFront (G.taken images.old) (G.taken images.new) bytes }
+    ensures prefix { let bytes = images_of asked session.new in
+        PutsPrefix (G.taken images.old) (G.taken images.new) bytes }
     ensures unasked { let before = sink_view (G.taken images.old) (G.faults images.old) in
         let after = sink_view (G.taken images.new) (G.faults images.new) in
         asked ≡ false → IsUntold before after }
@@ -96,11 +96,11 @@ fn run_made<O: Sink, P: Sink, G: Sink>(
         (λ status. IsSomeAnd kept.new (IsRun summary asked budget s status))
         (IsStopped s) }
     ensures images { IsSomeAnd kept.new (λ k. let bytes = images_of asked k.session.value in
-        PutsFront (G.taken images.old) (G.taken images.new) bytes) }
+        PutsPrefix (G.taken images.old) (G.taken images.new) bytes) }
     ensures unasked { let before = sink_view (G.taken images.old) (G.faults images.old) in
         let after = sink_view (G.taken images.new) (G.faults images.new) in
         asked ≡ false → IsUntold before after }
-    ensures front { PutsAtMost made_of.session.value budget (O.taken out.old) (O.taken out.new) }
+    ensures prefix { PutsAtMost made_of.session.value budget (O.taken out.old) (O.taken out.new) }
 {
     let mut ran = made_of;
     let session = &mut *ran.session;

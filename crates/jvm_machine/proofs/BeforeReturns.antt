@@ -36,10 +36,10 @@ told-busy : (b : Bool) → (b && not true) ≡ false
 told-busy true = refl
 told-busy false = refl
 
-module _ (w : Setup) (loaded : List ℕ) (hand : Hand) (clock : ℕ) (s : State) (is : IsMachine w loaded hand (seen w s true false clock hand) s) (told : hand.told ≡ true)
+module _ (w : Setup) (loaded : List ℕ) (hand : Hand) (clock : ℕ) (s : State) (is : IsMachine w loaded hand (seen w s true false clock hand) s) (delivered : hand.delivered ≡ true)
     (todo : todo_of hand.moves ≡ Attempt) where
   busy : is_resting (seen w s true false clock hand) ≡ false
-  busy = ap (λ b. hand.passed == 0 && not b) told ∙ told-busy (hand.passed == 0)
+  busy = ap (λ b. hand.passed == 0 && not b) delivered ∙ told-busy (hand.passed == 0)
 
   in_hand : HasInHand w is.homes (turn w.world clock) hand (helds (mark_of w.versions) s.stack) s
   in_hand = (is.whole refl).in_hand busy
@@ -48,7 +48,7 @@ module _ (w : Setup) (loaded : List ℕ) (hand : Hand) (clock : ℕ) (s : State)
   sound = by ((is.whole refl).sound busy) where
     by : IsSoundOnce w hand s → IsSoundIn w s
     by (inl there) = there
-    by (inr starting) = absurd (let e : true ≡ false = sym told ∙ starting.untold in cc)
+    by (inr starting) = absurd (let e : true ≡ false = sym delivered ∙ starting.undelivered in cc)
 
   abbrev stack_in : List Entry → List Entry
   stack_in stack = moved_stack (at_homes is.homes) stack
@@ -95,7 +95,7 @@ module _ (w : Setup) (loaded : List ℕ) (hand : Hand) (clock : ℕ) (s : State)
   pub stands-at-return : StandsAtReturn (seen w s true false clock hand)
   stands-at-return =
       let there : State = original_of (versioned_in w is.homes) in_hand.between in
-      let awaits : Awaits w.world (original w.world.program) Attempt there = subst (λ (t : Todo). Awaits w.world (original w.world.program) t there) todo (in_hand.awaits told) in
+      let awaits : Awaits w.world (original w.world.program) Attempt there = subst (λ (t : Todo). Awaits w.world (original w.world.program) t there) todo (in_hand.awaits delivered) in
       by in_hand.between.ending in_hand.between.stack refl awaits
 
 -- ---- what a call has come to
@@ -113,5 +113,5 @@ leaves-by w loaded hand clock s gone handed left is = by gone.due refl where
   by (Ends kind.Enter) e = tt
   by (Ends kind.Unwind) e = tt
   by (Ends kind.Leave) e =
-      stands-at-return w loaded hand clock s is (ap (λ (h : Hand). h.told) handed ∙ (left.told ∙ ap is_end e))
+      stands-at-return w loaded hand clock s is (ap (λ (h : Hand). h.delivered) handed ∙ (left.delivered ∙ ap is_end e))
       (ap (λ (h : Hand). todo_of h.moves) handed ∙ (left.moves ∙ ap later_of e))

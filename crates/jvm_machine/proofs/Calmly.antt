@@ -53,12 +53,12 @@ module _ (w : Setup) (h : Hand) (clock : ℕ) (s : State) (loaded : List ℕ) (i
     by false e attempt = once h attempt ((is.whole refl).sound e)
 
   module _ (new : State) (gone : Gone) (some : (taken.moves || loads_none w s) ≡ true) (left : IsLeft gone) (hands : GoesOnFrom w taken s gone new)
-      (sound : IsSoundIn w s → IsSoundIn w new) (starts : taken.moves ≡ true → taken.told ≡ false → s ≡ starts_with w.world → IsSoundIn w new) where
+      (sound : IsSoundIn w s → IsSoundIn w new) (starts : taken.moves ≡ true → taken.delivered ≡ false → s ≡ starts_with w.world → IsSoundIn w new) where
     abbrev Some' : Hand → State → Type 0
     Some' hand z = (hand.moves || loads_none w z) ≡ true
 
     abbrev Starts : Hand → State → Type 0
-    Starts hand z = hand.moves ≡ true → hand.told ≡ false → z ≡ starts_with w.world → IsSoundIn w new
+    Starts hand z = hand.moves ≡ true → hand.delivered ≡ false → z ≡ starts_with w.world → IsSoundIn w new
 
     carried : (P : Hand → State → Type 0) → P taken s → P (taken_hand w.world now true h) (taken_state w.world now true s)
     carried P holds = subst (λ z. P (taken_hand w.world now true h) z) (sym same) (subst (λ x. P x s) handed holds)
@@ -116,7 +116,7 @@ module _ (w : Setup) (loaded : List ℕ) (h : Hand) (started broken : Bool) (clo
 
     module _ (after : Parts) (gone : Gone) (goes : GoesCalmly w ms taken p gone after) (hands : GoesOnFrom w taken s gone (state_of ms after))
         (sound : IsSoundIn w s → IsSoundIn w (state_of ms after))
-        (starts : taken.moves ≡ true → taken.told ≡ false → s ≡ starts_with w.world → IsSoundIn w (state_of ms after))
+        (starts : taken.moves ≡ true → taken.delivered ≡ false → s ≡ starts_with w.world → IsSoundIn w (state_of ms after))
         (clock' : ℕ) (ticks : clock' ≡ clock_in resting true clock) (h' : Hand) (left : h' ≡ left_in gone) where
       abbrev new : State
       new = state_of ms after

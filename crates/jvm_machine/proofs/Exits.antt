@@ -47,7 +47,7 @@ GoesOnFrom w h s gone new = (homes : ℕ → ℕ → ℕ) (whole : Turn) (live :
 -- it has gone on, and superseded versions were dropped
 abbrev pub GoesThere : Setup → List ℕ → Hand → State → ℕ → View → Type 0
 GoesThere w l h s c v = (length l == 0) ≡ true → (o : Option Gone) (gone : Gone) → o ≡ Some gone → is_some o ≡ (h.moves || loads_none w s) → (new : State)
-    → IfSome o (λ gone. IsLeft gone) → (IsSoundIn w s → IsSoundIn w new) → (h.moves ≡ true → h.told ≡ false → s ≡ starts_with w.world → IsSoundIn w new)
+    → IfSome o (λ gone. IsLeft gone) → (IsSoundIn w s → IsSoundIn w new) → (h.moves ≡ true → h.delivered ≡ false → s ≡ starts_with w.world → IsSoundIn w new)
     → IfSome o (λ gone. GoesOnFrom w h s gone new) → (l' : List ℕ) → l' ≡ new.shared.loaded
     → (fs : List PlacedFrame) → IsPinned fs new.stack → (w' : Setup) → w'.world ≡ w.world → Releases fs w.versions w'.versions → (h' : Hand) → h' ≡ left_in gone
     → Stops v gone.due (seen w' new true false c h') × IsMachine w' l' h' (seen w' new true false c h') new
@@ -83,12 +83,12 @@ module _ (w : Setup) (h : Hand) (started broken : Bool) (clock : ℕ) (s : State
         subst (λ (x : Setup). IsMachine x l1 h1 (seen x s1 true true clock' h1) s1) (sym same) (record {
           homes = is.homes;
           has = is.has;
-          early = λ no. absurd (let e : true ≡ false = no in cc);
+          before_the_run = λ no. absurd (let e : true ≡ false = no in cc);
           whole = λ no. absurd (let e : true ≡ false = no in cc);
         })
 
     broken-by : (r : Bool) → now ≡ r → seen w s1 true true (clock_in r started clock) h1
-        ≡ record (if r then advanced (seen w s started false clock h) else seen w s started false clock h) { broken = true; passed = h1.passed; told = h1.told; live = helds (mark_of w.versions) s1.stack }
+        ≡ record (if r then advanced (seen w s started false clock h) else seen w s started false clock h) { broken = true; passed = h1.passed; delivered = h1.delivered; live = helds (mark_of w.versions) s1.stack }
     broken-by true e = refl
     broken-by false e = ap (λ b. seen w s1 b true clock h1) (sym (started-if w h started clock s loaded unbroken started refl e))
 
@@ -158,7 +158,7 @@ module _ (w : Setup) (h : Hand) (started broken : Bool) (clock : ℕ) (s : State
         let made : s' ≡ with_loaded (loads_in w s) s =
         subst (λ x. IfNone x (s' ≡ with_loaded (loads_in w (taken_state w.world now started s)) (taken_state w.world now started s))) gone loads'
         ∙ ap (λ (z : State). with_loaded (loads_in w z) z) same in
-        let hand : one_passed (taken_hand w.world now started h) ≡ record { moves = false; told = false; passed = 1 } =
+        let hand : one_passed (taken_hand w.world now started h) ≡ record { moves = false; delivered = false; passed = 1 } =
         ap₂ (λ r b. one_passed (taken_hand w.world r b h)) rest.first rest.begun in
         let ticks : clock_in now started clock ≡ clock + 1 = clock-more w h started clock s loaded unbroken none in
         let next : State = with_loaded (loads_in w s) s in

@@ -22,7 +22,7 @@ use Rattle.jvm_machine.specs.Machine.{IsMachine, marks_of, seen}
 use Rattle.jvm_machine.specs.View.{View, made}
 
 abbrev fresh_hand : Hand
-fresh_hand = record { moves = false; told = false; passed = 0 }
+fresh_hand = record { moves = false; delivered = false; passed = 0 }
 
 -- ---- no version of original code is marked
 
@@ -67,7 +67,7 @@ module _ (w : Setup) (s : State) (set : IsSetUp w) (at_start : IsAtStart w.world
   fresh-machine loaded linked = record {
     homes = set.homes;
     has = set.has;
-    early = λ unstarted. record { clock = refl; passed = refl; told = refl };
+    before_the_run = λ unstarted. record { clock = refl; passed = refl; delivered = refl };
     whole = λ same. record {
       linked = linked ∙ ap (λ (z : State). z.shared.loaded) (sym at_start.before);
       stands = λ resting started. absurd (let e : false ≡ true = started in cc);

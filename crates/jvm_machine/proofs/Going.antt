@@ -67,7 +67,7 @@ begins-in marks n live (c ∷ more) e = by (change_due marks live c) (begins-in 
   by (Ends k) later e = absurd (let h : Ends k ≡ Begins = e in cc)
   by Begins later e = grind (arith)
 
-pub stop-begins : (marks : ℕ → Mark) (told : Bool) (n : ℕ) (live : List Held) (cs : List Change) → (stop_from marks told n live cs).due ≡ Begins → ((stop_from marks told n live cs).passed == 0) ≡ false
+pub stop-begins : (marks : ℕ → Mark) (delivered : Bool) (n : ℕ) (live : List Held) (cs : List Change) → (stop_from marks delivered n live cs).due ≡ Begins → ((stop_from marks delivered n live cs).passed == 0) ≡ false
 stop-begins marks false n live cs e = begins-in marks n live cs e
 stop-begins marks true n live [] e = begins-in marks n live [] e
 stop-begins marks true n live (c ∷ more) e = begins-in marks (suc n) (held_after marks live c) more e
@@ -104,7 +104,7 @@ module _ (w : Setup) (homes : ℕ → ℕ → ℕ) (has : HasVersions w homes) w
 
     module _ (gone : Gone) (new : State) (goes : HasGoneOn w homes (turn w.world clock) hand (helds marked s.stack) gone new) (left : IsLeft gone) where
       stop-is : next_stop v ≡ record { live = helds marked new.stack; passed = gone.hand.passed; due = gone.due }
-      stop-is = ap (λ ms. stop_from ms hand.told hand.passed v.live (to_come v)) marks-same ∙ goes.stops
+      stop-is = ap (λ ms. stop_from ms hand.delivered hand.passed v.live (to_come v)) marks-same ∙ goes.stops
 
       pub due-is : (next_stop v).due ≡ gone.due
       due-is = ap (λ (x : Stop). x.due) stop-is
@@ -116,17 +116,17 @@ module _ (w : Setup) (homes : ℕ → ℕ → ℕ) (has : HasVersions w homes) w
       goes-stopped = by gone.due refl where
         by : (d : Due) → gone.due ≡ d → seen w new started broken clock (record gone.hand { passed = passed_then d gone.hand.passed }) ≡ told_in v d
         by Nothing e =
-            ap₂ (λ told live. record v { passed = 0; told = told; live = live }) (left.told ∙ ap is_end e) (sym (ap (λ (x : Stop). x.live) stop-is))
+            ap₂ (λ delivered live. record v { passed = 0; delivered = delivered; live = live }) (left.delivered ∙ ap is_end e) (sym (ap (λ (x : Stop). x.live) stop-is))
         by (Ends k) e =
-            ap (λ told. record there { passed = gone.hand.passed; told = told }) left.told ∙ sym (ap (λ (x : Stop). record v { passed = x.passed; told = is_end x.due; live = x.live }) stop-is)
+            ap (λ delivered. record there { passed = gone.hand.passed; delivered = delivered }) left.delivered ∙ sym (ap (λ (x : Stop). record v { passed = x.passed; delivered = is_end x.due; live = x.live }) stop-is)
         by Begins e =
-            ap (λ told. record there { passed = gone.hand.passed; told = told }) left.told ∙ sym (ap (λ (x : Stop). record v { passed = x.passed; told = is_end x.due; live = x.live }) stop-is)
+            ap (λ delivered. record there { passed = gone.hand.passed; delivered = delivered }) left.delivered ∙ sym (ap (λ (x : Stop). record v { passed = x.passed; delivered = is_end x.due; live = x.live }) stop-is)
 
       -- something is passed where a method has begun
       pub passed-some : gone.due ≡ Begins → (gone.hand.passed == 0) ≡ false
       passed-some begins =
           ap (λ (z : Stop). z.passed == 0) (sym stop-is)
-          ∙ stop-begins (mark_at v.marks) v.told v.passed v.live (to_come v) (due-is ∙ begins)
+          ∙ stop-begins (mark_at v.marks) v.delivered v.passed v.live (to_come v) (due-is ∙ begins)
 
       -- where the step is done it stands for the state after it
       pub goes-rests : gone.due ≡ Nothing → Stands w homes new (run w.world clock)
@@ -135,12 +135,12 @@ module _ (w : Setup) (homes : ℕ → ℕ → ℕ) (has : HasVersions w homes) w
       -- and else the rest of it is in hand
       pub goes-hand : (gone.due ≡ Nothing → ⊥) → HasInHand w homes (turn w.world clock) gone.hand (helds marked new.stack) new
       goes-hand other =
-          in-hand-of gone.hand new (helds marked new.stack) (is_end gone.due) goes.later (sym left.told) (goes.later_is other ∙ sym left.moves) goes.hand
+          in-hand-of gone.hand new (helds marked new.stack) (is_end gone.due) goes.later (sym left.delivered) (goes.later_is other ∙ sym left.moves) goes.hand
         where
-          in-hand-of : (h : Hand) (z : State) (live : List Held) (told : Bool) (todo : Todo) → told ≡ h.told → todo ≡ todo_of h.moves
-              → InHand w.world t (versioned_in w homes) (turn w.world clock) h.passed told live todo z → HasInHand w homes (turn w.world clock) h live z
-          in-hand-of h z live told todo e f is =
-              subst (λ d. InHand w.world t (versioned_in w homes) (turn w.world clock) h.passed h.told live d z) f
+          in-hand-of : (h : Hand) (z : State) (live : List Held) (delivered : Bool) (todo : Todo) → delivered ≡ h.delivered → todo ≡ todo_of h.moves
+              → InHand w.world t (versioned_in w homes) (turn w.world clock) h.passed delivered live todo z → HasInHand w homes (turn w.world clock) h live z
+          in-hand-of h z live delivered todo e f is =
+              subst (λ d. InHand w.world t (versioned_in w homes) (turn w.world clock) h.passed h.delivered live d z) f
               (subst (λ b. InHand w.world t (versioned_in w homes) (turn w.world clock) h.passed b live todo z) e is)
 
   -- what is in hand loads nothing over the versions either
@@ -161,7 +161,7 @@ module _ (w : Setup) (homes : ℕ → ℕ → ℕ) (has : HasVersions w homes) w
 
   module _ (clock : ℕ) (s : State) (stands : Stands w homes s (run w.world clock)) where
     abbrev begun_hand : Hand
-    begun_hand = record { moves = false; told = false; passed = behind_load (loads_in w s) }
+    begun_hand = record { moves = false; delivered = false; passed = behind_load (loads_in w s) }
 
     pub step-hand : HasInHand w homes (turn w.world (clock + 1)) begun_hand (helds marked (with_loaded (loads_in w s) s).stack) (with_loaded (loads_in w s) s)
     step-hand =
@@ -181,7 +181,7 @@ module _ (w : Setup) (homes : ℕ → ℕ → ℕ) (has : HasVersions w homes) w
   -- ---- the start
 
   abbrev start_hand : Hand
-  start_hand = record { moves = true; told = false; passed = behind_load (main_loads w.world) }
+  start_hand = record { moves = true; delivered = false; passed = behind_load (main_loads w.world) }
 
   pub start-hand : HasInHand w homes (turn w.world 0) start_hand (helds marked (starts_with w.world).stack) (starts_with w.world)
   start-hand =

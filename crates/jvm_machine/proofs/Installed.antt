@@ -70,7 +70,7 @@ module _ (started broken : Bool) (clock : ℕ) (hand : Hand) (s : State) (loaded
         record {
           homes = news;
           has = has-one w fs after number x of added is.homes is.has;
-          early = λ unstarted. let e = is.early unstarted in record { clock = e.clock; passed = e.passed; told = e.told };
+          before_the_run = λ unstarted. let e = is.before_the_run unstarted in record { clock = e.clock; passed = e.passed; delivered = e.delivered };
           whole = λ unbroken. record {
             linked = now.linked;
             stands = λ resting yes. stands-stays w is.homes is.has fs after news count same s (run_state (view w)) pinned (now.rests resting yes) (now.stands resting yes);

@@ -97,7 +97,7 @@ module _ (w : Setup) (homes : ℕ → ℕ → ℕ) (has : HasVersions w homes) (
 
   pub hand-stays : (turn : Turn) (hand : Hand) (live : List Held) (s : State) → AreKept v s.stack → IsPinned fs s.stack → HasInHand w homes turn hand live s → HasInHand u news turn hand live s
   hand-stays turn hand live s are pinned h =
-      hand-kept w.world (original w.world.program) (versioned_in w homes) (versioned_in u news) turn hand.passed hand.told live (todo_of hand.moves) s h refl
+      hand-kept w.world (original w.world.program) (versioned_in w homes) (versioned_in u news) turn hand.passed hand.delivered live (todo_of hand.moves) s h refl
       (all-keep s.stack are pinned) (same-helds s.stack are pinned)
 
   pub sound-stays : (s : State) → IsPinned fs s.stack → IsSoundIn w s → IsSoundIn u s
@@ -109,7 +109,7 @@ module _ (w : Setup) (homes : ℕ → ℕ → ℕ) (has : HasVersions w homes) (
 
   pub once-stays : (hand : Hand) (s : State) → IsPinned fs s.stack → IsSoundOnce w hand s → IsSoundOnce u hand s
   once-stays hand s pinned (inl is) = inl (sound-stays s pinned is)
-  once-stays hand s pinned (inr is) = inr (record { moves = is.moves; untold = is.untold; begins = is.begins })
+  once-stays hand s pinned (inr is) = inr (record { moves = is.moves; undelivered = is.undelivered; begins = is.begins })
 
   pub stands-stays : (s from_original : State) → IsPinned fs s.stack → IsSoundIn w s → Stands w homes s from_original → Stands u news s from_original
   stands-stays s from_original pinned is stands =

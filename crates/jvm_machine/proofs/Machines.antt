@@ -69,7 +69,7 @@ module _ (w : Setup) (fs : List PlacedFrame) (after : Versions) (released : Rele
 
   sound-then : IsSoundOnce w hand s → IsSoundOnce u hand s
   sound-then (inl sound) = inl (sound-left w is.homes is.has fs after released s pinned sound)
-  sound-then (inr starting) = inr (record { moves = starting.moves; untold = starting.untold; begins = starting.begins })
+  sound-then (inr starting) = inr (record { moves = starting.moves; undelivered = starting.undelivered; begins = starting.begins })
 
   pub released-machine : IsMachine u loaded hand (seen u s true false clock hand) s
   released-machine =
@@ -77,7 +77,7 @@ module _ (w : Setup) (fs : List PlacedFrame) (after : Versions) (released : Rele
       record {
         homes = then_homes w is.homes is.has fs after released;
         has = has-then w is.homes is.has fs after released;
-        early = λ no. absurd (let e : true ≡ false = no in cc);
+        before_the_run = λ no. absurd (let e : true ≡ false = no in cc);
         whole = λ same. record {
           linked = whole.linked;
           stands = λ resting yes. stands-left w is.homes is.has fs after released s (run w.world clock) pinned (whole.rests resting refl) (whole.stands resting refl);
@@ -117,15 +117,15 @@ module _ (w : Setup) (hand : Hand) (started : Bool) (clock : ℕ) (s : State) (l
   stands_now : resting_now ≡ true → started ≡ true → Stands w is.homes s (run w.world clock)
   stands_now e f = subst (λ b. Stands w is.homes s (if b then run w.world clock else before w.world)) f (whole_now.stands e f)
 
-  resting-parts : resting_now ≡ true → (hand.passed ≡ 0) × (hand.told ≡ false)
-  resting-parts e = let both = and_parts (hand.passed == 0) (not hand.told) e in (zero_is hand.passed both.0, not_is hand.told both.1)
+  resting-parts : resting_now ≡ true → (hand.passed ≡ 0) × (hand.delivered ≡ false)
+  resting-parts e = let both = and_parts (hand.passed == 0) (not hand.delivered) e in (zero_is hand.passed both.0, not_is hand.delivered both.1)
 
   -- it was started, or nothing is in hand
   pub started-if : (b : Bool) → started ≡ b → resting_now ≡ false → b ≡ true
   started-if true e busy = refl
   started-if false e busy =
-      let early = is.early e in
-      absurd (let h : true ≡ false = sym (ap₂ (λ n told. n == 0 && not told) early.passed early.told) ∙ busy in cc)
+      let early = is.before_the_run e in
+      absurd (let h : true ≡ false = sym (ap₂ (λ n delivered. n == 0 && not delivered) early.passed early.delivered) ∙ busy in cc)
 
   no-frames : started ≡ false → helds (mark_of w.versions) s.stack ≡ []
   no-frames e = ap (λ (z : State). helds (mark_of w.versions) z.stack) (whole_now.first e).before
@@ -140,9 +140,9 @@ module _ (w : Setup) (hand : Hand) (started : Bool) (clock : ℕ) (s : State) (l
 
   rest-seen : (b : Bool) → started ≡ b → resting_now ≡ true → seen_by true b ≡ begun_by true (taken_hand w.world true b hand).passed
   rest-seen true e rests =
-      ap₂ (λ (b told : Bool). record (seen_by true true) { clock = if b then clock + 1 else 0; told = told }) (sym e) (sym (resting-parts rests).1)
+      ap₂ (λ (b delivered : Bool). record (seen_by true true) { clock = if b then clock + 1 else 0; delivered = delivered }) (sym e) (sym (resting-parts rests).1)
   rest-seen false e rests =
-      ap₂ (λ (b told : Bool). record (seen_by true false) { clock = if b then clock + 1 else 0; told = told }) (sym e) (sym (resting-parts rests).1)
+      ap₂ (λ (b delivered : Bool). record (seen_by true false) { clock = if b then clock + 1 else 0; delivered = delivered }) (sym e) (sym (resting-parts rests).1)
       ∙ ap (λ live. record (begun_by true (behind_load (main_loads w.world))) { live = live }) (starts-held (mark_of w.versions) w.world ∙ sym (no-frames e))
 
   taken-seen : (resting : Bool) → resting_now ≡ resting → seen_by resting started ≡ record (begun old) { passed = (taken_hand w.world resting started hand).passed }
@@ -181,7 +181,7 @@ module _ (w : Setup) (hand : Hand) (started : Bool) (clock : ℕ) (s : State) (l
   hand-by true false e f some = start-hand w is.homes is.has
   hand-by true true e f some =
       let none : loads_in w s ≡ [] = none-front (loads_in w s) some in
-      subst (λ l. HasInHand w is.homes (turn w.world (clock + 1)) (record { moves = false; told = false; passed = behind_load l }) (helds (mark_of w.versions) (with_loaded l s).stack) (with_loaded l s)) none
+      subst (λ l. HasInHand w is.homes (turn w.world (clock + 1)) (record { moves = false; delivered = false; passed = behind_load l }) (helds (mark_of w.versions) (with_loaded l s).stack) (with_loaded l s)) none
       (step-hand w is.homes is.has clock s (stands_now e f))
 
   -- ---- the start has loaded classes
@@ -189,29 +189,29 @@ module _ (w : Setup) (hand : Hand) (started : Bool) (clock : ℕ) (s : State) (l
   module _ (c : ℕ) (more : List ℕ) (loads : taken_loads w.world resting_now started ≡ c ∷ more) where
     record FromStart : Type 0 where
       first : resting_now ≡ true
-      early : started ≡ false
+      before_the_run : started ≡ false
       loading : main_loads w.world ≡ c ∷ more
 
     from-start : (resting b : Bool) → resting_now ≡ resting → started ≡ b → taken_loads w.world resting b ≡ c ∷ more → FromStart
     from-start true true e f is = absurd (let h : [] ≡ c ∷ more = is in cc)
-    from-start true false e f is = record { first = e; early = f; loading = is }
+    from-start true false e f is = record { first = e; before_the_run = f; loading = is }
     from-start false b e f is = absurd (let h : [] ≡ c ∷ more = is in cc)
 
     at_start : FromStart
     at_start = from-start resting_now started refl refl loads
 
     start-clock : (begun old).clock ≡ 0
-    start-clock = ap (λ r. (if r then advanced old else old).clock) at_start.first ∙ ap (λ b. if b then clock + 1 else 0) at_start.early
+    start-clock = ap (λ r. (if r then advanced old else old).clock) at_start.first ∙ ap (λ b. if b then clock + 1 else 0) at_start.before_the_run
 
     one-passed : then_hand.passed ≡ 1
-    one-passed = ap₂ (λ r b. (taken_hand w.world r b hand).passed) at_start.first at_start.early ∙ ap behind_load at_start.loading
+    one-passed = ap₂ (λ r b. (taken_hand w.world r b hand).passed) at_start.first at_start.before_the_run ∙ ap behind_load at_start.loading
 
     pub start-tells : TellsClasses old (c ∷ more) (seen w then_state true false then_clock then_hand)
     start-tells = record {
       first = at_start.first;
       some = omega arith;
       loads = ap (λ r. loads_next (if r then advanced old else old)) at_start.first
-          ∙ (ap₂ (λ n b. loads_first (drop n (turn w.world (if b then clock + 1 else 0)).changes)) (resting-parts at_start.first).0 at_start.early
+          ∙ (ap₂ (λ n b. loads_first (drop n (turn w.world (if b then clock + 1 else 0)).changes)) (resting-parts at_start.first).0 at_start.before_the_run
           ∙ start-first w is.homes is.has c more at_start.loading);
       stepped = taken-seen resting_now refl ∙ ap (λ n. record (begun old) { passed = n }) one-passed;
     }
@@ -221,13 +221,13 @@ module _ (w : Setup) (hand : Hand) (started : Bool) (clock : ℕ) (s : State) (l
     start-machine-by true false e f loaded' linked = record {
       homes = is.homes;
       has = is.has;
-      early = λ no. absurd (let e : true ≡ false = no in cc);
+      before_the_run = λ no. absurd (let e : true ≡ false = no in cc);
       whole = λ same. record {
         linked = linked;
         stands = λ resting yes. absurd (busy resting);
         rests = λ resting yes. absurd (busy resting);
         in_hand = λ other. start-hand w is.homes is.has;
-        sound = λ other. inr (record { moves = refl; untold = refl; begins = refl });
+        sound = λ other. inr (record { moves = refl; undelivered = refl; begins = refl });
         first = λ no. absurd (let e : true ≡ false = no in cc);
       };
     } where
@@ -237,7 +237,7 @@ module _ (w : Setup) (hand : Hand) (started : Bool) (clock : ℕ) (s : State) (l
     start-machine-by false b e f loaded' linked = absurd (let h : false ≡ true = e in cc)
 
     pub start-machine : (loaded' : List ℕ) → loaded' ≡ then_state.shared.loaded → IsMachine w loaded' then_hand (seen w then_state true false then_clock then_hand) then_state
-    start-machine loaded' linked = start-machine-by resting_now started at_start.first at_start.early loaded' linked
+    start-machine loaded' linked = start-machine-by resting_now started at_start.first at_start.before_the_run loaded' linked
 
   -- ---- the step has loaded classes
 
@@ -266,7 +266,7 @@ module _ (w : Setup) (hand : Hand) (started : Bool) (clock : ℕ) (s : State) (l
     next_state = with_loaded (loads_in w s) s
 
     abbrev loads_hand : Hand
-    loads_hand = record { moves = false; told = false; passed = 1 }
+    loads_hand = record { moves = false; delivered = false; passed = 1 }
 
     pub clock-more : then_clock ≡ clock + 1
     clock-more = ap₂ (λ r b. clock_in r b clock) at_rest.first at_rest.begun
@@ -276,7 +276,7 @@ module _ (w : Setup) (hand : Hand) (started : Bool) (clock : ℕ) (s : State) (l
       loads-seen : seen w next_state true false (clock + 1) loads_hand ≡ record (begun old) { passed = 1 }
       loads-seen =
           ap (λ l. seen w (with_loaded l s) true false (clock + 1) loads_hand) loads
-          ∙ (ap₂ (λ (b told : Bool). record (seen w s true false (if b then clock + 1 else 0) loads_hand) { told = told }) (sym at_rest.begun) (sym (resting-parts at_rest.first).1)
+          ∙ (ap₂ (λ (b delivered : Bool). record (seen w s true false (if b then clock + 1 else 0) loads_hand) { delivered = delivered }) (sym at_rest.begun) (sym (resting-parts at_rest.first).1)
           ∙ ap (λ r. begun_by r 1) (sym at_rest.first))
 
       pub loads-tell : TellsClasses old (c ∷ more) (seen w next_state true false (clock + 1) loads_hand)
@@ -294,12 +294,12 @@ module _ (w : Setup) (hand : Hand) (started : Bool) (clock : ℕ) (s : State) (l
       loads-machine loaded' linked sound = record {
         homes = is.homes;
         has = is.has;
-        early = λ no. absurd (let e : true ≡ false = no in cc);
+        before_the_run = λ no. absurd (let e : true ≡ false = no in cc);
         whole = λ same. record {
           linked = linked;
           stands = λ resting yes. absurd (let e : false ≡ true = resting in cc);
           rests = λ resting yes. absurd (let e : false ≡ true = resting in cc);
-          in_hand = λ busy. subst (λ n. HasInHand w is.homes (turn w.world (clock + 1)) (record { moves = false; told = false; passed = n }) (helds (mark_of w.versions) next_state.stack) next_state)
+          in_hand = λ busy. subst (λ n. HasInHand w is.homes (turn w.world (clock + 1)) (record { moves = false; delivered = false; passed = n }) (helds (mark_of w.versions) next_state.stack) next_state)
               (ap behind_load loads) (step-hand w is.homes is.has clock s (stands_now at_rest.first at_rest.begun));
           sound = λ busy. inl (sound (whole_now.rests at_rest.first at_rest.begun));
           first = λ no. absurd (let e : true ≡ false = no in cc);
@@ -329,15 +329,15 @@ module _ (w : Setup) (hand : Hand) (started : Bool) (clock : ℕ) (s : State) (l
     resting-nothing : (d : Due) → gone.due ≡ d → is_resting there ≡ true → gone.due ≡ Nothing
     resting-nothing Nothing e resting = e
     resting-nothing (Ends k) e resting =
-        let both = and_parts (passed_then gone.due gone.hand.passed == 0) (not gone.hand.told) resting in
-        absurd (let f : false ≡ true = sym (ap not (left.told ∙ ap is_end e)) ∙ both.1 in cc)
+        let both = and_parts (passed_then gone.due gone.hand.passed == 0) (not gone.hand.delivered) resting in
+        absurd (let f : false ≡ true = sym (ap not (left.delivered ∙ ap is_end e)) ∙ both.1 in cc)
     resting-nothing Begins e resting =
-        let both = and_parts (passed_then gone.due gone.hand.passed == 0) (not gone.hand.told) resting in
+        let both = and_parts (passed_then gone.due gone.hand.passed == 0) (not gone.hand.delivered) resting in
         absurd (let f : false ≡ true = sym (passed-some w is.homes is.has true false then_clock then_hand then_state in_hand_then gone new goes_on left e)
         ∙ (ap (λ d. passed_then d gone.hand.passed == 0) (sym e) ∙ both.0) in cc)
 
     busy-something : is_resting there ≡ false → gone.due ≡ Nothing → ⊥
-    busy-something busy e = (let f : true ≡ false = sym (ap₂ (λ n told. n == 0 && not told) (ap (λ d. passed_then d gone.hand.passed) e) (left.told ∙ ap is_end e)) ∙ busy in cc)
+    busy-something busy e = (let f : true ≡ false = sym (ap₂ (λ n delivered. n == 0 && not delivered) (ap (λ d. passed_then d gone.hand.passed) e) (left.delivered ∙ ap is_end e)) ∙ busy in cc)
 
     -- the same is in hand
     left-hand : (d : Due) → gone.due ≡ d → (gone.due ≡ Nothing → ⊥) → HasInHand w is.homes (turn w.world then_clock) (record gone.hand { passed = passed_then d gone.hand.passed }) (helds (mark_of w.versions) new.stack) new
@@ -346,13 +346,13 @@ module _ (w : Setup) (hand : Hand) (started : Bool) (clock : ℕ) (s : State) (l
     left-hand Begins e other = goes-hand w is.homes is.has true false then_clock then_hand then_state in_hand_then gone new goes_on left other
 
     -- it is sound, also behind the moves of the start
-    module _ (sound : IsSoundIn w then_state → IsSoundIn w new) (starts : then_hand.moves ≡ true → then_hand.told ≡ false → then_state ≡ starts_with w.world → IsSoundIn w new) where
-      from-once : (h : Hand) (z : State) → (IsSoundIn w z → IsSoundIn w new) → (h.moves ≡ true → h.told ≡ false → z ≡ starts_with w.world → IsSoundIn w new) → IsSoundOnce w h z → IsSoundIn w new
+    module _ (sound : IsSoundIn w then_state → IsSoundIn w new) (starts : then_hand.moves ≡ true → then_hand.delivered ≡ false → then_state ≡ starts_with w.world → IsSoundIn w new) where
+      from-once : (h : Hand) (z : State) → (IsSoundIn w z → IsSoundIn w new) → (h.moves ≡ true → h.delivered ≡ false → z ≡ starts_with w.world → IsSoundIn w new) → IsSoundOnce w h z → IsSoundIn w new
       from-once h z by_sound by_start (inl is) = by_sound is
-      from-once h z by_sound by_start (inr is) = by_start is.moves is.untold is.begins
+      from-once h z by_sound by_start (inr is) = by_start is.moves is.undelivered is.begins
 
       sound-by : (resting b : Bool) → resting_now ≡ resting → started ≡ b → (IsSoundIn w (taken_state w.world resting b s) → IsSoundIn w new)
-          → ((taken_hand w.world resting b hand).moves ≡ true → (taken_hand w.world resting b hand).told ≡ false → taken_state w.world resting b s ≡ starts_with w.world → IsSoundIn w new) → IsSoundIn w new
+          → ((taken_hand w.world resting b hand).moves ≡ true → (taken_hand w.world resting b hand).delivered ≡ false → taken_state w.world resting b s ≡ starts_with w.world → IsSoundIn w new) → IsSoundIn w new
       sound-by false b e f by_sound by_start = from-once hand s by_sound by_start (whole_now.sound e)
       sound-by true true e f by_sound by_start = by_sound (whole_now.rests e f)
       sound-by true false e f by_sound by_start = by_start refl refl refl
@@ -364,7 +364,7 @@ module _ (w : Setup) (hand : Hand) (started : Bool) (clock : ℕ) (s : State) (l
       gone-machine loaded' linked = record {
         homes = is.homes;
         has = is.has;
-        early = λ no. absurd (let e : true ≡ false = no in cc);
+        before_the_run = λ no. absurd (let e : true ≡ false = no in cc);
         whole = λ same. record {
           linked = linked;
           stands = λ resting yes. goes-rests w is.homes is.has true false then_clock then_hand then_state in_hand_then gone new goes_on left (resting-nothing gone.due refl resting);

@@ -44,14 +44,14 @@ record TellsNothing (marks : ℕ → Mark) (live : List Held) (changes : List Ch
   due : (stop_in marks 0 live changes).due ≡ Nothing
 
 module _ (v : View) (resting : is_resting v ≡ true) (nothing : TellsNothing (mark_at v.marks) v.live (turn (world v) (advanced v).clock).changes) where
-  parts : (v.passed ≡ 0) × (v.told ≡ false)
-  parts = let both = and_parts (v.passed == 0) (not v.told) resting in (zero_is v.passed both.0, not_is v.told both.1)
+  parts : (v.passed ≡ 0) × (v.delivered ≡ false)
+  parts = let both = and_parts (v.passed == 0) (not v.delivered) resting in (zero_is v.passed both.0, not_is v.delivered both.1)
 
   abbrev changes : List Change
   changes = (turn (world v) (advanced v).clock).changes
 
   at-end : next_stop (advanced v) ≡ stop_in (mark_at v.marks) 0 v.live changes
-  at-end = ap₂ (λ n told. stop_from (mark_at v.marks) told n v.live (drop n changes)) parts.0 parts.1
+  at-end = ap₂ (λ n delivered. stop_from (mark_at v.marks) delivered n v.live (drop n changes)) parts.0 parts.1
 
   begun-is : begun v ≡ advanced v
   begun-is = ap (λ b. if b then advanced v else v) resting
@@ -66,8 +66,8 @@ module _ (v : View) (resting : is_resting v ≡ true) (nothing : TellsNothing (m
     went_on = ap₂ (λ a b. a && b) resting going_before;
     loads = ap loads_next begun-is ∙ (ap (λ n. loads_first (drop n changes)) parts.0 ∙ nothing.loads);
     all = ap (λ (x : View). (next_stop x).due) begun-is ∙ (ap (λ (s : Stop). s.due) at-end ∙ nothing.due);
-    stepped = ap₂ (λ n told. record after { passed = n; told = told }) parts.0 parts.1
-        ∙ (ap (λ live. record (advanced v) { passed = 0; told = false; live = live }) (sym (ap (λ (s : Stop). s.live) at-end))
+    stepped = ap₂ (λ n delivered. record after { passed = n; delivered = delivered }) parts.0 parts.1
+        ∙ (ap (λ live. record (advanced v) { passed = 0; delivered = false; live = live }) (sym (ap (λ (s : Stop). s.live) at-end))
         ∙ ap rested (sym begun-is));
     goes_on = going_after;
   }
@@ -88,8 +88,8 @@ module _ (w : Setup) (s : State) (silent : IsSilent w s) where
   silent-helds : helds marks (step w.world u s).after.stack ≡ stopped_at.live
   silent-helds =
       let p : Pause = step_pause w.world u marks false 0 s in
-      let is = step-paused w.world u marks (ends-by-return w.world) false 0 s (λ told. absurd (let e : false ≡ true = told in cc)) silent.loads in
-      let due : p.due ≡ Nothing = ap (λ (x : Stop). x.due) (sym is.stops) ∙ silent.untold in
+      let is = step-paused w.world u marks (ends-by-return w.world) false 0 s (λ delivered. absurd (let e : false ≡ true = delivered in cc)) silent.loads in
+      let due : p.due ≡ Nothing = ap (λ (x : Stop). x.due) (sym is.stops) ∙ silent.undelivered in
       let there : (step w.world u s).after ≡ p.state = is.part.same ∙ ap (λ (a : Turn). a.after) (is.ends due) in
       ap (λ (z : State). helds marks z.stack) there ∙ ap (λ (x : Stop). x.live) (sym is.stops)
 
@@ -106,7 +106,7 @@ module _ (w : Setup) (s : State) (silent : IsSilent w s) where
   tells-nothing : (clock : ℕ) → IsRunOf w clock s → TellsNothing (mark_at (marks_of w.versions)) (helds marks s.stack) (turn w.world (clock + 1)).changes
   tells-nothing clock is = record {
     loads = ap loads_first (run-same clock is) ∙ no-first (step w.world u s).changes (rest-no w.world u Attempt s silent.loads);
-    due = ap (λ (x : Stop). x.due) (same-stop clock is) ∙ silent.untold;
+    due = ap (λ (x : Stop). x.due) (same-stop clock is) ∙ silent.undelivered;
   }
 
 -- ---- several
@@ -171,7 +171,7 @@ module _ (w : Setup) (hand : Hand) (clock : ℕ) (s : State) (is : IsRunOf w clo
         record {
           homes = after.homes;
           has = after.has;
-          early = λ no. absurd (let e : true ≡ false = no in cc);
+          before_the_run = λ no. absurd (let e : true ≡ false = no in cc);
           whole = λ same. record {
             linked = linked;
             stands = λ rests yes. after.stands;
@@ -205,7 +205,7 @@ module _ (w : Setup) (loaded : List ℕ) (hand : Hand) (started broken : Bool) (
   }
 
   going-on : is_some new.ending ≡ false
-  going-on = ap is_some passed.calm.ending
+  going-on = ap is_some passed.at_instruction.ending
 
   pub plain-passes : Passes v n (seen w new started broken (clock + n) hand)
   plain-passes =

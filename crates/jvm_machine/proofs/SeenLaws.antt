@@ -24,8 +24,8 @@ use Rattle.jvm_model.proofs.Events.Traces.{IsTrace, no_trace-is, trace_in-is}
 use Rattle.jvm_model.proofs.Events.ToldTraces.{all_changed-held, all-told}
 use Rattle.jvm_model.proofs.Turns.GoesOn.{drop-passed}
 
-at-stop : (v : View) → IsStop (mark_at v.marks) v.clock v.passed v.told v.live (to_come v) (next_stop v)
-at-stop v = stop_from-is (mark_at v.marks) v.clock v.told v.passed v.live (to_come v)
+at-stop : (v : View) → IsStop (mark_at v.marks) v.clock v.passed v.delivered v.live (to_come v) (next_stop v)
+at-stop v = stop_from-is (mark_at v.marks) v.clock v.delivered v.passed v.live (to_come v)
 
 -- what is left behind a stop
 left-there : (v : View) → to_come (stopped v) ≡ (at-stop v).more
@@ -34,11 +34,11 @@ left-there v =
     ap (λ n. drop n (turn (world v) v.clock).changes) is.count ∙ drop-passed v.passed is.passed is.more (turn (world v) v.clock).changes is.all
 
 pub stop-tells : (v : View) (e : Event) → next_event v ≡ Some e → events_left v ≡ e ∷ events_left (stopped v)
-stop-tells v e told =
+stop-tells v e delivered =
     let is = at-stop v in
     let s : Stop = next_stop v in
     is.tells
-    ∙ (ap (λ o. option_map_or (λ e. e ∷ told_from (mark_at v.marks) v.clock (is_end s.due) s.live is.more) o []) told
+    ∙ (ap (λ o. option_map_or (λ e. e ∷ told_from (mark_at v.marks) v.clock (is_end s.due) s.live is.more) o []) delivered
     ∙ ap (λ more. e ∷ told_from (mark_at v.marks) v.clock (is_end s.due) s.live more) (sym (left-there v)))
 
 pub stop-lives : (v : View) → live_then (stopped v) ≡ live_then v
@@ -108,8 +108,8 @@ and-false true = refl
 and-false false = refl
 
 pub stopped-busy : (v : View) (e : Event) → next_event v ≡ Some e → is_resting (stopped v) ≡ false
-stopped-busy v e told = by (next_stop v).due refl where
+stopped-busy v e delivered = by (next_stop v).due refl where
   by : (d : Due) → (next_stop v).due ≡ d → is_resting (stopped v) ≡ false
-  by Nothing is = absurd (let h : None ≡ Some e = sym (ap (λ d. told_at d v.clock (next_stop v).live) is) ∙ told in cc)
+  by Nothing is = absurd (let h : None ≡ Some e = sym (ap (λ d. told_at d v.clock (next_stop v).live) is) ∙ delivered in cc)
   by (Ends k) is = ap (λ d. (next_stop v).passed == 0 && not (is_end d)) is ∙ and-false ((next_stop v).passed == 0)
-  by Begins is = ap (λ b. b && not (is_end (next_stop v).due)) (stop-begins (mark_at v.marks) v.told v.passed v.live (to_come v) is)
+  by Begins is = ap (λ b. b && not (is_end (next_stop v).due)) (stop-begins (mark_at v.marks) v.delivered v.passed v.live (to_come v) is)

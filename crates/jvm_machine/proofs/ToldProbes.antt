@@ -74,7 +74,7 @@ module _ (marks : ℕ → Mark) where
     by later true e = later
     by later false e = e
 
-  pub stop-told : (told : Bool) (n : ℕ) (live : List Held) (changes : List Change) → (let s = stop_from marks told n live changes in IsTold s.due s.live)
+  pub stop-told : (delivered : Bool) (n : ℕ) (live : List Held) (changes : List Change) → (let s = stop_from marks delivered n live changes in IsTold s.due s.live)
   stop-told false n live changes = stops-told n live changes
   stop-told true n live [] = tt
   stop-told true n live (c ∷ more) = stops-told (suc n) (held_after marks live c) more
@@ -178,15 +178,15 @@ module _ (p : Program) (method at : ℕ) (m : Mark) (count : ℕ) (old new : Cod
 
 module _ (v : View) (clock : ℕ) where
   comes-by : (live : List Held) (due : Due) (event : Event) → v.live ≡ live → IsTold due live → IfLeaves (telling.Due due) v → told_at due clock live ≡ Some event → ComesFromProbe v event
-  comes-by live Nothing event is told leaves e = absurd (none-some event e)
-  comes-by [] Begins event is told leaves e = absurd told
-  comes-by [] (Ends k) event is told leaves e = absurd told.0
-  comes-by (h ∷ more) Begins event is told leaves e =
+  comes-by live Nothing event is delivered leaves e = absurd (none-some event e)
+  comes-by [] Begins event is delivered leaves e = absurd delivered
+  comes-by [] (Ends k) event is delivered leaves e = absurd delivered.0
+  comes-by (h ∷ more) Begins event is delivered leaves e =
       subst (ComesFromProbe v) (same_Some _ event e) (record {
         mark = h.mark;
         others = more;
         live = is;
-        marked = told;
+        marked = delivered;
         at = 0;
         returns = λ leave. absurd (begin-no-leave h.mark leave);
         stands = λ count old new homes coded fits closed version. begins-there v.program h.method 0 h.mark count old new homes coded fits closed version;
@@ -196,7 +196,7 @@ module _ (v : View) (clock : ℕ) where
       begin-no-leave mark.Root e = cc
       begin-no-leave mark.Plain e = cc
       begin-no-leave mark.Off e = cc
-  comes-by (h ∷ more) (Ends k) event is told leaves e = subst (ComesFromProbe v) (same_Some _ event e) (by told.1) where
+  comes-by (h ∷ more) (Ends k) event is delivered leaves e = subst (ComesFromProbe v) (same_Some _ event e) (by delivered.1) where
     first-same : (a b : Held) (x y : List Held) → a ∷ x ≡ b ∷ y → a ≡ b
     first-same a b x y same = same_Some a b (ap (λ (l : List Held). slice_get l 0) same)
 
@@ -205,10 +205,10 @@ module _ (v : View) (clock : ℕ) where
       mark = h.mark;
       others = more;
       live = is;
-      marked = told.0;
+      marked = delivered.0;
       at = at;
       returns = returns;
-      stands = λ count old new homes coded fits closed version. ends-there v.program h.method at h.mark count old new homes coded fits closed version k told.1 returns;
+      stands = λ count old new homes coded fits closed version. ends-there v.program h.method at h.mark count old new homes coded fits closed version k delivered.1 returns;
     }
 
     by : (k ≡ kind.Leave) ⊎ (k ≡ kind.Unwind) → ComesFromProbe v (record { kind = k; method = h.method; clock = clock })
@@ -220,11 +220,11 @@ module _ (v : View) (clock : ℕ) where
 
 -- what a call has come to
 pub from-probe : (old new : View) (due : Due) → Stops old due new → IfLeaves (telling.Due due) new → (event : Event) → told_at due new.clock new.live ≡ Some event → ComesFromProbe new event
-from-probe old new due stops leaves event told =
-    comes-by new new.clock new.live due event refl (by due refl) leaves told
+from-probe old new due stops leaves event delivered =
+    comes-by new new.clock new.live due event refl (by due refl) leaves delivered
   where
     here : IsTold (next_stop (begun old)).due (next_stop (begun old)).live
-    here = stop-told (mark_at (begun old).marks) (begun old).told (begun old).passed (begun old).live (to_come (begun old))
+    here = stop-told (mark_at (begun old).marks) (begun old).delivered (begun old).passed (begun old).live (to_come (begun old))
 
     by : (d : Due) → due ≡ d → IsTold d new.live
     by Nothing e = tt

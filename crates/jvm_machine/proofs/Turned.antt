@@ -54,7 +54,7 @@ in-told marks n live (Began m ∷ more) = begin-told marks live m n (stop_in mar
 in-told marks n live (Left ∷ more) = end-told kind.Leave live (held_after marks live Left) n (stop_in marks (suc n) (held_after marks live Left) more) (in-told marks (suc n) (held_after marks live Left) more)
 in-told marks n live (Unwound ∷ more) = end-told kind.Unwind live (held_after marks live Unwound) n (stop_in marks (suc n) (held_after marks live Unwound) more) (in-told marks (suc n) (held_after marks live Unwound) more)
 
-from-told : (marks : ℕ → Mark) (told : Bool) (n : ℕ) (live : List Held) (cs : List Change) → Told (stop_from marks told n live cs)
+from-told : (marks : ℕ → Mark) (delivered : Bool) (n : ℕ) (live : List Held) (cs : List Change) → Told (stop_from marks delivered n live cs)
 from-told marks false n live cs = in-told marks n live cs
 from-told marks true n live [] = in-told marks n live []
 from-told marks true n live (c ∷ more) = in-told marks (suc n) (held_after marks live c) more
@@ -72,7 +72,7 @@ told-next old new due is = by due is.stepped is.due_is where
 pub nothing-due : (old new : View) (due : Due) → Stops old due new → told_at due new.clock new.live ≡ None → due ≡ Nothing
 nothing-due old new due is none =
     let v : View = begun old in
-    sym is.due_is ∙ from-told (mark_at v.marks) v.told v.passed v.live (to_come v) v.clock (sym (told-next old new due is) ∙ none)
+    sym is.due_is ∙ from-told (mark_at v.marks) v.delivered v.passed v.live (to_come v) v.clock (sym (told-next old new due is) ∙ none)
 
 pub rests-then : (old new : View) (due : Due) → Stops old due new → told_at due new.clock new.live ≡ None → is_resting new ≡ true
 rests-then old new due is none =
@@ -101,9 +101,9 @@ turned old new due whole going is leaves = by (told_at due new.clock new.live) r
       }
 
   stopped-by : (d : Due) → due ≡ d → (event : Event) → told_at due new.clock new.live ≡ Some event → new ≡ stopped (begun old)
-  stopped-by Nothing e event told = absurd (let h : None ≡ Some event = sym (ap (λ d. told_at d new.clock new.live) e) ∙ told in cc)
-  stopped-by (Ends k) e event told = is.stepped ∙ ap (told_in (begun old)) e
-  stopped-by Begins e event told = is.stepped ∙ ap (told_in (begun old)) e
+  stopped-by Nothing e event delivered = absurd (let h : None ≡ Some event = sym (ap (λ d. told_at d new.clock new.live) e) ∙ delivered in cc)
+  stopped-by (Ends k) e event delivered = is.stepped ∙ ap (told_in (begun old)) e
+  stopped-by Begins e event delivered = is.stepped ∙ ap (told_in (begun old)) e
 
   by : (o : Option Event) → told_at due new.clock new.live ≡ o → Turns old (turn_by o (has_ended new)) new
   by None e = ended (has_ended new) refl (nothing-due old new due is e)

@@ -16,8 +16,8 @@ use Rattle.jvm_machine.specs.View.{View, begun, is_resting, loads_next, next_sto
 
 abbrev pub taken_hand : World → Bool → Bool → Hand → Hand
 taken_hand w false started hand = hand
-taken_hand w true true hand = record { moves = false; told = false; passed = 0 }
-taken_hand w true false hand = record { moves = true; told = false; passed = behind_load (main_loads w) }
+taken_hand w true true hand = record { moves = false; delivered = false; passed = 0 }
+taken_hand w true false hand = record { moves = true; delivered = false; passed = behind_load (main_loads w) }
 
 -- what that loads; a step loads its classes later
 abbrev pub taken_loads : World → Bool → Bool → List ℕ
@@ -49,7 +49,7 @@ told_in v (Ends k) = stopped v
 told_in v Begins = stopped v
 
 abbrev pub broken_in : View → View → View
-broken_in old new = record (begun old) { broken = true; passed = new.passed; told = new.told; live = new.live }
+broken_in old new = record (begun old) { broken = true; passed = new.passed; delivered = new.delivered; live = new.live }
 
 -- it tells classes, which were loaded before anything else
 pub record TellsClasses (old : View) (classes : List ℕ) (new : View) : Type 0 where

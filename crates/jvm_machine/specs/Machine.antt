@@ -34,7 +34,7 @@ seen w s started broken clock hand = record {
   broken = broken;
   clock = clock;
   passed = hand.passed;
-  told = hand.told;
+  delivered = hand.delivered;
   live = helds (mark_of w.versions) s.stack;
   stale = false;
 }
@@ -65,7 +65,7 @@ Stands w homes s original = StandsFor (places_of w.world.program) (method_of w.v
 -- what moves of the start are made from
 pub record IsStarting (w : Setup) (hand : Hand) (s : State) : Type 0 where
   pub moves : hand.moves ≡ true
-  pub untold : hand.told ≡ false
+  pub undelivered : hand.delivered ≡ false
   pub begins : s ≡ starts_with w.world
 
 -- it is sound, or the moves of the start make it so
@@ -82,16 +82,16 @@ pub record IsWhole (w : Setup) (homes : ℕ → ℕ → ℕ) (loaded : List ℕ)
   pub first : v.started ≡ false → IsAtStart w.world s
 
 -- before the start no step is in hand
-pub record IsEarly (v : View) : Type 0 where
+pub record IsBeforeTheRun (v : View) : Type 0 where
   pub clock : v.clock ≡ 0
   pub passed : v.passed ≡ 0
-  pub told : v.told ≡ false
+  pub delivered : v.delivered ≡ false
 
 -- unless memory has run out
 pub record IsMachine (w : Setup) (loaded : List ℕ) (hand : Hand) (v : View) (s : State) : Type 0 where
   pub homes : ℕ → ℕ → ℕ
   pub has : HasVersions w homes
-  pub early : v.started ≡ false → IsEarly v
+  pub before_the_run : v.started ≡ false → IsBeforeTheRun v
   pub whole : v.broken ≡ false → IsWhole w homes loaded hand v s
 
 -- and no version is held needlessly

@@ -54,7 +54,7 @@ pub record Refuses (old new : View) : Type 0 where
 pub record Breaks (old new : View) : Type 0 where
   pub whole : old.broken ≡ false
   pub went_on : IsGoingOn old
-  pub stepped : new ≡ record (begun old) { broken = true; passed = new.passed; told = new.told; live = new.live }
+  pub stepped : new ≡ record (begun old) { broken = true; passed = new.passed; delivered = new.delivered; live = new.live }
 
 abbrev pub Turns : View → Turn → View → Type 0
 Turns old Settled new = Settles old new

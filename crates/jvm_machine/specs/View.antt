@@ -24,7 +24,7 @@ pub record View : Type 0 where
   pub broken : Bool
   pub clock : ℕ
   pub passed : ℕ
-  pub told : Bool
+  pub delivered : Bool
   pub live : List Held
   pub stale : Bool
 
@@ -38,7 +38,7 @@ made program input = record {
   broken = false;
   clock = 0;
   passed = 0;
-  told = false;
+  delivered = false;
   live = [];
   stale = false;
 }
@@ -57,7 +57,7 @@ has_ended v = is_some (run_state v).ending
 
 -- no step is in hand
 abbrev pub is_resting : View → Bool
-is_resting v = v.passed == 0 && not v.told
+is_resting v = v.passed == 0 && not v.delivered
 
 -- there is a step to make, or one in hand
 abbrev pub IsGoingOn : View → Type 0
@@ -82,24 +82,24 @@ loads_next v = loads_first (to_come v)
 
 -- where it stops: at the next change of which a probe tells
 abbrev pub next_stop : View → Stop
-next_stop v = stop_from (mark_at v.marks) v.told v.passed v.live (to_come v)
+next_stop v = stop_from (mark_at v.marks) v.delivered v.passed v.live (to_come v)
 
 abbrev pub next_event : View → Option Event
 next_event v = told_at (next_stop v).due v.clock (next_stop v).live
 
 -- what is seen there
 abbrev pub stopped : View → View
-stopped v = record v { passed = (next_stop v).passed; told = is_end (next_stop v).due; live = (next_stop v).live }
+stopped v = record v { passed = (next_stop v).passed; delivered = is_end (next_stop v).due; live = (next_stop v).live }
 
 -- and where the step is done
 abbrev pub rested : View → View
-rested v = record v { passed = 0; told = false; live = (next_stop v).live }
+rested v = record v { passed = 0; delivered = false; live = (next_stop v).live }
 
 -- ---- what is left of it
 
 -- the events that are still to be told, where no other versions are installed
 abbrev pub events_left : View → List Event
-events_left v = told_from (mark_at v.marks) v.clock v.told v.live (to_come v)
+events_left v = told_from (mark_at v.marks) v.clock v.delivered v.live (to_come v)
 
 -- the live activations after the step
 abbrev pub live_then : View → List Held

@@ -45,7 +45,7 @@ pub fn hand_now(resting: bool, hand: Hand) -> Hand
     }
     Hand {
         moves: false,
-        told: false,
+        delivered: false,
         passed: 0,
     }
 }
@@ -100,7 +100,7 @@ fn take_start(
     ensures linked { OnOk result (originals.new.loaded ≡ parts.new.shared.loaded) }
     ensures loads { IfOk result (λ t. t.loads ≡ main_loads originals.old.setup.world) }
     ensures hand { let passed = behind_load (main_loads originals.old.setup.world) in
-        IfOk result (λ t. t.hand ≡ record { moves = true; told = false; passed = passed }) }
+        IfOk result (λ t. t.hand ≡ record { moves = true; delivered = false; passed = passed }) }
     ensures state { OnOk result
         (state_of initializing.new parts.new ≡ starts_with originals.old.setup.world) }
 {
@@ -112,7 +112,7 @@ fn take_start(
         loads,
         hand: Hand {
             moves: true,
-            told: false,
+            delivered: false,
             passed,
         },
     })
@@ -156,7 +156,7 @@ pub fn take_up(
         loads: Seq::new(alloc),
         hand: Hand {
             moves: false,
-            told: false,
+            delivered: false,
             passed: 0,
         },
     })

@@ -8,7 +8,7 @@ ghost use Rattle.jvm_model.specs.Codes.ProgramPlaces.{HasClosedCodes};
 ghost use Rattle.jvm_model.specs.Soundness.Sound.{IsFit};
 ghost use Rattle.jvm_steps.specs.Machine.Before.{CanStart};
 ghost use Rattle.prepared_code.specs.Prepared.{FitsOriginals};
-ghost use Rattle.prepared_code.specs.Runs.{IsCalm};
+ghost use Rattle.prepared_code.specs.Runs.{IsAtInstruction};
 ghost use Rattle.jvm_machine.specs.declared.advancing.Telling.TheVariants as telling;
 ghost use Rattle.jvm_machine.specs.Advances.{Advances, Stops, broken_in};
 ghost use Rattle.jvm_machine.specs.Installs.{IsFormed, IsImageOf, with_class};
@@ -18,7 +18,7 @@ ghost use Rattle.jvm_machine.specs.Several.{Passes, RunsOn, is_settled};
 ghost use Rattle.jvm_machine.specs.View.{IsGoingOn, has_ended, is_resting, made, run_state};
 
 use crate::advancing::{Telling, clock_in, hand_now, left, loaded_since, take_up};
-use crate::telling::told;
+use crate::telling::event_told;
 use crate::turn::Turn;
 use class_linker::Linker;
 use code_model::Homes;
@@ -69,8 +69,9 @@ fn is_settled(turn: &Turn) -> bool
 /// Whether the run goes on, nothing is thrown, and no initialization stands on the current frame.
 #[tactic(auto, unfolding(prepared_code::specs::Initializations::initialization_on))]
 #[inline(always)]
-fn is_calm(parts: &Parts, initializing: &Stack<Initialization>) -> bool
-    ensures { result ≡ true → IsCalm (length parts.now.frames.frames) initializing.now parts.now }
+fn is_at_instruction(parts: &Parts, initializing: &Stack<Initialization>) -> bool
+    ensures { result ≡ true
+        → IsAtInstruction (length parts.now.frames.frames) initializing.now parts.now }
 {
     if parts.ending.is_some() || parts.thrown.is_some() {
         return false;
@@ -102,7 +103,7 @@ impl Vm {
             clock: 0,
             hand: Hand {
                 moves: false,
-                told: false,
+                delivered: false,
                 passed: 0,
             },
         })
@@ -113,7 +114,7 @@ impl Vm {
     fn is_resting(&self) -> bool
         ensures { result ≡ is_resting self.now }
     {
-        self.hand.passed == 0 && !self.hand.told
+        self.hand.passed == 0 && !self.hand.delivered
     }
 
     /// Goes on to what is told next of the step, or to its end.
@@ -179,7 +180,7 @@ impl Vm {
         ensures none { IfNone result (self.new ≡ self.old) }
         ensures held { self.new.stale ≡ false }
     {
-        if self.broken || !self.started || !is_calm(&self.parts, &self.initializing) {
+        if self.broken || !self.started || !is_at_instruction(&self.parts, &self.initializing) {
             return None;
         }
         let resting = self.is_resting();
@@ -206,7 +207,7 @@ impl Vm {
     fn event(&self, due: Due) -> Option<Event>
         ensures { result ≡ told_at due self.now.clock self.now.live }
     {
-        told(
+        event_told(
             self.clock,
             due,
             &self.originals,
@@ -277,7 +278,7 @@ impl Vm {
         ensures clock { self.new.clock ≡ self.old.clock + result }
         ensures rests { is_resting self.new ≡ true }
     {
-        if self.broken || !self.started || !is_calm(&self.parts, &self.initializing) {
+        if self.broken || !self.started || !is_at_instruction(&self.parts, &self.initializing) {
             return 0;
         }
         let made = pass_steps(

@@ -22,7 +22,7 @@ fn begin_kind(mark: Mark) -> EventKind
 
 /// What is told where a step has stopped, of the current frame.
 #[inline(always)]
-pub fn told(
+pub fn event_told(
     clock: u64,
     due: Due,
     originals: &Originals,

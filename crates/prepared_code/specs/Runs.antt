@@ -53,7 +53,7 @@ abbrev pub RunsVersion : Setup → Version → List PlacedFrame → Type 0
 RunsVersion w x fs = option_and_then (version_at w.versions) (top_version fs) ≡ Some x
 
 -- the run goes on, nothing is thrown, and no initialization stands on so many frames
-pub record IsCalm (n : ℕ) (ms : List Initialization) (p : Parts) : Type 0 where
+pub record IsAtInstruction (n : ℕ) (ms : List Initialization) (p : Parts) : Type 0 where
   pub ending : p.ending ≡ None
   pub thrown : p.thrown ≡ None
   pub executing : initialization_on n ms ≡ None
@@ -65,8 +65,8 @@ AreQuiet w s n = (k : ℕ) → k < n → (step w.world (listing_of w.versions) (
 -- So many steps change the frames to these, which are as many, and nothing else, whatever else there is.
 pub record LeadsPlainly (w : Setup) (old : List PlacedFrame) (n : ℕ) (new : List PlacedFrame) : Type 0 where
   pub many : length new ≡ length old
-  pub leads : (ms : List Initialization) (p : Parts) → IsCalm (length old) ms p → Leads w (with_initializations ms (state_with old p)) n (with_initializations ms (state_with new p))
-  pub quiet : (ms : List Initialization) (p : Parts) → IsCalm (length old) ms p → AreQuiet w (with_initializations ms (state_with old p)) n
+  pub leads : (ms : List Initialization) (p : Parts) → IsAtInstruction (length old) ms p → Leads w (with_initializations ms (state_with old p)) n (with_initializations ms (state_with new p))
+  pub quiet : (ms : List Initialization) (p : Parts) → IsAtInstruction (length old) ms p → AreQuiet w (with_initializations ms (state_with old p)) n
 
 -- So many steps change the current frame and elements of arrays, and nothing else.
 pub record LeadsAlone (w : Setup) (old : Parts) (n : ℕ) (new : Parts) : Type 0 where
@@ -74,5 +74,5 @@ pub record LeadsAlone (w : Setup) (old : Parts) (n : ℕ) (new : Parts) : Type 0
   pub ending : new.ending ≡ old.ending
   pub thrown : new.thrown ≡ old.thrown
   pub loaded : new.shared.loaded ≡ old.shared.loaded
-  pub leads : (ms : List Initialization) → IsCalm (length old.frames.frames) ms old → Leads w (state_of ms old) n (state_of ms new)
-  pub quiet : (ms : List Initialization) → IsCalm (length old.frames.frames) ms old → AreQuiet w (state_of ms old) n
+  pub leads : (ms : List Initialization) → IsAtInstruction (length old.frames.frames) ms old → Leads w (state_of ms old) n (state_of ms new)
+  pub quiet : (ms : List Initialization) → IsAtInstruction (length old.frames.frames) ms old → AreQuiet w (state_of ms old) n

@@ -88,17 +88,17 @@ module _ (w : World) (acts : List Act) (x : Act) where
 
   record Same (n : ℕ) : Type 0 where
     kept : kept_before with_x w n ≡ kept_act p (kept_before acts w n) x
-    told : told_before (marking_of with_x w) w n ≡ told_before (marking_of acts w) w n
+    delivered : told_before (marking_of with_x w) w n ≡ told_before (marking_of acts w) w n
     held : held_in (marking_of with_x w) (trace_before w n) ≡ held_in (marking_of acts w) (trace_before w n)
 
   same-before : (clock : ℕ) (started : Bool) → x.moment ≡ clock → (started ≡ false → clock ≡ 0) → (started ≡ true → 1 ≤ clock) → Same (if started then clock + 1 else 0)
-  same-before clock false e early late = record { kept = zero-kept (e ∙ early refl); told = refl; held = refl }
+  same-before clock false e early late = record { kept = zero-kept (e ∙ early refl); delivered = refl; held = refl }
   same-before clock true e early late =
       let one = late refl in
       let behind : 1 ≤ x.moment = omega (arith, e, one) in
       subst Same (sym (add-one clock)) (record {
         kept = next-kept behind clock e;
-        told = same-events acts x behind w (operations_of p) clock (omega (arith, e));
+        delivered = same-events acts x behind w (operations_of p) clock (omega (arith, e));
         held = same-held behind (trace w clock).activations (trace w clock).live (trace-early w x.moment clock (omega (arith, e)));
       })
 
@@ -106,15 +106,15 @@ module _ (w : World) (acts : List Act) (x : Act) where
   pub acted : (es : List Event) (k : Kept) (v : View) → x.moment ≡ v.clock → (v.started ≡ true → 1 ≤ v.clock) → AtRest acts w es k v → (new : View)
       → new ≡ record v { marks = marks_seen p (kept_act p k x).seen } → AtRest with_x w es (kept_act p k x) new
   acted es k v moment late r new is_new =
-      let same = same-before v.clock v.started moment r.early late in
+      let same = same-before v.clock v.started moment r.before_the_run late in
       subst (AtRest with_x w es (kept_act p k x)) (sym is_new) (record {
         same = r.same;
         resting = r.resting;
         whole = r.whole;
         going = r.going;
-        early = r.early;
+        before_the_run = r.before_the_run;
         kept = ap (λ k. kept_act p k x) r.kept ∙ sym same.kept;
-        told = r.told ∙ sym same.told;
+        delivered = r.delivered ∙ sym same.delivered;
         lives = r.lives ∙ sym same.held;
         marks = refl;
         moments = moments-last v.clock acts x r.moments (omega (arith, moment));

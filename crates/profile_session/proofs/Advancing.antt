@@ -20,7 +20,7 @@ use Rattle.jvm_machine.specs.Turns.{Turns}
 use Rattle.jvm_machine.specs.View.{View, IsGoingOn, begun, has_ended, is_resting, run_state, world}
 use Rattle.call_revelation.specs.Reveals.{IsRevelation}
 use Rattle.context_tree.specs.Counts.{AreInOrder, path_after}
-use Rattle.context_tree.specs.Profiles.{Profile, blank, credited, profile_of, taken, told}
+use Rattle.context_tree.specs.Profiles.{Profile, blank, credited, profile_of, taken, event_told}
 use Rattle.context_tree.proofs.Credits.{credits-add}
 use Rattle.profile_session.specs.declared.parts.Parts.{Parts}
 use Rattle.profile_session.specs.Advances.{After, Stays}
@@ -36,21 +36,21 @@ use Rattle.profile_session.proofs.Telling.{fold-both, taken-clock}
 use Rattle.profile_session.proofs.Turning.{AreLoadedNow, Heard, IsBehind, IsToldNow, Went, begun-is, begun-busy, turn-heard, turn-went}
 
 abbrev StandsIn : Parts → List Event → Type 0
-StandsIn x told = Stands x.acts (world x.vm) told (kept_in x) x.vm
+StandsIn x es = Stands x.acts (world x.vm) es (kept_in x) x.vm
 
 pub same-world : (old new : View) → Went old new → world new ≡ world old
 same-world old new went = ap₂ (λ p i. let w : World = record { program = p; input = i } in w) went.program went.input
 
 -- ---- the clock does not fall
 
-pub clock-rises : (x : Parts) (told : List Event) (v : View) → StandsIn x told → Went x.vm v → x.vm.clock ≤ v.clock
-clock-rises x told v stands went = subst (λ n. x.vm.clock ≤ n) (sym went.clock) (by stands) where
+pub clock-rises : (x : Parts) (es : List Event) (v : View) → StandsIn x es → Went x.vm v → x.vm.clock ≤ v.clock
+clock-rises x es v stands went = subst (λ n. x.vm.clock ≤ n) (sym went.clock) (by stands) where
   at_rest : (b : Bool) → (b ≡ false → x.vm.clock ≡ 0) → x.vm.clock ≤ (let n : ℕ = if b then x.vm.clock + 1 else 0 in n)
   at_rest true early = omega arith
   at_rest false early = let e = early refl in omega (arith, e)
 
-  by : StandsIn x told → x.vm.clock ≤ (begun x.vm).clock
-  by (rests r) = subst (λ (y : View). x.vm.clock ≤ y.clock) (sym (begun-is x.vm r.resting)) (at_rest x.vm.started r.early)
+  by : StandsIn x es → x.vm.clock ≤ (begun x.vm).clock
+  by (rests r) = subst (λ (y : View). x.vm.clock ≤ y.clock) (sym (begun-is x.vm r.resting)) (at_rest x.vm.started r.before_the_run)
   by (within busy s) = subst (λ (y : View). x.vm.clock ≤ y.clock) (sym (begun-busy x.vm busy)) (omega arith)
 
 pub fits : (x : Parts) (v : View) → AreFit x → Went x.vm v → x.vm.clock ≤ v.clock → AreFit (record x { vm = v })
@@ -109,7 +109,7 @@ are-told : (x new : Parts) (es : List Event) (e : Event) → AreFit x → AreOf 
 are-told x new es e fit are on now same calls =
     let d = new.vm.clock in
     let credits : credited e.clock (profile_in x) ≡ credited e.clock (profile_of es) = stays-of x es e.clock fit are (omega (arith, on, now)) in
-    let both : taken (profile_in x) e ≡ taken (profile_of es) e = ap (told e.kind e.method) credits in
+    let both : taken (profile_in x) e ≡ taken (profile_of es) e = ap (event_told e.kind e.method) credits in
     let more : entries (es ++ e ∷ []) ≡ entries es + entries (e ∷ []) = entries-append es (e ∷ []) in
     record {
       profile = ap (credited d) (same ∙ (both ∙ sym (fold-both es (e ∷ []) blank)));
@@ -226,7 +226,7 @@ module _ (x new : Parts) (es : List Event) (v : View) (turn : Turn) (is : IsProf
   rests-there : AreOf new (es ++ events_in turn) → AtRest x.acts (world x.vm) (es ++ events_in turn) (kept_turned x.vm.program v.clock (kept_in x) turn) new.vm → Rests new
   rests-there of r = record {
     is = profiling-by x new v turn is goes h;
-    told = es ++ events_in turn;
+    delivered = es ++ events_in turn;
     are = of;
     stands = subst (λ acts. AtRest acts (world new.vm) (es ++ events_in turn) (kept_in new) new.vm) (sym s.acts)
         (subst (λ w. AtRest x.acts w (es ++ events_in turn) (kept_in new) new.vm) (sym s.world_is)
@@ -237,7 +237,7 @@ module _ (x new : Parts) (es : List Event) (v : View) (turn : Turn) (is : IsProf
   busy-there of r busy = record {
     is = profiling-by x new v turn is goes h;
     busy = busy;
-    told = es ++ events_in turn;
+    delivered = es ++ events_in turn;
     are = of;
     stands = subst (λ acts. InStep acts (world new.vm) (es ++ events_in turn) (kept_in new) new.vm) (sym s.acts)
         (subst (λ w. InStep x.acts w (es ++ events_in turn) (kept_in new) new.vm) (sym s.world_is)

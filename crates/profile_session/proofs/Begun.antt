@@ -49,10 +49,10 @@ module _ (P : ℕ → Type 0) (marks : ℕ → Mark) (clock : ℕ) (path : List 
 
   of-end : (k : EventKind) → opens path k ≡ false → (n : ℕ) (after : List Held) (h : Held) (below : List Held) (later : Stop) → Tells later → (b : Bool)
       → Tells (stop_by (h ∷ below) after n (let d : Due = if b then Nothing else Ends k in d) later)
-  of-end k shut n after h below later rest true told = rest told
-  of-end k shut n after h below later rest false told =
+  of-end k shut n after h below later rest true delivered = rest delivered
+  of-end k shut n after h below later rest false delivered =
       let here : Event = record { kind = k; method = h.method; clock = clock } in
-      let one : here ≡ e = (let inj : Some here ≡ Some e → here ≡ e = λ q. cc in inj told) in
+      let one : here ≡ e = (let inj : Some here ≡ Some e → here ≡ e = λ q. cc in inj delivered) in
       absurd (let q : false ≡ true = sym shut ∙ (ap (λ (e : Event). opens path e.kind) one ∙ opening) in cc)
 
   ends : (k : EventKind) → opens path k ≡ false → (n : ℕ) (live after : List Held) (later : Stop) → Tells later → Tells (stop_by live after n (end_due k live) later)
@@ -61,10 +61,10 @@ module _ (P : ℕ → Type 0) (marks : ℕ → Mark) (clock : ℕ) (path : List 
 
   begins : (m : ℕ) → P m → (n : ℕ) (live : List Held) (mark : Mark) (later : Stop) → Tells later → (b : Bool)
       → Tells (stop_by live (record { method = m; mark = mark } ∷ live) n (let d : Due = if b then Nothing else Begins in d) later)
-  begins m is n live mark later rest true told = rest told
-  begins m is n live mark later rest false told =
+  begins m is n live mark later rest true delivered = rest delivered
+  begins m is n live mark later rest false delivered =
       let here : Event = record { kind = begin_kind mark; method = m; clock = clock } in
-      let one : here ≡ e = (let inj : Some here ≡ Some e → here ≡ e = λ q. cc in inj told) in
+      let one : here ≡ e = (let inj : Some here ≡ Some e → here ≡ e = λ q. cc in inj delivered) in
       subst P (ap (λ (e : Event). e.method) one) is
 
   in-stop : (cs : List Change) → AllBegin P cs → (n : ℕ) (live : List Held) → Tells (stop_in marks n live cs)
@@ -77,7 +77,7 @@ module _ (P : ℕ → Type 0) (marks : ℕ → Mark) (clock : ℕ) (path : List 
   in-stop (Unwound ∷ more) all n live =
       ends kind.Unwind refl n live (held_after marks live Unwound) (stop_in marks (suc n) (held_after marks live Unwound) more) (in-stop more all (suc n) (held_after marks live Unwound))
 
-  pub from-stop : (told : Bool) (cs : List Change) → AllBegin P cs → (n : ℕ) (live : List Held) → Tells (stop_from marks told n live cs)
+  pub from-stop : (delivered : Bool) (cs : List Change) → AllBegin P cs → (n : ℕ) (live : List Held) → Tells (stop_from marks delivered n live cs)
   from-stop false cs all n live = in-stop cs all n live
   from-stop true [] all n live = in-stop [] all n live
   from-stop true (Loads classes ∷ more) all n live = in-stop more all (suc n) live

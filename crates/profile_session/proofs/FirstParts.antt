@@ -21,7 +21,7 @@ use Rattle.jvm_model.proofs.Loading.LoadOrder.{before-order}
 use Rattle.jvm_model.proofs.Revealing.Revealable.{revealable}
 use Rattle.class_linker.specs.Linkers.{LinkerView}
 use Rattle.call_revelation.specs.declared.reveal.Reveal.{Reveal}
-use Rattle.call_revelation.specs.Reveals.{IsAhead, IsFront, IsRevelation, nothing_revealed, now_of}
+use Rattle.call_revelation.specs.Reveals.{IsAhead, IsPrefix, IsRevelation, nothing_revealed, now_of}
 use Rattle.jvm_machine.specs.View.{View, made, run_state, world}
 use Rattle.context_tree.specs.Counts.{AreInOrder}
 use Rattle.context_tree.specs.Profiles.{Profile, blank, calls_of, credited, taken}
@@ -60,7 +60,7 @@ ahead-first v l r is link early none =
       root = ap₂ (λ (p : Program) l. is_among (user_count p) l) program loaded ∙ root-first (world v) is;
     }
 
-pub front-first : (l : List ℕ) (r : Reveal) → now_of r ≡ nothing_revealed → IsFront r.lineage.loaded l
+pub front-first : (l : List ℕ) (r : Reveal) → now_of r ≡ nothing_revealed → IsPrefix r.lineage.loaded l
 front-first l r none = record { rest = l; is = sym (ap (λ xs. xs ++ l) (ap (λ (r : Revealed). r.loaded) none)) }
 
 pub order-first : (v : View) (l : LinkerView) → IsWhole v.program → l ≡ linking v → v.started ≡ false → IsLoadOrder l.program [] l.loaded
@@ -111,9 +111,9 @@ module _ (p : Program) (input : List ℕ) where
     resting = refl;
     whole = refl;
     going = λ m less. absurd (omega (arith, less));
-    early = λ no. refl;
+    before_the_run = λ no. refl;
     kept = sym (kept_by-zero [] w (marking_of [] w));
-    told = refl;
+    delivered = refl;
     lives = refl;
     marks = first-marks;
     moments = tt;
@@ -155,7 +155,7 @@ begun-stands x fresh can first tree buffer depth swaps acts started =
           whole = can.whole;
           from = subst (AreFrom 0) (sym acts) tt;
         };
-        told = [];
+        delivered = [];
         are = record { profile = ap (credited x.vm.clock) profile; calls = omega (arith, calls); order = omega (arith, clock) };
         stands = subst (λ l. AtRest l w [] (kept_in x) x.vm) (sym acts)
             (subst (λ k. AtRest [] w [] k x.vm) (sym kept) (subst (λ (v : View). AtRest [] (world v) [] (first_kept (world v)) v) (sym fresh) (first-rests p x.vm.input)));

@@ -12,7 +12,7 @@ use Rattle.jvm_model.specs.Profiling.Revealed.{Revealed, marks_of, with_loaded, 
 use Rattle.jvm_machine.specs.declared.turn.Turn.TheVariants.{Settled, Loaded, Probe, Ended}
 use Rattle.jvm_machine.specs.View.{View}
 use Rattle.context_tree.specs.Counts.{opens, path_after}
-use Rattle.context_tree.specs.Profiles.{Profile, credited, opened, taken, told}
+use Rattle.context_tree.specs.Profiles.{Profile, credited, opened, taken, event_told}
 use Rattle.context_tree.specs.Seen.{Seen, seen_event}
 use Rattle.event_buffer.specs.Buffers.{Held}
 use Rattle.profile_session.specs.declared.parts.Parts.{Parts}
@@ -27,7 +27,7 @@ open-taken p e = by e.kind where
   either true = refl
   either false = refl
 
-  by : (k : EventKind) → (told k e.method (credited e.clock p)).open ≡ path_after p.open (record e { kind = k })
+  by : (k : EventKind) → (event_told k e.method (credited e.clock p)).open ≡ path_after p.open (record e { kind = k })
   by Root = refl
   by Enter = either (is_outside p.open)
   by Leave = refl
@@ -36,7 +36,7 @@ open-taken p e = by e.kind where
 -- ---- classes
 
 pub can-load : (x : Parts) (classes : List ℕ) → AreLoadable x classes → CanLoad x
-can-load x classes is = record { front = record { rest = classes; is = sym is.loaded }; order = is.order }
+can-load x classes is = record { prefix = record { rest = classes; is = sym is.loaded }; order = is.order }
 
 kept-loaded : (x : Parts) (classes : List ℕ) → AreLoadable x classes
     → at_point x.vm.program x.vm.clock (kept_in x) (seen_by (with_loaded (loaded_in x) (revealed_in x)) (profile_in x).open) ≡ kept_load x.vm.program x.vm.clock (kept_in x) classes

@@ -14,7 +14,7 @@ use Rattle.jvm_model.specs.Profiling.Revealed.{Revealed, changed_of, marks_of, w
 use Rattle.jvm_model.specs.Soundness.Sound.{HasClass}
 use Rattle.class_linker.specs.Linkers.{LinkerView}
 use Rattle.call_revelation.specs.declared.reveal.Reveal.{Reveal}
-use Rattle.call_revelation.specs.Reveals.{IsAhead, IsFront, IsRevelation, now_of}
+use Rattle.call_revelation.specs.Reveals.{IsAhead, IsPrefix, IsRevelation, now_of}
 use Rattle.jvm_machine.specs.View.{View, run_state}
 use Rattle.context_tree.specs.Counts.{AreInOrder}
 use Rattle.context_tree.specs.Profiles.{Profile}
@@ -119,7 +119,7 @@ among-front class (x ∷ xs) ys h = by (class == x) h (among-front class xs ys) 
   by true h rest = refl
   by false h rest = rest h
 
-pub grown-front : (a b : Revealed) (loaded : List ℕ) → IsFront a.loaded loaded → b.loaded ≡ loaded → IsGrown a b
+pub grown-front : (a b : Revealed) (loaded : List ℕ) → IsPrefix a.loaded loaded → b.loaded ≡ loaded → IsGrown a b
 grown-front a b loaded front e = λ class h. ap (is_among class) (e ∙ front.is) ∙ among-front class a.loaded front.rest h
 
 -- ---- what is asked of the linker
@@ -127,12 +127,12 @@ grown-front a b loaded front e = λ class h. ap (is_among class) (e ∙ front.is
 pub linked : (l : LinkerView) (v : View) → l.program ≡ v.program → l.loaded ≡ (run_state v).shared.loaded → l ≡ linking v
 linked l v program loaded = ap₂ (λ (p : Program) (loaded : List ℕ). let l : LinkerView = record { program = p; loaded = loaded } in l) program loaded
 
-pub ahead-of : (x : Parts) (l : LinkerView) → AreFit x → l ≡ linking x.vm → IsFront x.reveal.lineage.loaded (loaded_in x) → IsAhead l x.reveal
+pub ahead-of : (x : Parts) (l : LinkerView) → AreFit x → l ≡ linking x.vm → IsPrefix x.reveal.lineage.loaded (loaded_in x) → IsAhead l x.reveal
 ahead-of x l fit is front =
     let grown : IsGrown (revealed_in x) (record (revealed_in x) { loaded = loaded_in x }) = grown-front (revealed_in x) (record (revealed_in x) { loaded = loaded_in x }) (loaded_in x) front refl in
     subst (λ (l : LinkerView). IsAhead l x.reveal) (sym is) (record { loaded = grown; root = grown (user_count x.vm.program) fit.root })
 
-pub front-same : (xs ys : List ℕ) → xs ≡ ys → IsFront xs ys
+pub front-same : (xs ys : List ℕ) → xs ≡ ys → IsPrefix xs ys
 front-same xs ys e = record { rest = []; is = sym e ∙ sym (append-nil xs) }
 
 -- ---- a method whose class is loaded
@@ -172,7 +172,7 @@ reveals-loads x r l link able rev is shown =
       revelation = subst (λ (l : LinkerView). IsRevelation l.program r) link rev;
       shown = shown;
       is = is_now;
-      grown = grown-front (revealed_in x) (now_of r) (loaded_in x) able.front (ap (λ (r : Revealed). r.loaded) is_now);
+      grown = grown-front (revealed_in x) (now_of r) (loaded_in x) able.prefix (ap (λ (r : Revealed). r.loaded) is_now);
     }
 
 pub fit-of : (x : Parts) (r : Reveal) (now : Revealed) → AreFit x → Reveals x r now → AreFit (record x { reveal = r })

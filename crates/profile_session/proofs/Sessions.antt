@@ -124,13 +124,13 @@ tree-of x new b g s brings =
     let r = s.rests in
     let w = world x.vm in
     let m = marking_of x.acts w in
-    let told : (started : Bool) → x.started ≡ started → r.told ≡ told_before m w (if started then x.vm.clock + 1 else 0) =
-    λ started e. r.stands.told ∙ ap (λ b. told_before m w (if b then x.vm.clock + 1 else 0)) (sym s.started ∙ e) in
-    let tree : new.tree ≡ credited x.vm.clock (profile_of r.told) = brings.tree ∙ r.are.profile in
+    let delivered : (started : Bool) → x.started ≡ started → r.delivered ≡ told_before m w (if started then x.vm.clock + 1 else 0) =
+    λ started e. r.stands.delivered ∙ ap (λ b. told_before m w (if b then x.vm.clock + 1 else 0)) (sym s.started ∙ e) in
+    let tree : new.tree ≡ credited x.vm.clock (profile_of r.delivered) = brings.tree ∙ r.are.profile in
     record {
-      early = λ no. ap (λ (q : Profile). q.contexts) (tree ∙ ap (λ es. credited x.vm.clock (profile_of es)) (told false no));
+      before_the_run = λ no. ap (λ (q : Profile). q.contexts) (tree ∙ ap (λ es. credited x.vm.clock (profile_of es)) (delivered false no));
       tree = λ yes.
-          ap (λ (q : Profile). q.contexts) (tree ∙ ap (λ es. credited x.vm.clock (profile_of es)) (told true yes ∙ ap (told_before m w) (add-one x.vm.clock)))
+          ap (λ (q : Profile). q.contexts) (tree ∙ ap (λ es. credited x.vm.clock (profile_of es)) (delivered true yes ∙ ap (told_before m w) (add-one x.vm.clock)))
           ∙ tree-whole w r.is.whole x.acts r.is.from x.vm.clock r.stands.going;
     }
 
@@ -150,9 +150,9 @@ brought-stands x new s b = subst Stands (sym b.same) (there b.same b.profile b.c
       record {
         rests = record {
           is = record { fit = subst AreFit same fit; shown = r.is.shown; whole = r.is.whole; from = r.is.from };
-          told = r.told;
+          delivered = r.delivered;
           are = record { profile = twice ∙ r.are.profile; calls = (let a = r.are.calls in omega (arith, a, calls_y)); order = r.are.order };
-          stands = subst (λ k. AtRest x.acts (world x.vm) r.told k x.vm) kept r.stands;
+          stands = subst (λ k. AtRest x.acts (world x.vm) r.delivered k x.vm) kept r.stands;
         };
         started = s.started;
       }
@@ -190,7 +190,7 @@ breaks-off x new v b g h now whole going same = record { breaks = record { whole
 
 -- what is lent is of the session before it was gathered
 pub shown-before : (v : Profiling) (b : Bool) (t : Profile) → (let q : Profiling = record v { gathered = b } in IsTreeOf q t) → IsTreeOf v t
-shown-before v b t is = record { early = is.early; tree = is.tree }
+shown-before v b t is = record { before_the_run = is.before_the_run; tree = is.tree }
 
 pub lends-none : (old new : Profiling) (e : ActError) → RefusesTree old e new → LendsNoTree old e
 lends-none old new act.Broken r = r.broken
@@ -211,8 +211,8 @@ acted-stands x new a s moment late is =
     is.kept ∙ ap (λ n. at_point x.vm.program n (kept_in x) (seen_act (kept_in x).seen a)) (sym moment) in
     let vm : new.vm ≡ record x.vm { marks = marks_seen x.vm.program (kept_act x.vm.program (kept_in x) a).seen } =
     is.vm ∙ ap (λ (k : Kept). let v : View = record x.vm { marks = marks_seen x.vm.program k.seen } in v) kept in
-    let stands : AtRest (x.acts ++ a ∷ []) w r.told (kept_act x.vm.program (kept_in x) a) new.vm =
-    acted w x.acts a r.told (kept_in x) x.vm moment (λ yes. late (s.started ∙ yes)) r.stands new.vm vm in
+    let stands : AtRest (x.acts ++ a ∷ []) w r.delivered (kept_act x.vm.program (kept_in x) a) new.vm =
+    acted w x.acts a r.delivered (kept_in x) x.vm moment (λ yes. late (s.started ∙ yes)) r.stands new.vm vm in
     record {
       rests = record {
         is = record {
@@ -221,11 +221,11 @@ acted-stands x new a s moment late is =
           whole = subst IsWhole (sym (ap (λ (w : World). w.program) world_is)) r.is.whole;
           from = subst (λ acts. AreFrom 0 acts) (sym is.acts) (from-last 0 x.acts a r.is.from (omega arith) (subst (λ n. AllByRecursion (λ (b : Act). b.moment ≤ n) x.acts) (sym moment) r.stands.moments));
         };
-        told = r.told;
-        are = still-of x new r.told r.is.fit r.are (omega (arith, clock)) is.profile is.calls;
-        stands = subst (λ acts. AtRest acts (world new.vm) r.told (kept_in new) new.vm) (sym is.acts)
-            (subst (λ w. AtRest (x.acts ++ a ∷ []) w r.told (kept_in new) new.vm) (sym world_is)
-            (subst (λ k. AtRest (x.acts ++ a ∷ []) w r.told k new.vm) (sym kept) stands));
+        delivered = r.delivered;
+        are = still-of x new r.delivered r.is.fit r.are (omega (arith, clock)) is.profile is.calls;
+        stands = subst (λ acts. AtRest acts (world new.vm) r.delivered (kept_in new) new.vm) (sym is.acts)
+            (subst (λ w. AtRest (x.acts ++ a ∷ []) w r.delivered (kept_in new) new.vm) (sym world_is)
+            (subst (λ k. AtRest (x.acts ++ a ∷ []) w r.delivered k new.vm) (sym kept) stands));
       };
       started = is.started ∙ (s.started ∙ sym (ap (λ (v : View). v.started) is.vm));
     }

@@ -39,10 +39,10 @@ pub turn-hearable : (x : Parts) (v : View) (turn : Turn) → IsBusy x → Turns 
 turn-hearable x v turn b t tells below =
     let on = busy-going x b in
     let clock : v.clock ≡ x.vm.clock = (turn-went x.vm v turn on t tells).clock ∙ busy-clock x b in
-    hearable x b.told v turn b.is b.are (within b.busy b.stands) on t tells (omega (arith, clock, below))
+    hearable x b.delivered v turn b.is b.are (within b.busy b.stands) on t tells (omega (arith, clock, below))
 
 pub turn-after : (x new : Parts) (v : View) (turn : Turn) → IsBusy x → Turns x.vm turn v → is_telling turn ≡ true → Hears (record x { vm = v }) turn new → After x turn new
-turn-after x new v turn b t tells h = after x new b.told v turn b.is b.are (within b.busy b.stands) (busy-going x b) t tells h
+turn-after x new v turn b t tells h = after x new b.delivered v turn b.is b.are (within b.busy b.stands) (busy-going x b) t tells h
 
 -- ---- steps that tell nothing
 
@@ -59,7 +59,7 @@ passed x _ _ r on (more n mid v before t) =
     let went = turn-went mid v Settled t.went_on t refl in
     let y : Parts = record x { vm = mid } in
     let same = same-world mid v went in
-    let es = b.rests.told in
+    let es = b.rests.delivered in
     let up = clock-rises y es v (rests b.rests.stands) went in
     let stands : AtRest x.acts (world mid) es (kept_in x) v = passes (world mid) b.rests.is.whole x.acts b.rests.is.from es (kept_in x) mid v b.rests.stands t in
     let begun_mid : begun mid ≡ advanced mid = begun-is mid b.rests.stands.resting in
@@ -74,7 +74,7 @@ passed x _ _ r on (more n mid v before t) =
           whole = subst IsWhole (sym went.program) b.rests.is.whole;
           from = b.rests.is.from;
         };
-        told = es;
+        delivered = es;
         are = still-of y (record x { vm = v }) es b.rests.is.fit b.rests.are up refl refl;
         stands = subst (λ w. AtRest x.acts w es (kept_in x) v) (sym same) stands;
       };
@@ -91,7 +91,7 @@ next-clock x = by x.vm.started where
 
 -- the step that comes next is none before the clock's
 clock-next : (x : Parts) → Rests x → x.vm.clock ≤ next_step x.vm
-clock-next x r = by x.vm.started r.stands.early where
+clock-next x r = by x.vm.started r.stands.before_the_run where
   by : (b : Bool) → (b ≡ false → x.vm.clock ≡ 0) → x.vm.clock ≤ (let n : ℕ = if b then x.vm.clock + 1 else 0 in n)
   by true early = omega arith
   by false early = let e = early refl in omega (arith, e)
@@ -105,7 +105,7 @@ ran-hearable x most turn v r on runs tells below =
     let next = b.next in
     let most_is = runs.within in
     let first = next-clock x in
-    hearable y b.rests.told v turn b.rests.is b.rests.are (rests b.rests.stands) b.going runs.last tells (omega (arith, clock, next, most_is, first, below))
+    hearable y b.rests.delivered v turn b.rests.is b.rests.are (rests b.rests.stands) b.going runs.last tells (omega (arith, clock, next, most_is, first, below))
 
 pub ran : (x new : Parts) (most : ℕ) (turn : Turn) (v : View) → Rests x → IsGoingOn x.vm → RunsOn x.vm most turn v → is_telling turn ≡ true → Hears (record x { vm = v }) turn new → Ran x most turn new
 ran x new most turn v r on runs tells h =
@@ -119,7 +119,7 @@ ran x new most turn v r on runs tells h =
       stays = record { world_is = b.world_is; acts = refl; started = refl };
       low = omega (arith, next);
       high = omega (arith, next, most_is);
-      last = after y new b.rests.told v turn b.rests.is b.rests.are (rests b.rests.stands) b.going runs.last tells h;
+      last = after y new b.rests.delivered v turn b.rests.is b.rests.are (rests b.rests.stands) b.going runs.last tells h;
     }
 
 -- ---- from turn to turn
@@ -232,7 +232,7 @@ flagged x r =
         whole = r.is.whole;
         from = r.is.from;
       };
-      told = r.told;
+      delivered = r.delivered;
       are = record { profile = r.are.profile; calls = r.are.calls; order = r.are.order };
       stands = r.stands;
     }

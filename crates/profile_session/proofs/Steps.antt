@@ -88,10 +88,10 @@ module _ (marks : ℕ → Mark) (clock : ℕ) (path : List ℕ) (e : Event) (ope
 
   by-end : (k : EventKind) → opens path k ≡ false → (n : ℕ) (live after : List Held) (m : Mark) (h : Held) (below : List Held) (cs : List Change) (later : Stop) → live ≡ h ∷ below
       → IsLast n cs later → (b : Bool) → IsLast n cs (stop_by live after n (let d : Due = if b then Nothing else Ends k in d) later)
-  by-end k shut n live after m h below cs later at rest true told = rest told
-  by-end k shut n live after m h below cs later at rest false told =
+  by-end k shut n live after m h below cs later at rest true delivered = rest delivered
+  by-end k shut n live after m h below cs later at rest false delivered =
       let here : Event = record { kind = k; method = h.method; clock = clock } in
-      let same : Some here ≡ Some e = sym (ap (told_at (Ends k) clock) at) ∙ told in
+      let same : Some here ≡ Some e = sym (ap (told_at (Ends k) clock) at) ∙ delivered in
       let one : here ≡ e = (let inj : Some here ≡ Some e → here ≡ e = λ q. cc in inj same) in
       absurd (let h : false ≡ true = sym shut ∙ (ap (λ (e : Event). opens path e.kind) one ∙ opening) in cc)
 
@@ -101,11 +101,11 @@ module _ (marks : ℕ → Mark) (clock : ℕ) (path : List ℕ) (e : Event) (ope
   end-last k shut n (h ∷ below) after cs later rest = by-end k shut n (h ∷ below) after h.mark h below cs later refl rest (is_off h.mark)
 
   begin-last : (n : ℕ) (live after : List Held) (b : Bool) → IsLast n (Began 0 ∷ []) (stop_by live after n (let d : Due = if b then Nothing else Begins in d) (record { live = after; passed = suc n; due = Nothing }))
-  begin-last n live after true told = absurd (not-there after told)
-  begin-last n live after false told = refl
+  begin-last n live after true delivered = absurd (not-there after delivered)
+  begin-last n live after false delivered = refl
 
   stop-last : (cs : List Change) → EndThenBegin cs → (n : ℕ) (live : List Held) → IsLast n cs (stop_in marks n live cs)
-  stop-last [] order n live = λ told. absurd (not-there live told)
+  stop-last [] order n live = λ delivered. absurd (not-there live delivered)
   stop-last (Left ∷ more) order n live =
       end-last kind.Leave refl n live (held_after marks live Left) (Left ∷ more) (stop_in marks (suc n) (held_after marks live Left) more) (stop-last more order (suc n) (held_after marks live Left))
   stop-last (Unwound ∷ more) order n live =
@@ -121,7 +121,7 @@ module _ (marks : ℕ → Mark) (clock : ℕ) (path : List ℕ) (e : Event) (ope
   ordered-last (Unwound ∷ more) order n live = stop-last (Unwound ∷ more) order n live
   ordered-last (Began m ∷ more) order n live = stop-last (Began m ∷ more) order n live
 
-  from-last : (told : Bool) (cs : List Change) → AreOrdered cs → (n : ℕ) (live : List Held) → IsLast n cs (stop_from marks told n live cs)
+  from-last : (delivered : Bool) (cs : List Change) → AreOrdered cs → (n : ℕ) (live : List Held) → IsLast n cs (stop_from marks delivered n live cs)
   from-last false cs order n live = ordered-last cs order n live
   from-last true [] order n live = ordered-last [] order n live
   from-last true (c ∷ cs) order n live = stop-last cs (ends-of cs c order) (suc n) (held_after marks live c)
@@ -148,15 +148,15 @@ order-push clock [] e a order at = (omega (arith, order, at), omega (arith, at))
 order-push clock (x ∷ es) e a order at = (order.0, order-push x.clock es e a order.1 at)
 
 pub told-clock : (d : Due) (clock : ℕ) (live : List Held) (e : Event) → told_at d clock live ≡ Some e → e.clock ≡ clock
-told-clock Nothing clock live e told = absurd (let h : None ≡ Some e = told in cc)
-told-clock (Ends k) clock [] e told = absurd (let h : None ≡ Some e = told in cc)
-told-clock (Ends k) clock (h ∷ live) e told =
+told-clock Nothing clock live e delivered = absurd (let h : None ≡ Some e = delivered in cc)
+told-clock (Ends k) clock [] e delivered = absurd (let h : None ≡ Some e = delivered in cc)
+told-clock (Ends k) clock (h ∷ live) e delivered =
     let here : Event = record { kind = k; method = h.method; clock = clock } in
-    let inj : Some here ≡ Some e → here ≡ e = λ q. cc in sym (ap (λ (e : Event). e.clock) (inj told))
-told-clock Begins clock [] e told = absurd (let h : None ≡ Some e = told in cc)
-told-clock Begins clock (h ∷ live) e told =
+    let inj : Some here ≡ Some e → here ≡ e = λ q. cc in sym (ap (λ (e : Event). e.clock) (inj delivered))
+told-clock Begins clock [] e delivered = absurd (let h : None ≡ Some e = delivered in cc)
+told-clock Begins clock (h ∷ live) e delivered =
     let here : Event = record { kind = begin_kind h.mark; method = h.method; clock = clock } in
-    let inj : Some here ≡ Some e → here ≡ e = λ q. cc in sym (ap (λ (e : Event). e.clock) (inj told))
+    let inj : Some here ≡ Some e → here ≡ e = λ q. cc in sym (ap (λ (e : Event). e.clock) (inj delivered))
 
 module _ (w : World) (is : IsWhole w.program) (acts : List Act) (from : AreFrom 0 acts) where
   abbrev marking : Marking
@@ -189,10 +189,10 @@ module _ (w : World) (is : IsWhole w.program) (acts : List Act) (from : AreFrom 
     whole : v.broken ≡ false
     going : (m : ℕ) → m < v.clock → is_some (run w m).ending ≡ false
     started : v.started ≡ true
-    untold : v.told ≡ false
+    undelivered : v.delivered ≡ false
     coming : to_come v ≡ left
     lives : v.live ≡ held_in marking (trace_before w v.clock)
-    told : es ≡ told_before marking w v.clock
+    delivered : es ≡ told_before marking w v.clock
     kept : k ≡ kept_load p v.clock (kept_before acts w v.clock) (loads_of (turn w v.clock).changes)
     marks : v.marks ≡ marks_seen p k.seen
     order : AreOrdered left
@@ -208,7 +208,7 @@ module _ (w : World) (is : IsWhole w.program) (acts : List Act) (from : AreFrom 
       let force : mark_at v.marks ≡ marking n =
       ap mark_at s.marks ∙ in-force w is acts from n k.seen (ap (λ (k : Kept). k.seen) s.kept ∙ load-seen p n (kept_before acts w n) (loads_of changes)) in
       let events : events_left v ≡ step_events marking w n =
-      ap₂ (λ b cs. told_from (mark_at v.marks) n b v.live cs) s.untold s.coming ∙ (s.tells (mark_at v.marks) v.live ∙ all-events w n marking (mark_at v.marks) v.live force s.lives) in
+      ap₂ (λ b cs. told_from (mark_at v.marks) n b v.live cs) s.undelivered s.coming ∙ (s.tells (mark_at v.marks) v.live ∙ all-events w n marking (mark_at v.marks) v.live force s.lives) in
       let lives : live_then v ≡ held_in marking (trace w n) =
       ap (all_held (mark_at v.marks) v.live) s.coming ∙ (s.holds (mark_at v.marks) v.live ∙ all-lives w n marking (mark_at v.marks) v.live force s.lives) in
       record {
@@ -217,7 +217,7 @@ module _ (w : World) (is : IsWhole w.program) (acts : List Act) (from : AreFrom 
         going = s.going;
         started = s.started;
         kept = ap₂ (λ k es. fold (kept_event p) k es) s.kept events;
-        told = ap₂ (λ a b. a ++ b) s.told events ∙ events-behind marking w n;
+        delivered = ap₂ (λ a b. a ++ b) s.delivered events ∙ events-behind marking w n;
         lives = lives;
         marks = s.marks;
         loaded = loaded-behind n k s.kept;
@@ -262,7 +262,7 @@ module _ (w : World) (is : IsWhole w.program) (acts : List Act) (from : AreFrom 
       let n = next_step v in
       let resting = r.resting in
       let changes = (turn w n).changes in
-      let parts = and_parts (v.passed == 0) (not v.told) resting in
+      let parts = and_parts (v.passed == 0) (not v.delivered) resting in
       let coming : to_come (advanced v) ≡ changes = ap₂ (λ a b. drop a (turn b n).changes) (zero-is v.passed parts.0) r.same in
       let no_loads : loads_of changes ≡ [] = first-of changes (run-ordered w (original w.program) n) ∙ (ap loads_first (sym coming) ∙ none_loaded) in
       sets-out es k (advanced v) changes (record {
@@ -270,17 +270,17 @@ module _ (w : World) (is : IsWhole w.program) (acts : List Act) (from : AreFrom 
         whole = r.whole;
         going = going-next es k v resting on r;
         started = refl;
-        untold = not-is v.told parts.1;
+        undelivered = not-is v.delivered parts.1;
         coming = coming;
         lives = r.lives;
-        told = r.told;
+        delivered = r.delivered;
         kept = r.kept ∙ ap (kept_load p n (kept_before acts w n)) (sym no_loads);
         marks = r.marks;
         order = run-ordered w (original w.program) n;
         tells = λ marks live. refl;
         holds = λ marks live. refl;
-        none = none-next v r.early r.moments;
-        moments = later-moments v.clock n acts r.moments (clock-up v r.early);
+        none = none-next v r.before_the_run r.moments;
+        moments = later-moments v.clock n acts r.moments (clock-up v r.before_the_run);
       })
 
   some-front : (l : List ℕ) → 0 < length l → (c : ℕ) × (more : List ℕ) × (l ≡ c ∷ more)
@@ -310,8 +310,8 @@ module _ (w : World) (is : IsWhole w.program) (acts : List Act) (from : AreFrom 
     changes : List Change
     changes = (turn w n).changes
 
-    parts : (old.passed ≡ 0) × (old.told ≡ false)
-    parts = let ps = and_parts (old.passed == 0) (not old.told) is.first in (zero-is old.passed ps.0, not-is old.told ps.1)
+    parts : (old.passed ≡ 0) × (old.delivered ≡ false)
+    parts = let ps = and_parts (old.passed == 0) (not old.delivered) is.first in (zero-is old.passed ps.0, not-is old.delivered ps.1)
 
     coming : to_come (advanced old) ≡ changes
     coming = ap₂ (λ a b. drop a (turn b n).changes) parts.0 r.same
@@ -330,17 +330,17 @@ module _ (w : World) (is : IsWhole w.program) (acts : List Act) (from : AreFrom 
           whole = r.whole;
           going = going-next es k old is.first is.went_on r;
           started = refl;
-          untold = parts.1;
+          undelivered = parts.1;
           coming = ap (λ w. drop 1 (turn w n).changes) r.same;
           lives = r.lives;
-          told = r.told;
+          delivered = r.delivered;
           kept = ap₂ (kept_load p n) r.kept (sym loaded ∙ sym (first-of changes (run-ordered w (original w.program) n)));
           marks = refl;
           order = behind-load changes some.0 some.1 (run-ordered w (original w.program) n) (loaded ∙ some.2);
           tells = λ marks live. (first marks n live).0;
           holds = λ marks live. (first marks n live).1;
-          none = none-next old r.early r.moments;
-          moments = later-moments old.clock n acts r.moments (clock-up old r.early);
+          none = none-next old r.before_the_run r.moments;
+          moments = later-moments old.clock n acts r.moments (clock-up old r.before_the_run);
         })
 
     there : (new : View) → new ≡ record (begun old) { passed = 1 }
@@ -353,19 +353,19 @@ module _ (w : World) (is : IsWhole w.program) (acts : List Act) (from : AreFrom 
 
   stays-ordered : (v : View) → AreOrdered (to_come v) → AreOrdered (to_come (stopped v))
   stays-ordered v order =
-      let is = stop_from-is (mark_at v.marks) v.clock v.told v.passed v.live (to_come v) in
+      let is = stop_from-is (mark_at v.marks) v.clock v.delivered v.passed v.live (to_come v) in
       let there : to_come (stopped v) ≡ is.more =
       ap (λ n. drop n (turn (world v) v.clock).changes) is.count ∙ drop-passed v.passed is.passed is.more (turn (world v) v.clock).changes is.all in
       subst AreOrdered (sym there) (ordered-behind is.passed is.more (subst AreOrdered is.all order))
 
   -- nothing is left behind an event that opens a path
   none-left : (v : View) (path : List ℕ) (e : Event) → AreOrdered (to_come v) → next_event v ≡ Some e → opens path e.kind ≡ true → to_come (stopped v) ≡ []
-  none-left v path e order told opening =
+  none-left v path e order delivered opening =
       let changes = (turn (world v) v.clock).changes in
-      let all = from-last (mark_at v.marks) v.clock path e opening v.told (to_come v) order v.passed v.live told in
+      let all = from-last (mark_at v.marks) v.clock path e opening v.delivered (to_come v) order v.passed v.live delivered in
       ap (λ n. drop n changes) all ∙ drop-passed v.passed (to_come v) [] changes (sym (append-nil (to_come v)))
 
-  none-told : (marks : ℕ → Mark) (clock : ℕ) (told : Bool) (live : List Held) → told_from marks clock told live [] ≡ []
+  none-told : (marks : ℕ → Mark) (clock : ℕ) (delivered : Bool) (live : List Held) → told_from marks clock delivered live [] ≡ []
   none-told marks clock true live = refl
   none-told marks clock false live = refl
 
@@ -373,8 +373,8 @@ module _ (w : World) (is : IsWhole w.program) (acts : List Act) (from : AreFrom 
       → marks ≡ marks_seen p later.seen
       → events_left (record (stopped v) { marks = marks }) ≡ events_left (stopped v) → live_then (record (stopped v) { marks = marks }) ≡ live_then (stopped v)
       → (new : View) → new ≡ record (stopped v) { marks = marks } → InStep acts w (es ++ e ∷ []) later new × (events_left new ≡ events_left (stopped v))
-  goes-on es k v e later marks s told is_later marked events lives new is_new =
-      let tells : events_left v ≡ e ∷ events_left (stopped v) = stop-tells v e told in
+  goes-on es k v e later marks s delivered is_later marked events lives new is_new =
+      let tells : events_left v ≡ e ∷ events_left (stopped v) = stop-tells v e delivered in
       subst (λ (x : View). InStep acts w (es ++ e ∷ []) later x × (events_left x ≡ events_left (stopped v))) (sym is_new) (
         record {
           same = s.same;
@@ -382,7 +382,7 @@ module _ (w : World) (is : IsWhole w.program) (acts : List Act) (from : AreFrom 
           going = s.going;
           started = s.started;
           kept = ap₂ (λ k es. fold (kept_event p) k es) is_later events ∙ (ap (fold (kept_event p) k) (sym tells) ∙ s.kept);
-          told = ap (λ l. (es ++ e ∷ []) ++ l) events ∙ (append_assoc es (e ∷ []) (events_left (stopped v)) ∙ (ap (λ l. es ++ l) (sym tells) ∙ s.told));
+          delivered = ap (λ l. (es ++ e ∷ []) ++ l) events ∙ (append_assoc es (e ∷ []) (events_left (stopped v)) ∙ (ap (λ l. es ++ l) (sym tells) ∙ s.delivered));
           lives = lives ∙ (stop-lives v ∙ s.lives);
           marks = marked;
           loaded = ap (λ (k : Kept). k.seen.loaded) is_later ∙ (ap (λ (s : Seen). s.loaded) (event-seen p k e) ∙ s.loaded);
@@ -397,29 +397,29 @@ module _ (w : World) (is : IsWhole w.program) (acts : List Act) (from : AreFrom 
   pub opened : (es : List Event) (k : Kept) (v : View) (e : Event) → InStep acts w es k v → next_event v ≡ Some e → opens k.seen.open e.kind ≡ true → (new : View)
       → (let later : Kept = at_point p e.clock k (seen_event k.seen e) in new ≡ record (stopped v) { marks = marks_seen p later.seen })
       → InStep acts w (es ++ e ∷ []) (at_point p e.clock k (seen_event k.seen e)) new × (events_left new ≡ events_left (stopped v))
-  opened es k v e s told opening new is_new =
+  opened es k v e s delivered opening new is_new =
       let later : Kept = at_point p e.clock k (seen_event k.seen e) in
       let marks = marks_seen p later.seen in
-      let nothing = none-left v k.seen.open e s.order told opening in
+      let nothing = none-left v k.seen.open e s.order delivered opening in
       let is_later : later ≡ kept_event p k e = ap (λ b. let r : Kept = if b then later else record k { seen = seen_event k.seen e } in r) (sym opening) in
-      goes-on es k v e later marks s told is_later refl
-      (ap (told_from (mark_at marks) v.clock (stopped v).told (stopped v).live) nothing
-      ∙ (none-told (mark_at marks) v.clock (stopped v).told (stopped v).live
-      ∙ (sym (none-told (mark_at v.marks) v.clock (stopped v).told (stopped v).live)
-      ∙ ap (told_from (mark_at v.marks) v.clock (stopped v).told (stopped v).live) (sym nothing))))
+      goes-on es k v e later marks s delivered is_later refl
+      (ap (told_from (mark_at marks) v.clock (stopped v).delivered (stopped v).live) nothing
+      ∙ (none-told (mark_at marks) v.clock (stopped v).delivered (stopped v).live
+      ∙ (sym (none-told (mark_at v.marks) v.clock (stopped v).delivered (stopped v).live)
+      ∙ ap (told_from (mark_at v.marks) v.clock (stopped v).delivered (stopped v).live) (sym nothing))))
       (ap (all_held (mark_at marks) (stopped v).live) nothing ∙ ap (all_held (mark_at v.marks) (stopped v).live) (sym nothing))
       new is_new
 
   -- behind another event
   pub unopened : (es : List Event) (k : Kept) (v : View) (e : Event) → InStep acts w es k v → next_event v ≡ Some e → opens k.seen.open e.kind ≡ false
       → (new : View) → new ≡ stopped v → InStep acts w (es ++ e ∷ []) (record k { seen = seen_event k.seen e }) new × (events_left new ≡ events_left (stopped v))
-  unopened es k v e s told shut new is_new =
+  unopened es k v e s delivered shut new is_new =
       let later : Kept = record k { seen = seen_event k.seen e } in
       let is_later : later ≡ kept_event p k e = ap (λ b. let r : Kept = if b then at_point p e.clock k (seen_event k.seen e) else later in r) (sym shut) in
       let entered : (if opens k.seen.open e.kind then with_entered e.method k.seen.entered else k.seen.entered) ≡ k.seen.entered =
       ap (λ b. if b then with_entered e.method k.seen.entered else k.seen.entered) shut in
       let same : marks_seen p k.seen ≡ marks_seen p later.seen = ap (λ l. let r : Seen = record k.seen { entered = l } in marks_seen p r) (sym entered) in
-      goes-on es k v e later v.marks s told is_later (s.marks ∙ same) refl refl new is_new
+      goes-on es k v e later v.marks s delivered is_later (s.marks ∙ same) refl refl new is_new
 
   -- ---- the end of a step
 
@@ -436,9 +436,9 @@ module _ (w : World) (is : IsWhole w.program) (acts : List Act) (from : AreFrom 
         resting = refl;
         whole = s.whole;
         going = s.going;
-        early = λ no. absurd (let h : true ≡ false = sym s.started ∙ no in cc);
+        before_the_run = λ no. absurd (let h : true ≡ false = sym s.started ∙ no in cc);
         kept = ap (kept_end p n) kept_now ∙ (ap (kept_acts p (kept_end p n (kept_behind acts w n))) (sym no_acts) ∙ (sym (kept_by-suc acts w marking n) ∙ ap (kept_before acts w) (sym next)));
-        told = sym (append-nil es) ∙ (ap (λ l. es ++ l) (sym none) ∙ (s.told ∙ ap (told_before marking w) (sym next)));
+        delivered = sym (append-nil es) ∙ (ap (λ l. es ++ l) (sym none) ∙ (s.delivered ∙ ap (told_before marking w) (sym next)));
         lives = end-lives v nothing ∙ (s.lives ∙ ap (λ n. held_in marking (trace_before w n)) (sym next));
         marks = refl;
         moments = s.moments;

@@ -23,7 +23,7 @@ use Rattle.jvm_model.specs.Soundness.Calls.{AreFrom, IsTold}
 use Rattle.std.specs.Option.{option_map_or}
 use Rattle.jvm_model.specs.Profiling.Activations.{Activation, Trace, all_changed, current, changed, trace_before}
 use Rattle.jvm_model.specs.Basis.Data.{Change, Loads, Began, Left, Unwound, World}
-use Rattle.jvm_model.specs.Profiling.EventLists.{Marking, all_told, begin_events, current_activation, end_events, end_of, step_events, told}
+use Rattle.jvm_model.specs.Profiling.EventLists.{Marking, all_told, begin_events, current_activation, end_events, end_of, step_events, events_told}
 use Rattle.jvm_model.specs.Running.Changes.{EndThenBegin, AreOrdered}
 use Rattle.jvm_model.specs.Profiling.Projection.{is_selected}
 use Rattle.jvm_model.specs.Soundness.Calls.{loads_of}
@@ -157,7 +157,7 @@ fold-both p (e ∷ a) b k = fold-both p a b (kept_event p k e)
 
 module _ (acts : List Act) (w : World) (marking : Marking) (step : ℕ) where
   abbrev heard : Kept → Trace → Change → Kept
-  heard k t c = fold (kept_event w.program) k (told marking step t c)
+  heard k t c = fold (kept_event w.program) k (events_told marking step t c)
 
   abbrev Goes : Kept → Standing → List Point → Change → Type 0
   Goes k s ps c = Tracks acts w (heard k s.trace c) (after_change acts step s c) (ps ++ change_point acts step c (after_change acts step s c))
@@ -177,12 +177,12 @@ module _ (acts : List Act) (w : World) (marking : Marking) (step : ℕ) where
   one-change k s ps (Loads classes) other is suited then_suited t = absurd (other classes refl)
   one-change k s ps Left other is suited then_suited t =
       no-point k (heard k s.trace Left) s (after_change acts step s Left) ps t
-      (subst (λ x. Matches acts x (after_change acts step s Left)) (sym (events-seen w.program (told marking step s.trace Left) k))
+      (subst (λ x. Matches acts x (after_change acts step s Left)) (sym (events-seen w.program (events_told marking step s.trace Left) k))
       (change-matches acts marking step k.seen s Left other is suited then_suited t.matches))
       (ends-none kind.Leave (λ path. refl) s.trace k) refl
   one-change k s ps Unwound other is suited then_suited t =
       no-point k (heard k s.trace Unwound) s (after_change acts step s Unwound) ps t
-      (subst (λ x. Matches acts x (after_change acts step s Unwound)) (sym (events-seen w.program (told marking step s.trace Unwound) k))
+      (subst (λ x. Matches acts x (after_change acts step s Unwound)) (sym (events-seen w.program (events_told marking step s.trace Unwound) k))
       (change-matches acts marking step k.seen s Unwound other is suited then_suited t.matches))
       (ends-none kind.Unwind (λ path. refl) s.trace k) refl
   one-change k s ps (Began method) other is suited then_suited t =
@@ -194,7 +194,7 @@ module _ (acts : List Act) (w : World) (marking : Marking) (step : ℕ) where
       subst (λ q. Suits root q (marking step method)) last (then_suited (length s.trace.activations) a (slice_get_at s.trace.activations a [])) in
       let swaps = begin-swaps w.program step method root path (marking step method) (telling method root path (marking step method) suits) k t.matches.path in
       let m : Matches acts (heard k s.trace (Began method)).seen (after_change acts step s (Began method)) =
-      subst (λ x. Matches acts x (after_change acts step s (Began method))) (sym (events-seen w.program (told marking step s.trace (Began method)) k))
+      subst (λ x. Matches acts x (after_change acts step s (Began method))) (sym (events-seen w.program (events_told marking step s.trace (Began method)) k))
       (change-matches acts marking step k.seen s (Began method) other is suited then_suited t.matches) in
       by (is_profiled acts (changed step s.trace (Began method))) refl (swaps ∙ ap (λ q. if is_inside q then
       k.swaps ++ swapped_now w.program step (revealed (heard k s.trace (Began method)).seen) (changed_of w.program (revealed k.seen) (revealed (heard k s.trace (Began method)).seen)) else k.swaps) (sym last)) m
@@ -227,7 +227,7 @@ module _ (acts : List Act) (w : World) (marking : Marking) (step : ℕ) where
       let behind = rest (heard k s.trace c) next (ps ++ change_point acts step c next) (subst IsTrace (sym same) (changed-keeps step s.trace c is))
       (subst (λ t. StaySuited acts marking step t more) (sym same) stay.1) one in
       subst (λ x. Tracks acts w x (after_changes acts step next more) (ps ++ (change_point acts step c next ++ change_points acts step next more)))
-      (sym (fold-both w.program (told marking step s.trace c) (all_told marking step (changed step s.trace c) more) k))
+      (sym (fold-both w.program (events_told marking step s.trace c) (all_told marking step (changed step s.trace c) more) k))
       (subst (λ t. Tracks acts w (fold (kept_event w.program) (heard k s.trace c) (all_told marking step t more)) (after_changes acts step next more) (ps ++ (change_point acts step c next ++ change_points acts step next more))) same
       (subst (Tracks acts w (fold (kept_event w.program) (heard k s.trace c) (all_told marking step next.trace more)) (after_changes acts step next more))
       (append_assoc ps (change_point acts step c next) (change_points acts step next more)) behind))

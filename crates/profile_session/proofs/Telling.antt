@@ -10,7 +10,7 @@ use Rattle.jvm_model.specs.Classes.Load.{is_among}
 use Rattle.jvm_model.specs.Profiling.Paths.{is_outside}
 use Rattle.jvm_model.proofs.Events.TracesEntries.{entries-append}
 use Rattle.context_tree.specs.Counts.{AreInOrder, path_after}
-use Rattle.context_tree.specs.Profiles.{Profile, calls_of, credited, opened, taken, told}
+use Rattle.context_tree.specs.Profiles.{Profile, calls_of, credited, opened, taken, event_told}
 use Rattle.context_tree.proofs.EventCalls.{calls_of-taken}
 use Rattle.event_buffer.specs.Buffers.{Held, last_clock, pushed, rest_of}
 use Rattle.profile_session.specs.declared.parts.Parts.{Parts}
@@ -30,7 +30,7 @@ taken-clock p e = by e.kind where
   either true = refl
   either false = refl
 
-  by : (k : EventKind) → (told k e.method (credited e.clock p)).clock ≡ e.clock
+  by : (k : EventKind) → (event_told k e.method (credited e.clock p)).clock ≡ e.clock
   by Root = refl
   by Enter = either (is_outside p.open)
   by Leave = refl

@@ -99,7 +99,7 @@ module _ (w : World) (is : IsWhole w.program) (acts : List Act) (from : AreFrom 
   -- an event
   event-heard : (es : List Event) (k : Kept) (v mid : View) (e : Event) → InStep acts w es k v → next_event v ≡ Some e → mid ≡ stopped v
       → (new : View) → new ≡ record mid { marks = marks_seen p (kept_event p k e).seen } → InStep acts w (es ++ e ∷ []) (kept_event p k e) new × (events_left new ≡ events_left (stopped v))
-  event-heard es k v mid e s told stepped =
+  event-heard es k v mid e s delivered stepped =
       subst (λ (m : View). (new : View) → new ≡ record m { marks = marks_seen p (kept_event p k e).seen }
       → InStep acts w (es ++ e ∷ []) (kept_event p k e) new × (events_left new ≡ events_left (stopped v))) (sym stepped)
       (λ new q. by (opens k.seen.open e.kind) refl new q)
@@ -108,34 +108,34 @@ module _ (w : World) (is : IsWhole w.program) (acts : List Act) (from : AreFrom 
           → (let later : Kept = if b then at_point p e.clock k (seen_event k.seen e) else record k { seen = seen_event k.seen e } in
           new ≡ record (stopped v) { marks = marks_seen p later.seen })
           → InStep acts w (es ++ e ∷ []) (if b then at_point p e.clock k (seen_event k.seen e) else record k { seen = seen_event k.seen e }) new × (events_left new ≡ events_left (stopped v))
-      by true opening new is_new = opened w is acts from es k v e s told opening new is_new
+      by true opening new is_new = opened w is acts from es k v e s delivered opening new is_new
       by false shut new is_new =
           let entered : (if opens k.seen.open e.kind then with_entered e.method k.seen.entered else k.seen.entered) ≡ k.seen.entered =
           ap (λ b. if b then with_entered e.method k.seen.entered else k.seen.entered) shut in
           let same : marks_seen p (seen_event k.seen e) ≡ v.marks = ap (λ l. let r : Seen = record k.seen { entered = l } in marks_seen p r) entered ∙ sym s.marks in
-          unopened w is acts from es k v e s told shut new
+          unopened w is acts from es k v e s delivered shut new
           (is_new ∙ ap (λ l. let r : View = record (stopped v) { marks = l } in r) same)
 
   -- what is known of it
   fewer : (es : List Event) (k : Kept) (v : View) (e : Event) → InStep acts w es k v → next_event v ≡ Some e → entries es + entries_by e.kind ≤ suc v.clock
-  fewer es k v e s told =
+  fewer es k v e s delivered =
       let rest : List Event = events_left (stopped v) in
       let all : entries es + (entries_by e.kind + entries rest) ≡ entries (events_of (marking_of acts w) w v.clock) =
-      sym (entries-append es (e ∷ rest)) ∙ ap entries (ap (λ l. es ++ l) (sym (stop-tells v e told)) ∙ s.told) in
+      sym (entries-append es (e ∷ rest)) ∙ ap entries (ap (λ l. es ++ l) (sym (stop-tells v e delivered)) ∙ s.delivered) in
       let most = events_of-entries (marking_of acts w) w v.clock in
       omega (arith, all, most)
 
   is-loaded : (es : List Event) (k : Kept) (v : View) (e : Event) → InStep acts w es k v → next_event v ≡ Some e → opens k.seen.open e.kind ≡ true
       → has_class p k.seen.loaded e.method ≡ true
-  is-loaded es k v e s told opening =
+  is-loaded es k v e s delivered opening =
       let n = v.clock in
       let loaded = (run w n).shared.loaded in
       let all : AllBegin (λ m. has_class p loaded m ≡ true) (turn (world v) n).changes =
       subst (λ w. AllBegin (λ m. has_class p loaded m ≡ true) (turn w n).changes) (sym s.same)
       (called-begin p (operations_of p) loaded (methods_before w n) (turn w n).changes (told-of w is acts from n).calls) in
       subst (λ l. has_class p l e.method ≡ true) (sym s.loaded)
-      (from-stop (λ m. has_class p loaded m ≡ true) (mark_at v.marks) n k.seen.open e opening v.told (to_come v)
-      (drop-begin (λ m. has_class p loaded m ≡ true) v.passed (turn (world v) n).changes all) v.passed v.live told)
+      (from-stop (λ m. has_class p loaded m ≡ true) (mark_at v.marks) n k.seen.open e opening v.delivered (to_come v)
+      (drop-begin (λ m. has_class p loaded m ≡ true) v.passed (turn (world v) n).changes all) v.passed v.live delivered)
 
   load-heard : (es : List Event) (k : Kept) (old mid : View) (classes : List ℕ) → Stands acts w es k old → TellsLoads old classes mid → Heard old es k (Loaded classes) mid
   load-heard es k old mid classes (within busy s) t = absurd (let h : true ≡ false = sym t.first ∙ busy in cc)

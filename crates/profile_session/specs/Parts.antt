@@ -20,7 +20,7 @@ use Rattle.jvm_machine.specs.declared.turn.Turn.{Turn}
 use Rattle.jvm_machine.specs.declared.turn.Turn.TheVariants.{Settled, Loaded, Probe, Ended, Broken, NoMemory}
 use Rattle.jvm_machine.specs.View.{View, is_resting, run_state, world}
 use Rattle.class_linker.specs.Linkers.{LinkerView}
-use Rattle.call_revelation.specs.Reveals.{IsFront, IsRevelation, now_of}
+use Rattle.call_revelation.specs.Reveals.{IsPrefix, IsRevelation, now_of}
 use Rattle.context_tree.specs.Counts.{AreInOrder, opens}
 use Rattle.context_tree.specs.Profiles.{Profile, calls_of, credited, profile_of, taken}
 use Rattle.context_tree.specs.Seen.{Seen, seen_act}
@@ -175,7 +175,7 @@ pub record IsTellable (x : Parts) (e : Event) : Type 0 where
 
 -- all that is loaded is known, or more was loaded behind it
 pub record CanLoad (x : Parts) : Type 0 where
-  pub front : IsFront x.reveal.lineage.loaded (loaded_in x)
+  pub prefix : IsPrefix x.reveal.lineage.loaded (loaded_in x)
   pub order : IsLoadOrder x.vm.program [] (loaded_in x)
 
 -- And of classes: they are the ones that are loaded more.
@@ -224,10 +224,10 @@ pub record Brings (old new : Parts) : Type 0 where
 -- ---- between turns
 
 -- What they are of these events: the tree is theirs once it has taken what the buffer holds, but for steps that it was given already.
-pub record AreOf (x : Parts) (told : List Event) : Type 0 where
-  pub profile : credited x.vm.clock (profile_in x) ≡ credited x.vm.clock (profile_of told)
-  pub calls : calls_in x ≤ entries told
-  pub order : AreInOrder 0 told x.vm.clock
+pub record AreOf (x : Parts) (delivered : List Event) : Type 0 where
+  pub profile : credited x.vm.clock (profile_in x) ≡ credited x.vm.clock (profile_of delivered)
+  pub calls : calls_in x ≤ entries delivered
+  pub order : AreInOrder 0 delivered x.vm.clock
 
 pub record IsProfiling (x : Parts) : Type 0 where
   pub fit : AreFit x
@@ -238,14 +238,14 @@ pub record IsProfiling (x : Parts) : Type 0 where
 -- at rest
 pub record Rests (x : Parts) : Type 0 where
   pub is : IsProfiling x
-  pub told : List Event
-  pub are : AreOf x told
-  pub stands : AtRest x.acts (world x.vm) told (kept_in x) x.vm
+  pub delivered : List Event
+  pub are : AreOf x delivered
+  pub stands : AtRest x.acts (world x.vm) delivered (kept_in x) x.vm
 
 -- in a step
 pub record IsBusy (x : Parts) : Type 0 where
   pub is : IsProfiling x
   pub busy : is_resting x.vm ≡ false
-  pub told : List Event
-  pub are : AreOf x told
-  pub stands : InStep x.acts (world x.vm) told (kept_in x) x.vm
+  pub delivered : List Event
+  pub are : AreOf x delivered
+  pub stands : InStep x.acts (world x.vm) delivered (kept_in x) x.vm

@@ -129,7 +129,7 @@ CanActNow v = v.broken ≡ false → is_over v ≡ false → v.started ≡ true 
 
 -- The tree is the projection of the run under the accepted actions, with its order; before the first advance nothing was told.
 pub record IsTreeOf (v : Profiling) (t : Profile) : Type 0 where
-  pub early : v.started ≡ false → t.contexts ≡ []
+  pub before_the_run : v.started ≡ false → t.contexts ≡ []
   pub tree : v.started ≡ true → t.contexts ≡ projection v.acts (world_of v) v.clock
 
 -- ---- its parts

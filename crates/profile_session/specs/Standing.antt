@@ -28,9 +28,9 @@ pub record AtRest (acts : List Act) (w : World) (es : List Event) (k : Kept) (v 
   pub resting : is_resting v ≡ true
   pub whole : v.broken ≡ false
   pub going : (m : ℕ) → m < v.clock → is_some (run w m).ending ≡ false
-  pub early : v.started ≡ false → v.clock ≡ 0
+  pub before_the_run : v.started ≡ false → v.clock ≡ 0
   pub kept : k ≡ kept_before acts w (next_step v)
-  pub told : es ≡ told_before (marking_of acts w) w (next_step v)
+  pub delivered : es ≡ told_before (marking_of acts w) w (next_step v)
   pub lives : v.live ≡ held_in (marking_of acts w) (trace_before w (next_step v))
   pub marks : v.marks ≡ marks_seen w.program k.seen
   pub moments : AllByRecursion (λ (a : Act). a.moment ≤ v.clock) acts
@@ -42,7 +42,7 @@ pub record InStep (acts : List Act) (w : World) (es : List Event) (k : Kept) (v 
   pub going : (m : ℕ) → m < v.clock → is_some (run w m).ending ≡ false
   pub started : v.started ≡ true
   pub kept : fold (kept_event w.program) k (events_left v) ≡ kept_behind acts w v.clock
-  pub told : es ++ events_left v ≡ events_of (marking_of acts w) w v.clock
+  pub delivered : es ++ events_left v ≡ events_of (marking_of acts w) w v.clock
   pub lives : live_then v ≡ held_in (marking_of acts w) (trace w v.clock)
   pub marks : v.marks ≡ marks_seen w.program k.seen
   pub loaded : k.seen.loaded ≡ (run w v.clock).shared.loaded

@@ -16,7 +16,7 @@ use std::alloc::Global;
 /// What is revealed of a program before its start: the built-in classes are loaded.
 fn reveal_first(alloc: Global, vm: &Vm) -> Result<Reveal, NoMemory>
     requires whole { vm.now.broken ≡ false }
-    requires early { vm.now.started ≡ false }
+    requires before_the_run { vm.now.started ≡ false }
     requires profilable { CanBeProfiled vm.now.program }
     ensures { IfOk result (IsFirst vm.now) }
 {

@@ -86,7 +86,7 @@ impl Session {
     /// How many steps were made after the start.
     pub fn clock(&self) -> u64
         ensures clock { result ≡ self.now.clock }
-        ensures early { self.now.broken ≡ false → self.now.started ≡ false → result ≡ 0 }
+        ensures before_the_run { self.now.broken ≡ false → self.now.started ≡ false → result ≡ 0 }
     {
         let _whole = self.broken;
         self.parts.vm.clock()

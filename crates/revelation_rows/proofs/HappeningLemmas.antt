@@ -8,7 +8,7 @@ use Rattle.jvm_model.specs.Profiling.Revealed.{Revealed, marks_of, with_loaded, 
 use Rattle.class_linker.specs.Linkers.{IsLoaded, LinkerView, linker_of}
 use Rattle.program_fit.specs.Runnable.{IsAdmitted}
 use Rattle.call_revelation.specs.declared.reveal.Reveal.{Reveal}
-use Rattle.call_revelation.specs.Reveals.{IsFront, IsRevelation, nothing_revealed, now_of}
+use Rattle.call_revelation.specs.Reveals.{IsPrefix, IsRevelation, nothing_revealed, now_of}
 use Rattle.revelation_rows.specs.declared.item.Happening.{Happening}
 use Rattle.revelation_rows.specs.declared.item.Happening.TheVariants.{Entered, Loaded}
 use Rattle.revelation_rows.specs.Rows.{entered_often, revealed_by}
@@ -20,7 +20,7 @@ still-ready l old new is revelation loaded = record {
   along = record {
     admitted = is.along.admitted;
     revelation = revelation;
-    front = subst (λ xs. IsFront xs l.loaded) (sym loaded) is.along.front;
+    prefix = subst (λ xs. IsPrefix xs l.loaded) (sym loaded) is.along.prefix;
     order = is.along.order;
   };
   same = loaded ∙ is.same;

@@ -20,23 +20,23 @@ use Rattle.jvm_named.specs.Numbers.{all_coded}
 use Rattle.program_fit.specs.Runnable.{IsAdmitted}
 use Rattle.program_fit.proofs.Runs.{runnable}
 use Rattle.call_revelation.specs.declared.reveal.Reveal.{Reveal}
-use Rattle.call_revelation.specs.Reveals.{IsAhead, IsFront, IsRevelation, nothing_revealed, now_of}
+use Rattle.call_revelation.specs.Reveals.{IsAhead, IsPrefix, IsRevelation, nothing_revealed, now_of}
 use Rattle.call_revelation.proofs.CodedMethods.{few-coded}
 use Rattle.call_revelation.proofs.Fronts.{front-among, front-more, front-self, front-then}
 use Rattle.revelation_rows.specs.Scenes.{IsAlong, IsLinked, IsReady}
 
 -- ---- what is loaded more
 
-load-front : (p : Program) (loaded name : List ℕ) → IsFront loaded (load_of p loaded name).loaded
+load-front : (p : Program) (loaded name : List ℕ) → IsPrefix loaded (load_of p loaded name).loaded
 load-front p loaded name =
-    (named-load p (IsFront loaded)
+    (named-load p (IsPrefix loaded)
     (λ l class needs front. front-then loaded l (l ++ class ∷ []) front (front-more l (l ++ class ∷ []) (class ∷ []) refl))
     (length p.classes + 1) [] name loaded).kept (front-self loaded)
 
 by-load : (l : LinkerView) (name : List ℕ) → IsLinked l (record { program = l.program; loaded = (load_of l.program l.loaded name).loaded })
 by-load l name = record {
   program = refl;
-  front = load-front l.program l.loaded name;
+  prefix = load-front l.program l.loaded name;
   order = load-order l.program l.loaded name;
 }
 
@@ -44,7 +44,7 @@ by-answer : (l : LinkerView) (result : Loaded) (name : List ℕ) → IsLinked l 
 by-answer l (New kind classes) name = by-load l name
 by-answer l (Already kind) name = by-load l name
 by-answer l (Throws error classes absent) name = by-load l name
-by-answer l NoMemory name = record { program = refl; front = front-self l.loaded; order = λ order. order }
+by-answer l NoMemory name = record { program = refl; prefix = front-self l.loaded; order = λ order. order }
 
 pub linked : (l next : LinkerView) (result : Loaded) (name : List ℕ) → next ≡ loaded_by result name l → IsLinked l next
 linked l next result name e = subst (IsLinked l) (sym e) (by-answer l result name)
@@ -55,23 +55,23 @@ pub along-linked : (l next : LinkerView) (r : Reveal) → IsAlong l r → IsLink
 along-linked l next r is by = record {
   admitted = subst IsAdmitted (sym by.program) is.admitted;
   revelation = subst (λ p. IsRevelation p r) (sym by.program) is.revelation;
-  front = front-then (now_of r).loaded l.loaded next.loaded is.front by.front;
+  prefix = front-then (now_of r).loaded l.loaded next.loaded is.prefix by.prefix;
   order = by.order is.order;
 }
 
 pub along-ahead : (l : LinkerView) (r : Reveal) → IsAlong l r → IsLoaded l (user_count l.program) → IsAhead l r
-along-ahead l r is root = record { loaded = λ class h. front-among r.lineage.loaded l.loaded class is.front h; root = root }
+along-ahead l r is root = record { loaded = λ class h. front-among r.lineage.loaded l.loaded class is.prefix h; root = root }
 
 pub root-linked : (l next : LinkerView) → IsLoaded l (user_count l.program) → IsLinked l next → IsLoaded next (user_count next.program)
 root-linked l next root by =
-    front-among l.loaded next.loaded (user_count next.program) by.front (ap (λ p. is_among (user_count p) l.loaded) by.program ∙ root)
+    front-among l.loaded next.loaded (user_count next.program) by.prefix (ap (λ p. is_among (user_count p) l.loaded) by.program ∙ root)
 
 pub now-ready : (l : LinkerView) (old new : Reveal) → IsAlong l old → IsLoaded l (user_count l.program) → IsRevelation l.program new
     → now_of new ≡ with_loaded l.loaded (now_of old) → IsReady l new
 now-ready l old new is root revelation now =
     let same : (now_of new).loaded ≡ l.loaded = ap (λ (n : Revealed). n.loaded) now in
     record {
-      along = record { admitted = is.admitted; revelation = revelation; front = subst (λ xs. IsFront xs l.loaded) (sym same) (front-self l.loaded); order = is.order };
+      along = record { admitted = is.admitted; revelation = revelation; prefix = subst (λ xs. IsPrefix xs l.loaded) (sym same) (front-self l.loaded); order = is.order };
       same = same;
       root = root;
     }
@@ -84,7 +84,7 @@ pub nothing-along : (p : Program) (l : LinkerView) (r : Reveal) → IsAdmitted p
 nothing-along p l r admitted e revelation now = subst (λ l. IsAlong l r) (sym e) (record {
   admitted = admitted;
   revelation = revelation;
-  front = subst (λ (n : Revealed). IsFront n.loaded []) (sym now) (front-self []);
+  prefix = subst (λ (n : Revealed). IsPrefix n.loaded []) (sym now) (front-self []);
   order = none-above p;
 })
 

@@ -9,7 +9,7 @@ use Rattle.jvm_model.specs.Profiling.Revelation.{IsLoadOrder}
 use Rattle.class_linker.specs.Linkers.{IsLoaded, LinkerView}
 use Rattle.program_fit.specs.Runnable.{IsAdmitted}
 use Rattle.call_revelation.specs.declared.reveal.Reveal.{Reveal}
-use Rattle.call_revelation.specs.Reveals.{IsFront, IsRevelation, nothing_revealed, now_of}
+use Rattle.call_revelation.specs.Reveals.{IsPrefix, IsRevelation, nothing_revealed, now_of}
 use Rattle.revelation_rows.specs.declared.item.Difference.{Difference}
 use Rattle.revelation_rows.specs.declared.item.Fact.{Fact}
 use Rattle.revelation_rows.specs.declared.item.Happening.{Happening}
@@ -22,7 +22,7 @@ use Rattle.revelation_rows.specs.Rows.{Differs, IsTold, Passes, Seen, behind, ca
 -- of the same program more is loaded, in order where it was
 pub record IsLinked (old new : LinkerView) : Type 0 where
   pub program : new.program ≡ old.program
-  pub front : IsFront old.loaded new.loaded
+  pub prefix : IsPrefix old.loaded new.loaded
   pub order : IsLoadOrder old.program [] old.loaded → IsLoadOrder new.program [] new.loaded
 
 -- behind a load
@@ -33,7 +33,7 @@ loading name l = record { program = l.program; loaded = (load_of l.program l.loa
 pub record IsAlong (l : LinkerView) (r : Reveal) : Type 0 where
   pub admitted : IsAdmitted l.program
   pub revelation : IsRevelation l.program r
-  pub front : IsFront (now_of r).loaded l.loaded
+  pub prefix : IsPrefix (now_of r).loaded l.loaded
   pub order : IsLoadOrder l.program [] l.loaded
 
 -- so it is, it knows what the linker has loaded, and java/lang/Object is loaded

@@ -11,7 +11,7 @@ use Rattle.jvm_model.specs.declared.event.EventKind.{EventKind}
 use Rattle.jvm_model.specs.declared.event.EventKind.TheVariants as kind
 use Rattle.jvm_model.specs.Profiling.Activations.{Activation, Trace, no_trace, current, without_current, with_end, changed, all_changed, trace, trace_in-zero, trace_in-suc}
 use Rattle.jvm_model.specs.Basis.Data.{Change, Loads, Began, Left, Unwound, Operation, Listing, World}
-use Rattle.jvm_model.specs.Profiling.EventLists.{Marking, all_told, begin_events, end_events, end_of, events_of, events_of-zero, events_of-suc, told}
+use Rattle.jvm_model.specs.Profiling.EventLists.{Marking, all_told, begin_events, end_events, end_of, events_of, events_of-zero, events_of-suc, events_told}
 use Rattle.jvm_model.specs.Codes.Originals.{original}
 use Rattle.jvm_model.specs.Profiling.Paths.{contexts_of, is_inside}
 use Rattle.jvm_model.specs.Profiling.Projection.{acted, is_root, is_selected, paths_made, paths_made-zero, paths_made-suc, paths_of, projection, who}
@@ -173,34 +173,34 @@ module _ (acts : List Act) (x : Act) (behind : 1 ≤ x.moment) where
   change-trace acts step s Unwound = refl
 
   -- all that stands at a time is early
-  abbrev IsEarly : Standing → Type 0
-  IsEarly s = Early x.moment s.trace.activations
+  abbrev IsBeforeTheRun : Standing → Type 0
+  IsBeforeTheRun s = Early x.moment s.trace.activations
 
-  early-after : (acts : List Act) (step : ℕ) (s : Standing) (c : Change) → step ≤ x.moment → IsEarly s → IsEarly (after_change acts step s c)
+  early-after : (acts : List Act) (step : ℕ) (s : Standing) (c : Change) → step ≤ x.moment → IsBeforeTheRun s → IsBeforeTheRun (after_change acts step s c)
   early-after acts step s c le each = subst (λ (t : Trace). Early x.moment t.activations) (sym (change-trace acts step s c)) (early-change x.moment step s.trace c le each)
 
-  same-changes : (step : ℕ) (s : Standing) (changes : List Change) → step ≤ x.moment → IsEarly s → after_changes more step s changes ≡ after_changes acts step s changes
+  same-changes : (step : ℕ) (s : Standing) (changes : List Change) → step ≤ x.moment → IsBeforeTheRun s → after_changes more step s changes ≡ after_changes acts step s changes
   same-changes step s [] le each = refl
   same-changes step s (c ∷ rest) le each =
       ap (λ r. after_changes more step r rest) (same-change step s c le each) ∙ same-changes step (after_change acts step s c) rest le (early-after acts step s c le each)
 
-  changes-early : (acts : List Act) (step : ℕ) (s : Standing) (changes : List Change) → step ≤ x.moment → IsEarly s → IsEarly (after_changes acts step s changes)
+  changes-early : (acts : List Act) (step : ℕ) (s : Standing) (changes : List Change) → step ≤ x.moment → IsBeforeTheRun s → IsBeforeTheRun (after_changes acts step s changes)
   changes-early acts step s [] le each = each
   changes-early acts step s (c ∷ rest) le each = changes-early acts step (after_change acts step s c) rest le (early-after acts step s c le each)
 
-  ended-early : (acts todo : List Act) (step : ℕ) (s : Standing) (changes : List Change) → step ≤ x.moment → IsEarly s
-      → IsEarly (after_acts acts (settled acts (after_changes acts step s changes)) todo)
+  ended-early : (acts todo : List Act) (step : ℕ) (s : Standing) (changes : List Change) → step ≤ x.moment → IsBeforeTheRun s
+      → IsBeforeTheRun (after_acts acts (settled acts (after_changes acts step s changes)) todo)
   ended-early acts todo step s changes le each =
       subst (λ (t : Trace). Early x.moment t.activations)
       (sym (acts-trace acts todo (settled acts (after_changes acts step s changes)) ∙ settled-trace acts (after_changes acts step s changes)))
       (changes-early acts step s changes le each)
 
   module _ (w : World) (t : Listing) where
-    pub standing-early : (k : ℕ) → k ≤ suc x.moment → IsEarly (standing_in acts w t k)
+    pub standing-early : (k : ℕ) → k ≤ suc x.moment → IsBeforeTheRun (standing_in acts w t k)
     standing-early zero le =
-        subst IsEarly (sym (standing_in-zero acts w t)) (subst (λ (r : Trace). Early x.moment r.activations) (sym (acts-trace acts (acts_at 0 acts) (nothing w))) tt)
+        subst IsBeforeTheRun (sym (standing_in-zero acts w t)) (subst (λ (r : Trace). Early x.moment r.activations) (sym (acts-trace acts (acts_at 0 acts) (nothing w))) tt)
     standing-early (suc k) le =
-        subst IsEarly (sym (standing_in-suc acts w t k))
+        subst IsBeforeTheRun (sym (standing_in-suc acts w t k))
         (ended-early acts (acts_behind k acts) k (standing_in acts w t k) (turn_in w t k).changes (omega arith) (standing-early k (omega arith)))
 
     pub same-behind : (k : ℕ) → k < x.moment → acts_behind k more ≡ acts_behind k acts
@@ -297,7 +297,7 @@ module _ (acts : List Act) (x : Act) (behind : 1 ≤ x.moment) where
         by [] = refl
         by (number ∷ rest) = at number (slice_get t.activations number) refl
 
-    pub same-told : (step : ℕ) (t : Trace) (c : Change) → step ≤ x.moment → Early x.moment t.activations → told after step t c ≡ told before step t c
+    pub same-told : (step : ℕ) (t : Trace) (c : Change) → step ≤ x.moment → Early x.moment t.activations → events_told after step t c ≡ events_told before step t c
     same-told step t (Loads classes) le each = refl
     same-told step t (Began method) le each = ap (begin_events step method) (same-mark step method le)
     same-told step t Left le each = same-end kind.Leave step t each
@@ -332,13 +332,13 @@ module _ (acts : List Act) (x : Act) (behind : 1 ≤ x.moment) where
   same-profiled : (t : Trace) → Early x.moment t.activations → is_profiled more t ≡ is_profiled acts t
   same-profiled t each = ap (λ q. is_inside (path_in q (current t.live))) (same-paths t.activations each)
 
-  same-change_point : (step : ℕ) (c : Change) (s : Standing) → IsEarly s → change_point more step c s ≡ change_point acts step c s
+  same-change_point : (step : ℕ) (c : Change) (s : Standing) → IsBeforeTheRun s → change_point more step c s ≡ change_point acts step c s
   same-change_point step (Loads classes) s each = refl
   same-change_point step (Began method) s each = ap (λ b. let r : List Point = if b then point step s ∷ [] else [] in r) (same-profiled s.trace each)
   same-change_point step Left s each = refl
   same-change_point step Unwound s each = refl
 
-  same-change_points : (step : ℕ) (s : Standing) (changes : List Change) → step ≤ x.moment → IsEarly s → change_points more step s changes ≡ change_points acts step s changes
+  same-change_points : (step : ℕ) (s : Standing) (changes : List Change) → step ≤ x.moment → IsBeforeTheRun s → change_points more step s changes ≡ change_points acts step s changes
   same-change_points step s [] le each = refl
   same-change_points step s (c ∷ rest) le each =
       let next = after_change acts step s c in
@@ -346,7 +346,7 @@ module _ (acts : List Act) (x : Act) (behind : 1 ≤ x.moment) where
       ap (λ r. change_point more step c r ++ change_points more step r rest) (same-change step s c le each)
       ∙ ap₂ (λ (a b : List Point). a ++ b) (same-change_point step c next early) (same-change_points step next rest le early)
 
-  same-act_points : (step : ℕ) (s : Standing) (todo : List Act) → IsEarly s → act_points more step s todo ≡ act_points acts step s todo
+  same-act_points : (step : ℕ) (s : Standing) (todo : List Act) → IsBeforeTheRun s → act_points more step s todo ≡ act_points acts step s todo
   same-act_points step s [] each = refl
   same-act_points step s (act ∷ todo) each =
       let chosen_s : Standing = record s { selected = chosen act s.selected } in

@@ -6,7 +6,7 @@ use Rattle.jvm_model.specs.declared.event.EventKind.{EventKind}
 use Rattle.jvm_model.specs.declared.event.EventKind.TheVariants as kind
 use Rattle.jvm_model.specs.Basis.Data.{Change, Loads, Began, Left, Unwound}
 use Rattle.jvm_model.specs.Profiling.Activations.{Activation, Trace, current, with_begin, without_current, with_end, changed, all_changed}
-use Rattle.jvm_model.specs.Profiling.EventLists.{Marking, end_events, end_of, told, all_told}
+use Rattle.jvm_model.specs.Profiling.EventLists.{Marking, end_events, end_of, events_told, all_told}
 use Rattle.jvm_model.specs.Turns.Told.{Held, without_held, held_after, end_told, change_told, changes_told, all_held, held_of, nothing_held, held_at, held_in}
 use Rattle.jvm_model.proofs.Events.Chains.{slice_get-append_left, slice_get_at}
 use Rattle.jvm_model.proofs.Events.Traces.{AreLive, IsTrace, changed-keeps, ended_in, ended_at-found}
@@ -70,7 +70,7 @@ module _ (marking : Marking) where
         ap (λ o. option_map_or (λ (a : Activation). end_events k step a.method (marking a.begin a.method)) o []) are.0.found
         ∙ ap (λ o. (let h : Held = option_map_or (held_of marking) o nothing_held in end_events k step h.method h.mark)) (sym are.0.found)
 
-  change-told : (step : ℕ) (t : Trace) (c : Change) → IsTrace t → told marking step t c ≡ change_told (marking step) step (held_in marking t) c
+  change-told : (step : ℕ) (t : Trace) (c : Change) → IsTrace t → events_told marking step t c ≡ change_told (marking step) step (held_in marking t) c
   change-told step t (Loads classes) is = refl
   change-told step t (Began method) is = refl
   change-told step t Left is = end-told kind.Leave step t is

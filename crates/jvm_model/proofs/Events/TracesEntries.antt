@@ -11,7 +11,7 @@ use Rattle.jvm_model.specs.Running.Run.{turn}
 use Rattle.jvm_model.specs.Codes.Originals.{original}
 use Rattle.jvm_model.specs.Running.Changes.{begun}
 use Rattle.jvm_model.specs.Profiling.Activations.{Activation, Trace, changed, trace_before}
-use Rattle.jvm_model.specs.Profiling.EventLists.{Marking, begin_events, end_events, current_activation, end_of, told, all_told, step_events, events_of, events_of-zero, events_of-suc, entries_by, entries}
+use Rattle.jvm_model.specs.Profiling.EventLists.{Marking, begin_events, end_events, current_activation, end_of, events_told, all_told, step_events, events_of, events_of-zero, events_of-suc, entries_by, entries}
 use Rattle.jvm_model.proofs.Events.Order.{run-begins}
 
 pub entries-append : (xs ys : List Event) → entries (xs ++ ys) ≡ entries xs + entries ys
@@ -39,13 +39,13 @@ all_told-entries marking step t [] = omega arith
 all_told-entries marking step t (Loads classes ∷ more) = all_told-entries marking step t more
 all_told-entries marking step t (Began method ∷ more) =
     let next = changed step t (Began method) in
-    omega (arith, entries-append (told marking step t (Began method)) (all_told marking step next more), begin-entries step method (marking step method), all_told-entries marking step next more)
+    omega (arith, entries-append (events_told marking step t (Began method)) (all_told marking step next more), begin-entries step method (marking step method), all_told-entries marking step next more)
 all_told-entries marking step t (Left ∷ more) =
     let next = changed step t Left in
-    omega (arith, entries-append (told marking step t Left) (all_told marking step next more), end_of-entries marking kind.Leave (omega arith) step t, all_told-entries marking step next more)
+    omega (arith, entries-append (events_told marking step t Left) (all_told marking step next more), end_of-entries marking kind.Leave (omega arith) step t, all_told-entries marking step next more)
 all_told-entries marking step t (Unwound ∷ more) =
     let next = changed step t Unwound in
-    omega (arith, entries-append (told marking step t Unwound) (all_told marking step next more), end_of-entries marking kind.Unwind (omega arith) step t, all_told-entries marking step next more)
+    omega (arith, entries-append (events_told marking step t Unwound) (all_told marking step next more), end_of-entries marking kind.Unwind (omega arith) step t, all_told-entries marking step next more)
 
 -- one a step at most
 pub step_events-entries : (marking : Marking) (w : World) (n : ℕ) → entries (step_events marking w n) ≤ 1

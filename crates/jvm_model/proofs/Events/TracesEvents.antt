@@ -9,7 +9,7 @@ use Rattle.jvm_model.specs.Running.Run.{turn, run}
 use Rattle.jvm_model.specs.Codes.Originals.{original}
 use Rattle.jvm_model.specs.Running.Changes.{methods, after_change}
 use Rattle.jvm_model.specs.Profiling.Activations.{Trace, no_trace, changed, trace}
-use Rattle.jvm_model.specs.Profiling.EventLists.{Marking, begin_events, end_events, end_of, told, all_told, step_events, events_of, events_of-suc}
+use Rattle.jvm_model.specs.Profiling.EventLists.{Marking, begin_events, end_events, end_of, events_told, all_told, step_events, events_of, events_of-suc}
 use Rattle.jvm_model.proofs.Events.Traces.{IsTrace, no_trace-is, trace_in-is, changed-keeps, live_methods, changed-methods, FramesFollow, live-follow, end_of-always, end_of-none}
 
 -- a marking by the method alone
@@ -43,7 +43,7 @@ ended_of-always marking mark always k step t is = by (live_methods t) refl where
   by (method ∷ rest) e = end_of-always marking mark always k step t method rest is e
 
 told_of-always : (marking : Marking) (mark : ℕ → Mark) → IsAlways mark marking → (step : ℕ) (t : Trace) (c : Change) → IsTrace t
-    → told marking step t c ≡ told_of mark step (live_methods t) c
+    → events_told marking step t c ≡ told_of mark step (live_methods t) c
 told_of-always marking mark always step t (Loads classes) is = refl
 told_of-always marking mark always step t (Began method) is = ap (begin_events step method) (always step method)
 told_of-always marking mark always step t Left is = ended_of-always marking mark always kind.Leave step t is

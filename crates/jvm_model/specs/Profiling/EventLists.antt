@@ -37,15 +37,15 @@ abbrev pub end_of : Marking → EventKind → ℕ → Trace → List Event
 end_of marking k step t = option_map_or (λ (a : Activation). end_events k step a.method (marking a.begin a.method)) (current_activation t) []
 
 -- what is told of one change, after which the activations are others
-abbrev pub told : Marking → ℕ → Trace → Change → List Event
-told marking step t (Loads classes) = []
-told marking step t (Began method) = begin_events step method (marking step method)
-told marking step t Left = end_of marking kind.Leave step t
-told marking step t Unwound = end_of marking kind.Unwind step t
+abbrev pub events_told : Marking → ℕ → Trace → Change → List Event
+events_told marking step t (Loads classes) = []
+events_told marking step t (Began method) = begin_events step method (marking step method)
+events_told marking step t Left = end_of marking kind.Leave step t
+events_told marking step t Unwound = end_of marking kind.Unwind step t
 
 abbrev pub all_told : Marking → ℕ → Trace → List Change → List Event
 all_told marking step t [] = []
-all_told marking step t (c ∷ more) = told marking step t c ++ all_told marking step (changed step t c) more
+all_told marking step t (c ∷ more) = events_told marking step t c ++ all_told marking step (changed step t c) more
 
 -- the events of a step: those of its changes, in order
 abbrev pub step_events : Marking → World → ℕ → List Event

@@ -89,15 +89,15 @@ module _ (ms : List Initialization) where
       → with_initializations ms (invokes w.world t i s f m args rest).after ≡ (invokes w.world t i (with_initializations ms s) f m args rest).after
   invokes-carried w t i s f m args rest free =
       by (has_room w.world m args) (nat_lt (suc (live_in s.stack)) most_live)
-      ∙ ap (λ n. (told (has_room w.world m args) (nat_lt (suc n) most_live)).after) (sym (live-stack s.stack ms))
+      ∙ ap (λ n. (delivered (has_room w.world m args) (nat_lt (suc n) most_live)).after) (sym (live-stack s.stack ms))
     where
       over : State → Turn
       over x = still (throws_at x f (raised w.world x.shared stack_overflow None))
 
-      told : Bool → Bool → Turn
-      told b few = cond b (cond few (begins w.world t (with_initializations ms s) f m args rest) (over (with_initializations ms s))) (still (breaks (with_initializations ms s) f i.own))
+      delivered : Bool → Bool → Turn
+      delivered b few = cond b (cond few (begins w.world t (with_initializations ms s) f m args rest) (over (with_initializations ms s))) (still (breaks (with_initializations ms s) f i.own))
 
-      by : (b few : Bool) → with_initializations ms (cond b (cond few (begins w.world t s f m args rest) (over s)) (still (breaks s f i.own))).after ≡ (told b few).after
+      by : (b few : Bool) → with_initializations ms (cond b (cond few (begins w.world t s f m args rest) (over s)) (still (breaks s f i.own))).after ≡ (delivered b few).after
       by true true = begins-carried w t s f m args rest free
       by true false = throws-carried s f (raised w.world s.shared stack_overflow None) free
       by false few = breaks-carried s f i.own free

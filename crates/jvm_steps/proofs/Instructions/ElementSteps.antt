@@ -30,7 +30,7 @@ use Rattle.jvm_steps.specs.Instructions.Acts.{acts, acts_asked, acts_by, acts_do
 use Rattle.jvm_steps.specs.Instructions.Elements.{IsLoaded, IsMeasured, IsStored, drops_three, is_number}
 use Rattle.prepared_code.specs.Initializations.{initialization_on, stack_of, state_of, with_initializations}
 use Rattle.prepared_code.specs.Ready.{CanRun}
-use Rattle.prepared_code.specs.Runs.{IsCalm, IsLineIn, IsPlainLine, LeadsAlone, RunsVersion, top_version}
+use Rattle.prepared_code.specs.Runs.{IsAtInstruction, IsLineIn, IsPlainLine, LeadsAlone, RunsVersion, top_version}
 use Rattle.prepared_code.specs.States.{active, frame_in, here_of, state_in, state_with}
 use Rattle.prepared_code.specs.Tables.{Version}
 use Rattle.prepared_code.specs.Versions.{Setup, instruction_in, line_at, line_in, listing_of}
@@ -63,7 +63,7 @@ module _ (w : Setup) (run : CanRun w) (line : Line) where
       (done : state_in new ≡ on_parts (acts w line) old) (ending : new.ending ≡ old.ending) (thrown : new.thrown ≡ old.thrown)
       (many : length new.frames.frames ≡ length old.frames.frames) (has : has_frame new.frames.frames ≡ true) (framed_before : has_frame old.frames.frames ≡ true)
       (here : Here) (stands : here_of old.frames.frames ≡ Some here) (found : line_at w.versions here.version here.place ≡ Some line)
-      (ms : List Initialization) (calm : IsCalm (length old.frames.frames) ms old) where
+      (ms : List Initialization) (calm : IsAtInstruction (length old.frames.frames) ms old) where
     attempted : state_of ms new ≡ attempts_on w (state_of ms old) (state_of ms old).stack
     attempted =
         does-beneath w line ms old new here.method old.frames.frames (top-there w ms old here old.frames.frames stands) calm.executing unnamed
@@ -87,7 +87,7 @@ module _ (w : Setup) (run : CanRun w) (line : Line) where
     abbrev under : List PlacedFrame → State
     under fs = record (with_initializations ms (state_with fs p)) { stack = stack_of (map active fs) ms }
 
-    step-at : (f : PlacedFrame) (fs : List PlacedFrame) → IsCalm (length (f ∷ fs)) ms p → StandsAt w (f ∷ fs) line
+    step-at : (f : PlacedFrame) (fs : List PlacedFrame) → IsAtInstruction (length (f ∷ fs)) ms p → StandsAt w (f ∷ fs) line
         → (steps_at w.world (listing_of w.versions) (under fs) (frame_in f) (Some (instruction_in line))).changes ≡ []
         → (step w.world (listing_of w.versions) (with_initializations ms (state_with (f ∷ fs) p))).changes ≡ []
     step-at f fs calm stands quiet =
@@ -109,7 +109,7 @@ module _ (w : Setup) (run : CanRun w) (line : Line) where
         ap (λ x. loads_element k x old.shared l (top_operands fs)) at
         ∙ sym (loads-at (access_to k is.array is.index old.shared.heap) is.array is.index is.datum old.shared l (top_operands fs) (sym is.there))
 
-    load-quiet : (fs : List PlacedFrame) (ms : List Initialization) → place_of (top_operands fs) ≡ Some (is.array, is.index) → IsCalm (length fs) ms old → StandsAt w fs line
+    load-quiet : (fs : List PlacedFrame) (ms : List Initialization) → place_of (top_operands fs) ≡ Some (is.array, is.index) → IsAtInstruction (length fs) ms old → StandsAt w fs line
         → (step w.world (listing_of w.versions) (with_initializations ms (state_with fs old))).changes ≡ []
     load-quiet [] ms at calm stands = absurd stands
     load-quiet (f ∷ fs) ms at calm stands =
@@ -138,7 +138,7 @@ module _ (w : Setup) (run : CanRun w) (line : Line) where
         ∙ (ap (λ b. if b then Raises null_pointer None else gives_way 1 (option_map (λ count. Int (pos count)) (array_length is.array old.shared.heap)) l (top_operands fs)) is.there
         ∙ ap (λ n. gives_way 1 (option_map (λ count. Int (pos count)) n) l (top_operands fs)) is.long)
 
-    length-quiet : (fs : List PlacedFrame) (ms : List Initialization) → ref_of (top_operands fs) ≡ Some is.array → IsCalm (length fs) ms old → StandsAt w fs line
+    length-quiet : (fs : List PlacedFrame) (ms : List Initialization) → ref_of (top_operands fs) ≡ Some is.array → IsAtInstruction (length fs) ms old → StandsAt w fs line
         → (step w.world (listing_of w.versions) (with_initializations ms (state_with fs old))).changes ≡ []
     length-quiet [] ms at calm stands = absurd stands
     length-quiet (f ∷ fs) ms at calm stands =
@@ -180,7 +180,7 @@ module _ (w : Setup) (run : CanRun w) (line : Line) where
         ≡ record { shared = stored; wrote = []; outcome = GoesOn l (drop 3 (top_operands fs)) Following }
     store-asks fs at l = ap (λ o. stores_element w.world.program k o old.shared l (top_operands fs)) at ∙ stored-at l (top_operands fs)
 
-    store-quiet : (fs : List PlacedFrame) (ms : List Initialization) → storing_of k (top_operands fs) ≡ Some x → IsCalm (length fs) ms old → StandsAt w fs line
+    store-quiet : (fs : List PlacedFrame) (ms : List Initialization) → storing_of k (top_operands fs) ≡ Some x → IsAtInstruction (length fs) ms old → StandsAt w fs line
         → (step w.world (listing_of w.versions) (with_initializations ms (state_with fs old))).changes ≡ []
     store-quiet [] ms at calm stands = absurd stands
     store-quiet (f ∷ fs) ms at calm stands =
@@ -240,7 +240,7 @@ module _ (w : Setup) (run : CanRun w) (line : Line) (k : Kind) (old new : Parts)
   -- from what is changed, and what that is a step of
   alone-by : (rule : Rule) (shared : Shared) → new ≡ record old { frames = after rule old.frames; shared = shared } → shared.loaded ≡ old.shared.loaded
       → is_named line.action ≡ false → goes_within line.action ≡ true → state_in new ≡ on_parts (acts w line) old
-      → ((ms : List Initialization) → IsCalm (length old.frames.frames) ms old → (step w.world (listing_of w.versions) (state_of ms old)).changes ≡ [])
+      → ((ms : List Initialization) → IsAtInstruction (length old.frames.frames) ms old → (step w.world (listing_of w.versions) (state_of ms old)).changes ≡ [])
       → LeadsAlone w old 1 new
   alone-by rule shared changed kept unnamed within does quiet =
       let many = ap (λ (p : Parts). length p.frames.frames) changed ∙ still-many (asked rule old.frames.frames) old.frames.frames in

@@ -93,25 +93,25 @@ module _ (w : Setup) (t : Listing) (c : ℕ) (f : Frame) (below : List Entry) wh
   abbrev pub state : List Entry → Option ℕ → Bool → List ℕ → Shared → Option Ending → State
   state stack thrown begun output shared ending = record { stack = stack; thrown = thrown; begun = begun; shared = shared; output = output; ending = ending }
 
-  abbrev pub told : State → List Change → Turn
-  told s changes = record { after = s; changes = changes }
+  abbrev pub delivered : State → List Change → Turn
+  delivered s changes = record { after = s; changes = changes }
 
   data Stage (turn : Turn) : Type 0 where
     -- it is being initialized
     waits : (stack : List Entry) (thrown : Option ℕ) (begun : Bool) (output : List ℕ) (shared : Shared) → AreInitializations stack
-        → phase_of shared c ≡ Some Running → turn ≡ told (state stack thrown begun output shared None) [] → Stage turn
+        → phase_of shared c ≡ Some Running → turn ≡ delivered (state stack thrown begun output shared None) [] → Stage turn
     -- it is ready, and nothing has begun
     ready : (begun : Bool) (output : List ℕ) (shared : Shared) → phase_of shared c ≡ Some Ready
-        → turn ≡ told (state base None begun output shared None) [] → Stage turn
+        → turn ≡ delivered (state base None begun output shared None) [] → Stage turn
     -- its initialization has failed
     failed : (stack : List Entry) (r : ℕ) (begun : Bool) (output : List ℕ) (shared : Shared) (changes : List Change)
-        → phase_of shared c ≡ Some Erroneous → turn ≡ told (state stack (Some r) begun output shared None) changes → Stage turn
+        → phase_of shared c ≡ Some Erroneous → turn ≡ delivered (state stack (Some r) begun output shared None) changes → Stage turn
     -- it is not ready, and nothing follows
     stops : (phase_of turn.after.shared c ≡ Some Ready → ⊥) → move w.world t turn.after ≡ None → Stage turn
 
   -- of a state that is reached without changes
   abbrev Reached : State → Type 0
-  Reached s = Stage (told s [])
+  Reached s = Stage (delivered s [])
 
   -- ---- an initialization on the stack
 
@@ -142,13 +142,13 @@ module _ (w : Setup) (t : Listing) (c : ℕ) (f : Frame) (below : List Entry) wh
     with_super-at None = marked Initializer
     with_super-at (Some e) = after_super-at e (phase_of shared e) refl
 
-    runs-at : (m : Option ℕ) → Stage (then_turn (told (state (Initializing d Initializer ∷ rest) None begun output shared None) []) (runs_initializer w.world t (state rest None begun output shared None) d m))
+    runs-at : (m : Option ℕ) → Stage (then_turn (delivered (state (Initializing d Initializer ∷ rest) None begun output shared None) []) (runs_initializer w.world t (state rest None begun output shared None) d m))
     runs-at None = marked Finish
     runs-at (Some m) = by (nat_lt (live_in rest) most_live) where
       s : State
       s = state (Initializing d Finish ∷ rest) None begun output shared None
 
-      by : (b : Bool) → Stage (then_turn (told (state (Initializing d Initializer ∷ rest) None begun output shared None) []) (cond b (told (with_frame (at_part (state rest None begun output shared None) d Finish) (new_frame w.world t m [])) (Began m ∷ [])) (still (raises w.world (at_part (state rest None begun output shared None) d Finish) stack_overflow None))))
+      by : (b : Bool) → Stage (then_turn (delivered (state (Initializing d Initializer ∷ rest) None begun output shared None) []) (cond b (delivered (with_frame (at_part (state rest None begun output shared None) d Finish) (new_frame w.world t m [])) (Began m ∷ [])) (still (raises w.world (at_part (state rest None begun output shared None) d Finish) stack_overflow None))))
       by true = stops (λ e. running-ready (sym running ∙ e)) refl
       by false = raised-at Finish stack_overflow None
 
@@ -156,7 +156,7 @@ module _ (w : Setup) (t : Listing) (c : ℕ) (f : Frame) (below : List Entry) wh
     finishes-at = elim at [
       | own same is ↦ ready begun output (with_phase shared d Ready)
           (subst (λ k. slice_get (slice_set shared.phases k Ready) c ≡ Some Ready) (sym same) (set-there shared.phases c Ready Running running))
-          (ap (λ es. told (state es None begun output (with_phase shared d Ready) None) []) is)
+          (ap (λ es. delivered (state es None begun output (with_phase shared d Ready) None) []) is)
       | other differ deeper ↦ waits rest None begun output (with_phase shared d Ready) deeper (set-elsewhere shared.phases c d Ready differ ∙ running) refl
     ]
 
@@ -173,11 +173,11 @@ module _ (w : Setup) (t : Listing) (c : ℕ) (f : Frame) (below : List Entry) wh
 
     -- its constants are set, or an object is thrown
     constants-at : (setting : Setting) → setting.shared.phases ≡ shared.phases
-        → Stage (then_turn (told (state (Initializing d Constants ∷ rest) None begun output shared None) []) (still (with_constants (state rest None begun output shared None) d setting)))
+        → Stage (then_turn (delivered (state (Initializing d Constants ∷ rest) None begun output shared None) []) (still (with_constants (state rest None begun output shared None) d setting)))
     constants-at setting same =
         waits (Initializing d Superclass ∷ rest) setting.thrown begun output setting.shared at (ap (λ ps. slice_get ps c) same ∙ running) refl
 
-    initializes-at : (part : Part) → Stage (then_turn (told (state (Initializing d part ∷ rest) None begun output shared None) []) (initializes w.world t (state rest None begun output shared None) d part))
+    initializes-at : (part : Part) → Stage (then_turn (delivered (state (Initializing d part ∷ rest) None begun output shared None) []) (initializes w.world t (state rest None begun output shared None) d part))
     initializes-at Constants = constants-at (sets_constants w.world.program d shared) (constants-phases w.world.program d shared)
     initializes-at Superclass = with_super-at (super_of w.world.program d)
     initializes-at Initializer = runs-at (initializer_of w.world.program d)
@@ -189,7 +189,7 @@ module _ (w : Setup) (t : Listing) (c : ℕ) (f : Frame) (below : List Entry) wh
   Next turn = IfSome (move w.world t turn.after) (λ next. Stage (then_turn turn next))
 
   waits-on : (stack : List Entry) (thrown : Option ℕ) (begun : Bool) (output : List ℕ) (shared : Shared) → AreInitializations stack
-      → phase_of shared c ≡ Some Running → Next (told (state stack thrown begun output shared None) [])
+      → phase_of shared c ≡ Some Running → Next (delivered (state stack thrown begun output shared None) [])
   waits-on [] thrown begun output shared at running = absurd at
   waits-on (Active g ∷ es) thrown begun output shared at running = absurd at
   waits-on (Initializing d part ∷ es) (Some r) begun output shared at running = fails-at d es begun output shared at running r
@@ -206,20 +206,20 @@ module _ (w : Setup) (t : Listing) (c : ℕ) (f : Frame) (below : List Entry) wh
     by (x ∷ qs) (suc k) (suc e) is = by qs k e is
 
   goes-on : (g : Frame) (es : List Entry) (begun : Bool) (output : List ℕ) (shared : Shared) (at place : ℕ) (o : List Value) (changes : List Change)
-      → phase_of shared c ≡ Some Erroneous → Stage (told (goes (state es None begun output shared None) g at g.locals o (Some place)) changes)
+      → phase_of shared c ≡ Some Erroneous → Stage (delivered (goes (state es None begun output shared None) g at g.locals o (Some place)) changes)
   goes-on g es begun output shared at place o changes is = by (nat_le (height_of o) g.max_stack) where
-    by : (b : Bool) → Stage (told (cond b (with_frame (state es None begun output shared None) (record g { place = place; operands = o })) (breaks (state es None begun output shared None) g at)) changes)
+    by : (b : Bool) → Stage (delivered (cond b (with_frame (state es None begun output shared None) (record g { place = place; operands = o })) (breaks (state es None begun output shared None) g at)) changes)
     by true = stops (λ e. erroneous-ready (sym is ∙ e)) refl
     by false = stops (λ e. erroneous-ready (sym is ∙ e)) refl
 
   caught-on : (g : Frame) (es : List Entry) (r : ℕ) (begun : Bool) (output : List ℕ) (shared : Shared) (changes : List Change) (h : Option ℕ)
       → phase_of shared c ≡ Some Erroneous
-      → Stage (then_turn (told (state (Active g ∷ es) (Some r) begun output shared None) changes) (caught w.world t (state es (Some r) begun output shared None) r g h))
+      → Stage (then_turn (delivered (state (Active g ∷ es) (Some r) begun output shared None) changes) (caught w.world t (state es (Some r) begun output shared None) r g h))
   caught-on g es r begun output shared changes None is = failed es r begun output shared (changes ++ Unwound ∷ []) is refl
   caught-on g es r begun output shared changes (Some target) is = goes-on g es begun output shared (own_at t g) target (Ref r ∷ []) (changes ++ []) is
 
   failed-on : (stack : List Entry) (r : ℕ) (begun : Bool) (output : List ℕ) (shared : Shared) (changes : List Change)
-      → phase_of shared c ≡ Some Erroneous → Next (told (state stack (Some r) begun output shared None) changes)
+      → phase_of shared c ≡ Some Erroneous → Next (delivered (state stack (Some r) begun output shared None) changes)
   failed-on [] r begun output shared changes is = stops (λ e. erroneous-ready (sym is ∙ e)) refl
   failed-on (Active g ∷ es) r begun output shared changes is =
       caught-on g es r begun output shared changes (handler_for w.world (class_of w.world.program shared r) g.place (t.handlers g.version)) is
@@ -262,9 +262,9 @@ module _ (w : Setup) (t : Listing) (c : ℕ) (f : Frame) (below : List Entry) wh
 
   -- where the class is ready behind all moves
   pub ready-again : (thrown : Option ℕ) (begun : Bool) (output : List ℕ) (shared : Shared) → phase_of shared c ≡ Some Running
-      → phase_of (settled w.world t (told (state (Initializing c Constants ∷ base) thrown begun output shared None) [])).after.shared c ≡ Some Ready
-      → IsReadyAgain (settled w.world t (told (state (Initializing c Constants ∷ base) thrown begun output shared None) []))
+      → phase_of (settled w.world t (delivered (state (Initializing c Constants ∷ base) thrown begun output shared None) [])).after.shared c ≡ Some Ready
+      → IsReadyAgain (settled w.world t (delivered (state (Initializing c Constants ∷ base) thrown begun output shared None) []))
   ready-again thrown begun output shared running is =
-      let first : Turn = told (state (Initializing c Constants ∷ base) thrown begun output shared None) [] in
+      let first : Turn = delivered (state (Initializing c Constants ∷ base) thrown begun output shared None) [] in
       some-none (settled w.world t first) (settled-stops w.world t first)
       (settled-keeps w.world t Stage each-keeps first (waits (Initializing c Constants ∷ base) thrown begun output shared (own refl refl) running refl)) is

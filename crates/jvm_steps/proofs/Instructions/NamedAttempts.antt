@@ -120,16 +120,16 @@ module _ (w : Setup) (ms : List Initialization) (here : Here) (p : Parts) (is_na
 
   pub goes-on : (o : Option ℕ) (after : Parts) → o ≡ starts_in (answer_view a) → o ≡ None → state_in after ≡ concluded w here (answer_view a) mid
       → state_of ms after ≡ attempts_on w s s.stack
-  goes-on o after told quiet concludes =
+  goes-on o after delivered quiet concludes =
       ap (with_initializations ms) (concludes ∙ (ap (λ x. concluded w here x mid) answer-is ∙ ap (concluded w here _) mid-is))
-      ∙ (concludes-by w names.line n ms here p names.there p.frames.frames at none can (sym (sym quiet ∙ (told ∙ ap starts_in answer-is)))
+      ∙ (concludes-by w names.line n ms here p names.there p.frames.frames at none can (sym (sym quiet ∙ (delivered ∙ ap starts_in answer-is)))
       ∙ attempted)
 
   pub begins-on : (o : Option ℕ) (c : ℕ) (after : Parts) → o ≡ starts_in (answer_view a) → o ≡ Some c → state_in after ≡ concluded w here (answer_view a) mid
       → begins_class c (state_of ms after) ≡ attempts_on w s s.stack
-  begins-on o c after told some concludes =
+  begins-on o c after delivered some concludes =
       ap (λ x. begins_class c (with_initializations ms x)) (concludes ∙ (ap (λ x. concluded w here x mid) answer-is ∙ ap (concluded w here _) mid-is))
-      ∙ (begins-by w names.line n ms here p names.there c p.frames.frames at none can (sym (sym some ∙ (told ∙ ap starts_in answer-is)))
+      ∙ (begins-by w names.line n ms here p names.there c p.frames.frames at none can (sym (sym some ∙ (delivered ∙ ap starts_in answer-is)))
       ∙ attempted)
 
   -- the class that it awaits
@@ -147,7 +147,7 @@ module _ (w : Setup) (ms : List Initialization) (here : Here) (p : Parts) (is_na
       ∙ sym (starts-same (done_top w n p.shared (f ∷ fs)).outcome f fs can_there))))
 
   pub awaits-told : (o : Option ℕ) → o ≡ starts_in (answer_view a) → o ≡ awaited_in w s
-  awaits-told o told = told ∙ (ap starts_in answer-is ∙ sym (awaits-by p.frames.frames at none can))
+  awaits-told o delivered = delivered ∙ (ap starts_in answer-is ∙ sym (awaits-by p.frames.frames at none can))
 
   -- what is loaded then
   pub loads-told : (after : State) → after ≡ attempts_on w s s.stack → loaded ≡ after.shared.loaded

@@ -123,9 +123,9 @@ module _ (w : Setup) (ms : List Initialization) (p : Parts) (going : p.ending �
         → IfNamed (line_at w.versions here.version here.place) (λ n next. loaded ≡ loaded_for w.world.program n p.shared p.frames)
         → IfNamed (line_at w.versions here.version here.place) (λ n next. shared ≡ shared_loaded w.world.program n p.shared p.frames)
         → loaded ≡ shared.loaded
-    linked-then shared loaded linked told =
+    linked-then shared loaded linked delivered =
         held (line_at w.versions here.version here.place) names (λ n next. loaded ≡ loaded_for w.world.program n p.shared p.frames) linked
-        ∙ ap (λ (x : Shared). x.loaded) (sym (held (line_at w.versions here.version here.place) names (λ n next. shared ≡ shared_loaded w.world.program n p.shared p.frames) told))
+        ∙ ap (λ (x : Shared). x.loaded) (sym (held (line_at w.versions here.version here.place) names (λ n next. shared ≡ shared_loaded w.world.program n p.shared p.frames) delivered))
 
 -- ---- where it has answered, it has answered as in one part
 
@@ -161,18 +161,18 @@ module _ (w : Setup) (ms : List Initialization) (here : Here) (p : Parts) (is_na
 
   pub goes-apart : (e : Option ℕ) (v : Setup) (after : Parts) → v ≡ w → e ≡ starts_in (answer_view a) → e ≡ None → state_in after ≡ concluded v here (answer_view a) mid
       → state_of ms after ≡ attempts_on w before before.stack
-  goes-apart e v after same told quiet concludes =
-      goes-on w ms here p is_named_there at none frames shared output loaded a told_answers told_moves told_shares told_writes loads e after told quiet
+  goes-apart e v after same delivered quiet concludes =
+      goes-on w ms here p is_named_there at none frames shared output loaded a told_answers told_moves told_shares told_writes loads e after delivered quiet
       (concluded-in w v here a mid after same concludes)
 
   pub begins-apart : (e : Option ℕ) (c : ℕ) (v : Setup) (after : Parts) → v ≡ w → e ≡ starts_in (answer_view a) → e ≡ Some c → state_in after ≡ concluded v here (answer_view a) mid
       → begins_class c (state_of ms after) ≡ attempts_on w before before.stack
-  begins-apart e c v after same told some concludes =
-      begins-on w ms here p is_named_there at none frames shared output loaded a told_answers told_moves told_shares told_writes loads e c after told some
+  begins-apart e c v after same delivered some concludes =
+      begins-on w ms here p is_named_there at none frames shared output loaded a told_answers told_moves told_shares told_writes loads e c after delivered some
       (concluded-in w v here a mid after same concludes)
 
   pub awaits-apart : (e : Option ℕ) → e ≡ starts_in (answer_view a) → e ≡ awaited_in w before
-  awaits-apart e told = awaits-told w ms here p is_named_there at none frames shared output loaded a told_answers told_moves told_shares told_writes loads e told
+  awaits-apart e delivered = awaits-told w ms here p is_named_there at none frames shared output loaded a told_answers told_moves told_shares told_writes loads e delivered
 
   pub loads-apart : (after : State) → after ≡ attempts_on w before before.stack → loaded ≡ after.shared.loaded
   loads-apart after attempted = loads-told w ms here p is_named_there at none frames shared output loaded a told_answers told_moves told_shares told_writes loads after attempted

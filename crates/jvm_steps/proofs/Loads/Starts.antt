@@ -49,9 +49,9 @@ opens w =
 pub begins-main : (w : Setup) (old after : State) (found : Result ℕ Outcome) → old ≡ before w.world
     → found ≡ resolved_kind w.world.program old.shared.loaded (main_name w.world.program)
     → after ≡ begun_by w.world (main_class w.world.program) found (record old { shared = shared_opened w old.shared }) → after ≡ starts_if w.world true
-begins-main w old after found is told begins =
+begins-main w old after found is delivered begins =
     begins
-    ∙ (ap (λ x. begun_by w.world (main_class w.world.program) x (record old { shared = shared_opened w old.shared })) told
+    ∙ (ap (λ x. begun_by w.world (main_class w.world.program) x (record old { shared = shared_opened w old.shared })) delivered
     ∙ (ap (λ (s : State). begun_by w.world (main_class w.world.program) (resolved_kind w.world.program s.shared.loaded (main_name w.world.program)) (record s { shared = shared_opened w s.shared })) is
     ∙ (fault-begins w (main_loading w.world).fault _ (record (before w.world) { shared = shared_opened w (before w.world).shared }) refl
     ∙ ap (starts_unless w.world (main_loading w.world).fault) (opens w))))
@@ -62,9 +62,9 @@ pub begins-all : {A : Type 0} (result : Result A NoMemory) (w v : Setup) (class 
     → loaded ≡ (load_of w.world.program linked (main_name w.world.program)).loaded → old ≡ before w.world → found ≡ resolved_kind w.world.program linked (main_name w.world.program)
     → OnOk result (after ≡ begun_by v.world class found (record old { shared = record old.shared { heap = heap; loaded = loaded } }))
     → OnOk result (after ≡ starts_if w.world true)
-begins-all result w v class old after found heap linked loaded same main has arguments loads is told made =
+begins-all result w v class old after found heap linked loaded same main has arguments loads is delivered made =
     on_ok_weaker result
-    (λ e. begins-main w old after found is (told ∙ ap (λ l. resolved_kind w.world.program l (main_name w.world.program)) has)
+    (λ e. begins-main w old after found is (delivered ∙ ap (λ l. resolved_kind w.world.program l (main_name w.world.program)) has)
     (e ∙ (ap (λ u. begun_by u.world class found given) same
     ∙ (ap (λ k. begun_by w.world k found given) (main ∙ ap (λ (u : Setup). main_class u.world.program) same)
     ∙ ap (begun_by w.world (main_class w.world.program) found)

@@ -16,7 +16,7 @@ use Rattle.jvm_steps.specs.Instructions.Acts.{goes_on_in}
 use Rattle.jvm_steps.specs.Instructions.Arguments.{with_begun}
 use Rattle.prepared_code.specs.Initializations.{initialization_on, state_of}
 use Rattle.prepared_code.specs.Ready.{CanRun}
-use Rattle.prepared_code.specs.Runs.{IsCalm}
+use Rattle.prepared_code.specs.Runs.{IsAtInstruction}
 use Rattle.prepared_code.specs.States.{here_of}
 use Rattle.jvm_steps.specs.Moves.Calmly.{Attempted, TriesCalmly}
 use Rattle.jvm_steps.specs.Moves.Trying.{is_return_line, leaves_at, leaves_in, returns_by}
@@ -48,7 +48,7 @@ top-begun w method count fs = refl
 
 -- ---- an attempt was made
 
-module _ (w : Setup) (run : CanRun w) (ms : List Initialization) (old new : Parts) (has : has_frame old.frames.frames ≡ true) (calm : IsCalm (length old.frames.frames) ms old)
+module _ (w : Setup) (run : CanRun w) (ms : List Initialization) (old new : Parts) (has : has_frame old.frames.frames ≡ true) (calm : IsAtInstruction (length old.frames.frames) ms old)
     (is : Attempted w ms old new) where
   abbrev s : State
   s = state_of ms old
@@ -68,17 +68,17 @@ module _ (w : Setup) (run : CanRun w) (ms : List Initialization) (old new : Part
   none = ap (λ (classes : List ℕ). length classes == 0) is.loads
 
   -- a method has begun, in a version with probes
-  pub begins-calmly : (told : Bool) (version method : ℕ) → leaves_in w old.frames.frames ≡ false → top_of new.frames.frames ≡ Some (version, method)
+  pub begins-calmly : (delivered : Bool) (version method : ℕ) → leaves_in w old.frames.frames ≡ false → top_of new.frames.frames ≡ Some (version, method)
       → length new.frames.frames ≡ suc (length old.frames.frames) → is_off (mark_of w.versions (current_of w.versions method)) ≡ false
-      → TriesCalmly w ms told old Begins new
-  begins-calmly told version method apart top more marked =
+      → TriesCalmly w ms delivered old Begins new
+  begins-calmly delivered version method apart top more marked =
       let enters = sym (enters_top w live new.frames.frames version method top (omega (arith, more))) ∙ ap not marked in
       let counts = counts_one 0 live new.frames.frames (λ same. absurd (omega (arith, same, more))) in
       let once = tries-once w run ms old going 0 live refl none None (sym is.awaits) after is.made (pause_at after 1 Begins)
       (follows-told w live 0 ms new 1 counts enters) refl in
       record {
         loads = none;
-        reaches = once ∙ tries-silently w told 0 ms old run going (not-and (not told) (leaves_in w old.frames.frames) apart);
+        reaches = once ∙ tries-silently w delivered 0 ms old run going (not-and (not delivered) (leaves_in w old.frames.frames) apart);
         loaded = is.loaded;
         keeps = is.keeps;
       }
@@ -86,8 +86,8 @@ module _ (w : Setup) (run : CanRun w) (ms : List Initialization) (old new : Part
   -- a return of which its probe has told was made
   pub leaves-calmly : length new.frames.frames ≡ length old.frames.frames - 1 → has_frame new.frames.frames ≡ true → TriesCalmly w ms true old Nothing new
   leaves-calmly fewer framed_then =
-      let rests = at-rest new.ending new.thrown (has_frame new.frames.frames && is_none (initialization_on (length new.frames.frames) ms)) is.calm.ending is.calm.thrown
-      (framed (length new.frames.frames) ms new.frames.frames is.calm.executing refl framed_then) in
+      let rests = at-rest new.ending new.thrown (has_frame new.frames.frames && is_none (initialization_on (length new.frames.frames) ms)) is.at_instruction.ending is.at_instruction.thrown
+      (framed (length new.frames.frames) ms new.frames.frames is.at_instruction.executing refl framed_then) in
       let one : length old.frames.frames ≡ suc (length old.frames.frames - 1) = some-frame old.frames.frames has in
       let counts = counts_one 0 live new.frames.frames (λ same. absurd (omega (arith, same, fewer, one))) in
       let enters = sym (enters_none w live new.frames.frames (omega (arith, fewer, one))) in
@@ -108,7 +108,7 @@ module _ (w : Setup) (run : CanRun w) (ms : List Initialization) (old new : Part
 
 -- the probe of a return tells first
 pub stops-calmly : (w : Setup) (run : CanRun w) (ms : List Initialization) (old : Parts) (here : Here) (line : Line) → here_of old.frames.frames ≡ Some here
-    → IsCalm (length old.frames.frames) ms old → line_at w.versions here.version here.place ≡ Some line → returns_by line.action ≡ true
+    → IsAtInstruction (length old.frames.frames) ms old → line_at w.versions here.version here.place ≡ Some line → returns_by line.action ≡ true
     → not (is_off (mark_of w.versions here.version)) ≡ true → TriesCalmly w ms false old (Ends kind.Leave) old
 stops-calmly w run ms old here line stands calm found returns marked =
     let going = goes old.ending (has_frame old.frames.frames && is_none (initialization_on (length old.frames.frames) ms)) calm.ending

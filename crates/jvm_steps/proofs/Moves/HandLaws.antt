@@ -30,41 +30,41 @@ use Rattle.prepared_code.proofs.VersionsAgree.{versions-agree}
 -- ---- the rest of the same step is in hand
 
 module _ (w : Setup) (homes : ℕ → ℕ → ℕ) (has : HasVersions w homes) where
-  goes-same : (moves told : Bool) (n : ℕ) (s : State) → goes_from w.world (listing_of w.versions) (versioned_in w homes) told n (todo_of moves) s (popped s) ≡ goes_as w moves told n s
+  goes-same : (moves delivered : Bool) (n : ℕ) (s : State) → goes_from w.world (listing_of w.versions) (versioned_in w homes) delivered n (todo_of moves) s (popped s) ≡ goes_as w moves delivered n s
   goes-same true true n s = refl
   goes-same true false n s = refl
-  goes-same false told n s = refl
+  goes-same false delivered n s = refl
 
   pub hands-on : (turn : Turn) (hand : Hand) (live : List Held) (s : State) → HasInHand w homes turn hand live s → (gone : Gone) (new : State)
       → pause_at new gone.hand.passed gone.due ≡ goes_in w hand s → HasGoneOn w homes turn hand live gone new
   hands-on turn hand live s in_hand gone new reaches =
-      subst (GoesOn w.world (original w.world.program) (versioned_in w homes) (current_of w.versions) turn hand.passed hand.told live)
-      (goes-same hand.moves hand.told hand.passed s ∙ sym reaches)
+      subst (GoesOn w.world (original w.world.program) (versioned_in w homes) (current_of w.versions) turn hand.passed hand.delivered live)
+      (goes-same hand.moves hand.delivered hand.passed s ∙ sym reaches)
       (all-goes w.world (original w.world.program) (versioned_in w homes) (program-agrees w.world.program has.closed) (current_of w.versions) (listing_of w.versions)
-      (versions-agree w.world.program (places_of w.world.program) homes w.versions has.are) (ends-by-return w.world) turn hand.passed live hand.told (todo_of hand.moves) s in_hand)
+      (versions-agree w.world.program (places_of w.world.program) homes w.versions has.are) (ends-by-return w.world) turn hand.passed live hand.delivered (todo_of hand.moves) s in_hand)
 
 -- ---- what is left is sound
 
 module _ (w : Setup) (run : CanRun w) (s new : State) where
   -- by moves
-  pub moves-sound : (told : Bool) (n passed : ℕ) (due : Due) → pause_at new passed due ≡ goes_by_moves w told n s → IsSoundIn w s → IsSoundIn w new
-  moves-sound told n passed due reaches is = subst (IsSoundIn w) (ap (λ (p : Pause). p.state) (sym reaches)) (moved-sound w run told n s is)
+  pub moves-sound : (delivered : Bool) (n passed : ℕ) (due : Due) → pause_at new passed due ≡ goes_by_moves w delivered n s → IsSoundIn w s → IsSoundIn w new
+  moves-sound delivered n passed due reaches is = subst (IsSoundIn w) (ap (λ (p : Pause). p.state) (sym reaches)) (moved-sound w run delivered n s is)
 
   -- by those of the start
-  pub start-sound : (told : Bool) (n passed : ℕ) (due : Due) → pause_at new passed due ≡ goes_by_moves w told n s → told ≡ false → s ≡ starts_with w.world → IsSoundIn w new
-  start-sound told n passed due reaches untold start =
-      subst (IsSoundIn w) (ap (λ (p : Pause). p.state) (sym (reaches ∙ ap (λ b. goes_by_moves w b n s) untold))) (starts-sound w run n s start)
+  pub start-sound : (delivered : Bool) (n passed : ℕ) (due : Due) → pause_at new passed due ≡ goes_by_moves w delivered n s → delivered ≡ false → s ≡ starts_with w.world → IsSoundIn w new
+  start-sound delivered n passed due reaches undelivered start =
+      subst (IsSoundIn w) (ap (λ (p : Pause). p.state) (sym (reaches ∙ ap (λ b. goes_by_moves w b n s) undelivered))) (starts-sound w run n s start)
 
   -- from an attempt
-  pub attempt-sound : (o : Option Due) (told : Bool) (n passed : ℕ) → is_some o ≡ loads_none w s
-      → IfSome o (λ due. pause_at new passed due ≡ tried_in w told n s) → IfNone o (new ≡ with_loaded (loads_in w s) s) → IsSoundIn w s → IsSoundIn w new
-  attempt-sound (Some due) told n passed some reaches loads is =
-      subst (IsSoundIn w) (ap (λ (p : Pause). p.state) (sym reaches)) (tried-sound w run n s is (no-classes (loads_in w s) (sym some)) told)
-  attempt-sound None told n passed some reaches loads is = subst (IsSoundIn w) (sym loads) (loaded-sound w run s is)
+  pub attempt-sound : (o : Option Due) (delivered : Bool) (n passed : ℕ) → is_some o ≡ loads_none w s
+      → IfSome o (λ due. pause_at new passed due ≡ tried_in w delivered n s) → IfNone o (new ≡ with_loaded (loads_in w s) s) → IsSoundIn w s → IsSoundIn w new
+  attempt-sound (Some due) delivered n passed some reaches loads is =
+      subst (IsSoundIn w) (ap (λ (p : Pause). p.state) (sym reaches)) (tried-sound w run n s is (no-classes (loads_in w s) (sym some)) delivered)
+  attempt-sound None delivered n passed some reaches loads is = subst (IsSoundIn w) (sym loads) (loaded-sound w run s is)
 
   -- moves load nothing
-  pub moves-linked : (told : Bool) (n passed : ℕ) (due : Due) → pause_at new passed due ≡ goes_by_moves w told n s → s.shared.loaded ≡ new.shared.loaded
-  moves-linked told n passed due reaches = sym (ap (λ (p : Pause). p.state.shared.loaded) reaches ∙ by told) where
+  pub moves-linked : (delivered : Bool) (n passed : ℕ) (due : Due) → pause_at new passed due ≡ goes_by_moves w delivered n s → s.shared.loaded ≡ new.shared.loaded
+  moves-linked delivered n passed due reaches = sym (ap (λ (p : Pause). p.state.shared.loaded) reaches ∙ by delivered) where
     by : (b : Bool) → (goes_by_moves w b n s).state.shared.loaded ≡ s.shared.loaded
     by true = paused-loaded w (listing_of w.versions) (mark_of w.versions) (suc n) (popped s)
     by false = paused-loaded w (listing_of w.versions) (mark_of w.versions) n s
@@ -75,12 +75,12 @@ module _ (w : Setup) (hand : Hand) (s new : State) (passed : ℕ) (due : Due) (g
   there : pause_at new gone.hand.passed gone.due ≡ pause_at new passed due
   there = ap (λ n. pause_at new n gone.due) counts ∙ ap (pause_at new passed) is_due
 
-  pub reaches-moves : hand.moves ≡ true → pause_at new passed due ≡ goes_by_moves w hand.told hand.passed s → pause_at new gone.hand.passed gone.due ≡ goes_in w hand s
-  reaches-moves moves reaches = there ∙ (reaches ∙ ap (λ b. goes_as w b hand.told hand.passed s) (sym moves))
+  pub reaches-moves : hand.moves ≡ true → pause_at new passed due ≡ goes_by_moves w hand.delivered hand.passed s → pause_at new gone.hand.passed gone.due ≡ goes_in w hand s
+  reaches-moves moves reaches = there ∙ (reaches ∙ ap (λ b. goes_as w b hand.delivered hand.passed s) (sym moves))
 
-  pub reaches-attempt : hand.moves ≡ false → (o : Option Due) → o ≡ Some due → IfSome o (λ due. pause_at new passed due ≡ tried_in w hand.told hand.passed s)
+  pub reaches-attempt : hand.moves ≡ false → (o : Option Due) → o ≡ Some due → IfSome o (λ due. pause_at new passed due ≡ tried_in w hand.delivered hand.passed s)
       → pause_at new gone.hand.passed gone.due ≡ goes_in w hand s
   reaches-attempt moves o is reaches =
       there
-      ∙ (subst (λ x. IfSome x (λ due. pause_at new passed due ≡ tried_in w hand.told hand.passed s)) is reaches
-      ∙ ap (λ b. goes_as w b hand.told hand.passed s) (sym moves))
+      ∙ (subst (λ x. IfSome x (λ due. pause_at new passed due ≡ tried_in w hand.delivered hand.passed s)) is reaches
+      ∙ ap (λ b. goes_as w b hand.delivered hand.passed s) (sym moves))

@@ -79,7 +79,7 @@ module _ (w : Setup) (run : CanRun w) where
     main = is.main;
   }
 
-  pub moved-sound : (told : Bool) (n : ℕ) (s : State) → Sound s → Sound (goes_by_moves w told n s).state
+  pub moved-sound : (delivered : Bool) (n : ℕ) (s : State) → Sound s → Sound (goes_by_moves w delivered n s).state
   moved-sound true n s is = paused-sound (suc n) (popped s) (popped-sound s is)
   moved-sound false n s is = paused-sound n s is
 
@@ -143,21 +143,21 @@ module _ (w : Setup) (run : CanRun w) (n : ℕ) (s : State) (is : IsSoundIn w s)
       by true again = twice-sound c awaits again
       by false isnt = subst (λ (p : Pause). IsSoundIn w p.state) (sym (tried-stays w run n s going none c awaits isnt)) first-sound
 
-    going-sound : (told : Bool) → IsSoundIn w (tried_in w told n s).state
-    going-sound told = by (not told && leaves_at w going.frame.version going.frame.place) refl where
-      by : (b : Bool) → (not told && leaves_at w going.frame.version going.frame.place) ≡ b → IsSoundIn w (tried_in w told n s).state
-      by true due = subst (λ (p : Pause). IsSoundIn w p.state) (sym (told-first w run n s going told due)) is
+    going-sound : (delivered : Bool) → IsSoundIn w (tried_in w delivered n s).state
+    going-sound delivered = by (not delivered && leaves_at w going.frame.version going.frame.place) refl where
+      by : (b : Bool) → (not delivered && leaves_at w going.frame.version going.frame.place) ≡ b → IsSoundIn w (tried_in w delivered n s).state
+      by true due = subst (λ (p : Pause). IsSoundIn w p.state) (sym (told-first w run n s going delivered due)) is
       by false isnt =
-          subst (λ (p : Pause). IsSoundIn w p.state) (told-silent w run n s going told isnt) (awaits-sound (awaited_in w s) refl)
+          subst (λ (p : Pause). IsSoundIn w p.state) (told-silent w run n s going delivered isnt) (awaits-sound (awaited_in w s) refl)
 
   abbrev stopped : Bool → Option Ending → List Entry → State
-  stopped told ending stack = (stack_pause w.world (listing_of w.versions) (mark_of w.versions) told n s ending stack).state
+  stopped delivered ending stack = (stack_pause w.world (listing_of w.versions) (mark_of w.versions) delivered n s ending stack).state
 
-  stack-sound : (told : Bool) (ending : Option Ending) (stack : List Entry) → s.ending ≡ ending → s.stack ≡ stack → IsSoundIn w (tried_in w told n s).state
-  stack-sound told (Some e) stack on at = subst (IsSoundIn w) (sym (ap (λ x. stopped told x s.stack) on)) is
-  stack-sound told None [] on at = subst (IsSoundIn w) (sym (ap (λ x. stopped told x s.stack) on ∙ ap (stopped told None) at)) is
-  stack-sound told None (Initializing c part ∷ below) on at = subst (IsSoundIn w) (sym (ap (λ x. stopped told x s.stack) on ∙ ap (stopped told None) at)) is
-  stack-sound told None (Active f ∷ below) on at = going-sound (record { frame = f; rest = below; ending = on; stack = at }) told
+  stack-sound : (delivered : Bool) (ending : Option Ending) (stack : List Entry) → s.ending ≡ ending → s.stack ≡ stack → IsSoundIn w (tried_in w delivered n s).state
+  stack-sound delivered (Some e) stack on at = subst (IsSoundIn w) (sym (ap (λ x. stopped delivered x s.stack) on)) is
+  stack-sound delivered None [] on at = subst (IsSoundIn w) (sym (ap (λ x. stopped delivered x s.stack) on ∙ ap (stopped delivered None) at)) is
+  stack-sound delivered None (Initializing c part ∷ below) on at = subst (IsSoundIn w) (sym (ap (λ x. stopped delivered x s.stack) on ∙ ap (stopped delivered None) at)) is
+  stack-sound delivered None (Active f ∷ below) on at = going-sound (record { frame = f; rest = below; ending = on; stack = at }) delivered
 
-  pub tried-sound : (told : Bool) → IsSoundIn w (tried_in w told n s).state
-  tried-sound told = stack-sound told s.ending s.stack refl refl
+  pub tried-sound : (delivered : Bool) → IsSoundIn w (tried_in w delivered n s).state
+  tried-sound delivered = stack-sound delivered s.ending s.stack refl refl

@@ -110,32 +110,32 @@ module _ (w : Setup) (run : CanRun w) (n : ℕ) (s : State) (going : IsGoing s) 
 
   -- ---- the return is told first
 
-  due-by : (told : Bool) (lo : Option Line) (i : Instruction) → Tie lo (Some i)
-      → leave_due told (v f.version) i.operation ≡ (not told && (not (is_off (v f.version)) && is_return_line lo))
-  due-by told None i tie = absurd tie
-  due-by told (Some line) i tie =
-      and-and (not told) (not (is_off (v f.version))) (is_return i.operation)
-      ∙ ap (λ b. not told && (not (is_off (v f.version)) && b))
+  due-by : (delivered : Bool) (lo : Option Line) (i : Instruction) → Tie lo (Some i)
+      → leave_due delivered (v f.version) i.operation ≡ (not delivered && (not (is_off (v f.version)) && is_return_line lo))
+  due-by delivered None i tie = absurd tie
+  due-by delivered (Some line) i tie =
+      and-and (not delivered) (not (is_off (v f.version))) (is_return i.operation)
+      ∙ ap (λ b. not delivered && (not (is_off (v f.version)) && b))
       (ap (λ (x : Instruction). is_return x.operation) tie.is ∙ (sym (op-returns tie.op) ∙ ap returns_by tie.tied.action))
 
-  told-by : (told : Bool) (lo : Option Line) (io : Option Instruction) → t.at f.version f.place ≡ io → Tie lo io
-      → (not told && (not (is_off (v f.version)) && is_return_line lo)) ≡ true
-      → (tried_in w told n s ≡ pause_at s n (Ends kind.Leave)) × (loads_at w.world s f io ≡ [])
-  told-by told None io at tie due =
-      absurd (false≢true (both (not (is_off (v f.version))) false (both (not told) (not (is_off (v f.version)) && false) due).1).1)
-  told-by told (Some line) None at tie due = absurd tie
-  told-by told (Some line) (Some i) at tie due =
-      let is = due-by told (Some line) i tie ∙ due in (
-        leaves w.world t v told n s f going.rest going.ending going.stack i at is,
-        return-loads w i.operation s.shared f.operands (both (not told && not (is_off (v f.version))) (is_return i.operation) is).1,
+  told-by : (delivered : Bool) (lo : Option Line) (io : Option Instruction) → t.at f.version f.place ≡ io → Tie lo io
+      → (not delivered && (not (is_off (v f.version)) && is_return_line lo)) ≡ true
+      → (tried_in w delivered n s ≡ pause_at s n (Ends kind.Leave)) × (loads_at w.world s f io ≡ [])
+  told-by delivered None io at tie due =
+      absurd (false≢true (both (not (is_off (v f.version))) false (both (not delivered) (not (is_off (v f.version)) && false) due).1).1)
+  told-by delivered (Some line) None at tie due = absurd tie
+  told-by delivered (Some line) (Some i) at tie due =
+      let is = due-by delivered (Some line) i tie ∙ due in (
+        leaves w.world t v delivered n s f going.rest going.ending going.stack i at is,
+        return-loads w i.operation s.shared f.operands (both (not delivered && not (is_off (v f.version))) (is_return i.operation) is).1,
       )
 
-  pub told-first : (told : Bool) → (not told && leaves_at w f.version f.place) ≡ true → tried_in w told n s ≡ pause_at s n (Ends kind.Leave)
-  told-first told due = (told-by told here (t.at f.version f.place) refl (tied-there w run f.version f.place) due).0
+  pub told-first : (delivered : Bool) → (not delivered && leaves_at w f.version f.place) ≡ true → tried_in w delivered n s ≡ pause_at s n (Ends kind.Leave)
+  told-first delivered due = (told-by delivered here (t.at f.version f.place) refl (tied-there w run f.version f.place) due).0
 
-  pub told-loads : (told : Bool) → (not told && leaves_at w f.version f.place) ≡ true → loads_none w s ≡ true
-  told-loads told due =
-      ap (λ (classes : List ℕ). length classes == 0) (loads-here ∙ (told-by told here (t.at f.version f.place) refl (tied-there w run f.version f.place) due).1)
+  pub told-loads : (delivered : Bool) → (not delivered && leaves_at w f.version f.place) ≡ true → loads_none w s ≡ true
+  told-loads delivered due =
+      ap (λ (classes : List ℕ). length classes == 0) (loads-here ∙ (told-by delivered here (t.at f.version f.place) refl (tied-there w run f.version f.place) due).1)
 
   -- ---- where it is not, it is all the same whether it was told
 
@@ -145,14 +145,14 @@ module _ (w : Setup) (run : CanRun w) (n : ℕ) (s : State) (going : IsGoing s) 
       else again_pause w.world t v n (held_by v f ∷ helds v going.rest) i under f (starts (does w.world i.operation under.shared f.locals f.operands).outcome)
       (turn_pause w.world t v n (held_by v f ∷ helds v going.rest) (attempted w.world t i under f))
 
-  silent-by : (told : Bool) (lo : Option Line) (io : Option Instruction) → Tie lo io → (not told && (not (is_off (v f.version)) && is_return_line lo)) ≡ false
-      → frame_pause w.world t v told n under f io ≡ frame_pause w.world t v true n under f io
+  silent-by : (delivered : Bool) (lo : Option Line) (io : Option Instruction) → Tie lo io → (not delivered && (not (is_off (v f.version)) && is_return_line lo)) ≡ false
+      → frame_pause w.world t v delivered n under f io ≡ frame_pause w.world t v true n under f io
   unfolding chosen
-  silent-by told lo None tie isnt = refl
-  silent-by told lo (Some i) tie isnt = ap (chosen i) (due-by told lo i tie ∙ isnt)
+  silent-by delivered lo None tie isnt = refl
+  silent-by delivered lo (Some i) tie isnt = ap (chosen i) (due-by delivered lo i tie ∙ isnt)
 
-  pub told-silent : (told : Bool) → (not told && leaves_at w f.version f.place) ≡ false → tried_in w true n s ≡ tried_in w told n s
-  told-silent told isnt = sym (at told ∙ (silent-by told here (t.at f.version f.place) (tied-there w run f.version f.place) isnt ∙ sym (at true))) where
+  pub told-silent : (delivered : Bool) → (not delivered && leaves_at w f.version f.place) ≡ false → tried_in w true n s ≡ tried_in w delivered n s
+  told-silent delivered isnt = sym (at delivered ∙ (silent-by delivered here (t.at f.version f.place) (tied-there w run f.version f.place) isnt ∙ sym (at true))) where
     at : (b : Bool) → tried_in w b n s ≡ frame_pause w.world t v b n under f (t.at f.version f.place)
     at b = ap (λ e. stack_pause w.world t v b n s e s.stack) going.ending ∙ ap (stack_pause w.world t v b n s None) going.stack
 
@@ -374,16 +374,16 @@ module _ (w : Setup) (run : CanRun w) (ms : List Initialization) (p : Parts) (go
 
 -- ---- before an attempt
 
-module _ (w : Setup) (told : Bool) (n : ℕ) (ms : List Initialization) (p : Parts) where
+module _ (w : Setup) (delivered : Bool) (n : ℕ) (ms : List Initialization) (p : Parts) where
   abbrev before : State
   before = state_of ms p
 
   abbrev IsStopped : State → List Entry → Type 0
-  IsStopped s es = (stack_pause w.world (listing_of w.versions) (mark_of w.versions) told n s None es ≡ pause_at s n Nothing) × (loads_on w.world (listing_of w.versions) s None es ≡ [])
+  IsStopped s es = (stack_pause w.world (listing_of w.versions) (mark_of w.versions) delivered n s None es ≡ pause_at s n Nothing) × (loads_on w.world (listing_of w.versions) s None es ≡ [])
 
   -- where no frame goes on
   stopped-by : (s : State) (ending : Option Ending) (fs : List PlacedFrame) → (is_none ending && (has_frame fs && is_none (initialization_on (length fs) ms))) ≡ false
-      → (stack_pause w.world (listing_of w.versions) (mark_of w.versions) told n s ending (stack_of (map active fs) ms) ≡ pause_at s n Nothing)
+      → (stack_pause w.world (listing_of w.versions) (mark_of w.versions) delivered n s ending (stack_of (map active fs) ms) ≡ pause_at s n Nothing)
       × (loads_on w.world (listing_of w.versions) s ending (stack_of (map active fs) ms) ≡ [])
   stopped-by s (Some e) fs is = (refl, refl)
   stopped-by s None [] is = subst (IsStopped s) (sym (stack-empty ms)) (by ms) where
@@ -397,7 +397,7 @@ module _ (w : Setup) (told : Bool) (n : ℕ) (ms : List Initialization) (p : Par
         let on = stack-on (map active (f ∷ fs)) ms m (ap (λ k. initialization_on k ms) (length-active (f ∷ fs)) ∙ e) in
         subst (IsStopped s) (sym on.1) (refl, refl)
 
-  pub stopped-pause : goes_on_in ms p ≡ false → pause_at before n Nothing ≡ tried_in w told n before
+  pub stopped-pause : goes_on_in ms p ≡ false → pause_at before n Nothing ≡ tried_in w delivered n before
   stopped-pause is = sym (stopped-by before p.ending p.frames.frames is).0
 
   pub stopped-loads : goes_on_in ms p ≡ false → true ≡ loads_none w before
@@ -421,15 +421,15 @@ module _ (w : Setup) (told : Bool) (n : ℕ) (ms : List Initialization) (p : Par
     leaves-is = leaves-by p.ending p.frames.frames goes on_top.frame on_top.rest on_top.stack
 
     -- a return of which a probe tells first
-    pub leaves-pause : (not told && leaves_in w p.frames.frames) ≡ true → pause_at before n (Ends kind.Leave) ≡ tried_in w told n before
-    leaves-pause due = sym (told-first w run n before on_top told (ap (λ b. not told && b) (sym leaves-is) ∙ due))
+    pub leaves-pause : (not delivered && leaves_in w p.frames.frames) ≡ true → pause_at before n (Ends kind.Leave) ≡ tried_in w delivered n before
+    leaves-pause due = sym (told-first w run n before on_top delivered (ap (λ b. not delivered && b) (sym leaves-is) ∙ due))
 
-    pub leaves-loads : (not told && leaves_in w p.frames.frames) ≡ true → true ≡ loads_none w before
-    leaves-loads due = sym (told-loads w run n before on_top told (ap (λ b. not told && b) (sym leaves-is) ∙ due))
+    pub leaves-loads : (not delivered && leaves_in w p.frames.frames) ≡ true → true ≡ loads_none w before
+    leaves-loads due = sym (told-loads w run n before on_top delivered (ap (λ b. not delivered && b) (sym leaves-is) ∙ due))
 
     -- none is told
-    pub tries-silently : (not told && leaves_in w p.frames.frames) ≡ false → tried_in w true n before ≡ tried_in w told n before
-    tries-silently isnt = told-silent w run n before on_top told (ap (λ b. not told && b) (sym leaves-is) ∙ isnt)
+    pub tries-silently : (not delivered && leaves_in w p.frames.frames) ≡ false → tried_in w true n before ≡ tried_in w delivered n before
+    tries-silently isnt = told-silent w run n before on_top delivered (ap (λ b. not delivered && b) (sym leaves-is) ∙ isnt)
 
 -- ---- an attempt in two parts that was made
 

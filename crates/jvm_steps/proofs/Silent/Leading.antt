@@ -7,7 +7,7 @@ use Rattle.jvm_model.specs.Running.Run.{step}
 use Rattle.prepared_code.specs.declared.initializations.Initialization.{Initialization}
 use Rattle.prepared_code.specs.declared.parts.Parts.{Parts}
 use Rattle.prepared_code.specs.Initializations.{initialization_on, state_of}
-use Rattle.prepared_code.specs.Runs.{AreQuiet, IsCalm, Leads, LeadsAlone, steps_from, steps_from-zero, steps_from-suc}
+use Rattle.prepared_code.specs.Runs.{AreQuiet, IsAtInstruction, Leads, LeadsAlone, steps_from, steps_from-zero, steps_from-suc}
 use Rattle.prepared_code.specs.Versions.{Setup, listing_of}
 
 module _ (w : Setup) where
@@ -82,7 +82,7 @@ module _ (w : Setup) where
     quiet = λ ms calm k less. absurd (omega arith);
   }
 
-  still-calm : (old mid : Parts) (n : ℕ) → LeadsAlone w old n mid → (ms : List Initialization) → IsCalm (length old.frames.frames) ms old → IsCalm (length mid.frames.frames) ms mid
+  still-calm : (old mid : Parts) (n : ℕ) → LeadsAlone w old n mid → (ms : List Initialization) → IsAtInstruction (length old.frames.frames) ms old → IsAtInstruction (length mid.frames.frames) ms mid
   still-calm old mid n first ms calm = record {
     ending = first.ending ∙ calm.ending;
     thrown = first.thrown ∙ calm.thrown;

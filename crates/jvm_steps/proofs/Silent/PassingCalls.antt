@@ -49,7 +49,7 @@ use Rattle.prepared_code.specs.Ready.{CanRun}
 use Rattle.jvm_steps.specs.Moves.Calmly.{Attempted, TriesCalmly, TriesIf}
 use Rattle.jvm_steps.specs.Moves.Trying.{returns_by}
 use Rattle.jvm_steps.proofs.Moves.CalmSteps.{begins-calmly, has-here, no-return}
-use Rattle.prepared_code.specs.Runs.{IsCalm, steps_from-zero}
+use Rattle.prepared_code.specs.Runs.{IsAtInstruction, steps_from-zero}
 use Rattle.prepared_code.specs.States.{active, frame_in, here_of, state_in, state_with}
 use Rattle.prepared_code.specs.Versions.{Setup, current_of, instruction_in, line_at, mark_of, operation_as, listing_of}
 use Rattle.jvm_steps.proofs.Instructions.Arguments.{height-reverse, length-slots, spread-data}
@@ -89,7 +89,7 @@ module _ (w : Setup) (m : ℕ) (args : List Datum) (below : Operands) (f : Place
 -- ---- at a line
 
 module _ (w : Setup) (run : CanRun w) (ms : List Initialization) (here : Here) (line : Line) (kept : Kept) (old : Parts) (stands : here_of old.frames.frames ≡ Some here)
-    (found : line_at w.versions here.version here.place ≡ Some line) (named : line.action ≡ action.Named kept) (calm : IsCalm (length old.frames.frames) ms old)
+    (found : line_at w.versions here.version here.place ≡ Some line) (named : line.action ≡ action.Named kept) (calm : IsAtInstruction (length old.frames.frames) ms old)
     (nothing : newly_loaded w.world.program old.shared.loaded (symbolic_view kept) (top_operands old.frames.frames) ≡ []) (c : Call) where
   abbrev n : SymbolicReference
   n = symbolic_view kept
@@ -210,7 +210,7 @@ module _ (w : Setup) (run : CanRun w) (ms : List Initialization) (here : Here) (
     abbrev live : List Held
     live = helds marks (state_of ms old).stack
 
-    calm-then : IsCalm (length frames.frames) ms new
+    calm-then : IsAtInstruction (length frames.frames) ms new
     calm-then = record { ending = calm.ending; thrown = calm.thrown; executing = ap (λ k. initialization_on k ms) more ∙ free }
 
     keeps-then : AreKeptBy w (state_of ms old).stack (state_of ms new).stack
@@ -220,7 +220,7 @@ module _ (w : Setup) (run : CanRun w) (ms : List Initialization) (here : Here) (
     -- whatever its version has
     pub call-attempted : Attempted w ms old new
     call-attempted = record {
-      calm = calm-then;
+      at_instruction = calm-then;
       loaded = refl;
       loads = loads-none old.frames.frames stands calm.executing nothing;
       awaits = is-awaited w run ms here line kept old stands found named calm nothing (asked.Invokes c.method c.count) answers refl;
@@ -230,12 +230,12 @@ module _ (w : Setup) (run : CanRun w) (ms : List Initialization) (here : Here) (
 
     pub call-passes : marks (current_of w.versions c.method) ≡ Off → Passes w ms old 1 new
     call-passes off = record {
-      calm = calm-then;
+      at_instruction = calm-then;
       loaded = refl;
       leads = leads-one w (state_of ms old) (state_of ms new) (ap is_some calm.ending) stepped;
       silent = silent-one w (state_of ms old) (record {
         loads = loads-none old.frames.frames stands calm.executing nothing;
-        untold =
+        undelivered =
             ap (λ cs. (stop_in (mark_now marks t) 0 live cs).due) (call-changes old.frames.frames stands calm.executing nothing call may can)
             ∙ ap (λ (mark : Mark). (stop_by live (record { method = c.method; mark = mark } ∷ live) 0 (unless_off mark Begins)
             (record { live = record { method = c.method; mark = mark } ∷ live; passed = 1; due = Nothing })).due) off;
@@ -246,7 +246,7 @@ module _ (w : Setup) (run : CanRun w) (ms : List Initialization) (here : Here) (
   -- where it has not begun the frames are as they were
   pub passes-still : (frames : FramesView) → frames.frames ≡ old.frames.frames → Passes w ms old 0 (on_frames frames old)
   passes-still frames same = record {
-    calm = record { ending = calm.ending; thrown = calm.thrown; executing = ap (λ fs. initialization_on (length fs) ms) same ∙ calm.executing };
+    at_instruction = record { ending = calm.ending; thrown = calm.thrown; executing = ap (λ fs. initialization_on (length fs) ms) same ∙ calm.executing };
     loaded = refl;
     leads = record {
       made = ap (λ fs. with_initializations ms (state_with fs old)) same ∙ sym (steps_from-zero w (state_of ms old));
@@ -266,11 +266,11 @@ module _ (w : Setup) (run : CanRun w) (ms : List Initialization) (here : Here) (
   pub called-tries : (b : Bool) (new : Parts) → IsCall c (done_on (attempts w.world n old.shared old.frames) old.frames) old.shared
       → (b ≡ true → may_begin old.frames.frames ≡ true) → (b ≡ true → can_begin w c.method c.count old.frames.frames ≡ true)
       → (b ≡ true → is_off (marks (current_of w.versions c.method)) ≡ false) → new.frames.frames ≡ with_begun b w c.method c.count old.frames.frames
-      → new ≡ on_frames new.frames old → (told : Bool) → TriesIf b w ms told old Begins new
-  called-tries true after call may can marked are same told =
-      subst (λ x. TriesCalmly w ms told old Begins x) (sym same)
+      → new ≡ on_frames new.frames old → (delivered : Bool) → TriesIf b w ms delivered old Begins new
+  called-tries true after call may can marked are same delivered =
+      subst (λ x. TriesCalmly w ms delivered old Begins x) (sym same)
       (begins-calmly w run ms old (on_frames after.frames old) (has-here here old.frames.frames stands) calm (call-attempted call (may refl) (can refl) after.frames are)
-      told (current_of w.versions c.method) c.method (no-return w here line old.frames.frames stands found (ap returns_by named)) (ap top_of are)
+      delivered (current_of w.versions c.method) c.method (no-return w here line old.frames.frames stands found (ap returns_by named)) (ap top_of are)
       (more call (may refl) (can refl) after.frames are) (marked refl))
-  called-tries false after call may can marked are same told =
+  called-tries false after call may can marked are same delivered =
       ap (state_of ms) same ∙ ap (λ fs. with_initializations ms (state_with fs old)) are

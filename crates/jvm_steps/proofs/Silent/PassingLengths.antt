@@ -11,7 +11,7 @@ use Rattle.prepared_code.specs.declared.parts.Parts.{Parts}
 use Rattle.jvm_steps.specs.Instructions.Elements.{IsMeasured}
 use Rattle.jvm_steps.specs.Instructions.Passing.{Passes, steps_if}
 use Rattle.prepared_code.specs.Ready.{CanRun}
-use Rattle.prepared_code.specs.Runs.{IsCalm}
+use Rattle.prepared_code.specs.Runs.{IsAtInstruction}
 use Rattle.prepared_code.specs.States.{here_of}
 use Rattle.prepared_code.specs.Versions.{Setup, line_at}
 use Rattle.jvm_steps.proofs.Instructions.ElementSteps.{StandsAt, length-alone}
@@ -23,7 +23,7 @@ module _ (w : Setup) (run : CanRun w) (ms : List Initialization) (here : Here) (
   stands-here (f ∷ fs) is found = ap (λ (h : Here). line_at w.versions h.version h.place) (same_Some _ here is) ∙ found
 
   pub length-passes : (b : Bool) → here_of old.frames.frames ≡ Some here → line_at w.versions here.version here.place ≡ Some line → line.action ≡ action.Arraylength
-      → IsCalm (length old.frames.frames) ms old → (b ≡ true → IsMeasured line old new) → (b ≡ false → new ≡ old) → Passes w ms old (steps_if b) new
+      → IsAtInstruction (length old.frames.frames) ms old → (b ≡ true → IsMeasured line old new) → (b ≡ false → new ≡ old) → Passes w ms old (steps_if b) new
   length-passes true is found measures calm gone kept =
       passes-alone w ms old new 1 (length-alone w run line kind.Int old new (stands-here old.frames.frames is found) measures (gone refl)) calm
   length-passes false is found measures calm gone kept = subst (λ (p : Parts). Passes w ms old 0 p) (sym (kept refl)) (passes_none w ms old calm)

@@ -36,7 +36,7 @@ use Rattle.prepared_code.specs.Initializations.{initialization_on, stack_of, sta
 use Rattle.jvm_steps.specs.Instructions.Passing.{AreKeptBy, Passes, caller_line, fits_given, gone_back, on_frames, runs}
 use Rattle.prepared_code.specs.Ready.{CanRun}
 use Rattle.jvm_steps.specs.Moves.Calmly.{Attempted}
-use Rattle.prepared_code.specs.Runs.{IsCalm}
+use Rattle.prepared_code.specs.Runs.{IsAtInstruction}
 use Rattle.prepared_code.specs.States.{active, frame_in, here_of, state_with}
 use Rattle.prepared_code.specs.Versions.{Setup, instruction_in, line_at, mark_of, next_in, operation_as, listing_of}
 use Rattle.jvm_steps.proofs.Initializing.Beneath.{awaits-unnamed, does-beneath, does-there, top-there}
@@ -61,7 +61,7 @@ pub record GivesBack (w : Setup) (ms : List Initialization) (here : Here) (k : O
   pub current : is_superseded_in w.versions.slots w.versions.current here.version ≡ false
 
 module _ (w : Setup) (run : CanRun w) (ms : List Initialization) (here : Here) (line : Line) (k : Option Kind) (old : Parts) (stands : here_of old.frames.frames ≡ Some here)
-    (found : line_at w.versions here.version here.place ≡ Some line) (ends : line.action ≡ action.Return k) (calm : IsCalm (length old.frames.frames) ms old)
+    (found : line_at w.versions here.version here.place ≡ Some line) (ends : line.action ≡ action.Return k) (calm : IsAtInstruction (length old.frames.frames) ms old)
     (d : Option Datum) (next : ℕ) where
   abbrev t : Listing
   t = listing_of w.versions
@@ -219,7 +219,7 @@ module _ (w : Setup) (run : CanRun w) (ms : List Initialization) (here : Here) (
         (at-rest old.ending old.thrown (has_frame frames.frames && is_none (initialization_on (length frames.frames) ms)) calm.ending calm.thrown
         (framed (length frames.frames) ms frames.frames free refl has)))
 
-    calm-then : IsCalm (length frames.frames) ms new
+    calm-then : IsAtInstruction (length frames.frames) ms new
     calm-then = record { ending = calm.ending; thrown = calm.thrown; executing = free }
 
     keeps-then : AreKeptBy w (state_of ms old).stack (state_of ms new).stack
@@ -237,7 +237,7 @@ module _ (w : Setup) (run : CanRun w) (ms : List Initialization) (here : Here) (
     -- whatever its version has
     pub return-attempted : Attempted w ms old new
     return-attempted = record {
-      calm = calm-then;
+      at_instruction = calm-then;
       loaded = refl;
       loads = loads-none old.frames.frames stands calm.executing;
       awaits = awaits-unnamed w ms old here stands calm.executing (ap named_in found ∙ unnamed);
@@ -247,12 +247,12 @@ module _ (w : Setup) (run : CanRun w) (ms : List Initialization) (here : Here) (
 
     pub return-passes : marks here.version ≡ Off → Passes w ms old 1 new
     return-passes off = record {
-      calm = calm-then;
+      at_instruction = calm-then;
       loaded = refl;
       leads = leads-one w (state_of ms old) (state_of ms new) (ap is_some calm.ending) stepped;
       silent = silent-one w (state_of ms old) (record {
         loads = loads-none old.frames.frames stands calm.executing;
-        untold =
+        undelivered =
             ap (λ cs. (stop_in (mark_now marks t) 0 (helds marks (state_of ms old).stack) cs).due) (return-changes old.frames.frames stands calm.executing is)
             ∙ due-by old.frames.frames stands calm.executing off;
         keeps = λ version superseded runs_old. ap (λ (z : State). runs version z.stack) (sym stepped) ∙ keeps-then version superseded runs_old;

@@ -36,7 +36,7 @@ use Rattle.prepared_code.specs.Lines.{IfNamed, IfNamedBy}
 use Rattle.prepared_code.specs.Initializations.{initialization_on, stack_of, state_of, with_initializations}
 use Rattle.jvm_steps.specs.Instructions.Passing.{Passes, changed_in, steps_if, with_changed}
 use Rattle.prepared_code.specs.Ready.{CanRun}
-use Rattle.prepared_code.specs.Runs.{IsCalm, steps_from}
+use Rattle.prepared_code.specs.Runs.{IsAtInstruction, steps_from}
 use Rattle.prepared_code.specs.States.{active, frame_in, here_of, state_in, state_with}
 use Rattle.prepared_code.specs.Versions.{Setup, instruction_in, line_at, operation_as, listing_of}
 use Rattle.jvm_steps.proofs.Silent.Leading.{leads-one, quiet-one}
@@ -82,7 +82,7 @@ same-many q next fs so = ap (λ x. length (frames_in x next fs)) so.is ∙ (ap (
 -- ---- what stands at a line
 
 module _ (w : Setup) (run : CanRun w) (ms : List Initialization) (here : Here) (line : Line) (kept : Kept) (old : Parts) (stands : here_of old.frames.frames ≡ Some here)
-    (found : line_at w.versions here.version here.place ≡ Some line) (named : line.action ≡ action.Named kept) (calm : IsCalm (length old.frames.frames) ms old)
+    (found : line_at w.versions here.version here.place ≡ Some line) (named : line.action ≡ action.Named kept) (calm : IsAtInstruction (length old.frames.frames) ms old)
     (nothing : newly_loaded w.world.program old.shared.loaded (symbolic_view kept) (top_operands old.frames.frames) ≡ []) where
   abbrev n : SymbolicReference
   n = symbolic_view kept
@@ -211,7 +211,7 @@ module _ (w : Setup) (run : CanRun w) (ms : List Initialization) (here : Here) (
       (framed (length old.frames.frames) ms is.frames.frames calm.executing many has) in
       let stepped = is-step asked.Next went.answer refl new concludes resting in
       record {
-        calm = record { ending = calm.ending; thrown = calm.thrown; executing = ap (λ k. initialization_on k ms) many ∙ calm.executing };
+        at_instruction = record { ending = calm.ending; thrown = calm.thrown; executing = ap (λ k. initialization_on k ms) many ∙ calm.executing };
         loaded = loaded;
         leads = leads-one w (state_of ms old) (state_of ms new) (ap is_some calm.ending) stepped;
         silent = λ k less. quiet-silent w (steps_from w k (state_of ms old))
@@ -246,7 +246,7 @@ none-new xs is = by xs (zero-is (length xs) is) where
   by (x ∷ xs) e = absurd (omega (arith, e))
 
 module _ (w : Setup) (run : CanRun w) (ms : List Initialization) (here : Here) (line : Line) (kept : Kept) (old : Parts) (stands : here_of old.frames.frames ≡ Some here)
-    (found : line_at w.versions here.version here.place ≡ Some line) (named : line.action ≡ action.Named kept) (calm : IsCalm (length old.frames.frames) ms old)
+    (found : line_at w.versions here.version here.place ≡ Some line) (named : line.action ≡ action.Named kept) (calm : IsAtInstruction (length old.frames.frames) ms old)
     (silent : loads_nothing w.world.program old.shared.loaded (symbolic_view kept) (top_operands old.frames.frames) ≡ true) where
   pub nothing-new : newly_loaded w.world.program old.shared.loaded (symbolic_view kept) (top_operands old.frames.frames) ≡ []
   nothing-new = none-new (newly_loaded w.world.program old.shared.loaded (symbolic_view kept) (top_operands old.frames.frames)) silent

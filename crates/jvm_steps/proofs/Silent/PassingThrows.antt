@@ -37,7 +37,7 @@ use Rattle.jvm_steps.specs.Instructions.Acts.{acts, acts_asked, acts_by, attempt
 use Rattle.prepared_code.specs.Initializations.{initialization_on, stack_of, state_of, with_initializations}
 use Rattle.jvm_steps.specs.Instructions.Passing.{AreKeptBy, CatchesBelow, Passes, caught_back, caught_if, fits_caught, on_frames, runs, steps_if}
 use Rattle.prepared_code.specs.Ready.{CanRun}
-use Rattle.prepared_code.specs.Runs.{IsCalm, steps_from-zero}
+use Rattle.prepared_code.specs.Runs.{IsAtInstruction, steps_from-zero}
 use Rattle.prepared_code.specs.States.{active, frame_in, here_of, state_with}
 use Rattle.prepared_code.specs.Versions.{Setup, instruction_in, line_at, mark_of, operation_as, listing_of}
 use Rattle.jvm_steps.proofs.Initializing.Beneath.{awaits-unnamed, does-beneath, does-there, top-there}
@@ -98,7 +98,7 @@ module _ (w : Setup) (s : State) (r target : ℕ) (f g : Frame) (rest : List Ent
 -- ---- at an athrow
 
 module _ (w : Setup) (run : CanRun w) (ms : List Initialization) (here : Here) (line : Line) (old : Parts) (stands : here_of old.frames.frames ≡ Some here)
-    (found : line_at w.versions here.version here.place ≡ Some line) (ends : line.action ≡ action.Athrow) (calm : IsCalm (length old.frames.frames) ms old)
+    (found : line_at w.versions here.version here.place ≡ Some line) (ends : line.action ≡ action.Athrow) (calm : IsAtInstruction (length old.frames.frames) ms old)
     (r target : ℕ) where
   abbrev t : Listing
   t = listing_of w.versions
@@ -260,12 +260,12 @@ module _ (w : Setup) (run : CanRun w) (ms : List Initialization) (here : Here) (
       (awaits-unnamed w ms old here stands calm.executing (ap named_in found ∙ unnamed))
       (state_of ms mid) (state_of ms new) attempted settles in
       record {
-        calm = record { ending = calm.ending; thrown = calm.thrown; executing = ap (λ n. initialization_on n ms) (ap length are ∙ one-less old.frames.frames fits) ∙ is.executing };
+        at_instruction = record { ending = calm.ending; thrown = calm.thrown; executing = ap (λ n. initialization_on n ms) (ap length are ∙ one-less old.frames.frames fits) ∙ is.executing };
         loaded = refl;
         leads = leads-one w (state_of ms old) (state_of ms new) (ap is_some calm.ending) stepped;
         silent = silent-one w (state_of ms old) (record {
           loads = loads-none old.frames.frames stands calm.executing;
-          untold =
+          undelivered =
               ap (λ cs. (stop_in (mark_now marks t) 0 (helds marks (state_of ms old).stack) cs).due) (throw-changes old.frames.frames stands calm.executing is fits thrown)
               ∙ due-by old.frames.frames stands calm.executing is.off;
           keeps = λ version superseded runs_old.
@@ -280,7 +280,7 @@ module _ (w : Setup) (run : CanRun w) (ms : List Initialization) (here : Here) (
       → frames.frames ≡ caught_if b r target old.frames.frames → Passes w ms old (steps_if b) (on_frames frames old)
   caught-passes true frames is thrown fits are = throw-passes is (fits refl) thrown frames are
   caught-passes false frames is thrown fits are = record {
-    calm = record { ending = calm.ending; thrown = calm.thrown; executing = ap (λ fs. initialization_on (length fs) ms) are ∙ calm.executing };
+    at_instruction = record { ending = calm.ending; thrown = calm.thrown; executing = ap (λ fs. initialization_on (length fs) ms) are ∙ calm.executing };
     loaded = refl;
     leads = record {
       made = ap (λ fs. with_initializations ms (state_with fs old)) are ∙ sym (steps_from-zero w (state_of ms old));

@@ -18,7 +18,7 @@ use Rattle.prepared_code.specs.declared.parts.Here.{Here}
 use Rattle.prepared_code.specs.declared.parts.Parts.{Parts}
 use Rattle.jvm_steps.specs.Instructions.Acts.{acts_by, attempts_line, attempts_on, awaited, awaited_by, awaited_on}
 use Rattle.prepared_code.specs.Initializations.{initialization_on, state_of, with_initializations}
-use Rattle.prepared_code.specs.Runs.{IsCalm, IsLineIn, IsPlainLine, LeadsPlainly, RunsVersion, top_version}
+use Rattle.prepared_code.specs.Runs.{IsAtInstruction, IsLineIn, IsPlainLine, LeadsPlainly, RunsVersion, top_version}
 use Rattle.prepared_code.specs.Tables.{Version, version_at}
 use Rattle.prepared_code.specs.States.{active, frame_in, here_of, state_with}
 use Rattle.jvm_steps.proofs.Instructions.Alone.{goes-next}
@@ -72,7 +72,7 @@ goes (Some e) b none is = absurd cc
 
 -- ---- a step
 
-plain-at : (w : Setup) (run : CanRun w) (line : Line) (ms : List Initialization) (p : Parts) (fs : List PlacedFrame) (room : Option ℕ) (new : FramesView) → IsCalm (length fs) ms p
+plain-at : (w : Setup) (run : CanRun w) (line : Line) (ms : List Initialization) (p : Parts) (fs : List PlacedFrame) (room : Option ℕ) (new : FramesView) → IsAtInstruction (length fs) ms p
     → IsPlainLine w fs line
     → (let old : FramesView = record { frames = fs; room = room } in effect_of (rule_of line.instr line.constant line.next) old ≡ Next)
     → (let old : FramesView = record { frames = fs; room = room } in new ≡ after (rule_of line.instr line.constant line.next) old)
@@ -101,7 +101,7 @@ plain-at w run line ms p (f ∷ fs) room new calm stands e made =
     (at-rest p.ending p.thrown (has_frame new.frames && is_none (initialization_on (length new.frames) ms)) calm.ending calm.thrown (framed (length (f ∷ fs)) ms new.frames calm.executing many has)))
 
 -- it has no change
-quiet-at : (w : Setup) (run : CanRun w) (line : Line) (ms : List Initialization) (p : Parts) (fs : List PlacedFrame) (room : Option ℕ) → IsCalm (length fs) ms p → IsPlainLine w fs line
+quiet-at : (w : Setup) (run : CanRun w) (line : Line) (ms : List Initialization) (p : Parts) (fs : List PlacedFrame) (room : Option ℕ) → IsAtInstruction (length fs) ms p → IsPlainLine w fs line
     → (let old : FramesView = record { frames = fs; room = room } in effect_of (rule_of line.instr line.constant line.next) old ≡ Next)
     → (step w.world (listing_of w.versions) (with_initializations ms (state_with fs p))).changes ≡ []
 quiet-at w run line ms p [] room calm stands e = absurd stands
@@ -132,7 +132,7 @@ pub stays-in : (line : Line) (old new : FramesView) → new ≡ after (rule_of l
 stays-in line old new made =
     ap (λ (s : FramesView). top_version s.frames) made ∙ same-version (asked (rule_of line.instr line.constant line.next) old.frames) old.frames
 
-pub goes-on : (n : ℕ) (ms : List Initialization) (p : Parts) → IsCalm n ms p → is_some p.ending ≡ false
+pub goes-on : (n : ℕ) (ms : List Initialization) (p : Parts) → IsAtInstruction n ms p → is_some p.ending ≡ false
 goes-on n ms p calm = ap is_some calm.ending
 
 pub plain-one : (w : Setup) (run : CanRun w) (line : Line) (old new : FramesView) → IsPlainLine w old.frames line

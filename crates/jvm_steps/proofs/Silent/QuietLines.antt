@@ -29,7 +29,7 @@ use Rattle.prepared_code.specs.declared.initializations.Initialization.{Initiali
 use Rattle.prepared_code.specs.declared.parts.Parts.{Parts}
 use Rattle.prepared_code.specs.Initializations.{stack_of, with_initializations}
 use Rattle.prepared_code.specs.Ready.{CanRun, IsOwnLine}
-use Rattle.prepared_code.specs.Runs.{IsCalm, IsPlainLine}
+use Rattle.prepared_code.specs.Runs.{IsAtInstruction, IsPlainLine}
 use Rattle.prepared_code.specs.States.{active, frame_in, state_with}
 use Rattle.prepared_code.specs.Versions.{Setup, instruction_in, line_at, local_in, operation_as, operation_in, listing_of}
 use Rattle.jvm_steps.proofs.Moves.LineSteps.{top-frame}
@@ -162,7 +162,7 @@ module _ (w : Setup) where
 own-line : (w : Setup) (run : CanRun w) (version place : ℕ) (line : Line) → line_at w.versions version place ≡ Some line → IsOwnLine line
 own-line w run version place line there = subst (λ o. IfSome o IsOwnLine) there (run.lines version place)
 
-pub quiet-step : (w : Setup) (run : CanRun w) (line : Line) (ms : List Initialization) (p : Parts) (f : PlacedFrame) (fs : List PlacedFrame) → IsCalm (length (f ∷ fs)) ms p → IsPlainLine w (f ∷ fs) line
+pub quiet-step : (w : Setup) (run : CanRun w) (line : Line) (ms : List Initialization) (p : Parts) (f : PlacedFrame) (fs : List PlacedFrame) → IsAtInstruction (length (f ∷ fs)) ms p → IsPlainLine w (f ∷ fs) line
     → effect_in (rule_of line.instr line.constant line.next f.locals f.operands) (f ∷ fs) ≡ Next
     → (step w.world (listing_of w.versions) (with_initializations ms (state_with (f ∷ fs) p))).changes ≡ []
 quiet-step w run line ms p f fs calm stands on =

@@ -26,7 +26,7 @@ use Rattle.prepared_code.specs.Initializations.{initialization_on, state_of}
 use Rattle.jvm_steps.specs.Instructions.Passing.{Passes, ReturnsTo, caller_line, fits_given, gone_back, on_frames, steps_if}
 use Rattle.prepared_code.specs.Ready.{CanRun}
 use Rattle.jvm_steps.specs.Moves.Calmly.{GoesBack, TriesIf}
-use Rattle.prepared_code.specs.Runs.{IsCalm}
+use Rattle.prepared_code.specs.Runs.{IsAtInstruction}
 use Rattle.prepared_code.specs.States.{here_of}
 use Rattle.prepared_code.specs.Tables.{Versions}
 use Rattle.prepared_code.specs.Versions.{Setup, line_at, mark_of, next_in}
@@ -83,7 +83,7 @@ same-back v next (f ∷ g ∷ fs) fits = ap (λ o. record g { place = next; oper
 -- ---- the step
 
 module _ (w : Setup) (run : CanRun w) (ms : List Initialization) (here : Here) (line : Line) (k : Option Kind) (old : Parts) (stands : here_of old.frames.frames ≡ Some here)
-    (found : line_at w.versions here.version here.place ≡ Some line) (ends : line.action ≡ action.Return k) (calm : IsCalm (length old.frames.frames) ms old)
+    (found : line_at w.versions here.version here.place ≡ Some line) (ends : line.action ≡ action.Return k) (calm : IsAtInstruction (length old.frames.frames) ms old)
     (d : Option Datum) (next : ℕ) (v : Option Value) (frames : FramesView) (sound : AreSound old.frames.frames)
     (current : is_superseded_in w.versions.slots w.versions.current here.version ≡ false)
     (result : returns k (top_operands old.frames.frames) ≡ Returns d) (value : v ≡ option_map as_value d) where

@@ -21,7 +21,7 @@ use Rattle.prepared_code.specs.declared.initializations.Initialization.{Initiali
 use Rattle.prepared_code.specs.declared.parts.Parts.{Parts}
 use Rattle.prepared_code.specs.Initializations.{initialization_on, state_of}
 use Rattle.jvm_steps.specs.Instructions.Passing.{AreSilent, IsSilent, Passes, runs}
-use Rattle.prepared_code.specs.Runs.{IsCalm, LeadsAlone, steps_from, steps_from-zero}
+use Rattle.prepared_code.specs.Runs.{IsAtInstruction, LeadsAlone, steps_from, steps_from-zero}
 use Rattle.prepared_code.specs.Versions.{Setup, mark_of, listing_of}
 use Rattle.jvm_steps.proofs.Silent.Leading.{leads-none, leads-on, steps-parts}
 
@@ -43,7 +43,7 @@ module _ (w : Setup) (s : State) (quiet : (step w.world (listing_of w.versions) 
   quiet-helds : (marks : ℕ → Mark) → helds marks (step w.world u s).after.stack ≡ helds marks s.stack
   quiet-helds marks =
       let p : Pause = step_pause w.world u marks false 0 s in
-      let is = step-paused w.world u marks (ends-by-return w.world) false 0 s (λ told. absurd (let e : false ≡ true = told in cc)) nothing-loaded in
+      let is = step-paused w.world u marks (ends-by-return w.world) false 0 s (λ delivered. absurd (let e : false ≡ true = delivered in cc)) nothing-loaded in
       let stops = ap (stop_in (mark_now marks u) 0 (helds marks s.stack)) (sym quiet) ∙ is.stops in
       let due : p.due ≡ Nothing = ap (λ (x : Stop). x.due) (sym stops) in
       let there : (step w.world u s).after ≡ p.state = is.part.same ∙ ap (λ (a : Turn). a.after) (is.ends due) in
@@ -76,7 +76,7 @@ same-runs k old new same = sym (runs-held k new) ∙ (ap any_root (same (mark_if
 pub quiet-silent : (w : Setup) (s : State) → (step w.world (listing_of w.versions) s).changes ≡ [] → IsSilent w s
 quiet-silent w s quiet = record {
   loads = nothing-loaded w s quiet;
-  untold = ap (λ cs. (stop_in (mark_now (mark_of w.versions) (listing_of w.versions)) 0 (helds (mark_of w.versions) s.stack) cs).due) quiet;
+  undelivered = ap (λ cs. (stop_in (mark_now (mark_of w.versions) (listing_of w.versions)) 0 (helds (mark_of w.versions) s.stack) cs).due) quiet;
   keeps = λ k superseded is. same-runs k s.stack (step w.world (listing_of w.versions) s).after.stack (quiet-helds w s quiet) ∙ is;
 }
 
@@ -99,9 +99,9 @@ module _ (w : Setup) where
         subst (IsSilent w) (sym state) (second (k - n) (omega arith)))
   ]
 
-  pub passes_none : (ms : List Initialization) (p : Parts) → IsCalm (length p.frames.frames) ms p → Passes w ms p 0 p
+  pub passes_none : (ms : List Initialization) (p : Parts) → IsAtInstruction (length p.frames.frames) ms p → Passes w ms p 0 p
   passes_none ms p calm = record {
-    calm = calm;
+    at_instruction = calm;
     loaded = refl;
     leads = leads-none w (state_of ms p);
     silent = λ k less. absurd (omega arith);
@@ -109,16 +109,16 @@ module _ (w : Setup) where
 
   pub passes-on : (ms : List Initialization) (old mid new : Parts) (n m : ℕ) → Passes w ms old n mid → Passes w ms mid m new → Passes w ms old (n + m) new
   passes-on ms old mid new n m first second = record {
-    calm = second.calm;
+    at_instruction = second.at_instruction;
     loaded = second.loaded ∙ first.loaded;
     leads = leads-on w (state_of ms old) (state_of ms mid) (state_of ms new) n m first.leads second.leads;
     silent = silent-on (state_of ms old) (state_of ms mid) n m first.leads.made first.silent second.silent;
   }
 
   -- those of the current frame and elements alone
-  pub passes-alone : (ms : List Initialization) (old new : Parts) (n : ℕ) → LeadsAlone w old n new → IsCalm (length old.frames.frames) ms old → Passes w ms old n new
+  pub passes-alone : (ms : List Initialization) (old new : Parts) (n : ℕ) → LeadsAlone w old n new → IsAtInstruction (length old.frames.frames) ms old → Passes w ms old n new
   passes-alone ms old new n alone calm = record {
-    calm = record {
+    at_instruction = record {
       ending = alone.ending ∙ calm.ending;
       thrown = alone.thrown ∙ calm.thrown;
       executing = ap (λ k. initialization_on k ms) alone.many ∙ calm.executing;

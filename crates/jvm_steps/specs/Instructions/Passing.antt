@@ -27,7 +27,7 @@ use Rattle.prepared_code.specs.declared.parts.Parts.{Parts}
 use Rattle.jvm_model.specs.declared.event.Mark.TheVariants.{Off}
 use Rattle.prepared_code.specs.declared.parts.Here.{Here}
 use Rattle.prepared_code.specs.Initializations.{initialization_on, state_of}
-use Rattle.prepared_code.specs.Runs.{IsCalm, Leads, steps_from}
+use Rattle.prepared_code.specs.Runs.{IsAtInstruction, Leads, steps_from}
 use Rattle.prepared_code.specs.declared.line.Line.{Line}
 use Rattle.prepared_code.specs.Tables.{Versions}
 use Rattle.prepared_code.specs.Versions.{Setup, current_of, line_at, mark_of, next_in, listing_of}
@@ -55,7 +55,7 @@ step_due w s =
 -- it loads no class, no probe tells of it, and no version that is held is left behind by it
 pub record IsSilent (w : Setup) (s : State) : Type 0 where
   pub loads : step_loads w.world (listing_of w.versions) s ≡ []
-  pub untold : step_due w s ≡ Nothing
+  pub undelivered : step_due w s ≡ Nothing
   pub keeps : AreKeptBy w s.stack (step w.world (listing_of w.versions) s).after.stack
 
 abbrev pub AreSilent : Setup → State → ℕ → Type 0
@@ -64,7 +64,7 @@ AreSilent w s n = (k : ℕ) → k < n → IsSilent w (steps_from w k s)
 -- So many steps lead from parts beneath these initializations to others beneath the same; they tell nothing, and the
 -- run goes on.
 pub record Passes (w : Setup) (ms : List Initialization) (old : Parts) (n : ℕ) (new : Parts) : Type 0 where
-  pub calm : IsCalm (length new.frames.frames) ms new
+  pub at_instruction : IsAtInstruction (length new.frames.frames) ms new
   pub loaded : new.shared.loaded ≡ old.shared.loaded
   pub leads : Leads w (state_of ms old) n (state_of ms new)
   pub silent : AreSilent w (state_of ms old) n

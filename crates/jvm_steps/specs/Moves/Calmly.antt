@@ -12,7 +12,7 @@ use Rattle.prepared_code.specs.Versions.{Setup, next_in}
 use Rattle.jvm_steps.specs.Instructions.Acts.{attempts_on, awaited_in}
 use Rattle.jvm_steps.specs.Instructions.Passing.{AreKeptBy, caller_line}
 use Rattle.prepared_code.specs.Initializations.{initialization_on, state_of}
-use Rattle.prepared_code.specs.Runs.{IsCalm}
+use Rattle.prepared_code.specs.Runs.{IsAtInstruction}
 use Rattle.jvm_steps.specs.Moves.Hands.{IsLeft, goes_in}
 use Rattle.jvm_steps.specs.Moves.Trying.{tried_in}
 use Rattle.jvm_steps.specs.Moves.Turning.{loads_in, loads_none, pause_at}
@@ -21,7 +21,7 @@ use Rattle.jvm_steps.specs.Moves.Turning.{loads_in, loads_none, pause_at}
 
 -- It loads nothing and awaits no class, the run is calm behind it, and no version that is held is left behind by it.
 pub record Attempted (w : Setup) (ms : List Initialization) (old new : Parts) : Type 0 where
-  pub calm : IsCalm (length new.frames.frames) ms new
+  pub at_instruction : IsAtInstruction (length new.frames.frames) ms new
   pub loaded : new.shared.loaded ≡ old.shared.loaded
   pub loads : loads_in w (state_of ms old) ≡ []
   pub awaits : awaited_in w (state_of ms old) ≡ None
@@ -44,16 +44,16 @@ passed_there (Ends k) = 0
 passed_there Begins = 1
 
 -- this is due then, by an attempt or before it
-pub record TriesCalmly (w : Setup) (ms : List Initialization) (told : Bool) (old : Parts) (due : Due) (new : Parts) : Type 0 where
+pub record TriesCalmly (w : Setup) (ms : List Initialization) (delivered : Bool) (old : Parts) (due : Due) (new : Parts) : Type 0 where
   pub loads : loads_none w (state_of ms old) ≡ true
-  pub reaches : pause_at (state_of ms new) (passed_there due) due ≡ tried_in w told 0 (state_of ms old)
+  pub reaches : pause_at (state_of ms new) (passed_there due) due ≡ tried_in w delivered 0 (state_of ms old)
   pub loaded : new.shared.loaded ≡ old.shared.loaded
   pub keeps : AreKeptBy w (state_of ms old).stack (state_of ms new).stack
 
 -- it is, or nothing was done
 abbrev pub TriesIf : Bool → Setup → List Initialization → Bool → Parts → Due → Parts → Type 0
-TriesIf true w ms told old due new = TriesCalmly w ms told old due new
-TriesIf false w ms told old due new = state_of ms new ≡ state_of ms old
+TriesIf true w ms delivered old due new = TriesCalmly w ms delivered old due new
+TriesIf false w ms delivered old due new = state_of ms new ≡ state_of ms old
 
 -- ---- what is in hand
 

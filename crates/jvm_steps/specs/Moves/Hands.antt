@@ -30,22 +30,22 @@ versioned_in w homes = record {
 -- the rest of this whole step of original code is in hand
 abbrev pub HasInHand : Setup → (ℕ → ℕ → ℕ) → Turn → Hand → List Held → State → Type 0
 HasInHand w homes turn hand live s =
-    InHand w.world (original w.world.program) (versioned_in w homes) turn hand.passed hand.told live (todo_of hand.moves) s
+    InHand w.world (original w.world.program) (versioned_in w homes) turn hand.passed hand.delivered live (todo_of hand.moves) s
 
 -- where it goes on to
 abbrev pub goes_as : Setup → Bool → Bool → ℕ → State → Pause
-goes_as w true told n s = goes_by_moves w told n s
-goes_as w false told n s = tried_in w told n s
+goes_as w true delivered n s = goes_by_moves w delivered n s
+goes_as w false delivered n s = tried_in w delivered n s
 
 abbrev pub goes_in : Setup → Hand → State → Pause
-goes_in w hand s = goes_as w hand.moves hand.told hand.passed s
+goes_in w hand s = goes_as w hand.moves hand.delivered hand.passed s
 
 abbrev pub HasGoneOn : Setup → (ℕ → ℕ → ℕ) → Turn → Hand → List Held → Gone → State → Type 0
 HasGoneOn w homes turn hand live gone s =
-    GoesOn w.world (original w.world.program) (versioned_in w homes) (current_of w.versions) turn hand.passed hand.told live
+    GoesOn w.world (original w.world.program) (versioned_in w homes) (current_of w.versions) turn hand.passed hand.delivered live
     (pause_at s gone.hand.passed gone.due)
 
 -- what is left there: whether an end was told, and whether moves alone are left
 pub record IsLeft (gone : Gone) : Type 0 where
-  pub told : gone.hand.told ≡ is_end gone.due
+  pub delivered : gone.hand.delivered ≡ is_end gone.due
   pub moves : todo_of gone.hand.moves ≡ later_of gone.due

@@ -68,4 +68,4 @@ tries_again n class p =
 -- ---- all of it
 
 abbrev pub tried_in : Setup → Bool → ℕ → State → Pause
-tried_in w told n s = step_pause w.world (listing_of w.versions) (mark_of w.versions) told n s
+tried_in w delivered n s = step_pause w.world (listing_of w.versions) (mark_of w.versions) delivered n s

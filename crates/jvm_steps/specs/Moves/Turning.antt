@@ -95,7 +95,7 @@ resumed_count false n = n
 
 -- where moves alone are left of a step
 abbrev pub goes_by_moves : Setup → Bool → ℕ → State → Pause
-goes_by_moves w told n s = paused_in w (resumed_count told n) (resumed told s)
+goes_by_moves w delivered n s = paused_in w (resumed_count delivered n) (resumed delivered s)
 
 -- ---- an attempt in two parts
 

@@ -21,7 +21,7 @@ ghost use Rattle.prepared_code.specs.Initializations.{state_of};
 ghost use Rattle.jvm_steps.specs.Instructions.Passing.{Passes, ReturnsTo, is_method, is_probed, is_told, on_frames};
 ghost use Rattle.jvm_steps.specs.Instructions.Passing.{changed_in, steps_if, with_changed};
 ghost use Rattle.prepared_code.specs.Ready.{CanRun, IsSoundIn};
-ghost use Rattle.prepared_code.specs.Runs.{IsCalm};
+ghost use Rattle.prepared_code.specs.Runs.{IsAtInstruction};
 ghost use Rattle.prepared_code.specs.States.{here_of};
 ghost use Rattle.jvm_steps.specs.Moves.Calmly.{GoesBack};
 ghost use Rattle.prepared_code.specs.Versions.{current_of, line_at, mark_of};
@@ -128,7 +128,8 @@ fn pass_call(
     requires run { CanRun originals.now.setup }
     requires linked { originals.now.loaded ≡ parts.old.shared.loaded }
     requires sound { IsSoundIn originals.now.setup (state_of initializing.now parts.old) }
-    requires calm { IsCalm (length parts.old.frames.frames) initializing.now parts.old }
+    requires at_instruction { IsAtInstruction
+        (length parts.old.frames.frames) initializing.now parts.old }
     requires here { here_of parts.old.frames.frames ≡ Some here }
     requires line { line_at originals.now.setup.versions here.version here.place ≡ Some line.now }
     requires named { line.now.action ≡ action.Named naming.now }
@@ -164,7 +165,8 @@ fn pass_access(
     requires run { CanRun originals.now.setup }
     requires linked { originals.now.loaded ≡ parts.old.shared.loaded }
     requires sound { IsSoundIn originals.now.setup (state_of initializing.now parts.old) }
-    requires calm { IsCalm (length parts.old.frames.frames) initializing.now parts.old }
+    requires at_instruction { IsAtInstruction
+        (length parts.old.frames.frames) initializing.now parts.old }
     requires here { here_of parts.old.frames.frames ≡ Some here }
     requires line { line_at originals.now.setup.versions here.version here.place ≡ Some line.now }
     requires named { line.now.action ≡ action.Named naming.now }
@@ -192,7 +194,8 @@ fn pass_measure(
     line: &Line,
 ) -> bool
     requires run { CanRun originals.now.setup }
-    requires calm { IsCalm (length parts.old.frames.frames) initializing.now parts.old }
+    requires at_instruction { IsAtInstruction
+        (length parts.old.frames.frames) initializing.now parts.old }
     requires here { here_of parts.old.frames.frames ≡ Some here }
     requires line { line_at originals.now.setup.versions here.version here.place ≡ Some line.now }
     requires measures { line.now.action ≡ action.Arraylength }
@@ -283,7 +286,8 @@ fn pass_return(
     kind: Option<Kind>,
 ) -> bool
     requires run { CanRun originals.now.setup }
-    requires calm { IsCalm (length parts.old.frames.frames) initializing.now parts.old }
+    requires at_instruction { IsAtInstruction
+        (length parts.old.frames.frames) initializing.now parts.old }
     requires here { here_of parts.old.frames.frames ≡ Some here }
     requires line { line_at originals.now.setup.versions here.version here.place ≡ Some line.now }
     requires ends { line.now.action ≡ action.Return kind }
@@ -310,7 +314,8 @@ fn pass_throw(
     line: &Line,
 ) -> bool
     requires run { CanRun originals.now.setup }
-    requires calm { IsCalm (length parts.old.frames.frames) initializing.now parts.old }
+    requires at_instruction { IsAtInstruction
+        (length parts.old.frames.frames) initializing.now parts.old }
     requires here { here_of parts.old.frames.frames ≡ Some here }
     requires line { line_at originals.now.setup.versions here.version here.place ≡ Some line.now }
     requires throws { line.now.action ≡ action.Athrow }
@@ -376,7 +381,8 @@ fn pass_named(
     requires run { CanRun originals.now.setup }
     requires linked { originals.now.loaded ≡ parts.old.shared.loaded }
     requires sound { IsSoundIn originals.now.setup (state_of initializing.now parts.old) }
-    requires calm { IsCalm (length parts.old.frames.frames) initializing.now parts.old }
+    requires at_instruction { IsAtInstruction
+        (length parts.old.frames.frames) initializing.now parts.old }
     requires here { here_of parts.old.frames.frames ≡ Some here }
     requires line { line_at originals.now.setup.versions here.version here.place ≡ Some line.now }
     requires named { line.now.action ≡ action.Named naming.now }
@@ -424,7 +430,8 @@ fn pass_line(
     requires run { CanRun originals.now.setup }
     requires linked { originals.now.loaded ≡ parts.old.shared.loaded }
     requires sound { IsSoundIn originals.now.setup (state_of initializing.now parts.old) }
-    requires calm { IsCalm (length parts.old.frames.frames) initializing.now parts.old }
+    requires at_instruction { IsAtInstruction
+        (length parts.old.frames.frames) initializing.now parts.old }
     ensures { Passes originals.now.setup initializing.now parts.old (steps_if result) parts.new }
 {
     let Some(here) = where_now(&parts.frames) else {
@@ -461,7 +468,8 @@ pub fn pass_steps(
     requires run { CanRun originals.now.setup }
     requires linked { originals.now.loaded ≡ parts.old.shared.loaded }
     requires sound { IsSoundIn originals.now.setup (state_of initializing.now parts.old) }
-    requires calm { IsCalm (length parts.old.frames.frames) initializing.now parts.old }
+    requires at_instruction { IsAtInstruction
+        (length parts.old.frames.frames) initializing.now parts.old }
     ensures within { result ≤ most }
     ensures made { Passes originals.now.setup initializing.now parts.old result parts.new }
 {

@@ -17,7 +17,7 @@ ghost use Rattle.jvm_steps.specs.Instructions.Invoking.{may_begin};
 ghost use Rattle.jvm_steps.specs.Instructions.Passing.{on_frames};
 ghost use Rattle.prepared_code.specs.Initializations.{state_of};
 ghost use Rattle.prepared_code.specs.Ready.{CanRun, IsSoundIn};
-ghost use Rattle.prepared_code.specs.Runs.{IsCalm};
+ghost use Rattle.prepared_code.specs.Runs.{IsAtInstruction};
 ghost use Rattle.prepared_code.specs.Standing.{HasVersions};
 ghost use Rattle.prepared_code.specs.States.{here_of};
 ghost use Rattle.jvm_steps.specs.Moves.Calmly.{GoesCalmly, TriesCalmly, TriesIf, passed_there};
@@ -76,13 +76,14 @@ fn invoke_known(
     requires run { CanRun originals.now.setup }
     requires linked { originals.now.loaded ≡ parts.old.shared.loaded }
     requires sound { IsSoundIn originals.now.setup (state_of initializing.now parts.old) }
-    requires calm { IsCalm (length parts.old.frames.frames) initializing.now parts.old }
+    requires at_instruction { IsAtInstruction
+        (length parts.old.frames.frames) initializing.now parts.old }
     requires here { here_of parts.old.frames.frames ≡ Some here }
     requires line { line_at originals.now.setup.versions here.version here.place ≡ Some line.now }
     requires named { line.now.action ≡ action.Named naming.now }
     requires known { IsKnown (linker_in originals.now) (symbolic_view naming.now) known.now }
-    ensures { let w = originals.now.setup in (told : Bool)
-        → TriesIf result w initializing.now told parts.old due.Begins parts.new }
+    ensures { let w = originals.now.setup in (delivered : Bool)
+        → TriesIf result w initializing.now delivered parts.old due.Begins parts.new }
 {
     let linker = originals.linker();
     let selections = originals.selections();
@@ -110,12 +111,13 @@ fn invoke(
     requires run { CanRun originals.now.setup }
     requires linked { originals.now.loaded ≡ parts.old.shared.loaded }
     requires sound { IsSoundIn originals.now.setup (state_of initializing.now parts.old) }
-    requires calm { IsCalm (length parts.old.frames.frames) initializing.now parts.old }
+    requires at_instruction { IsAtInstruction
+        (length parts.old.frames.frames) initializing.now parts.old }
     requires here { here_of parts.old.frames.frames ≡ Some here }
     requires line { line_at originals.now.setup.versions here.version here.place ≡ Some line.now }
     requires named { line.now.action ≡ action.Named naming.now }
-    ensures { let w = originals.now.setup in (told : Bool)
-        → TriesIf result w initializing.now told parts.old due.Begins parts.new }
+    ensures { let w = originals.now.setup in (delivered : Bool)
+        → TriesIf result w initializing.now delivered parts.old due.Begins parts.new }
 {
     let Some(known) = originals.known(here.version, here.place) else {
         return false;
@@ -140,7 +142,8 @@ fn leave(
     kind: Option<Kind>,
 ) -> bool
     requires run { CanRun originals.now.setup }
-    requires calm { IsCalm (length parts.old.frames.frames) initializing.now parts.old }
+    requires at_instruction { IsAtInstruction
+        (length parts.old.frames.frames) initializing.now parts.old }
     requires here { here_of parts.old.frames.frames ≡ Some here }
     requires line { line_at originals.now.setup.versions here.version here.place ≡ Some line.now }
     requires ends { line.now.action ≡ action.Return kind }
@@ -169,19 +172,20 @@ fn end(
     here: Here,
     line: &Line,
     kind: Option<Kind>,
-    told: bool,
+    delivered: bool,
 ) -> Option<Due>
     requires run { CanRun originals.now.setup }
-    requires calm { IsCalm (length parts.old.frames.frames) initializing.now parts.old }
+    requires at_instruction { IsAtInstruction
+        (length parts.old.frames.frames) initializing.now parts.old }
     requires here { here_of parts.old.frames.frames ≡ Some here }
     requires line { line_at originals.now.setup.versions here.version here.place ≡ Some line.now }
     requires ends { line.now.action ≡ action.Return kind }
     ensures some { let w = originals.now.setup in IfSome result (λ due.
-        TriesCalmly w initializing.now told parts.old due parts.new) }
+        TriesCalmly w initializing.now delivered parts.old due parts.new) }
     ensures none { IfNone result (state_of initializing.now parts.new
         ≡ state_of initializing.now parts.old) }
 {
-    if told {
+    if delivered {
         if !leave(originals, parts, initializing, here, line, kind) {
             return None;
         }
@@ -201,14 +205,15 @@ fn try_calmly(
     originals: &Originals,
     parts: &mut Parts,
     initializing: &Stack<Initialization>,
-    told: bool,
+    delivered: bool,
 ) -> Option<Due>
     requires run { CanRun originals.now.setup }
     requires linked { originals.now.loaded ≡ parts.old.shared.loaded }
     requires sound { IsSoundIn originals.now.setup (state_of initializing.now parts.old) }
-    requires calm { IsCalm (length parts.old.frames.frames) initializing.now parts.old }
+    requires at_instruction { IsAtInstruction
+        (length parts.old.frames.frames) initializing.now parts.old }
     ensures some { let w = originals.now.setup in IfSome result (λ due.
-        TriesCalmly w initializing.now told parts.old due parts.new) }
+        TriesCalmly w initializing.now delivered parts.old due parts.new) }
     ensures none { IfNone result (state_of initializing.now parts.new
         ≡ state_of initializing.now parts.old) }
 {
@@ -225,7 +230,7 @@ fn try_calmly(
             }
             Some(Due::Begins)
         }
-        Action::Return(kind) => end(originals, parts, initializing, here, line, *kind, told),
+        Action::Return(kind) => end(originals, parts, initializing, here, line, *kind, delivered),
         _ => None,
     }
 }
@@ -254,7 +259,8 @@ pub fn go_calmly(
     requires fit { CanRun originals.now.setup }
     requires sound { hand.moves ≡ false
         → IsSoundIn originals.now.setup (state_of initializing.now parts.old) }
-    requires calm { IsCalm (length parts.old.frames.frames) initializing.now parts.old }
+    requires at_instruction { IsAtInstruction
+        (length parts.old.frames.frames) initializing.now parts.old }
     ensures goes { let w = originals.now.setup in IfSome result (λ gone.
         GoesCalmly w initializing.now hand parts.old gone parts.new) }
     // The rest of the same step is in hand then, at the next of its changes that is told.
@@ -266,13 +272,13 @@ pub fn go_calmly(
         IfSome result (λ gone. IsSoundIn w s → IsSoundIn w (state_of initializing.now parts.new)) }
     // The moves of the start leave a sound state too.
     ensures starts { let w = originals.now.setup in IfSome result (λ gone. hand.moves ≡ true
-        → hand.told ≡ false → state_of initializing.now parts.old ≡ starts_with w.world
+        → hand.delivered ≡ false → state_of initializing.now parts.old ≡ starts_with w.world
         → IsSoundIn w (state_of initializing.now parts.new)) }
     ensures none { IfNone result (state_of initializing.now parts.new
         ≡ state_of initializing.now parts.old) }
 {
     if hand.moves {
-        if hand.told || !is_at_rest(parts, initializing) {
+        if hand.delivered || !is_at_rest(parts, initializing) {
             return None;
         }
         return Some(gone_to(Due::Nothing, hand.passed));
@@ -280,7 +286,7 @@ pub fn go_calmly(
     if hand.passed > 0 {
         return None;
     }
-    let Some(due) = try_calmly(originals, parts, initializing, hand.told) else {
+    let Some(due) = try_calmly(originals, parts, initializing, hand.delivered) else {
         return None;
     };
     Some(gone_to(due, passed_there(due)))

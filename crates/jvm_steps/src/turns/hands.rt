@@ -24,7 +24,7 @@ use std::alloc::Global;
 #[derive(Clone, Copy, Debug, PartialEq, Eq)]
 pub struct Hand {
     pub moves: bool,
-    pub told: bool,
+    pub delivered: bool,
     pub passed: u64,
 }
 
@@ -66,11 +66,11 @@ pub fn gone_to(due: Due, passed: u64) -> Gone
     ensures left { IsLeft result }
 {
     let moves = is_by_moves(due);
-    let told = is_end(due);
+    let delivered = is_end(due);
     Gone {
         hand: Hand {
             moves,
-            told,
+            delivered,
             passed,
         },
         due,
@@ -98,7 +98,7 @@ pub fn go(
         → IsSoundIn w (state_of initializing.new parts.new)) }
     // The moves of the start leave a sound state too.
     ensures starts { let w = originals.old.setup in OnOk result (hand.moves ≡ true
-        → hand.told ≡ false → state_of initializing.old parts.old ≡ starts_with w.world
+        → hand.delivered ≡ false → state_of initializing.old parts.old ≡ starts_with w.world
         → IsSoundIn w (state_of initializing.new parts.new)) }
     ensures some { let s = state_of initializing.old parts.old in IfOk result (λ o. is_some o
         ≡ (hand.moves || loads_none originals.old.setup s)) }
@@ -123,7 +123,7 @@ pub fn go(
             originals,
             parts,
             initializing,
-            hand.told,
+            hand.delivered,
             &mut passed,
         )?;
         return Ok(Some(gone_to(due, passed)));
@@ -133,7 +133,7 @@ pub fn go(
         originals,
         parts,
         initializing,
-        hand.told,
+        hand.delivered,
         &mut passed,
     )?;
     let Some(due) = gone else {

@@ -94,14 +94,15 @@ fn take_off(parts: &mut Parts, initializing: &Stack<Initialization>) -> Result<(
 fn resume(
     parts: &mut Parts,
     initializing: &Stack<Initialization>,
-    told: bool,
+    delivered: bool,
     passed: &mut u64,
 ) -> Result<(), NoMemory>
     ensures state { OnOk result
-        (state_of initializing.now parts.new ≡ resumed told (state_of initializing.now parts.old)) }
-    ensures passed { OnOk result (passed.new ≡ resumed_count told passed.old) }
+        (state_of initializing.now parts.new
+        ≡ resumed delivered (state_of initializing.now parts.old)) }
+    ensures passed { OnOk result (passed.new ≡ resumed_count delivered passed.old) }
 {
-    if !told {
+    if !delivered {
         return Ok(());
     }
     take_off(parts, initializing)?;
@@ -115,13 +116,13 @@ pub fn go_by_moves(
     originals: &Originals,
     parts: &mut Parts,
     initializing: &mut Stack<Initialization>,
-    told: bool,
+    delivered: bool,
     passed: &mut u64,
 ) -> Result<Due, NoMemory>
     ensures { let s = state_of initializing.old parts.old in
         IfOk result (λ due. pause_at (state_of initializing.new parts.new) passed.new due
-        ≡ goes_by_moves originals.now.setup told passed.old s) }
+        ≡ goes_by_moves originals.now.setup delivered passed.old s) }
 {
-    resume(parts, initializing, told, passed)?;
+    resume(parts, initializing, delivered, passed)?;
     pause(alloc, originals, parts, initializing, passed)
 }

@@ -97,10 +97,10 @@ fn leaves(originals: &Originals, frames: &Frames) -> bool
 
 /// The same, unless it has told.
 #[inline(always)]
-fn tells_leave(originals: &Originals, frames: &Frames, told: bool) -> bool
-    ensures { result ≡ (not told && leaves_in originals.now.setup frames.now.frames) }
+fn tells_leave(originals: &Originals, frames: &Frames, delivered: bool) -> bool
+    ensures { result ≡ (not delivered && leaves_in originals.now.setup frames.now.frames) }
 {
-    !told && leaves(originals, frames)
+    !delivered && leaves(originals, frames)
 }
 
 /// Whether nothing is due.
@@ -205,7 +205,7 @@ pub fn go_by_attempt(
     originals: &mut Originals,
     parts: &mut Parts,
     initializing: &mut Stack<Initialization>,
-    told: bool,
+    delivered: bool,
     passed: &mut u64,
 ) -> Result<Option<Due>, NoMemory>
     requires linked { originals.old.loaded ≡ parts.old.shared.loaded }
@@ -218,7 +218,7 @@ pub fn go_by_attempt(
     ensures reaches { let s = state_of initializing.old parts.old in IfOk result
         (λ o. IfSome o (λ due.
         pause_at (state_of initializing.new parts.new) passed.new due
-        ≡ tried_in originals.old.setup told passed.old s)) }
+        ≡ tried_in originals.old.setup delivered passed.old s)) }
     ensures loads { let w = originals.old.setup in let s = state_of initializing.old parts.old in
         IfOk result (λ o. IfNone o
         (state_of initializing.new parts.new ≡ with_loaded (loads_in w s) s)) }
@@ -227,7 +227,7 @@ pub fn go_by_attempt(
     if !goes_on(parts, initializing) {
         return Ok(Some(Due::Nothing));
     }
-    if tells_leave(originals, &parts.frames, told) {
+    if tells_leave(originals, &parts.frames, delivered) {
         return Ok(Some(Due::Ends(EventKind::Leave)));
     }
     try_line(alloc, originals, parts, initializing, passed)

@@ -137,8 +137,8 @@ pub fn raise_with(
     exception: Exception,
     message: &[u16],
 ) -> Result<(), NoMemory>
-    ensures { let told = Some message.now in
-        OnOk result (parts.new ≡ raising originals.now.setup exception told parts.old) }
+    ensures { let delivered = Some message.now in
+        OnOk result (parts.new ≡ raising originals.now.setup exception delivered parts.old) }
 {
     throw_kind_with(originals, parts, originals.kind_of(exception), message)
 }

@@ -25,4 +25,4 @@ returns-in_err-extend_from_slice-clause-taken g c =
       length-take (c.min-room.result + 1) c.loop-chunk.chunk,
     ) in
     rest-of-unkept _ (g.I.Source.left c.loop-chunk.source) _ c.loop-chunk.bytes _ c.in_ok-count.count _ few c.loop-chunk.invariant.1
-    c.in_ok-count.ensures.front c.from_residual-in_err-extend_from_slice.ensures.1
+    c.in_ok-count.ensures.prefix c.from_residual-in_err-extend_from_slice.ensures.1

@@ -7,7 +7,7 @@ use Rattle.jfluid_cli.proofs.images.put_records.Given as goal
 pub record Puts (g : goal.Over) (l : goal.Live-loop-swap g) : Type 0 where
   pub put : g.G.Sink.taken l.images
       ≡ append_known (g.G.Sink.taken l.fn.images) (swap_records (take l.swap-index l.swaps))
-  pub calm : g.G.Sink.faults l.images ≡ g.G.Sink.faults l.fn.images
+  pub without_fault : g.G.Sink.faults l.images ≡ g.G.Sink.faults l.fn.images
 
 abbrev pub invariant-loop-swap : goal.invariant-loop-swap
 invariant-loop-swap g l = Puts g l

@@ -24,7 +24,7 @@ returns-in-Err-clause-cause g c = λ named.
     let mid = files_view (g.F.Files.faults c.loop-at.files) (g.F.Files.last_failed c.loop-at.files) in
     let new = files_view (g.F.Files.faults c.fetch.new.files) (g.F.Files.last_failed c.fetch.new.files) in
     one-fault named (texts c.args.names.now) c.loop-at.at c.word_at.result.now _ mid new
-    c.in-Err.refusal is.there c.loop-at.invariant.calm c.in-Err.ensures.failed
+    c.in-Err.refusal is.there c.loop-at.invariant.without_fault c.in-Err.ensures.failed
 
 pub loop-at-preserved : goal.loop-at-preserved
 loop-at-preserved g c =
@@ -38,5 +38,5 @@ loop-at-preserved g c =
           (subst (λ (told : Option Told). IsFrontFor told c.word_at.result.now c.in-Ok.bytes)
           c.loop-at.invariant.stay c.in-Ok.ensures.found));
       stay = c.in-Ok.ensures.stay ∙ c.loop-at.invariant.stay;
-      calm = c.in-Ok.ensures.calm refl ∙ c.loop-at.invariant.calm;
+      without_fault = c.in-Ok.ensures.without_fault refl ∙ c.loop-at.invariant.without_fault;
     }

@@ -8,12 +8,12 @@ use Rattle.jfluid_cli.specs.Words.{Command, command_with}
 use Rattle.jfluid_cli.proofs.Early.{due-fetch, due-mainless, fetched, loaded, made-command}
 use Rattle.jfluid_cli.proofs.loading.load_files.Goals as goal
 
-pub returns-in_default-clause-early : goal.returns-in_default-clause-early
-returns-in_default-clause-early g c = λ given with_plan told.
+pub returns-in_default-clause-before_the_run : goal.returns-in_default-clause-before_the_run
+returns-in_default-clause-before_the_run g c = λ given with_plan told.
     due-mainless given (read_in c.args.words.now) c.args.plan.now with_plan c.in_default.ensures.chosen
 
-pub returns-in-Err-clause-early : goal.returns-in-Err-clause-early
-returns-in-Err-clause-early g c = λ given with_plan told.
+pub returns-in-Err-clause-before_the_run : goal.returns-in-Err-clause-before_the_run
+returns-in-Err-clause-before_the_run g c = λ given with_plan told.
     let words = read_in c.args.words.now in
     let of = chosen_in c.in-Some.command in
     due-fetch given (command_with words c.args.plan.now of) (g.F.Files.contents c.args.files.now)
@@ -39,12 +39,12 @@ returns-in-Ok-read_program-clause-ok g c = λ given with_plan told.
           c.in-Ok-read_program.ensures.alone);
     }
 
-pub returns-in-Err-read_program-clause-early : goal.returns-in-Err-read_program-clause-early
-returns-in-Err-read_program-clause-early g c = λ given with_plan told.
+pub returns-in-Err-read_program-clause-before_the_run : goal.returns-in-Err-read_program-clause-before_the_run
+returns-in-Err-read_program-clause-before_the_run g c = λ given with_plan told.
     let words = read_in c.args.words.now in
     let of = chosen_in c.in-Some.command in
     let command : Command = command_with words c.args.plan.now of in
-    c.in-Err-read_program.ensures.early given
+    c.in-Err-read_program.ensures.before_the_run given
     (fetched given command (g.F.Files.contents c.args.files.now) c.in-Ok.contents c.as_slice.result.now
     (made-command given words c.args.plan.now of with_plan c.in-Some.ensures.chosen) c.requires.own told
     (subst (λ (names : List (List ℕ)). AreFetched (g.F.Files.contents c.args.files.now) names c.in-Ok.contents)

@@ -7,7 +7,7 @@ use Rattle.command_line.specs.Chosen.{chosen_in}
 use Rattle.command_line.specs.Words.{read_in}
 use Rattle.jfluid_cli.specs.declared.refusal.Refusal.{Refusal}
 use Rattle.jfluid_cli.specs.Refusals.{status_of}
-use Rattle.jfluid_cli.specs.Stages.{IsEarly}
+use Rattle.jfluid_cli.specs.Stages.{IsBeforeTheRun}
 use Rattle.jfluid_cli.specs.Words.{Command, command_with}
 use Rattle.jfluid_cli.proofs.Admitted.{acts-in-order}
 use Rattle.jfluid_cli.proofs.Alternating.{acts-alternating}
@@ -26,8 +26,8 @@ admit_generated-requires-clause-most c =
 pub admit_generated-requires-clause-heap : goal.admit_generated-requires-clause-heap
 admit_generated-requires-clause-heap c = c.requires.within.heap
 
-pub returns-in_default-clause-early : goal.returns-in_default-clause-early
-returns-in_default-clause-early c = λ given with_plan.
+pub returns-in_default-clause-before_the_run : goal.returns-in_default-clause-before_the_run
+returns-in_default-clause-before_the_run c = λ given with_plan.
     due-mainless given (read_in c.args.words.now) c.args.plan.now with_plan c.in_default.ensures.chosen
 
 -- ---- what runs
@@ -74,16 +74,16 @@ returns-in-Ok-clause-acts c =
 
 -- ---- what does not
 
-pub returns-in-Err-clause-early : goal.returns-in-Err-clause-early
-returns-in-Err-clause-early c = λ given with_plan.
+pub returns-in-Err-clause-before_the_run : goal.returns-in-Err-clause-before_the_run
+returns-in-Err-clause-before_the_run c = λ given with_plan.
     let words = read_in c.args.words.now in
     let of = chosen_in c.in-Some.command in
-    subst (IsEarly given) (sym c.refusal_for.ensures)
+    subst (IsBeforeTheRun given) (sym c.refusal_for.ensures)
     (due-generated given (command_with words c.args.plan.now of) c.args.generation c.in-Err.fault
     (made-command given words c.args.plan.now of with_plan c.in-Some.ensures.chosen)
     (made-generated words c.args.plan.now of c.args.generation c.requires.sound c.requires.own
     c.in-Some.ensures.chosen) c.in-Err.ensures.refused)
 
-pub returns-in-Err-clause-calm : goal.returns-in-Err-clause-calm
-returns-in-Err-clause-calm c =
+pub returns-in-Err-clause-without_fault : goal.returns-in-Err-clause-without_fault
+returns-in-Err-clause-without_fault c =
     subst (λ (e : Refusal). status_of e ≢ 7) (sym c.refusal_for.ensures) (admission-calm c.in-Err.fault)

@@ -2,7 +2,7 @@ use Rattle.std.proofs.Common.{subst, sym, arith, length, ◌≤◌}
 use Rattle.std.specs.Prelude.{◌≢◌}
 use Rattle.jfluid_cli.specs.declared.refusal.Refusal.{Refusal}
 use Rattle.jfluid_cli.specs.Refusals.{status_of}
-use Rattle.jfluid_cli.specs.Stages.{IsEarly}
+use Rattle.jfluid_cli.specs.Stages.{IsBeforeTheRun}
 use Rattle.jfluid_cli.specs.Asking.{asked_for}
 use Rattle.jfluid_cli.specs.Contents.{SpellsAlone}
 use Rattle.jfluid_cli.proofs.Early.{admission-calm, due-admission, due-unread}
@@ -23,8 +23,8 @@ admit-requires-clause-heap c = c.requires.within.heap
 
 -- ---- what was not read
 
-pub returns-in-Err-clause-early : goal.returns-in-Err-clause-early
-returns-in-Err-clause-early c g f =
+pub returns-in-Err-clause-before_the_run : goal.returns-in-Err-clause-before_the_run
+returns-in-Err-clause-before_the_run c g f =
     due-unread g (asked_for c.args.main.now c.args.plan.now) c.args.contents.now c.in-Err.refusal f
     c.in-Err.ensures.errors
 
@@ -55,12 +55,12 @@ returns-in-Ok-admit-clause-acts c = record {
 
 -- ---- what does not
 
-pub returns-in-Err-admit-clause-early : goal.returns-in-Err-admit-clause-early
-returns-in-Err-admit-clause-early c g f =
-    subst (IsEarly g) (sym c.refusal_for.ensures)
+pub returns-in-Err-admit-clause-before_the_run : goal.returns-in-Err-admit-clause-before_the_run
+returns-in-Err-admit-clause-before_the_run c g f =
+    subst (IsBeforeTheRun g) (sym c.refusal_for.ensures)
     (due-admission g (asked_for c.args.main.now c.args.plan.now) c.args.contents.now c.in-Ok.classes
     c.in-Err-admit.fault f c.in-Ok.ensures.found c.in-Err-admit.ensures.admitted)
 
-pub returns-in-Err-admit-clause-calm : goal.returns-in-Err-admit-clause-calm
-returns-in-Err-admit-clause-calm c =
+pub returns-in-Err-admit-clause-without_fault : goal.returns-in-Err-admit-clause-without_fault
+returns-in-Err-admit-clause-without_fault c =
     subst (λ (e : Refusal). status_of e ≢ 7) (sym c.refusal_for.ensures) (admission-calm c.in-Err-admit.fault)

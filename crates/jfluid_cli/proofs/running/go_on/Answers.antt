@@ -1,5 +1,5 @@
 use Rattle.std.proofs.Common.{subst}
-use Rattle.jf_bytes.specs.Streams.{PutsFront}
+use Rattle.jf_bytes.specs.Streams.{PutsPrefix}
 use Rattle.jfluid_cli.proofs.Outputs.{front-longer}
 use Rattle.jfluid_cli.proofs.Underway.{one-slice, taken-acts, taken-written}
 use Rattle.jfluid_cli.proofs.running.go_on.Goals as goal
@@ -11,16 +11,16 @@ returns-clause-ok g c =
     c.steps_of-steps.ensures.some c.steps_of-steps.ensures.within c.steps_of-steps.ensures.before
     (taken-acts c.args.session.now c.take_due.new.session c.in-Ok.next c.in-Ok.ensures.ok c.requires.acts)
 
-pub returns-in_err-ended-clause-front : goal.returns-in_err-ended-clause-front
-returns-in_err-ended-clause-front g c =
-    subst (PutsFront (g.O.Sink.taken c.args.out.now) (g.O.Sink.taken c.run_slice.new.out))
+pub returns-in_err-ended-clause-prefix : goal.returns-in_err-ended-clause-prefix
+returns-in_err-ended-clause-prefix g c =
+    subst (PutsPrefix (g.O.Sink.taken c.args.out.now) (g.O.Sink.taken c.run_slice.new.out))
     (taken-written c.args.session.now c.take_due.new.session c.in-Ok.next c.in-Ok.ensures.ok c.args.budget)
     (front-longer c.take_due.new.session c.steps_of-steps.result c.args.budget (g.O.Sink.taken c.args.out.now)
-    (g.O.Sink.taken c.run_slice.new.out) c.steps_of-steps.ensures.within c.run_slice.ensures.front)
+    (g.O.Sink.taken c.run_slice.new.out) c.steps_of-steps.ensures.within c.run_slice.ensures.prefix)
 
-pub returns-clause-front : goal.returns-clause-front
-returns-clause-front g c =
-    subst (PutsFront (g.O.Sink.taken c.args.out.now) (g.O.Sink.taken c.run_slice.new.out))
+pub returns-clause-prefix : goal.returns-clause-prefix
+returns-clause-prefix g c =
+    subst (PutsPrefix (g.O.Sink.taken c.args.out.now) (g.O.Sink.taken c.run_slice.new.out))
     (taken-written c.args.session.now c.take_due.new.session c.in-Ok.next c.in-Ok.ensures.ok c.args.budget)
     (front-longer c.take_due.new.session c.steps_of-steps.result c.args.budget (g.O.Sink.taken c.args.out.now)
-    (g.O.Sink.taken c.run_slice.new.out) c.steps_of-steps.ensures.within c.run_slice.ensures.front)
+    (g.O.Sink.taken c.run_slice.new.out) c.steps_of-steps.ensures.within c.run_slice.ensures.prefix)

@@ -17,7 +17,7 @@ take_act-requires-clause-fits c =
     (subst (λ (p : Program). CanBeTaken p.acts) (sym (ap (λ (s : Profiling). s.program) same)) c.requires.acts)
     c.loop-next.invariant.along c.in-Some.ensures.due
     (λ early. ap (λ (s : Profiling). s.clock) same
-    ∙ c.requires.early (sym (ap (λ (s : Profiling). s.started) same) ∙ early))
+    ∙ c.requires.before_the_run (sym (ap (λ (s : Profiling). s.started) same) ∙ early))
 
 pub loop-next-preserved : goal.loop-next-preserved
 loop-next-preserved c =

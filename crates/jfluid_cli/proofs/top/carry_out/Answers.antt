@@ -15,21 +15,21 @@ pub returns-in-Err-clause-carried : goal.returns-in-Err-clause-carried
 returns-in-Err-clause-carried g c = λ list read. carried-refused _ (read_in c.args.words.now) c.in-Err.refusal read c.requires.empty
     (record { taken = refl; faults = refl }) (record { taken = refl; faults = refl })
     (record { taken = refl; faults = refl }) refl
-    (c.in-Err.ensures.early _ read refl) c.in-Err.ensures.cause
+    (c.in-Err.ensures.before_the_run _ read refl) c.in-Err.ensures.cause
 
 pub returns-in-Err-take-clause-carried : goal.returns-in-Err-take-clause-carried
 returns-in-Err-take-clause-carried g c =
     let l = c.in-Ok.loaded in
     λ list read. carried-input _ c.in-Err-take.refusal c.requires.empty
     (record { taken = refl; faults = refl }) (record { taken = refl; faults = refl })
-    (record { taken = refl; faults = refl }) (c.in-Ok.ensures.calm refl)
+    (record { taken = refl; faults = refl }) (c.in-Ok.ensures.without_fault refl)
     (of-program _ l.plan l.budget l.contents l.program (c.in-Ok.ensures.ok _ read refl))
     c.in-Err-take.ensures.refused
 
 pub returns-in_default-clause-carried : goal.returns-in_default-clause-carried
 returns-in_default-clause-carried g c = λ list read. carried-memory _ c.requires.empty
     (record { taken = refl; faults = refl }) (record { taken = refl; faults = refl })
-    (record { taken = refl; faults = refl }) (c.in-Ok.ensures.calm refl)
+    (record { taken = refl; faults = refl }) (c.in-Ok.ensures.without_fault refl)
     (rest-of-input _ _ c.in-Ok-take.bytes c.in-Ok-take.ensures.short c.in-Ok-take.ensures.taken)
 
 pub run_made-requires-clause-acts : goal.run_made-requires-clause-acts
@@ -62,6 +62,6 @@ returns-clause-carried g c =
       rest = rest-of-input _ _ c.in-Ok-take.bytes c.in-Ok-take.ensures.short c.in-Ok-take.ensures.taken;
       ended = c.in-Ok-take.ensures.ended refl;
     })
-    c.run_made.ensures.same c.run_made.ensures.run c.run_made.ensures.front c.run_made.ensures.images
+    c.run_made.ensures.same c.run_made.ensures.run c.run_made.ensures.prefix c.run_made.ensures.images
     c.run_made.ensures.unasked
-    (c.in-Ok.ensures.calm refl) (c.in-Ok-take.ensures.calm refl))
+    (c.in-Ok.ensures.without_fault refl) (c.in-Ok-take.ensures.without_fault refl))

@@ -8,8 +8,8 @@ use Rattle.profile_session.proofs.beginning.begin.Goals as goal
 pub reveal_first-requires-clause-whole : goal.reveal_first-requires-clause-whole
 reveal_first-requires-clause-whole c = ap (λ (v : View). v.broken) (c.deref.ensures ∙ c.requires.fresh)
 
-pub reveal_first-requires-clause-early : goal.reveal_first-requires-clause-early
-reveal_first-requires-clause-early c = ap (λ (v : View). v.started) (c.deref.ensures ∙ c.requires.fresh)
+pub reveal_first-requires-clause-before_the_run : goal.reveal_first-requires-clause-before_the_run
+reveal_first-requires-clause-before_the_run c = ap (λ (v : View). v.started) (c.deref.ensures ∙ c.requires.fresh)
 
 pub reveal_first-requires-clause-profilable : goal.reveal_first-requires-clause-profilable
 reveal_first-requires-clause-profilable c = subst (λ (v : View). CanBeProfiled v.program) (sym c.deref.ensures) c.requires.profilable

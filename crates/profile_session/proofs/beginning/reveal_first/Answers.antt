@@ -31,19 +31,19 @@ loaded-requires-clause-revelation c =
 pub loaded-requires-clause-ahead : goal.loaded-requires-clause-ahead
 loaded-requires-clause-ahead c =
     let v = c.args.vm.now in
-    ahead-first v c.linker.result.now c.in_ok-reveal.reveal c.requires.profilable.whole (linked c.linker.result.now v c.linker.ensures.program (c.linker.ensures.loaded c.requires.whole)) c.requires.early
+    ahead-first v c.linker.result.now c.in_ok-reveal.reveal c.requires.profilable.whole (linked c.linker.result.now v c.linker.ensures.program (c.linker.ensures.loaded c.requires.whole)) c.requires.before_the_run
     c.in_ok-reveal.ensures.now
 
-pub loaded-requires-clause-front : goal.loaded-requires-clause-front
-loaded-requires-clause-front c = front-first c.linker.result.now.loaded c.in_ok-reveal.reveal c.in_ok-reveal.ensures.now
+pub loaded-requires-clause-prefix : goal.loaded-requires-clause-prefix
+loaded-requires-clause-prefix c = front-first c.linker.result.now.loaded c.in_ok-reveal.reveal c.in_ok-reveal.ensures.now
 
 pub loaded-requires-clause-order : goal.loaded-requires-clause-order
 loaded-requires-clause-order c =
     let v = c.args.vm.now in
-    order-first v c.linker.result.now c.requires.profilable.whole (linked c.linker.result.now v c.linker.ensures.program (c.linker.ensures.loaded c.requires.whole)) c.requires.early
+    order-first v c.linker.result.now c.requires.profilable.whole (linked c.linker.result.now v c.linker.ensures.program (c.linker.ensures.loaded c.requires.whole)) c.requires.before_the_run
 
 pub returns : goal.returns
 returns c =
     let v = c.args.vm.now in
     first-of v c.in_ok-reveal.reveal c.loaded.new.self c.show.new.self c.linker.result.now (linked c.linker.result.now v c.linker.ensures.program (c.linker.ensures.loaded c.requires.whole))
-    c.requires.early c.in_ok-reveal.ensures.now c.in_ok-loaded.ensures.revelation c.in_ok-loaded.ensures.now c.show.ensures.revelation c.show.ensures.now c.show.ensures.shown
+    c.requires.before_the_run c.in_ok-reveal.ensures.now c.in_ok-loaded.ensures.revelation c.in_ok-loaded.ensures.now c.show.ensures.revelation c.show.ensures.now c.show.ensures.shown

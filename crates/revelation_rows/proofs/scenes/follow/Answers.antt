@@ -8,8 +8,8 @@ loaded-requires-clause-revelation c = c.requires.along.revelation
 pub loaded-requires-clause-ahead : goal.loaded-requires-clause-ahead
 loaded-requires-clause-ahead c = along-ahead c.args.linker.now c.args.reveal.now c.requires.along c.requires.root
 
-pub loaded-requires-clause-front : goal.loaded-requires-clause-front
-loaded-requires-clause-front c = c.requires.along.front
+pub loaded-requires-clause-prefix : goal.loaded-requires-clause-prefix
+loaded-requires-clause-prefix c = c.requires.along.prefix
 
 pub loaded-requires-clause-order : goal.loaded-requires-clause-order
 loaded-requires-clause-order c = c.requires.along.order

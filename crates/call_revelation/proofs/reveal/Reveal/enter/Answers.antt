@@ -40,7 +40,7 @@ returns-in_err-add_more-clause-grown c =
     (grown-more p old (record old { book = c.read.new.self; named = c.add_read.new.self }) old.targets c.add_more.new.order
     (grown-read p old c.read.new.self c.add_read.new.self kept c.read.ensures.book c.read.ensures.kept
     (c.add_read.ensures.handed p kept.lineage kept.named) c.add_read.ensures.more)
-    (front-self old.targets) c.add_more.ensures.front)
+    (front-self old.targets) c.add_more.ensures.prefix)
 
 pub returns-in_err-add_more-2-clause-grown : goal.returns-in_err-add_more-2-clause-grown
 returns-in_err-add_more-2-clause-grown c =
@@ -51,7 +51,7 @@ returns-in_err-add_more-2-clause-grown c =
     (grown-more p old (record old { book = c.read.new.self; named = c.add_read.new.self }) c.add_more-2.new.order c.add_more.new.order
     (grown-read p old c.read.new.self c.add_read.new.self kept c.read.ensures.book c.read.ensures.kept
     (c.add_read.ensures.handed p kept.lineage kept.named) c.add_read.ensures.more)
-    c.add_more-2.ensures.front c.add_more.ensures.front)
+    c.add_more-2.ensures.prefix c.add_more.ensures.prefix)
 
 pub returns-in_err-push-clause-grown : goal.returns-in_err-push-clause-grown
 returns-in_err-push-clause-grown c =
@@ -64,7 +64,7 @@ returns-in_err-push-clause-grown c =
     (sym c.in_err-push.ensures.items)
     (grown-more p old (record old { book = c.read.new.self; named = named }) c.add_more-2.new.order c.add_more.new.order
     (grown-read p old c.read.new.self named kept c.read.ensures.book c.read.ensures.kept (c.add_read.ensures.handed p kept.lineage kept.named) c.add_read.ensures.more)
-    c.add_more-2.ensures.front c.add_more.ensures.front))
+    c.add_more-2.ensures.prefix c.add_more.ensures.prefix))
 
 pub returns-clause-revelation : goal.returns-clause-revelation
 returns-clause-revelation c =

@@ -12,8 +12,8 @@ use Rattle.call_revelation.proofs.reveal.Reveal.gain.Goals as goal
 pub returns-in_err-add-clause-lineage : goal.returns-in_err-add-clause-lineage
 returns-in_err-add-clause-lineage c = c.add.ensures.lineage c.args.linker.now.program c.requires.led c.requires.kept.lineage
 
-pub returns-in_err-add-clause-front : goal.returns-in_err-add-clause-front
-returns-in_err-add-clause-front c =
+pub returns-in_err-add-clause-prefix : goal.returns-in_err-add-clause-prefix
+returns-in_err-add-clause-prefix c =
     front-if (is_ok c.add.result) c.args.self.now.lineage.loaded c.add.new.self.loaded c.args.new c.add.ensures.loaded
 
 pub add_all_waiting-requires-clause-kept : goal.add_all_waiting-requires-clause-kept
@@ -29,15 +29,15 @@ add_all_waiting-requires-clause-ahead c =
 pub returns-in_err-add_all_waiting-clause-lineage : goal.returns-in_err-add_all_waiting-clause-lineage
 returns-in_err-add_all_waiting-clause-lineage c = c.add.ensures.lineage c.args.linker.now.program c.requires.led c.requires.kept.lineage
 
-pub returns-in_err-add_all_waiting-clause-front : goal.returns-in_err-add_all_waiting-clause-front
-returns-in_err-add_all_waiting-clause-front c =
+pub returns-in_err-add_all_waiting-clause-prefix : goal.returns-in_err-add_all_waiting-clause-prefix
+returns-in_err-add_all_waiting-clause-prefix c =
     front-if (is_ok c.add.result) c.args.self.now.lineage.loaded c.add.new.self.loaded c.args.new c.add.ensures.loaded
 
 pub returns-clause-lineage : goal.returns-clause-lineage
 returns-clause-lineage c = c.add.ensures.lineage c.args.linker.now.program c.requires.led c.requires.kept.lineage
 
-pub returns-clause-front : goal.returns-clause-front
-returns-clause-front c =
+pub returns-clause-prefix : goal.returns-clause-prefix
+returns-clause-prefix c =
     front-if (is_ok c.add.result) c.args.self.now.lineage.loaded c.add.new.self.loaded c.args.new c.add.ensures.loaded
 
 pub returns-in_err-add_calls_above-clause-handed : goal.returns-in_err-add_calls_above-clause-handed

@@ -6,7 +6,7 @@ use Rattle.call_revelation.proofs.Marking.{quieted, staler}
 use Rattle.call_revelation.proofs.reveal.Reveal.quiet.Goals as goal
 
 pub returns-in_err-add_more-clause-revelation : goal.returns-in_err-add_more-clause-revelation
-returns-in_err-add_more-clause-revelation c = λ p is. staler p c.args.self.now is c.add_more.new.order c.add_more.ensures.front
+returns-in_err-add_more-clause-revelation c = λ p is. staler p c.args.self.now is c.add_more.new.order c.add_more.ensures.prefix
 
 pub returns-clause-revelation : goal.returns-clause-revelation
 returns-clause-revelation c = λ p is.

@@ -25,7 +25,7 @@ invariant_of-result c = record {
 
 pub returns : goal.returns
 returns c =
-    plain-view c.in_ok-originals.originals.setup c.in_ok-originals.originals.loaded (record { moves = false; told = false; passed = 0 }) false false 0 (state_of c.new-2.result c.in_ok-parts.parts)
+    plain-view c.in_ok-originals.originals.setup c.in_ok-originals.originals.loaded (record { moves = false; delivered = false; passed = 0 }) false false 0 (state_of c.new-2.result c.in_ok-parts.parts)
     (λ whole. tidy-current c.in_ok-originals.originals.setup.versions (state_of c.new-2.result c.in_ok-parts.parts).stack
     (subst AreAllCurrent (sym c.in_ok-originals.ensures.versions) (original-current c.args.program)))
     ∙ fresh-seen c.in_ok-originals.originals.setup (state_of c.new-2.result c.in_ok-parts.parts) (c.in_ok-originals.ensures.set_up c.requires.fit c.requires.closed) (record {

@@ -20,8 +20,8 @@ pub pass_steps-made-requires-clause-sound : goal.pass_steps-made-requires-clause
 pass_steps-made-requires-clause-sound c =
     (c.self.invariant.machine.whole c.if-self.false).rests (ap is_resting (seen-is c.self.invariant c.self.view_is) ∙ c.requires.resting) c.if-not-self.false
 
-pub pass_steps-made-requires-clause-calm : goal.pass_steps-made-requires-clause-calm
-pass_steps-made-requires-clause-calm c = c.is_calm.ensures c.if-not-is_calm.false
+pub pass_steps-made-requires-clause-at_instruction : goal.pass_steps-made-requires-clause-at_instruction
+pass_steps-made-requires-clause-at_instruction c = c.is_at_instruction.ensures c.if-not-is_at_instruction.false
 
 pub invariant_of-self : goal.invariant_of-self
 invariant_of-self c = record {

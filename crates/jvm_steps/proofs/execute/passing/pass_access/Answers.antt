@@ -30,5 +30,5 @@ returns c =
     let went = subst (λ v. IfPassed c.pass_field.result (done_on (attempts (world_over v w.world.input) n p.shared p.frames) p.frames) c.args.line.now.next p.frames p.shared
     c.pass_field.new.frames c.pass_field.new.shared) c.linker-linker.ensures (c.pass_field.ensures.passed w.world.input) in
     let silent = subst (λ (v : LinkerView). loads_nothing v.program p.shared.loaded n (top_operands p.frames.frames) ≡ true) c.linker-linker.ensures c.pass_field.ensures.loads in
-    access-passes w c.requires.run c.args.initializing.now c.args.here c.args.line.now c.args.naming.now p c.requires.here c.requires.line c.requires.named c.requires.calm silent
+    access-passes w c.requires.run c.args.initializing.now c.args.here c.args.line.now c.args.naming.now p c.requires.here c.requires.line c.requires.named c.requires.at_instruction silent
     c.pass_field.result c.pass_field.new.frames c.pass_field.new.shared went

@@ -54,8 +54,8 @@ returns-in-Code c =
     p.frames.frames) c.in-Code.is said in
     let call = subst (λ v. IsCall c.in-Code.call (done_on (attempts (world_over v w.world.input) n p.shared p.frames) p.frames) p.shared) c.linker-linker.ensures code in
     let silent = subst (λ (v : LinkerView). loads_nothing v.program p.shared.loaded n (top_operands p.frames.frames) ≡ true) c.linker-linker.ensures c.known_call.ensures.loads in
-    let nothing = nothing-new w c.requires.run c.args.initializing.now c.args.here c.args.line.now c.args.naming.now p c.requires.here c.requires.line c.requires.named c.requires.calm silent in
-    called-passes w c.requires.run c.args.initializing.now c.args.here c.args.line.now c.args.naming.now p c.requires.here c.requires.line c.requires.named c.requires.calm nothing
+    let nothing = nothing-new w c.requires.run c.args.initializing.now c.args.here c.args.line.now c.args.naming.now p c.requires.here c.requires.line c.requires.named c.requires.at_instruction silent in
+    called-passes w c.requires.run c.args.initializing.now c.args.here c.args.line.now c.args.naming.now p c.requires.here c.requires.line c.requires.named c.requires.at_instruction nothing
     c.in-Code.call c.begin_call.result c.begin_call.new.parts call c.begin_call.ensures.few c.begin_call.ensures.fits c.begin_call.ensures.off c.begin_call.ensures.frames
     c.begin_call.ensures.same
 
@@ -71,10 +71,10 @@ returns-in-Native c =
     let call = subst (λ v. IsNativeCall (world_over v w.world.input) c.in-Native.native (done_on (attempts (world_over v w.world.input) n p.shared p.frames) p.frames) p.shared p.frames.frames)
     c.linker-linker.ensures native in
     let silent = subst (λ (v : LinkerView). loads_nothing v.program p.shared.loaded n (top_operands p.frames.frames) ≡ true) c.linker-linker.ensures c.known_call.ensures.loads in
-    native-passes w c.requires.run c.args.initializing.now c.args.here c.args.line.now c.args.naming.now p c.requires.here c.requires.line c.requires.named c.requires.calm silent
+    native-passes w c.requires.run c.args.initializing.now c.args.here c.args.line.now c.args.naming.now p c.requires.here c.requires.line c.requires.named c.requires.at_instruction silent
     c.do_native.result c.do_native.new.parts
     (subst (λ d. IfRan c.do_native.result d c.args.line.now.next (changed_in p) (changed_in c.do_native.new.parts)) (sym call.runs) c.do_native.ensures.ran)
     c.do_native.ensures.same
 
 pub returns-in_default : goal.returns-in_default
-returns-in_default c = passes_none c.args.originals.now.setup c.args.initializing.now c.args.parts.now c.requires.calm
+returns-in_default c = passes_none c.args.originals.now.setup c.args.initializing.now c.args.parts.now c.requires.at_instruction

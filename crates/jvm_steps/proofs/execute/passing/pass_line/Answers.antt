@@ -15,13 +15,13 @@ pub pass_return-requires-clause-line : goal.pass_return-requires-clause-line
 pass_return-requires-clause-line c = c.in-Some-line.ensures.line
 
 pub returns-in_default : goal.returns-in_default
-returns-in_default c = passes_none c.args.originals.now.setup c.args.initializing.now c.args.parts.now c.requires.calm
+returns-in_default c = passes_none c.args.originals.now.setup c.args.initializing.now c.args.parts.now c.requires.at_instruction
 
 pub returns-in_default-line : goal.returns-in_default-line
-returns-in_default-line c = passes_none c.args.originals.now.setup c.args.initializing.now c.args.parts.now c.requires.calm
+returns-in_default-line c = passes_none c.args.originals.now.setup c.args.initializing.now c.args.parts.now c.requires.at_instruction
 
 pub returns-in_default-action : goal.returns-in_default-action
-returns-in_default-action c = passes_none c.args.originals.now.setup c.args.initializing.now c.args.parts.now c.requires.calm
+returns-in_default-action c = passes_none c.args.originals.now.setup c.args.initializing.now c.args.parts.now c.requires.at_instruction
 
 pub pass_throw-requires-clause-here : goal.pass_throw-requires-clause-here
 pass_throw-requires-clause-here c = sym c.where_now.ensures ∙ c.in-Some.is

@@ -16,7 +16,7 @@ pass_access-requires-clause-known c =
     (λ n next. IsKnown (linker_in c.args.originals.now) n c.in-Some.known.now) c.in-Some.ensures
 
 pub returns-in_default : goal.returns-in_default
-returns-in_default c = passes_none c.args.originals.now.setup c.args.initializing.now c.args.parts.now c.requires.calm
+returns-in_default c = passes_none c.args.originals.now.setup c.args.initializing.now c.args.parts.now c.requires.at_instruction
 
 pub returns-then-is_told : goal.returns-then-is_told
-returns-then-is_told c = passes_none c.args.originals.now.setup c.args.initializing.now c.args.parts.now c.requires.calm
+returns-then-is_told c = passes_none c.args.originals.now.setup c.args.initializing.now c.args.parts.now c.requires.at_instruction

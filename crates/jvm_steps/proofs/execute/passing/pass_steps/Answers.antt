@@ -9,7 +9,7 @@ pub loop-made-init : goal.loop-made-init
 loop-made-init c = (
   c.plain_steps-made.ensures.within,
   passes-alone c.args.originals.now.setup c.args.initializing.now c.args.parts.now c.plain_steps-made.new.parts c.plain_steps-made.result
-      c.plain_steps-made.ensures.made c.requires.calm,
+      c.plain_steps-made.ensures.made c.requires.at_instruction,
 )
 
 pub loop-made-preserved : goal.loop-made-preserved
@@ -21,7 +21,7 @@ loop-made-preserved c =
       omega (arith, c.loop-made-test.true, c.plain_steps-made-in-loop-made.ensures.within),
       passes-on w ms c.args.parts.now c.pass_line.new.parts c.plain_steps-made-in-loop-made.new.parts (c.loop-made.made + 1) c.plain_steps-made-in-loop-made.result first
           (passes-alone w ms c.pass_line.new.parts c.plain_steps-made-in-loop-made.new.parts c.plain_steps-made-in-loop-made.result
-          c.plain_steps-made-in-loop-made.ensures.made first.calm),
+          c.plain_steps-made-in-loop-made.ensures.made first.at_instruction),
     )
 
 pub pass_line-requires-clause-linked : goal.pass_line-requires-clause-linked
@@ -32,8 +32,8 @@ pass_line-requires-clause-sound c =
     leads-sound c.args.originals.now.setup c.requires.run (state_of c.args.initializing.now c.args.parts.now) c.loop-made.made (state_of c.args.initializing.now c.loop-made.parts)
     c.loop-made.invariant.1.leads c.requires.sound
 
-pub pass_line-requires-clause-calm : goal.pass_line-requires-clause-calm
-pass_line-requires-clause-calm c = c.loop-made.invariant.1.calm
+pub pass_line-requires-clause-at_instruction : goal.pass_line-requires-clause-at_instruction
+pass_line-requires-clause-at_instruction c = c.loop-made.invariant.1.at_instruction
 
 pub returns-else-pass_line-clause-made : goal.returns-else-pass_line-clause-made
 returns-else-pass_line-clause-made c =

@@ -14,10 +14,10 @@ use Rattle.jvm_steps.proofs.Silent.SilentSteps.{passes_none}
 use Rattle.jvm_steps.proofs.execute.passing.pass_throw.Goals as goal
 
 pub returns-in_default : goal.returns-in_default
-returns-in_default c = passes_none c.args.originals.now.setup c.args.initializing.now c.args.parts.now c.requires.calm
+returns-in_default c = passes_none c.args.originals.now.setup c.args.initializing.now c.args.parts.now c.requires.at_instruction
 
 pub returns-in_default-caught_below : goal.returns-in_default-caught_below
-returns-in_default-caught_below c = passes_none c.args.originals.now.setup c.args.initializing.now c.args.parts.now c.requires.calm
+returns-in_default-caught_below c = passes_none c.args.originals.now.setup c.args.initializing.now c.args.parts.now c.requires.at_instruction
 
 pub returns : goal.returns
 returns c =
@@ -26,7 +26,7 @@ returns c =
     let r = c.in-Some.object in
     let thrown = subst (λ o. IfSome o (λ object. throws w.world p.shared (ref_of (top_operands p.frames.frames)) ≡ Throws object)) c.in-Some.is c.thrown_object.ensures in
     let found = subst (λ o. IfSome o (λ target. CatchesBelow w c.args.initializing.now c.args.here p.frames.frames c.class_of-class.result target)) c.in-Some-caught_below.is c.caught_below.ensures in
-    caught-passes w c.requires.run c.args.initializing.now c.args.here c.args.line.now p c.requires.here c.requires.line c.requires.throws c.requires.calm
+    caught-passes w c.requires.run c.args.initializing.now c.args.here c.args.line.now p c.requires.here c.requires.line c.requires.throws c.requires.at_instruction
     r c.in-Some-caught_below.target c.catch_below.result c.catch_below.new.frames
     (subst (λ class. CatchesBelow w c.args.initializing.now c.args.here p.frames.frames class c.in-Some-caught_below.target)
     (c.class_of-class.ensures ∙ ap (λ (p : Program). option_map_or (class_of_kind p) (kind_at c.in-Some.object c.args.parts.now.shared.heap) 0) c.program.ensures.program) found)

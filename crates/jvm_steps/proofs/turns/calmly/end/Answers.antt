@@ -18,5 +18,5 @@ returns-clause-some c =
     let w = c.args.originals.now.setup in
     let ms = c.args.initializing.now in
     subst (λ b. TriesCalmly w ms b c.args.parts.now (Ends kind.Leave) c.args.parts.now) (sym c.if-told.false)
-    (stops-calmly w c.requires.run ms c.args.parts.now c.args.here c.args.line.now c.requires.here c.requires.calm c.requires.line (ap returns_by c.requires.ends)
+    (stops-calmly w c.requires.run ms c.args.parts.now c.args.here c.args.line.now c.requires.here c.requires.at_instruction c.requires.line (ap returns_by c.requires.ends)
     (sym c.is_marked.ensures ∙ c.if-not-is_marked.false))

@@ -32,7 +32,7 @@ returns-clause-goes c =
     let none = c.if-hand-gt0.false in
     calm-tries c.args.originals.now.setup c.args.initializing.now c.args.hand c.args.parts.now c.gone_to-2.result c.gone_to-2.ensures.left c.try_calmly.new.parts c.in-Some.due c.if-hand.false
     (omega (arith, none))
-    (subst (λ o. IfSome o (λ due. TriesCalmly c.args.originals.now.setup c.args.initializing.now c.args.hand.told c.args.parts.now due c.try_calmly.new.parts)) c.in-Some.is c.try_calmly.ensures.some)
+    (subst (λ o. IfSome o (λ due. TriesCalmly c.args.originals.now.setup c.args.initializing.now c.args.hand.delivered c.args.parts.now due c.try_calmly.new.parts)) c.in-Some.is c.try_calmly.ensures.some)
     c.gone_to-2.ensures.due (c.gone_to-2.ensures.passed ∙ c.passed_there.ensures)
 
 pub returns-clause-hands : goal.returns-clause-hands
@@ -43,4 +43,4 @@ returns-clause-sound c =
     sound-calmly c.args.originals.now.setup c.args.initializing.now c.args.hand c.args.parts.now c.gone_to-2.result c.try_calmly.new.parts (returns-clause-goes c) c.requires.fit
 
 pub returns-clause-starts : goal.returns-clause-starts
-returns-clause-starts c = λ moves untold start. absurd (false≢true (sym c.if-hand.false ∙ moves))
+returns-clause-starts c = λ moves undelivered start. absurd (false≢true (sym c.if-hand.false ∙ moves))

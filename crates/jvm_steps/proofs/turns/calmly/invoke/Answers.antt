@@ -11,7 +11,7 @@ invoke_known-requires-clause-known c =
     (λ n next. IsKnown (linker_in c.args.originals.now) n c.in-Some.known.now) c.in-Some.ensures
 
 pub returns-in_default : goal.returns-in_default
-returns-in_default c = λ told. refl
+returns-in_default c = λ delivered. refl
 
 pub returns-then-not-is_method : goal.returns-then-not-is_method
-returns-then-not-is_method c = λ told. refl
+returns-then-not-is_method c = λ delivered. refl

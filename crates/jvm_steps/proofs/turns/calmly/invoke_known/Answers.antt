@@ -40,13 +40,13 @@ returns-in-Code c =
     p.frames.frames) c.in-Code.is said in
     let call = subst (λ v. IsCall c.in-Code.call (done_on (attempts (world_over v w.world.input) n p.shared p.frames) p.frames) p.shared) c.linker-linker.ensures code in
     let silent = subst (λ (v : LinkerView). loads_nothing v.program p.shared.loaded n (top_operands p.frames.frames) ≡ true) c.linker-linker.ensures c.known_call.ensures.loads in
-    let nothing = nothing-new w c.requires.run c.args.initializing.now c.args.here c.args.line.now c.args.naming.now p c.requires.here c.requires.line c.requires.named c.requires.calm silent in
-    called-tries w c.requires.run c.args.initializing.now c.args.here c.args.line.now c.args.naming.now p c.requires.here c.requires.line c.requires.named c.requires.calm nothing
+    let nothing = nothing-new w c.requires.run c.args.initializing.now c.args.here c.args.line.now c.args.naming.now p c.requires.here c.requires.line c.requires.named c.requires.at_instruction silent in
+    called-tries w c.requires.run c.args.initializing.now c.args.here c.args.line.now c.args.naming.now p c.requires.here c.requires.line c.requires.named c.requires.at_instruction nothing
     c.in-Code.call c.begin_marked.result c.begin_marked.new.parts call c.begin_marked.ensures.few c.begin_marked.ensures.fits c.begin_marked.ensures.marked c.begin_marked.ensures.frames
     c.begin_marked.ensures.same
 
 pub returns-in-Native : goal.returns-in-Native
-returns-in-Native c = λ told. refl
+returns-in-Native c = λ delivered. refl
 
 pub returns-in_default : goal.returns-in_default
-returns-in_default c = λ told. refl
+returns-in_default c = λ delivered. refl

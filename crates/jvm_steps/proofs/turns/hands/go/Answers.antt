@@ -8,18 +8,18 @@ use Rattle.jvm_steps.proofs.turns.hands.go.Goals as goal
 pub returns-then-hand-clause-linked : goal.returns-then-hand-clause-linked
 returns-then-hand-clause-linked c =
     c.requires.linked
-    ∙ moves-linked c.args.originals.now.setup c.requires.fit (state_of c.args.initializing.now c.args.parts.now) (state_of c.go_by_moves.new.initializing c.go_by_moves.new.parts) c.args.hand.told c.args.hand.passed
+    ∙ moves-linked c.args.originals.now.setup c.requires.fit (state_of c.args.initializing.now c.args.parts.now) (state_of c.go_by_moves.new.initializing c.go_by_moves.new.parts) c.args.hand.delivered c.args.hand.passed
     c.go_by_moves.new.passed c.in_ok-due.due c.in_ok-due.ensures
 
 pub returns-then-hand-clause-sound : goal.returns-then-hand-clause-sound
 returns-then-hand-clause-sound c = λ is.
-    moves-sound c.args.originals.now.setup c.requires.fit (state_of c.args.initializing.now c.args.parts.now) (state_of c.go_by_moves.new.initializing c.go_by_moves.new.parts) c.args.hand.told c.args.hand.passed
+    moves-sound c.args.originals.now.setup c.requires.fit (state_of c.args.initializing.now c.args.parts.now) (state_of c.go_by_moves.new.initializing c.go_by_moves.new.parts) c.args.hand.delivered c.args.hand.passed
     c.go_by_moves.new.passed c.in_ok-due.due c.in_ok-due.ensures is
 
 pub returns-then-hand-clause-starts : goal.returns-then-hand-clause-starts
-returns-then-hand-clause-starts c = λ moves untold start.
-    start-sound c.args.originals.now.setup c.requires.fit (state_of c.args.initializing.now c.args.parts.now) (state_of c.go_by_moves.new.initializing c.go_by_moves.new.parts) c.args.hand.told c.args.hand.passed
-    c.go_by_moves.new.passed c.in_ok-due.due c.in_ok-due.ensures untold start
+returns-then-hand-clause-starts c = λ moves undelivered start.
+    start-sound c.args.originals.now.setup c.requires.fit (state_of c.args.initializing.now c.args.parts.now) (state_of c.go_by_moves.new.initializing c.go_by_moves.new.parts) c.args.hand.delivered c.args.hand.passed
+    c.go_by_moves.new.passed c.in_ok-due.due c.in_ok-due.ensures undelivered start
 
 pub returns-then-hand-clause-hands : goal.returns-then-hand-clause-hands
 returns-then-hand-clause-hands c = λ homes turn live has hand.
@@ -32,19 +32,19 @@ pub go_by_attempt-requires-clause-sound : goal.go_by_attempt-requires-clause-sou
 go_by_attempt-requires-clause-sound c = c.requires.sound c.if-hand.false
 
 pub returns-in_default-clause-starts : goal.returns-in_default-clause-starts
-returns-in_default-clause-starts c = λ moves untold start. absurd (false≢true (sym c.if-hand.false ∙ moves))
+returns-in_default-clause-starts c = λ moves undelivered start. absurd (false≢true (sym c.if-hand.false ∙ moves))
 
 pub returns-clause-starts : goal.returns-clause-starts
-returns-clause-starts c = λ moves untold start. absurd (false≢true (sym c.if-hand.false ∙ moves))
+returns-clause-starts c = λ moves undelivered start. absurd (false≢true (sym c.if-hand.false ∙ moves))
 
 pub returns-in_default-clause-sound : goal.returns-in_default-clause-sound
 returns-in_default-clause-sound c = λ is.
-    attempt-sound c.args.originals.now.setup c.requires.fit (state_of c.args.initializing.now c.args.parts.now) (state_of c.go_by_attempt.new.initializing c.go_by_attempt.new.parts) c.in_ok-gone.gone c.args.hand.told c.args.hand.passed c.go_by_attempt.new.passed
+    attempt-sound c.args.originals.now.setup c.requires.fit (state_of c.args.initializing.now c.args.parts.now) (state_of c.go_by_attempt.new.initializing c.go_by_attempt.new.parts) c.in_ok-gone.gone c.args.hand.delivered c.args.hand.passed c.go_by_attempt.new.passed
     c.in_ok-gone.ensures.some c.in_ok-gone.ensures.reaches c.in_ok-gone.ensures.loads is
 
 pub returns-clause-sound : goal.returns-clause-sound
 returns-clause-sound c = λ is.
-    attempt-sound c.args.originals.now.setup c.requires.fit (state_of c.args.initializing.now c.args.parts.now) (state_of c.go_by_attempt.new.initializing c.go_by_attempt.new.parts) c.in_ok-gone.gone c.args.hand.told c.args.hand.passed c.go_by_attempt.new.passed
+    attempt-sound c.args.originals.now.setup c.requires.fit (state_of c.args.initializing.now c.args.parts.now) (state_of c.go_by_attempt.new.initializing c.go_by_attempt.new.parts) c.in_ok-gone.gone c.args.hand.delivered c.args.hand.passed c.go_by_attempt.new.passed
     c.in_ok-gone.ensures.some c.in_ok-gone.ensures.reaches c.in_ok-gone.ensures.loads is
 
 pub returns-clause-hands : goal.returns-clause-hands

@@ -9,8 +9,8 @@ use Rattle.std.proofs.Common.{length}
 pub returns-then-is_some-clause-made : goal.returns-then-is_some-clause-made
 returns-then-is_some-clause-made c = leads-none c.args.originals.now.setup (state_of c.args.initializing.now c.args.parts.now)
 
-pub pass_steps-requires-clause-calm : goal.pass_steps-requires-clause-calm
-pass_steps-requires-clause-calm c =
+pub pass_steps-requires-clause-at_instruction : goal.pass_steps-requires-clause-at_instruction
+pass_steps-requires-clause-at_instruction c =
     let p = c.args.parts.now in
     record {
       ending = c.requires.ending;
@@ -22,7 +22,7 @@ pub returns-clause-made : goal.returns-clause-made
 returns-clause-made c = c.pass_steps.ensures.made.leads
 
 pub returns-clause-ending : goal.returns-clause-ending
-returns-clause-ending c = c.pass_steps.ensures.made.calm.ending
+returns-clause-ending c = c.pass_steps.ensures.made.at_instruction.ending
 
 pub returns-clause-loaded : goal.returns-clause-loaded
 returns-clause-loaded c = c.pass_steps.ensures.made.loaded

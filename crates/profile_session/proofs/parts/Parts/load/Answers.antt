@@ -2,7 +2,7 @@ use Rattle.std.proofs.Common.{sym, subst, []}
 use Rattle.jvm_model.specs.Profiling.Revealed.{with_loaded}
 use Rattle.jvm_model.specs.Profiling.Revelation.{IsLoadOrder}
 use Rattle.class_linker.specs.Linkers.{LinkerView}
-use Rattle.call_revelation.specs.Reveals.{IsFront, IsRevelation}
+use Rattle.call_revelation.specs.Reveals.{IsPrefix, IsRevelation}
 use Rattle.profile_session.specs.Parts.{loaded_in, revealed_in}
 use Rattle.profile_session.proofs.Points.{ahead-of, fit-of, linked, point-of, reveals-loads, showable-of}
 use Rattle.profile_session.proofs.parts.Parts.load.Goals as goal
@@ -12,11 +12,11 @@ loaded-requires-clause-revelation c =
     subst (λ (l : LinkerView). IsRevelation l.program c.args.self.now.reveal) (sym (linked c.linker.result.now c.args.self.now.vm c.linker.ensures.program (c.linker.ensures.loaded c.requires.fit.whole))) c.requires.fit.revelation
 
 pub loaded-requires-clause-ahead : goal.loaded-requires-clause-ahead
-loaded-requires-clause-ahead c = ahead-of c.args.self.now c.linker.result.now c.requires.fit (linked c.linker.result.now c.args.self.now.vm c.linker.ensures.program (c.linker.ensures.loaded c.requires.fit.whole)) c.requires.loadable.front
+loaded-requires-clause-ahead c = ahead-of c.args.self.now c.linker.result.now c.requires.fit (linked c.linker.result.now c.args.self.now.vm c.linker.ensures.program (c.linker.ensures.loaded c.requires.fit.whole)) c.requires.loadable.prefix
 
-pub loaded-requires-clause-front : goal.loaded-requires-clause-front
-loaded-requires-clause-front c =
-    subst (λ (l : LinkerView). IsFront c.args.self.now.reveal.lineage.loaded l.loaded) (sym (linked c.linker.result.now c.args.self.now.vm c.linker.ensures.program (c.linker.ensures.loaded c.requires.fit.whole))) c.requires.loadable.front
+pub loaded-requires-clause-prefix : goal.loaded-requires-clause-prefix
+loaded-requires-clause-prefix c =
+    subst (λ (l : LinkerView). IsPrefix c.args.self.now.reveal.lineage.loaded l.loaded) (sym (linked c.linker.result.now c.args.self.now.vm c.linker.ensures.program (c.linker.ensures.loaded c.requires.fit.whole))) c.requires.loadable.prefix
 
 pub loaded-requires-clause-order : goal.loaded-requires-clause-order
 loaded-requires-clause-order c = subst (λ (l : LinkerView). IsLoadOrder l.program [] l.loaded) (sym (linked c.linker.result.now c.args.self.now.vm c.linker.ensures.program (c.linker.ensures.loaded c.requires.fit.whole))) c.requires.loadable.order

@@ -2,7 +2,7 @@ use Rattle.std.proofs.Common.{sym, ap, ◌∙◌}
 use Rattle.profile_session.specs.Sessions.{Profiling}
 use Rattle.profile_session.proofs.session.Session.clock.Goals as goal
 
-pub returns-clause-early : goal.returns-clause-early
-returns-clause-early c whole early =
+pub returns-clause-before_the_run : goal.returns-clause-before_the_run
+returns-clause-before_the_run c whole early =
     let s = (c.self.invariant (ap (λ (v : Profiling). v.broken) c.self.view_is ∙ whole)).stands in
-    c.clock.ensures ∙ s.rests.stands.early (sym s.started ∙ (ap (λ (v : Profiling). v.started) c.self.view_is ∙ early))
+    c.clock.ensures ∙ s.rests.stands.before_the_run (sym s.started ∙ (ap (λ (v : Profiling). v.started) c.self.view_is ∙ early))
