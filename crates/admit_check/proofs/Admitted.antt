@@ -10,7 +10,7 @@ use Rattle.admit_check.specs.declared.error.AdmitError.{AdmitError}
 use Rattle.admit_check.specs.declared.error.AdmitError.TheVariants.{TooManyMethods}
 use Rattle.admit_check.specs.Checks.{fault_if}
 use Rattle.jvm_model.specs.Soundness.SoundPrograms.{main_in}
-use Rattle.admit_check.specs.Admission.{acts_from, admission, classes_fault, completed, count_fault, program_with, unless_fault, with_acts, with_main}
+use Rattle.admit_check.specs.Admission.{acts_from, admission, classes_fault, program_completed, count_fault, program_with, unless_fault, with_acts, with_main}
 
 -- behind the last class
 pub record IsCompletion (p : Program) (given : ℕ) (name : List ℕ) (plan : Plan) (whole : Program) : Type 0 where
@@ -46,7 +46,7 @@ not_many : (many : Bool) (fault : AdmitError) → fault_if many fault ≡ None �
 not_many false fault e = refl
 not_many true fault e = absurd cc
 
-completion : (p : Program) (given : ℕ) (name : List ℕ) (plan : Plan) (whole : Program) → completed p given name plan ≡ Ok whole → IsCompletion p given name plan whole
+completion : (p : Program) (given : ℕ) (name : List ℕ) (plan : Plan) (whole : Program) → program_completed p given name plan ≡ Ok whole → IsCompletion p given name plan whole
 completion p given name plan whole e =
     let counted = no_fault (count_fault p) (with_main p plan (main_in p given name)) whole e in
     let mained = with_main-ok p plan (main_in p given name) whole counted.1 in
@@ -62,5 +62,5 @@ completion p given name plan whole e =
 
 pub admitted : (classes built_in : List ClassFile) (name : List ℕ) (plan : Plan) (whole : Program) → admission classes built_in name plan ≡ Ok whole → IsAdmitted classes built_in name plan whole
 admitted classes built_in name plan whole e =
-    let passed = no_fault (classes_fault [] classes) (completed (program_with classes built_in plan) (length classes) name plan) whole e in
+    let passed = no_fault (classes_fault [] classes) (program_completed (program_with classes built_in plan) (length classes) name plan) whole e in
     record { fine = passed.0; completion = completion (program_with classes built_in plan) (length classes) name plan whole passed.1 }

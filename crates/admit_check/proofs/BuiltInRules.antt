@@ -17,7 +17,7 @@ use Rattle.base_classes.specs.TextClasses.{text_classes}
 use Rattle.base_classes.specs.StreamClasses.{stream_classes}
 use Rattle.base_classes.specs.ValueClasses.{value_classes}
 use Rattle.base_classes.specs.ThrowableClasses.{throwable_classes}
-use Rattle.base_classes.specs.Making.{added, text_added, string_added, class_added, name_type_added, reference_added, instruction_added, code_from, code_added, attributes_added, member_added, members_from, superclass_added, interfaces_from, class_file_of}
+use Rattle.base_classes.specs.Making.{entry_added, text_added, string_added, class_added, name_type_added, reference_added, instruction_added, code_from, code_added, attributes_added, member_added, members_from, superclass_added, interfaces_from, class_file_of}
 use Rattle.inject_events.specs.Rewriting.{instrs_from}
 use Rattle.admit_check.specs.Codes.{codes_fault, instructions_of}
 use Rattle.admit_check.specs.Floating.{floating_fault}
@@ -35,21 +35,21 @@ is_shaped c =
     && (not (has_member_twice c) && (not (list_any has_wrong_code_count c.methods) && not (list_any (has_wrong_constant c.pool) c.fields)))))
 
 shaped : list_all is_shaped (map class_file_of built_in_classes) ≡ true
-unfolding built_in_classes object_classes text_classes stream_classes value_classes throwable_classes added text_added string_added class_added name_type_added reference_added instruction_added code_from code_added attributes_added member_added members_from superclass_added interfaces_from class_file_of is_shaped
+unfolding built_in_classes object_classes text_classes stream_classes value_classes throwable_classes entry_added text_added string_added class_added name_type_added reference_added instruction_added code_from code_added attributes_added member_added members_from superclass_added interfaces_from class_file_of is_shaped
 shaped = refl
 
 unfoldable is_coded : ℕ → ClassFile → Bool
 is_coded k c = is_none (codes_fault k c) && is_none (floating_fault k c)
 
 coded : (k : ℕ) → list_all (is_coded k) (map class_file_of built_in_classes) ≡ true
-unfolding built_in_classes object_classes text_classes stream_classes value_classes throwable_classes added text_added string_added class_added name_type_added reference_added instruction_added code_from code_added attributes_added member_added members_from superclass_added interfaces_from class_file_of instructions_of read_instruction behind_opcode_at operand_at value_at index_at signed_at number_at run_at target_at many_at local_at branch_at row_of groups is_coded
+unfolding built_in_classes object_classes text_classes stream_classes value_classes throwable_classes entry_added text_added string_added class_added name_type_added reference_added instruction_added code_from code_added attributes_added member_added members_from superclass_added interfaces_from class_file_of instructions_of read_instruction behind_opcode_at operand_at value_at index_at signed_at number_at run_at target_at many_at local_at branch_at row_of groups is_coded
 coded k = refl
 
 unfoldable is_rewritten : ℕ → ClassFile → Bool
 is_rewritten k c = is_none (profiling_fault k c)
 
 rewritten : (k : ℕ) → list_all (is_rewritten k) (map class_file_of built_in_classes) ≡ true
-unfolding built_in_classes object_classes text_classes stream_classes value_classes throwable_classes added text_added string_added class_added name_type_added reference_added instruction_added code_from code_added attributes_added member_added members_from superclass_added interfaces_from class_file_of instrs_from instruction_at read_instruction behind_opcode_at operand_at value_at index_at signed_at number_at run_at target_at many_at local_at branch_at row_of groups is_rewritten
+unfolding built_in_classes object_classes text_classes stream_classes value_classes throwable_classes entry_added text_added string_added class_added name_type_added reference_added instruction_added code_from code_added attributes_added member_added members_from superclass_added interfaces_from class_file_of instrs_from instruction_at read_instruction behind_opcode_at operand_at value_at index_at signed_at number_at run_at target_at many_at local_at branch_at row_of groups is_rewritten
 rewritten k = refl
 
 -- ---- what they say

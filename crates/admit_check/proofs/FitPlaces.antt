@@ -13,7 +13,7 @@ use Rattle.base_classes.specs.TextClasses.{text_classes}
 use Rattle.base_classes.specs.StreamClasses.{stream_classes}
 use Rattle.base_classes.specs.ValueClasses.{value_classes}
 use Rattle.base_classes.specs.ThrowableClasses.{throwable_classes}
-use Rattle.base_classes.specs.Making.{added, text_added, string_added, class_added, name_type_added, reference_added, instruction_added, code_from, code_added, attributes_added, member_added, members_from, superclass_added, interfaces_from, class_file_of}
+use Rattle.base_classes.specs.Making.{entry_added, text_added, string_added, class_added, name_type_added, reference_added, instruction_added, code_from, code_added, attributes_added, member_added, members_from, superclass_added, interfaces_from, class_file_of}
 use Rattle.jvm_model.specs.Classes.Kinds.{is_array_name}
 use Rattle.jvm_model.specs.Classes.Load.{Need, class_needs}
 use Rattle.jvm_model.specs.Basis.Methods.{has_flag}
@@ -51,5 +51,5 @@ pub record AreOrdered (files : List ClassFile) : Type 0 where
   pub names : list_all (λ name. is_some (position (has_name name) files)) built_in_names ≡ true
 
 pub files-ordered : AreOrdered built_in_files
-unfolding built_in_classes object_classes text_classes stream_classes value_classes throwable_classes added text_added string_added class_added name_type_added reference_added instruction_added code_from code_added attributes_added member_added members_from superclass_added interfaces_from class_file_of
+unfolding built_in_classes object_classes text_classes stream_classes value_classes throwable_classes entry_added text_added string_added class_added name_type_added reference_added instruction_added code_from code_added attributes_added member_added members_from superclass_added interfaces_from class_file_of
 files-ordered = record { count = refl; standing = refl; names = refl }

@@ -8,46 +8,46 @@ use Rattle.const_pool.specs.declared.descriptor.Shape.{Shape}
 use Rattle.const_pool.specs.declared.descriptor.DescriptorError.{DescriptorError}
 use Rattle.const_pool.specs.declared.descriptor.DescriptorError.TheVariants.{BadDescriptor, NoMemory}
 use Rattle.const_pool.specs.Descriptors.{IsField, IsMethod, IsReadAs}
-use Rattle.const_pool.specs.Stages.{field_answer, method_answer, told, Answers}
+use Rattle.const_pool.specs.Stages.{field_answer, method_answer, fault_told, Answers}
 use Rattle.const_pool.proofs.FieldTexts.{field_found, field_only}
 use Rattle.const_pool.proofs.MethodTexts.{method_found, method_only}
 use Rattle.admit_check.specs.Texts.{field_kind, method_kinds}
 
 -- ---- fields
 
-field_told : (answer : Result Kind ℕ) (kind : Kind) → told answer ≡ Ok kind → result_ok answer ≡ Some kind
+field_told : (answer : Result Kind ℕ) (kind : Kind) → fault_told answer ≡ Ok kind → result_ok answer ≡ Some kind
 field_told (Ok found) kind e = cc e
 field_told (Err at) kind e = cc e
 
 pub field_kind_only : (text : List ℕ) (kind : Kind) → IsField text kind → field_kind text ≡ Some kind
-field_kind_only text kind is = field_told (field_answer text) kind (field_only text (told (field_answer text)) kind refl is)
+field_kind_only text kind is = field_told (field_answer text) kind (field_only text (fault_told (field_answer text)) kind refl is)
 
-field_held : (answer : Result Kind ℕ) (text : List ℕ) (kind : Kind) → IfOk (told answer) (λ kind. IsField text kind) → result_ok answer ≡ Some kind → IsField text kind
+field_held : (answer : Result Kind ℕ) (text : List ℕ) (kind : Kind) → IfOk (fault_told answer) (λ kind. IsField text kind) → result_ok answer ≡ Some kind → IsField text kind
 field_held (Ok found) text kind is e = subst (λ k. IsField text k) (same_Some found kind e) is
 field_held (Err at) text kind is e = absurd (none-some kind e)
 
 pub field_kind_found : (text : List ℕ) (kind : Kind) → field_kind text ≡ Some kind → IsField text kind
-field_kind_found text kind e = field_held (field_answer text) text kind (field_found text (told (field_answer text)) refl) e
+field_kind_found text kind e = field_held (field_answer text) text kind (field_found text (fault_told (field_answer text)) refl) e
 
 -- ---- methods
 
-answers_itself : {A : Type 0} (answer : Result A ℕ) → Answers (told answer) answer
+answers_itself : {A : Type 0} (answer : Result A ℕ) → Answers (fault_told answer) answer
 answers_itself (Ok found) = refl
 answers_itself (Err at) = refl
 
-method_told : (answer : Result Shape ℕ) (shape : Shape) → IsReadAs (told answer) shape → result_ok answer ≡ Some shape
+method_told : (answer : Result Shape ℕ) (shape : Shape) → IsReadAs (fault_told answer) shape → result_ok answer ≡ Some shape
 method_told (Ok found) shape e = cc e
 method_told (Err at) shape e = absurd e
 
 pub method_kinds_only : (text : List ℕ) (shape : Shape) → IsMethod text shape → method_kinds text ≡ Some shape
-method_kinds_only text shape is = method_told (method_answer text) shape (method_only text (told (method_answer text)) shape (answers_itself (method_answer text)) is)
+method_kinds_only text shape is = method_told (method_answer text) shape (method_only text (fault_told (method_answer text)) shape (answers_itself (method_answer text)) is)
 
-method_held : (answer : Result Shape ℕ) (text : List ℕ) (shape : Shape) → IfOk (told answer) (λ shape. IsMethod text shape) → result_ok answer ≡ Some shape → IsMethod text shape
+method_held : (answer : Result Shape ℕ) (text : List ℕ) (shape : Shape) → IfOk (fault_told answer) (λ shape. IsMethod text shape) → result_ok answer ≡ Some shape → IsMethod text shape
 method_held (Ok found) text shape is e = subst (λ s. IsMethod text s) (same_Some found shape e) is
 method_held (Err at) text shape is e = absurd (none-some shape e)
 
 pub method_kinds_found : (text : List ℕ) (shape : Shape) → method_kinds text ≡ Some shape → IsMethod text shape
-method_kinds_found text shape e = method_held (method_answer text) text shape (method_found text (told (method_answer text)) (answers_itself (method_answer text))) e
+method_kinds_found text shape e = method_held (method_answer text) text shape (method_found text (fault_told (method_answer text)) (answers_itself (method_answer text))) e
 
 -- ---- what the calls answer
 

@@ -11,7 +11,7 @@ use Rattle.op_table.specs.Opcodes.{row_of}
 use Rattle.code_model.specs.declared.error.CodeError.{CodeError}
 use Rattle.code_model.specs.declared.error.CodeError.TheVariants.{BadOpcode, BadSwitch, Cut, NoMemory}
 use Rattle.code_model.specs.declared.instr.Instr.{Instr}
-use Rattle.code_model.specs.Formats.{Format, either, in_turn, many, tested}
+use Rattle.code_model.specs.Formats.{Format, either, in_turn, many, value_tested}
 use Rattle.code_model.specs.Operands.{behind_opcode, case_count, form_of, instruction, is_count, is_wide, key_of, keys_rise, operand}
 use Rattle.admit_check.specs.Codes.{IsRead, code_fault, fault_by, instructions_of}
 use Rattle.admit_check.proofs.Decoded.{fault_found}
@@ -29,7 +29,7 @@ many-told : {A : Type 0} (P : Format A) → IsTold P → (n : ℕ) → IsTold (m
 many-told P one zero = λ bytes faults. faults
 many-told P one (suc n) = in_turn-told one (λ x. in_turn-told (many-told P one n) (λ xs bytes faults. faults))
 
-tested-told : {A : Type 0} {P : Format A} (test : A → Bool) (at : ℕ) → IsTold P → IsTold (tested P test (BadSwitch at))
+tested-told : {A : Type 0} {P : Format A} (test : A → Bool) (at : ℕ) → IsTold P → IsTold (value_tested P test (BadSwitch at))
 tested-told test at one bytes (inl faults) = one bytes faults
 tested-told test at one bytes (inr refused) = absurd (let told : NoMemory ≡ BadSwitch at = refused.told in cc)
 

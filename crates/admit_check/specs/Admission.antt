@@ -10,7 +10,7 @@ use Rattle.plan_text.specs.declared.plan.Plan.{Plan}
 use Rattle.plan_text.specs.declared.plan.RootName.{RootName}
 use Rattle.jvm_model.specs.declared.event.Act.{Act}
 use Rattle.jvm_model.specs.declared.program.Program.{Program}
-use Rattle.jvm_model.specs.Basis.Programs.{class_named, declared_method, numbered}
+use Rattle.jvm_model.specs.Basis.Programs.{class_named, declared_method, methods_numbered}
 use Rattle.jvm_model.specs.Soundness.SoundPrograms.{IsSoundProgram, main_in}
 use Rattle.admit_check.specs.declared.error.AdmitError.{AdmitError}
 use Rattle.admit_check.specs.declared.error.AdmitError.TheVariants.{TooManyMethods, NoMain, NoSuchRoot}
@@ -38,7 +38,7 @@ classes_fault earlier (c ∷ rest) = option_or (class_fault earlier (length earl
 abbrev pub program_with : List ClassFile → List ClassFile → Plan → Program
 program_with classes built_in plan = record {
   classes = classes ++ built_in;
-  methods = numbered (classes ++ built_in);
+  methods = methods_numbered (classes ++ built_in);
   main = 0;
   acts = [];
   args = plan.args;
@@ -86,12 +86,12 @@ unless_fault (Some fault) answer = Err fault
 unless_fault None answer = answer
 
 -- what is answered behind the last class, where so many classes are given
-abbrev pub completed : Program → ℕ → List ℕ → Plan → Result Program AdmitError
-completed p given main plan = unless_fault (count_fault p) (with_main p plan (main_in p given main))
+abbrev pub program_completed : Program → ℕ → List ℕ → Plan → Result Program AdmitError
+program_completed p given main plan = unless_fault (count_fault p) (with_main p plan (main_in p given main))
 
 abbrev pub admission : List ClassFile → List ClassFile → List ℕ → Plan → Result Program AdmitError
 admission classes built_in main plan =
-    unless_fault (classes_fault [] classes) (completed (program_with classes built_in plan) (length classes) main plan)
+    unless_fault (classes_fault [] classes) (program_completed (program_with classes built_in plan) (length classes) main plan)
 
 -- ---- over the classes that a program finds beside its own
 

@@ -11,14 +11,14 @@ ghost use Rattle.inject_events.specs.Answers.{IsReadableClass};
 ghost use Rattle.inject_events.specs.Answers.{IsProfilable};
 ghost use Rattle.admit_check.specs.Profiling.{HaveSoundTables};
 ghost use Rattle.admit_check.specs.Stages.{code_fault_of, class_fault_among, with_name_of};
-ghost use Rattle.admit_check.specs.Admission.{program_with, completed, admission};
+ghost use Rattle.admit_check.specs.Admission.{program_with, program_completed, admission};
 
 use crate::codes::check_codes;
 use crate::error::AdmitError;
 use crate::floating::floating_fault;
 use crate::name_set::{NameSet, name_fault};
 use crate::profiling::profiling_fault;
-use crate::program::{acts_of, main_in, numbered};
+use crate::program::{acts_of, main_in, methods_numbered};
 use crate::shapes::shape_fault;
 use base_classes::built_in;
 use const_pool::ClassFile;
@@ -127,7 +127,10 @@ fn check_classes(alloc: Global, classes: &[ClassFile]) -> Result<(), AdmitError>
 // ---- the program
 
 /// The classes, and the built-in ones behind them.
-fn joined(classes: Seq<ClassFile>, built_in: Vec<ClassFile>) -> Result<Seq<ClassFile>, NoMemory>
+fn classes_joined(
+    classes: Seq<ClassFile>,
+    built_in: Vec<ClassFile>,
+) -> Result<Seq<ClassFile>, NoMemory>
     ensures { IfOk result (λ all. all ≡ classes ++ built_in.items) }
 {
     let mut all = classes.into_vec();
@@ -158,8 +161,8 @@ fn program_with(
     requires count { length (classes ++ built_in.items) < 2 ^ 32 }
     ensures { IfOk result (λ program. program ≡ program_with classes built_in.items plan.now) }
 {
-    let classes = joined(classes, built_in)?;
-    let methods = numbered(alloc, classes.as_slice())?;
+    let classes = classes_joined(classes, built_in)?;
+    let methods = methods_numbered(alloc, classes.as_slice())?;
     let args = copies(alloc, plan.args.as_slice())?;
     Ok(Program {
         classes,
@@ -181,7 +184,7 @@ fn complete(
 ) -> Result<Program, AdmitError>
     requires numbers { HasNumbers program }
     requires count { length plan.now.actions < 2 ^ 32 }
-    ensures { Answers result (completed program given main.now plan.now) }
+    ensures { Answers result (program_completed program given main.now plan.now) }
 {
     let count = program.methods.len();
     if MOST_METHODS < count {

@@ -7,7 +7,7 @@ ghost use Rattle.const_pool.specs.ClassFile.{IsClassFile};
 ghost use Rattle.const_pool.specs.References.{name_type_of};
 ghost use Rattle.jvm_model.specs.Basis.Methods.{code_of, is_member, method_named, same_text_at};
 ghost use Rattle.jvm_model.specs.Basis.Programs.{coded_from, declared_method, has_name, number_from};
-ghost use Rattle.jvm_model.specs.Basis.Programs.{numbered, same_place};
+ghost use Rattle.jvm_model.specs.Basis.Programs.{methods_numbered, same_place};
 ghost use Rattle.jvm_model.specs.Small.SmallClass.{is_public_static, main_member, public_static};
 ghost use Rattle.admit_check.specs.Admission.{act_of, acts_from};
 ghost use Rattle.admit_check.specs.Stages.{Answers, HasNumbers};
@@ -57,10 +57,10 @@ fn add_coded(places: &mut Seq<MethodPlace>, class: u32, methods: &[Member]) -> R
 }
 
 /// The methods that have Code, class by class.
-pub fn numbered(alloc: Global, classes: &[ClassFile]) -> Result<Seq<MethodPlace>, NoMemory>
+pub fn methods_numbered(alloc: Global, classes: &[ClassFile]) -> Result<Seq<MethodPlace>, NoMemory>
     requires formed { AllByRecursion IsClassFile classes.now }
     requires count { length classes.now < 2 ^ 32 }
-    ensures { IfOk result (λ places. places ≡ numbered classes.now) }
+    ensures { IfOk result (λ places. places ≡ methods_numbered classes.now) }
 {
     let mut places = Seq::new(alloc);
     for (number, class) in classes.iter().enumerate() {

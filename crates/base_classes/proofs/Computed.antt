@@ -15,15 +15,15 @@ use Rattle.base_classes.specs.StreamClasses.{stream_classes}
 use Rattle.base_classes.specs.ValueClasses.{value_classes}
 use Rattle.base_classes.specs.ThrowableClasses.{throwable_classes}
 use Rattle.base_classes.specs.Shown.{declaration_of}
-use Rattle.base_classes.specs.Making.{added, text_added, string_added, class_added, name_type_added, reference_added, instruction_added, code_from, code_added, attributes_added, member_added, members_from, superclass_added, interfaces_from, class_file_of, has_pool}
+use Rattle.base_classes.specs.Making.{entry_added, text_added, string_added, class_added, name_type_added, reference_added, instruction_added, code_from, code_added, attributes_added, member_added, members_from, superclass_added, interfaces_from, class_file_of, has_pool}
 use Rattle.base_classes.proofs.WellFormed.{each, is_made, class_holds}
 
 shown_back : map declaration_of (map class_file_of built_in_classes) ≡ built_in_classes
-unfolding built_in_classes object_classes text_classes stream_classes value_classes throwable_classes added text_added string_added class_added name_type_added reference_added instruction_added code_from code_added attributes_added member_added members_from superclass_added interfaces_from class_file_of
+unfolding built_in_classes object_classes text_classes stream_classes value_classes throwable_classes entry_added text_added string_added class_added name_type_added reference_added instruction_added code_from code_added attributes_added member_added members_from superclass_added interfaces_from class_file_of
 shown_back = refl
 
 are_made : list_all is_made (map class_file_of built_in_classes) ≡ true
-unfolding built_in_classes object_classes text_classes stream_classes value_classes throwable_classes added text_added string_added class_added name_type_added reference_added instruction_added code_from code_added attributes_added member_added members_from superclass_added interfaces_from class_file_of is_made
+unfolding built_in_classes object_classes text_classes stream_classes value_classes throwable_classes entry_added text_added string_added class_added name_type_added reference_added instruction_added code_from code_added attributes_added member_added members_from superclass_added interfaces_from class_file_of is_made
 are_made = refl
 
 is_pool : (c : ClassFile) → is_made c ≡ true → (has_gaps c.pool && nat_lt (length c.pool) 65536) ≡ true

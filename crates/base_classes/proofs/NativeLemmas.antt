@@ -5,7 +5,7 @@ use Rattle.std.specs.List.{flat_map, position_from}
 use Rattle.std.proofs.lemmas.Bool.{and_parts, ltb-true}
 use Rattle.const_pool.specs.References.{Reference}
 use Rattle.base_classes.specs.Declarations.{MemberDeclaration, ClassDeclaration}
-use Rattle.base_classes.specs.Natives.{is_native, named, natives_of, starts_from}
+use Rattle.base_classes.specs.Natives.{is_native, method_named, natives_of, starts_from}
 use Rattle.base_classes.proofs.Groups.{slice_get-front, slice_get-behind}
 
 -- ---- the first place that passes
@@ -47,12 +47,12 @@ position_missed test (y ∷ xs) first h k x at = by_test (test y) refl h (λ e k
 pub record IsNamedBy (d : ClassDeclaration) (k : ℕ) (r : Reference) : Type 0 where
   pub method : MemberDeclaration
   pub at : slice_get (filter is_native d.methods) k ≡ Some method
-  pub is : r ≡ named d.name method.name method.descriptor
+  pub is : r ≡ method_named d.name method.name method.descriptor
 
-named_by : (class : List ℕ) (ms : List MemberDeclaration) (k : ℕ) (r : Reference) → slice_get (map (λ m. named class m.name m.descriptor) ms) k ≡ Some r
-    → (m : MemberDeclaration) × (slice_get ms k ≡ Some m) × (r ≡ named class m.name m.descriptor)
+named_by : (class : List ℕ) (ms : List MemberDeclaration) (k : ℕ) (r : Reference) → slice_get (map (λ m. method_named class m.name m.descriptor) ms) k ≡ Some r
+    → (m : MemberDeclaration) × (slice_get ms k ≡ Some m) × (r ≡ method_named class m.name m.descriptor)
 named_by class [] k r h = absurd cc
-named_by class (m ∷ ms) zero r h = (m, refl, let e : named class m.name m.descriptor ≡ r = cc in sym e)
+named_by class (m ∷ ms) zero r h = (m, refl, let e : method_named class m.name m.descriptor ≡ r = cc in sym e)
 named_by class (m ∷ ms) (suc k) r h = named_by class ms k r h
 
 pub is_named_by : (d : ClassDeclaration) (k : ℕ) (r : Reference) → slice_get (natives_of d) k ≡ Some r → IsNamedBy d k r

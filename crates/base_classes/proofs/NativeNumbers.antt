@@ -12,7 +12,7 @@ use Rattle.base_classes.specs.TextClasses.{text_classes}
 use Rattle.base_classes.specs.StreamClasses.{stream_classes}
 use Rattle.base_classes.specs.ValueClasses.{value_classes}
 use Rattle.base_classes.specs.ThrowableClasses.{throwable_classes}
-use Rattle.base_classes.specs.Natives.{is_native, named, natives_of, native_methods, is_member, native_starts}
+use Rattle.base_classes.specs.Natives.{is_native, method_named, natives_of, native_methods, is_member, native_starts}
 use Rattle.base_classes.proofs.NameLemmas.{name_found}
 use Rattle.std.proofs.lemmas.Option.{slice_get-map}
 use Rattle.base_classes.proofs.NativeLemmas.{position_found, position_missed, is_named_by, start, has_start, number_at, stands, fits_from, fit_at}
@@ -49,7 +49,7 @@ member_is name descriptor m h =
 pub native_found : (place first : ℕ) (d : ClassDeclaration) (class name descriptor : List ℕ) (n : ℕ)
     → Some d ≡ slice_get built_in_classes place → Some first ≡ slice_get native_starts place → slice_get built_in_names place ≡ Some class
     → position_from (is_member name descriptor) first (filter is_native d.methods) ≡ Some n
-    → slice_get native_methods n ≡ Some (named class name descriptor)
+    → slice_get native_methods n ≡ Some (method_named class name descriptor)
 unfolding native_methods
 native_found place first d class name descriptor n at start_is class_is h =
     let found = position_found (is_member name descriptor) (filter is_native d.methods) first n h in
@@ -57,20 +57,20 @@ native_found place first d class name descriptor n at start_is class_is h =
     let is = member_is name descriptor m found.passed in
     let its_class : d.name ≡ class = let e : Some d.name ≡ Some class = name_found place d at ∙ class_is in cc in
     let its_start : first ≡ 0 + start built_in_classes place = let e : Some first ≡ Some (0 + start built_in_classes place) = start_is ∙ starts_there place d at in cc in
-    let within : slice_get (natives_of d) found.place ≡ Some (named d.name m.name m.descriptor) = slice_get-map (λ m. named d.name m.name m.descriptor) (filter is_native d.methods) found.place ∙ rw found.at refl in
-    let there = number_at built_in_classes place d found.place (named d.name m.name m.descriptor) (sym at) within in
+    let within : slice_get (natives_of d) found.place ≡ Some (method_named d.name m.name m.descriptor) = slice_get-map (λ m. method_named d.name m.name m.descriptor) (filter is_native d.methods) found.place ∙ rw found.at refl in
+    let there = number_at built_in_classes place d found.place (method_named d.name m.name m.descriptor) (sym at) within in
     let number : n ≡ start built_in_classes place + found.place =
     found.number ∙ ap (λ (k : ℕ). k + found.place) (its_start ∙ (let z : 0 + start built_in_classes place ≡ start built_in_classes place = omega arith in z)) in
-    let names : named d.name m.name m.descriptor ≡ named class name descriptor = cc in
+    let names : method_named d.name m.name m.descriptor ≡ method_named class name descriptor = cc in
     ap (slice_get (flat_map natives_of built_in_classes)) number ∙ there ∙ ap (λ (r : Reference). Some r) names
 
 -- a class that has no place has no native method
 pub none_without_class : (class name descriptor : List ℕ) → ((p : ℕ) → slice_get built_in_names p ≡ Some class → ⊥)
-    → (n : ℕ) → slice_get native_methods n ≢ Some (named class name descriptor)
+    → (n : ℕ) → slice_get native_methods n ≢ Some (method_named class name descriptor)
 unfolding native_methods
 none_without_class class name descriptor nowhere n h =
-    let s = stands built_in_classes n (named class name descriptor) h in
-    let by = is_named_by s.class s.within (named class name descriptor) s.at in
+    let s = stands built_in_classes n (method_named class name descriptor) h in
+    let by = is_named_by s.class s.within (method_named class name descriptor) s.at in
     let its_class : s.class.name ≡ class = sym (ap (λ (r : Reference). r.class) by.is) in
     nowhere s.place (sym (name_found s.place s.class (sym s.class_at)) ∙ ap (λ (t : List ℕ). Some t) its_class)
 
@@ -78,11 +78,11 @@ none_without_class class name descriptor nowhere n h =
 pub native_missed : (place first : ℕ) (d : ClassDeclaration) (class name descriptor : List ℕ)
     → Some d ≡ slice_get built_in_classes place → ((p : ℕ) → slice_get built_in_names p ≡ Some class → Some place ≡ Some p)
     → position_from (is_member name descriptor) first (filter is_native d.methods) ≡ None
-    → (n : ℕ) → slice_get native_methods n ≢ Some (named class name descriptor)
+    → (n : ℕ) → slice_get native_methods n ≢ Some (method_named class name descriptor)
 unfolding native_methods
 native_missed place first d class name descriptor at only h n there =
-    let s = stands built_in_classes n (named class name descriptor) there in
-    let by = is_named_by s.class s.within (named class name descriptor) s.at in
+    let s = stands built_in_classes n (method_named class name descriptor) there in
+    let by = is_named_by s.class s.within (method_named class name descriptor) s.at in
     let m = by.method in
     let its_class : s.class.name ≡ class = sym (ap (λ (r : Reference). r.class) by.is) in
     let same_place = only s.place (sym (name_found s.place s.class (sym s.class_at)) ∙ ap (λ (t : List ℕ). Some t) its_class) in

@@ -8,7 +8,7 @@ use Rattle.const_pool.specs.References.{Reference}
 use Rattle.const_pool.specs.BuiltIn.{built_in_names}
 use Rattle.base_classes.specs.Declarations.{MemberDeclaration, ClassDeclaration}
 use Rattle.base_classes.specs.BuiltInClasses.{built_in_classes}
-use Rattle.base_classes.specs.Natives.{is_native, named, natives_of, native_methods, is_member, native_starts, is_reference, native_number}
+use Rattle.base_classes.specs.Natives.{is_native, method_named, natives_of, native_methods, is_member, native_starts, is_reference, native_number}
 use Rattle.base_classes.proofs.NameLemmas.{name_found}
 use Rattle.base_classes.proofs.NativeLemmas.{position_found, is_named_by, start, stands}
 use Rattle.base_classes.proofs.NativeNumbers.{starts_there}
@@ -40,7 +40,7 @@ text_is text = (bytes_eq-Decides text text).1 refl
 
 -- a class's native methods are sought by name and descriptor alone
 by_member : (class name descriptor : List ℕ) (ms : List MemberDeclaration) (n : ℕ)
-    → position_from (is_reference (named class name descriptor)) n (map (λ m. named class m.name m.descriptor) ms) ≡ position_from (is_member name descriptor) n ms
+    → position_from (is_reference (method_named class name descriptor)) n (map (λ m. method_named class m.name m.descriptor) ms) ≡ position_from (is_member name descriptor) n ms
 by_member class name descriptor [] n = refl
 by_member class name descriptor (m ∷ ms) n =
     rw (text_is class) (ap (λ (o : Option ℕ). cond (is_member name descriptor m) (Some n) o) (by_member class name descriptor ms (n + 1)))
@@ -69,22 +69,22 @@ others sought ds differ k r at =
 
 first_place : (ds : List ClassDeclaration) (p : ℕ) (d : ClassDeclaration) (name descriptor : List ℕ) (n : ℕ) → slice_get ds p ≡ Some d
     → ((k : ℕ) (e : ClassDeclaration) → slice_get ds k ≡ Some e → e.name ≡ d.name → k ≡ p)
-    → position_from (is_reference (named d.name name descriptor)) n (flat_map natives_of ds)
+    → position_from (is_reference (method_named d.name name descriptor)) n (flat_map natives_of ds)
     ≡ position_from (is_member name descriptor) (n + start ds p) (filter is_native d.methods)
 first_place [] p d name descriptor n at only = absurd cc
 first_place (e ∷ ds) zero d name descriptor n at only =
     let same : d ≡ e = cc in
     let apart : (k : ℕ) (c : ClassDeclaration) → slice_get ds k ≡ Some c → c.name ≢ d.name =
     λ k c there is. let wrong : suc k ≡ zero = only (suc k) c there is in absurd cc in
-    in_front (is_reference (named d.name name descriptor)) (natives_of e) (flat_map natives_of ds) n (others (named d.name name descriptor) ds apart)
-    ∙ ap (λ (c : ClassDeclaration). position_from (is_reference (named d.name name descriptor)) n (natives_of c)) (sym same)
+    in_front (is_reference (method_named d.name name descriptor)) (natives_of e) (flat_map natives_of ds) n (others (method_named d.name name descriptor) ds apart)
+    ∙ ap (λ (c : ClassDeclaration). position_from (is_reference (method_named d.name name descriptor)) n (natives_of c)) (sym same)
     ∙ by_member d.name name descriptor (filter is_native d.methods) n
     ∙ ap (λ (k : ℕ). position_from (is_member name descriptor) k (filter is_native d.methods)) (omega arith)
 first_place (e ∷ ds) (suc p) d name descriptor n at only =
     let apart : e.name ≢ d.name = λ is. let wrong : zero ≡ suc p = only zero e refl is in absurd cc in
     let later : (k : ℕ) (c : ClassDeclaration) → slice_get ds k ≡ Some c → c.name ≡ d.name → k ≡ p =
     λ k c there is. let both : suc k ≡ suc p = only (suc k) c there is in omega arith in
-    behind (is_reference (named d.name name descriptor)) (natives_of e) (flat_map natives_of ds) n (others_of_class (named d.name name descriptor) e apart)
+    behind (is_reference (method_named d.name name descriptor)) (natives_of e) (flat_map natives_of ds) n (others_of_class (method_named d.name name descriptor) e apart)
     ∙ first_place ds p d name descriptor (n + length (natives_of e)) at later
     ∙ ap (λ (k : ℕ). position_from (is_member name descriptor) k (filter is_native d.methods)) (omega arith)
 
@@ -92,7 +92,7 @@ first_place (e ∷ ds) (suc p) d name descriptor n at only =
 pub number_found : (place first : ℕ) (d : ClassDeclaration) (class name descriptor : List ℕ)
     → Some d ≡ slice_get built_in_classes place → Some first ≡ slice_get native_starts place → slice_get built_in_names place ≡ Some class
     → ((p : ℕ) → slice_get built_in_names p ≡ Some class → Some place ≡ Some p)
-    → position_from (is_member name descriptor) first (filter is_native d.methods) ≡ native_number (named class name descriptor)
+    → position_from (is_member name descriptor) first (filter is_native d.methods) ≡ native_number (method_named class name descriptor)
 unfolding native_methods
 number_found place first d class name descriptor at start_is class_is only =
     let its_class : d.name ≡ class = let e : Some d.name ≡ Some class = name_found place d at ∙ class_is in cc in
@@ -102,16 +102,16 @@ number_found place first d class name descriptor at start_is class_is only =
     let same = only k (sym (name_found k e (sym there)) ∙ ap (λ (t : List ℕ). Some t) (is ∙ its_class)) in cc in
     ap (λ (k : ℕ). position_from (is_member name descriptor) k (filter is_native d.methods)) its_start
     ∙ sym (first_place built_in_classes place d name descriptor 0 (sym at) alone)
-    ∙ ap (λ (c : List ℕ). position_from (is_reference (named c name descriptor)) 0 (flat_map natives_of built_in_classes)) its_class
+    ∙ ap (λ (c : List ℕ). position_from (is_reference (method_named c name descriptor)) 0 (flat_map natives_of built_in_classes)) its_class
 
 -- a class that has no place has no number
 pub no_number : (class name descriptor : List ℕ) → ((p : ℕ) → slice_get built_in_names p ≡ Some class → ⊥)
-    → None ≡ native_number (named class name descriptor)
+    → None ≡ native_number (method_named class name descriptor)
 unfolding native_methods
 no_number class name descriptor nowhere_there =
     let differ : (k : ℕ) (d : ClassDeclaration) → slice_get built_in_classes k ≡ Some d → d.name ≢ class =
     λ k d there is. nowhere_there k (sym (name_found k d (sym there)) ∙ ap (λ (t : List ℕ). Some t) is) in
-    sym (nowhere (is_reference (named class name descriptor)) (flat_map natives_of built_in_classes) 0 (others (named class name descriptor) built_in_classes differ))
+    sym (nowhere (is_reference (method_named class name descriptor)) (flat_map natives_of built_in_classes) 0 (others (method_named class name descriptor) built_in_classes differ))
 
 -- ---- what a number says
 
@@ -122,7 +122,7 @@ is_same sought r passes =
     let class_is : sought.class ≡ r.class = (bytes_eq-Decides _ _).0 parts.0 in
     let name_is : sought.member.name ≡ r.member.name = (bytes_eq-Decides _ _).0 members.0 in
     let descriptor_is : sought.member.descriptor ≡ r.member.descriptor = (bytes_eq-Decides _ _).0 members.1 in
-    let same : named sought.class sought.member.name sought.member.descriptor ≡ named r.class r.member.name r.member.descriptor = cc in
+    let same : method_named sought.class sought.member.name sought.member.descriptor ≡ method_named r.class r.member.name r.member.descriptor = cc in
     same
 
 -- it is a place of the reference among the native methods

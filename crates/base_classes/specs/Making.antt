@@ -28,24 +28,24 @@ pub record Added : Type 0 where
 abbrev pub Adds : Result ℕ NoMemory → List Const → Added → Type 0
 Adds result pool made = IfOk result (λ index. (index ≡ made.index) × (pool ≡ made.pool))
 
-unfoldable pub added : List Const → Const → Added
-added pool entry = record { pool = pool ++ entry ∷ []; index = short_of (length pool) }
+unfoldable pub entry_added : List Const → Const → Added
+entry_added pool entry = record { pool = pool ++ entry ∷ []; index = short_of (length pool) }
 
 -- an ASCII text
 unfoldable pub text_added : List Const → List ℕ → Added
-text_added pool text = added pool (Utf8 text)
+text_added pool text = entry_added pool (Utf8 text)
 
 unfoldable pub string_added : List Const → List ℕ → Added
-string_added pool text = let t = text_added pool text in added t.pool (Text t.index)
+string_added pool text = let t = text_added pool text in entry_added t.pool (Text t.index)
 
 unfoldable pub class_added : List Const → List ℕ → Added
-class_added pool name = let t = text_added pool name in added t.pool (Class t.index)
+class_added pool name = let t = text_added pool name in entry_added t.pool (Class t.index)
 
 unfoldable pub name_type_added : List Const → List ℕ → List ℕ → Added
 name_type_added pool name descriptor =
     let n = text_added pool name in
     let d = text_added n.pool descriptor in
-    added d.pool (NameType n.index d.index)
+    entry_added d.pool (NameType n.index d.index)
 
 -- getstatic names a field, and the others a method
 abbrev pub member_entry : ℕ → ℕ → ℕ → Const
@@ -55,7 +55,7 @@ unfoldable pub reference_added : List Const → ℕ → Reference → Added
 reference_added pool op r =
     let c = class_added pool r.class in
     let m = name_type_added c.pool r.member.name r.member.descriptor in
-    added m.pool (member_entry op c.index m.index)
+    entry_added m.pool (member_entry op c.index m.index)
 
 -- ---- code
 

@@ -10,11 +10,11 @@ use Rattle.base_classes.specs.BuiltInClasses.{built_in_classes}
 abbrev pub is_native : MemberDeclaration → Bool
 is_native m = not (bit_and m.access 0x0100 == 0)
 
-abbrev pub named : List ℕ → List ℕ → List ℕ → Reference
-named class name descriptor = record { class = class; member = record { name = name; descriptor = descriptor } }
+abbrev pub method_named : List ℕ → List ℕ → List ℕ → Reference
+method_named class name descriptor = record { class = class; member = record { name = name; descriptor = descriptor } }
 
 abbrev pub natives_of : ClassDeclaration → List Reference
-natives_of d = map (λ m. named d.name m.name m.descriptor) (filter is_native d.methods)
+natives_of d = map (λ m. method_named d.name m.name m.descriptor) (filter is_native d.methods)
 
 unfoldable pub native_methods : List Reference
 native_methods = flat_map natives_of built_in_classes

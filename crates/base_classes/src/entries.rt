@@ -2,7 +2,7 @@
 //! own, at the pool's end.
 
 ghost use Rattle.std.specs.Prelude.{◌≡◌, IfOk};
-ghost use Rattle.base_classes.specs.Making.{Adds, short_of, added, text_added, string_added, class_added, name_type_added, reference_added, member_entry};
+ghost use Rattle.base_classes.specs.Making.{Adds, short_of, entry_added, text_added, string_added, class_added, name_type_added, reference_added, member_entry};
 ghost use Rattle.base_classes.specs.RowViews.{reference_view};
 
 use crate::opcode::GETSTATIC;
@@ -19,9 +19,9 @@ pub(crate) fn short_of(length: usize) -> u16
 }
 
 /// Adds an entry, and gives its index.
-#[tactic(auto, unfolding(crate::specs::Making::added))]
+#[tactic(auto, unfolding(crate::specs::Making::entry_added))]
 fn add(pool: &mut Vec<Const>, entry: Const) -> Result<u16, NoMemory>
-    ensures { Adds result pool.new.items (added pool.old.items entry) }
+    ensures { Adds result pool.new.items (entry_added pool.old.items entry) }
 {
     let index = short_of(pool.len());
     pool.push(entry)?;

@@ -4,7 +4,7 @@
 ghost use Rattle.std.specs.Prelude.{◌≡◌, ◌≢◌, ◌<◌, ◌+◌, ◌^◌, ℕ, Some, filter, length, map, slice_get, IfNone, IfSome};
 ghost use Rattle.std.specs.List.{position_from};
 ghost use Rattle.base_classes.specs.BuiltInClasses.{built_in_classes};
-ghost use Rattle.base_classes.specs.Natives.{is_native, is_member, native_methods, native_starts, named, native_number};
+ghost use Rattle.base_classes.specs.Natives.{is_native, is_member, native_methods, native_starts, method_named, native_number};
 ghost use Rattle.base_classes.specs.RowViews.{member_view};
 
 use crate::access::NATIVE;
@@ -70,10 +70,10 @@ fn number_among(
 /// The number of a native method of the built-in classes; none where they have no such native method. It takes no memory.
 pub fn native_of(class: &Text16, name: &Text16, descriptor: &Text16) -> Option<u16>
     ensures found { IfSome result (λ n.
-        slice_get native_methods n ≡ Some (named class.now name.now descriptor.now)) }
+        slice_get native_methods n ≡ Some (method_named class.now name.now descriptor.now)) }
     ensures none { IfNone result ((n : ℕ) →
-        slice_get native_methods n ≢ Some (named class.now name.now descriptor.now)) }
-    ensures number { result ≡ native_number (named class.now name.now descriptor.now) }
+        slice_get native_methods n ≢ Some (method_named class.now name.now descriptor.now)) }
+    ensures number { result ≡ native_number (method_named class.now name.now descriptor.now) }
 {
     let place = position_of(class)?;
     let row = class_row(place)?;

@@ -10,9 +10,9 @@ use Rattle.const_pool.specs.declared.class.Member.{Member}
 use Rattle.const_pool.specs.References.{NameAndType}
 use Rattle.jvm_model.specs.Basis.Methods.{is_member, method_from, method_named}
 use Rattle.jvm_model.specs.Basis.Programs.{initializer_name, initializer_of}
-use Rattle.jvm_model.specs.Classes.Selection.{selected}
+use Rattle.jvm_model.specs.Classes.Selection.{method_selected}
 use Rattle.jvm_model.specs.Instructions.SymbolicReference as model
-use Rattle.jvm_model.specs.Profiling.Targets.{begun_by, coded, initializers, loaded_class_named, selections}
+use Rattle.jvm_model.specs.Profiling.Targets.{begun_by, method_coded, initializers, loaded_class_named, selections}
 use Rattle.jvm_model.specs.Instructions.InvocationRules.{selected_by}
 use Rattle.call_revelation.specs.declared.lineage.Lineage.{Lineage}
 use Rattle.call_revelation.specs.Lineages.{IsClosed, IsLineage, begun_named, initializer_in, number_of, selecting, selection_of}
@@ -35,21 +35,21 @@ initializers-of p loaded class supertypes are m =
     (λ x h. sym (are x) ∙ h) (λ x there h. are x ∙ h) m
     ∙ sym (ap (is_among m) (made-flat (initializer_of p) (filter (is_subtype p class) loaded)))
 
-numbered-alike : (p : Program) (o : Option MemberPlace) → option_to_list (number_of p o) ≡ coded p o
+numbered-alike : (p : Program) (o : Option MemberPlace) → option_to_list (number_of p o) ≡ method_coded p o
 numbered-alike p None = refl
 numbered-alike p (Some m) = refl
 
 selected-alike : (p : Program) (interface : Bool) (m : MemberPlace) (x : ℕ)
-    → option_to_list (number_of p (selected p x interface m)) ≡ coded p (selected_by p (selecting interface) m x)
-selected-alike p true m x = numbered-alike p (selected p x true m)
-selected-alike p false m x = numbered-alike p (selected p x false m)
+    → option_to_list (number_of p (method_selected p x interface m)) ≡ method_coded p (selected_by p (selecting interface) m x)
+selected-alike p true m x = numbered-alike p (method_selected p x true m)
+selected-alike p false m x = numbered-alike p (method_selected p x false m)
 
 pub selections-of : (p : Program) (v : Lineage) (class : ℕ) (interface : Bool) (m0 : MemberPlace) (lower : List ℕ) → IsLineage p v → class < length p.classes
     → is_among class lower ≡ true → IsClosed v.below.items lower
     → (m : ℕ) → is_among m (filter_map (selection_of p v.loaded interface class m0) lower) ≡ is_among m (selections p v.loaded class (selecting interface) m0)
 selections-of p v class interface m0 lower is within own closed m =
-    tested-alike v.loaded lower (λ x. is_subtype p x class) (λ x. number_of p (selected p x interface m0))
-    (λ x. coded p (selected_by p (selecting interface) m0 x)) (selected-alike p interface m0)
+    tested-alike v.loaded lower (λ x. is_subtype p x class) (λ x. number_of p (method_selected p x interface m0))
+    (λ x. method_coded p (selected_by p (selecting interface) m0 x)) (selected-alike p interface m0)
     (λ x there sub. is.whole class x lower within there sub own closed) m
 
 -- a method that was found is one of the class

@@ -15,7 +15,7 @@ use Rattle.call_revelation.specs.declared.lineage.Lineage.{Lineage}
 use Rattle.call_revelation.specs.declared.named.Named.{Named}
 use Rattle.call_revelation.specs.Books.{is_call}
 use Rattle.call_revelation.specs.CalledClasses.{AreHanded, HasCalled, HasUppers, called_class, classes_called, uppers_of}
-use Rattle.call_revelation.specs.Lineages.{IsClosed, IsLineage, IsNoted, direct, noted}
+use Rattle.call_revelation.specs.Lineages.{IsClosed, IsLineage, IsNoted, direct, class_noted}
 use Rattle.call_revelation.specs.Tables.{list_at}
 use Rattle.call_revelation.proofs.Adding.{among-append, among-with, either, equal, itself, or-false, or-first, or-later, to_flat}
 use Rattle.call_revelation.proofs.LineageLemmas.{loaded-before, noted-there, nothing-noted}
@@ -65,7 +65,7 @@ handed-kept p loaded old new class lower only same is = record {
 }
 
 pub handed-noted : (p : Program) (v : Lineage) (old new : Named) (class : ℕ) (lower : List ℕ) → IsLineage p v → is_among class lower ≡ true
-    → IsClosed v.below.items lower → IsNoted class lower old.above.items new.above.items → new.above.items ≡ noted class old.above.items lower
+    → IsClosed v.below.items lower → IsNoted class lower old.above.items new.above.items → new.above.items ≡ class_noted class old.above.items lower
     → new.classes ≡ with_class old.classes class → AreHanded p v.loaded old → AreHanded p v.loaded new
 handed-noted p v old new class lower lined own closed only noted_is added is = record {
   places = only.places ∙ is.places;

@@ -10,7 +10,7 @@ use Rattle.jvm_model.specs.Profiling.Targets.{begun_by, operations_of}
 use Rattle.jvm_named.specs.declared.symbolic_reference.SymbolicReference.{SymbolicReference}
 use Rattle.jvm_named.specs.Names.{symbolic_view}
 use Rattle.call_revelation.specs.declared.uses.Use.{Use}
-use Rattle.call_revelation.specs.Books.{Codes, IsBook, called_from, code_at, gathered, symbolic_reference_at, of_entered}
+use Rattle.call_revelation.specs.Books.{Codes, IsBook, called_from, code_at, methods_gathered, symbolic_reference_at, of_entered}
 use Rattle.call_revelation.specs.Tables.{Adds, list_at}
 use Rattle.call_revelation.proofs.Adding.{adds-then}
 use Rattle.call_revelation.proofs.CallerLemmas.{callers-loaded, viewed-fine}
@@ -32,7 +32,7 @@ module _ (p : Program) (loaded : List ℕ) (codes : Codes) (waiting calls : List
 pub gathered-both : (p : Program) (loaded : List ℕ) (new : ℕ) (entered : List ℕ) (codes : Codes) (waiting calls : List (List Use)) (supertypes all none called found : List ℕ)
     → none ≡ [] → all ≡ loaded ++ new ∷ [] → Adds none called (flat_map (called_from p loaded new entered codes calls) supertypes)
     → Adds called found (flat_map (of_entered entered codes (begun_by p all)) (list_at waiting new))
-    → (m : ℕ) → is_among m found ≡ is_among m (gathered p loaded new entered codes waiting calls supertypes)
+    → (m : ℕ) → is_among m found ≡ is_among m (methods_gathered p loaded new entered codes waiting calls supertypes)
 gathered-both p loaded new entered codes waiting calls supertypes all none called found empty is first second m =
     let calling = flat_map (called_from p loaded new entered codes calls) supertypes in
     adds-then none called found calling (flat_map (of_entered entered codes (begun_by p all)) (list_at waiting new)) first second m

@@ -11,7 +11,7 @@ use Rattle.jvm_model.specs.declared.program.Program.{Program}
 use Rattle.jvm_model.specs.Classes.Load.{is_among}
 use Rattle.jvm_model.specs.Basis.Methods.{code_of}
 use Rattle.jvm_model.specs.Profiling.Points.{is_target}
-use Rattle.jvm_model.specs.Basis.Programs.{coded_from, numbered, numbered_from, place_of_method}
+use Rattle.jvm_model.specs.Basis.Programs.{coded_from, methods_numbered, numbered_from, place_of_method}
 use Rattle.jvm_model.specs.Profiling.Revealed.{mark_of}
 use Rattle.jvm_model.specs.Soundness.Sound.{IsFit}
 use Rattle.jvm_model.specs.Profiling.Targets.{operations_of}
@@ -67,7 +67,7 @@ numbered-within n class (c ∷ cs) within =
     all-append (IsWithin n) (coded_from class 0 c.methods) (numbered_from (class + 1) cs) (coded-within n class 0 c.methods (omega (arith, within)))
     (numbered-within n (class + 1) cs (omega (arith, within)))
 
-pub place-within : (p : Program) → p.methods ≡ numbered p.classes → (m : ℕ) (place : MethodPlace) → place_of_method p m ≡ Some place → place.class < length p.classes
+pub place-within : (p : Program) → p.methods ≡ methods_numbered p.classes → (m : ℕ) (place : MethodPlace) → place_of_method p m ≡ Some place → place.class < length p.classes
 place-within p is m place e =
     all-get (IsWithin (length p.classes)) p.methods m place
     (subst (AllByRecursion (IsWithin (length p.classes))) (sym is) (numbered-within (length p.classes) 0 p.classes (omega arith))) e
@@ -97,7 +97,7 @@ replicate-length : {A : Type 0} (n : ℕ) (x : A) → length (replicate n x) ≡
 replicate-length zero x = refl
 replicate-length (suc n) x = ap suc (replicate-length n x)
 
-pub all-owned : (p : Program) → p.methods ≡ numbered p.classes → (own : List (List ℕ)) → own ≡ owned_from 0 p.methods (replicate (length p.classes) []) → AreOwned p own
+pub all-owned : (p : Program) → p.methods ≡ methods_numbered p.classes → (own : List (List ℕ)) → own ≡ owned_from 0 p.methods (replicate (length p.classes) []) → AreOwned p own
 all-owned p is own e m place there =
     ap (λ l. is_among m (list_at l place.class)) e
     ∙ owned-there 0 p.methods (replicate (length p.classes) []) m m place there (omega arith)
@@ -127,7 +127,7 @@ pub record IsEmpty (p : Program) (r : Reveal) : Type 0 where
   pub targets : r.targets ≡ []
   pub shown : r.shown ≡ replicate (length p.methods) Off
 
-pub first-revelation : (p : Program) (r : Reveal) → p.methods ≡ numbered p.classes → IsFit p → AllByRecursion HasShortCodes p.classes → AreNumbers p r.numbers
+pub first-revelation : (p : Program) (r : Reveal) → p.methods ≡ methods_numbered p.classes → IsFit p → AllByRecursion HasShortCodes p.classes → AreNumbers p r.numbers
     → IsLineage p r.lineage → IsBookOf p r.book → AreHanded p r.lineage.loaded r.named → IsEmpty p r → IsRevelation p r
 first-revelation p r is fit short numbers lineage book named empty = record {
   kept = record {

@@ -9,7 +9,7 @@ use Rattle.jvm_model.specs.Classes.Lookup.{interfaces_of, is_subtype, superclass
 use Rattle.jvm_model.specs.Soundness.Sound.{HasSupertypes}
 use Rattle.class_index.specs.Orders.{with_class}
 use Rattle.call_revelation.specs.declared.lineage.Lineage.{Lineage}
-use Rattle.call_revelation.specs.Lineages.{AreFollowed, IsClosed, IsLed, IsLineage, IsNoted, LeadTo, direct, noted}
+use Rattle.call_revelation.specs.Lineages.{AreFollowed, IsClosed, IsLed, IsLineage, IsNoted, LeadTo, direct, class_noted}
 use Rattle.call_revelation.specs.Reveals.{IsPrefix}
 use Rattle.call_revelation.specs.Tables.{Adds, list_at, with_item}
 use Rattle.call_revelation.proofs.Adding.{among-append, either, equal, itself, or-false, or-first, or-later}
@@ -92,7 +92,7 @@ among-get (y ∷ xs) (suc i) within = or-later (get_or xs i 0 == y) (is_among (g
 
 -- each of the lists has it
 pub noted-there : (lower : ℕ) (below : List (List ℕ)) (classes : List ℕ) (k : ℕ) → k < length below
-    → (is_among lower (list_at below k) ≡ true) ⊎ (is_among k classes ≡ true) → is_among lower (list_at (noted lower below classes) k) ≡ true
+    → (is_among lower (list_at below k) ≡ true) ⊎ (is_among k classes ≡ true) → is_among lower (list_at (class_noted lower below classes) k) ≡ true
 noted-there lower below [] k within (inl h) = h
 noted-there lower below [] k within (inr h) = absurd (false_true h)
 noted-there lower below (class ∷ rest) k within (inl h) =
@@ -166,7 +166,7 @@ lineage-kept p class uppers before after is same v = record {
 }
 
 pub lineage-more : (p : Program) (class : ℕ) (uppers : List ℕ) (before after : Lineage) → LeadTo p before.loaded class uppers
-    → IsNoted class uppers before.below.items after.below.items → after.below.items ≡ noted class before.below.items uppers
+    → IsNoted class uppers before.below.items after.below.items → after.below.items ≡ class_noted class before.below.items uppers
     → after.loaded ≡ with_class before.loaded class → IsLineage p before → IsLineage p after
 lineage-more p class uppers before after lead is noted_is loaded v = record {
   places = is.places ∙ v.places;

@@ -17,7 +17,7 @@ use Rattle.jvm_model.proofs.Revealing.Revealed.{is_gained, load-targets}
 use Rattle.jvm_named.specs.declared.symbolic_reference.SymbolicReference.{SymbolicReference}
 use Rattle.jvm_named.specs.Names.{symbolic_view}
 use Rattle.call_revelation.specs.declared.uses.Use.{Use}
-use Rattle.call_revelation.specs.Books.{Codes, IsBook, called_by, called_from, called_on, code_at, gathered, is_use, symbolic_reference_at, of_entered}
+use Rattle.call_revelation.specs.Books.{Codes, IsBook, called_by, called_from, called_on, code_at, methods_gathered, is_use, symbolic_reference_at, of_entered}
 use Rattle.call_revelation.specs.CalledClasses.{HasUppers, called_class}
 use Rattle.call_revelation.specs.Tables.{list_at}
 use Rattle.call_revelation.proofs.Adding.{alike, among-append, either, equal, first-of, from_flat, itself, or-first, or-later, second-of, to_flat}
@@ -309,20 +309,20 @@ module _ (p : Program) (codes : Codes) (waiting calls : List (List Use)) (book :
         → (b ≡ true → is_target p (operations_of p) all entered m ≡ true) → is_target p (operations_of p) all entered m ≡ true
     gathered-or a b h first second = elim (either a b h) [ inl x ↦ first x | inr y ↦ second y ]
 
-    is-gathered-all : is_among m (gathered p loaded new entered codes waiting calls uppers) ≡ (is_among m called || is_among m waited)
+    is-gathered-all : is_among m (methods_gathered p loaded new entered codes waiting calls uppers) ≡ (is_among m called || is_among m waited)
     is-gathered-all = among-append m called waited
 
     law : is_target p (operations_of p) all entered m ≡ (before || is_gained p (operations_of p) loaded new entered m)
     law = load-targets p (operations_of p) loaded new above fresh m entered
 
     pub load-step : is_target p (operations_of p) all entered m
-        ≡ (is_target p (operations_of p) loaded entered m || is_among m (gathered p loaded new entered codes waiting calls uppers))
+        ≡ (is_target p (operations_of p) loaded entered m || is_among m (methods_gathered p loaded new entered codes waiting calls uppers))
     load-step =
-        alike (is_target p (operations_of p) all entered m) (before || is_among m (gathered p loaded new entered codes waiting calls uppers))
+        alike (is_target p (operations_of p) all entered m) (before || is_among m (methods_gathered p loaded new entered codes waiting calls uppers))
         (λ t. elim (either before (is_gained p (operations_of p) loaded new entered m) (sym law ∙ t)) [
-          | inl x ↦ or-first before (is_among m (gathered p loaded new entered codes waiting calls uppers)) x
-          | inr y ↦ or-later before (is_among m (gathered p loaded new entered codes waiting calls uppers)) (is-gathered-all ∙ gained-gathered y)
+          | inl x ↦ or-first before (is_among m (methods_gathered p loaded new entered codes waiting calls uppers)) x
+          | inr y ↦ or-later before (is_among m (methods_gathered p loaded new entered codes waiting calls uppers)) (is-gathered-all ∙ gained-gathered y)
         ])
-        (λ t. gathered-or before (is_among m (gathered p loaded new entered codes waiting calls uppers)) t
+        (λ t. gathered-or before (is_among m (methods_gathered p loaded new entered codes waiting calls uppers)) t
         (λ x. law ∙ or-first before (is_gained p (operations_of p) loaded new entered m) x)
         (λ y. gathered-or (is_among m called) (is_among m waited) (sym is-gathered-all ∙ y) from-called from-waiting))

@@ -15,7 +15,7 @@ use Rattle.call_revelation.specs.declared.book.Book.{Book}
 use Rattle.call_revelation.specs.declared.lineage.Lineage.{Lineage}
 use Rattle.call_revelation.specs.declared.named.Named.{Named}
 use Rattle.call_revelation.specs.declared.reveal.Reveal.{Reveal}
-use Rattle.call_revelation.specs.Books.{IsBookOf, code_at, gathered}
+use Rattle.call_revelation.specs.Books.{IsBookOf, code_at, methods_gathered}
 use Rattle.call_revelation.specs.CalledClasses.{AreHanded, HasCalled, HasUppers}
 use Rattle.call_revelation.specs.Lineages.{IsLineage}
 use Rattle.call_revelation.specs.Ranks.{flag_at}
@@ -162,7 +162,7 @@ module _ (p : Program) (r : Reveal) (is : IsRevelation p r) (new : ℕ) (above :
     (handed : AreHanded p (r.lineage.loaded ++ new ∷ []) r.named) (uppers : List ℕ) (whole : HasUppers p r.entered new uppers)
     (found targets stale first : List ℕ)
     (adds : (m : ℕ) → is_among m found
-    ≡ is_among m (gathered p r.lineage.loaded new r.entered r.book.codes r.book.waiting.items r.book.calls.items uppers))
+    ≡ is_among m (methods_gathered p r.lineage.loaded new r.entered r.book.codes r.book.waiting.items r.book.calls.items uppers))
     (targeted : Adds r.targets targets found) (staled : Adds r.stale first found) (owned : Adds first stale (list_at r.own.items new)) where
   -- the targets with the class
   target-more : (m : ℕ) → is_target p (operations_of p) (r.lineage.loaded ++ new ∷ []) r.entered m

@@ -13,7 +13,7 @@ use Rattle.jvm_model.specs.Classes.Lookup.{MemberPlace, is_subtype, resolved_fie
 use Rattle.jvm_model.specs.Instructions.SymbolicReference.{SymbolicReference, New, Getfield, Putfield, Getstatic, Putstatic, Invokevirtual, Invokespecial, Invokestatic, Invokeinterface, Checkcast, Instanceof, Anewarray, Multianewarray, LdcClass}
 use Rattle.jvm_model.specs.Basis.Programs.{class_named, initializer_of}
 use Rattle.jvm_model.specs.Classes.Selection.{is_static}
-use Rattle.jvm_model.specs.Profiling.Targets.{begun_by, begun_by_operation, begun_field, begun_on, begun_static, class_with_methods, coded, coded_at, found_where, initializers, invoked_by, is_array_type, loaded_class_named, selections, targets_in, where_loaded}
+use Rattle.jvm_model.specs.Profiling.Targets.{begun_by, begun_by_operation, begun_field, begun_on, begun_static, class_with_methods, method_coded, coded_at, found_where, initializers, invoked_by, is_array_type, loaded_class_named, selections, targets_in, where_loaded}
 use Rattle.call_revelation.proofs.Adding.{alike, among-append, among-filter, both, first-of, from_flat, made-flat, second-of, to_flat}
 
 module _ (p : Program) where
@@ -54,7 +54,7 @@ module _ (p : Program) where
 
   selections-same : (a b : List ℕ) (class : ℕ) (by : Selecting) (found : MemberPlace) (m : ℕ) → AreSame a b
       → is_among m (selections p a class by found) ≡ is_among m (selections p b class by found)
-  selections-same a b class by found m same = made-same (λ receiver. coded p (selected_by p by found receiver)) (λ lower. is_subtype p lower class) a b m same
+  selections-same a b class by found m same = made-same (λ receiver. method_coded p (selected_by p by found receiver)) (λ lower. is_subtype p lower class) a b m same
 
   invoked-same : (a b : List ℕ) (class : ℕ) (by : Selecting) (found : MemberPlace) (m : ℕ) → AreSame a b
       → is_among m (invoked_by p a class by found) ≡ is_among m (invoked_by p b class by found)

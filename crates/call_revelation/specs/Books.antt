@@ -112,7 +112,7 @@ called_from p loaded new entered codes calls class =
     if is_among class loaded then flat_map (of_entered entered codes (called_by p new class)) (list_at calls class) else []
 
 -- of all calls that name a class above the new one, and of all instructions that name it itself
-abbrev pub gathered : Program → List ℕ → ℕ → List ℕ → Codes → List (List Use) → List (List Use) → List ℕ → List ℕ
-gathered p loaded new entered codes waiting calls supertypes =
+abbrev pub methods_gathered : Program → List ℕ → ℕ → List ℕ → Codes → List (List Use) → List (List Use) → List ℕ → List ℕ
+methods_gathered p loaded new entered codes waiting calls supertypes =
     flat_map (called_from p loaded new entered codes calls) supertypes
     ++ flat_map (of_entered entered codes (begun_by p (loaded ++ new ∷ []))) (list_at waiting new)

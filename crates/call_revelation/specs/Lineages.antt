@@ -8,7 +8,7 @@ use Rattle.jvm_model.specs.Classes.Load.{is_among}
 use Rattle.jvm_model.specs.Classes.Lookup.{MemberPlace, interfaces_of, is_subtype, superclass_of}
 use Rattle.jvm_model.specs.Instructions.SymbolicReference as model
 use Rattle.jvm_model.specs.Basis.Programs.{initializer_of, number_of_method}
-use Rattle.jvm_model.specs.Classes.Selection.{selected}
+use Rattle.jvm_model.specs.Classes.Selection.{method_selected}
 use Rattle.jvm_model.specs.Profiling.Targets.{begun_field, begun_on, begun_static, initializers, where_loaded}
 use Rattle.class_linker.specs.Linkers.{IsLoaded, LinkerView}
 use Rattle.jvm_named.specs.Numbers.{AreNumbers, Row}
@@ -45,9 +45,9 @@ abbrev pub LeadTo : Program → List ℕ → ℕ → List ℕ → Type 0
 LeadTo p loaded class uppers = (upper : ℕ) → upper < length p.classes → is_subtype p class upper ≡ true → (class ≡ upper) ⊎ IsLed p loaded uppers upper
 
 -- a class more in the lists of these
-abbrev pub noted : ℕ → List (List ℕ) → List ℕ → List (List ℕ)
-noted lower below [] = below
-noted lower below (class ∷ rest) = noted lower (with_item class lower below) rest
+abbrev pub class_noted : ℕ → List (List ℕ) → List ℕ → List (List ℕ)
+class_noted lower below [] = below
+class_noted lower below (class ∷ rest) = class_noted lower (with_item class lower below) rest
 
 -- it was noted in lists of these alone, and nothing went
 pub record IsNoted (lower : ℕ) (classes : List ℕ) (before after : List (List ℕ)) : Type 0 where
@@ -75,7 +75,7 @@ number_of p found = option_and_then (λ (m : MemberPlace). number_of_method p m.
 
 -- what is selected from a class at or below this one
 abbrev pub selected_below : Program → Bool → ℕ → MemberPlace → ℕ → Option ℕ
-selected_below p interface class m lower = if is_subtype p lower class then number_of p (selected p lower interface m) else None
+selected_below p interface class m lower = if is_subtype p lower class then number_of p (method_selected p lower interface m) else None
 
 -- the same where it is loaded
 abbrev pub selection_of : Program → List ℕ → Bool → ℕ → MemberPlace → ℕ → Option ℕ

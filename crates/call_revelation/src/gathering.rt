@@ -4,7 +4,7 @@ ghost use Rattle.std.specs.Prelude.{◌≡◌, ◌<◌, ◌+◌, ◌^◌, ℕ, [
 ghost use Rattle.std.specs.List.{AllByRecursion, range_with_len};
 ghost use Rattle.jvm_model.specs.Basis.KindNumbers.{user_count};
 ghost use Rattle.jvm_model.specs.Classes.Load.{is_among};
-ghost use Rattle.jvm_model.specs.Basis.Programs.{numbered};
+ghost use Rattle.jvm_model.specs.Basis.Programs.{methods_numbered};
 ghost use Rattle.jvm_model.specs.Soundness.Sound.{HasClass, HasLoadedCaller, IsFit};
 ghost use Rattle.jvm_model.specs.Profiling.Targets.{begun_by, targets};
 ghost use Rattle.class_index.specs.Orders.{with_classes};
@@ -102,8 +102,8 @@ fn in_order(alloc: Global, found: &Order, bound: usize) -> Result<Seq<u32>, NoMe
 }
 
 /// What the original code of a method begins.
-fn gathered(alloc: Global, method: u32, linker: &Linker) -> Result<Order, NoMemory>
-    requires numbered { linker.now.program.methods ≡ numbered linker.now.program.classes }
+fn methods_gathered(alloc: Global, method: u32, linker: &Linker) -> Result<Order, NoMemory>
+    requires numbered { linker.now.program.methods ≡ methods_numbered linker.now.program.classes }
     requires few { all_coded linker.now.program.classes < 2 ^ 32 }
     requires codes { AllByRecursion HasShortCodes linker.now.program.classes }
     requires fit { IsFit linker.now.program }
@@ -124,7 +124,7 @@ fn gathered(alloc: Global, method: u32, linker: &Linker) -> Result<Order, NoMemo
 /// The numbers of all methods with Code that an instruction of a method's original code can begin over the classes that are loaded,
 /// each once and in their order. The method's class is loaded, and java/lang/Object is. It goes through the whole program once.
 pub fn targets(alloc: Global, method: u32, linker: &Linker) -> Result<Seq<u32>, NoMemory>
-    requires numbered { linker.now.program.methods ≡ numbered linker.now.program.classes }
+    requires numbered { linker.now.program.methods ≡ methods_numbered linker.now.program.classes }
     requires few { all_coded linker.now.program.classes < 2 ^ 32 }
     requires codes { AllByRecursion HasShortCodes linker.now.program.classes }
     requires fit { IsFit linker.now.program }
@@ -134,7 +134,7 @@ pub fn targets(alloc: Global, method: u32, linker: &Linker) -> Result<Seq<u32>, 
     ensures targets { IfOk result (λ ms. (m : ℕ) → is_among m ms
         ≡ is_among m (targets linker.now.program linker.now.loaded method)) }
 {
-    let found = gathered(alloc, method, linker)?;
+    let found = methods_gathered(alloc, method, linker)?;
     let bound = bound_of(found.as_slice());
     let all = in_order(alloc, &found, bound)?;
     Ok(all)

@@ -4,7 +4,7 @@ ghost use Rattle.std.specs.Prelude.{◌≡◌, [], if◌then◌else◌, is_ok, r
 ghost use Rattle.jvm_model.specs.declared.program.Program.{Program};
 ghost use Rattle.jvm_model.specs.Classes.Load.{is_among};
 ghost use Rattle.class_index.specs.Orders.{with_class};
-ghost use Rattle.call_revelation.specs.Lineages.{IsClosed, IsLineage, IsNoted, LeadTo, direct, noted};
+ghost use Rattle.call_revelation.specs.Lineages.{IsClosed, IsLineage, IsNoted, LeadTo, direct, class_noted};
 ghost use Rattle.call_revelation.specs.Tables.{list_at};
 
 use crate::growing::add_more;
@@ -25,7 +25,7 @@ pub struct Lineage {
 
 /// Notes a class in the lists of these.
 pub fn note(lists: &mut [Seq<u32>], classes: &[u32], class: u32) -> Result<(), NoMemory>
-    ensures noted { OnOk result (lists.new ≡ noted class lists.old classes.now) }
+    ensures noted { OnOk result (lists.new ≡ class_noted class lists.old classes.now) }
     ensures only { IsNoted class classes.now lists.old lists.new }
 {
     for above in classes {

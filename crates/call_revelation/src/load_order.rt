@@ -5,7 +5,7 @@ ghost use Rattle.class_index.specs.Orders.{with_class};
 ghost use Rattle.jvm_model.specs.Classes.Load.{is_among};
 ghost use Rattle.call_revelation.specs.Ranks.{AreDistinct, rank_of};
 
-use crate::tables::{make_room, repeated};
+use crate::tables::{items_repeated, make_room};
 use jf_bytes::{NoMemory, Seq};
 use std::alloc::Global;
 use std::marker::Model;
@@ -33,7 +33,7 @@ impl LoadOrder {
     pub fn new(alloc: Global, classes: usize) -> Result<LoadOrder, NoMemory>
         ensures { IfOk result (λ order. order ≡ []) }
     {
-        let ranks = repeated(alloc, 0, classes)?;
+        let ranks = items_repeated(alloc, 0, classes)?;
         Ok(LoadOrder {
             classes: Seq::new(alloc),
             ranks,

@@ -12,7 +12,7 @@ ghost use Rattle.jvm_model.specs.Profiling.Targets.{begun_by};
 ghost use Rattle.class_linker.specs.Linkers.{IsLoaded};
 ghost use Rattle.jvm_named.specs.Names.{symbolic_view};
 ghost use Rattle.call_revelation.specs.Books.{Begins, called_by, called_from};
-ghost use Rattle.call_revelation.specs.Books.{gathered, symbolic_reference_at, of_entered};
+ghost use Rattle.call_revelation.specs.Books.{methods_gathered, symbolic_reference_at, of_entered};
 ghost use Rattle.call_revelation.specs.CalledClasses.{AreHanded};
 ghost use Rattle.call_revelation.specs.Lineages.{IsLineage, LeadTo};
 ghost use Rattle.call_revelation.specs.Reveals.{IsAhead, IsPrefix, IsGrown, IsKept, IsRevelation};
@@ -210,7 +210,7 @@ impl Reveal {
         ensures loaded { OnOk result (self.new.lineage.loaded
             ≡ self.old.lineage.loaded ++ new ∷ []) }
         ensures gathered { IfOk result (λ found. (m : ℕ) → is_among m found
-            ≡ is_among m (gathered linker.now.program self.old.lineage.loaded new
+            ≡ is_among m (methods_gathered linker.now.program self.old.lineage.loaded new
             self.old.entered self.old.book.codes self.old.book.waiting.items
             self.old.book.calls.items
             (list_at self.old.named.above.items new))) }

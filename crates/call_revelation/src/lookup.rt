@@ -5,7 +5,7 @@ ghost use Rattle.std.specs.Option.{option_map};
 ghost use Rattle.jvm_model.specs.Instructions.FieldRules.{is_static_field};
 ghost use Rattle.jvm_model.specs.Classes.Lookup.{Found, resolved_field, resolved_method};
 ghost use Rattle.jvm_model.specs.Basis.Programs.{initializer_name, initializer_of};
-ghost use Rattle.jvm_model.specs.Classes.Selection.{is_static, selected};
+ghost use Rattle.jvm_model.specs.Classes.Selection.{is_static, method_selected};
 ghost use Rattle.class_index.specs.Members.{wanted_view};
 ghost use Rattle.class_linker.specs.Linkers.{IsLoaded};
 ghost use Rattle.jvm_named.specs.Members.{at_place, reference_of};
@@ -161,7 +161,7 @@ pub fn selected_number(
     requires numbers { AreNumbers linker.now.program numbers.now }
     requires loaded { IsLoaded linker.now receiver }
     ensures { result ≡ number_of linker.now.program
-        (selected linker.now.program receiver interface (at_place m)) }
+        (method_selected linker.now.program receiver interface (at_place m)) }
 {
     let (class, position) = linker.select(receiver, m.class, m.position, interface)?;
     numbers.number(class, position)

@@ -6,7 +6,7 @@ ghost use Rattle.jvm_model.specs.declared.event.Mark.TheVariants.{Off};
 ghost use Rattle.jvm_model.specs.declared.program.Program.{Program};
 ghost use Rattle.jvm_model.specs.Classes.Load.{is_among};
 ghost use Rattle.jvm_model.specs.Profiling.Points.{is_empty};
-ghost use Rattle.jvm_model.specs.Basis.Programs.{numbered};
+ghost use Rattle.jvm_model.specs.Basis.Programs.{methods_numbered};
 ghost use Rattle.jvm_model.specs.Profiling.Revealed.{mark_of};
 ghost use Rattle.jvm_model.specs.Soundness.Sound.{IsFit};
 ghost use Rattle.prepared_code.specs.Prepared.{HasShortCodes};
@@ -19,7 +19,7 @@ use crate::book::Book;
 use crate::lineage::Lineage;
 use crate::named::Named;
 use crate::selection::Selection;
-use crate::tables::{add_item, no_lists, repeated};
+use crate::tables::{add_item, items_repeated, no_lists};
 use class_index::Order;
 use jf_bytes::{NoMemory, Seq, Stack};
 use jvm_model::{Mark, MethodPlace, Program};
@@ -46,7 +46,11 @@ pub struct Reveal {
 }
 
 /// The numbers of methods by their classes.
-fn owned(alloc: Global, methods: &[MethodPlace], classes: usize) -> Result<Vec<Seq<u32>>, NoMemory>
+fn methods_by_class(
+    alloc: Global,
+    methods: &[MethodPlace],
+    classes: usize,
+) -> Result<Vec<Seq<u32>>, NoMemory>
     requires { length methods.now < 2 ^ 32 }
     ensures { IfOk result (λ own. own.items
         ≡ owned_from 0 methods.now (replicate classes [])) }
@@ -71,7 +75,7 @@ pub fn own_of(own: &[Seq<u32>], class: u32) -> &[u32]
 impl Reveal {
     /// Nothing is selected, entered or loaded, and no method is shown as marked.
     pub fn new(alloc: Global, program: &Program) -> Result<Reveal, NoMemory>
-        requires numbered { program.now.methods ≡ numbered program.now.classes }
+        requires numbered { program.now.methods ≡ methods_numbered program.now.classes }
         requires few { length program.now.methods < 2 ^ 32 }
         requires short { AllByRecursion HasShortCodes program.now.classes }
         requires fit { IsFit program.now }
@@ -82,13 +86,13 @@ impl Reveal {
         let classes = program.classes.len();
         let methods = Seq::from_slice(alloc, places)?;
         let numbers = MethodNumbers::new(alloc, program)?;
-        let own = owned(alloc, places, classes)?;
+        let own = methods_by_class(alloc, places, classes)?;
         let lineage = Lineage::new(alloc, classes)?;
         let book = Book::new(alloc, places.len(), classes)?;
         let named = Named::new(alloc, classes)?;
         let selected = Selection::new(alloc, places.len())?;
-        let flags = repeated(alloc, false, places.len())?;
-        let shown = repeated(alloc, Mark::Off, places.len())?;
+        let flags = items_repeated(alloc, false, places.len())?;
+        let shown = items_repeated(alloc, Mark::Off, places.len())?;
         Ok(Reveal {
             methods,
             numbers,

@@ -5,7 +5,7 @@ ghost use Rattle.jvm_model.specs.Classes.Load.{is_among};
 ghost use Rattle.jvm_model.specs.Profiling.Points.{is_empty};
 ghost use Rattle.jvm_model.specs.Profiling.Revealed.{without_method};
 
-use crate::tables::{make_room, put, repeated};
+use crate::tables::{items_repeated, make_room, put};
 use jf_bytes::{NoMemory, Seq};
 use std::alloc::Global;
 use std::marker::Model;
@@ -64,7 +64,7 @@ impl Selection {
     pub fn new(alloc: Global, methods: usize) -> Result<Selection, NoMemory>
         ensures { IfOk result (λ selection. selection ≡ []) }
     {
-        let flags = repeated(alloc, false, methods)?;
+        let flags = items_repeated(alloc, false, methods)?;
         Ok(Selection {
             methods: Seq::new(alloc),
             flags,

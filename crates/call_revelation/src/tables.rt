@@ -8,7 +8,11 @@ use jf_bytes::{NoMemory, Seq};
 use std::alloc::Global;
 
 /// So many of the same.
-pub fn repeated<T: Copy + Drop>(alloc: Global, item: T, count: usize) -> Result<Seq<T>, NoMemory>
+pub fn items_repeated<T: Copy + Drop>(
+    alloc: Global,
+    item: T,
+    count: usize,
+) -> Result<Seq<T>, NoMemory>
     ensures { IfOk result (λ items. items ≡ replicate count item) }
 {
     let mut items = Seq::with_capacity(alloc, count)?;

@@ -22,7 +22,7 @@ pub enum CopyError {
 }
 
 /// The bytes of a class file as the writer makes them from what the reader made of them: the same bytes.
-fn copied(alloc: Global, bytes: &[u8]) -> Result<Vec<u8>, CopyError>
+fn bytes_copied(alloc: Global, bytes: &[u8]) -> Result<Vec<u8>, CopyError>
     ensures same { IfOk result (λ copy. copy.items ≡ bytes.now) }
     ensures file { IfOk result (λ _. IsSomeFile bytes.now) }
     ensures not_read { (fault : Fault) → result ≡ Err (CopyError.NotRead fault)
@@ -73,7 +73,7 @@ fn copy_of<F: Files>(alloc: Global, name: &str, files: &mut F) -> Result<Vec<u8>
         Ok(bytes) => bytes,
         Err(error) => return Err(error),
     };
-    match copied(alloc, &bytes) {
+    match bytes_copied(alloc, &bytes) {
         Ok(copy) => Ok(copy),
         Err(error) => Err(error),
     }

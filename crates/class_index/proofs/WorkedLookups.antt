@@ -6,7 +6,7 @@ use Rattle.jvm_model.specs.declared.program.Program.{Program}
 use Rattle.jvm_model.specs.Classes.Kinds.{is_subkind, kind_named}
 use Rattle.jvm_model.specs.Classes.Layouts.{layout}
 use Rattle.jvm_model.specs.Classes.Lookup.{Found, Fails, incompatible_change, is_subtype, place_in, resolved_field, resolved_method}
-use Rattle.jvm_model.specs.Classes.Selection.{package_of, selected}
+use Rattle.jvm_model.specs.Classes.Selection.{package_of, method_selected}
 use Rattle.jvm_model.specs.Basis.SharedState.{no_such_field, no_such_method}
 use Rattle.class_index.proofs.WorkedClasses.{class_shape, interface_shape, item, object, program_of, root_class, texts, with_fields, with_methods}
 
@@ -106,10 +106,10 @@ of_object = refl
 
 -- ---- selection
 
-pub by_the_superclass : selected of_both 2 true (place_in 3 0) ≡ Some (place_in 1 0)
+pub by_the_superclass : method_selected of_both 2 true (place_in 3 0) ≡ Some (place_in 1 0)
 by_the_superclass = refl
 
-pub of_none_declared : selected of_both 2 true (place_in 4 0) ≡ None
+pub of_none_declared : method_selected of_both 2 true (place_in 4 0) ≡ None
 of_none_declared = refl
 
 -- three classes, each with v of these flags, each below the one before
@@ -121,28 +121,28 @@ three x first y second z third = program_of (
     ∷ with_methods (item third (codes "v") (codes "()V") ∷ []) (class_shape z y [])
     ∷ [])
 
-pub across_packages : selected (three (codes "p/A") 0 (codes "p/B") 0 (codes "q/C") 1) 3 false (place_in 1 0) ≡ Some (place_in 2 0)
+pub across_packages : method_selected (three (codes "p/A") 0 (codes "p/B") 0 (codes "q/C") 1) 3 false (place_in 1 0) ≡ Some (place_in 2 0)
 across_packages = refl
 
-pub through_a_public_one : selected (three (codes "p/A") 0 (codes "p/B") 1 (codes "q/C") 1) 3 false (place_in 1 0) ≡ Some (place_in 3 0)
+pub through_a_public_one : method_selected (three (codes "p/A") 0 (codes "p/B") 1 (codes "q/C") 1) 3 false (place_in 1 0) ≡ Some (place_in 3 0)
 through_a_public_one = refl
 
-pub through_a_static_one : selected (three (codes "p/A") 0 (codes "p/B") 9 (codes "q/C") 1) 3 false (place_in 1 0) ≡ Some (place_in 3 0)
+pub through_a_static_one : method_selected (three (codes "p/A") 0 (codes "p/B") 9 (codes "q/C") 1) 3 false (place_in 1 0) ≡ Some (place_in 3 0)
 through_a_static_one = refl
 
-pub not_through_a_private_one : selected (three (codes "p/A") 0 (codes "p/B") 2 (codes "q/C") 1) 3 false (place_in 1 0) ≡ Some (place_in 2 0)
+pub not_through_a_private_one : method_selected (three (codes "p/A") 0 (codes "p/B") 2 (codes "q/C") 1) 3 false (place_in 1 0) ≡ Some (place_in 2 0)
 not_through_a_private_one = refl
 
-pub private_overrides : selected (three a 1 b 2 c 8) 3 false (place_in 1 0) ≡ Some (place_in 2 0)
+pub private_overrides : method_selected (three a 1 b 2 c 8) 3 false (place_in 1 0) ≡ Some (place_in 2 0)
 private_overrides = refl
 
-pub private_is_not_overridden : selected (three a 2 b 1 c 1) 3 false (place_in 1 0) ≡ Some (place_in 1 0)
+pub private_is_not_overridden : method_selected (three a 2 b 1 c 1) 3 false (place_in 1 0) ≡ Some (place_in 1 0)
 private_is_not_overridden = refl
 
-pub static_is_passed_over : selected (three a 1 b 1 c 9) 3 false (place_in 1 0) ≡ Some (place_in 2 0)
+pub static_is_passed_over : method_selected (three a 1 b 1 c 9) 3 false (place_in 1 0) ≡ Some (place_in 2 0)
 static_is_passed_over = refl
 
-pub abstract_is_none : selected (three a 1 b 1 c 1025) 3 false (place_in 1 0) ≡ None
+pub abstract_is_none : method_selected (three a 1 b 1 c 1025) 3 false (place_in 1 0) ≡ None
 abstract_is_none = refl
 
 -- ---- arrays: a class list of which the first three stand for what every array is

@@ -3,7 +3,7 @@ use Rattle.std.proofs.Common.{◌≡◌, ℕ, suc, ◌-◌, ◌<◌, ◌≤◌, 
 use Rattle.std.specs.Prelude.{Option, Some, None}
 use Rattle.std.proofs.Math.ListN.{drop_of_length-le}
 use Rattle.std.proofs.Math.Seq.{drop-cons}
-use Rattle.jvm_model.specs.Classes.Load.{Incompatible, Loading, behind_needs, done, failed, is_among, is_met, load_named, load_needs, needs_of}
+use Rattle.jvm_model.specs.Classes.Load.{Incompatible, Loading, behind_needs, loading_done, loading_failed, is_among, is_met, load_named, load_needs, needs_of}
 use Rattle.jvm_model.specs.Classes.Lookup.{interfaces_of, superclass_of}
 use Rattle.jvm_model.specs.declared.program.Program.{Program}
 use Rattle.class_linker.specs.LoadedClasses.{LoadedClasses, holds_all, holds_class}
@@ -41,14 +41,14 @@ module _ (p : Program) (depth : ℕ) (path : List ℕ) (class : ℕ) (before now
   pub stopped_behind : (d : Need) → i < length items → (taken after : List ℕ) (result : Option code.Fault) → taken ≡ path ++ class ∷ []
       → loading_view after result ≡ load_named p (depth - 1) taken (get_or items i d).name.now now → result ≡ None
       → is_met p (need_view (get_or items i d)) ≡ false
-      → failed after Incompatible ≡ fresh_of p depth path before class
+      → loading_failed after Incompatible ≡ fresh_of p depth path before class
   stopped_behind d within taken after result same e is not_met =
       ap (behind_needs class) (sym (stops_behind p (load_named p (depth - 1) (path ++ class ∷ [])) (need_view (get_or items i d)) (map need_view (drop (suc i) items)) now after
       (gave taken (get_or items i d).name.now after result None same e is) not_met) ∙ from_here d within)
 
   -- ---- at the end
 
-  all_done : length items ≤ i → load_needs p (load_named p (depth - 1) (path ++ class ∷ [])) (needs_of p class) before ≡ done now
+  all_done : length items ≤ i → load_needs p (load_named p (depth - 1) (path ++ class ∷ [])) (needs_of p class) before ≡ loading_done now
   all_done past = sym walked ∙ ap (λ ns. load_needs p (load_named p (depth - 1) (path ++ class ∷ [])) (map need_view ns) now) (drop_of_length-le items past)
 
   pub still_fresh : length items ≤ i → (s : Standing) → IfFresh p path before s → s ≡ Fresh class → is_among class now ≡ false
@@ -67,5 +67,5 @@ module _ (p : Program) (depth : ℕ) (path : List ℕ) (class : ℕ) (before now
       all_have (λ c. is_among c now) (holds_class rows) have (superclass_of p class)
       (superclass_passes p (λ c. is_among c now) class (needs_done p (depth - 1) (path ++ class ∷ []) now (needs_of p class) before (all_done past)))
 
-  pub is_loaded : length items ≤ i → (after : List ℕ) → after ≡ now ++ class ∷ [] → done after ≡ fresh_of p depth path before class
-  is_loaded past after is = ap done is ∙ ap (behind_needs class) (sym (all_done past))
+  pub is_loaded : length items ≤ i → (after : List ℕ) → after ≡ now ++ class ∷ [] → loading_done after ≡ fresh_of p depth path before class
+  is_loaded past after is = ap loading_done is ∙ ap (behind_needs class) (sym (all_done past))

@@ -7,7 +7,7 @@ use Rattle.std.specs.Option.{option_and_then, option_map_or, option_to_list}
 use Rattle.const_pool.specs.declared.class.ClassFile.{ClassFile}
 use Rattle.const_pool.specs.References.{named_class}
 use Rattle.jvm_model.specs.Classes.Kinds.{Element, Primitive, Named, array_from, array_of, is_array_name, meaning_of}
-use Rattle.jvm_model.specs.Classes.Load.{Fault, Circular, Incompatible, Loading, Need, There, Begun, Fresh as Unloaded, behind_needs, by_standing, class_needs, done, failed, go_on, is_among, is_met, load_element, load_named, load_needs, need, need_fault, needs_of, standing_of, unless}
+use Rattle.jvm_model.specs.Classes.Load.{Fault, Circular, Incompatible, Loading, Need, There, Begun, Fresh as Unloaded, behind_needs, by_standing, class_needs, loading_done, loading_failed, go_on, is_among, is_met, load_element, load_named, load_needs, need, need_fault, needs_of, standing_of, unless}
 use Rattle.jvm_model.specs.Classes.Lookup.{interface_names, interfaces_of, is_interface, superclass_of}
 use Rattle.jvm_model.specs.Basis.Programs.{class_at, class_named}
 use Rattle.jvm_model.specs.declared.program.Program.{Program}
@@ -38,7 +38,7 @@ module _ (p : Program) (P : List ℕ → Type 0) (first : List ℕ)
       (λ l g. unless_kept (need_fault p n) l (load_needs p load rest) g (needs_kept load k rest))
 
   behind_kept : (class : ℕ) (l : Loading) → is_among class first ≡ false → P l.loaded → P (behind_needs class l).loaded
-  behind_kept class l other h = unless_kept l.fault l.loaded (λ loaded. done (loaded ++ class ∷ [])) h (λ loaded g. one_more loaded class other g)
+  behind_kept class l other h = unless_kept l.fault l.loaded (λ loaded. loading_done (loaded ++ class ∷ [])) h (λ loaded g. one_more loaded class other g)
 
   -- the path has the first classes
   Begins : List ℕ → Type 0
@@ -147,12 +147,12 @@ module _ (p : Program) (depth : ℕ) (path name loaded : List ℕ) (some : depth
 
 -- at a need that has a fault
 pub stops_at : (p : Program) (load : List ℕ → List ℕ → Loading) (n : Need) (rest : List Need) (loaded after : List ℕ) (fault : Fault)
-    → load n.name loaded ≡ failed after fault → load_needs p load (n ∷ rest) loaded ≡ failed after fault
+    → load n.name loaded ≡ loading_failed after fault → load_needs p load (n ∷ rest) loaded ≡ loading_failed after fault
 stops_at p load n rest loaded after fault e = ap (λ l. go_on l (λ l. unless (need_fault p n) l (load_needs p load rest))) e
 
 -- at a need that is not met
 pub stops_behind : (p : Program) (load : List ℕ → List ℕ → Loading) (n : Need) (rest : List Need) (loaded after : List ℕ)
-    → load n.name loaded ≡ done after → is_met p n ≡ false → load_needs p load (n ∷ rest) loaded ≡ failed after Incompatible
+    → load n.name loaded ≡ loading_done after → is_met p n ≡ false → load_needs p load (n ∷ rest) loaded ≡ loading_failed after Incompatible
 stops_behind p load n rest loaded after e not_met =
     ap (λ l. go_on l (λ l. unless (need_fault p n) l (load_needs p load rest))) e
     ∙ ap (λ b. unless (if b then None else Some Incompatible) after (load_needs p load rest)) not_met
@@ -162,22 +162,22 @@ stops_behind p load n rest loaded after e not_met =
 some_none : (f : Fault) → Some f ≡ None → ⊥
 some_none f e = cc
 
-failed_done : (loaded after : List ℕ) (fault : Fault) → failed loaded fault ≡ done after → ⊥
+failed_done : (loaded after : List ℕ) (fault : Fault) → loading_failed loaded fault ≡ loading_done after → ⊥
 failed_done loaded after fault e = some_none fault (ap (λ (l : Loading). l.fault) e)
 
-done_done : (loaded after : List ℕ) → done loaded ≡ done after → loaded ≡ after
+done_done : (loaded after : List ℕ) → loading_done loaded ≡ loading_done after → loaded ≡ after
 done_done loaded after e = ap (λ (l : Loading). l.loaded) e
 
 module _ (p : Program) (class : ℕ) (after : List ℕ) where
-  behind_done : (l : Loading) → behind_needs class l ≡ done after → is_among class after ≡ true
+  behind_done : (l : Loading) → behind_needs class l ≡ loading_done after → is_among class after ≡ true
   behind_done l e = by l.fault e
     where
-      by : (o : Option Fault) → unless o l.loaded (λ loaded. done (loaded ++ class ∷ [])) ≡ done after → is_among class after ≡ true
+      by : (o : Option Fault) → unless o l.loaded (λ loaded. loading_done (loaded ++ class ∷ [])) ≡ loading_done after → is_among class after ≡ true
       by None h = ap (is_among class) (sym (done_done (l.loaded ++ class ∷ []) after h)) ∙ among-last class l.loaded
       by (Some fault) h = absurd (failed_done l.loaded after fault h)
 
   class_done : (depth : ℕ) (path name loaded : List ℕ)
-      → by_standing (standing_of path loaded (Some class)) name loaded (λ class. behind_needs class (load_needs p (load_named p depth (path ++ class ∷ [])) (needs_of p class) loaded)) ≡ done after
+      → by_standing (standing_of path loaded (Some class)) name loaded (λ class. behind_needs class (load_needs p (load_named p depth (path ++ class ∷ [])) (needs_of p class) loaded)) ≡ loading_done after
       → is_among class after ≡ true
   class_done depth path name loaded e = by (is_among class loaded) (is_among class path) refl e
     where
@@ -185,14 +185,14 @@ module _ (p : Program) (class : ℕ) (after : List ℕ) where
       fresh class = behind_needs class (load_needs p (load_named p depth (path ++ class ∷ [])) (needs_of p class) loaded)
 
       by : (a b : Bool) → is_among class loaded ≡ a
-          → by_standing (if a then There else if b then Begun else Unloaded class) name loaded (λ class. behind_needs class (load_needs p (load_named p depth (path ++ class ∷ [])) (needs_of p class) loaded)) ≡ done after
+          → by_standing (if a then There else if b then Begun else Unloaded class) name loaded (λ class. behind_needs class (load_needs p (load_named p depth (path ++ class ∷ [])) (needs_of p class) loaded)) ≡ loading_done after
           → is_among class after ≡ true
       by true b is h = ap (is_among class) (sym (done_done loaded after h)) ∙ is
       by false true is h = absurd (failed_done loaded after Circular h)
       by false false is h = behind_done (load_needs p (load_named p depth (path ++ class ∷ [])) (needs_of p class) loaded) h
 
   pub named_done : (depth : ℕ) (path name loaded : List ℕ) → is_array_name name ≡ false → class_named p name ≡ Some class
-      → load_named p depth path name loaded ≡ done after → is_among class after ≡ true
+      → load_named p depth path name loaded ≡ loading_done after → is_among class after ≡ true
   named_done zero path name loaded plain is e = absurd (failed_done loaded after Circular e)
   named_done (suc n) path name loaded plain is e =
       let fresh : ℕ → Loading = λ class. behind_needs class (load_needs p (load_named p n (path ++ class ∷ [])) (needs_of p class) loaded) in
@@ -216,8 +216,8 @@ abbrev pub passes : Program → (ℕ → Bool) → Need → Bool
 passes p test n = option_map_or test (class_named p n.name) false
 
 module _ (p : Program) (depth : ℕ) (path after : List ℕ) where
-  met_done : (n : Need) (rest : List Need) (loaded now : List ℕ) → load_named p depth path n.name loaded ≡ done now
-      → load_needs p (load_named p depth path) rest now ≡ done after → is_met p n ≡ true → passes p (λ c. is_among c after) n ≡ true
+  met_done : (n : Need) (rest : List Need) (loaded now : List ℕ) → load_named p depth path n.name loaded ≡ loading_done now
+      → load_needs p (load_named p depth path) rest now ≡ loading_done after → is_met p n ≡ true → passes p (λ c. is_among c after) n ≡ true
   met_done n rest loaded now one others met = by (class_named p n.name) refl (second_of_and (not (is_array_name n.name)) _ met)
     where
       plain : (b : Bool) → not b ≡ true → b ≡ false
@@ -232,7 +232,7 @@ module _ (p : Program) (depth : ℕ) (path after : List ℕ) where
           (plain (is_array_name n.name) (first_of_and (not (is_array_name n.name)) _ met)) is one in
           ap (is_among class) (sym (ap (λ (l : Loading). l.loaded) others)) ∙ needs_stay p class depth path rest now there
 
-  pub needs_done : (needs : List Need) (loaded : List ℕ) → load_needs p (load_named p depth path) needs loaded ≡ done after
+  pub needs_done : (needs : List Need) (loaded : List ℕ) → load_needs p (load_named p depth path) needs loaded ≡ loading_done after
       → list_all (passes p (λ c. is_among c after)) needs ≡ true
   needs_done [] loaded e = refl
   needs_done (n ∷ rest) loaded e =
@@ -241,17 +241,17 @@ module _ (p : Program) (depth : ℕ) (path after : List ℕ) where
       now : List ℕ
       now = (load_named p depth path n.name loaded).loaded
 
-      by_met : (b : Bool) → is_met p n ≡ b → load_named p depth path n.name loaded ≡ done (load_named p depth path n.name loaded).loaded
-          → unless (if b then None else Some Incompatible) (load_named p depth path n.name loaded).loaded (load_needs p (load_named p depth path) rest) ≡ done after
-          → (load_needs p (load_named p depth path) rest (load_named p depth path n.name loaded).loaded ≡ done after → list_all (passes p (λ c. is_among c after)) rest ≡ true)
+      by_met : (b : Bool) → is_met p n ≡ b → load_named p depth path n.name loaded ≡ loading_done (load_named p depth path n.name loaded).loaded
+          → unless (if b then None else Some Incompatible) (load_named p depth path n.name loaded).loaded (load_needs p (load_named p depth path) rest) ≡ loading_done after
+          → (load_needs p (load_named p depth path) rest (load_named p depth path n.name loaded).loaded ≡ loading_done after → list_all (passes p (λ c. is_among c after)) rest ≡ true)
           → (passes p (λ c. is_among c after) n && list_all (passes p (λ c. is_among c after)) rest) ≡ true
       by_met true met one h others =
           ap₂ (λ a b. a && b) (met_done n rest loaded (load_named p depth path n.name loaded).loaded one h met) (others h)
       by_met false met one h others = absurd (failed_done (load_named p depth path n.name loaded).loaded after Incompatible h)
 
       by_fault : (o : Option Fault) → (load_named p depth path n.name loaded).fault ≡ o
-          → unless o (load_named p depth path n.name loaded).loaded (λ l. unless (need_fault p n) l (load_needs p (load_named p depth path) rest)) ≡ done after
-          → (load_needs p (load_named p depth path) rest (load_named p depth path n.name loaded).loaded ≡ done after → list_all (passes p (λ c. is_among c after)) rest ≡ true)
+          → unless o (load_named p depth path n.name loaded).loaded (λ l. unless (need_fault p n) l (load_needs p (load_named p depth path) rest)) ≡ loading_done after
+          → (load_needs p (load_named p depth path) rest (load_named p depth path n.name loaded).loaded ≡ loading_done after → list_all (passes p (λ c. is_among c after)) rest ≡ true)
           → (passes p (λ c. is_among c after) n && list_all (passes p (λ c. is_among c after)) rest) ≡ true
       by_fault None is h others =
           by_met (is_met p n) refl (ap (λ o. record { loaded = (load_named p depth path n.name loaded).loaded; fault = o }) is) h others

@@ -8,7 +8,7 @@ ghost use Rattle.jvm_model.specs.Classes.Layouts.{layout};
 ghost use Rattle.jvm_model.specs.Classes.Load.{is_among};
 ghost use Rattle.jvm_model.specs.Classes.Lookup.{is_subtype, place_in, resolved_field, resolved_method};
 ghost use Rattle.jvm_model.specs.Classes.Lookup.{superclass_of, superclasses};
-ghost use Rattle.jvm_model.specs.Classes.Selection.{Overrides, overrides, selected};
+ghost use Rattle.jvm_model.specs.Classes.Selection.{Overrides, overrides, method_selected};
 ghost use Rattle.class_index.specs.Indices.{IsLinkable};
 ghost use Rattle.class_index.specs.Members.{place_view};
 ghost use Rattle.class_linker.specs.Linkers.{IsAnswer, IsKnown, IsLoaded, linker_of, load_answer};
@@ -22,7 +22,7 @@ use crate::loaded_classes::LoadedClass;
 use crate::loading::State;
 use crate::overriding::overrides;
 use crate::resolving::{resolved_field, resolved_method};
-use crate::selecting::selected;
+use crate::selecting::method_selected;
 use crate::super_calls::invoked_special;
 use crate::telling::answer;
 use crate::walks::{each_supertype, is_subtype, is_superclass, layout_of, slots_above};
@@ -199,11 +199,11 @@ impl Linker {
     ) -> Option<(u32, u16)>
         requires { IsLoaded self.now receiver }
         ensures { option_map place_view result
-            ≡ selected self.now.program receiver interface (place_in class position) }
+            ≡ method_selected self.now.program receiver interface (place_in class position) }
     {
         let rows = self.state.rows.as_slice();
         let m = DeclaredMethod { class, position };
-        let found = selected(&self.index, rows, receiver, interface, m)?;
+        let found = method_selected(&self.index, rows, receiver, interface, m)?;
         Some((found.class, found.position))
     }
 

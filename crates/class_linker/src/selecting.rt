@@ -4,7 +4,7 @@ ghost use Rattle.std.specs.Prelude.{◌≡◌, false, true};
 ghost use Rattle.std.specs.Option.{option_map};
 ghost use Rattle.jvm_model.specs.Classes.Lookup.{first_in};
 ghost use Rattle.jvm_model.specs.Classes.Selection.{candidate, fits, nearest, overrides, same_member};
-ghost use Rattle.jvm_model.specs.Classes.Selection.{selected};
+ghost use Rattle.jvm_model.specs.Classes.Selection.{method_selected};
 ghost use Rattle.class_linker.specs.Passing.{IsChain, IsUnpassed};
 ghost use Rattle.class_linker.specs.DeclaredMethods.{at_place};
 ghost use Rattle.class_linker.specs.LoadedClasses.{AreLoadedClasses, holds_all, holds_class};
@@ -153,7 +153,7 @@ pub fn nearest(
 }
 
 /// The method that is invoked for the resolved one.
-pub fn selected(
+pub fn method_selected(
     index: &Index,
     rows: &[Option<LoadedClass>],
     receiver: u32,
@@ -162,7 +162,8 @@ pub fn selected(
 ) -> Option<DeclaredMethod>
     requires rows { AreLoadedClasses index.now rows.now }
     requires has { holds_class rows.now receiver ≡ true }
-    ensures { option_map at_place result ≡ selected index.now receiver interface (at_place m) }
+    ensures { option_map at_place result
+        ≡ method_selected index.now receiver interface (at_place m) }
 {
     let found = nearest(index, rows, receiver, interface, m)?;
     if is_abstract(index, found) {

@@ -7,7 +7,7 @@ ghost use Rattle.jvm_model.specs.Basis.Programs.{super_of};
 ghost use Rattle.class_linker.specs.DeclaredMethods.{at_place};
 ghost use Rattle.class_linker.specs.LoadedClasses.{AreLoadedClasses, holds_class};
 ghost use Rattle.jvm_model.specs.Classes.SuperCalls.{invoked_special, is_inherited, is_initializer};
-ghost use Rattle.jvm_model.specs.Classes.SuperCalls.{nearest_above, taken};
+ghost use Rattle.jvm_model.specs.Classes.SuperCalls.{nearest_above, method_taken};
 
 use crate::declared_method::DeclaredMethod;
 use crate::loaded_classes::LoadedClass;
@@ -54,7 +54,7 @@ fn nearest_above(
 }
 
 /// The method that is taken for the resolved one, be it abstract.
-fn taken(
+fn method_taken(
     index: &Index,
     rows: &[Option<LoadedClass>],
     caller: u32,
@@ -62,7 +62,7 @@ fn taken(
 ) -> Option<DeclaredMethod>
     requires rows { AreLoadedClasses index.now rows.now }
     requires has { holds_class rows.now caller ≡ true }
-    ensures { option_map at_place result ≡ taken index.now caller (at_place m) }
+    ensures { option_map at_place result ≡ method_taken index.now caller (at_place m) }
 {
     if is_inherited(index, rows, caller, m) && !is_initializer(index, m) {
         nearest_above(index, rows, caller, m)
@@ -82,7 +82,7 @@ pub fn invoked_special(
     requires has { holds_class rows.now caller ≡ true }
     ensures { option_map at_place result ≡ invoked_special index.now caller (at_place m) }
 {
-    let found = taken(index, rows, caller, m)?;
+    let found = method_taken(index, rows, caller, m)?;
     if is_abstract(index, found) {
         None
     } else {

@@ -39,7 +39,7 @@ fn loaded_as(alloc: Global, kind: u32, classes: &[u32]) -> Result<Loaded, NoMemo
 }
 
 /// Loading was stopped when the classes were loaded.
-fn stopped(alloc: Global, fault: Fault, classes: &[u32]) -> Result<Loaded, NoMemory>
+fn load_stopped(alloc: Global, fault: Fault, classes: &[u32]) -> Result<Loaded, NoMemory>
     ensures { IfOk result (λ l. l ≡ stopped_by (fault_view fault) classes.now) }
 {
     let loaded = Seq::from_slice(alloc, classes)?;
@@ -50,12 +50,17 @@ fn stopped(alloc: Global, fault: Fault, classes: &[u32]) -> Result<Loaded, NoMem
     })
 }
 
-fn told(alloc: Global, fault: Option<Fault>, kind: u32, classes: &[u32]) -> Result<Loaded, NoMemory>
+fn fault_told(
+    alloc: Global,
+    fault: Option<Fault>,
+    kind: u32,
+    classes: &[u32],
+) -> Result<Loaded, NoMemory>
     ensures { IfOk result (λ l. l ≡ answer_by (option_map fault_view fault) kind classes.now) }
 {
     match fault {
         None => loaded_as(alloc, kind, classes),
-        Some(fault) => stopped(alloc, fault, classes),
+        Some(fault) => load_stopped(alloc, fault, classes),
     }
 }
 
@@ -84,5 +89,5 @@ pub fn answer(
     let before = state.loaded.len();
     let fault = load_all(alloc, index, state, name)?;
     let kind = kind_named(index, name);
-    told(alloc, fault, kind, behind(state.loaded.as_slice(), before))
+    fault_told(alloc, fault, kind, behind(state.loaded.as_slice(), before))
 }

@@ -17,7 +17,7 @@ use Rattle.class_reader.proofs.Conditions.{tested_is_read, either_is_read}
 use Rattle.class_reader.proofs.Enclosed.{sized_is_read, enclosed_is_read}
 
 pub counted_is_read : {A : Type 0} {item : ℕ → List ℕ → Read A} {P : Format A} → IsRead item P
-    → IsRead (counted_at item) (format.counted P)
+    → IsRead (counted_at item) (format.items_counted P)
 unfolding counted_at
 counted_is_read law = in_turn_is_read u2_is_read (many_is_read law)
 

@@ -44,8 +44,8 @@ module _ (IsAttribute : List Const → Attribute → Type 0) (pool : List Const)
 -- ---- what stands behind the pool
 
 abbrev body_bytes : Body → List ℕ
-body_bytes b = u2 b.access ++ (u2 b.this_class ++ (u2 b.super_class ++ (file.counted u2 b.interfaces
-    ++ (file.counted member_bytes b.fields ++ (file.counted member_bytes b.methods ++ file.counted attribute_bytes b.attributes)))))
+body_bytes b = u2 b.access ++ (u2 b.this_class ++ (u2 b.super_class ++ (file.items_counted u2 b.interfaces
+    ++ (file.items_counted member_bytes b.fields ++ (file.items_counted member_bytes b.methods ++ file.items_counted attribute_bytes b.attributes)))))
 
 record FitsBody (pool : List Const) (b : Body) : Type 0 where
   access : IsU2 b.access
@@ -72,9 +72,9 @@ module _ (pool : List Const) where
       let fields = opened (counted_law field_law) interfaces.second in
       let methods = opened (counted_law method_law) fields.second in
       let attributes = closed (counted_law (class_attribute_law pool)) methods.second in
-      let from_methods = behind fields.rest (file.counted member_bytes methods.x) methods.rest _ methods.parts attributes.spelled in
-      let from_fields = behind interfaces.rest (file.counted member_bytes fields.x) fields.rest _ fields.parts from_methods in
-      let from_interfaces = behind super.rest (file.counted u2 interfaces.x) interfaces.rest _ interfaces.parts from_fields in
+      let from_methods = behind fields.rest (file.items_counted member_bytes methods.x) methods.rest _ methods.parts attributes.spelled in
+      let from_fields = behind interfaces.rest (file.items_counted member_bytes fields.x) fields.rest _ fields.parts from_methods in
+      let from_interfaces = behind super.rest (file.items_counted u2 interfaces.x) interfaces.rest _ interfaces.parts from_fields in
       let from_super = behind this.rest (u2 super.x) super.rest _ super.parts from_interfaces in
       let from_this = behind access.rest (u2 this.x) this.rest _ this.parts from_super in
       let whole = behind text (u2 access.x) access.rest _ access.parts from_this in

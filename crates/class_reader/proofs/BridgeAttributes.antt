@@ -18,7 +18,7 @@ use Rattle.const_pool.specs.References.{◌>>=◌, text_entry, named_text}
 use Rattle.const_pool.specs.ClassFile.{IsU2, IsByte, FitsCount, IsRaw, IsHandler, IsCode, IsFieldAttribute, IsMethodAttribute, IsClassAttribute, raw_bytes, handler_bytes, code_bytes, attribute_bytes, code_name, constant_value_name}
 use Rattle.const_pool.specs.ClassFile as file
 use Rattle.class_reader.specs.declared.error.ReadError.TheVariants.{BadRef, BadLength}
-use Rattle.class_reader.specs.Formats.{Format, run, made, in_turn, enclosed}
+use Rattle.class_reader.specs.Formats.{Format, run, value_made, in_turn, contents_enclosed}
 use Rattle.class_reader.specs.ClassFormat.{names, names_text, ref, optional_ref, raw_contents, raw, other, handler, code_length, code, field_attribute, method_attribute, class_attribute}
 use Rattle.class_reader.proofs.BridgeParts.{IsSpelledBy, said_as, u2_law, u4_law, opened, closed, behind, turn, end_turn, tested_law, counted_law, either_cases, either_true, either_false, sized_bytes, FitsSized, sized_law, enclosed_law, AreBytes, bytes_then, u2_bytes, u2_then, u4_then, counted_bytes}
 
@@ -151,7 +151,7 @@ module _ (pool : List Const) where
       let d = opened code_run_law b.second in
       let e = opened (counted_law (handler_law pool)) d.second in
       let f = closed (counted_law (raw_law pool)) e.second in
-      let from_handlers = behind d.rest (file.counted handler_bytes e.x) e.rest _ e.parts f.spelled in
+      let from_handlers = behind d.rest (file.items_counted handler_bytes e.x) e.rest _ e.parts f.spelled in
       let from_code = behind b.rest (sized_bytes d.x) d.rest _ d.parts from_handlers in
       let from_locals = behind a.rest (u2 b.x) b.rest _ b.parts from_code in
       let from_stack = behind text (u2 a.x) a.rest _ a.parts from_locals in
@@ -199,7 +199,7 @@ module _ (pool : List Const) where
   code_are_bytes c h =
       let handlers = counted_bytes handler_bytes (IsHandler pool) handler_are_bytes c.handlers h.handlers.1 in
       let raws = counted_bytes raw_bytes (IsRaw pool) raw_are_bytes c.attributes h.attributes.1 in
-      u2_then c.max_stack (u2_then c.max_locals (u4_then (length c.code) (bytes_then c.code h.code.2 (bytes_then (file.counted handler_bytes c.handlers) handlers.each raws))))
+      u2_then c.max_stack (u2_then c.max_locals (u4_then (length c.code) (bytes_then c.code h.code.2 (bytes_then (file.items_counted handler_bytes c.handlers) handlers.each raws))))
 
 -- ---- attributes by their name
 
@@ -243,7 +243,7 @@ module _ (pool : List Const) where
 
   -- an attribute of a field
   constant_to : (name : ℕ) (text rest : List ℕ) (a : Attribute) → text ≡ u2 name ++ rest → IsU2 name → named_text pool name ≡ Some constant_value_name
-      → (in_turn (enclosed (ref is_constant pool)) (λ i. made (ConstantValue name i))).Spells rest a → (text ≡ attribute_bytes a) × IsFieldAttribute pool a
+      → (in_turn (contents_enclosed (ref is_constant pool)) (λ i. value_made (ConstantValue name i))).Spells rest a → (text ≡ attribute_bytes a) × IsFieldAttribute pool a
   constant_to name text rest a e fits named s =
       let i = closed (enclosed_law (ref_law is_constant pool)) s in
       subst (λ (a : Attribute). (text ≡ attribute_bytes a) × IsFieldAttribute pool a) i.is
@@ -252,7 +252,7 @@ module _ (pool : List Const) where
   field_attribute_to : (text : List ℕ) (a : Attribute) → (field_attribute pool).Spells text a → (text ≡ attribute_bytes a) × IsFieldAttribute pool a
   field_attribute_to text a s =
       let n = opened (ref_law is_utf8 pool) s in
-      let parsed : Format Attribute = in_turn (enclosed (ref is_constant pool)) (λ i. made (ConstantValue n.x i)) in
+      let parsed : Format Attribute = in_turn (contents_enclosed (ref is_constant pool)) (λ i. value_made (ConstantValue n.x i)) in
       elim (either_cases (names_text pool n.x constant_value_name) parsed (other n.x) n.rest a n.second) as (λ _. (text ≡ attribute_bytes a) × IsFieldAttribute pool a) [
         | inl h ↦ constant_to n.x text n.rest a n.parts n.fits.0 (names_text-true pool n.x constant_value_name h.0) h.1
         | inr h ↦ (let k = kept_to n.x text n.rest a n.parts n.fits.0 n.fits.1 h.1 in
@@ -273,7 +273,7 @@ module _ (pool : List Const) where
 
   -- an attribute of a method
   parsed_to : (name : ℕ) (text rest : List ℕ) (a : Attribute) → text ≡ u2 name ++ rest → IsU2 name → named_text pool name ≡ Some code_name
-      → (in_turn (enclosed (code pool)) (λ c. made (Code name c))).Spells rest a → (text ≡ attribute_bytes a) × IsMethodAttribute pool a
+      → (in_turn (contents_enclosed (code pool)) (λ c. value_made (Code name c))).Spells rest a → (text ≡ attribute_bytes a) × IsMethodAttribute pool a
   parsed_to name text rest a e fits named s =
       let c = closed (enclosed_law (code_law pool)) s in
       subst (λ (a : Attribute). (text ≡ attribute_bytes a) × IsMethodAttribute pool a) c.is
@@ -282,7 +282,7 @@ module _ (pool : List Const) where
   method_attribute_to : (text : List ℕ) (a : Attribute) → (method_attribute pool).Spells text a → (text ≡ attribute_bytes a) × IsMethodAttribute pool a
   method_attribute_to text a s =
       let n = opened (ref_law is_utf8 pool) s in
-      let parsed : Format Attribute = in_turn (enclosed (code pool)) (λ c. made (Code n.x c)) in
+      let parsed : Format Attribute = in_turn (contents_enclosed (code pool)) (λ c. value_made (Code n.x c)) in
       elim (either_cases (names_text pool n.x code_name) parsed (other n.x) n.rest a n.second) as (λ _. (text ≡ attribute_bytes a) × IsMethodAttribute pool a) [
         | inl h ↦ parsed_to n.x text n.rest a n.parts n.fits.0 (names_text-true pool n.x code_name h.0) h.1
         | inr h ↦ (let k = kept_to n.x text n.rest a n.parts n.fits.0 n.fits.1 h.1 in

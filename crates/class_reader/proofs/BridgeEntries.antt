@@ -12,7 +12,7 @@ use Rattle.const_pool.specs.ClassFile.{IsU2}
 use Rattle.class_reader.specs.declared.tags.Tag.{Tag}
 use Rattle.class_reader.specs.declared.tags.Tag.TheVariants as tag
 use Rattle.class_reader.specs.declared.error.ReadError.TheVariants.{BadTag}
-use Rattle.class_reader.specs.Formats.{Format, number, text, made, in_turn, AreInTurn, converted}
+use Rattle.class_reader.specs.Formats.{Format, number, text, value_made, in_turn, AreInTurn, value_converted}
 use Rattle.class_reader.specs.ClassFormat.{tag_of, pair, contents, entry, fits_in}
 use Rattle.class_reader.proofs.BridgeParts.{IsSpelledBy, number_law, u2_law, opened, closed, behind, turn, end_turn}
 
@@ -63,7 +63,7 @@ tag_back : (t : Tag) → tag_of (number_of t) ≡ Some t
 tag_back tag.Utf8 = refl
 tag_back _ = refl
 
-tag_law : IsSpelledBy (converted (number w8) tag_of (λ at n. BadTag at)) (λ t. u1 (number_of t)) (λ t. Unit {0})
+tag_law : IsSpelledBy (value_converted (number w8) tag_of (λ at n. BadTag at)) (λ t. u1 (number_of t)) (λ t. Unit {0})
 tag_law = record {
   «to» = λ text t s. (s.spelled.1 ∙ one_byte s.x s.spelled.0 ∙ ap u1 (tag_is s.x t s.made), tt);
   «from» = λ t h. record { x = number_of t; spelled = (tag_small t, sym (one_byte (number_of t) (tag_small t))); made = tag_back t };
@@ -91,7 +91,7 @@ abbrev IsTagged : ℕ → List ℕ → Const → Type 0
 IsTagged tag text c = (u1 tag ++ text ≡ entry_bytes c) × FitsEntry c
 
 single_to : {P : Format ℕ} {bytes : ℕ → List ℕ} {Fits : ℕ → Type 0} → IsSpelledBy P bytes Fits → (tag : ℕ) (make : ℕ → Const)
-    → ((n : ℕ) → Fits n → IsTagged tag (bytes n) (make n)) → (text : List ℕ) (c : Const) → AreInTurn P (λ n. made (make n)) text c → IsTagged tag text c
+    → ((n : ℕ) → Fits n → IsTagged tag (bytes n) (make n)) → (text : List ℕ) (c : Const) → AreInTurn P (λ n. value_made (make n)) text c → IsTagged tag text c
 single_to law tag make each text c s =
     let a = closed law s in
     let one = each a.x a.fits in
@@ -144,7 +144,7 @@ entry_to text c s =
     (a.parts ∙ h.0, h.1)
 
 pair_from : (make : ℕ → ℕ → Const) (a b : ℕ) → IsU2 a → IsU2 b → (pair make).Spells (u2 a ++ u2 b) (make a b)
-pair_from make a b h k = turn u2_law (λ a. in_turn (number w16) (λ b. made (make a b))) a h (end_turn u2_law (make a) b k)
+pair_from make a b h k = turn u2_law (λ a. in_turn (number w16) (λ b. value_made (make a b))) a h (end_turn u2_law (make a) b k)
 
 -- the bits of a signed number
 bits_32 : (z : ℤ) → FitsSigned w32 z → cast_unsigned w32 z < 2 ^ 32
@@ -166,7 +166,7 @@ long_from z h =
     (end_turn (number_law w64) (λ n. Long (cast_signed w64 n)) (cast_unsigned w64 z) (bits_64 z h))
 
 utf8_from : (t : List ℕ) → IsUnits t → length (modified_utf8 t) < 2 ^ 16 → (contents tag.Utf8).Spells (u2 (length (modified_utf8 t)) ++ modified_utf8 t) (Utf8 t)
-utf8_from t h k = turn u2_law (λ len. in_turn (text len) (λ units. made (Utf8 units))) (length (modified_utf8 t)) k (end_turn (text_law (length (modified_utf8 t))) Utf8 t (h, refl))
+utf8_from t h k = turn u2_law (λ len. in_turn (text len) (λ units. value_made (Utf8 units))) (length (modified_utf8 t)) k (end_turn (text_law (length (modified_utf8 t))) Utf8 t (h, refl))
 
 entry_from : (c : Const) → FitsEntry c → entry.Spells (entry_bytes c) c
 entry_from Gap h = absurd h

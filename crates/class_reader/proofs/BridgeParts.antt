@@ -7,8 +7,8 @@ use Rattle.const_pool.specs.Pool.{u2, u4}
 use Rattle.const_pool.specs.ClassFile.{IsByte, IsU2, FitsCount}
 use Rattle.const_pool.specs.ClassFile as file
 use Rattle.class_reader.specs.declared.error.ReadError.{ReadError}
-use Rattle.class_reader.specs.Formats.{Format, number, run, made, in_turn, AreInTurn, many, IsConverted, kept_where, tested, either, sized, enclosed}
-use Rattle.class_reader.specs.ClassFormat.{counted}
+use Rattle.class_reader.specs.Formats.{Format, number, run, value_made, in_turn, AreInTurn, many, IsConverted, kept_where, value_tested, either, bytes_sized, contents_enclosed}
+use Rattle.class_reader.specs.ClassFormat.{items_counted}
 
 -- The texts of the format are the bytes of the values that fit.
 pub record IsSpelledBy {A : Type 0} (P : Format A) (bytes : A → List ℕ) (Fits : A → Type 0) : Type 0 where
@@ -59,12 +59,12 @@ pub record Ended {A B : Type 0} (P : Format A) (f : A → B) (text : List ℕ) (
   pub spelled : P.Spells text x
   pub is : f x ≡ y
 
-pub ended : {A B : Type 0} {P : Format A} {f : A → B} {text : List ℕ} {y : B} → AreInTurn P (λ x. made (f x)) text y → Ended P f text y
+pub ended : {A B : Type 0} {P : Format A} {f : A → B} {text : List ℕ} {y : B} → AreInTurn P (λ x. value_made (f x)) text y → Ended P f text y
 ended {P = P} {text = text} s =
     let whole : text ≡ s.front = s.parts ∙ ap (λ (t : List ℕ). s.front ++ t) s.second.1 ∙ append-nil s.front in
     record { x = s.x; spelled = subst (λ (t : List ℕ). P.Spells t s.x) (sym whole) s.first; is = sym s.second.0 }
 
-pub ends : {A B : Type 0} (P : Format A) (f : A → B) (text : List ℕ) (x : A) → P.Spells text x → AreInTurn P (λ x. made (f x)) text (f x)
+pub ends : {A B : Type 0} (P : Format A) (f : A → B) (text : List ℕ) (x : A) → P.Spells text x → AreInTurn P (λ x. value_made (f x)) text (f x)
 ends P f text x s = record { front = text; rest = []; parts = sym (append-nil text); x = x; first = s; second = (refl, refl) }
 
 -- the same, where the first format is said by a function
@@ -75,7 +75,7 @@ pub record Closed {A B : Type 0} (bytes : A → List ℕ) (Fits : A → Type 0) 
   pub is : f x ≡ y
 
 pub closed : {A B : Type 0} {P : Format A} {f : A → B} {bytes : A → List ℕ} {Fits : A → Type 0} → IsSpelledBy P bytes Fits
-    → {text : List ℕ} {y : B} → AreInTurn P (λ x. made (f x)) text y → Closed bytes Fits f text y
+    → {text : List ℕ} {y : B} → AreInTurn P (λ x. value_made (f x)) text y → Closed bytes Fits f text y
 closed law {text = text} s =
     let e = ended s in
     let h = law.to text e.x e.spelled in
@@ -89,7 +89,7 @@ pub turn : {A B : Type 0} {P : Format A} {bytes : A → List ℕ} {Fits : A → 
 turn {bytes = bytes} law Q x fits {rest = rest} s = record { front = bytes x; rest = rest; parts = refl; x = x; first = law.from x fits; second = s }
 
 pub end_turn : {A B : Type 0} {P : Format A} {bytes : A → List ℕ} {Fits : A → Type 0} → IsSpelledBy P bytes Fits → (f : A → B)
-    → (x : A) → Fits x → AreInTurn P (λ x. made (f x)) (bytes x) (f x)
+    → (x : A) → Fits x → AreInTurn P (λ x. value_made (f x)) (bytes x) (f x)
 end_turn {P = P} {bytes = bytes} law f x fits = ends P f (bytes x) x (law.from x fits)
 
 -- ---- so many
@@ -110,18 +110,18 @@ module _ {A : Type 0} {P : Format A} {bytes : A → List ℕ} {Fits : A → Type
   many_from (suc n) [] len h = absurd (omega (arith, len))
   many_from (suc n) (x ∷ xs) len h =
       let others = many_from n xs (omega (arith, len)) h.1 in
-      turn law (λ x. in_turn (many P n) (λ xs. made (x ∷ xs))) x h.0 (ends (many P n) (λ xs. x ∷ xs) (flat_map bytes xs) xs others)
+      turn law (λ x. in_turn (many P n) (λ xs. value_made (x ∷ xs))) x h.0 (ends (many P n) (λ xs. x ∷ xs) (flat_map bytes xs) xs others)
 
   pub many_law : (n : ℕ) → IsSpelledBy (many P n) (flat_map bytes) (λ xs. (length xs ≡ n) × AllByRecursion Fits xs)
   many_law n = record { «to» = λ text xs s. let h = many_to n text xs s in (h.0, (h.1, h.2)); «from» = λ xs h. many_from n xs h.0 h.1 }
 
-  counted_to : (text : List ℕ) (xs : List A) → (counted P).Spells text xs → (text ≡ file.counted bytes xs) × (FitsCount xs × AllByRecursion Fits xs)
+  counted_to : (text : List ℕ) (xs : List A) → (items_counted P).Spells text xs → (text ≡ file.items_counted bytes xs) × (FitsCount xs × AllByRecursion Fits xs)
   counted_to text xs s =
       let a = opened u2_law s in
       let h = many_to a.x a.rest xs a.second in
       (behind text (u2 (length xs)) a.rest (flat_map bytes xs) (a.parts ∙ ap (λ (n : ℕ). u2 n ++ a.rest) (sym h.1)) h.0, (subst IsU2 (sym h.1) a.fits, h.2))
 
-  pub counted_law : IsSpelledBy (counted P) (file.counted bytes) (λ xs. FitsCount xs × AllByRecursion Fits xs)
+  pub counted_law : IsSpelledBy (items_counted P) (file.items_counted bytes) (λ xs. FitsCount xs × AllByRecursion Fits xs)
   counted_law = record { «to» = counted_to; «from» = λ xs h. turn u2_law (many P) (length xs) h.0 (many_from (length xs) xs refl h.1) }
 
 -- ---- values with a condition
@@ -144,7 +144,7 @@ pub tested_from : {A : Type 0} (P : Format A) (test : A → Bool) (text : List �
 tested_from P test text y s e = record { x = y; spelled = s; made = kept_from (test y) y e }
 
 pub tested_law : {A : Type 0} {P : Format A} {bytes : A → List ℕ} {Fits : A → Type 0} → IsSpelledBy P bytes Fits → (test : A → Bool) (why : ℕ → A → ReadError)
-    → IsSpelledBy (tested P test why) bytes (λ x. Fits x × (test x ≡ true))
+    → IsSpelledBy (value_tested P test why) bytes (λ x. Fits x × (test x ≡ true))
 tested_law {P = P} {bytes = bytes} law test why = record {
   «to» = λ text x s. let t = tested_to P test text x s in let h = law.to text x t.0 in (h.0, (h.1, t.1));
   «from» = λ x h. tested_from P test (bytes x) x (law.from x h.0) h.1;
@@ -172,17 +172,17 @@ sized_bytes contents = u4 (length contents) ++ contents
 abbrev pub FitsSized : List ℕ → Type 0
 FitsSized contents = (length contents < 2 ^ 32) × AllByRecursion IsByte contents
 
-sized_to : (text contents : List ℕ) → sized.Spells text contents → (text ≡ sized_bytes contents) × FitsSized contents
+sized_to : (text contents : List ℕ) → bytes_sized.Spells text contents → (text ≡ sized_bytes contents) × FitsSized contents
 sized_to text contents s =
     let a = opened u4_law s in
     let h = a.second in
     (behind text (u4 (length contents)) a.rest contents (a.parts ∙ ap (λ (n : ℕ). u4 n ++ a.rest) (sym h.1)) h.0, (subst (λ (n : ℕ). n < 2 ^ 32) (sym h.1) a.fits, h.2))
 
-pub sized_law : IsSpelledBy sized sized_bytes FitsSized
+pub sized_law : IsSpelledBy bytes_sized sized_bytes FitsSized
 sized_law = record { «to» = sized_to; «from» = λ contents h. turn u4_law run (length contents) h.0 (refl, refl, h.1) }
 
 pub enclosed_law : {A : Type 0} {P : Format A} {bytes : A → List ℕ} {Fits : A → Type 0} → IsSpelledBy P bytes Fits
-    → IsSpelledBy (enclosed P) (λ x. sized_bytes (bytes x)) (λ x. Fits x × FitsSized (bytes x))
+    → IsSpelledBy (contents_enclosed P) (λ x. sized_bytes (bytes x)) (λ x. Fits x × FitsSized (bytes x))
 enclosed_law {bytes = bytes} law = record {
   «to» = λ text x s.
       let inner = law.to s.contents x s.inner in
@@ -216,5 +216,5 @@ all_flat_map : {A : Type 0} (bytes : A → List ℕ) (Fits : A → Type 0) → (
 all_flat_map bytes Fits one [] h = tt
 all_flat_map bytes Fits one (x ∷ xs) h = all_append (bytes x) (flat_map bytes xs) (one x h.0).each (all_flat_map bytes Fits one xs h.1)
 
-pub counted_bytes : {A : Type 0} (bytes : A → List ℕ) (Fits : A → Type 0) → ((x : A) → Fits x → AreBytes (bytes x)) → (xs : List A) → AllByRecursion Fits xs → AreBytes (file.counted bytes xs)
+pub counted_bytes : {A : Type 0} (bytes : A → List ℕ) (Fits : A → Type 0) → ((x : A) → Fits x → AreBytes (bytes x)) → (xs : List A) → AllByRecursion Fits xs → AreBytes (file.items_counted bytes xs)
 counted_bytes bytes Fits one xs h = u2_then (length xs) (record { each = all_flat_map bytes Fits one xs h })

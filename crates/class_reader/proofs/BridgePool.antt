@@ -6,7 +6,7 @@ use Rattle.const_pool.specs.declared.pool.Const.TheVariants.{Gap, Long, Double}
 use Rattle.const_pool.specs.Pool.{u2, is_wide, IsEntry, AreEntries, IsPool, entry_bytes, pool_bytes}
 use Rattle.const_pool.specs.ClassFile.{IsU2}
 use Rattle.class_reader.specs.declared.error.ReadError.TheVariants.{BadIndex}
-use Rattle.class_reader.specs.Formats.{Format, made, in_turn, either}
+use Rattle.class_reader.specs.Formats.{Format, value_made, in_turn, either}
 use Rattle.class_reader.specs.ClassFormat.{entries, fits_in, lowest_bad_from, lowest_bad, pool_count, all_entries, constant_pool}
 use Rattle.class_reader.proofs.BridgeParts.{IsSpelledBy, u2_law, opened, closed, ended, ends, behind, turn, tested_to, tested_from, tested_law, either_cases, either_true, either_false}
 use Rattle.class_reader.proofs.BridgeEntries.{FitsEntry, entry_law, is_entry, entry_parts}
@@ -99,8 +99,8 @@ module _ (pool : List Const) where
       subst (λ (ds : List Const). lowest_bad_from pool i ds ≡ None → Stand pool 1 text ds) a.is (last_to i text a.x a.spelled a.fits) low
   entries_to (suc (suc n)) i text cs s low =
       let a = opened entry_law s in
-      let wide : Format (List Const) = in_turn (entries n) (λ cs. made (a.x ∷ Gap ∷ cs)) in
-      let narrow : Format (List Const) = in_turn (entries (suc n)) (λ cs. made (a.x ∷ cs)) in
+      let wide : Format (List Const) = in_turn (entries n) (λ cs. value_made (a.x ∷ Gap ∷ cs)) in
+      let narrow : Format (List Const) = in_turn (entries (suc n)) (λ cs. value_made (a.x ∷ cs)) in
       elim (either_cases (is_wide a.x) wide narrow a.rest cs a.second) as (λ _. Stand pool (suc (suc n)) text cs) [
         | inl h ↦ (let b = ended h.1 in
             let low_is : lowest_bad_from pool i (a.x ∷ Gap ∷ b.x) ≡ None = subst (λ (ds : List Const). lowest_bad_from pool i ds ≡ None) (sym b.is) low in
@@ -118,16 +118,16 @@ Written pool n cs = (entries n).Spells (flat_map entry_bytes cs) cs × ((i : ℕ
 
 -- what follows an entry
 abbrev wide_rest : ℕ → Const → Format (List Const)
-wide_rest n c = in_turn (entries n) (λ cs. made (c ∷ Gap ∷ cs))
+wide_rest n c = in_turn (entries n) (λ cs. value_made (c ∷ Gap ∷ cs))
 
 abbrev narrow_rest : ℕ → Const → Format (List Const)
-narrow_rest n c = in_turn (entries (suc n)) (λ cs. made (c ∷ cs))
+narrow_rest n c = in_turn (entries (suc n)) (λ cs. value_made (c ∷ cs))
 
 module _ (pool : List Const) where
   last_from : (c : Const) → AreEntries pool (c ∷ []) → Written pool 1 (c ∷ [])
   last_from c h = elim (first_entry pool c [] h) as (λ _. Written pool 1 (c ∷ [])) [
     | inl one ↦ (let parts = entry_parts pool c one.first in
-        (turn entry_law (λ c. made (c ∷ [])) c parts.0 (refl, refl), λ i. good_narrow pool i c [] parts.1 one.narrow refl))
+        (turn entry_law (λ c. value_made (c ∷ [])) c parts.0 (refl, refl), λ i. good_narrow pool i c [] parts.1 one.narrow refl))
     | inr two ↦ absurd (let gap = two.gap in cc)
   ]
 
@@ -199,7 +199,7 @@ all_from cs h =
     let same : (entries (suc (length cs) - 1)).Spells (flat_map entry_bytes cs) cs = subst (λ (n : ℕ). (entries n).Spells (flat_map entry_bytes cs) cs) (sym less) written.0 in
     let some : not (suc (length cs) == 0) ≡ true = ap not (ne_eqb (suc (length cs)) 0 (λ e. omega (arith, e))) in
     let behind_count = ends (entries (suc (length cs) - 1)) (λ cs. Gap ∷ cs) (flat_map entry_bytes cs) cs same in
-    let whole = turn count_law (λ count. in_turn (entries (count - 1)) (λ cs. made (Gap ∷ cs))) (suc (length cs)) (h.count, some) behind_count in
+    let whole = turn count_law (λ count. in_turn (entries (count - 1)) (λ cs. value_made (Gap ∷ cs))) (suc (length cs)) (h.count, some) behind_count in
     tested_from all_entries (λ pool. is_none (lowest_bad pool)) (pool_bytes (Gap ∷ cs)) (Gap ∷ cs) whole (is_none_from _ (written.1 1))
 
 pool_from : (pool : List Const) → IsPool pool → constant_pool.Spells (pool_bytes pool) pool

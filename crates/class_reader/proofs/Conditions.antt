@@ -2,7 +2,7 @@
 use Rattle.std.proofs.Common.{◌≡◌, ℕ, ◌⊎◌, inl, inr, Bool, true, false, cond, List, ◌++◌, Option, Some, None, Ok, Err, refl, sym, ap, subst, ◌∙◌}
 use Rattle.std.specs.Int.{Width}
 use Rattle.class_reader.specs.declared.error.ReadError.{ReadError}
-use Rattle.class_reader.specs.Formats.{Format, place, number, kept_where, IsConverted, IsRefused, converted, tested, either}
+use Rattle.class_reader.specs.Formats.{Format, place, number, kept_where, IsConverted, IsRefused, value_converted, value_tested, either}
 use Rattle.class_reader.specs.Reading.{◌>>=◌, Read, number_at, tested_at}
 use Rattle.class_reader.proofs.Items.{IsBytes, Takes, IsRead, same_read, one_read, read_parts, no_fault, ok_parts, err_parts}
 
@@ -35,7 +35,7 @@ module _ {A B : Type 0} (p : ℕ → List ℕ → Read A) (P : Format A) (conver
     (why : ℕ → A → ReadError) (law : IsRead p P) where
   converted_takes : (limit : ℕ) (bytes : List ℕ) (y : B) (rest : List ℕ) → IsBytes bytes
       → converted_at p convert why limit bytes ≡ Ok (y, rest)
-      → Takes (converted P convert why) bytes y rest
+      → Takes (value_converted P convert why) bytes y rest
   converted_takes limit bytes y rest fits e =
       let a = ok_parts _ _ _ e in
       let one = law.takes limit bytes a.0.0 a.0.1 fits a.1 in
@@ -89,7 +89,7 @@ module _ {A B : Type 0} (p : ℕ → List ℕ → Read A) (P : Format A) (conver
       ∙ ap (made_or (why (place limit bytes) h.x) h.rest) h.refused
       ∙ ap Err (sym h.told)
 
-  pub converted_is_read : IsRead (converted_at p convert why) (converted P convert why)
+  pub converted_is_read : IsRead (converted_at p convert why) (value_converted P convert why)
   converted_is_read =
       record {
         takes = converted_takes;
@@ -119,7 +119,7 @@ module _ (w : Width) (test : ℕ → Bool) (why : ℕ → ℕ → ReadError) whe
   tested_is_converted limit bytes = behind_number limit bytes (number_at w limit bytes)
 
   pub tested_is_read : IsRead (number_at w) (number w)
-      → IsRead (tested_at w test why) (tested (number w) test why)
+      → IsRead (tested_at w test why) (value_tested (number w) test why)
   tested_is_read law =
       let read = converted_is_read (number_at w) (number w) (kept_where test) why law in
       same_read _ _ _ tested_is_converted read

@@ -7,7 +7,7 @@ use Rattle.jf_bytes.specs.Spelling.{IsSpelling, IsFirstBad, BeginsWith, IsDouble
 use Rattle.jf_bytes.proofs.UnitLemmas.{unit_bytes-one, unit_bytes-some, double_spelled, triple_spelled}
 use Rattle.jf_bytes.proofs.FrontLemmas.{bad_first, no_begin, double_bad, triple_bad, tail_bad}
 use Rattle.jf_bytes.proofs.SpellingLemmas.{IsSpelling-append, spelling_same, first_bad-behind, first_bad-one}
-use Rattle.class_reader.specs.Decoding.{is_between, double_unit, triple_unit, front_unit, after_unit, then_decoded, decoded_from, decoded}
+use Rattle.class_reader.specs.Decoding.{is_between, double_unit, triple_unit, front_unit, after_unit, then_decoded, decoded_from, text_decoded}
 
 between-true : (least byte most : ℕ) → is_between least byte most ≡ true → (least ≤ byte) × (byte ≤ most)
 between-true least byte most e =
@@ -149,8 +149,8 @@ answers_from zero (byte ∷ bytes) enough = absurd (omega (arith, enough))
 answers_from (suc fuel) (byte ∷ bytes) enough =
     turn (decoded_from fuel) fuel (answers_from fuel) (byte ∷ bytes) enough _ (fronts (byte ∷ bytes) (omega arith))
 
-answers : (bytes : List ℕ) → IsAnswer bytes (decoded bytes)
-unfolding decoded
+answers : (bytes : List ℕ) → IsAnswer bytes (text_decoded bytes)
+unfolding text_decoded
 answers bytes = answers_from (length bytes) bytes (omega arith)
 
 -- a text has one answer, and so have bytes that are none
@@ -167,43 +167,43 @@ only_bad bytes at (Err good) bad h = ap Err (first_bad-one bytes good at bad h)
 
 -- ---- the laws
 
-pub decoded-spelling : (bytes units : List ℕ) → decoded bytes ≡ Ok units → IsSpelling bytes units
+pub decoded-spelling : (bytes units : List ℕ) → text_decoded bytes ≡ Ok units → IsSpelling bytes units
 decoded-spelling bytes units e = subst (IsAnswer bytes) e (answers bytes)
 
-pub decoded-first_bad : (bytes : List ℕ) (at : ℕ) → decoded bytes ≡ Err at → IsFirstBad bytes at
+pub decoded-first_bad : (bytes : List ℕ) (at : ℕ) → text_decoded bytes ≡ Err at → IsFirstBad bytes at
 decoded-first_bad bytes at e = subst (IsAnswer bytes) e (answers bytes)
 
-pub spelling-decoded : (bytes units : List ℕ) → IsSpelling bytes units → decoded bytes ≡ Ok units
-spelling-decoded bytes units h = only_text bytes units (decoded bytes) (answers bytes) h
+pub spelling-decoded : (bytes units : List ℕ) → IsSpelling bytes units → text_decoded bytes ≡ Ok units
+spelling-decoded bytes units h = only_text bytes units (text_decoded bytes) (answers bytes) h
 
-pub first_bad-decoded : (bytes : List ℕ) (at : ℕ) → IsFirstBad bytes at → decoded bytes ≡ Err at
-first_bad-decoded bytes at h = only_bad bytes at (decoded bytes) (answers bytes) h
+pub first_bad-decoded : (bytes : List ℕ) (at : ℕ) → IsFirstBad bytes at → text_decoded bytes ≡ Err at
+first_bad-decoded bytes at h = only_bad bytes at (text_decoded bytes) (answers bytes) h
 
 -- ---- by computing
 
 -- a letter, U+0000 in its two bytes, and U+1F600 as two surrogates
-four_units : decoded (0x41 ∷ 0xC0 ∷ 0x80 ∷ 0xED ∷ 0xA0 ∷ 0xBD ∷ 0xED ∷ 0xB8 ∷ 0x80 ∷ [])
+four_units : text_decoded (0x41 ∷ 0xC0 ∷ 0x80 ∷ 0xED ∷ 0xA0 ∷ 0xBD ∷ 0xED ∷ 0xB8 ∷ 0x80 ∷ [])
     ≡ Ok (0x41 ∷ 0 ∷ 0xD83D ∷ 0xDE00 ∷ [])
-unfolding decoded decoded_from
+unfolding text_decoded decoded_from
 four_units = refl
 
-byte_zero : decoded (0 ∷ []) ≡ Err 0
-unfolding decoded decoded_from
+byte_zero : text_decoded (0 ∷ []) ≡ Err 0
+unfolding text_decoded decoded_from
 byte_zero = refl
 
-overlong_double : decoded (0xC0 ∷ 0x81 ∷ []) ≡ Err 1
-unfolding decoded decoded_from
+overlong_double : text_decoded (0xC0 ∷ 0x81 ∷ []) ≡ Err 1
+unfolding text_decoded decoded_from
 overlong_double = refl
 
-overlong_triple : decoded (0xE0 ∷ 0x80 ∷ 0x80 ∷ []) ≡ Err 1
-unfolding decoded decoded_from
+overlong_triple : text_decoded (0xE0 ∷ 0x80 ∷ 0x80 ∷ []) ≡ Err 1
+unfolding text_decoded decoded_from
 overlong_triple = refl
 
-ends_early : decoded (0xC2 ∷ []) ≡ Err 1
-unfolding decoded decoded_from
+ends_early : text_decoded (0xC2 ∷ []) ≡ Err 1
+unfolding text_decoded decoded_from
 ends_early = refl
 
 -- behind a letter, the offset counts from the first byte
-ends_late : decoded (0x41 ∷ 0xE2 ∷ 0x82 ∷ []) ≡ Err 3
-unfolding decoded decoded_from
+ends_late : text_decoded (0x41 ∷ 0xE2 ∷ 0x82 ∷ []) ≡ Err 3
+unfolding text_decoded decoded_from
 ends_late = refl

@@ -4,18 +4,18 @@ use Rattle.std.proofs.lemmas.Bool.{eqb-true, eqb-false, ne_eqb}
 use Rattle.std.proofs.lemmas.List.{nil_from_length}
 use Rattle.class_reader.specs.declared.error.ReadError.{ReadError}
 use Rattle.class_reader.specs.declared.error.ReadError.TheVariants.{Truncated, BadLength}
-use Rattle.class_reader.specs.Formats.{Format, place, sized, HasMore, IsTruncated, FaultsWithin, IsEnclosed, FaultsInside, enclosed}
+use Rattle.class_reader.specs.Formats.{Format, place, bytes_sized, HasMore, IsTruncated, FaultsWithin, IsEnclosed, FaultsInside, contents_enclosed}
 use Rattle.class_reader.specs.Reading.{◌>>=◌, Read, sized_at, whole_of, enclosed_at}
 use Rattle.class_reader.proofs.Items.{IsBytes, each-IsBytes, Takes, IsRead, one_read, read_parts, no_fault, ok_parts, err_parts}
 use Rattle.class_reader.proofs.Turns.{in_turn_is_read}
 use Rattle.class_reader.proofs.Widths.{u4_is_read, run_is_read}
 
-pub sized_is_read : IsRead sized_at sized
+pub sized_is_read : IsRead sized_at bytes_sized
 unfolding sized_at
 sized_is_read = in_turn_is_read u4_is_read (λ len. run_is_read len)
 
 -- the contents are bytes
-contents_fit : (text contents : List ℕ) → sized.Spells text contents → IsBytes contents
+contents_fit : (text contents : List ℕ) → bytes_sized.Spells text contents → IsBytes contents
 contents_fit text contents h = each-IsBytes contents h.second.2
 
 abbrev result_of : {A : Type 0} → A → Result A ReadError
@@ -138,7 +138,7 @@ module _ {A : Type 0} (item : ℕ → List ℕ → Read A) (P : Format A) (law :
 
   enclosed_takes : (bytes : List ℕ) (x : A) (rest : List ℕ) → IsBytes bytes
       → enclosed_at item limit bytes ≡ Ok (x, rest)
-      → Takes (enclosed P) bytes x rest
+      → Takes (contents_enclosed P) bytes x rest
   unfolding enclosed_at
   enclosed_takes bytes x rest fits e =
       let c = ok_parts _ _ _ e in
@@ -172,7 +172,7 @@ module _ {A : Type 0} (item : ℕ → List ℕ → Read A) (P : Format A) (law :
 
   enclosed_faults : (bytes : List ℕ) (fault : ReadError) → IsBytes bytes
       → enclosed_at item limit bytes ≡ Err fault
-      → sized.Faults limit bytes fault ⊎ FaultsInside P limit bytes fault
+      → bytes_sized.Faults limit bytes fault ⊎ FaultsInside P limit bytes fault
   unfolding enclosed_at
   enclosed_faults bytes fault fits e = elim (err_parts _ _ _ e) [
     | inl bad ↦ inl (sized_is_read.faults limit bytes fault fits bad)
@@ -197,7 +197,7 @@ module _ {A : Type 0} (item : ℕ → List ℕ → Read A) (P : Format A) (law :
   ]
 
   enclosed_stops : (bytes : List ℕ) (fault : ReadError)
-      → sized.Faults limit bytes fault ⊎ FaultsInside P limit bytes fault
+      → bytes_sized.Faults limit bytes fault ⊎ FaultsInside P limit bytes fault
       → enclosed_at item limit bytes ≡ Err fault
   unfolding enclosed_at
   enclosed_stops bytes fault (inl h) =
@@ -212,7 +212,7 @@ module _ {A : Type 0} (item : ℕ → List ℕ → Read A) (P : Format A) (law :
       h.inner)
 
 pub enclosed_is_read : {A : Type 0} {item : ℕ → List ℕ → Read A} {P : Format A} → IsRead item P
-    → IsRead (enclosed_at item) (enclosed P)
+    → IsRead (enclosed_at item) (contents_enclosed P)
 enclosed_is_read law = record {
   takes = λ limit bytes x rest fits e. enclosed_takes _ _ law limit bytes x rest fits e;
   again = λ limit front rest x h. enclosed_again _ _ law limit front rest x h;

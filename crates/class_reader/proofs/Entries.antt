@@ -8,7 +8,7 @@ use Rattle.class_reader.specs.declared.tags.Tag.{Tag}
 use Rattle.class_reader.specs.declared.tags.Tag.TheVariants as tag
 use Rattle.class_reader.specs.declared.error.ReadError.{ReadError}
 use Rattle.class_reader.specs.declared.error.ReadError.TheVariants.{BadTag, BadIndex}
-use Rattle.class_reader.specs.Formats.{place, number, made, in_turn, kept_where, converted}
+use Rattle.class_reader.specs.Formats.{place, number, value_made, in_turn, kept_where, value_converted}
 use Rattle.class_reader.specs.ClassFormat.{tag_of, lowest_bad}
 use Rattle.class_reader.specs.ClassFormat as format
 use Rattle.class_reader.specs.Reading.{◌>>=◌, Read, number_at, known_tag, tag_at, pair_at, single_at, utf8_at, contents_at, entry_at, entries_at, all_entries_at, sound_pool, pool_at}
@@ -38,7 +38,7 @@ tag_is_converted : (limit : ℕ) (bytes : List ℕ)
 unfolding tag_at
 tag_is_converted limit bytes = behind_tag limit (place limit bytes) (number_at w8 limit bytes)
 
-tag_is_read : IsRead tag_at (converted (number w8) tag_of bad_tag)
+tag_is_read : IsRead tag_at (value_converted (number w8) tag_of bad_tag)
 tag_is_read =
     let read = converted_is_read (number_at w8) (number w8) tag_of bad_tag u1_is_read in
     same_read _ _ _ tag_is_converted read
@@ -46,7 +46,7 @@ tag_is_read =
 -- ---- entries
 
 single_is_read : (w : Width) (make : ℕ → Const) → IsRead (number_at w) (number w)
-    → IsRead (single_at w make) (in_turn (number w) (λ n. made (make n)))
+    → IsRead (single_at w make) (in_turn (number w) (λ n. value_made (make n)))
 unfolding single_at
 single_is_read w make law = in_turn_is_read law (λ n. made_is_read (make n))
 

@@ -7,7 +7,7 @@ use Rattle.const_pool.specs.declared.pool.Const.TheVariants.{Gap}
 use Rattle.const_pool.specs.Pool.{is_wide}
 use Rattle.class_reader.specs.declared.error.ReadError.{ReadError}
 use Rattle.class_reader.specs.declared.error.ReadError.TheVariants.{NoMemory}
-use Rattle.class_reader.specs.Reading.{◌>>=◌, Read, with_front, gapped, entry_at, entries_at}
+use Rattle.class_reader.specs.Reading.{◌>>=◌, Read, with_front, entry_gapped, entry_at, entries_at}
 use Rattle.class_reader.proofs.Many.{with_front-cons}
 
 with_front-both : (front : List Const) (c : Const) (read : Read (List Const)) → with_front front (read >>= λ cs. Ok (c ∷ Gap ∷ cs.0, cs.1)) ≡ with_front (front ++ c ∷ Gap ∷ []) read
@@ -44,7 +44,7 @@ module _ (limit : ℕ) (front : List Const) (bytes : List ℕ) (c : Const) (afte
         rw k' (sym one ∙ so_far)
 
     takes_either : (wide room : Bool) → is_wide c ≡ wide → ltb (length front + 1) count ≡ room
-        → with_front (front ++ gapped c (ltb (length front + 1) count)) (entries_at (count - length (front ++ gapped c (ltb (length front + 1) count))) limit after) ≡ total
+        → with_front (front ++ entry_gapped c (ltb (length front + 1) count)) (entries_at (count - length (front ++ entry_gapped c (ltb (length front + 1) count))) limit after) ≡ total
     takes_either true true w r = rw (w, r) (takes_two w (ltb-true _ _ r))
     takes_either true false w r = rw (w, r) (takes_one (inr (ltb-false _ _ r)))
     takes_either false room w r = rw w (takes_one (inl w))
@@ -52,7 +52,7 @@ module _ (limit : ℕ) (front : List Const) (bytes : List ℕ) (c : Const) (afte
 -- what the loop keeps
 pub goes_on : (limit : ℕ) (front : List Const) (count : ℕ) (bytes : List ℕ) (c : Const) (after : List ℕ) (total : Read (List Const)) → length front < count → entry_at limit bytes ≡ Ok (c, after)
     → with_front front (entries_at (count - length front) limit bytes) ≡ total
-    → with_front (front ++ gapped c (ltb (length front + 1) count)) (entries_at (count - length (front ++ gapped c (ltb (length front + 1) count))) limit after) ≡ total
+    → with_front (front ++ entry_gapped c (ltb (length front + 1) count)) (entries_at (count - length (front ++ entry_gapped c (ltb (length front + 1) count))) limit after) ≡ total
 goes_on limit front count bytes c after total lt read so_far = takes_either limit front bytes c after read count total lt so_far (is_wide c) (ltb (length front + 1) count) refl refl
 
 entry_fails : (limit : ℕ) (e : ReadError) (front : List Const) (n : ℕ) (bytes : List ℕ) → entry_at limit bytes ≡ Err e → with_front front (entries_at (suc n) limit bytes) ≡ Err e

@@ -4,7 +4,7 @@ use Rattle.std.proofs.lemmas.List.{take-append-drop, length-take}
 use Rattle.jf_bytes.specs.Spelling.{IsSpelling, IsFirstBad}
 use Rattle.class_reader.specs.declared.error.ReadError.{ReadError}
 use Rattle.class_reader.specs.declared.error.ReadError.TheVariants.{BadUtf8}
-use Rattle.class_reader.specs.Decoding.{decoded}
+use Rattle.class_reader.specs.Decoding.{text_decoded}
 use Rattle.class_reader.specs.Formats.{place, IsCut, IsBadText, text}
 use Rattle.class_reader.specs.Reading.{◌>>=◌, Read, text_at, text_from}
 use Rattle.class_reader.proofs.Decoded.{decoded-spelling, decoded-first_bad, spelling-decoded, first_bad-decoded}
@@ -13,12 +13,12 @@ use Rattle.class_reader.proofs.Widths.{run_takes_parts, run_again, run_whole, ru
 
 -- what follows a run of bytes that was read
 abbrev then_text : ℕ → List ℕ → Read (List ℕ) → Read (List ℕ)
-then_text limit bytes read = read >>= λ t. text_from limit bytes t.1 (decoded t.0)
+then_text limit bytes read = read >>= λ t. text_from limit bytes t.1 (text_decoded t.0)
 
 module _ (len limit : ℕ) where
   -- a text that came from these bytes was decoded
   from_text : (bytes rest front units others : List ℕ) (answer : Result (List ℕ) ℕ)
-      → decoded front ≡ answer
+      → text_decoded front ≡ answer
       → text_from limit bytes rest answer ≡ Ok (units, others)
       → IsSpelling front units × (rest ≡ others)
   from_text bytes rest front units others (Ok found) is e =
@@ -52,7 +52,7 @@ module _ (len limit : ℕ) where
 
   -- a fault behind bytes that are all there is that of the text
   from_bad : (bytes rest front : List ℕ) (answer : Result (List ℕ) ℕ) (fault : ReadError)
-      → decoded front ≡ answer
+      → text_decoded front ≡ answer
       → text_from limit bytes rest answer ≡ Err fault
       → (at : ℕ) × IsFirstBad front at × (fault ≡ BadUtf8 (place limit (drop at bytes)))
   from_bad bytes rest front (Ok units) fault is e = absurd (no_fault units rest fault e)

@@ -1,7 +1,7 @@
 -- Reading one item after the other reads a format in turn.
 use Rattle.std.proofs.Common.{◌≡◌, ℕ, zero, suc, ◌⊎◌, inl, inr, List, [], ◌∷◌, ◌++◌, Ok, Err, refl, sym, ap, ◌∙◌, append_assoc}
 use Rattle.class_reader.specs.declared.error.ReadError.{ReadError}
-use Rattle.class_reader.specs.Formats.{Format, AreInTurn, FaultsBehind, made, in_turn, many}
+use Rattle.class_reader.specs.Formats.{Format, AreInTurn, FaultsBehind, value_made, in_turn, many}
 use Rattle.class_reader.specs.Reading.{◌>>=◌, Read, many_at}
 use Rattle.class_reader.proofs.Items.{IsBytes, Takes, IsRead, one_read, read_parts, no_fault, ok_parts, err_parts}
 
@@ -15,7 +15,7 @@ abbrev pub next : {A B : Type 0} → (ℕ → List ℕ → Read A) → (A → �
 next p q limit bytes = p limit bytes >>= λ a. q a.0 limit a.1
 
 made_takes : {A : Type 0} (value : A) (bytes : List ℕ) (x : A) (rest : List ℕ) → IsBytes bytes
-    → one_read value bytes ≡ one_read x rest → Takes (made value) bytes x rest
+    → one_read value bytes ≡ one_read x rest → Takes (value_made value) bytes x rest
 made_takes value bytes x rest fits e =
     let same = read_parts value bytes x rest e in
     record {
@@ -29,7 +29,7 @@ made_again : {A : Type 0} (value : A) (front rest : List ℕ) (x : A) → (x ≡
     → one_read value (front ++ rest) ≡ one_read x rest
 made_again value front rest x h = rw (h.0, h.1) refl
 
-pub made_is_read : {A : Type 0} (value : A) → IsRead (made_at value) (made value)
+pub made_is_read : {A : Type 0} (value : A) → IsRead (made_at value) (value_made value)
 made_is_read value = record {
   takes = λ limit bytes x rest fits e. made_takes value bytes x rest fits e;
   again = λ limit front rest x h. made_again value front rest x h;

@@ -50,5 +50,5 @@ decoded_from zero (byte ∷ bytes) = Err 0
 decoded_from (suc fuel) (byte ∷ bytes) = then_decoded (decoded_from fuel) (byte ∷ bytes) (front_unit (byte ∷ bytes))
 
 -- the units of a text, or the offset of its first bad byte, which is the length where the text ends early
-unfoldable pub decoded : List ℕ → Result (List ℕ) ℕ
-decoded bytes = decoded_from (length bytes) bytes
+unfoldable pub text_decoded : List ℕ → Result (List ℕ) ℕ
+text_decoded bytes = decoded_from (length bytes) bytes

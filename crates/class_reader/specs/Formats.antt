@@ -44,8 +44,8 @@ abbrev pub text : ℕ → Format (List ℕ)
 text len = record { Spells = λ bytes units. IsSpelling bytes units × (length bytes ≡ len); Faults = λ limit bytes fault. IsCut len limit bytes fault ⊎ IsBadText len limit bytes fault }
 
 -- no bytes: the value is known
-abbrev pub made : {A : Type 0} → A → Format A
-made value = record { Spells = λ text x. (x ≡ value) × (text ≡ []); Faults = λ limit bytes fault. ⊥ }
+abbrev pub value_made : {A : Type 0} → A → Format A
+value_made value = record { Spells = λ text x. (x ≡ value) × (text ≡ []); Faults = λ limit bytes fault. ⊥ }
 
 -- ---- one after the other
 
@@ -72,8 +72,8 @@ in_turn P Q = record { Spells = AreInTurn P Q; Faults = λ limit bytes fault. P.
 
 -- so many, one after the other
 abbrev pub many : {A : Type 0} → Format A → ℕ → Format (List A)
-many P zero = made []
-many P (suc n) = in_turn P (λ x. in_turn (many P n) (λ xs. made (x ∷ xs)))
+many P zero = value_made []
+many P (suc n) = in_turn P (λ x. in_turn (many P n) (λ xs. value_made (x ∷ xs)))
 
 -- ---- values with a condition
 
@@ -93,16 +93,16 @@ pub record IsRefused {A B : Type 0} (P : Format A) (convert : A → Option B) (w
   pub refused : convert x ≡ None
   pub told : fault ≡ why (place limit bytes) x
 
-abbrev pub converted : {A B : Type 0} → Format A → (A → Option B) → (ℕ → A → ReadError) → Format B
-converted P convert why = record { Spells = IsConverted P convert; Faults = λ limit bytes fault. P.Faults limit bytes fault ⊎ IsRefused P convert why limit bytes fault }
+abbrev pub value_converted : {A B : Type 0} → Format A → (A → Option B) → (ℕ → A → ReadError) → Format B
+value_converted P convert why = record { Spells = IsConverted P convert; Faults = λ limit bytes fault. P.Faults limit bytes fault ⊎ IsRefused P convert why limit bytes fault }
 
 -- the value, where it meets the test
 abbrev pub kept_where : {A : Type 0} → (A → Bool) → A → Option A
 kept_where test x = if test x then Some x else None
 
 -- a value that meets a test
-abbrev pub tested : {A : Type 0} → Format A → (A → Bool) → (ℕ → A → ReadError) → Format A
-tested P test why = converted P (kept_where test) why
+abbrev pub value_tested : {A : Type 0} → Format A → (A → Bool) → (ℕ → A → ReadError) → Format A
+value_tested P test why = value_converted P (kept_where test) why
 
 -- the one format or the other
 abbrev pub either : {A : Type 0} → Bool → Format A → Format A → Format A
@@ -112,8 +112,8 @@ either false P Q = Q
 -- ---- contents with their length
 
 -- a u4 length, and so many bytes
-abbrev pub sized : Format (List ℕ)
-sized = in_turn (number w32) run
+abbrev pub bytes_sized : Format (List ℕ)
+bytes_sized = in_turn (number w32) run
 
 -- The contents begin with what the format spells, and go on behind it.
 pub record HasMore {A : Type 0} (P : Format A) (contents : List ℕ) : Type 0 where
@@ -140,7 +140,7 @@ FaultsWithin P at limit contents fault = (EndsElsewhere P limit contents × (fau
 -- the text is a length and contents, which spell this value
 pub record IsEnclosed {A : Type 0} (P : Format A) (text : List ℕ) (x : A) : Type 0 where
   pub contents : List ℕ
-  pub outer : sized.Spells text contents
+  pub outer : bytes_sized.Spells text contents
   pub inner : P.Spells contents x
 
 -- the contents are all there, and the fault is in them
@@ -149,9 +149,9 @@ pub record FaultsInside {A : Type 0} (P : Format A) (limit : ℕ) (bytes : List 
   pub rest : List ℕ
   pub parts : bytes ≡ front ++ rest
   pub contents : List ℕ
-  pub outer : sized.Spells front contents
+  pub outer : bytes_sized.Spells front contents
   pub inner : FaultsWithin P (place limit bytes) (place limit rest) contents fault
 
 -- contents with their length, which are taken whole and then parsed
-abbrev pub enclosed : {A : Type 0} → Format A → Format A
-enclosed P = record { Spells = IsEnclosed P; Faults = λ limit bytes fault. sized.Faults limit bytes fault ⊎ FaultsInside P limit bytes fault }
+abbrev pub contents_enclosed : {A : Type 0} → Format A → Format A
+contents_enclosed P = record { Spells = IsEnclosed P; Faults = λ limit bytes fault. bytes_sized.Faults limit bytes fault ⊎ FaultsInside P limit bytes fault }

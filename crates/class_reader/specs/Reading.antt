@@ -18,7 +18,7 @@ use Rattle.class_reader.specs.declared.tags.Tag.{Tag}
 use Rattle.class_reader.specs.declared.tags.Tag.TheVariants as tag
 use Rattle.class_reader.specs.declared.error.ReadError.{ReadError}
 use Rattle.class_reader.specs.declared.error.ReadError.TheVariants.{TooLong, Truncated, BadMagic, BadVersion, BadTag, BadUtf8, BadIndex, BadRef, BadLength, Trailing, NoMemory}
-use Rattle.class_reader.specs.Decoding.{decoded}
+use Rattle.class_reader.specs.Decoding.{text_decoded}
 use Rattle.class_reader.specs.Formats.{place}
 use Rattle.class_reader.specs.Files.{most_bytes}
 use Rattle.class_reader.specs.ClassFormat.{tag_of, names, names_text, lowest_bad, Body, class_with}
@@ -57,7 +57,7 @@ text_from limit bytes rest (Err at) = Err (BadUtf8 (place limit (drop at bytes))
 unfoldable pub text_at : ℕ → ℕ → List ℕ → Read (List ℕ)
 text_at len limit bytes = do
   t ← run_at len limit bytes
-  text_from limit bytes t.1 (decoded t.0)
+  text_from limit bytes t.1 (text_decoded t.0)
 
 -- a number that meets a test, which is read before it
 unfoldable pub tested_at : Width → (ℕ → Bool) → (ℕ → ℕ → ReadError) → ℕ → List ℕ → Read ℕ
@@ -151,12 +151,12 @@ abbrev pub with_front : {A : Type 0} → List A → Read (List A) → Read (List
 with_front front read = read >>= λ x. Ok (front ++ x.0, x.1)
 
 -- an entry, with a gap behind it where it takes two indices and the second is there
-abbrev pub gapped : Const → Bool → List Const
-gapped c has_room = if is_wide c && has_room then c ∷ Gap ∷ [] else c ∷ []
+abbrev pub entry_gapped : Const → Bool → List Const
+entry_gapped c has_room = if is_wide c && has_room then c ∷ Gap ∷ [] else c ∷ []
 
 -- the entries with one more, where the pool has so many indices
 abbrev pub with_entry : List Const → Const → ℕ → List Const
-with_entry entries c count = entries ++ gapped c (nat_lt (length entries + 1) count)
+with_entry entries c count = entries ++ entry_gapped c (nat_lt (length entries + 1) count)
 
 -- the entries of so many indices
 unfoldable pub entries_at : ℕ → ℕ → List ℕ → Read (List Const)

@@ -1,7 +1,7 @@
 //! Entries of the constant pool (JVM Specification 4.4).
 
 ghost use Rattle.std.specs.Prelude.{◌≡◌, ◌≤◌, ℕ, Ok, Err, length, IfOk};
-ghost use Rattle.class_reader.specs.Decoding.{decoded};
+ghost use Rattle.class_reader.specs.Decoding.{text_decoded};
 ghost use Rattle.class_reader.specs.Reading.{Gives, with_rest, tag_at, text_at, utf8_at, contents_at, entry_at};
 
 use crate::error::ReadError;
@@ -25,8 +25,8 @@ fn tag_of(limit: usize, bytes: &[u8]) -> Result<(Tag, &[u8]), ReadError>
 
 /// The text that the bytes spell in modified UTF-8.
 fn decode(alloc: Global, bytes: &[u8]) -> Result<Text16, TextError>
-    ensures text { IfOk result (λ units. decoded bytes.now ≡ Ok units) }
-    ensures bad { (at : ℕ) → result ≡ Err (TextError.BadUtf8 at) → decoded bytes.now ≡ Err at }
+    ensures text { IfOk result (λ units. text_decoded bytes.now ≡ Ok units) }
+    ensures bad { (at : ℕ) → result ≡ Err (TextError.BadUtf8 at) → text_decoded bytes.now ≡ Err at }
     ensures within { (at : ℕ) → result ≡ Err (TextError.BadUtf8 at) → at ≤ length bytes.now }
 {
     from_modified(alloc, bytes)

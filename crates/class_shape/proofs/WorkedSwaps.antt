@@ -3,7 +3,7 @@ use Rattle.std.proofs.Common.{List, ℕ, ◌<◌, get_or, true, zero, suc, ◌�
 use Rattle.const_pool.specs.declared.class.ClassFile.{ClassFile}
 use Rattle.class_reader.specs.declared.error.ReadError.TheVariants.{Truncated}
 use Rattle.class_reader.specs.Reading.{image_of, class_at, magic_at, major_at, tested_at, number_at, body_at, pool_at, all_entries_at, entries_at, entry_at, tag_at, utf8_at, text_at, pair_at, single_at, many_at, counted_at, member_at, method_attribute_at, field_attribute_at, class_attribute_at, run_at, sized_at, enclosed_at, contents_at}
-use Rattle.class_reader.specs.Decoding.{decoded, decoded_from}
+use Rattle.class_reader.specs.Decoding.{text_decoded, decoded_from}
 use Rattle.const_pool.specs.ClassFile.{class_bytes, Spells}
 use Rattle.const_pool.specs.declared.pool.Const.{Const}
 use Rattle.const_pool.specs.declared.pool.Const.TheVariants.{Gap, Utf8, Class}
@@ -44,7 +44,7 @@ abstract_class method = record {
 
 -- what is read of the bytes of a class is the class
 read : image_of (class_bytes (abstract_class (codes "h"))) ≡ Ok (abstract_class (codes "h"))
-unfolding image_of class_at magic_at major_at tested_at number_at body_at pool_at all_entries_at entries_at entry_at tag_at utf8_at text_at pair_at single_at many_at counted_at member_at method_attribute_at field_attribute_at class_attribute_at run_at decoded decoded_from sized_at enclosed_at contents_at
+unfolding image_of class_at magic_at major_at tested_at number_at body_at pool_at all_entries_at entries_at entry_at tag_at utf8_at text_at pair_at single_at many_at counted_at member_at method_attribute_at field_attribute_at class_attribute_at run_at text_decoded decoded_from sized_at enclosed_at contents_at
 read = refl
 
 are_bytes : list_all (λ b. nat_lt b 256) (class_bytes (abstract_class (codes "h"))) ≡ true

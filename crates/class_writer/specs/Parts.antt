@@ -5,7 +5,7 @@ use Rattle.jf_bytes.specs.ModifiedUtf8.{modified_utf8}
 use Rattle.const_pool.specs.declared.pool.Const.{Const}
 use Rattle.const_pool.specs.declared.class.ClassFile.{ClassFile}
 use Rattle.const_pool.specs.Pool.{u2, u4, entry_at, entry_bytes, pool_bytes}
-use Rattle.const_pool.specs.ClassFile.{counted, attribute_bytes, member_bytes}
+use Rattle.const_pool.specs.ClassFile.{items_counted, attribute_bytes, member_bytes}
 
 -- the magic number, the version and the constant pool
 abbrev pub head_bytes : ClassFile → List ℕ
@@ -17,7 +17,7 @@ itself_bytes c = u2 c.access ++ (u2 c.this_class ++ u2 c.super_class)
 
 -- what the class has
 abbrev pub body_bytes : ClassFile → List ℕ
-body_bytes c = counted u2 c.interfaces ++ (counted member_bytes c.fields ++ (counted member_bytes c.methods ++ counted attribute_bytes c.attributes))
+body_bytes c = items_counted u2 c.interfaces ++ (items_counted member_bytes c.fields ++ (items_counted member_bytes c.methods ++ items_counted attribute_bytes c.attributes))
 
 -- the length of a text, and the text (4.4.7)
 abbrev pub text_bytes : List ℕ → List ℕ

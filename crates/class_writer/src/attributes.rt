@@ -1,7 +1,7 @@
 //! Attributes (JVM Specification 4.7).
 
 ghost use Rattle.std.specs.Prelude.{◌≡◌, ◌<◌, ◌++◌, All, OnOk};
-ghost use Rattle.const_pool.specs.ClassFile.{FitsCount, counted, raw_bytes, handler_bytes, code_bytes, attribute_bytes};
+ghost use Rattle.const_pool.specs.ClassFile.{FitsCount, items_counted, raw_bytes, handler_bytes, code_bytes, attribute_bytes};
 ghost use Rattle.class_writer.specs.Fits.{FitsRaw, FitsCode, FitsAttribute};
 
 use crate::numbers::{push_u16, push_u32};
@@ -24,7 +24,7 @@ fn push_raw(out: &mut Vec<u8>, raw: &Raw) -> Result<(), NoMemory>
 fn push_raws(out: &mut Vec<u8>, raws: &[Raw]) -> Result<(), NoMemory>
     requires count { FitsCount raws.now }
     requires each { All FitsRaw raws.now }
-    ensures { OnOk result (out.new.items ≡ out.old.items ++ counted raw_bytes raws.now) }
+    ensures { OnOk result (out.new.items ≡ out.old.items ++ items_counted raw_bytes raws.now) }
 {
     push_u16(out, raws.len() as u16)?;
     for raw in raws {
@@ -46,7 +46,8 @@ fn push_handler(out: &mut Vec<u8>, handler: &Handler) -> Result<(), NoMemory>
 /// Appends the count of entries of an exception table, and then each.
 fn push_handlers(out: &mut Vec<u8>, handlers: &[Handler]) -> Result<(), NoMemory>
     requires { FitsCount handlers.now }
-    ensures { OnOk result (out.new.items ≡ out.old.items ++ counted handler_bytes handlers.now) }
+    ensures { OnOk result
+        (out.new.items ≡ out.old.items ++ items_counted handler_bytes handlers.now) }
 {
     push_u16(out, handlers.len() as u16)?;
     for handler in handlers {
@@ -93,7 +94,7 @@ pub(crate) fn push_attributes(out: &mut Vec<u8>, attributes: &[Attribute]) -> Re
     requires count { FitsCount attributes.now }
     requires each { All FitsAttribute attributes.now }
     ensures { OnOk result
-        (out.new.items ≡ out.old.items ++ counted attribute_bytes attributes.now) }
+        (out.new.items ≡ out.old.items ++ items_counted attribute_bytes attributes.now) }
 {
     push_u16(out, attributes.len() as u16)?;
     for attribute in attributes {

@@ -1,7 +1,7 @@
 //! Fields and methods (JVM Specification 4.5, 4.6).
 
 ghost use Rattle.std.specs.Prelude.{◌≡◌, ◌++◌, All, OnOk};
-ghost use Rattle.const_pool.specs.ClassFile.{FitsCount, counted, member_bytes};
+ghost use Rattle.const_pool.specs.ClassFile.{FitsCount, items_counted, member_bytes};
 ghost use Rattle.class_writer.specs.Fits.{FitsMember};
 
 use crate::attributes::push_attributes;
@@ -24,7 +24,8 @@ fn push_member(out: &mut Vec<u8>, member: &Member) -> Result<(), NoMemory>
 pub(crate) fn push_members(out: &mut Vec<u8>, members: &[Member]) -> Result<(), NoMemory>
     requires count { FitsCount members.now }
     requires each { All FitsMember members.now }
-    ensures { OnOk result (out.new.items ≡ out.old.items ++ counted member_bytes members.now) }
+    ensures { OnOk result
+        (out.new.items ≡ out.old.items ++ items_counted member_bytes members.now) }
 {
     push_u16(out, members.len() as u16)?;
     for member in members {

@@ -5,7 +5,7 @@ ghost use Rattle.std.specs.List.{flat_map};
 ghost use Rattle.std.specs.Option.{ForSome};
 ghost use Rattle.jf_bytes.specs.ModifiedUtf8.{unit_bytes, modified_utf8};
 ghost use Rattle.const_pool.specs.Pool.{entry_at, entry_bytes, pool_bytes};
-ghost use Rattle.const_pool.specs.ClassFile.{counted, raw_bytes, code_bytes, attribute_bytes, member_bytes, class_bytes};
+ghost use Rattle.const_pool.specs.ClassFile.{items_counted, raw_bytes, code_bytes, attribute_bytes, member_bytes, class_bytes};
 ghost use Rattle.class_writer.specs.Fits.{FitsAttribute, FitsMember, FitsEntry, FitsClass};
 ghost use Rattle.class_writer.specs.Parts.{bytes_at};
 ghost use Rattle.class_writer.specs.Room.{room};
@@ -50,7 +50,7 @@ fn attribute_len(attribute: &Attribute) -> usize
 /// How many bytes attributes behind their count have.
 fn attributes_len(attributes: &[Attribute]) -> usize
     requires { All FitsAttribute attributes.now }
-    ensures { result ≡ room (counted attribute_bytes attributes.now) }
+    ensures { result ≡ room (items_counted attribute_bytes attributes.now) }
 {
     let mut len: usize = 2;
     for attribute in attributes {
@@ -62,7 +62,7 @@ fn attributes_len(attributes: &[Attribute]) -> usize
 /// How many bytes fields or methods behind their count have.
 fn members_len(members: &[Member]) -> usize
     requires { All FitsMember members.now }
-    ensures { result ≡ room (counted member_bytes members.now) }
+    ensures { result ≡ room (items_counted member_bytes members.now) }
 {
     let mut len: usize = 2;
     for member in members {

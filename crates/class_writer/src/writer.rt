@@ -2,7 +2,7 @@
 
 ghost use Rattle.std.specs.Prelude.{◌≡◌, ◌++◌, ℕ, List, All, IfOk, OnOk};
 ghost use Rattle.const_pool.specs.Pool.{u2};
-ghost use Rattle.const_pool.specs.ClassFile.{FitsCount, IsClassFile, Spells, counted, class_bytes};
+ghost use Rattle.const_pool.specs.ClassFile.{FitsCount, IsClassFile, Spells, items_counted, class_bytes};
 ghost use Rattle.class_writer.specs.Fits.{FitsEntry, FitsClass};
 ghost use Rattle.class_writer.specs.Parts.{head_bytes, itself_bytes, body_bytes};
 
@@ -20,7 +20,7 @@ const MAGIC: u32 = 0xCAFE_BABE;
 /// Appends the count of interfaces, and then the index of each.
 fn push_interfaces(out: &mut Vec<u8>, interfaces: &[u16]) -> Result<(), NoMemory>
     requires { FitsCount interfaces.now }
-    ensures { OnOk result (out.new.items ≡ out.old.items ++ counted u2 interfaces.now) }
+    ensures { OnOk result (out.new.items ≡ out.old.items ++ items_counted u2 interfaces.now) }
 {
     push_u16(out, interfaces.len() as u16)?;
     for index in interfaces {

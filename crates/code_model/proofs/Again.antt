@@ -15,9 +15,9 @@ use Rattle.op_table.specs.Opcodes.{row_of, groups}
 use Rattle.code_model.specs.declared.instr.Arg.{Arg}
 use Rattle.code_model.specs.declared.instr.Arg.TheVariants.{Plain, Value, Pool, Local, Inc, Target, Table, Lookup, Interface, Multi, Array}
 use Rattle.code_model.specs.declared.instr.Instr.{Instr}
-use Rattle.code_model.specs.Formats.{Format, AreInTurn, number, run, made, many, tested, either}
-use Rattle.code_model.specs.Operands.{slot_width, padding_len, signed, target, reached, clamped, case_count, counted, is_count, keys_rise, key_of, target_of, pair, table, lookup, operand, form_of, instr_with, behind_opcode, behind_wide, is_wide, instruction}
-use Rattle.code_model.specs.Layout.{number_bytes, signed_bytes, u4, s4, distance, padding, target_bytes, pair_bytes, operand_width, operand_bytes, opcode_bytes, width_of, instr_bytes, moved_arg, moved}
+use Rattle.code_model.specs.Formats.{Format, AreInTurn, number, run, value_made, many, value_tested, either}
+use Rattle.code_model.specs.Operands.{slot_width, padding_len, number_signed, target, target_reached, target_clamped, case_count, offsets_counted, is_count, keys_rise, key_of, target_of, pair, table, lookup, operand, form_of, instr_with, behind_opcode, behind_wide, is_wide, instruction}
+use Rattle.code_model.specs.Layout.{number_bytes, signed_bytes, u4, s4, distance, padding, target_bytes, pair_bytes, operand_width, operand_bytes, opcode_bytes, width_of, instr_bytes, moved_arg, instr_moved}
 use Rattle.code_model.specs.Instructions.{instruction_at}
 use Rattle.code_model.specs.Groups.{FitsNumber, FitsOperand, CanBranch, EachReached}
 pub use Rattle.code_model.specs.Groups.{IsBytes}
@@ -53,13 +53,13 @@ slot_back false = back8
 turn : {A B : Type 0} (P : Format A) (Q : A → Format B) (front rest : List ℕ) (x : A) (y : B) → P.Spells front x → (Q x).Spells rest y → AreInTurn P Q (front ++ rest) y
 turn P Q front rest x y first second = record { front = front; rest = rest; parts = refl; x = x; first = first; second = second }
 
-pub made_of : {A B : Type 0} (P : Format A) (f : A → B) (text : List ℕ) (x : A) → P.Spells text x → AreInTurn P (λ a. made (f a)) text (f x)
+pub made_of : {A B : Type 0} (P : Format A) (f : A → B) (text : List ℕ) (x : A) → P.Spells text x → AreInTurn P (λ a. value_made (f a)) text (f x)
 made_of P f text x h = record { front = text; rest = []; parts = sym (append-nil text); x = x; first = h; second = (refl, refl) }
 
 pub number_again : (at : ℕ) (w : Width) (n : ℕ) → IsBack w → FitsNumber w n → (number at w).Spells (number_bytes w n) n
 number_again at w n back fits = (length-number_bytes w n, back.again n fits)
 
-signed_again : (at : ℕ) (w : Width) (n : ℤ) → IsBack w → FitsSigned w n → (signed at w).Spells (signed_bytes w n) n
+signed_again : (at : ℕ) (w : Width) (n : ℤ) → IsBack w → FitsSigned w n → (number_signed at w).Spells (signed_bytes w n) n
 signed_again at w n back fits =
     let text = signed_bytes w n in
     record {
@@ -72,14 +72,14 @@ signed_again at w n back fits =
     }
 
 -- the two bytes of an unsigned number are those of a signed one
-pub short_again : (at n : ℕ) → FitsNumber w16 n → (signed at w16).Spells (number_bytes w16 n) (cast_signed w16 n)
+pub short_again : (at n : ℕ) → FitsNumber w16 n → (number_signed at w16).Spells (number_bytes w16 n) (cast_signed w16 n)
 short_again at n fits = made_of (number at w16) (cast_signed w16) (number_bytes w16 n) n (number_again at w16 n back16 fits)
 
-reached_back : (place h : ℕ) → h ≤ 65535 → h ≡ reached place (distance place h)
+reached_back : (place h : ℕ) → h ≤ 65535 → h ≡ target_reached place (distance place h)
 reached_back place h le =
     let there : pos place +ℤ (pos h -ℤ pos place) ≡ pos h = omega (arith, ints) in
     let whole : cond (leb h 65535) h 65535 ≡ h = ap (λ b. cond b h 65535) (le-leb h 65535 le) in
-    sym whole ∙ ap clamped (sym there)
+    sym whole ∙ ap target_clamped (sym there)
 
 target_again : (home : ℕ → ℕ) (place : ℕ) (w : Width) (t : ℕ) → IsBack w → home t ≤ 65535 → FitsSigned w (distance place (home t)) → (target place w).Spells (target_bytes home place w t) (home t)
 target_again home place w t back le fits =
@@ -105,7 +105,7 @@ many_again {B = B} P f g Q each (x ∷ xs) all =
 cases_back : (low high : ℤ) (n : ℕ) → 1 ≤ n → high ≡ (low +ℤ pos n) -ℤ pos 1 → (int_le low high ≡ true) × (case_count low high ≡ n)
 cases_back low high n some is = (grind (arith, ints), by_gap (high -ℤ low) refl)
   where
-    by_gap : (z : ℤ) → high -ℤ low ≡ z → counted z ≡ n
+    by_gap : (z : ℤ) → high -ℤ low ≡ z → offsets_counted z ≡ n
     by_gap (pos m) gap = omega (arith, ints)
     by_gap (negsuc m) gap = absurd (omega (arith, ints))
 
@@ -121,8 +121,8 @@ table_again home place w default low targets fits leads =
     subst (λ n. (many (target place w32) n).Spells cases (map home targets)) (sym count.1) each in
     turn (run place (padding_len place)) _ (padding place) _ (padding place) (Table (home default) low (map home targets)) (refl, length-replicate (padding_len place) 0)
     (turn (target place w32) _ (target_bytes home place w32 default) _ (home default) (Table (home default) low (map home targets)) (target_again home place w32 default back32 leads.0.0 leads.0.1)
-    (turn (signed place w32) _ (s4 low) _ low (Table (home default) low (map home targets)) (signed_again place w32 low back32 fits.1)
-    (turn (tested (signed place w32) (λ (h : ℤ). int_le low h) _) _ (s4 high) cases high (Table (home default) low (map home targets)) (signed_again place w32 high back32 fits.2, count.0)
+    (turn (number_signed place w32) _ (s4 low) _ low (Table (home default) low (map home targets)) (signed_again place w32 low back32 fits.1)
+    (turn (value_tested (number_signed place w32) (λ (h : ℤ). int_le low h) _) _ (s4 high) cases high (Table (home default) low (map home targets)) (signed_again place w32 high back32 fits.2, count.0)
     (made_of (many (target place w32) (case_count low high)) (λ (ts : List ℕ). Table (home default) low ts) cases (map home targets) some_cases))))
 
 -- pairs with their targets where `home` has them
@@ -134,7 +134,7 @@ IsPair home place p = FitsSigned w32 p.0 × ((home p.1 ≤ 65535) × FitsSigned 
 
 pair_again : (home : ℕ → ℕ) (place : ℕ) (p : ℤ × ℕ) → IsPair home place p → (pair place).Spells (pair_bytes home place p) (moved_pair home p)
 pair_again home place p q =
-    turn (signed place w32) _ (s4 p.0) (target_bytes home place w32 p.1) p.0 (moved_pair home p) (signed_again place w32 p.0 back32 q.0)
+    turn (number_signed place w32) _ (s4 p.0) (target_bytes home place w32 p.1) p.0 (moved_pair home p) (signed_again place w32 p.0 back32 q.0)
     (made_of (target place w32) (λ (t : ℕ). (p.0, t)) (target_bytes home place w32 p.1) (home p.1) (target_again home place w32 p.1 back32 q.1.0 q.1.1))
 
 pairs_fit : (home : ℕ → ℕ) (place : ℕ) (keys : List ℤ) (targets : List ℕ) → AllByRecursion (FitsSigned w32) keys → AllByRecursion (λ t. (home t ≤ 65535) × FitsSigned w32 (distance place (home t))) targets
@@ -172,8 +172,8 @@ lookup_again home place w default keys targets fits rise leads =
     subst (λ (a : Arg). (lookup place).Spells (operand_bytes home place w (Lookup default keys targets)) a) same
     (turn (run place (padding_len place)) _ (padding place) _ (padding place) result (refl, length-replicate (padding_len place) 0)
     (turn (target place w32) _ (target_bytes home place w32 default) _ (home default) result (target_again home place w32 default back32 leads.0.0 leads.0.1)
-    (turn (tested (number place w32) is_count _) _ (u4 (length keys)) text (length keys) result (number_again place w32 (length keys) back32 (omega (arith, fits.1)), few)
-    (made_of (tested (many (pair place) (length keys)) (λ (ps : List (ℤ × ℕ)). keys_rise (map key_of ps)) _) (λ (ps : List (ℤ × ℕ)). Lookup (home default) (map key_of ps) (map target_of ps)) text pairs (spelled, ap keys_rise ks ∙ rise)))))
+    (turn (value_tested (number place w32) is_count _) _ (u4 (length keys)) text (length keys) result (number_again place w32 (length keys) back32 (omega (arith, fits.1)), few)
+    (made_of (value_tested (many (pair place) (length keys)) (λ (ps : List (ℤ × ℕ)). keys_rise (map key_of ps)) _) (λ (ps : List (ℤ × ℕ)). Lookup (home default) (map key_of ps) (map target_of ps)) text pairs (spelled, ap keys_rise ks ∙ rise)))))
 
 -- ---- operands
 
@@ -193,9 +193,9 @@ pub operand_again : (home : ℕ → ℕ) (place : ℕ) (wide : Bool) (f : Form) 
     → SpellsMoved home place wide f arg
 operand_again home place wide form.Plain arg s fits leads = known_again home place wide form.Plain arg Plain s (λ f l. (refl, refl)) fits leads
 operand_again home place wide form.Byte arg s fits leads =
-    known_again home place wide form.Byte arg (Value s.0) s.1 (λ f l. made_of (signed place w8) Value (signed_bytes w8 s.0) s.0 (signed_again place w8 s.0 back8 f)) fits leads
+    known_again home place wide form.Byte arg (Value s.0) s.1 (λ f l. made_of (number_signed place w8) Value (signed_bytes w8 s.0) s.0 (signed_again place w8 s.0 back8 f)) fits leads
 operand_again home place wide form.Short arg s fits leads =
-    known_again home place wide form.Short arg (Value s.0) s.1 (λ f l. made_of (signed place w16) Value (signed_bytes w16 s.0) s.0 (signed_again place w16 s.0 back16 f)) fits leads
+    known_again home place wide form.Short arg (Value s.0) s.1 (λ f l. made_of (number_signed place w16) Value (signed_bytes w16 s.0) s.0 (signed_again place w16 s.0 back16 f)) fits leads
 operand_again home place wide form.PoolByte arg s fits leads =
     known_again home place wide form.PoolByte arg (Pool s.0) s.1 (λ f l. made_of (number place w8) Pool (number_bytes w8 s.0) s.0 (number_again place w8 s.0 back8 f)) fits leads
 operand_again home place wide form.Pool arg s fits leads =
@@ -207,7 +207,7 @@ operand_again home place wide form.Inc arg s fits leads =
     let w = slot_width wide in
     known_again home place wide form.Inc arg (Inc s.0 s.1) s.2
     (λ f l. turn (number place w) _ (number_bytes w s.0) (signed_bytes w s.1) s.0 (Inc s.0 s.1) (number_again place w s.0 (slot_back wide) f.0)
-    (made_of (signed place w) (Inc s.0) (signed_bytes w s.1) s.1 (signed_again place w s.1 (slot_back wide) f.1))) fits leads
+    (made_of (number_signed place w) (Inc s.0) (signed_bytes w s.1) s.1 (signed_again place w s.1 (slot_back wide) f.1))) fits leads
 operand_again home place wide form.Jump arg s fits leads =
     known_again home place wide form.Jump arg (Target s.0) s.1 (λ f l. made_of (target place w16) Target (target_bytes home place w16 s.0) (home s.0) (target_again home place w16 s.0 back16 l.0 l.1)) fits leads
 operand_again home place wide form.JumpWide arg s fits leads =
@@ -268,7 +268,7 @@ instr_of_operand at false op text arg other spelled =
     (subst (λ (b : Bool). (either b (behind_wide at) (behind_opcode at false op)).Spells text (instr_with at false op arg)) (sym other) behind)
 
 pub instruction_moved : (home : ℕ → ℕ) (place at : ℕ) (text : List ℕ) (i : Instr) → IsInstr at text i → IsBytes text → CanBranch home place (width_of i) i.arg
-    → (instruction place).Spells (instr_bytes home place i) (moved home place i)
+    → (instruction place).Spells (instr_bytes home place i) (instr_moved home place i)
 instruction_moved home place at text i known fits leads =
     let operand = operand_again home place i.wide (form_of i.wide i.op) i.arg known.shape (known.fits fits) leads in
     instr_of_operand place i.wide i.op (operand_bytes home place (width_of i) i.arg) (moved_arg home i.arg) (not_wide (form_of i.wide i.op) i.arg known.shape) operand
@@ -287,11 +287,11 @@ bytes_among front text rest bytes parts fits = in_front text rest (λ k. behind 
 
 -- behind other bytes the instruction stands at its place, with its targets where `home` has them
 pub instruction_again : (bytes : List ℕ) (at : ℕ) (i : Instr) → instruction_at bytes at ≡ Some i → IsBytes bytes
-    → (home : ℕ → ℕ) (p ys : List ℕ) (place : ℕ) → length p ≡ place → CanBranch home place (width_of i) i.arg → instruction_at (p ++ (instr_bytes home place i ++ ys)) place ≡ Some (moved home place i)
+    → (home : ℕ → ℕ) (p ys : List ℕ) (place : ℕ) → length p ≡ place → CanBranch home place (width_of i) i.arg → instruction_at (p ++ (instr_bytes home place i ++ ys)) place ≡ Some (instr_moved home place i)
 instruction_again bytes at i here fits home p ys place len leads =
     let s = stands_from bytes at i here in
     let known = instruction_spelled at s.text i s.spelled in
-    stands_to (p ++ (instr_bytes home place i ++ ys)) place (moved home place i) (record {
+    stands_to (p ++ (instr_bytes home place i ++ ys)) place (instr_moved home place i) (record {
       front = p;
       text = instr_bytes home place i;
       rest = ys;
@@ -313,19 +313,19 @@ turn_elsewhere : {A B : Type 0} (P P' : Format A) (Q Q' : A → Format B) → ((
     → (text : List ℕ) (y : B) → AreInTurn P Q text y → AreInTurn P' Q' text y
 turn_elsewhere P P' Q Q' first second text y h = record { front = h.front; rest = h.rest; parts = h.parts; x = h.x; first = first h.front h.x h.first; second = second h.x h.rest y h.second }
 
-signed_elsewhere : (n m : ℕ) (w : Width) (text : List ℕ) (x : ℤ) → (signed n w).Spells text x → (signed m w).Spells text x
+signed_elsewhere : (n m : ℕ) (w : Width) (text : List ℕ) (x : ℤ) → (number_signed n w).Spells text x → (number_signed m w).Spells text x
 signed_elsewhere n m w text x h = turn_elsewhere (number n w) (number m w) _ _ (λ t y e. e) (λ y t z e. e) text x h
 
 operand_elsewhere : (f : Form) (wide : Bool) (n m : ℕ) (text : List ℕ) (arg : Arg) → IsUnmoved arg → (operand f wide n).Spells text arg → (operand f wide m).Spells text arg
 operand_elsewhere form.Plain wide n m text arg u h = h
-operand_elsewhere form.Byte wide n m text arg u h = turn_elsewhere (signed n w8) (signed m w8) _ _ (signed_elsewhere n m w8) (λ y t z e. e) text arg h
-operand_elsewhere form.Short wide n m text arg u h = turn_elsewhere (signed n w16) (signed m w16) _ _ (signed_elsewhere n m w16) (λ y t z e. e) text arg h
+operand_elsewhere form.Byte wide n m text arg u h = turn_elsewhere (number_signed n w8) (number_signed m w8) _ _ (signed_elsewhere n m w8) (λ y t z e. e) text arg h
+operand_elsewhere form.Short wide n m text arg u h = turn_elsewhere (number_signed n w16) (number_signed m w16) _ _ (signed_elsewhere n m w16) (λ y t z e. e) text arg h
 operand_elsewhere form.PoolByte wide n m text arg u h = turn_elsewhere (number n w8) (number m w8) _ _ (λ t y e. e) (λ y t z e. e) text arg h
 operand_elsewhere form.Pool wide n m text arg u h = turn_elsewhere (number n w16) (number m w16) _ _ (λ t y e. e) (λ y t z e. e) text arg h
 operand_elsewhere form.Local wide n m text arg u h = turn_elsewhere (number n (slot_width wide)) (number m (slot_width wide)) _ _ (λ t y e. e) (λ y t z e. e) text arg h
 operand_elsewhere form.Inc wide n m text arg u h =
     turn_elsewhere (number n (slot_width wide)) (number m (slot_width wide)) _ _ (λ t y e. e)
-    (λ y t z e. turn_elsewhere (signed n (slot_width wide)) (signed m (slot_width wide)) _ _ (signed_elsewhere n m (slot_width wide)) (λ y' t' z' e'. e') t z e) text arg h
+    (λ y t z e. turn_elsewhere (number_signed n (slot_width wide)) (number_signed m (slot_width wide)) _ _ (signed_elsewhere n m (slot_width wide)) (λ y' t' z' e'. e') t z e) text arg h
 operand_elsewhere form.Jump wide n m text arg u h = absurd (subst IsUnmoved h.second.0 u)
 operand_elsewhere form.JumpWide wide n m text arg u h = absurd (subst IsUnmoved h.second.0 u)
 operand_elsewhere form.Table wide n m text arg u h = absurd (subst IsUnmoved h.second.second.second.second.second.0 u)

@@ -1,7 +1,7 @@
 -- Reading values that meet a test, and one format or the other.
 use Rattle.std.proofs.Common.{◌≡◌, ℕ, ◌⊎◌, inl, inr, Bool, true, false, cond, List, ◌++◌, Ok, Err, refl, sym, ap, subst, ◌∙◌}
 use Rattle.code_model.specs.declared.error.CodeError.{CodeError}
-use Rattle.code_model.specs.Formats.{Format, IsRefused, tested, either}
+use Rattle.code_model.specs.Formats.{Format, IsRefused, value_tested, either}
 use Rattle.code_model.specs.Reading.{◌>>=◌, Read}
 use Rattle.code_model.proofs.Items.{Takes, IsRead, one_read, read_parts, no_fault, ok_parts, err_parts}
 
@@ -29,7 +29,7 @@ refused_again true x rest why fault e told = absurd cc
 refused_again false x rest why fault e told = ap Err (sym told)
 
 module _ {A : Type 0} (p : List ℕ → Read A) (P : Format A) (test : A → Bool) (why : CodeError) (law : IsRead p P) where
-  tested_takes : (bytes : List ℕ) (y : A) (rest : List ℕ) → tested_at p test why bytes ≡ Ok (y, rest) → Takes (tested P test why) bytes y rest
+  tested_takes : (bytes : List ℕ) (y : A) (rest : List ℕ) → tested_at p test why bytes ≡ Ok (y, rest) → Takes (value_tested P test why) bytes y rest
   tested_takes bytes y rest e =
       let a = ok_parts _ _ _ e in
       let one = law.takes bytes a.0.0 a.0.1 a.1 in
@@ -59,7 +59,7 @@ module _ {A : Type 0} (p : List ℕ → Read A) (P : Format A) (test : A → Boo
       let read : p bytes ≡ Ok (h.x, h.rest) = ap p h.parts ∙ law.again h.front h.rest h.x h.spelled in
       ap (λ r. r >>= kept test why) read ∙ refused_again (test h.x) h.x h.rest why fault h.refused h.told
 
-  pub tested_is_read : IsRead (tested_at p test why) (tested P test why)
+  pub tested_is_read : IsRead (tested_at p test why) (value_tested P test why)
   tested_is_read = record { takes = tested_takes; again = tested_again; faults = tested_faults; stops = tested_stops }
 
 -- ---- the one or the other

@@ -9,7 +9,7 @@ use Rattle.code_model.specs.declared.instr.Instr.{Instr}
 use Rattle.code_model.specs.declared.laying.Group.{Group}
 use Rattle.code_model.specs.declared.laying.Homes.{Homes}
 use Rattle.code_model.specs.Instructions.{instruction_at, end_of, Reads}
-use Rattle.code_model.specs.Layout.{Spot, width_of, instr_bytes, size_at, moved, place_of, group_end, spots_from, end_from, source_end, all_spots, homes_of, home_in, place_in, origin_in, home_of, found_beside, groups_bytes, laid_of}
+use Rattle.code_model.specs.Layout.{Spot, width_of, instr_bytes, size_at, instr_moved, place_of, group_end, spots_from, end_from, source_end, all_spots, homes_of, home_in, place_in, origin_in, home_of, found_beside, groups_bytes, laid_of}
 use Rattle.code_model.proofs.Readings.{instruction_at_within}
 use Rattle.code_model.proofs.Walks.{groups_bytes-append, length-groups_bytes}
 use Rattle.code_model.proofs.Lookups.{Rises, Rises-increasing, found, found_beside-at, found_beside-back, spot-found_beside}
@@ -27,7 +27,7 @@ pub record Stands (homes : Homes) (code : List ℕ) (g : Group) (home : ℕ) : T
   pub before_is : take (length g.before) (drop home code) ≡ g.before
   pub before_reads : (n place : ℕ) (i : Instr) → place ≡ home + n → IsUnmoved i.arg → instruction_at g.before n ≡ Some i → instruction_at code place ≡ Some (record i { at = place })
   pub instr_is : CanBranch (home_of homes) (place_of home g) (width_of g.instr) g.instr.arg
-      → instruction_at code (place_of home g) ≡ Some (moved (home_of homes) (place_of home g) g.instr)
+      → instruction_at code (place_of home g) ≡ Some (instr_moved (home_of homes) (place_of home g) g.instr)
   pub next_is : home_in homes (end_of g.instr) ≡ Some (end_of (record g.instr { at = place_of home g }))
 
 -- a number of a group's spot is found beside another that rises
@@ -63,7 +63,7 @@ front_length front home pre = length-append front (groups_bytes home (length fro
 middle_stands : (bytes front back : List ℕ) (home : ℕ → ℕ) (pre : List Group) (g : Group) (post : List Group) → instruction_at bytes g.instr.at ≡ Some g.instr → IsBytes bytes
     → CanBranch home (place_of (end_from (length front) pre) g) (width_of g.instr) g.instr.arg
     → instruction_at (front ++ (groups_bytes home (length front) (pre ++ g ∷ post) ++ back)) (place_of (end_from (length front) pre) g)
-    ≡ Some (moved home (place_of (end_from (length front) pre) g) g.instr)
+    ≡ Some (instr_moved home (place_of (end_from (length front) pre) g) g.instr)
 middle_stands bytes front back home pre g post here fits leads =
     let at = end_from (length front) pre in
     let place = place_of at g in
@@ -171,11 +171,11 @@ group_at_place bytes front back gs reads fits i place here e = group_of bytes fr
 -- an instruction stands at its place
 pub instruction_at-place : (bytes front back : List ℕ) (gs : List Group) → Reads bytes 0 (instrs_of gs) → IsBytes bytes
     → (i : Instr) (place : ℕ) → instruction_at bytes i.at ≡ Some i → place_in (homes_of front gs) i.at ≡ Some place → CanBranch (home_of (homes_of front gs)) place (width_of i) i.arg
-    → instruction_at (laid_of front gs back).code place ≡ Some (moved (home_of (homes_of front gs)) place i)
+    → instruction_at (laid_of front gs back).code place ≡ Some (instr_moved (home_of (homes_of front gs)) place i)
 instruction_at-place bytes front back gs reads fits i place here e leads =
     let o = group_at_place bytes front back gs reads fits i place here e in
     let home = home_of (homes_of front gs) in
-    let there : ℕ → Instr → Option Instr = λ at j. Some (moved home at j) in
+    let there : ℕ → Instr → Option Instr = λ at j. Some (instr_moved home at j) in
     let branches : CanBranch home (place_of o.home o.group) (width_of o.group.instr) o.group.instr.arg =
     subst (λ (j : Instr). CanBranch home (place_of o.home o.group) (width_of j) j.arg) (sym o.instr) (subst (λ at. CanBranch home at (width_of i) i.arg) (sym o.number_is) leads) in
     ap (instruction_at (laid_of front gs back).code) (sym o.number_is) ∙ o.stands.instr_is branches ∙ ap (λ at. there at o.group.instr) o.number_is ∙ ap (there place) o.instr

@@ -6,7 +6,7 @@ use Rattle.std.proofs.lemmas.List.{take_at, drop_at, take-append-drop, length-ap
 use Rattle.code_model.specs.declared.error.CodeError.{CodeError}
 use Rattle.code_model.specs.declared.error.CodeError.TheVariants.{Cut}
 use Rattle.code_model.specs.Formats.{Format, IsCut, number, run}
-use Rattle.code_model.specs.Operands.{signed, target, reached}
+use Rattle.code_model.specs.Operands.{number_signed, target, target_reached}
 use Rattle.code_model.specs.Reading.{Read, number_at, run_at, signed_at, target_at}
 use Rattle.code_model.proofs.Items.{Takes, IsRead, one_read, read_parts, no_fault}
 use Rattle.code_model.proofs.Turns.{made_is_read, in_turn_is_read}
@@ -76,10 +76,10 @@ run_is_read at len =
 
 -- ---- signed numbers and targets
 
-pub signed_is_read : (at : ℕ) (w : Width) → IsRead (signed_at at w) (signed at w)
+pub signed_is_read : (at : ℕ) (w : Width) → IsRead (signed_at at w) (number_signed at w)
 unfolding signed_at
 signed_is_read at w = in_turn_is_read (number_is_read at w) (λ n. made_is_read (cast_signed w n))
 
 pub target_is_read : (at : ℕ) (w : Width) → IsRead (target_at at w) (target at w)
 unfolding target_at
-target_is_read at w = in_turn_is_read (signed_is_read at w) (λ d. made_is_read (reached at d))
+target_is_read at w = in_turn_is_read (signed_is_read at w) (λ d. made_is_read (target_reached at d))

@@ -8,8 +8,8 @@ use Rattle.op_table.specs.Opcodes.{row_of}
 use Rattle.code_model.specs.declared.instr.Arg.{Arg}
 use Rattle.code_model.specs.declared.instr.Arg.TheVariants.{Plain, Value, Pool, Local, Inc, Target, Table, Lookup, Interface, Multi, Array}
 use Rattle.code_model.specs.declared.error.CodeError.TheVariants.{BadOpcode, BadSwitch}
-use Rattle.code_model.specs.Formats.{number, in_turn, made, tested, many}
-use Rattle.code_model.specs.Operands.{slot_width, padding_len, case_count, is_count, keys_rise, key_of, target_of, pair, signed, operand, form_of, instr_with, behind_opcode, behind_wide, is_wide, instruction}
+use Rattle.code_model.specs.Formats.{number, in_turn, value_made, value_tested, many}
+use Rattle.code_model.specs.Operands.{slot_width, padding_len, case_count, is_count, keys_rise, key_of, target_of, pair, number_signed, operand, form_of, instr_with, behind_opcode, behind_wide, is_wide, instruction}
 use Rattle.code_model.specs.Operands as format
 use Rattle.code_model.specs.Reading.{◌>>=◌, Read, number_at, signed_at, many_at, pair_at, high_at, table_at, count_at, columns_at, lookup_at, value_at, index_at, local_at, increment_at, branch_at, interface_at, multi_at, array_at, operand_at, behind_opcode_at, behind_wide_at, read_instruction}
 use Rattle.code_model.proofs.Items.{IsRead, same_read}
@@ -23,9 +23,9 @@ pub pair_is_read : (at : ℕ) → IsRead (pair_at at) (pair at)
 unfolding pair_at
 pair_is_read at = in_turn_is_read (signed_is_read at w32) (λ key. in_turn_is_read (target_is_read at w32) (λ t. made_is_read (key, t)))
 
-high_is_read : (at : ℕ) (low : ℤ) → IsRead (high_at at low) (tested (signed at w32) (λ high. int_le low high) (BadSwitch at))
+high_is_read : (at : ℕ) (low : ℤ) → IsRead (high_at at low) (value_tested (number_signed at w32) (λ high. int_le low high) (BadSwitch at))
 unfolding high_at
-high_is_read at low = tested_is_read (signed_at at w32) (signed at w32) (λ high. int_le low high) (BadSwitch at) (signed_is_read at w32)
+high_is_read at low = tested_is_read (signed_at at w32) (number_signed at w32) (λ high. int_le low high) (BadSwitch at) (signed_is_read at w32)
 
 table_is_read : (at : ℕ) → IsRead (table_at at) (format.table at)
 unfolding table_at
@@ -37,7 +37,7 @@ table_is_read at =
     in_turn_is_read (many_is_read (target_is_read at w32) (case_count low high)) (λ targets.
     made_is_read (Table default low targets))))))
 
-count_is_read : (at : ℕ) → IsRead (count_at at) (tested (number at w32) is_count (BadSwitch at))
+count_is_read : (at : ℕ) → IsRead (count_at at) (value_tested (number at w32) is_count (BadSwitch at))
 unfolding count_at
 count_is_read at = tested_is_read (number_at at w32) (number at w32) is_count (BadSwitch at) (number_is_read at w32)
 
@@ -74,7 +74,7 @@ same_pairs at default count bytes = by_case (many_at (pair_at at) count bytes)
     by_case (Err fault) = refl
 
 pairs_is_read : (at default count : ℕ) → IsRead (by_columns at default count)
-    (in_turn (tested (many (pair at) count) rising (BadSwitch at)) (λ pairs. made (Lookup default (map key_of pairs) (map target_of pairs))))
+    (in_turn (value_tested (many (pair at) count) rising (BadSwitch at)) (λ pairs. value_made (Lookup default (map key_of pairs) (map target_of pairs))))
 pairs_is_read at default count =
     same_read (by_pairs at default count) (by_columns at default count) _ (same_pairs at default count)
     (in_turn_is_read

@@ -15,7 +15,7 @@ use Rattle.code_model.specs.declared.instr.Code.{Code}
 use Rattle.code_model.specs.declared.laying.Group.{Group}
 use Rattle.code_model.specs.Operands.{form_of}
 use Rattle.code_model.specs.Instructions.{instruction_at, end_of, Reads, IsReading}
-use Rattle.code_model.specs.Layout.{distance, operand_width, width_of, instr_bytes, code_bytes, moved_arg, moved, place_of, group_end, end_from, is_near, fits_branch}
+use Rattle.code_model.specs.Layout.{distance, operand_width, width_of, instr_bytes, code_bytes, moved_arg, instr_moved, place_of, group_end, end_from, is_near, fits_branch}
 use Rattle.code_model.specs.Groups.{IsBytes, FitsInstr, FitsGroup, IsUnmovedAt, EndsWithin, CanBranch, EachReached, targets_of, instrs_of, IsShort, AreGroups, IsStartIn, IsEncodable}
 use Rattle.code_model.proofs.Lengths.{size_at-some, size_at-near}
 use Rattle.code_model.proofs.Spelled.{HasShape, IsNearTo, EachTarget, instruction_spelled}
@@ -156,7 +156,7 @@ moved_arg-same (Interface index count last) = refl
 moved_arg-same (Multi index dimensions) = refl
 moved_arg-same (Array kind) = refl
 
-moved-same : (at : ℕ) (i : Instr) → i.at ≡ at → moved (λ t. t) at i ≡ i
+moved-same : (at : ℕ) (i : Instr) → i.at ≡ at → instr_moved (λ t. t) at i ≡ i
 moved-same at i here = ap (λ (a : Arg). record i { at = at; arg = a }) (moved_arg-same i.arg) ∙ ap (λ n. record i { at = n }) (sym here)
 
 abbrev AreTargeted : List ℕ → List Instr → Type 0

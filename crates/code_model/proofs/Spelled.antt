@@ -15,8 +15,8 @@ use Rattle.op_table.specs.Opcodes.{row_of}
 use Rattle.code_model.specs.declared.instr.Arg.{Arg}
 use Rattle.code_model.specs.declared.instr.Arg.TheVariants.{Plain, Value, Pool, Local, Inc, Target, Table, Lookup, Interface, Multi, Array}
 use Rattle.code_model.specs.declared.instr.Instr.{Instr}
-use Rattle.code_model.specs.Formats.{Format, AreInTurn, number, made, many, either}
-use Rattle.code_model.specs.Operands.{slot_width, signed, target, reached, clamped, case_count, counted, keys_rise, key_of, target_of, pair, table, lookup, operand, form_of, instr_with, behind_opcode, behind_wide, is_wide, instruction}
+use Rattle.code_model.specs.Formats.{Format, AreInTurn, number, value_made, many, either}
+use Rattle.code_model.specs.Operands.{slot_width, number_signed, target, target_reached, target_clamped, case_count, offsets_counted, keys_rise, key_of, target_of, pair, table, lookup, operand, form_of, instr_with, behind_opcode, behind_wide, is_wide, instruction}
 use Rattle.code_model.specs.Layout.{distance, operand_width, operand_len, opcode_bytes, width_of, size_at}
 use Rattle.code_model.specs.Groups.{IsBytes, FitsNumber, FitsOperand, targets_of}
 use Rattle.code_model.proofs.Lengths.{size_at-is}
@@ -71,13 +71,13 @@ module _ {A B : Type 0} {P : Format A} {Q : A → Format B} {text : List ℕ} {y
 pub number_fits : (at : ℕ) (w : Width) (text : List ℕ) (n : ℕ) → IsWide w → (number at w).Spells text n → IsBytes text → FitsNumber w n
 number_fits at w text n wide h fits = subst (FitsNumber w) h.1 (wide.below text fits)
 
-pub signed_len : (at : ℕ) (w : Width) (text : List ℕ) (n : ℤ) → (signed at w).Spells text n → length text ≡ byte_len w
+pub signed_len : (at : ℕ) (w : Width) (text : List ℕ) (n : ℤ) → (number_signed at w).Spells text n → length text ≡ byte_len w
 signed_len at w text n h = let none = ap length h.second.1 in let first = h.first.0 in omega (arith, turn_len h)
 
-pub signed_number : (at : ℕ) (w : Width) (text : List ℕ) (n : ℤ) → IsWide w → (signed at w).Spells text n → IsBytes text → FitsSigned w n
+pub signed_number : (at : ℕ) (w : Width) (text : List ℕ) (n : ℤ) → IsWide w → (number_signed at w).Spells text n → IsBytes text → FitsSigned w n
 signed_number at w text n wide h fits = subst (FitsSigned w) (sym h.second.0) (wide.signs h.x (number_fits at w h.front h.x wide h.first (front_fits h fits)))
 
-clamped-le : (z : ℤ) → clamped z ≤ 65535
+clamped-le : (z : ℤ) → target_clamped z ≤ 65535
 clamped-le (pos n) = by_case (leb n 65535) refl
   where
     by_case : (b : Bool) → leb n 65535 ≡ b → cond b n 65535 ≤ 65535
@@ -104,11 +104,11 @@ many_spelled {A = A} P len each (suc n) text xs h =
     let rest = many_spelled P len each n h.second.front h.second.x h.second.first in
     let first = each h.front h.x h.first in
     let none = ap length h.second.second.1 in
-    let made = ap (λ (ys : List A). length ys) h.second.second.0 in
+    let value_made = ap (λ (ys : List A). length ys) h.second.second.0 in
     let outer = turn_len h in
     let inner = turn_len h.second in
     let so = rest.long in
-    record { count = made ∙ ap suc rest.count; long = by_sum (length text) (length h.front) (length h.rest) (length h.second.front) (length h.second.rest) len n outer first inner so none }
+    record { count = value_made ∙ ap suc rest.count; long = by_sum (length text) (length h.front) (length h.rest) (length h.second.front) (length h.second.rest) len n outer first inner so none }
   where
     by_sum : (t f r sf sr l n : ℕ) → t ≡ f + r → f ≡ l → r ≡ sf + sr → sf ≡ l * n → sr ≡ 0 → t ≡ l * suc n
     by_sum t f r sf sr l n e1 e2 e3 e4 e5 = grind arith
@@ -159,14 +159,14 @@ pub record IsSpelled (f : Form) (wide : Bool) (at : ℕ) (text : List ℕ) (arg 
 
 -- one number
 module _ {A : Type 0} (P : Format A) (make : A → Arg) (len : ℕ) (each : (text : List ℕ) (x : A) → P.Spells text x → length text ≡ len) where
-  pub one_len : (text : List ℕ) (arg : Arg) (h : AreInTurn P (λ x. made (make x)) text arg) → length text ≡ len
+  pub one_len : (text : List ℕ) (arg : Arg) (h : AreInTurn P (λ x. value_made (make x)) text arg) → length text ≡ len
   one_len text arg h = let none = ap length h.second.1 in let first = each h.front h.x h.first in omega (arith, turn_len h)
 
 value_spelled : (f : Form) (wide : Bool) (at : ℕ) (w : Width) → IsWide w → w ≡ operand_width wide f → ((n : ℤ) → HasShape f (Value n))
-    → (text : List ℕ) (arg : Arg) → AreInTurn (signed at w) (λ n. made (Value n)) text arg → IsSpelled f wide at text arg
+    → (text : List ℕ) (arg : Arg) → AreInTurn (number_signed at w) (λ n. value_made (Value n)) text arg → IsSpelled f wide at text arg
 value_spelled f wide at w iswide is shaped text arg h =
     let same : arg ≡ Value h.x = h.second.0 in
-    let len = one_len (signed at w) Value (byte_len w) (signed_len at w) text arg h in
+    let len = one_len (number_signed at w) Value (byte_len w) (signed_len at w) text arg h in
     subst (IsSpelled f wide at text) (sym same) (record {
       shape = shaped h.x;
       long = len ∙ ap byte_len is;
@@ -177,7 +177,7 @@ value_spelled f wide at w iswide is shaped text arg h =
 
 number_spelled : (f : Form) (wide : Bool) (at : ℕ) (w : Width) (make : ℕ → Arg) → IsWide w → ((n : ℕ) → HasShape f (make n))
     → ((n : ℕ) → byte_len w ≡ operand_len at (operand_width wide f) (make n)) → ((n : ℕ) → FitsNumber w n → FitsOperand (operand_width wide f) (make n)) → ((n : ℕ) → EachTarget (make n)) → ((n : ℕ) → IsNearTo at (operand_width wide f) (make n))
-    → (text : List ℕ) (arg : Arg) → AreInTurn (number at w) (λ n. made (make n)) text arg → IsSpelled f wide at text arg
+    → (text : List ℕ) (arg : Arg) → AreInTurn (number at w) (λ n. value_made (make n)) text arg → IsSpelled f wide at text arg
 number_spelled f wide at w make iswide shaped long fitting leading nearing text arg h =
     let same : arg ≡ make h.x = h.second.0 in
     let len = one_len (number at w) make (byte_len w) (λ t n e. e.0) text arg h in
@@ -190,25 +190,25 @@ number_spelled f wide at w make iswide shaped long fitting leading nearing text 
     })
 
 -- a target that was not clamped is where its branch offset leads
-unclamped : (at : ℕ) (d : ℤ) → reached at d < 65535 → distance at (reached at d) ≡ d
+unclamped : (at : ℕ) (d : ℤ) → target_reached at d < 65535 → distance at (target_reached at d) ≡ d
 unclamped at d below = by_sum (pos at +ℤ d) refl below
   where
     by_kept : (n : ℕ) (b : Bool) → pos at +ℤ d ≡ pos n → cond b n 65535 < 65535 → pos (cond b n 65535) -ℤ pos at ≡ d
     by_kept n true e lt = omega (arith, ints)
     by_kept n false e lt = absurd (omega arith)
 
-    by_sum : (z : ℤ) → pos at +ℤ d ≡ z → clamped z < 65535 → pos (clamped z) -ℤ pos at ≡ d
+    by_sum : (z : ℤ) → pos at +ℤ d ≡ z → target_clamped z < 65535 → pos (target_clamped z) -ℤ pos at ≡ d
     by_sum (pos n) e lt = by_kept n (leb n 65535) e lt
     by_sum (negsuc n) e lt = absurd (omega arith)
 
 target_near : (at : ℕ) (w : Width) (text : List ℕ) (t : ℕ) → IsWide w → (target at w).Spells text t → IsBytes text → t < 65535 → FitsSigned w (distance at t)
 target_near at w text t iswide h bytes below =
-    let same : t ≡ reached at h.x = h.second.0 in
+    let same : t ≡ target_reached at h.x = h.second.0 in
     let back : distance at t ≡ h.x = ap (distance at) same ∙ unclamped at h.x (subst (λ n. n < 65535) same below) in
     subst (FitsSigned w) (sym back) (signed_number at w h.front h.x iswide h.first (front_fits h bytes))
 
 branch_spelled : (f : Form) (wide : Bool) (at : ℕ) (w : Width) → IsWide w → 2 ≤ byte_len w → w ≡ operand_width wide f → ((t : ℕ) → HasShape f (Target t))
-    → (text : List ℕ) (arg : Arg) → AreInTurn (target at w) (λ t. made (Target t)) text arg → IsSpelled f wide at text arg
+    → (text : List ℕ) (arg : Arg) → AreInTurn (target at w) (λ t. value_made (Target t)) text arg → IsSpelled f wide at text arg
 branch_spelled f wide at w iswide two is shaped text arg h =
     let same : arg ≡ Target h.x = h.second.0 in
     let len = one_len (target at w) Target (byte_len w) (target_len at w) text arg h in
@@ -282,7 +282,7 @@ multi_spelled wide at text arg h =
 pub cases_from : (low high : ℤ) (n : ℕ) → int_le low high ≡ true → n ≡ case_count low high → (1 ≤ n) × ((low +ℤ pos n) -ℤ pos 1 ≡ high)
 cases_from low high n is count = by_gap (high -ℤ low) refl count
   where
-    by_gap : (z : ℤ) → high -ℤ low ≡ z → n ≡ counted z → (1 ≤ n) × ((low +ℤ pos n) -ℤ pos 1 ≡ high)
+    by_gap : (z : ℤ) → high -ℤ low ≡ z → n ≡ offsets_counted z → (1 ≤ n) × ((low +ℤ pos n) -ℤ pos 1 ≡ high)
     by_gap (pos m) gap e = (omega arith, omega (arith, ints))
     by_gap (negsuc m) gap e =
         let le : low ≤ℤ high = le_z_yes (subst T (sym is) tt) in

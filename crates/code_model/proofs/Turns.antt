@@ -1,7 +1,7 @@
 -- Reading one item after the other reads a format in turn.
 use Rattle.std.proofs.Common.{◌≡◌, ℕ, zero, suc, ◌⊎◌, inl, inr, List, [], ◌∷◌, ◌++◌, Ok, Err, refl, sym, ap, ◌∙◌, append_assoc}
 use Rattle.code_model.specs.declared.error.CodeError.{CodeError}
-use Rattle.code_model.specs.Formats.{Format, AreInTurn, FaultsBehind, made, fails, in_turn, many}
+use Rattle.code_model.specs.Formats.{Format, AreInTurn, FaultsBehind, value_made, fails, in_turn, many}
 use Rattle.code_model.specs.Reading.{◌>>=◌, Read, many_at}
 use Rattle.code_model.proofs.Items.{Takes, IsRead, one_read, read_parts, no_fault, ok_parts, err_parts}
 
@@ -16,7 +16,7 @@ fails_at why bytes = Err why
 abbrev pub next : {A B : Type 0} → (List ℕ → Read A) → (A → List ℕ → Read B) → List ℕ → Read B
 next p q bytes = p bytes >>= λ a. q a.0 a.1
 
-made_takes : {A : Type 0} (value : A) (bytes : List ℕ) (x : A) (rest : List ℕ) → one_read value bytes ≡ one_read x rest → Takes (made value) bytes x rest
+made_takes : {A : Type 0} (value : A) (bytes : List ℕ) (x : A) (rest : List ℕ) → one_read value bytes ≡ one_read x rest → Takes (value_made value) bytes x rest
 made_takes value bytes x rest e =
     let same = read_parts value bytes x rest e in
     record { front = []; parts = same.1; spelled = (sym same.0, refl) }
@@ -24,7 +24,7 @@ made_takes value bytes x rest e =
 made_again : {A : Type 0} (value : A) (front rest : List ℕ) (x : A) → (x ≡ value) × (front ≡ []) → one_read value (front ++ rest) ≡ one_read x rest
 made_again value front rest x h = rw (h.0, h.1) refl
 
-pub made_is_read : {A : Type 0} (value : A) → IsRead (made_at value) (made value)
+pub made_is_read : {A : Type 0} (value : A) → IsRead (made_at value) (value_made value)
 made_is_read value = record {
   takes = λ bytes x rest e. made_takes value bytes x rest e;
   again = λ front rest x h. made_again value front rest x h;

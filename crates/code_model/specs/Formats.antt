@@ -24,8 +24,8 @@ abbrev pub run : ℕ → ℕ → Format (List ℕ)
 run at len = record { Spells = λ text bytes. (text ≡ bytes) × (length bytes ≡ len); Faults = IsCut at len }
 
 -- no bytes: the value is known
-abbrev pub made : {A : Type 0} → A → Format A
-made value = record { Spells = λ text x. (x ≡ value) × (text ≡ []); Faults = λ bytes fault. ⊥ }
+abbrev pub value_made : {A : Type 0} → A → Format A
+value_made value = record { Spells = λ text x. (x ≡ value) × (text ≡ []); Faults = λ bytes fault. ⊥ }
 
 -- no bytes spell a value: this is the fault
 abbrev pub fails : {A : Type 0} → CodeError → Format A
@@ -55,8 +55,8 @@ in_turn P Q = record { Spells = AreInTurn P Q; Faults = λ bytes fault. P.Faults
 
 -- so many, one after the other
 abbrev pub many : {A : Type 0} → Format A → ℕ → Format (List A)
-many P zero = made []
-many P (suc n) = in_turn P (λ x. in_turn (many P n) (λ xs. made (x ∷ xs)))
+many P zero = value_made []
+many P (suc n) = in_turn P (λ x. in_turn (many P n) (λ xs. value_made (x ∷ xs)))
 
 -- The bytes begin with what the format spells, and the test refuses it.
 pub record IsRefused {A : Type 0} (P : Format A) (test : A → Bool) (why : CodeError) (bytes : List ℕ) (fault : CodeError) : Type 0 where
@@ -69,8 +69,8 @@ pub record IsRefused {A : Type 0} (P : Format A) (test : A → Bool) (why : Code
   pub told : fault ≡ why
 
 -- a value that meets a test
-abbrev pub tested : {A : Type 0} → Format A → (A → Bool) → CodeError → Format A
-tested P test why = record { Spells = λ text x. P.Spells text x × (test x ≡ true); Faults = λ bytes fault. P.Faults bytes fault ⊎ IsRefused P test why bytes fault }
+abbrev pub value_tested : {A : Type 0} → Format A → (A → Bool) → CodeError → Format A
+value_tested P test why = record { Spells = λ text x. P.Spells text x × (test x ≡ true); Faults = λ bytes fault. P.Faults bytes fault ⊎ IsRefused P test why bytes fault }
 
 -- the one format or the other
 abbrev pub either : {A : Type 0} → Bool → Format A → Format A → Format A

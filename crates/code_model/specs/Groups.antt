@@ -8,7 +8,7 @@ use Rattle.code_model.specs.declared.instr.Instr.{Instr}
 use Rattle.code_model.specs.declared.instr.Code.{Code}
 use Rattle.code_model.specs.declared.laying.Group.{Group}
 use Rattle.code_model.specs.declared.laying.Laid.{Laid}
-use Rattle.code_model.specs.Layout.{distance, width_of, fits_branch, moved, place_of, group_end, home_in, place_in, home_of, laid_of, first_far}
+use Rattle.code_model.specs.Layout.{distance, width_of, fits_branch, instr_moved, place_of, group_end, home_in, place_in, home_of, laid_of, first_far}
 use Rattle.code_model.specs.Instructions.{instruction_at, end_of, IsReading}
 
 -- each number is a byte
@@ -122,7 +122,7 @@ pub record IsLaidIn (laid : Laid) (g : Group) : Type 0 where
   pub homed : home_in laid.homes g.instr.at ≡ Some home
   pub placed : place_in laid.homes g.instr.at ≡ Some (place_of home g)
   pub before : take (length g.before) (drop home laid.code) ≡ g.before
-  pub stands : instruction_at laid.code (place_of home g) ≡ Some (moved (home_of laid.homes) (place_of home g) g.instr)
+  pub stands : instruction_at laid.code (place_of home g) ≡ Some (instr_moved (home_of laid.homes) (place_of home g) g.instr)
   pub next : home_in laid.homes (end_of g.instr) ≡ Some (group_end home g)
 
 abbrev pub AreLaidIn : Laid → List Group → Type 0

@@ -119,8 +119,8 @@ moved_arg home (Interface index count zero) = Interface index count zero
 moved_arg home (Multi index dimensions) = Multi index dimensions
 moved_arg home (Array kind) = Array kind
 
-abbrev pub moved : (ℕ → ℕ) → ℕ → Instr → Instr
-moved home place i = record i { at = place; arg = moved_arg home i.arg }
+abbrev pub instr_moved : (ℕ → ℕ) → ℕ → Instr → Instr
+instr_moved home place i = record i { at = place; arg = moved_arg home i.arg }
 
 -- ---- homes and places
 

@@ -9,7 +9,7 @@ use Rattle.code_model.specs.declared.instr.Arg.{Arg}
 use Rattle.code_model.specs.declared.instr.Arg.TheVariants.{Plain, Value, Pool, Local, Inc, Target, Table, Lookup, Interface, Multi, Array}
 use Rattle.code_model.specs.declared.instr.Instr.{Instr}
 use Rattle.code_model.specs.declared.error.CodeError.TheVariants.{BadOpcode, BadSwitch}
-use Rattle.code_model.specs.Formats.{Format, number, run, made, fails, in_turn, many, tested, either}
+use Rattle.code_model.specs.Formats.{Format, number, run, value_made, fails, in_turn, many, value_tested, either}
 
 -- ---- numbers
 
@@ -18,19 +18,19 @@ abbrev pub slot_width : Bool → Width
 slot_width wide = if wide then w16 else w8
 
 -- A target is kept as its absolute offset. One outside 0 to 65535 is kept as 65535, where no instruction begins.
-abbrev pub clamped : ℤ → ℕ
-clamped (pos n) = if nat_le n 65535 then n else 65535
-clamped (negsuc n) = 65535
+abbrev pub target_clamped : ℤ → ℕ
+target_clamped (pos n) = if nat_le n 65535 then n else 65535
+target_clamped (negsuc n) = 65535
 
 -- where a branch offset leads: it is relative to the opcode
-abbrev pub reached : ℕ → ℤ → ℕ
-reached at distance = clamped (pos at +ℤ distance)
+abbrev pub target_reached : ℕ → ℤ → ℕ
+target_reached at distance = target_clamped (pos at +ℤ distance)
 
-abbrev pub signed : ℕ → Width → Format ℤ
-signed at w = in_turn (number at w) (λ n. made (cast_signed w n))
+abbrev pub number_signed : ℕ → Width → Format ℤ
+number_signed at w = in_turn (number at w) (λ n. value_made (cast_signed w n))
 
 abbrev pub target : ℕ → Width → Format ℕ
-target at w = in_turn (signed at w) (λ distance. made (reached at distance))
+target at w = in_turn (number_signed at w) (λ distance. value_made (target_reached at distance))
 
 -- ---- switches
 
@@ -39,12 +39,12 @@ abbrev pub padding_len : ℕ → ℕ
 padding_len at = 3 - at % 4
 
 -- how many offsets a tableswitch has
-abbrev pub counted : ℤ → ℕ
-counted (pos n) = suc n
-counted (negsuc n) = 0
+abbrev pub offsets_counted : ℤ → ℕ
+offsets_counted (pos n) = suc n
+offsets_counted (negsuc n) = 0
 
 abbrev pub case_count : ℤ → ℤ → ℕ
-case_count low high = counted (high -ℤ low)
+case_count low high = offsets_counted (high -ℤ low)
 
 -- a count of pairs, which as a signed number is not negative
 abbrev pub is_count : ℕ → Bool
@@ -66,43 +66,43 @@ abbrev pub target_of : ℤ × ℕ → ℕ
 target_of pair = pair.1
 
 abbrev pub pair : ℕ → Format (ℤ × ℕ)
-pair at = in_turn (signed at w32) (λ key. in_turn (target at w32) (λ t. made (key, t)))
+pair at = in_turn (number_signed at w32) (λ key. in_turn (target at w32) (λ t. value_made (key, t)))
 
 abbrev pub table : ℕ → Format Arg
 table at =
     in_turn (run at (padding_len at)) (λ padding.
     in_turn (target at w32) (λ default.
-    in_turn (signed at w32) (λ low.
-    in_turn (tested (signed at w32) (λ high. int_le low high) (BadSwitch at)) (λ high.
+    in_turn (number_signed at w32) (λ low.
+    in_turn (value_tested (number_signed at w32) (λ high. int_le low high) (BadSwitch at)) (λ high.
     in_turn (many (target at w32) (case_count low high)) (λ targets.
-    made (Table default low targets))))))
+    value_made (Table default low targets))))))
 
 abbrev pub lookup : ℕ → Format Arg
 lookup at =
     in_turn (run at (padding_len at)) (λ padding.
     in_turn (target at w32) (λ default.
-    in_turn (tested (number at w32) is_count (BadSwitch at)) (λ count.
-    in_turn (tested (many (pair at) count) (λ pairs. keys_rise (map key_of pairs)) (BadSwitch at)) (λ pairs.
-    made (Lookup default (map key_of pairs) (map target_of pairs))))))
+    in_turn (value_tested (number at w32) is_count (BadSwitch at)) (λ count.
+    in_turn (value_tested (many (pair at) count) (λ pairs. keys_rise (map key_of pairs)) (BadSwitch at)) (λ pairs.
+    value_made (Lookup default (map key_of pairs) (map target_of pairs))))))
 
 -- ---- the forms
 
 abbrev pub operand : Form → Bool → ℕ → Format Arg
-operand form.Plain wide at = made Plain
-operand form.Byte wide at = in_turn (signed at w8) (λ n. made (Value n))
-operand form.Short wide at = in_turn (signed at w16) (λ n. made (Value n))
-operand form.PoolByte wide at = in_turn (number at w8) (λ index. made (Pool index))
-operand form.Pool wide at = in_turn (number at w16) (λ index. made (Pool index))
-operand form.Local wide at = in_turn (number at (slot_width wide)) (λ slot. made (Local slot))
-operand form.Inc wide at = in_turn (number at (slot_width wide)) (λ slot. in_turn (signed at (slot_width wide)) (λ n. made (Inc slot n)))
-operand form.Jump wide at = in_turn (target at w16) (λ t. made (Target t))
-operand form.JumpWide wide at = in_turn (target at w32) (λ t. made (Target t))
+operand form.Plain wide at = value_made Plain
+operand form.Byte wide at = in_turn (number_signed at w8) (λ n. value_made (Value n))
+operand form.Short wide at = in_turn (number_signed at w16) (λ n. value_made (Value n))
+operand form.PoolByte wide at = in_turn (number at w8) (λ index. value_made (Pool index))
+operand form.Pool wide at = in_turn (number at w16) (λ index. value_made (Pool index))
+operand form.Local wide at = in_turn (number at (slot_width wide)) (λ slot. value_made (Local slot))
+operand form.Inc wide at = in_turn (number at (slot_width wide)) (λ slot. in_turn (number_signed at (slot_width wide)) (λ n. value_made (Inc slot n)))
+operand form.Jump wide at = in_turn (target at w16) (λ t. value_made (Target t))
+operand form.JumpWide wide at = in_turn (target at w32) (λ t. value_made (Target t))
 operand form.Table wide at = table at
 operand form.Lookup wide at = lookup at
 operand form.Interface wide at =
-    in_turn (number at w16) (λ index. in_turn (number at w8) (λ count. in_turn (number at w8) (λ last. made (Interface index count last))))
-operand form.Multi wide at = in_turn (number at w16) (λ index. in_turn (number at w8) (λ dimensions. made (Multi index dimensions)))
-operand form.Array wide at = in_turn (number at w8) (λ kind. made (Array kind))
+    in_turn (number at w16) (λ index. in_turn (number at w8) (λ count. in_turn (number at w8) (λ last. value_made (Interface index count last))))
+operand form.Multi wide at = in_turn (number at w16) (λ index. in_turn (number at w8) (λ dimensions. value_made (Multi index dimensions)))
+operand form.Array wide at = in_turn (number at w8) (λ kind. value_made (Array kind))
 operand form.Wide wide at = fails (BadOpcode at)
 operand form.Unknown wide at = fails (BadOpcode at)
 
@@ -117,7 +117,7 @@ instr_with at wide op arg = record { at = at; op = op; wide = wide; arg = arg }
 
 -- what stands behind an opcode of this form
 abbrev pub behind_opcode : ℕ → Bool → ℕ → Format Instr
-behind_opcode at wide op = in_turn (operand (form_of wide op) wide at) (λ arg. made (instr_with at wide op arg))
+behind_opcode at wide op = in_turn (operand (form_of wide op) wide at) (λ arg. value_made (instr_with at wide op arg))
 
 -- behind wide stands another opcode
 abbrev pub behind_wide : ℕ → Format Instr

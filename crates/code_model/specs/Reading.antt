@@ -9,7 +9,7 @@ use Rattle.code_model.specs.declared.instr.Arg.TheVariants.{Plain, Value, Pool, 
 use Rattle.code_model.specs.declared.instr.Instr.{Instr}
 use Rattle.code_model.specs.declared.error.CodeError.{CodeError}
 use Rattle.code_model.specs.declared.error.CodeError.TheVariants.{BadOpcode, Cut, BadSwitch, NoMemory}
-use Rattle.code_model.specs.Operands.{slot_width, reached, padding_len, case_count, is_count, keys_rise, key_of, target_of, form_of, instr_with, is_wide}
+use Rattle.code_model.specs.Operands.{slot_width, target_reached, padding_len, case_count, is_count, keys_rise, key_of, target_of, form_of, instr_with, is_wide}
 
 infixl 10 ◌>>=◌
 abbrev pub ◌>>=◌ : {A B : Type 0} → Result A CodeError → (A → Result B CodeError) → Result B CodeError
@@ -41,7 +41,7 @@ signed_at at w bytes = do
 unfoldable pub target_at : ℕ → Width → List ℕ → Read ℕ
 target_at at w bytes = do
   distance ← signed_at at w bytes
-  Ok (reached at distance.0, distance.1)
+  Ok (target_reached at distance.0, distance.1)
 
 unfoldable pub many_at : {A : Type 0} → (List ℕ → Read A) → ℕ → List ℕ → Read (List A)
 many_at item zero bytes = Ok ([], bytes)

@@ -93,7 +93,7 @@ fn own_homes(alloc: Global, code: &Code) -> Result<Homes, NoMemory>
 
 /// Homes of code that stays where it is, as it does without probes: the start of each instruction and the code's end is its own
 /// home and its own place. The code is one that `decode` gave.
-pub fn unmoved(alloc: Global, code: &Code) -> Result<Homes, NoMemory>
+pub fn homes_unmoved(alloc: Global, code: &Code) -> Result<Homes, NoMemory>
     requires { IsRead code.now }
     ensures homes { IfOk result (λ homes. homes ≡ unmoved_homes code.now) }
     ensures same { IfOk result (λ homes. StaysInPlace code.now homes) }

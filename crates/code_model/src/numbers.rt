@@ -3,7 +3,7 @@
 
 ghost use Rattle.std.specs.Prelude.{◌≡◌, if◌then◌else◌};
 ghost use Rattle.std.specs.Int.{w8, w16, w32};
-ghost use Rattle.code_model.specs.Operands.{slot_width, reached};
+ghost use Rattle.code_model.specs.Operands.{slot_width, target_reached};
 ghost use Rattle.code_model.specs.Reading.{Gives, number_at, run_at, signed_at, target_at};
 
 use crate::error::CodeError;
@@ -103,8 +103,8 @@ pub(crate) fn step_of(wide: bool, at: u16, bytes: &[u8]) -> Result<(i16, &[u8]),
 }
 
 /// Where a branch offset leads.
-fn reached(at: u16, distance: i32) -> u16
-    ensures { result ≡ reached at distance }
+fn target_reached(at: u16, distance: i32) -> u16
+    ensures { result ≡ target_reached at distance }
 {
     let target = i64::from(at) + i64::from(distance);
     if 0 <= target && target <= 65535 {
@@ -120,7 +120,7 @@ pub(crate) fn near_target_of(at: u16, bytes: &[u8]) -> Result<(u16, &[u8]), Code
     ensures { Gives (λ x. (x.0, x.1.now)) result (target_at at w16 bytes.now) }
 {
     let (distance, rest) = i16_of(at, bytes)?;
-    Ok((reached(at, i32::from(distance)), rest))
+    Ok((target_reached(at, i32::from(distance)), rest))
 }
 
 /// The target of a branch offset of four bytes.
@@ -129,5 +129,5 @@ pub(crate) fn far_target_of(at: u16, bytes: &[u8]) -> Result<(u16, &[u8]), CodeE
     ensures { Gives (λ x. (x.0, x.1.now)) result (target_at at w32 bytes.now) }
 {
     let (distance, rest) = i32_of(at, bytes)?;
-    Ok((reached(at, distance), rest))
+    Ok((target_reached(at, distance), rest))
 }

@@ -15,7 +15,7 @@ fn event(kind: EventKind, method: u32, clock: u64) -> Event {
 }
 
 /// What became of each event that was pushed in turn into a buffer of this capacity, and the bytes used in the end.
-fn pushed(alloc: Global, capacity: usize, events: &[Event]) -> Result<(usize, usize), Fail> {
+fn events_pushed(alloc: Global, capacity: usize, events: &[Event]) -> Result<(usize, usize), Fail> {
     let Ok(mut buffer) = Events::new(alloc, capacity) else {
         return Err("memory".into());
     };
@@ -42,13 +42,13 @@ fn full_at_the_edge(rt: HostRuntime) -> Result<(), Fail> {
         event(EventKind::Leave, 0, 7),
         event(EventKind::Enter, 300, 7),
     ];
-    assert_eq!(rt; pushed(alloc, 2, &events)?, (0, 0));
-    assert_eq!(rt; pushed(alloc, 3, &events)?, (1, 3));
-    assert_eq!(rt; pushed(alloc, 9, &events)?, (2, 6));
-    assert_eq!(rt; pushed(alloc, 10, &events)?, (3, 10));
+    assert_eq!(rt; events_pushed(alloc, 2, &events)?, (0, 0));
+    assert_eq!(rt; events_pushed(alloc, 3, &events)?, (1, 3));
+    assert_eq!(rt; events_pushed(alloc, 9, &events)?, (2, 6));
+    assert_eq!(rt; events_pushed(alloc, 10, &events)?, (3, 10));
     let longest = [event(EventKind::Unwind, u32::MAX, u64::MAX)];
-    assert_eq!(rt; pushed(alloc, 15, &longest)?, (0, 0));
-    assert_eq!(rt; pushed(alloc, 16, &longest)?, (1, 16));
+    assert_eq!(rt; events_pushed(alloc, 15, &longest)?, (0, 0));
+    assert_eq!(rt; events_pushed(alloc, 16, &longest)?, (1, 16));
     Ok(())
 }
 

@@ -22,7 +22,7 @@ fn homes_of_adding(alloc: Global) -> Result<Homes, NoMemory>
 }
 
 /// What is written of the frames that were read.
-fn written(alloc: Global, bytes: &[u8]) -> Result<Vec<u8>, FrameError> {
+fn frames_written(alloc: Global, bytes: &[u8]) -> Result<Vec<u8>, FrameError> {
     let frames = read_frames(alloc, bytes)?;
     Ok(write_frames(alloc, &frames)?)
 }
@@ -57,11 +57,11 @@ const LONG: [u8; 10] = [0, 2, 251, 0, 63, 247, 0, 63, 4, 0];
 #[test]
 fn writes_what_was_read(rt: HostRuntime) {
     let alloc = rt.alloc();
-    let branch = is_table(written(alloc, &BRANCH), &BRANCH);
+    let branch = is_table(frames_written(alloc, &BRANCH), &BRANCH);
     assert!(rt; branch);
-    let every_kind = is_table(written(alloc, &EVERY_KIND), &EVERY_KIND);
+    let every_kind = is_table(frames_written(alloc, &EVERY_KIND), &EVERY_KIND);
     assert!(rt; every_kind);
-    let short = is_table(written(alloc, &LONG[..9]), &[0, 2, 63, 127, 4]);
+    let short = is_table(frames_written(alloc, &LONG[..9]), &[0, 2, 63, 127, 4]);
     assert!(rt; short);
 }
 
@@ -81,10 +81,10 @@ const BAD: [(&'static [u8], usize); 7] = [
 fn tells_the_first_bad_byte(rt: HostRuntime) {
     let alloc = rt.alloc();
     for (bytes, at) in BAD {
-        let refused = is_refused(written(alloc, bytes), at);
+        let refused = is_refused(frames_written(alloc, bytes), at);
         assert!(rt; refused);
     }
-    let after_long = is_refused(written(alloc, &LONG), 9);
+    let after_long = is_refused(frames_written(alloc, &LONG), 9);
     assert!(rt; after_long);
 }
 

@@ -5,18 +5,18 @@ use Rattle.clap.specs.Kinds.{Kinds}
 use Rattle.clap.specs.declared.error.kind.ErrorKind.TheVariants.{ArgumentConflict, DisplayHelp, InvalidValue, TooManyValues, UnknownArgument}
 unfoldable pub use Rattle.clap.proofs.OnLiterals.{clap_on_literals}
 use Rattle.command_line.specs.Described.{jfluid}
-use Rattle.command_line.specs.Words.{Read, generation_of, is_refused, is_taken, read_of, said}
+use Rattle.command_line.specs.Words.{Read, generation_of, is_refused, is_taken, read_of, words_said}
 
 -- clap takes the words, no rule refuses them, and this is read
 record AreReadAs (words : List (List ℕ)) (r : Read) : Type 0 where
   taken : is_taken (codes "jfluid" ∷ words) ≡ true
-  accepted : is_refused (said (codes "jfluid" ∷ words)) ≡ false
-  read : read_of (said (codes "jfluid" ∷ words)) ≡ r
+  accepted : is_refused (words_said (codes "jfluid" ∷ words)) ≡ false
+  read : read_of (words_said (codes "jfluid" ∷ words)) ≡ r
 
 -- clap takes the words, and a rule refuses them
 record AreRefused (words : List (List ℕ)) : Type 0 where
   taken : is_taken (codes "jfluid" ∷ words) ≡ true
-  refused : is_refused (said (codes "jfluid" ∷ words)) ≡ true
+  refused : is_refused (words_said (codes "jfluid" ∷ words)) ≡ true
 
 -- clap refuses the words, for this
 record Fail (words : List (List ℕ)) (kinds : Kinds) : Type 0 where
@@ -144,7 +144,7 @@ no_program : is_taken [] ≡ true
 unfolding clap_on_literals is_taken
 no_program = refl
 
-no_program_is_refused : is_refused (said []) ≡ true
+no_program_is_refused : is_refused (words_said []) ≡ true
 unfolding clap_on_literals is_taken
 no_program_is_refused = refl
 

@@ -45,8 +45,8 @@ chosen_for words plan main = record {
 }
 
 -- none where neither names a main class
-abbrev pub chosen : Read → Plan → Option Chosen
-chosen words plan = option_map (chosen_for words plan) (either words.main plan.main)
+abbrev pub run_chosen : Read → Plan → Option Chosen
+run_chosen words plan = option_map (chosen_for words plan) (either words.main plan.main)
 
 -- what a run and its heap ask for
 pub record IsInBounds (c : Chosen) : Type 0 where

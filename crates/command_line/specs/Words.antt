@@ -5,7 +5,7 @@ use Rattle.std.specs.Option.{option_map, option_and_then, option_map_or}
 use Rattle.std.specs.Str.{bytes_eq}
 use Rattle.jf_bytes.specs.Unicode.{utf16_of}
 use Rattle.plan_text.specs.Numbers.{number_of, greatest_steps}
-use Rattle.plan_text.specs.Roots.{slashed}
+use Rattle.plan_text.specs.Roots.{name_slashed}
 use Rattle.std.specs.Borrow.{Bor}
 use Rattle.clap.specs.Words.{Row, all_of, first_of, matches_of, takes}
 use Rattle.command_line.specs.Described.{jfluid}
@@ -51,8 +51,8 @@ said_in rows = record {
 }
 
 -- what words say that clap takes
-abbrev pub said : List (List ℕ) → Said
-said words = said_in (matches_of jfluid words)
+abbrev pub words_said : List (List ℕ) → Said
+words_said words = said_in (matches_of jfluid words)
 
 -- ---- what the product refuses
 
@@ -146,7 +146,7 @@ pub record Read : Type 0 where
 
 -- the main class that a word names
 abbrev pub class_said : Option (List ℕ) → Option (List ℕ)
-class_said = option_map (λ word. slashed (utf16_of word))
+class_said = option_map (λ word. name_slashed (utf16_of word))
 
 abbrev pub budget_said : Option (List ℕ) → Option ℕ
 budget_said = option_and_then (number_of greatest_steps)
@@ -211,7 +211,7 @@ read_in w = record {
 -- what is answered for words: of the text of a refusal by clap nothing is said
 abbrev pub IsRead : List (List ℕ) → Result Words WordsError → Type 0
 IsRead words (Ok w) =
-    (is_taken words ≡ true) × (is_refused (said words) ≡ false) × (read_in w ≡ read_of (said words))
+    (is_taken words ≡ true) × (is_refused (words_said words) ≡ false) × (read_in w ≡ read_of (words_said words))
 IsRead words (Err (Clap message)) = is_taken words ≡ false
-IsRead words (Err Refused) = (is_taken words ≡ true) × (is_refused (said words) ≡ true)
+IsRead words (Err Refused) = (is_taken words ≡ true) × (is_refused (words_said words) ≡ true)
 IsRead words (Err NoMemory) = Unit {0}

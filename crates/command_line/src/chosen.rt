@@ -4,7 +4,7 @@ ghost use Rattle.std.specs.Prelude.{◌≡◌, ◌&&◌, is_none, unwrap_or, IfO
 ghost use Rattle.std.specs.Option.{option_map};
 ghost use Rattle.plan_text.specs.Bounds.{IsWithin};
 ghost use Rattle.command_line.specs.Words.{IsSound, read_in, text};
-ghost use Rattle.command_line.specs.Chosen.{IsInBounds, IsOwnPlan, chosen, chosen_in, either, usual_budget};
+ghost use Rattle.command_line.specs.Chosen.{IsInBounds, IsOwnPlan, run_chosen, chosen_in, either, usual_budget};
 
 use crate::words::Words;
 use jf_bytes::Text16;
@@ -66,7 +66,8 @@ pub fn own_plan(alloc: Global, words: &Words<'_>) -> Result<Plan, PlanError>
 /// What accepted words and the plan, which they or their root gave, ask for: main class and budget are the words', else the
 /// plan's; heap, args and actions are the plan's. None where neither names a main class, which is a refusal of the words.
 pub fn command_of<'a>(words: &'a Words<'_>, plan: &'a Plan) -> Option<Command<'a>>
-    ensures chosen { option_map chosen_in result ≡ chosen (read_in words.entry.now) plan.entry.now }
+    ensures chosen { option_map chosen_in result
+        ≡ run_chosen (read_in words.entry.now) plan.entry.now }
     ensures none { is_none result
         ≡ (is_none words.entry.now.main && is_none plan.entry.now.main) }
     ensures sound { IsSound (read_in words.entry.now) → IsWithin plan.entry.now

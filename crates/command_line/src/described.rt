@@ -78,7 +78,7 @@ fn with_arg<'a>(command: Command<'a>, arg: Arg<'a>) -> Result<Command<'a>, Alloc
 }
 
 /// The command without its arguments.
-fn named<'a>(alloc: Global) -> Command<'a>
+fn command_named<'a>(alloc: Global) -> Command<'a>
     ensures { app_of result ≡ new_app (codes "jfluid") }
 {
     Command::new(alloc, "jfluid")
@@ -87,7 +87,7 @@ fn named<'a>(alloc: Global) -> Command<'a>
 }
 
 /// The command with its help.
-pub fn described<'a>(alloc: Global) -> Result<Command<'a>, AllocError>
+pub fn command_described<'a>(alloc: Global) -> Result<Command<'a>, AllocError>
     ensures { IfOk result (λ command. app_of command ≡ jfluid) }
 {
     let main = option(alloc, "main", "CLASS", MAIN);
@@ -97,7 +97,7 @@ pub fn described<'a>(alloc: Global) -> Result<Command<'a>, AllocError>
     let seed = option(alloc, "gen", "SEED", SEED);
     let size = option(alloc, "size", "N", SIZE);
     let images = flag(alloc, "images", IMAGES);
-    let command = with_arg(named(alloc), main)?;
+    let command = with_arg(command_named(alloc), main)?;
     let command = with_arg(command, root)?;
     let command = with_arg(command, budget)?;
     let command = with_arg(command, plan)?;

@@ -17,11 +17,11 @@ ghost use Rattle.command_line.specs.Words.{generation_said, greatest_size, size_
 ghost use Rattle.command_line.specs.Words.{lacks_main as no_main};
 ghost use Rattle.command_line.specs.declared.words.WordsError.TheVariants.{NoMemory as out_of_memory};
 
-use crate::described::described;
+use crate::described::command_described;
 use clap::error::ErrorKind;
 use clap::{ArgMatches, Error as ClapError};
 use jf_bytes::{NoMemory, Text16, from_utf8};
-use plan_text::{number_of, slashed};
+use plan_text::{name_slashed, number_of};
 use std::alloc::{AllocError, AllocFailed, Global};
 use std::convert::AsStr;
 use thiserror::Error;
@@ -137,7 +137,7 @@ fn refusal(alloc: Global, error: &ClapError) -> WordsError
 fn matches_of<'a, S: AsStr>(alloc: Global, words: &'a [S]) -> Result<ArgMatches<'a>, WordsError>
     ensures { IsMatched (map S.text words.entry.now) result }
 {
-    let command = described(alloc)?;
+    let command = command_described(alloc)?;
     match command.try_get_matches_from(words) {
         Ok(matches) => Ok(matches),
         Err(error) => Err(refusal(alloc, &error)),
@@ -339,7 +339,7 @@ fn class_of(alloc: Global, word: Option<&str>) -> Result<Option<Text16>, NoMemor
         return Ok(None);
     };
     let name = from_utf8(alloc, word)?;
-    Ok(Some(slashed(alloc, name.units())?))
+    Ok(Some(name_slashed(alloc, name.units())?))
 }
 
 /// The budget that a word spells.
@@ -351,7 +351,7 @@ fn budget_of(word: Option<&str>) -> Option<u64>
 
 /// What is read of words that clap takes.
 #[tactic(auto, using(crate::proofs::Sound::sound))]
-fn accepted<'a>(alloc: Global, given: Given<'a>) -> Result<Words<'a>, WordsError>
+fn words_accepted<'a>(alloc: Global, given: Given<'a>) -> Result<Words<'a>, WordsError>
     ensures answer { IsAccepted (given_in given.entry) result }
     ensures sound { IfOk result (λ words. IsSound (read_in words)) }
 {
@@ -386,5 +386,5 @@ pub fn read_words<'a, S: AsStr>(alloc: Global, words: &'a [S]) -> Result<Words<'
 {
     let matches = matches_of(alloc, words)?;
     let given = given_by(alloc, &matches)?;
-    accepted(alloc, given)
+    words_accepted(alloc, given)
 }

@@ -13,7 +13,7 @@ use Rattle.const_pool.specs.declared.stages.FieldStage.{FieldStage}
 use Rattle.const_pool.specs.declared.stages.FieldStage.TheVariants.{Within, Whole}
 use Rattle.const_pool.specs.Descriptors.{IsName, IsBase, IsField, IsFieldText, dimensions_text, held_kind}
 use Rattle.const_pool.specs.Fronts.{IsStuckAt}
-use Rattle.const_pool.specs.Stages.{letter_kind, array_kind, front_step, field_step, field_end, field_answer, told}
+use Rattle.const_pool.specs.Stages.{letter_kind, array_kind, front_step, field_step, field_end, field_answer, fault_told}
 use Rattle.const_pool.proofs.Halts.{EndsWith, CanEnd, behind, behind_keeps, some, some_is, answer_found, answer_only, answer_stuck, told_ok, told_bad, told_memory}
 
 -- either way that a test may have come out
@@ -223,15 +223,15 @@ field_can_end (Whole kind) = record { more = []; fit = tt; answer = kind; ends =
 told_as : (text : List ℕ) (kind : Kind) → IsField text kind → field_answer text ≡ Ok kind
 told_as = answer_only field_step field_end (Within (Dimensions 0)) IsField field_sound field_complete field_can_end
 
-pub field_found : (text : List ℕ) (result : Result Kind DescriptorError) → result ≡ told (field_answer text) → IfOk result (λ kind. IsField text kind)
+pub field_found : (text : List ℕ) (result : Result Kind DescriptorError) → result ≡ fault_told (field_answer text) → IfOk result (λ kind. IsField text kind)
 field_found text (Ok kind) e = answer_found field_step field_end (Within (Dimensions 0)) IsField field_sound field_complete field_can_end text kind (told_ok (field_answer text) kind e)
 field_found text (Err error) e = tt
 
-pub field_only : (text : List ℕ) (result : Result Kind DescriptorError) (kind : Kind) → result ≡ told (field_answer text) → IsField text kind → result ≡ Ok kind
-field_only text result kind e h = e ∙ ap told (told_as text kind h)
+pub field_only : (text : List ℕ) (result : Result Kind DescriptorError) (kind : Kind) → result ≡ fault_told (field_answer text) → IsField text kind → result ≡ Ok kind
+field_only text result kind e h = e ∙ ap fault_told (told_as text kind h)
 
-pub field_stuck : (text : List ℕ) (result : Result Kind DescriptorError) (at : ℕ) → result ≡ told (field_answer text) → result ≡ Err (BadDescriptor at) → IsStuckAt IsFieldText text at
+pub field_stuck : (text : List ℕ) (result : Result Kind DescriptorError) (at : ℕ) → result ≡ fault_told (field_answer text) → result ≡ Err (BadDescriptor at) → IsStuckAt IsFieldText text at
 field_stuck text result at e is = answer_stuck field_step field_end (Within (Dimensions 0)) IsField field_sound field_complete field_can_end text at (told_bad (field_answer text) at (sym is ∙ e))
 
-pub field_memory : (text : List ℕ) (result : Result Kind DescriptorError) → result ≡ told (field_answer text) → result ≢ Err NoMemory
+pub field_memory : (text : List ℕ) (result : Result Kind DescriptorError) → result ≡ fault_told (field_answer text) → result ≢ Err NoMemory
 field_memory text result e is = told_memory (field_answer text) (sym is ∙ e)

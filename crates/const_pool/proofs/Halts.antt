@@ -4,7 +4,7 @@ use Rattle.std.specs.Option.{option_and_then, ok_or}
 use Rattle.std.specs.List.{AllByRecursion}
 use Rattle.std.proofs.lemmas.List.{length-append, take_at, append-nil}
 use Rattle.const_pool.specs.declared.descriptor.DescriptorError.TheVariants.{BadDescriptor, NoMemory}
-use Rattle.const_pool.specs.Stages.{told}
+use Rattle.const_pool.specs.Stages.{fault_told}
 use Rattle.const_pool.specs.Fronts.{IsFront, IsStuckAt, after_step, answer_from}
 
 abbrev pub some : {A : Type 0} → A → Option A
@@ -180,14 +180,14 @@ module _ {S A : Type 0} (step : S → ℕ → Option S) (ending : S → Option A
 
 -- ---- what is told of an answer
 
-pub told_ok : {X : Type 0} (answer : Result X ℕ) (x : X) → Ok x ≡ told answer → answer ≡ Ok x
+pub told_ok : {X : Type 0} (answer : Result X ℕ) (x : X) → Ok x ≡ fault_told answer → answer ≡ Ok x
 told_ok (Ok y) x e = cc
 told_ok (Err at) x e = absurd cc
 
-pub told_bad : {X : Type 0} (answer : Result X ℕ) (at : ℕ) → Err (BadDescriptor at) ≡ told answer → answer ≡ Err at
+pub told_bad : {X : Type 0} (answer : Result X ℕ) (at : ℕ) → Err (BadDescriptor at) ≡ fault_told answer → answer ≡ Err at
 told_bad (Ok y) at e = absurd cc
 told_bad (Err place) at e = cc
 
-pub told_memory : {X : Type 0} (answer : Result X ℕ) → Err NoMemory ≡ told answer → ⊥
+pub told_memory : {X : Type 0} (answer : Result X ℕ) → Err NoMemory ≡ fault_told answer → ⊥
 told_memory (Ok y) e = cc
 told_memory (Err place) e = cc

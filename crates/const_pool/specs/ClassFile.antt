@@ -16,8 +16,8 @@ use Rattle.const_pool.specs.References.{named_text}
 -- ---- how a class is spelled, in the order of the format
 
 -- a u2 count, and then each item
-abbrev pub counted : {A : Type 0} → (A → List ℕ) → List A → List ℕ
-counted item items = u2 (length items) ++ flat_map item items
+abbrev pub items_counted : {A : Type 0} → (A → List ℕ) → List A → List ℕ
+items_counted item items = u2 (length items) ++ flat_map item items
 
 -- attribute_info (4.7): a name, a u4 length, the contents
 abbrev pub attribute_with : ℕ → List ℕ → List ℕ
@@ -32,7 +32,7 @@ handler_bytes h = u2 h.start ++ (u2 h.end ++ (u2 h.handler ++ u2 h.catch_class))
 
 -- the contents of a Code attribute (4.7.3)
 abbrev pub code_bytes : CodeAttribute → List ℕ
-code_bytes c = u2 c.max_stack ++ (u2 c.max_locals ++ (u4 (length c.code) ++ (c.code ++ (counted handler_bytes c.handlers ++ counted raw_bytes c.attributes))))
+code_bytes c = u2 c.max_stack ++ (u2 c.max_locals ++ (u4 (length c.code) ++ (c.code ++ (items_counted handler_bytes c.handlers ++ items_counted raw_bytes c.attributes))))
 
 abbrev pub attribute_bytes : Attribute → List ℕ
 attribute_bytes (ConstantValue name index) = attribute_with name (u2 index)
@@ -41,14 +41,14 @@ attribute_bytes (Other raw) = raw_bytes raw
 
 -- field_info and method_info (4.5, 4.6)
 abbrev pub member_bytes : Member → List ℕ
-member_bytes m = u2 m.access ++ (u2 m.name ++ (u2 m.descriptor ++ counted attribute_bytes m.attributes))
+member_bytes m = u2 m.access ++ (u2 m.name ++ (u2 m.descriptor ++ items_counted attribute_bytes m.attributes))
 
 -- ClassFile (4.1), from the magic number on
 abbrev pub class_bytes : ClassFile → List ℕ
 class_bytes c =
     u4 0xCAFEBABE ++ (u2 c.minor ++ (u2 c.major ++ (pool_bytes c.pool
     ++ (u2 c.access ++ (u2 c.this_class ++ (u2 c.super_class
-    ++ (counted u2 c.interfaces ++ (counted member_bytes c.fields ++ (counted member_bytes c.methods ++ counted attribute_bytes c.attributes)))))))))
+    ++ (items_counted u2 c.interfaces ++ (items_counted member_bytes c.fields ++ (items_counted member_bytes c.methods ++ items_counted attribute_bytes c.attributes)))))))))
 
 -- ---- what a class may be: numbers in the range of their fields, and indices that name entries of the needed kind
 

@@ -127,9 +127,9 @@ method_answer units = reading_from stage.Open [] 0 units
 
 -- ---- what the calls make of an answer
 
-abbrev pub told : {A : Type 0} → Result A ℕ → Result A DescriptorError
-told (Ok x) = Ok x
-told (Err at) = Err (BadDescriptor at)
+abbrev pub fault_told : {A : Type 0} → Result A ℕ → Result A DescriptorError
+fault_told (Ok x) = Ok x
+fault_told (Err at) = Err (BadDescriptor at)
 
 -- a call tells the answer, where it has the memory for it
 abbrev pub Answers : {A : Type 0} → Result A DescriptorError → Result A ℕ → Type 0

@@ -6,7 +6,7 @@ ghost use Rattle.const_pool.specs.declared.descriptor.Shape.{Shape as TheShape};
 ghost use Rattle.const_pool.specs.declared.descriptor.DescriptorError.TheVariants.{BadDescriptor, NoMemory};
 ghost use Rattle.const_pool.specs.Descriptors.{IsField, IsMethod, IsFieldText, IsMethodText, IsReadAs};
 ghost use Rattle.const_pool.specs.Fronts.{IsStuckAt};
-ghost use Rattle.const_pool.specs.Stages.{Answers, told, field_answer, method_answer};
+ghost use Rattle.const_pool.specs.Stages.{Answers, fault_told, field_answer, method_answer};
 
 use crate::stages::{FieldStage, Front, Stage, field_step, method_step};
 use jf_bytes::{Seq, Text16};
@@ -66,7 +66,7 @@ impl<T: Drop> From<AllocFailed<T>> for DescriptorError {
 
 /// What a field descriptor stands for, unit by unit.
 fn read_field(units: &[u16]) -> Result<Kind, DescriptorError>
-    ensures { result ≡ told (field_answer units.now) }
+    ensures { result ≡ fault_told (field_answer units.now) }
 {
     let mut stage = FieldStage::Within(Front::Dimensions(0));
     for i in 0..units.len() {

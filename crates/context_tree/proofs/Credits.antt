@@ -3,7 +3,7 @@ use Rattle.std.proofs.Common.{◌≡◌, ℕ, ◌+◌, ◌-◌, ◌≤◌, Bool,
 use Rattle.std.proofs.lemmas.Bool.{cond-true, cond-false}
 use Rattle.jvm_model.specs.declared.event.Event.{Event}
 use Rattle.jvm_model.specs.Profiling.Paths.{Context}
-use Rattle.context_tree.specs.Profiles.{Profile, credited, has_path, taken, event_told, with_own}
+use Rattle.context_tree.specs.Profiles.{Profile, steps_credited, has_path, event_taken, event_told, with_own}
 
 own-twice : (path : List ℕ) (a b : ℕ) (c : Context) → with_own path b (with_own path a c) ≡ with_own path (a + b) c
 own-twice path a b c = by (has_path path c) refl where
@@ -23,11 +23,11 @@ all-twice path a b [] = refl
 all-twice path a b (c ∷ cs) = ap₂ ◌∷◌ (own-twice path a b c) (all-twice path a b cs)
 
 -- up to a clock, and then up to a later one
-pub credits-add : (clock later : ℕ) (p : Profile) → p.clock ≤ clock → clock ≤ later → credited later (credited clock p) ≡ credited later p
+pub credits-add : (clock later : ℕ) (p : Profile) → p.clock ≤ clock → clock ≤ later → steps_credited later (steps_credited clock p) ≡ steps_credited later p
 credits-add clock later p le on =
     let sums : (clock - p.clock) + (later - clock) ≡ later - p.clock = omega arith in
     ap (λ cs. record p { contexts = cs; clock = later })
     (all-twice p.open (clock - p.clock) (later - clock) p.contexts ∙ ap (λ n. map (with_own p.open n) p.contexts) sums)
 
-pub credit-unseen : (clock : ℕ) (p : Profile) (e : Event) → p.clock ≤ clock → clock ≤ e.clock → taken (credited clock p) e ≡ taken p e
+pub credit-unseen : (clock : ℕ) (p : Profile) (e : Event) → p.clock ≤ clock → clock ≤ e.clock → event_taken (steps_credited clock p) e ≡ event_taken p e
 credit-unseen clock p e le on = ap (event_told e.kind e.method) (credits-add clock e.clock p le on)

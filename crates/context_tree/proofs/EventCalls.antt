@@ -6,7 +6,7 @@ use Rattle.jvm_model.specs.declared.event.EventKind.{EventKind}
 use Rattle.jvm_model.specs.declared.event.EventKind.TheVariants.{Root, Enter, Leave, Unwind}
 use Rattle.jvm_model.specs.Profiling.Paths.{Context}
 use Rattle.jvm_model.specs.Profiling.EventLists.{entries_by}
-use Rattle.context_tree.specs.Profiles.{Profile, has_path, with_own, credited, event_told, taken, calls_of}
+use Rattle.context_tree.specs.Profiles.{Profile, has_path, with_own, steps_credited, event_told, event_taken, calls_of}
 
 with_own-calls : (path : List ℕ) (steps : ℕ) (c : Context) → (with_own path steps c).calls ≡ c.calls
 with_own-calls path steps c = by (has_path path c) where
@@ -20,13 +20,13 @@ calls-credited path steps (c ∷ cs) =
     sum_by-cons (λ (x : Context). x.calls) (with_own path steps c) (map (with_own path steps) cs)
     ∙ (ap₂ ◌+◌ (with_own-calls path steps c) (calls-credited path steps cs) ∙ sym (sum_by-cons (λ (x : Context). x.calls) c cs))
 
-pub calls_of-credited : (clock : ℕ) (p : Profile) → calls_of (credited clock p) ≡ calls_of p
+pub calls_of-credited : (clock : ℕ) (p : Profile) → calls_of (steps_credited clock p) ≡ calls_of p
 calls_of-credited clock p = calls-credited p.open (clock - p.clock) p.contexts
 
 -- What a tree says of its calls after an event, by the event's kind.
-pub calls_of-taken : (p q : Profile) (e : Event) → q ≡ taken p e → calls_of q ≤ calls_of p + 1 → calls_of q ≤ calls_of p + entries_by e.kind
+pub calls_of-taken : (p q : Profile) (e : Event) → q ≡ event_taken p e → calls_of q ≤ calls_of p + 1 → calls_of q ≤ calls_of p + entries_by e.kind
 calls_of-taken p q e is le = by e.kind (ap calls_of is) where
-  by : (k : EventKind) → calls_of q ≡ calls_of (event_told k e.method (credited e.clock p)) → calls_of q ≤ calls_of p + entries_by k
+  by : (k : EventKind) → calls_of q ≡ calls_of (event_told k e.method (steps_credited e.clock p)) → calls_of q ≤ calls_of p + entries_by k
   by Root same = omega (arith, le)
   by Enter same = omega (arith, le)
   by Leave same = omega (arith, same, calls_of-credited e.clock p)

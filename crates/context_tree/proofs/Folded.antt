@@ -9,7 +9,7 @@ use Rattle.jvm_model.specs.declared.event.Event.{Event}
 use Rattle.jvm_model.specs.declared.event.EventKind.{EventKind}
 use Rattle.jvm_model.specs.declared.event.EventKind.TheVariants.{Root, Enter, Leave, Unwind}
 use Rattle.jvm_model.specs.Profiling.Paths.{Context, same_path, is_outside, is_inside, distinct, contexts_of}
-use Rattle.context_tree.specs.Profiles.{Profile, parent_path, last_method, credited, opened, event_told, taken}
+use Rattle.context_tree.specs.Profiles.{Profile, parent_path, last_method, steps_credited, path_opened, event_told, event_taken}
 use Rattle.context_tree.specs.Counts.{path_by, path_after, opens, paths_opened, paths_stepped, AreInOrder}
 use Rattle.context_tree.specs.Laws.{FoldsToCounts}
 use Rattle.context_tree.proofs.SamePaths.{same_path-is, same_path-refl, is_outside-cons, is_outside-push, path-split}
@@ -94,7 +94,7 @@ record Goes (kind : EventKind) (method : ℕ) (begun made : List (List ℕ)) (pa
   begins : IsBegun (begun ++ opening path kind method) (path_by kind method path)
 
 goes_opened : (method : ℕ) (begun made : List (List ℕ)) (path : List ℕ) (clock : ℕ) → IsBegun begun path → AreOfBegun begun made
-    → opened method (profile_at begun made path clock) ≡ profile_at (begun ++ (path ++ method ∷ []) ∷ []) made (path ++ method ∷ []) clock
+    → path_opened method (profile_at begun made path clock) ≡ profile_at (begun ++ (path ++ method ∷ []) ∷ []) made (path ++ method ∷ []) clock
 goes_opened method begun made path clock way of =
     let inside = is_outside-push path method in
     ap (λ (l : List Context). record { contexts = l; «open» = path ++ method ∷ []; clock = clock })
@@ -114,7 +114,7 @@ abbrev begun_entered : Bool → List ℕ → ℕ → List (List ℕ)
 begun_entered b path method = if not b then path_entered b path method ∷ [] else []
 
 goes_entered : (b : Bool) (method : ℕ) (begun made : List (List ℕ)) (path : List ℕ) (clock : ℕ) → IsBegun begun path → AreOfBegun begun made
-    → (if b then profile_at begun made path clock else opened method (profile_at begun made path clock)) ≡ profile_at (begun ++ begun_entered b path method) made (path_entered b path method) clock
+    → (if b then profile_at begun made path clock else path_opened method (profile_at begun made path clock)) ≡ profile_at (begun ++ begun_entered b path method) made (path_entered b path method) clock
 goes_entered true method begun made path clock way of = stays begun made path clock
 goes_entered false method begun made path clock way of = goes_opened method begun made path clock way of
 
@@ -140,7 +140,7 @@ goes Unwind method begun made path clock way of = record {
 -- ---- all events
 
 credited_at : (begun made : List (List ℕ)) (path : List ℕ) (clock to : ℕ)
-    → credited to (profile_at begun made path clock) ≡ profile_at begun (made ++ replicate (to - clock) path) path to
+    → steps_credited to (profile_at begun made path clock) ≡ profile_at begun (made ++ replicate (to - clock) path) path to
 credited_at begun made path clock to =
     ap (λ (l : List Context). record { contexts = l; «open» = path; clock = to }) (map-with_own begun made path (to - clock) (distinct (filter is_inside begun)))
 
@@ -149,11 +149,11 @@ opened_first true next rest = refl
 opened_first false next rest = refl
 
 folds : (events : List Event) (begun made : List (List ℕ)) (path : List ℕ) (clock last : ℕ) → IsBegun begun path → AreOfBegun begun made → AreInOrder clock events last
-    → (credited last (fold taken (profile_at begun made path clock) events)).contexts ≡ contexts_of (begun ++ paths_opened path events) (made ++ paths_stepped path clock events last)
+    → (steps_credited last (fold event_taken (profile_at begun made path clock) events)).contexts ≡ contexts_of (begun ++ paths_opened path events) (made ++ paths_stepped path clock events last)
 folds [] begun made path clock last way of order =
     ap (λ (p : Profile). p.contexts) (credited_at begun made path clock last) ∙ ap (λ l. contexts_of l (made ++ replicate (last - clock) path)) (sym (append-nil begun))
 folds (e ∷ events) begun made path clock last way of order =
-    ap (λ (p : Profile). (credited last (fold taken p events)).contexts) here
+    ap (λ (p : Profile). (steps_credited last (fold event_taken p events)).contexts) here
     ∙ folds events (begun ++ opening path e.kind e.method) more (path_after path e) e.clock last next.begins (AreOfBegun-more begun more (opening path e.kind e.method) of_more) order.1
     ∙ ap (λ l. contexts_of l (more ++ paths_stepped (path_after path e) e.clock events last)) begun_all
     ∙ ap (λ l. contexts_of (begun ++ paths_opened path (e ∷ events)) l) (append_assoc made (replicate (e.clock - clock) path) (paths_stepped (path_after path e) e.clock events last))
@@ -167,7 +167,7 @@ folds (e ∷ events) begun made path clock last way of order =
     next : Goes e.kind e.method begun more path e.clock
     next = goes e.kind e.method begun more path e.clock way of_more
 
-    here : taken (profile_at begun made path clock) e ≡ profile_at (begun ++ opening path e.kind e.method) more (path_after path e) e.clock
+    here : event_taken (profile_at begun made path clock) e ≡ profile_at (begun ++ opening path e.kind e.method) more (path_after path e) e.clock
     here = ap (event_told e.kind e.method) (credited_at begun made path clock e.clock) ∙ next.to
 
     begun_all : (begun ++ opening path e.kind e.method) ++ paths_opened (path_after path e) events ≡ begun ++ paths_opened path (e ∷ events)

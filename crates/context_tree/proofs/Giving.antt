@@ -5,7 +5,7 @@ use Rattle.std.proofs.lemmas.List.{map-append}
 use Rattle.jvm_model.specs.declared.event.EventKind.{EventKind}
 use Rattle.jvm_model.specs.declared.event.EventKind.TheVariants.{Root, Enter, Leave, Unwind}
 use Rattle.jvm_model.specs.Profiling.Paths.{Context, same_path, is_outside}
-use Rattle.context_tree.specs.Profiles.{Profile, has_path, with_own, with_call, call_begun, opened, event_told, credited}
+use Rattle.context_tree.specs.Profiles.{Profile, has_path, with_own, with_call, call_begun, path_opened, event_told, steps_credited}
 use Rattle.context_tree.proofs.SamePaths.{path-goes_on}
 
 -- the steps since the last clock were made in this path
@@ -60,16 +60,16 @@ call_begun-with_own path P s cs h =
     by false =
         ap (λ c. map (with_own P s) cs ++ c ∷ []) (sym (ap (λ b. if b then record new { own = 0 + s } else new) h)) ∙ sym (map-append (with_own P s) cs (new ∷ []))
 
-opened-credited : (method clock : ℕ) (p : Profile) → opened method (credited clock p) ≡ credited_in p.open clock (opened method p)
+opened-credited : (method clock : ℕ) (p : Profile) → path_opened method (steps_credited clock p) ≡ credited_in p.open clock (path_opened method p)
 opened-credited method clock p =
     ap (λ (l : List Context). record { contexts = l; «open» = p.open ++ method ∷ []; clock = clock })
     (call_begun-with_own (p.open ++ method ∷ []) p.open (clock - p.clock) p.contexts (path-goes_on p.open method))
 
-pub told-credited : (kind : EventKind) (method clock : ℕ) (p : Profile) → event_told kind method (credited clock p) ≡ credited_in p.open clock (event_told kind method p)
+pub told-credited : (kind : EventKind) (method clock : ℕ) (p : Profile) → event_told kind method (steps_credited clock p) ≡ credited_in p.open clock (event_told kind method p)
 told-credited Root method clock p = opened-credited method clock p
 told-credited Enter method clock p = by (is_outside p.open)
   where
-    by : (b : Bool) → (if b then credited clock p else opened method (credited clock p)) ≡ credited_in p.open clock (if b then p else opened method p)
+    by : (b : Bool) → (if b then steps_credited clock p else path_opened method (steps_credited clock p)) ≡ credited_in p.open clock (if b then p else path_opened method p)
     by true = refl
     by false = opened-credited method clock p
 told-credited Leave method clock p = refl

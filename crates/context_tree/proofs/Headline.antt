@@ -15,7 +15,7 @@ use Rattle.jvm_model.proofs.Events.Marked as marked
 use Rattle.jvm_model.proofs.Revealing.Revealable.{calls-told, revealable, run-suits}
 use Rattle.jvm_model.proofs.Soundness.SoundAnswers.{whole-sound}
 use Rattle.context_tree.specs.Laws.{SessionSees, TreeIsProjection}
-use Rattle.context_tree.specs.Profiles.{credited, profile_of}
+use Rattle.context_tree.specs.Profiles.{steps_credited, profile_of}
 use Rattle.context_tree.specs.Seen.{Matches, seen_before}
 use Rattle.context_tree.proofs.Folded.{folds_to_counts}
 use Rattle.context_tree.proofs.Projected.{in_order, projected}
@@ -24,7 +24,7 @@ use Rattle.context_tree.proofs.SeenRuns.{seen-stands}
 -- ---- of a whole program
 
 pub tree-whole : (w : World) → IsWhole w.program → (acts : List Act) → AreFrom 0 acts → (n : ℕ) → ((m : ℕ) → m < n → is_some (run w m).ending ≡ false)
-    → (credited n (profile_of (events_of (marking_of acts w) w n))).contexts ≡ projection acts w n
+    → (steps_credited n (profile_of (events_of (marking_of acts w) w n))).contexts ≡ projection acts w n
 tree-whole w is acts from n on =
     let suited = run-suits w (revealable w is) acts from in
     folds_to_counts (events_of (marking_of acts w) w n) n (in_order acts (marking_of acts w) w suited n) ∙ projected acts (marking_of acts w) w suited n on

@@ -9,7 +9,7 @@ use Rattle.jvm_model.specs.Profiling.Paths.{Context}
 use Rattle.context_tree.specs.declared.node.Node.{Node}
 use Rattle.context_tree.specs.declared.table.NodeTable.{NodeTable}
 use Rattle.context_tree.specs.Profiles.{total_of, totals_of}
-use Rattle.context_tree.specs.NodeTables.{entries_of, numbers_in, own_at, fresh, gathered}
+use Rattle.context_tree.specs.NodeTables.{entries_of, numbers_in, own_at, fresh, numbers_gathered}
 use Rattle.context_tree.specs.TreeViews.{paths_in, contexts_in, profile_in, AreBehind, same_node, entries_below, total_at, IsTree}
 use Rattle.context_tree.proofs.Totals.{total_at-le, behind-at}
 use Rattle.context_tree.proofs.TotalLoop.{own_at-get_or, total_at-own}
@@ -84,7 +84,7 @@ module _ (t : NodeTable) (tree : IsTree t) (k : ℕ) (totals : List ℕ) (lt : k
   last_whole : get_or totals k 0 ≡ total_at k t.nodes
   last_whole = h.each k lt ∙ passed_whole t tree k (k + 1) lt (omega arith)
 
-  gathered_each : (q : Option ℕ) → q ≡ (get_or t.nodes k (fresh None 0)).parent → (j : ℕ) → j < length t.nodes → get_or (gathered q k totals) j 0 ≡ passed_total j k t.nodes
+  gathered_each : (q : Option ℕ) → q ≡ (get_or t.nodes k (fresh None 0)).parent → (j : ℕ) → j < length t.nodes → get_or (numbers_gathered q k totals) j 0 ≡ passed_total j k t.nodes
   gathered_each None e j below =
       let step : passed_total j k t.nodes ≡ passed_total j (k + 1) t.nodes + 0 =
       passed-step j k t.nodes lt ∙ ap (λ p. passed_total j (k + 1) t.nodes + (if same_node (Some j) p then total_at k t.nodes else 0)) (sym e) in
@@ -95,21 +95,21 @@ module _ (t : NodeTable) (tree : IsTree t) (k : ℕ) (totals : List ℕ) (lt : k
       by (nat_eq j p) refl step
     where
       by : (b : Bool) → nat_eq j p ≡ b → passed_total j k t.nodes ≡ passed_total j (k + 1) t.nodes + (if nat_eq j p then total_at k t.nodes else 0)
-          → get_or (gathered (Some p) k totals) j 0 ≡ passed_total j k t.nodes
+          → get_or (numbers_gathered (Some p) k totals) j 0 ≡ passed_total j k t.nodes
       by true here step =
           let same : j ≡ p = eqb-true j p here in
           let within : p < length totals = omega (arith, same, below, h.many) in
-          ap (λ i. get_or (gathered (Some p) k totals) i 0) same ∙ get_or-set_same totals p (get_or totals p 0 + get_or totals k 0) 0 within
+          ap (λ i. get_or (numbers_gathered (Some p) k totals) i 0) same ∙ get_or-set_same totals p (get_or totals p 0 + get_or totals k 0) 0 within
           ∙ omega (arith, last_whole, h.each j below, ap (λ i. get_or totals i 0) same, step ∙ ap (λ b. passed_total j (k + 1) t.nodes + (if b then total_at k t.nodes else 0)) here)
       by false here step =
           get_or-set_other totals p j (get_or totals p 0 + get_or totals k 0) 0 (eqb-false j p here) ∙ h.each j below
           ∙ omega (arith, step ∙ ap (λ b. passed_total j (k + 1) t.nodes + (if b then total_at k t.nodes else 0)) here)
 
-  length-gathered : (q : Option ℕ) → length (gathered q k totals) ≡ length totals
+  length-gathered : (q : Option ℕ) → length (numbers_gathered q k totals) ≡ length totals
   length-gathered None = refl
   length-gathered (Some p) = length-set totals p (get_or totals p 0 + get_or totals k 0)
 
-  pub passed_gathered : (q : Option ℕ) → q ≡ (get_or t.nodes k (fresh None 0)).parent → ArePassed t.nodes k (gathered q k totals)
+  pub passed_gathered : (q : Option ℕ) → q ≡ (get_or t.nodes k (fresh None 0)).parent → ArePassed t.nodes k (numbers_gathered q k totals)
   passed_gathered q e = record { within = omega (arith, lt); many = length-gathered q ∙ h.many; each = gathered_each q e }
 
   -- what the sum at a parent asks

@@ -15,14 +15,14 @@ use Rattle.jvm_model.specs.Profiling.Paths.{is_outside, is_inside, contexts_of}
 use Rattle.jvm_model.specs.Basis.Data.{World, Change, Loads, Began, Left, Unwound}
 use Rattle.jvm_model.specs.Running.Run.{turn, run}
 use Rattle.jvm_model.specs.Codes.Originals.{original}
-use Rattle.jvm_model.specs.Profiling.Activations.{Activation, Trace, no_trace, current, with_begin, without_current, with_end, changed, all_changed, trace, trace_before, trace_in-zero, trace_in-suc}
+use Rattle.jvm_model.specs.Profiling.Activations.{Activation, Trace, no_trace, current, with_begin, without_current, with_end, trace_changed, all_changed, trace, trace_before, trace_in-zero, trace_in-suc}
 use Rattle.jvm_model.specs.Profiling.Projection.{is_root, is_selected, paths_of, path_at, who, paths_made, paths_made-zero, paths_made-suc, projection}
 use Rattle.jvm_model.specs.Profiling.EventLists.{Marking, begin_events, end_events, end_of, events_told, all_told, step_events, events_of, events_of-zero, events_of-suc, full_marking}
 use Rattle.jvm_model.proofs.Events.Chains.{slice_get_at, IsBelow, is_inside-cons, path_in, paths_of-push, paths_of-ended, path_at-push, path_at-last, path_at-found}
 use Rattle.jvm_model.proofs.Events.Traces.{IsLive, AreLive, IsTrace, no_trace-is, trace_in-is, changed-keeps, current-below, ended_in, ended_at-found}
 use Rattle.context_tree.specs.Profiles.{parent_path}
 use Rattle.jvm_model.specs.Soundness.Suited.{Suits, AreSuited, StaySuited}
-use Rattle.context_tree.specs.Counts.{path_by, path_after, opens, paths_opened, paths_stepped, counted, AreInOrder}
+use Rattle.context_tree.specs.Counts.{path_by, path_after, opens, paths_opened, paths_stepped, contexts_counted, AreInOrder}
 use Rattle.context_tree.proofs.ProjectedCounts.{open_after, AllAt, open_after-append, paths_opened-append, AreInOrder-later, AreInOrder-append, stepped-at, stepped-same, stepped-more, contexts_of-inside}
 
 -- ---- one event
@@ -246,7 +246,7 @@ end-follows acts marking k goes step t is suited = ends t.live refl is where
       by a root path mark after (outside e gone empty) events_told none = subst (λ m. Follows acts step t after (end_events k step a.method m)) (sym e) (none gone empty)
 
 pub changed-follows : (acts : List Act) (marking : Marking) (step : ℕ) (t : Trace) (c : Change) → IsTrace t → AreSuited acts marking t.activations
-    → AreSuited acts marking (changed step t c).activations → Follows acts step t (changed step t c) (events_told marking step t c)
+    → AreSuited acts marking (trace_changed step t c).activations → Follows acts step t (trace_changed step t c) (events_told marking step t c)
 changed-follows acts marking step t (Loads classes) is suited then_suited = same-follows acts step t
 changed-follows acts marking step t (Began method) is suited then_suited =
     let a : Activation = record { method = method; parent = current t.live; begin = step; «end» = None } in
@@ -287,7 +287,7 @@ all_changed-follows : (acts : List Act) (marking : Marking) (step : ℕ) (t : Tr
     → Follows acts step t (all_changed step t changes) (all_told marking step t changes)
 all_changed-follows acts marking step t [] is stay = same-follows acts step t
 all_changed-follows acts marking step t (c ∷ more) is stay =
-    let next = changed step t c in
+    let next = trace_changed step t c in
     then-follows acts step t next (all_changed step next more) (events_told marking step t c) (all_told marking step next more)
     (changed-follows acts marking step t c is stay.0 (first_suited acts marking step next more stay.1))
     (all_changed-follows acts marking step next more (changed-keeps step t c is) stay.1)
@@ -363,7 +363,7 @@ module _ (acts : List Act) (marking : Marking) (w : World) (suited : SuitsRun ac
   -- The contexts that are counted from the events of a run are the projection of its activations, as long as the run has not
   -- ended before these steps.
   pub projected : (n : ℕ) → ((m : ℕ) → m < n → is_some (run w m).ending ≡ false)
-      → counted (events_of marking w n) n ≡ projection acts w n
+      → contexts_counted (events_of marking w n) n ≡ projection acts w n
   projected n on =
       ap₂ contexts_of (run-agrees n).opened (stepped-made n on)
       ∙ contexts_of-inside (paths_of acts (trace w n).activations) (paths_made acts w n)
@@ -380,11 +380,11 @@ full-suits acts false path = record {
 
 full-stays : (acts : List Act) (step : ℕ) (t : Trace) (changes : List Change) → StaySuited acts (full_marking acts) step t changes
 full-stays acts step t [] = λ number a found. full-suits acts (is_root acts a) (path_at acts t.activations (Some number))
-full-stays acts step t (c ∷ more) = ((λ number a found. full-suits acts (is_root acts a) (path_at acts t.activations (Some number))), full-stays acts step (changed step t c) more)
+full-stays acts step t (c ∷ more) = ((λ number a found. full-suits acts (is_root acts a) (path_at acts t.activations (Some number))), full-stays acts step (trace_changed step t c) more)
 
 -- where every selected method is a root and every other method is marked too
 pub projected-full : (acts : List Act) (w : World) (n : ℕ) → ((m : ℕ) → m < n → is_some (run w m).ending ≡ false)
-    → counted (events_of (full_marking acts) w n) n ≡ projection acts w n
+    → contexts_counted (events_of (full_marking acts) w n) n ≡ projection acts w n
 projected-full acts w n on = projected acts (full_marking acts) w (λ k. full-stays acts k (trace_before w k) (turn w k).changes) n on
 
 pub in_order-full : (acts : List Act) (w : World) (n : ℕ) → AreInOrder 0 (events_of (full_marking acts) w n) n

@@ -5,7 +5,7 @@ use Rattle.jvm_model.specs.declared.event.Event.{Event}
 use Rattle.jvm_model.specs.declared.event.EventKind.{EventKind}
 use Rattle.jvm_model.specs.declared.event.EventKind.TheVariants.{Root, Enter, Leave, Unwind}
 use Rattle.jvm_model.specs.Profiling.Paths.{Context}
-use Rattle.context_tree.specs.Counts.{counted}
+use Rattle.context_tree.specs.Counts.{contexts_counted}
 
 abbrev event : EventKind → ℕ → ℕ → Event
 event kind method clock = record { kind = kind; method = method; clock = clock }
@@ -20,20 +20,20 @@ f_as_root = event Enter 1 0 ∷ event Root 0 3 ∷ event Leave 0 7 ∷ event Lea
 abbrev main_as_root : List Event
 main_as_root = event Root 1 0 ∷ event Enter 0 3 ∷ event Leave 0 7 ∷ event Leave 1 9 ∷ []
 
-pub f_alone : counted f_as_root 9 ≡ context (0 ∷ []) 1 4 ∷ []
+pub f_alone : contexts_counted f_as_root 9 ≡ context (0 ∷ []) 1 4 ∷ []
 f_alone = refl
 
-pub f_in_main : counted main_as_root 9 ≡ context (1 ∷ []) 1 5 ∷ context (1 ∷ 0 ∷ []) 1 4 ∷ []
+pub f_in_main : contexts_counted main_as_root 9 ≡ context (1 ∷ []) 1 5 ∷ context (1 ∷ 0 ∷ []) 1 4 ∷ []
 f_in_main = refl
 
-pub f_when_called : counted (take 2 f_as_root) 3 ≡ context (0 ∷ []) 1 0 ∷ []
+pub f_when_called : contexts_counted (take 2 f_as_root) 3 ≡ context (0 ∷ []) 1 0 ∷ []
 f_when_called = refl
 
 -- the steps since the last event are counted too
-pub f_before_its_return : counted (take 2 f_as_root) 6 ≡ context (0 ∷ []) 1 3 ∷ []
+pub f_before_its_return : contexts_counted (take 2 f_as_root) 6 ≡ context (0 ∷ []) 1 3 ∷ []
 f_before_its_return = refl
 
 -- a root that invokes itself is a path of two, and a second call of the outer one is the same path
-pub root_in_itself : counted (event Root 5 0 ∷ event Root 5 2 ∷ event Unwind 5 3 ∷ event Leave 5 7 ∷ event Root 5 8 ∷ event Leave 5 9 ∷ []) 12
+pub root_in_itself : contexts_counted (event Root 5 0 ∷ event Root 5 2 ∷ event Unwind 5 3 ∷ event Leave 5 7 ∷ event Root 5 8 ∷ event Leave 5 9 ∷ []) 12
     ≡ context (5 ∷ []) 2 7 ∷ context (5 ∷ 5 ∷ []) 1 1 ∷ []
 root_in_itself = refl

@@ -10,7 +10,7 @@ use Rattle.jvm_model.specs.declared.event.EventKind.{EventKind}
 use Rattle.jvm_model.specs.declared.event.EventKind.TheVariants as kind
 use Rattle.jvm_model.specs.declared.event.Mark.{Mark}
 use Rattle.jvm_model.specs.declared.event.Mark.TheVariants.{Off, Plain, Root}
-use Rattle.jvm_model.specs.Profiling.Activations.{Activation, Trace, current, changed, all_changed, trace_before}
+use Rattle.jvm_model.specs.Profiling.Activations.{Activation, Trace, current, trace_changed, all_changed, trace_before}
 use Rattle.jvm_model.specs.Running.Changes.{EndThenBegin, AreOrdered}
 use Rattle.jvm_model.specs.Basis.Data.{Change, Loads, Began, Left, Unwound, World}
 use Rattle.jvm_model.specs.Profiling.EventLists.{Marking, all_told, begin_events, end_events, end_of, step_events, events_told}
@@ -25,13 +25,13 @@ use Rattle.jvm_model.proofs.Events.Marked.{rooted}
 use Rattle.context_tree.proofs.Projected.{SuitsRun, Telling, in_full, outside, changed-follows, gone_on, is_inside-push, telling}
 use Rattle.jvm_model.specs.Soundness.Calls.{loads_of}
 use Rattle.context_tree.specs.Counts.{opens, path_after}
-use Rattle.jvm_model.specs.Profiling.Points.{Standing, nothing, has_root, is_empty, settled, chosen, after_act, after_acts, acts_at, acts_behind, after_change, after_changes, with_entered, standing_in, standing_in-zero, standing_in-suc}
+use Rattle.jvm_model.specs.Profiling.Points.{Standing, nothing, has_root, is_empty, standing_settled, methods_selected, after_act, after_acts, acts_at, acts_behind, after_change, after_changes, with_entered, standing_in, standing_in-zero, standing_in-suc}
 use Rattle.context_tree.specs.Seen.{Matches, Seen, open_of, first_seen, seen_act, seen_acts, seen_before, seen_before-zero, seen_before-suc, seen_end, seen_event, seen_load, seen_step}
 use Rattle.jvm_model.specs.Soundness.Suited.{Suits, AreSuited, StaySuited}
 
 -- ---- points
 
-pub end-matches : (acts : List Act) (seen : Seen) (s : Standing) → IsTrace s.trace → Matches acts seen s → Matches acts (seen_end seen) (settled acts s)
+pub end-matches : (acts : List Act) (seen : Seen) (s : Standing) → IsTrace s.trace → Matches acts seen s → Matches acts (seen_end seen) (standing_settled acts s)
 end-matches acts seen s is m = by (is_empty s.selected && not (has_root acts s.trace.activations s.trace.live)) test
   where
     test : (is_empty seen.selected && not (is_inside seen.open)) ≡ (is_empty s.selected && not (has_root acts s.trace.activations s.trace.live))
@@ -43,7 +43,7 @@ end-matches acts seen s is m = by (is_empty s.selected && not (has_root acts s.t
         (record { selected = m.selected; entered = refl; loaded = m.loaded; path = m.path })
     by false e = subst (λ b. Matches acts (if b then record seen { entered = [] } else seen) s) (sym e) m
 
-pub settled-trace : (acts : List Act) (s : Standing) → (settled acts s).trace ≡ s.trace
+pub settled-trace : (acts : List Act) (s : Standing) → (standing_settled acts s).trace ≡ s.trace
 settled-trace acts s = by (is_empty s.selected && not (has_root acts s.trace.activations s.trace.live))
   where
     by : (b : Bool) → (if b then record s { entered = [] } else s).trace ≡ s.trace
@@ -53,10 +53,10 @@ settled-trace acts s = by (is_empty s.selected && not (has_root acts s.trace.act
 pub acts-match : (acts todo : List Act) (seen : Seen) (s : Standing) → IsTrace s.trace → Matches acts seen s → Matches acts (seen_acts seen todo) (after_acts acts s todo)
 acts-match acts [] seen s is m = m
 acts-match acts (act ∷ todo) seen s is m =
-    let chosen_seen : Seen = record seen { selected = chosen act seen.selected } in
-    let chosen_s : Standing = record s { selected = chosen act s.selected } in
+    let chosen_seen : Seen = record seen { selected = methods_selected act seen.selected } in
+    let chosen_s : Standing = record s { selected = methods_selected act s.selected } in
     acts-match acts todo (seen_act seen act) (after_act acts s act) (subst IsTrace (sym (settled-trace acts chosen_s)) is)
-    (end-matches acts chosen_seen chosen_s is (record { selected = ap (chosen act) m.selected; entered = m.entered; loaded = m.loaded; path = m.path }))
+    (end-matches acts chosen_seen chosen_s is (record { selected = ap (methods_selected act) m.selected; entered = m.entered; loaded = m.loaded; path = m.path }))
 
 -- ---- events
 
@@ -110,7 +110,7 @@ module _ (acts : List Act) (marking : Marking) (step : ℕ) where
   -- ---- one change that is no load
 
   pub change-matches : (seen : Seen) (s : Standing) (c : Change) → ((classes : List ℕ) → c ≡ Loads classes → ⊥) → IsTrace s.trace → AreSuited acts marking s.trace.activations
-      → AreSuited acts marking (changed step s.trace c).activations → Matches acts seen s
+      → AreSuited acts marking (trace_changed step s.trace c).activations → Matches acts seen s
       → Matches acts (fold seen_event seen (events_told marking step s.trace c)) (after_change acts step s c)
   change-matches seen s (Loads classes) other is suited then_suited m = absurd (other classes refl)
   change-matches seen s (Began method) other is suited then_suited m =
@@ -154,7 +154,7 @@ module _ (acts : List Act) (marking : Marking) (step : ℕ) where
   fold-append [] ys seen = refl
   fold-append (e ∷ xs) ys seen = fold-append xs ys (seen_event seen e)
 
-  pub change-trace : (s : Standing) (c : Change) → (after_change acts step s c).trace ≡ changed step s.trace c
+  pub change-trace : (s : Standing) (c : Change) → (after_change acts step s c).trace ≡ trace_changed step s.trace c
   change-trace s (Loads classes) = refl
   change-trace s (Began method) = refl
   change-trace s Left = refl
@@ -170,9 +170,9 @@ module _ (acts : List Act) (marking : Marking) (step : ℕ) where
       let same = change-trace s c in
       let behind = rest (fold seen_event seen (events_told marking step s.trace c)) next (subst IsTrace (sym same) (changed-keeps step s.trace c is))
       (subst (λ t. StaySuited acts marking step t more) (sym same) stay.1)
-      (change-matches seen s c other is stay.0 (first-suited (changed step s.trace c) more stay.1) m) in
+      (change-matches seen s c other is stay.0 (first-suited (trace_changed step s.trace c) more stay.1) m) in
       subst (λ r. Matches acts r (after_changes acts step next more))
-      (sym (fold-append (events_told marking step s.trace c) (all_told marking step (changed step s.trace c) more) seen))
+      (sym (fold-append (events_told marking step s.trace c) (all_told marking step (trace_changed step s.trace c) more) seen))
       (subst (λ t. Matches acts (fold seen_event (fold seen_event seen (events_told marking step s.trace c)) (all_told marking step t more)) (after_changes acts step next more)) same behind)
 
   ends-match : (changes : List Change) → EndThenBegin changes → (seen : Seen) (s : Standing) → IsTrace s.trace → StaySuited acts marking step s.trace changes → Matches acts seen s
@@ -248,9 +248,9 @@ module _ (acts : List Act) (w : World) (marking : Marking) (suited : SuitsRun ac
       let ended = end-matches acts (fold seen_event (seen_load seen (loads_of changes)) (step_events marking w n)) after keeps stepped in
       subst (λ r. Matches acts r (standing_in acts w (original w.program) (suc n))) (sym (seen_before-suc acts w marking n))
       (subst (Matches acts (seen_step seen (loads_of changes) (step_events marking w n) (acts_behind n acts))) (sym (standing_in-suc acts w (original w.program) n))
-      (acts-match acts (acts_behind n acts) (seen_end (fold seen_event (seen_load seen (loads_of changes)) (step_events marking w n))) (settled acts after)
+      (acts-match acts (acts_behind n acts) (seen_end (fold seen_event (seen_load seen (loads_of changes)) (step_events marking w n))) (standing_settled acts after)
       (subst IsTrace (sym (settled-trace acts after)) keeps) ended))
     where
       all-keeps : (changes : List Change) (t : Trace) → IsTrace t → IsTrace (all_changed n t changes)
       all-keeps [] t is = is
-      all-keeps (c ∷ more) t is = all-keeps more (changed n t c) (changed-keeps n t c is)
+      all-keeps (c ∷ more) t is = all-keeps more (trace_changed n t c) (changed-keeps n t c is)

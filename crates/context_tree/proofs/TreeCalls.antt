@@ -9,7 +9,7 @@ use Rattle.jvm_model.specs.Profiling.Paths.{Context}
 use Rattle.context_tree.specs.declared.node.Node.{Node}
 use Rattle.context_tree.specs.declared.table.NodeTable.{NodeTable}
 use Rattle.context_tree.specs.Profiles.{calls_of, nodes_of, children_of, path_of_node}
-use Rattle.context_tree.specs.NodeTables.{entries_of, numbers_in, child_by, calls_in, given, fresh, entered_at, opened_inside, told_in, taken_in}
+use Rattle.context_tree.specs.NodeTables.{entries_of, numbers_in, child_by, calls_in, steps_given, fresh, entered_at, opened_inside, told_in, taken_in}
 use Rattle.context_tree.specs.TreeViews.{path_at, paths_in, contexts_with, contexts_in, profile_in, IsTree}
 use Rattle.context_tree.proofs.NodePaths.{length-paths_after}
 use Rattle.context_tree.proofs.NodeContexts.{number_of-contexts_with, sum_by-contexts_with, map-node_of}
@@ -81,5 +81,5 @@ calls_of-taken_in t e =
     let u : NodeTable = told_in e.kind e.method t in
     omega (arith, calls_is t, calls_is (taken_in t e), calls_in-stepped_at t.open (e.clock - u.clock) u.nodes, calls_in-told_in e.kind e.method t)
 
-pub calls_of-given : (node : Option ℕ) (clock : ℕ) (t : NodeTable) → calls_of (profile_in (given node clock t)) ≡ calls_of (profile_in t)
-calls_of-given node clock t = calls_is (given node clock t) ∙ calls_in-stepped_at node (clock - t.clock) t.nodes ∙ sym (calls_is t)
+pub calls_of-given : (node : Option ℕ) (clock : ℕ) (t : NodeTable) → calls_of (profile_in (steps_given node clock t)) ≡ calls_of (profile_in t)
+calls_of-given node clock t = calls_is (steps_given node clock t) ∙ calls_in-stepped_at node (clock - t.clock) t.nodes ∙ sym (calls_is t)

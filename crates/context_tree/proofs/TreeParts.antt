@@ -10,7 +10,7 @@ use Rattle.jvm_model.specs.Profiling.Paths.{same_path}
 use Rattle.context_tree.specs.declared.node.Node.{Node}
 use Rattle.context_tree.specs.declared.table.NodeTable.{NodeTable}
 use Rattle.context_tree.specs.ChildLists.{list_at, with_entry, number_under}
-use Rattle.context_tree.specs.NodeTables.{entries_of, child_by, changed_at, called, stepped, calls_in, own_in, stepped_at, fresh, grown}
+use Rattle.context_tree.specs.NodeTables.{entries_of, child_by, changed_at, node_called, node_stepped, calls_in, own_in, stepped_at, fresh, table_grown}
 use Rattle.context_tree.specs.TreeViews.{path_at, paths_in, AreApart, same_node, IsTree}
 use Rattle.context_tree.proofs.SamePaths.{same_path-is, same_path-sym}
 use Rattle.context_tree.proofs.NodePaths.{GoesOn, ArePaths, LeavesPlace, goes_on, goes_on-get_or, none_outside, length-paths_after}
@@ -57,38 +57,38 @@ length-changed_at f i [] = refl
 length-changed_at f zero (n ∷ nodes) = refl
 length-changed_at f (suc i) (n ∷ nodes) = omega (arith, length-changed_at f i nodes)
 
-pub own_in-called : (i : ℕ) (nodes : List Node) → own_in (changed_at called i nodes) ≡ own_in nodes
+pub own_in-called : (i : ℕ) (nodes : List Node) → own_in (changed_at node_called i nodes) ≡ own_in nodes
 own_in-called i [] = refl
-own_in-called zero (n ∷ nodes) = sum_by-cons (λ (m : Node). m.own) (called n) nodes ∙ sym (sum_by-cons (λ (m : Node). m.own) n nodes)
+own_in-called zero (n ∷ nodes) = sum_by-cons (λ (m : Node). m.own) (node_called n) nodes ∙ sym (sum_by-cons (λ (m : Node). m.own) n nodes)
 own_in-called (suc i) (n ∷ nodes) =
-    sum_by-cons (λ (m : Node). m.own) n (changed_at called i nodes) ∙ ap (λ k. n.own + k) (own_in-called i nodes) ∙ sym (sum_by-cons (λ (m : Node). m.own) n nodes)
+    sum_by-cons (λ (m : Node). m.own) n (changed_at node_called i nodes) ∙ ap (λ k. n.own + k) (own_in-called i nodes) ∙ sym (sum_by-cons (λ (m : Node). m.own) n nodes)
 
-pub own_in-stepped : (s i : ℕ) (nodes : List Node) → own_in (changed_at (stepped s) i nodes) ≤ own_in nodes + s
+pub own_in-stepped : (s i : ℕ) (nodes : List Node) → own_in (changed_at (node_stepped s) i nodes) ≤ own_in nodes + s
 own_in-stepped s i [] = omega arith
-own_in-stepped s zero (n ∷ nodes) = omega (arith, sum_by-cons (λ (m : Node). m.own) (stepped s n) nodes, sum_by-cons (λ (m : Node). m.own) n nodes)
+own_in-stepped s zero (n ∷ nodes) = omega (arith, sum_by-cons (λ (m : Node). m.own) (node_stepped s n) nodes, sum_by-cons (λ (m : Node). m.own) n nodes)
 own_in-stepped s (suc i) (n ∷ nodes) =
-    omega (arith, own_in-stepped s i nodes, sum_by-cons (λ (m : Node). m.own) n (changed_at (stepped s) i nodes), sum_by-cons (λ (m : Node). m.own) n nodes)
+    omega (arith, own_in-stepped s i nodes, sum_by-cons (λ (m : Node). m.own) n (changed_at (node_stepped s) i nodes), sum_by-cons (λ (m : Node). m.own) n nodes)
 
-pub calls_in-called : (i : ℕ) (nodes : List Node) → calls_in (changed_at called i nodes) ≤ calls_in nodes + 1
+pub calls_in-called : (i : ℕ) (nodes : List Node) → calls_in (changed_at node_called i nodes) ≤ calls_in nodes + 1
 calls_in-called i [] = omega arith
-calls_in-called zero (n ∷ nodes) = omega (arith, sum_by-cons (λ (m : Node). m.calls) (called n) nodes, sum_by-cons (λ (m : Node). m.calls) n nodes)
+calls_in-called zero (n ∷ nodes) = omega (arith, sum_by-cons (λ (m : Node). m.calls) (node_called n) nodes, sum_by-cons (λ (m : Node). m.calls) n nodes)
 calls_in-called (suc i) (n ∷ nodes) =
-    omega (arith, calls_in-called i nodes, sum_by-cons (λ (m : Node). m.calls) n (changed_at called i nodes), sum_by-cons (λ (m : Node). m.calls) n nodes)
+    omega (arith, calls_in-called i nodes, sum_by-cons (λ (m : Node). m.calls) n (changed_at node_called i nodes), sum_by-cons (λ (m : Node). m.calls) n nodes)
 
-calls_in-stepped : (s i : ℕ) (nodes : List Node) → calls_in (changed_at (stepped s) i nodes) ≡ calls_in nodes
+calls_in-stepped : (s i : ℕ) (nodes : List Node) → calls_in (changed_at (node_stepped s) i nodes) ≡ calls_in nodes
 calls_in-stepped s i [] = refl
-calls_in-stepped s zero (n ∷ nodes) = sum_by-cons (λ (m : Node). m.calls) (stepped s n) nodes ∙ sym (sum_by-cons (λ (m : Node). m.calls) n nodes)
+calls_in-stepped s zero (n ∷ nodes) = sum_by-cons (λ (m : Node). m.calls) (node_stepped s n) nodes ∙ sym (sum_by-cons (λ (m : Node). m.calls) n nodes)
 calls_in-stepped s (suc i) (n ∷ nodes) =
-    sum_by-cons (λ (m : Node). m.calls) n (changed_at (stepped s) i nodes) ∙ ap (λ k. n.calls + k) (calls_in-stepped s i nodes) ∙ sym (sum_by-cons (λ (m : Node). m.calls) n nodes)
+    sum_by-cons (λ (m : Node). m.calls) n (changed_at (node_stepped s) i nodes) ∙ ap (λ k. n.calls + k) (calls_in-stepped s i nodes) ∙ sym (sum_by-cons (λ (m : Node). m.calls) n nodes)
 
 pub calls_in-stepped_at : (node : Option ℕ) (s : ℕ) (nodes : List Node) → calls_in (stepped_at node s nodes) ≡ calls_in nodes
 calls_in-stepped_at None s nodes = refl
 calls_in-stepped_at (Some i) s nodes = calls_in-stepped s i nodes
 
-pub LeavesPlace-called : LeavesPlace called
+pub LeavesPlace-called : LeavesPlace node_called
 LeavesPlace-called = record { method = λ n. refl; parent = λ n. refl }
 
-pub LeavesPlace-stepped : (s : ℕ) → LeavesPlace (stepped s)
+pub LeavesPlace-stepped : (s : ℕ) → LeavesPlace (node_stepped s)
 LeavesPlace-stepped s = record { method = λ n. refl; parent = λ n. refl }
 
 -- ---- one node more
@@ -124,7 +124,7 @@ list_at-with_entry j i entry lists lt = by (nat_eq j i) refl
     by false e = get_or-set_other lists i j (list_at i lists ++ entry ∷ []) [] (eqb-false j i e) ∙ sym (append-nil (list_at j lists))
 
 pub entries_of-grown : (from parent : Option ℕ) (method : ℕ) (t : NodeTable) → IfSome parent (λ i. i < length t.children)
-    → entries_of from (grown parent method t) ≡ entries_of from t ++ (if same_node from parent then (method, length t.nodes) ∷ [] else [])
+    → entries_of from (table_grown parent method t) ≡ entries_of from t ++ (if same_node from parent then (method, length t.nodes) ∷ [] else [])
 entries_of-grown None None method t h = refl
 entries_of-grown None (Some i) method t h = sym (append-nil t.outermost)
 entries_of-grown (Some j) None method t h = list_at-push j t.children ∙ sym (append-nil (list_at j t.children))
@@ -132,15 +132,15 @@ entries_of-grown (Some j) (Some i) method t h =
     list_at-with_entry j i (method, length t.nodes) (t.children ++ [] ∷ []) (omega (arith, h, length_push {X = List (ℕ × ℕ)} t.children []))
     ∙ ap (λ l. l ++ (if nat_eq j i then (method, length t.nodes) ∷ [] else [])) (list_at-push j t.children)
 
-pub nodes-grown : (parent : Option ℕ) (method : ℕ) (t : NodeTable) → (grown parent method t).nodes ≡ t.nodes ++ fresh parent method ∷ []
+pub nodes-grown : (parent : Option ℕ) (method : ℕ) (t : NodeTable) → (table_grown parent method t).nodes ≡ t.nodes ++ fresh parent method ∷ []
 nodes-grown None method t = refl
 nodes-grown (Some i) method t = refl
 
-pub clock-grown : (parent : Option ℕ) (method : ℕ) (t : NodeTable) → (grown parent method t).clock ≡ t.clock
+pub clock-grown : (parent : Option ℕ) (method : ℕ) (t : NodeTable) → (table_grown parent method t).clock ≡ t.clock
 clock-grown None method t = refl
 clock-grown (Some i) method t = refl
 
-pub length-children-grown : (parent : Option ℕ) (method : ℕ) (t : NodeTable) → length (grown parent method t).children ≡ length t.children + 1
+pub length-children-grown : (parent : Option ℕ) (method : ℕ) (t : NodeTable) → length (table_grown parent method t).children ≡ length t.children + 1
 length-children-grown None method t = length_push {X = List (ℕ × ℕ)} t.children []
 length-children-grown (Some i) method t =
     length-set (t.children ++ [] ∷ []) i (list_at i (t.children ++ [] ∷ []) ++ (method, length t.nodes) ∷ []) ∙ length_push {X = List (ℕ × ℕ)} t.children []

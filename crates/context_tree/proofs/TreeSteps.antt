@@ -11,8 +11,8 @@ use Rattle.jvm_model.specs.declared.event.EventKind.TheVariants.{Root, Enter, Le
 use Rattle.jvm_model.specs.Profiling.Paths.{Context, same_path, is_outside}
 use Rattle.context_tree.specs.declared.node.Node.{Node}
 use Rattle.context_tree.specs.declared.table.NodeTable.{NodeTable}
-use Rattle.context_tree.specs.Profiles.{Profile, has_path, parent_path, with_call, opened, closed, event_told, taken}
-use Rattle.context_tree.specs.NodeTables.{child_by, changed_at, called, stepped, own_in, given, fresh, grown, entered_at, opened_in, opened_inside, parent_in, closed_in, told_in, taken_in}
+use Rattle.context_tree.specs.Profiles.{Profile, has_path, parent_path, with_call, path_opened, path_closed, event_told, event_taken}
+use Rattle.context_tree.specs.NodeTables.{child_by, changed_at, node_called, node_stepped, own_in, steps_given, fresh, table_grown, entered_at, opened_in, opened_inside, parent_in, closed_in, told_in, taken_in}
 use Rattle.context_tree.specs.TreeViews.{path_at, paths_in, contexts_with, contexts_in, profile_in, AreBehind, AreApart, same_node, entries_below, IsTree}
 use Rattle.context_tree.proofs.SamePaths.{is_outside-push, parent_path-push}
 use Rattle.context_tree.proofs.NodePaths.{GoesOn, LeavesPlace, paths_after-push, paths_after-changed, AreBehind-changed, AreBehind-push, path_at-append, IfSome-below, list_any-position_from}
@@ -39,31 +39,31 @@ tree-changed t tree f leaves i node clock within counted =
 
 -- ---- steps
 
-pub tree-given : (t : NodeTable) → IsTree t → (node : Option ℕ) (clock : ℕ) → t.clock ≤ clock → IsTree (given node clock t)
+pub tree-given : (t : NodeTable) → IsTree t → (node : Option ℕ) (clock : ℕ) → t.clock ≤ clock → IsTree (steps_given node clock t)
 tree-given t tree None clock le = record {
   behind = tree.behind;
   apart = tree.apart;
-  entries = λ from. entries_of-same t (given None clock t) refl refl from ∙ tree.entries from;
+  entries = λ from. entries_of-same t (steps_given None clock t) refl refl from ∙ tree.entries from;
   lists = tree.lists;
   within = tree.within;
   counted = omega (arith, tree.counted);
 }
 tree-given t tree (Some i) clock le =
-    tree-changed t tree (stepped (clock - t.clock)) (LeavesPlace-stepped (clock - t.clock)) i t.open clock tree.within (omega (arith, own_in-stepped (clock - t.clock) i t.nodes, tree.counted))
+    tree-changed t tree (node_stepped (clock - t.clock)) (LeavesPlace-stepped (clock - t.clock)) i t.open clock tree.within (omega (arith, own_in-stepped (clock - t.clock) i t.nodes, tree.counted))
 
 pub profile-given : (t : NodeTable) → IsTree t → (node : Option ℕ) (clock : ℕ) → IfSome node (λ i. i < length t.nodes)
-    → profile_in (given node clock t) ≡ credited_in (path_at node (paths_in t.nodes)) clock (profile_in t)
+    → profile_in (steps_given node clock t) ≡ credited_in (path_at node (paths_in t.nodes)) clock (profile_in t)
 profile-given t tree None clock h =
     let s : ℕ = clock - t.clock in
     ap (λ (l : List Context). record { contexts = l; «open» = path_at t.open (paths_in t.nodes); clock = clock })
     (sym (map-apart [] (λ c. record c { own = c.own + s }) (paths_in t.nodes) t.nodes (are_paths t tree).inside))
 profile-given t tree (Some i) clock h =
     let s : ℕ = clock - t.clock in
-    let nodes : List Node = changed_at (stepped s) i t.nodes in
-    let same : paths_in nodes ≡ paths_in t.nodes = paths_after-changed (stepped s) (LeavesPlace-stepped s) [] i t.nodes in
+    let nodes : List Node = changed_at (node_stepped s) i t.nodes in
+    let same : paths_in nodes ≡ paths_in t.nodes = paths_after-changed (node_stepped s) (LeavesPlace-stepped s) [] i t.nodes in
     ap (λ (paths : List (List ℕ)). record { contexts = contexts_with paths nodes; «open» = path_at t.open paths; clock = clock }) same
     ∙ ap (λ (l : List Context). record { contexts = l; «open» = path_at t.open (paths_in t.nodes); clock = clock })
-    (contexts_with-changed (stepped s) (λ c. record c { own = c.own + s }) (λ p n. refl) (paths_in t.nodes) i t.nodes tree.apart (valid_path t tree (Some i) h))
+    (contexts_with-changed (node_stepped s) (λ c. record c { own = c.own + s }) (λ p n. refl) (paths_in t.nodes) i t.nodes tree.apart (valid_path t tree (Some i) h))
 
 -- ---- events
 
@@ -91,22 +91,22 @@ module _ (t : NodeTable) (tree : IsTree t) (method : ℕ) where
   abbrev entered_if : Bool → List Context
   entered_if b = if b then map (with_call entered_path) (contexts_in t.nodes) else contexts_in t.nodes ++ new_context ∷ []
 
-  opened_if : (b : Bool) → is_some (child_by t.open method t) ≡ b → record { contexts = entered_if b; «open» = entered_path; clock = t.clock } ≡ opened method (profile_in t)
+  opened_if : (b : Bool) → is_some (child_by t.open method t) ≡ b → record { contexts = entered_if b; «open» = entered_path; clock = t.clock } ≡ path_opened method (profile_in t)
   opened_if b e = ap (λ c. record { contexts = entered_if c; «open» = entered_path; clock = t.clock }) (sym (seen ∙ e))
 
-  follows_found : (k : ℕ) → child_by t.open method t ≡ Some k → Follows t (opened method (profile_in t)) (entered_at (Some k) method t)
+  follows_found : (k : ℕ) → child_by t.open method t ≡ Some k → Follows t (path_opened method (profile_in t)) (entered_at (Some k) method t)
   follows_found k h =
       let paths : List (List ℕ) = paths_in t.nodes in
-      let nodes : List Node = changed_at called k t.nodes in
+      let nodes : List Node = changed_at node_called k t.nodes in
       let at : StandsAt entered_path k paths = stands_at entered_path k paths (sym (child_by-path t tree t.open method tree.within) ∙ h) in
-      let same : paths_in nodes ≡ paths = paths_after-changed called LeavesPlace-called [] k t.nodes in
+      let same : paths_in nodes ≡ paths = paths_after-changed node_called LeavesPlace-called [] k t.nodes in
       let within : k < length t.nodes = subst (λ n. k < n) (length-paths t tree) at.within in
       record {
-        tree = tree-changed t tree called LeavesPlace-called k (Some k) t.clock within (omega (arith, own_in-called k t.nodes, tree.counted));
+        tree = tree-changed t tree node_called LeavesPlace-called k (Some k) t.clock within (omega (arith, own_in-called k t.nodes, tree.counted));
         profile =
             ap (λ (l : List (List ℕ)). record { contexts = contexts_with l nodes; «open» = get_or l k []; clock = t.clock }) same
             ∙ ap (λ (l : List Context). record { contexts = l; «open» = get_or paths k []; clock = t.clock })
-            (contexts_with-changed called (λ c. record c { calls = c.calls + 1 }) (λ p n. refl) paths k t.nodes tree.apart at.within)
+            (contexts_with-changed node_called (λ c. record c { calls = c.calls + 1 }) (λ p n. refl) paths k t.nodes tree.apart at.within)
             ∙ ap (λ (P : List ℕ). record { contexts = map (with_call P) (contexts_in t.nodes); «open» = P; clock = t.clock }) at.at
             ∙ opened_if true (ap is_some h);
         more = [];
@@ -114,7 +114,7 @@ module _ (t : NodeTable) (tree : IsTree t) (method : ℕ) where
         clock = refl;
       }
 
-  follows_new : child_by t.open method t ≡ None → Follows t (opened method (profile_in t)) (entered_at None method t)
+  follows_new : child_by t.open method t ≡ None → Follows t (path_opened method (profile_in t)) (entered_at None method t)
   follows_new h =
       let paths : List (List ℕ) = paths_in t.nodes in
       let n : Node = fresh t.open method in
@@ -130,7 +130,7 @@ module _ (t : NodeTable) (tree : IsTree t) (method : ℕ) where
           behind = subst (AreBehind 0) (sym nodes) (AreBehind-push 0 t.nodes n tree.behind (subst (λ k. IfSome t.open (λ i. i < k)) (omega arith) tree.within));
           apart = subst AreApart (sym longer) (AreApart-push paths entered_path tree.apart absent);
           entries = λ from.
-              entries_of-same (grown t.open method t) u refl refl from ∙ entries_of-grown from t.open method t parent
+              entries_of-same (table_grown t.open method t) u refl refl from ∙ entries_of-grown from t.open method t parent
               ∙ ap (λ l. l ++ (if same_node from t.open then (method, length t.nodes) ∷ [] else [])) (tree.entries from)
               ∙ ap (λ k. entries_below from 0 t.nodes ++ (if same_node from t.open then (method, k) ∷ [] else [])) (omega arith)
               ∙ sym (ap (entries_below from 0) nodes ∙ entries_below-push from 0 t.nodes n);
@@ -151,12 +151,12 @@ module _ (t : NodeTable) (tree : IsTree t) (method : ℕ) where
         clock = clock-grown t.open method t;
       }
 
-  follows_opened : Follows t (opened method (profile_in t)) (opened_in method t)
+  follows_opened : Follows t (path_opened method (profile_in t)) (opened_in method t)
   follows_opened = by (child_by t.open method t) refl
     where
-      by : (r : Option ℕ) → child_by t.open method t ≡ r → Follows t (opened method (profile_in t)) (opened_in method t)
-      by None h = subst (λ r. Follows t (opened method (profile_in t)) (entered_at r method t)) (sym h) (follows_new h)
-      by (Some k) h = subst (λ r. Follows t (opened method (profile_in t)) (entered_at r method t)) (sym h) (follows_found k h)
+      by : (r : Option ℕ) → child_by t.open method t ≡ r → Follows t (path_opened method (profile_in t)) (opened_in method t)
+      by None h = subst (λ r. Follows t (path_opened method (profile_in t)) (entered_at r method t)) (sym h) (follows_new h)
+      by (Some k) h = subst (λ r. Follows t (path_opened method (profile_in t)) (entered_at r method t)) (sym h) (follows_found k h)
 
 follows_same : (t : NodeTable) → IsTree t → Follows t (profile_in t) t
 follows_same t tree = record { tree = tree; profile = refl; more = []; paths = sym (append-nil (paths_in t.nodes)); clock = refl }
@@ -173,7 +173,7 @@ parent-at t tree (Some i) h =
       ap (λ q. path_at q (paths_in t.nodes)) here ∙ sym (ap parent_path goes.0 ∙ parent_path-push (path_at n.parent (paths_in t.nodes)) n.method),
     )
 
-follows_closed : (t : NodeTable) → IsTree t → Follows t (closed (profile_in t)) (closed_in t)
+follows_closed : (t : NodeTable) → IsTree t → Follows t (path_closed (profile_in t)) (closed_in t)
 follows_closed t tree =
     let above = parent-at t tree t.open tree.within in
     record {
@@ -193,16 +193,16 @@ follows_closed t tree =
 
 -- another method's entry opens one where a node is open
 follows_inside : (t : NodeTable) → IsTree t → (method : ℕ) (node : Option ℕ) → t.open ≡ node
-    → Follows t (if is_outside (path_at t.open (paths_in t.nodes)) then profile_in t else opened method (profile_in t)) (opened_inside node method t)
+    → Follows t (if is_outside (path_at t.open (paths_in t.nodes)) then profile_in t else path_opened method (profile_in t)) (opened_inside node method t)
 follows_inside t tree method None e =
-    subst (λ p. Follows t p t) (sym (ap (λ q. if is_outside (path_at q (paths_in t.nodes)) then profile_in t else opened method (profile_in t)) e)) (follows_same t tree)
+    subst (λ p. Follows t p t) (sym (ap (λ q. if is_outside (path_at q (paths_in t.nodes)) then profile_in t else path_opened method (profile_in t)) e)) (follows_same t tree)
 follows_inside t tree method (Some i) e =
     let lt : i < length t.nodes = subst (λ q. IfSome q (λ j. j < length t.nodes)) e tree.within in
     let goes : GoesOn (paths_in t.nodes) (get_or (paths_in t.nodes) i []) (get_or t.nodes i (fresh None 0)) = goes_on-at t tree i (fresh None 0) lt in
     let n : Node = get_or t.nodes i (fresh None 0) in
     let inside : is_outside (path_at t.open (paths_in t.nodes)) ≡ false =
     ap (λ q. is_outside (path_at q (paths_in t.nodes))) e ∙ ap is_outside goes.0 ∙ is_outside-push (path_at n.parent (paths_in t.nodes)) n.method in
-    subst (λ p. Follows t p (opened_in method t)) (sym (ap (λ b. if b then profile_in t else opened method (profile_in t)) inside)) (follows_opened t tree method)
+    subst (λ p. Follows t p (opened_in method t)) (sym (ap (λ b. if b then profile_in t else path_opened method (profile_in t)) inside)) (follows_opened t tree method)
 
 pub follows_told : (t : NodeTable) → IsTree t → (kind : EventKind) (method : ℕ) → Follows t (event_told kind method (profile_in t)) (told_in kind method t)
 follows_told t tree Root method = follows_opened t tree method
@@ -214,7 +214,7 @@ follows_told t tree Unwind method = follows_closed t tree
 
 pub record Taken (t : NodeTable) (e : Event) : Type 0 where
   pub tree : IsTree (taken_in t e)
-  pub profile : profile_in (taken_in t e) ≡ taken (profile_in t) e
+  pub profile : profile_in (taken_in t e) ≡ event_taken (profile_in t) e
 
 pub taken_is : (t : NodeTable) → IsTree t → (e : Event) → t.clock ≤ e.clock → Taken t e
 taken_is t tree e le =

@@ -11,11 +11,11 @@ use Rattle.jvm_model.proofs.Worked.WorkedInitializers.{both_set}
 use Rattle.jvm_model.proofs.Worked.WorkedPoints.{deselect, event, events_by, p1, select, under_deselection}
 use Rattle.jvm_model.proofs.Worked.WorkedPrograms.{Sketches, selecting}
 use Rattle.jvm_model.proofs.Worked.WorkedRuns.{p3, recursive}
-use Rattle.context_tree.specs.Counts.{counted}
+use Rattle.context_tree.specs.Counts.{contexts_counted}
 
 -- the tree after so many steps, of which so many were the last to tell anything
 abbrev tree_by : List Act → Sketches → ℕ → ℕ → List Context
-tree_by acts s told steps = counted (events_by acts s told) steps
+tree_by acts s told steps = contexts_counted (events_by acts s told) steps
 
 abbrev context : List ℕ → ℕ → ℕ → Context
 context path calls own = record { path = path; calls = calls; own = own }
@@ -47,13 +47,13 @@ unfolding standing_in turn_in trace_in
 initializers-tree = refl
 
 -- N.main, B's constructor, A's constructor within it, and B's v
-overriding-tree : counted (
+overriding-tree : contexts_counted (
     event kind.Root 0 0 ∷ event kind.Enter 3 3 ∷ event kind.Enter 1 5 ∷ event kind.Leave 1 8 ∷ event kind.Leave 3 9
     ∷ event kind.Enter 4 10 ∷ event kind.Leave 4 12 ∷ event kind.Leave 0 14 ∷ []) 14
     ≡ context (0 ∷ []) 1 6 ∷ context (0 ∷ 3 ∷ []) 1 3 ∷ context (0 ∷ 3 ∷ 1 ∷ []) 1 3 ∷ context (0 ∷ 4 ∷ []) 1 2 ∷ []
 overriding-tree = refl
 
 -- invokespecial of a method of an array type
-of_array-tree : counted (event kind.Root 1 0 ∷ event kind.Enter 0 3 ∷ event kind.Leave 0 5 ∷ event kind.Leave 1 7 ∷ []) 7
+of_array-tree : contexts_counted (event kind.Root 1 0 ∷ event kind.Enter 0 3 ∷ event kind.Leave 0 5 ∷ event kind.Leave 1 7 ∷ []) 7
     ≡ context (1 ∷ []) 1 5 ∷ context (1 ∷ 0 ∷ []) 1 2 ∷ []
 of_array-tree = refl

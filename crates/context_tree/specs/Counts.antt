@@ -36,8 +36,8 @@ paths_stepped path clock [] last = replicate (last - clock) path
 paths_stepped path clock (e ∷ events) last = replicate (e.clock - clock) path ++ paths_stepped (path_after path e) e.clock events last
 
 -- the contexts of a list of events up to a clock
-abbrev pub counted : List Event → ℕ → List Context
-counted events last = contexts_of (paths_opened [] events) (paths_stepped [] 0 events last)
+abbrev pub contexts_counted : List Event → ℕ → List Context
+contexts_counted events last = contexts_of (paths_opened [] events) (paths_stepped [] 0 events last)
 
 -- clocks do not fall
 abbrev pub AreInOrder : ℕ → List Event → ℕ → Type 0

@@ -13,18 +13,18 @@ use Rattle.jvm_model.specs.Profiling.Projection.{projection}
 use Rattle.jvm_model.specs.Running.Run.{run}
 use Rattle.jvm_model.specs.Soundness.SoundPrograms.{IsSoundProgram}
 use Rattle.context_tree.specs.Seen.{Matches, seen_before}
-use Rattle.context_tree.specs.Profiles.{credited, profile_of}
-use Rattle.context_tree.specs.Counts.{counted, AreInOrder}
+use Rattle.context_tree.specs.Profiles.{steps_credited, profile_of}
+use Rattle.context_tree.specs.Counts.{contexts_counted, AreInOrder}
 
 -- One event after another, and then the steps up to a clock, come to the contexts that are counted from all events.
 abbrev pub FoldsToCounts : Type 0
-FoldsToCounts = (events : List Event) (clock : ℕ) → AreInOrder 0 events clock → (credited clock (profile_of events)).contexts ≡ counted events clock
+FoldsToCounts = (events : List Event) (clock : ℕ) → AreInOrder 0 events clock → (steps_credited clock (profile_of events)).contexts ≡ contexts_counted events clock
 
 -- The tree is the projection of the run: for every sound program, every input, every list of actions whose moments do not fall, and every
 -- number of steps before whose last one the run has not ended.
 abbrev pub TreeIsProjection : Type 0
 TreeIsProjection = (own : List ClassFile) (name : List ℕ) (w : World) → IsSoundProgram own name w.program → (acts : List Act) → AreFrom 0 acts → (n : ℕ) → ((m : ℕ) → m < n → is_some (run w m).ending ≡ false)
-    → (credited n (profile_of (events_of (marking_of acts w) w n))).contexts ≡ projection acts w n
+    → (steps_credited n (profile_of (events_of (marking_of acts w) w n))).contexts ≡ projection acts w n
 
 -- What is seen of a run by its own actions, by what is loaded and by the events of these versions is what stands at its points.
 abbrev pub SessionSees : Type 0

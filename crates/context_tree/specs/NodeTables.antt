@@ -35,12 +35,12 @@ changed_at f zero (n ∷ ns) = f n ∷ ns
 changed_at f (suc i) (n ∷ ns) = n ∷ changed_at f i ns
 
 -- one call more
-abbrev pub called : Node → Node
-called n = record n { calls = n.calls + 1 }
+abbrev pub node_called : Node → Node
+node_called n = record n { calls = n.calls + 1 }
 
 -- so many steps more
-abbrev pub stepped : ℕ → Node → Node
-stepped steps n = record n { own = n.own + steps }
+abbrev pub node_stepped : ℕ → Node → Node
+node_stepped steps n = record n { own = n.own + steps }
 
 abbrev pub calls_in : List Node → ℕ
 calls_in nodes = sum_by (λ (n : Node). n.calls) nodes
@@ -54,20 +54,20 @@ own_at i nodes = option_map_or (λ (n : Node). n.own) (slice_get nodes i) 0
 
 abbrev pub stepped_at : Option ℕ → ℕ → List Node → List Node
 stepped_at None steps nodes = nodes
-stepped_at (Some i) steps nodes = changed_at (stepped steps) i nodes
+stepped_at (Some i) steps nodes = changed_at (node_stepped steps) i nodes
 
 -- the steps since the last clock are this node's
-abbrev pub given : Option ℕ → ℕ → NodeTable → NodeTable
-given node clock t = record t { nodes = stepped_at node (clock - t.clock) t.nodes; clock = clock }
+abbrev pub steps_given : Option ℕ → ℕ → NodeTable → NodeTable
+steps_given node clock t = record t { nodes = stepped_at node (clock - t.clock) t.nodes; clock = clock }
 
 -- a node's number with its parent's
 abbrev pub sum_of : ℕ → ℕ → List ℕ → ℕ
 sum_of parent node numbers = slice_index numbers parent + slice_index numbers node
 
 -- the numbers of nodes, with one of them added to its parent's
-abbrev pub gathered : Option ℕ → ℕ → List ℕ → List ℕ
-gathered None node numbers = numbers
-gathered (Some parent) node numbers = slice_set numbers parent (sum_of parent node numbers)
+abbrev pub numbers_gathered : Option ℕ → ℕ → List ℕ → List ℕ
+numbers_gathered None node numbers = numbers
+numbers_gathered (Some parent) node numbers = slice_set numbers parent (sum_of parent node numbers)
 
 -- ---- nodes
 
@@ -85,15 +85,15 @@ with_child None entry t = record t { outermost = t.outermost ++ entry ∷ [] }
 with_child (Some i) entry t = record t { children = with_entry i entry t.children }
 
 -- one node more, which is a child of this one
-abbrev pub grown : Option ℕ → ℕ → NodeTable → NodeTable
-grown parent method t = with_child parent (method, length t.nodes) (with_node parent method t)
+abbrev pub table_grown : Option ℕ → ℕ → NodeTable → NodeTable
+table_grown parent method t = with_child parent (method, length t.nodes) (with_node parent method t)
 
 -- ---- events
 
 -- a method's entry at the child that was found, or at a new one
 abbrev pub entered_at : Option ℕ → ℕ → NodeTable → NodeTable
-entered_at (Some k) method t = record t { nodes = changed_at called k t.nodes; «open» = Some k }
-entered_at None method t = record (grown t.open method t) { «open» = Some (length t.nodes) }
+entered_at (Some k) method t = record t { nodes = changed_at node_called k t.nodes; «open» = Some k }
+entered_at None method t = record (table_grown t.open method t) { «open» = Some (length t.nodes) }
 
 abbrev pub opened_in : ℕ → NodeTable → NodeTable
 opened_in method t = entered_at (child_by t.open method t) method t
@@ -112,4 +112,4 @@ told_in Leave method t = closed_in t
 told_in Unwind method t = closed_in t
 
 abbrev pub taken_in : NodeTable → Event → NodeTable
-taken_in t e = given t.open e.clock (told_in e.kind e.method t)
+taken_in t e = steps_given t.open e.clock (told_in e.kind e.method t)

@@ -39,8 +39,8 @@ abbrev pub with_own : List ℕ → ℕ → Context → Context
 with_own path steps c = if has_path path c then record c { own = c.own + steps } else c
 
 -- the steps since the last clock were made in the open path
-abbrev pub credited : ℕ → Profile → Profile
-credited clock p = record p { contexts = map (with_own p.open (clock - p.clock)) p.contexts; clock = clock }
+abbrev pub steps_credited : ℕ → Profile → Profile
+steps_credited clock p = record p { contexts = map (with_own p.open (clock - p.clock)) p.contexts; clock = clock }
 
 -- one entry more with this path
 abbrev pub with_call : List ℕ → Context → Context
@@ -52,26 +52,26 @@ call_begun path contexts =
     else contexts ++ record { path = path; calls = 1; own = 0 } ∷ []
 
 -- a method's entry opens the path that goes on from the open one
-abbrev pub opened : ℕ → Profile → Profile
-opened method p = record p { contexts = call_begun (p.open ++ method ∷ []) p.contexts; «open» = p.open ++ method ∷ [] }
+abbrev pub path_opened : ℕ → Profile → Profile
+path_opened method p = record p { contexts = call_begun (p.open ++ method ∷ []) p.contexts; «open» = p.open ++ method ∷ [] }
 
 -- its end goes back to the path before
-abbrev pub closed : Profile → Profile
-closed p = record p { «open» = parent_path p.open }
+abbrev pub path_closed : Profile → Profile
+path_closed p = record p { «open» = parent_path p.open }
 
 -- A root opens an entry; another method's entry opens one where one is open; leaving and unwinding close the last open one.
 abbrev pub event_told : EventKind → ℕ → Profile → Profile
-event_told Root method p = opened method p
-event_told Enter method p = if is_outside p.open then p else opened method p
-event_told Leave method p = closed p
-event_told Unwind method p = closed p
+event_told Root method p = path_opened method p
+event_told Enter method p = if is_outside p.open then p else path_opened method p
+event_told Leave method p = path_closed p
+event_told Unwind method p = path_closed p
 
-abbrev pub taken : Profile → Event → Profile
-taken p e = event_told e.kind e.method (credited e.clock p)
+abbrev pub event_taken : Profile → Event → Profile
+event_taken p e = event_told e.kind e.method (steps_credited e.clock p)
 
 -- after these events, one after another
 abbrev pub profile_of : List Event → Profile
-profile_of events = fold taken blank events
+profile_of events = fold event_taken blank events
 
 -- ---- the tree
 

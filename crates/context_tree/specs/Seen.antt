@@ -11,7 +11,7 @@ use Rattle.jvm_model.specs.Profiling.Projection.{path_at}
 use Rattle.jvm_model.specs.Running.Run.{before, turn}
 use Rattle.jvm_model.specs.Soundness.Calls.{loads_of}
 use Rattle.context_tree.specs.Counts.{opens, path_after}
-use Rattle.jvm_model.specs.Profiling.Points.{acts_at, acts_behind, chosen, is_empty, with_entered, Standing}
+use Rattle.jvm_model.specs.Profiling.Points.{acts_at, acts_behind, methods_selected, is_empty, with_entered, Standing}
 
 -- the selection, what is entered, the loaded classes, and the tree's open path
 pub record Seen : Type 0 where
@@ -28,7 +28,7 @@ abbrev pub seen_end : Seen → Seen
 seen_end s = if is_empty s.selected && not (is_inside s.open) then record s { entered = [] } else s
 
 abbrev pub seen_act : Seen → Act → Seen
-seen_act s act = seen_end (record s { selected = chosen act s.selected })
+seen_act s act = seen_end (record s { selected = methods_selected act s.selected })
 
 abbrev pub seen_acts : Seen → List Act → Seen
 seen_acts s acts = fold seen_act s acts

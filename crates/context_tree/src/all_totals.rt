@@ -1,7 +1,7 @@
 //! The totals of all nodes, in one pass.
 
 ghost use Rattle.std.specs.Prelude.{◌≡◌, ◌+◌, ◌<◌, ◌^◌, length, map, slice_index, IfOk, IfSome};
-ghost use Rattle.context_tree.specs.NodeTables.{gathered, sum_of};
+ghost use Rattle.context_tree.specs.NodeTables.{numbers_gathered, sum_of};
 ghost use Rattle.context_tree.specs.TreeViews.{profile_in, IsTree};
 ghost use Rattle.context_tree.specs.Profiles.{totals_of};
 
@@ -21,7 +21,7 @@ fn number_at(numbers: &Seq<u64>, index: usize) -> u64
 fn add_to_parent(numbers: &mut Seq<u64>, node: usize, parent: Option<usize>)
     requires within { IfSome parent (λ i. i < length numbers.old) }
     requires fits { IfSome parent (λ i. sum_of i node numbers.old < 2 ^ 64) }
-    ensures { numbers.new ≡ gathered parent node numbers.old }
+    ensures { numbers.new ≡ numbers_gathered parent node numbers.old }
 {
     let Some(parent) = parent else {
         return;

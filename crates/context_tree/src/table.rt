@@ -1,7 +1,7 @@
 //! The nodes of a tree with their children, the open node, and the last clock.
 
 ghost use Rattle.std.specs.Prelude.{◌≡◌, ◌<◌, ◌≤◌, ◌+◌, ◌-◌, ◌^◌, Some, None, length, take, is_ok, slice_get, OnOk, OnErr, IfSome, if◌then◌else◌};
-ghost use Rattle.context_tree.specs.NodeTables.{entries_of, numbers_in, child_by, parent_in, changed_at, called, stepped, calls_in, own_in, own_at, given, fresh, with_node, with_child, grown, entered_at, opened_in, closed_in, told_in, taken_in};
+ghost use Rattle.context_tree.specs.NodeTables.{entries_of, numbers_in, child_by, parent_in, changed_at, node_called, node_stepped, calls_in, own_in, own_at, steps_given, fresh, with_node, with_child, table_grown, entered_at, opened_in, closed_in, told_in, taken_in};
 ghost use Rattle.context_tree.specs.ChildLists.{Becomes};
 ghost use Rattle.context_tree.specs.TreeViews.{total_at, IsTree};
 
@@ -26,7 +26,7 @@ pub struct NodeTable {
 /// One call more of a node.
 fn add_call(nodes: &mut Seq<Node>, number: usize)
     requires { calls_in nodes.old < 2 ^ 64 - 1 }
-    ensures { nodes.new ≡ changed_at called number nodes.old }
+    ensures { nodes.new ≡ changed_at node_called number nodes.old }
 {
     let Some(mut node) = nodes.at(number) else {
         return;
@@ -38,7 +38,7 @@ fn add_call(nodes: &mut Seq<Node>, number: usize)
 /// So many steps more of a node.
 fn add_steps(nodes: &mut Seq<Node>, number: usize, steps: u64)
     requires { own_in nodes.old + steps < 2 ^ 64 }
-    ensures { nodes.new ≡ changed_at (stepped steps) number nodes.old }
+    ensures { nodes.new ≡ changed_at (node_stepped steps) number nodes.old }
 {
     let Some(mut node) = nodes.at(number) else {
         return;
@@ -141,7 +141,7 @@ impl NodeTable {
     pub fn give(&mut self, node: Option<usize>, clock: u64)
         requires order { self.old.clock ≤ clock }
         requires counted { own_in self.old.nodes ≤ self.old.clock }
-        ensures { self.new ≡ given node clock self.old }
+        ensures { self.new ≡ steps_given node clock self.old }
     {
         if let Some(number) = node {
             add_steps(&mut self.nodes, number, clock - self.clock);
@@ -153,7 +153,8 @@ impl NodeTable {
     fn grow(&mut self, parent: Option<usize>, method: u32) -> Result<(), NoMemory>
         requires within { IfSome parent (λ i. i < length self.old.children) }
         requires absent { child_by parent method self.old ≡ None }
-        ensures { self.new ≡ (if is_ok result then grown parent method self.old else self.old) }
+        ensures { self.new
+            ≡ (if is_ok result then table_grown parent method self.old else self.old) }
     {
         let number = self.nodes.len();
         self.push_node(parent, method)?;

@@ -2,7 +2,7 @@
 
 ghost use Rattle.std.specs.Prelude.{ℕ, ◌≡◌, ◌<◌, ◌≤◌, ◌+◌, ◌-◌, ◌^◌, Some, length, slice_get, OnOk, OnErr, IfOk, IfSome};
 ghost use Rattle.jvm_model.specs.declared.event.Event.{Event as TheEvent};
-ghost use Rattle.context_tree.specs.Profiles.{blank, taken, credited, calls_of, nodes_of, child_at, path_of_node, total_of, totals_of};
+ghost use Rattle.context_tree.specs.Profiles.{blank, event_taken, steps_credited, calls_of, nodes_of, child_at, path_of_node, total_of, totals_of};
 
 use crate::children::{ChildLists, Children};
 use crate::node::Node;
@@ -52,7 +52,7 @@ impl Tree {
     pub fn take(&mut self, event: &Event) -> Result<(), NoMemory>
         requires later { self.old.clock ≤ event.now.clock }
         requires countable { calls_of self.old < 2 ^ 64 - 1 }
-        ensures ok { OnOk result (self.new ≡ taken self.old event.now) }
+        ensures ok { OnOk result (self.new ≡ event_taken self.old event.now) }
         ensures err { OnErr result (self.new ≡ self.old) }
         ensures clock { OnOk result (self.new.clock ≡ event.now.clock) }
         ensures calls { calls_of self.new ≤ calls_of self.old + 1 }
@@ -67,10 +67,11 @@ impl Tree {
     /// what the tree is behind them.
     pub fn credit(&mut self, clock: u64)
         requires { self.old.clock ≤ clock }
-        ensures credited { self.new ≡ credited clock self.old }
+        ensures credited { self.new ≡ steps_credited clock self.old }
         ensures adds { (later : ℕ) → clock ≤ later
-            → credited later self.new ≡ credited later self.old }
-        ensures unseen { (e : TheEvent) → clock ≤ e.clock → taken self.new e ≡ taken self.old e }
+            → steps_credited later self.new ≡ steps_credited later self.old }
+        ensures unseen { (e : TheEvent) → clock ≤ e.clock → event_taken self.new e
+            ≡ event_taken self.old e }
         ensures calls { calls_of self.new ≡ calls_of self.old }
     {
         let node = self.table.open;

@@ -30,8 +30,8 @@ length_of held event = length (record_of (last_clock held) event)
 abbrev pub empty : ℕ → Held
 empty capacity = record { events = []; popped = 0; capacity = capacity }
 
-abbrev pub pushed : Held → Event → Held
-pushed held event = record { events = held.events ++ event ∷ []; popped = held.popped; capacity = held.capacity }
+abbrev pub event_pushed : Held → Event → Held
+event_pushed held event = record { events = held.events ++ event ∷ []; popped = held.popped; capacity = held.capacity }
 
 -- without the first event
 abbrev pub rest_of : Held → List Event → Held

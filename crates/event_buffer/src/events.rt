@@ -1,7 +1,7 @@
 //! The buffer.
 
 ghost use Rattle.std.specs.Prelude.{◌≡◌, ◌+◌, ◌-◌, ◌≤◌, ◌<◌, ◌↔◌, [], slice_get, IfOk, OnOk, OnErr, IsErr, IsOk};
-ghost use Rattle.event_buffer.specs.Buffers.{empty, pushed, rest_of, last_clock, used_of, length_of};
+ghost use Rattle.event_buffer.specs.Buffers.{empty, event_pushed, rest_of, last_clock, used_of, length_of};
 
 use crate::numbers::take_number;
 use crate::records::{kind_of_number, length_of_record, put_record};
@@ -61,7 +61,7 @@ impl Events {
         requires later { last_clock self.old ≤ event.clock }
         ensures full { IsErr result
             ↔ (self.old.capacity - used_of self.old < length_of self.old event) }
-        ensures ok { OnOk result (self.new ≡ pushed self.old event) }
+        ensures ok { OnOk result (self.new ≡ event_pushed self.old event) }
         ensures err { OnErr result (self.new ≡ self.old) }
         ensures clock { OnOk result (last_clock self.new ≡ event.clock) }
         ensures room { self.old.events ≡ [] → 16 ≤ self.old.capacity → IsOk result }

@@ -19,7 +19,7 @@ fn words_of(alloc: Global, line: &str, files: usize) -> Result<Vec<Seq<u8>>, Fai
 }
 
 /// What words and a plan that is silent ask for: main class, budget, root, plan, how many files, and the last one.
-fn shown(alloc: Global, words: &Words<'_>) -> Result<String, Fail> {
+fn words_shown(alloc: Global, words: &Words<'_>) -> Result<String, Fail> {
     let plan = read_plan(alloc, b"").ok().ok_or("a plan")?;
     let last = words.files.last().copied().unwrap_or("-");
     let Some(command) = command_of(words, &plan) else {
@@ -40,7 +40,7 @@ fn first_line(alloc: Global, text: &str) -> Result<String, Fail> {
 fn answer(alloc: Global, words: &[Seq<u8>]) -> Result<String, Fail> {
     let texts = texts_of(alloc, words).ok().ok_or("texts")?;
     match read_words(alloc, texts.as_slice()) {
-        Ok(words) => shown(alloc, &words),
+        Ok(words) => words_shown(alloc, &words),
         Err(WordsError::Clap(text)) => first_line(alloc, text.as_str()),
         Err(WordsError::Refused) => Ok(String::from_str(alloc, "refused")?),
         Err(WordsError::NoMemory) => Err(Fail::from("no memory")),

@@ -258,7 +258,7 @@ fn push_text(units: &mut Vec<u16>, text: &str) -> Result<(), Fail> {
 }
 
 /// A text, so many times another, and a third.
-fn repeated(
+fn text_repeated(
     alloc: Global,
     front: &str,
     text: &str,
@@ -276,7 +276,7 @@ fn repeated(
 
 /// The place of the bad unit in a method descriptor of so many equal parameters and what follows.
 fn bad_place(alloc: Global, param: &str, count: usize, rest: &str) -> Result<Option<usize>, Fail> {
-    let text = repeated(alloc, "(", param, count, rest)?;
+    let text = text_repeated(alloc, "(", param, count, rest)?;
     match parse_method(alloc, &text) {
         Ok(_) => Ok(None),
         Err(DescriptorError::BadDescriptor(place)) => Ok(Some(place)),

@@ -92,7 +92,7 @@ fn plan_shown(alloc: Global, plan: &Plan) -> Result<String, Fail> {
 }
 
 /// What is answered for a text, as a row shows it.
-fn shown(alloc: Global, text: &[u8]) -> Result<String, Fail> {
+fn text_of_plan(alloc: Global, text: &[u8]) -> Result<String, Fail> {
     match read_plan(alloc, text) {
         Ok(plan) => plan_shown(alloc, &plan),
         Err(error) => Ok(format!(in alloc; "{error:?}")?),
@@ -103,7 +103,7 @@ fn shown(alloc: Global, text: &[u8]) -> Result<String, Fail> {
 fn first_broken(alloc: Global, rows: &[(&[u8], &str)]) -> Result<Option<usize>, Fail> {
     for i in 0..rows.len() {
         let (text, wanted) = rows[i];
-        if shown(alloc, text)?.as_str() != wanted {
+        if text_of_plan(alloc, text)?.as_str() != wanted {
             return Ok(Some(i));
         }
     }
@@ -206,7 +206,7 @@ fn line_ends(rt: HostRuntime) -> Result<(), Fail> {
 }
 
 /// A line, so many times.
-fn repeated(alloc: Global, line: &str, times: usize) -> Result<String, Fail> {
+fn line_repeated(alloc: Global, line: &str, times: usize) -> Result<String, Fail> {
     let mut text = String::new(alloc);
     for _ in 0..times {
         text.push_str(line)?;
@@ -216,8 +216,8 @@ fn repeated(alloc: Global, line: &str, times: usize) -> Result<String, Fail> {
 
 /// What is answered for a line, so many times.
 fn shown_of_many(alloc: Global, line: &str, times: usize) -> Result<String, Fail> {
-    let text = repeated(alloc, line, times)?;
-    shown(alloc, text.as_bytes())
+    let text = line_repeated(alloc, line, times)?;
+    text_of_plan(alloc, text.as_bytes())
 }
 
 // lines, how often they stand, and what is answered

@@ -29,6 +29,6 @@ abbrev pub locals_in : Option Entry → ℕ
 locals_in None = 0
 locals_in (Some e) = e.max_locals
 
-abbrev pub moved : ℕ → Option Entry → Option Entry
-moved place None = None
-moved place (Some e) = Some (record e { place = place })
+abbrev pub entry_moved : ℕ → Option Entry → Option Entry
+entry_moved place None = None
+entry_moved place (Some e) = Some (record e { place = place })

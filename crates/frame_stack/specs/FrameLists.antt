@@ -191,9 +191,9 @@ with_result None operands = operands
 with_result (Some v) operands = v ∷ operands
 
 -- the top frame is off, and the one below it goes on at a place with what is given
-abbrev pub given : Option Value → ℕ → List PlacedFrame → List PlacedFrame
-given v place (f ∷ g ∷ fs) = record g { place = place; operands = with_result v g.operands } ∷ fs
-given v place _ = []
+abbrev pub result_given : Option Value → ℕ → List PlacedFrame → List PlacedFrame
+result_given v place (f ∷ g ∷ fs) = record g { place = place; operands = with_result v g.operands } ∷ fs
+result_given v place _ = []
 
 abbrev pub with_given : Option Value → ℕ → FramesView → FramesView
-with_given v place s = record { frames = given v place s.frames; room = None }
+with_given v place s = record { frames = result_given v place s.frames; room = None }

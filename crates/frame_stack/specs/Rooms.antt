@@ -5,12 +5,12 @@ use Rattle.heap_objects.specs.declared.Value.TheVariants.{Int, Long, Ref, Addr}
 use Rattle.frame_stack.specs.declared.room.Slot.{Slot}
 use Rattle.frame_stack.specs.declared.room.Slot.TheVariants as slot
 
-abbrev pub shown : Slot → Option Value
-shown slot.Empty = None
-shown (slot.Int n) = Some (Int n)
-shown (slot.Long n) = Some (Long n)
-shown (slot.Reference n) = Some (Ref n)
-shown (slot.Address n) = Some (Addr n)
+abbrev pub slot_shown : Slot → Option Value
+slot_shown slot.Empty = None
+slot_shown (slot.Int n) = Some (Int n)
+slot_shown (slot.Long n) = Some (Long n)
+slot_shown (slot.Reference n) = Some (Ref n)
+slot_shown (slot.Address n) = Some (Addr n)
 
 -- slots up to an end, in what a vector can hold
 pub record AreUpTo (end : ℕ) (raw : List Slot) : Type 0 where

@@ -3,7 +3,7 @@
 ghost use Rattle.std.specs.Prelude.{◌≡◌, ◌≤◌, ◌<◌, ◌+◌, ◌^◌, ◌++◌, [], ◌∷◌};
 ghost use Rattle.std.specs.Prelude.{Some, None, OnOk, length, take, slice_get, slice_set};
 ghost use Rattle.std.specs.Option.{option_flatten};
-ghost use Rattle.frame_stack.specs.Rooms.{shown, int_in, reference_in};
+ghost use Rattle.frame_stack.specs.Rooms.{slot_shown, int_in, reference_in};
 ghost use Rattle.frame_stack.specs.Widths.{slots_of, width};
 
 use crate::width::{is_long, width};
@@ -24,8 +24,8 @@ pub enum Slot {
 
 /// The value in a slot.
 #[inline(always)]
-fn shown(slot: Slot) -> Option<Value>
-    ensures { result ≡ shown slot }
+fn slot_shown(slot: Slot) -> Option<Value>
+    ensures { result ≡ slot_shown slot }
 {
     match slot {
         Slot::Empty => None,
@@ -39,7 +39,7 @@ fn shown(slot: Slot) -> Option<Value>
 /// A slot with a value.
 #[inline(always)]
 fn slot_of(value: Value) -> Slot
-    ensures { shown result ≡ Some value }
+    ensures { slot_shown result ≡ Some value }
 {
     match value {
         Value::Int(n) => Slot::Int(n),
@@ -58,12 +58,12 @@ pub struct Room {
 
 impl Model for Room {
     ghost use Rattle.std.specs.Prelude.{length, map, take};
-    ghost use Rattle.frame_stack.specs.Rooms.{RoomView, AreUpTo, shown};
+    ghost use Rattle.frame_stack.specs.Rooms.{RoomView, AreUpTo, slot_shown};
 
     ghost Value = { RoomView };
 
     ghost view = { λ r. record {
-      items = map shown (take r.end r.raw.items);
+      items = map slot_shown (take r.end r.raw.items);
       capacity = length r.raw.items;
     } };
 
@@ -97,7 +97,7 @@ impl Room {
         requires { at < length self.now.items }
         ensures { result ≡ option_flatten (slice_get self.now.items at) }
     {
-        shown(self.raw[at])
+        slot_shown(self.raw[at])
     }
 
     /// The int in a slot.
@@ -161,7 +161,7 @@ impl Room {
     #[inline(always)]
     pub fn push(&mut self, slot: Slot)
         requires { length self.old.items < self.old.capacity }
-        ensures items { self.new.items ≡ self.old.items ++ shown slot ∷ [] }
+        ensures items { self.new.items ≡ self.old.items ++ slot_shown slot ∷ [] }
         ensures capacity { self.new.capacity ≡ self.old.capacity }
     {
         self.raw[self.end] = slot;

@@ -2,7 +2,7 @@
 
 ghost use Rattle.std.specs.Prelude.{◌≡◌, ◌<◌, ◌+◌, ◌^◌, Some, None, is_some};
 ghost use Rattle.frame_stack.specs.Cuts.{limit, top_floor, top_limit};
-ghost use Rattle.frame_stack.specs.Entries.{place_in, moved, locals_in, base_in};
+ghost use Rattle.frame_stack.specs.Entries.{place_in, entry_moved, locals_in, base_in};
 
 use crate::entry::Entry;
 use std::marker::Model;
@@ -133,7 +133,7 @@ impl Top {
     #[inline(always)]
     pub fn go(&mut self, place: u16) -> bool
         ensures answer { result ≡ is_some self.old }
-        ensures frame { self.new ≡ moved place self.old }
+        ensures frame { self.new ≡ entry_moved place self.old }
     {
         if !self.live {
             return false;

@@ -5,7 +5,7 @@ use Rattle.std.specs.Int.{w8, w16, cast_signed}
 use Rattle.code_model.specs.declared.instr.Arg.{Arg}
 use Rattle.code_model.specs.declared.instr.Arg.TheVariants as arg
 use Rattle.code_model.specs.declared.instr.Instr.{Instr}
-use Rattle.code_model.specs.Operands.{reached}
+use Rattle.code_model.specs.Operands.{target_reached}
 use Rattle.program_gen.specs.declared.rows.Instruction.{Instruction}
 use Rattle.program_gen.specs.declared.rows.Instruction.TheVariants.{Plain, Byte, Short, OfClass, OfMember}
 
@@ -23,7 +23,7 @@ size_of _ = 3
 
 -- ifgt has the one target
 abbrev pub short_arg : ℕ → ℕ → ℕ → Arg
-short_arg at op operand = if op == 157 then arg.Target (reached at (cast_signed w16 operand)) else arg.Value (cast_signed w16 operand)
+short_arg at op operand = if op == 157 then arg.Target (target_reached at (cast_signed w16 operand)) else arg.Value (cast_signed w16 operand)
 
 abbrev pub arg_of : ℕ → Instruction → ℕ → Arg
 arg_of at (Plain op) index = arg.Plain

@@ -8,9 +8,9 @@ use Rattle.plan_text.specs.declared.plan.Action.{Action}
 use Rattle.plan_text.specs.declared.plan.Plan.{Plan}
 use Rattle.jvm_model.specs.declared.event.Act.{Act}
 use Rattle.jvm_model.specs.declared.program.Program.{Program}
-use Rattle.jvm_model.specs.Basis.Programs.{numbered}
+use Rattle.jvm_model.specs.Basis.Programs.{methods_numbered}
 use Rattle.jvm_model.specs.Soundness.SoundPrograms.{main_in}
-use Rattle.program_gen.specs.Generated.{generated}
+use Rattle.program_gen.specs.Generated.{classes_generated}
 use Rattle.program_gen.specs.Making.{class_file_of}
 use Rattle.program_gen.specs.Programs.{main_row, program_rows, rows_below}
 use Rattle.program_gen.proofs.GeneratedFacts.{generated-count}
@@ -26,23 +26,23 @@ each-append : {A : Type 0} (P : A → Type 0) (xs ys : List A) → AllByRecursio
 each-append P [] ys first second = second
 each-append P (x ∷ xs) ys first second = (first.0, each-append P xs ys first.1 second)
 
-few-numbered : (seed size : ℕ) → 1 ≤ size → size ≤ 200 → length (numbered (generated seed size ++ built_in_files)) ≤ 32768
+few-numbered : (seed size : ℕ) → 1 ≤ size → size ≤ 200 → length (methods_numbered (classes_generated seed size ++ built_in_files)) ≤ 32768
 few-numbered seed size some most =
     let own = generated-few (program_rows seed size) (rows-fine seed size some most) in
-    let few = numbered-few 0 (generated seed size ++ built_in_files) (each-append HasFewMethods (generated seed size) built_in_files own built_in-few) in
-    omega (arith, few, length-append (generated seed size) built_in_files, generated-count seed size, built_in-count)
+    let few = numbered-few 0 (classes_generated seed size ++ built_in_files) (each-append HasFewMethods (classes_generated seed size) built_in_files own built_in-few) in
+    omega (arith, few, length-append (classes_generated seed size) built_in_files, generated-count seed size, built_in-count)
 
 count-fine : (seed size : ℕ) (plan : Plan) → 1 ≤ size → size ≤ 200 → count_fault (generated_program seed size plan) ≡ None
-count-fine seed size plan some most = rw (le-ltb 32768 (length (numbered (generated seed size ++ built_in_files))) (few-numbered seed size some most)) refl
+count-fine seed size plan some most = rw (le-ltb 32768 (length (methods_numbered (classes_generated seed size ++ built_in_files))) (few-numbered seed size some most)) refl
 
-main-is : (seed size : ℕ) (plan : Plan) → 1 ≤ size → size ≤ 200 → main_in (generated_program seed size plan) (length (generated seed size)) main_name ≡ Some 0
+main-is : (seed size : ℕ) (plan : Plan) → 1 ≤ size → size ≤ 200 → main_in (generated_program seed size plan) (length (classes_generated seed size)) main_name ≡ Some 0
 main-is seed size plan some most =
     let first = (rows-fine seed size some most).0 in
-    main-found (generated_program seed size plan) (class_file_of main_row) (map class_file_of (rows_below seed size size) ++ built_in_files) (length (generated seed size))
+    main-found (generated_program seed size plan) (class_file_of main_row) (map class_file_of (rows_below seed size size) ++ built_in_files) (length (classes_generated seed size))
     (omega (arith, generated-count seed size))
     (record { classes = refl; methods = refl; named = first.well.named; members = first.well.members; fine = first.fine.methods })
 
-pub generated-admitted : (seed size : ℕ) (plan : Plan) → 1 ≤ size → size ≤ 200 → admission_of (generated seed size) main_name plan ≡ admission_of_generated seed size plan
+pub generated-admitted : (seed size : ℕ) (plan : Plan) → 1 ≤ size → size ≤ 200 → admission_of (classes_generated seed size) main_name plan ≡ admission_of_generated seed size plan
 unfolding admission_of
 generated-admitted seed size plan some most =
     rw (generated-fine seed size some most, count-fine seed size plan some most, main-is seed size plan some most) refl

@@ -10,7 +10,7 @@ use Rattle.program_gen.specs.declared.rows.Choices.{Choices}
 use Rattle.program_gen.specs.declared.rows.ClassRow.{ClassRow}
 use Rattle.program_gen.specs.Draws.{next_state, number_of, state_at, draw_at, choices_of}
 use Rattle.program_gen.specs.Fits.{FitsClass}
-use Rattle.program_gen.specs.Generated.{AreDistinct, IsOwnName, generated, names_of}
+use Rattle.program_gen.specs.Generated.{AreDistinct, IsOwnName, classes_generated, names_of}
 use Rattle.program_gen.specs.Making.{class_file_of}
 use Rattle.program_gen.specs.Members.{HasCodeOf, IsMethodOf}
 use Rattle.program_gen.specs.Names.{class_text}
@@ -147,7 +147,7 @@ none-of (row ∷ rows) names earlier have fine distinct own unlike =
     rw here (none-of rows (names ++ name ∷ []) (earlier ++ c ∷ []) (zip-push names earlier name c have named) fine.1 distinct.1 own.1
     (unlike-push names name (names_of rows) unlike.1 distinct.0))
 
-pub generated-fine : (seed size : ℕ) → 1 ≤ size → size ≤ 200 → classes_fault [] (generated seed size) ≡ None
+pub generated-fine : (seed size : ℕ) → 1 ≤ size → size ≤ 200 → classes_fault [] (classes_generated seed size) ≡ None
 generated-fine seed size some most =
     let names = own-names seed size most in
     none-of (program_rows seed size) [] [] tt (rows-fine seed size some most) names.distinct names.own (none-yet (names_of (program_rows seed size)))

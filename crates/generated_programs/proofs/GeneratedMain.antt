@@ -8,7 +8,7 @@ use Rattle.const_pool.specs.declared.class.ClassFile.{ClassFile}
 use Rattle.const_pool.specs.declared.class.Member.{Member}
 use Rattle.jvm_model.specs.declared.program.Program.{Program}
 use Rattle.jvm_model.specs.Basis.Descriptors.{same_text}
-use Rattle.jvm_model.specs.Basis.Programs.{class_named, has_name, number_of_method, number_from, numbered}
+use Rattle.jvm_model.specs.Basis.Programs.{class_named, has_name, number_of_method, number_from, methods_numbered}
 use Rattle.jvm_model.specs.Soundness.SoundPrograms.{declared_main, main_of_class, main_in}
 use Rattle.program_gen.specs.Generated.{IsNamedBy}
 use Rattle.program_gen.specs.Members.{HasMembersOf, IsMethodOf}
@@ -19,7 +19,7 @@ use Rattle.generated_programs.proofs.FineMethods.{IsFineMethod}
 -- a program whose first class is the one of this row
 pub record HasEntry (p : Program) (c : ClassFile) (rest : List ClassFile) : Type 0 where
   pub classes : p.classes ≡ c ∷ rest
-  pub methods : p.methods ≡ numbered p.classes
+  pub methods : p.methods ≡ methods_numbered p.classes
   pub named : IsNamedBy main_row c
   pub members : HasMembersOf main_row c
   pub fine : AllByRecursion (IsFineMethod c.pool) c.methods
@@ -33,7 +33,7 @@ declared-first c (m ∷ []) is of_row =
 declared-first c (m ∷ n ∷ ms) is of_row = absurd of_row.1
 
 numbered-first : (c : ClassFile) (rest : List ClassFile) (ms : List Member) → c.methods ≡ ms → AllZip (IsMethodOf c.pool) (entry_method ∷ []) ms → AllByRecursion (IsFineMethod c.pool) ms
-    → number_from 0 0 0 (numbered (c ∷ rest)) ≡ Some 0
+    → number_from 0 0 0 (methods_numbered (c ∷ rest)) ≡ Some 0
 numbered-first c rest [] is of_row fine = absurd of_row
 numbered-first c rest (m ∷ ms) is of_row fine = rw (is, fine.0.coded) refl
 
@@ -42,7 +42,7 @@ main-of-first p c rest h =
     let there : slice_get p.classes 0 ≡ Some c = ap (λ cs. slice_get cs 0) h.classes in
     let declared = declared-first c c.methods refl h.members.methods in
     let number : number_of_method p 0 0 ≡ Some 0 =
-    ap (number_from 0 0 0) (h.methods ∙ ap numbered h.classes) ∙ numbered-first c rest c.methods refl h.members.methods h.fine in
+    ap (number_from 0 0 0) (h.methods ∙ ap methods_numbered h.classes) ∙ numbered-first c rest c.methods refl h.members.methods h.fine in
     ap (λ o. option_and_then (λ c. option_and_then (number_of_method p 0) (declared_main c)) o) there
     ∙ ap (λ o. option_and_then (number_of_method p 0) o) declared ∙ number
 

@@ -7,7 +7,7 @@ use Rattle.op_table.specs.declared.Form.TheVariants as form
 use Rattle.code_model.specs.declared.instr.Arg.{Arg}
 use Rattle.code_model.specs.declared.instr.Arg.TheVariants as arg
 use Rattle.code_model.specs.Formats.{number}
-use Rattle.code_model.specs.Operands.{instr_with, operand, signed, target, reached, is_wide}
+use Rattle.code_model.specs.Operands.{instr_with, operand, number_signed, target, target_reached, is_wide}
 use Rattle.code_model.specs.Reading.{read_instruction}
 use Rattle.code_model.proofs.Again.{instr_of_operand, made_of, number_again, short_again, back16}
 use Rattle.code_model.proofs.OperandLaws.{instruction_is_read}
@@ -25,19 +25,19 @@ read-plain at op rest has = read-form form.Plain at op [] rest arg.Plain has ref
 pub read-byte : (at op n : ℕ) (rest : List ℕ) → (row_of op).form ≡ form.Byte → read_instruction at (op ∷ n ∷ rest) ≡ Ok (instr_with at false op (arg.Value (cast_signed w8 n)), rest)
 read-byte at op n rest has =
     read-form form.Byte at op (n ∷ []) rest (arg.Value (cast_signed w8 n)) has refl
-    (made_of (signed at w8) arg.Value (n ∷ []) (cast_signed w8 n) (made_of (number at w8) (cast_signed w8) (n ∷ []) n (refl, refl)))
+    (made_of (number_signed at w8) arg.Value (n ∷ []) (cast_signed w8 n) (made_of (number at w8) (cast_signed w8) (n ∷ []) n (refl, refl)))
 
 pub read-short : (at op n : ℕ) (rest : List ℕ) → (row_of op).form ≡ form.Short → n < 2 ^ 16
     → read_instruction at (op ∷ to_be_bytes w16 n ++ rest) ≡ Ok (instr_with at false op (arg.Value (cast_signed w16 n)), rest)
 read-short at op n rest has small =
     read-form form.Short at op (to_be_bytes w16 n) rest (arg.Value (cast_signed w16 n)) has refl
-    (made_of (signed at w16) arg.Value (to_be_bytes w16 n) (cast_signed w16 n) (short_again at n small))
+    (made_of (number_signed at w16) arg.Value (to_be_bytes w16 n) (cast_signed w16 n) (short_again at n small))
 
 pub read-jump : (at op n : ℕ) (rest : List ℕ) → (row_of op).form ≡ form.Jump → n < 2 ^ 16
-    → read_instruction at (op ∷ to_be_bytes w16 n ++ rest) ≡ Ok (instr_with at false op (arg.Target (reached at (cast_signed w16 n))), rest)
+    → read_instruction at (op ∷ to_be_bytes w16 n ++ rest) ≡ Ok (instr_with at false op (arg.Target (target_reached at (cast_signed w16 n))), rest)
 read-jump at op n rest has small =
-    read-form form.Jump at op (to_be_bytes w16 n) rest (arg.Target (reached at (cast_signed w16 n))) has refl
-    (made_of (target at w16) arg.Target (to_be_bytes w16 n) (reached at (cast_signed w16 n)) (made_of (signed at w16) (reached at) (to_be_bytes w16 n) (cast_signed w16 n) (short_again at n small)))
+    read-form form.Jump at op (to_be_bytes w16 n) rest (arg.Target (target_reached at (cast_signed w16 n))) has refl
+    (made_of (target at w16) arg.Target (to_be_bytes w16 n) (target_reached at (cast_signed w16 n)) (made_of (number_signed at w16) (target_reached at) (to_be_bytes w16 n) (cast_signed w16 n) (short_again at n small)))
 
 pub read-pool : (at op index : ℕ) (rest : List ℕ) → (row_of op).form ≡ form.Pool → index < 2 ^ 16
     → read_instruction at (op ∷ to_be_bytes w16 index ++ rest) ≡ Ok (instr_with at false op (arg.Pool index), rest)

@@ -4,7 +4,7 @@ ghost use Rattle.std.specs.Prelude.{◌≡◌, ◌<◌, ◌≤◌, ◌^◌, leng
 ghost use Rattle.std.specs.List.{AllByRecursion};
 ghost use Rattle.const_pool.specs.ClassFile.{IsClassFile, class_bytes};
 ghost use Rattle.jvm_model.specs.Soundness.SoundPrograms.{IsHeapLimit};
-ghost use Rattle.program_gen.specs.Generated.{generated};
+ghost use Rattle.program_gen.specs.Generated.{classes_generated};
 ghost use Rattle.admit_check.specs.Admission.{IsAdmittedProgram};
 ghost use Rattle.generated_programs.specs.Admitted.{AreGeneratedFiles, NamesNoMethod, IsRefusedFor};
 ghost use Rattle.generated_programs.specs.Admitted.{admission_of_generated, generated_contents};
@@ -57,13 +57,13 @@ fn admit_classes(
 ) -> Result<Program, AdmitError>
     requires some { 1 ≤ size }
     requires most { size ≤ 200 }
-    requires classes { classes ≡ generated seed size }
+    requires classes { classes ≡ classes_generated seed size }
     requires formed { AllByRecursion IsClassFile classes }
     requires actions { length plan.now.actions < 2 ^ 32 }
     requires heap { IfSome plan.now.heap IsHeapLimit }
     ensures admitted { IfOk result (λ p. admission_of_generated seed size plan.now ≡ Ok p) }
     ensures refused { IfErr result (IsRefusedFor (admission_of_generated seed size plan.now)) }
-    ensures sound { IfOk result (IsAdmittedProgram (generated seed size) main_name) }
+    ensures sound { IfOk result (IsAdmittedProgram (classes_generated seed size) main_name) }
 {
     let main = class_text(alloc, ClassName::Main)?;
     admit(alloc, classes, &main, plan)
@@ -85,7 +85,8 @@ pub fn admit_generated(
     ensures files { IfOk result (λ g. AreGeneratedFiles seed size g.contents) }
     ensures admitted { IfOk result (λ g. admission_of_generated seed size plan.now ≡ Ok g.program) }
     ensures refused { IfErr result (IsRefusedFor (admission_of_generated seed size plan.now)) }
-    ensures sound { IfOk result (λ g. IsAdmittedProgram (generated seed size) main_name g.program) }
+    ensures sound { IfOk result
+        (λ g. IsAdmittedProgram (classes_generated seed size) main_name g.program) }
     ensures only { IfErr result NamesNoMethod }
 {
     let classes = generate(alloc, seed, size)?;

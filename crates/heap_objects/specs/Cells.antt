@@ -4,7 +4,7 @@ use Rattle.heap_objects.specs.declared.datum.Datum.{Datum}
 use Rattle.heap_objects.specs.declared.datum.Datum.TheVariants.{Int, Long, Ref}
 use Rattle.heap_objects.specs.declared.element.Element.{Element}
 use Rattle.heap_objects.specs.declared.element.Element.TheVariants.{Boolean, Char, Byte, Short, Int as IntElement, Long as LongElement, Reference, Any}
-use Rattle.heap_objects.specs.Kept.{kept}
+use Rattle.heap_objects.specs.Kept.{element_kept}
 use Rattle.heap_objects.specs.declared.cells.Cells.{Cells}
 use Rattle.heap_objects.specs.declared.cells.Cells.TheVariants.{Booleans, Chars, Bytes, Shorts, Ints, Longs, References, Data}
 
@@ -46,4 +46,4 @@ element_in (Data v) = Any
 
 -- the values with one put into an element, which keeps of it what the cells are made for
 abbrev pub data_with : ℕ → Datum → Cells → List Datum
-data_with slot v cells = slice_set (data_in cells) slot (kept (element_in cells) v)
+data_with slot v cells = slice_set (data_in cells) slot (element_kept (element_in cells) v)

@@ -9,7 +9,7 @@ use Rattle.heap_objects.specs.declared.error.HeapError.{HeapError}
 use Rattle.heap_objects.specs.declared.error.HeapError.TheVariants.{HeapFull}
 use Rattle.heap_objects.specs.Objects.{kind_of, length_of, cost_of, total_cost, slots_of, units_of, kept_by, has_slot, has_unit, with_slot, with_unit, with_units, with_more_units, object_at, changed_at}
 use Rattle.heap_objects.specs.Kinds.{element_of}
-use Rattle.heap_objects.specs.Kept.{kept}
+use Rattle.heap_objects.specs.Kept.{element_kept}
 use Rattle.heap_objects.specs.Interning.{number_of, with_number}
 
 pub record HeapView : Type 0 where
@@ -65,7 +65,7 @@ with_object o h = record h { used = h.used + cost_of o; objects = h.objects ++ o
 
 -- an array whose elements all have what they keep of a value
 abbrev pub new_array : ℕ → Datum → ℕ → Object
-new_array kind zero len = Array (record { kind = kind; items = replicate len (kept (element_of kind) zero) })
+new_array kind zero len = Array (record { kind = kind; items = replicate len (element_kept (element_of kind) zero) })
 
 abbrev pub with_instance : ℕ → List Datum → HeapView → HeapView
 with_instance kind fields h = with_object (Instance kind fields) h

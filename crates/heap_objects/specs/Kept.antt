@@ -25,12 +25,12 @@ reference_of (Long n) = 0
 reference_of (Ref r) = r
 
 -- what an element of this sort keeps of a value
-abbrev pub kept : Element → Datum → Datum
-kept Boolean v = Int (pos (cast_unsigned w32 (int_of v) % 2))
-kept Char v = Int (zero_extended w16 (int_of v))
-kept Byte v = Int (int_wrap w8 (int_of v))
-kept Short v = Int (int_wrap w16 (int_of v))
-kept IntElement v = Int (int_of v)
-kept LongElement v = Long (long_of v)
-kept Reference v = Ref (reference_of v)
-kept Any v = v
+abbrev pub element_kept : Element → Datum → Datum
+element_kept Boolean v = Int (pos (cast_unsigned w32 (int_of v) % 2))
+element_kept Char v = Int (zero_extended w16 (int_of v))
+element_kept Byte v = Int (int_wrap w8 (int_of v))
+element_kept Short v = Int (int_wrap w16 (int_of v))
+element_kept IntElement v = Int (int_of v)
+element_kept LongElement v = Long (long_of v)
+element_kept Reference v = Ref (reference_of v)
+element_kept Any v = v

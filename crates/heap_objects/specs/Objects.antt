@@ -5,7 +5,7 @@ use Rattle.heap_objects.specs.declared.datum.Datum.{Datum}
 use Rattle.heap_objects.specs.declared.object.Object.{Object}
 use Rattle.heap_objects.specs.declared.object.Object.TheVariants.{Instance, Array, Text}
 use Rattle.heap_objects.specs.Kinds.{element_of}
-use Rattle.heap_objects.specs.Kept.{kept}
+use Rattle.heap_objects.specs.Kept.{element_kept}
 use Rattle.heap_objects.specs.ArrayView.{with_element}
 
 abbrev pub kind_of : Object → ℕ
@@ -40,7 +40,7 @@ has_slot slot o = nat_lt slot (length (slots_of o))
 -- what a slot keeps of a value that is put into it: a field all, an element what elements of the array's kind keep
 abbrev pub kept_by : Object → Datum → Datum
 kept_by (Instance kind fields) v = v
-kept_by (Array a) v = kept (element_of a.kind) v
+kept_by (Array a) v = element_kept (element_of a.kind) v
 kept_by (Text kind units) v = v
 
 -- a value was put into a slot

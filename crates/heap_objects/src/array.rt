@@ -2,7 +2,7 @@
 
 ghost use Rattle.std.specs.Prelude.{◌≡◌, ◌<◌, Some, IfOk, IfSome, length, replicate, slice_get};
 ghost use Rattle.heap_objects.specs.Kinds.{element_of};
-ghost use Rattle.heap_objects.specs.Kept.{kept};
+ghost use Rattle.heap_objects.specs.Kept.{element_kept};
 ghost use Rattle.heap_objects.specs.ArrayView.{with_element};
 
 use crate::cells::Cells;
@@ -40,7 +40,8 @@ impl ArrayObject {
         len: usize,
     ) -> Result<ArrayObject, AllocError>
         ensures kind { IfOk result (λ a. a.kind ≡ kind) }
-        ensures items { IfOk result (λ a. a.items ≡ replicate len (kept (element_of kind) zero)) }
+        ensures items { IfOk result
+            (λ a. a.items ≡ replicate len (element_kept (element_of kind) zero)) }
     {
         let cells = Cells::make(alloc, element_of(kind), zero, len)?;
         Ok(ArrayObject { kind, cells })
@@ -63,7 +64,7 @@ impl ArrayObject {
     /// The value of an element, where there is one. It is one that elements of the array's kind keep whole.
     pub fn get(&self, slot: usize) -> Option<Datum>
         ensures found { result ≡ slice_get self.now.items slot }
-        ensures whole { IfSome result (λ v. kept (element_of self.now.kind) v ≡ v) }
+        ensures whole { IfSome result (λ v. element_kept (element_of self.now.kind) v ≡ v) }
     {
         self.cells.get(slot)
     }

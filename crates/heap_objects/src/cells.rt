@@ -1,7 +1,7 @@
 //! The values of an array, each as narrow as its elements.
 
 ghost use Rattle.std.specs.Prelude.{◌≡◌, ◌<◌, Some, IfOk, IfSome, length, slice_get, replicate};
-ghost use Rattle.heap_objects.specs.Kept.{kept};
+ghost use Rattle.heap_objects.specs.Kept.{element_kept};
 ghost use Rattle.heap_objects.specs.Cells.{bit_datum, data_in, data_with, element_in};
 
 use crate::datum::Datum;
@@ -24,7 +24,7 @@ pub enum Cells {
 }
 
 /// So many of one value.
-fn filled<T: Copy>(alloc: Global, value: T, len: usize) -> Result<Vec<T>, AllocError>
+fn cells_filled<T: Copy>(alloc: Global, value: T, len: usize) -> Result<Vec<T>, AllocError>
     ensures { IfOk result (λ v. v.items ≡ replicate len value) }
 {
     let mut items = Vec::with_capacity(alloc, len)?;
@@ -42,7 +42,7 @@ fn item<T: Copy>(items: &[T], place: usize) -> Option<T>
 /// A boolean as the int that stands for it: 1 for true, 0 for false (JVM Specification 2.3.4).
 fn bit_datum(bit: bool) -> Datum
     ensures value { result ≡ bit_datum bit }
-    ensures whole { kept Element.Boolean result ≡ result }
+    ensures whole { element_kept Element.Boolean result ≡ result }
 {
     Datum::Int(if bit { 1 } else { 0 })
 }
@@ -55,18 +55,26 @@ impl Cells {
         zero: Datum,
         len: usize,
     ) -> Result<Cells, AllocError>
-        ensures data { IfOk result (λ c. data_in c ≡ replicate len (kept element zero)) }
+        ensures data { IfOk result (λ c. data_in c ≡ replicate len (element_kept element zero)) }
         ensures element { IfOk result (λ c. element_in c ≡ element) }
     {
         match element {
-            Element::Boolean => Ok(Cells::Booleans(filled(alloc, lowest_bit(int_of(zero)), len)?)),
-            Element::Char => Ok(Cells::Chars(filled(alloc, low_char(int_of(zero)), len)?)),
-            Element::Byte => Ok(Cells::Bytes(filled(alloc, low_byte(int_of(zero)), len)?)),
-            Element::Short => Ok(Cells::Shorts(filled(alloc, low_short(int_of(zero)), len)?)),
-            Element::Int => Ok(Cells::Ints(filled(alloc, int_of(zero), len)?)),
-            Element::Long => Ok(Cells::Longs(filled(alloc, long_of(zero), len)?)),
-            Element::Reference => Ok(Cells::References(filled(alloc, reference_of(zero), len)?)),
-            Element::Any => Ok(Cells::Data(filled(alloc, zero, len)?)),
+            Element::Boolean => Ok(Cells::Booleans(cells_filled(
+                alloc,
+                lowest_bit(int_of(zero)),
+                len,
+            )?)),
+            Element::Char => Ok(Cells::Chars(cells_filled(alloc, low_char(int_of(zero)), len)?)),
+            Element::Byte => Ok(Cells::Bytes(cells_filled(alloc, low_byte(int_of(zero)), len)?)),
+            Element::Short => Ok(Cells::Shorts(cells_filled(alloc, low_short(int_of(zero)), len)?)),
+            Element::Int => Ok(Cells::Ints(cells_filled(alloc, int_of(zero), len)?)),
+            Element::Long => Ok(Cells::Longs(cells_filled(alloc, long_of(zero), len)?)),
+            Element::Reference => Ok(Cells::References(cells_filled(
+                alloc,
+                reference_of(zero),
+                len,
+            )?)),
+            Element::Any => Ok(Cells::Data(cells_filled(alloc, zero, len)?)),
         }
     }
 
@@ -89,7 +97,7 @@ impl Cells {
     /// The value of an element, where there is one. It is one that the elements keep whole.
     pub fn get(&self, slot: usize) -> Option<Datum>
         ensures found { result ≡ slice_get (data_in self.now) slot }
-        ensures whole { IfSome result (λ v. kept (element_in self.now) v ≡ v) }
+        ensures whole { IfSome result (λ v. element_kept (element_in self.now) v ≡ v) }
     {
         match self {
             Cells::Booleans(v) => {

@@ -51,7 +51,7 @@ impl Model for Heap {
 }
 
 /// How many slots are used with so many more, where the limit allows.
-fn charged(limit: u32, used: u32, asked: usize) -> Option<u32>
+fn slots_charged(limit: u32, used: u32, asked: usize) -> Option<u32>
     requires { used ≤ limit }
     ensures { result ≡ (if nat_le (used + asked) limit then Some (used + asked) else None) }
 {
@@ -107,7 +107,7 @@ impl Heap {
     pub fn has_room(&self, asked: usize) -> bool
         ensures { result ≡ nat_le (self.now.used + asked) self.now.limit }
     {
-        charged(self.limit, self.used, asked).is_some()
+        slots_charged(self.limit, self.used, asked).is_some()
     }
 
     #[inline(always)]
@@ -196,7 +196,7 @@ impl Heap {
         ensures heap { self.new
             ≡ changed_if (is_ok result) (with_instance kind fields.now) self.old }
     {
-        let Some(used) = charged(self.limit, self.used, 1 + fields.len()) else {
+        let Some(used) = slots_charged(self.limit, self.used, 1 + fields.len()) else {
             return Err(HeapError::HeapFull);
         };
         let own = Seq::from_slice(self.alloc, fields)?;
@@ -211,7 +211,7 @@ impl Heap {
         ensures number { IfOk result (λ n. n ≡ next_number self.old) }
         ensures heap { self.new ≡ changed_if (is_ok result) (with_array kind zero len) self.old }
     {
-        let Some(used) = charged(self.limit, self.used, 1 + len as usize) else {
+        let Some(used) = slots_charged(self.limit, self.used, 1 + len as usize) else {
             return Err(HeapError::HeapFull);
         };
         let array = ArrayObject::make(self.alloc, kind, zero, len as usize)?;
@@ -225,7 +225,7 @@ impl Heap {
         ensures number { IfOk result (λ n. n ≡ next_number self.old) }
         ensures heap { self.new ≡ changed_if (is_ok result) (with_text kind units.now) self.old }
     {
-        let Some(used) = charged(self.limit, self.used, 1 + units.len()) else {
+        let Some(used) = slots_charged(self.limit, self.used, 1 + units.len()) else {
             return Err(HeapError::HeapFull);
         };
         let own = Seq::from_slice(self.alloc, units)?;
@@ -239,7 +239,7 @@ impl Heap {
         ensures number { IfOk result (λ n. n ≡ next_number self.old) }
         ensures heap { self.new ≡ changed_if (is_ok result) (with_text kind units) self.old }
     {
-        let Some(used) = charged(self.limit, self.used, 1 + units.len()) else {
+        let Some(used) = slots_charged(self.limit, self.used, 1 + units.len()) else {
             return Err(HeapError::HeapFull);
         };
         let number = self.add(Object::Text(kind, units), used)?;
@@ -255,7 +255,7 @@ impl Heap {
         ensures heap { self.new
             ≡ changed_if (is_ok result) (with_interned kind units.now) self.old }
     {
-        let Some(used) = charged(self.limit, self.used, 1 + units.len()) else {
+        let Some(used) = slots_charged(self.limit, self.used, 1 + units.len()) else {
             return Err(HeapError::HeapFull);
         };
         let own = Seq::from_slice(self.alloc, units)?;
@@ -327,7 +327,7 @@ impl Heap {
         ensures heap { self.new
             ≡ changed_if (is_ok result) (with_units_added object units.now) self.old }
     {
-        let Some(used) = charged(self.limit, self.used, units.len()) else {
+        let Some(used) = slots_charged(self.limit, self.used, units.len()) else {
             return Err(HeapError::HeapFull);
         };
         append_at(&mut self.objects, object as usize - 1, units)?;
@@ -345,7 +345,7 @@ impl Heap {
     {
         let before = self.len(object).unwrap_or(0) as usize;
         let grown = units.len().saturating_sub(before);
-        let Some(used) = charged(self.limit, self.used, grown) else {
+        let Some(used) = slots_charged(self.limit, self.used, grown) else {
             return Err(HeapError::HeapFull);
         };
         replace_at(&mut self.objects, object as usize - 1, units);

@@ -7,7 +7,7 @@ use Rattle.std.proofs.lemmas.List.{length-append}
 use Rattle.const_pool.specs.declared.class.Raw.{Raw}
 use Rattle.const_pool.specs.declared.class.CodeAttribute.{CodeAttribute}
 use Rattle.const_pool.specs.declared.class.Handler.{Handler}
-use Rattle.const_pool.specs.ClassFile.{counted, raw_bytes, handler_bytes, code_bytes}
+use Rattle.const_pool.specs.ClassFile.{items_counted, raw_bytes, handler_bytes, code_bytes}
 use Rattle.code_model.specs.declared.laying.Homes.{Homes}
 use Rattle.inject_events.specs.declared.settings.Setting.{Setting}
 use Rattle.inject_events.specs.Tables.{moved_raw, lacks_frames, added_table, version_tables}
@@ -32,8 +32,8 @@ length-handlers (h ∷ hs) =
 
 pub length-code_bytes : (c : CodeAttribute) → length (code_bytes c) ≡ 12 + length c.code + 8 * length c.handlers + length (flat_map raw_bytes c.attributes)
 length-code_bytes c =
-    let tables = counted raw_bytes c.attributes in
-    let behind = counted handler_bytes c.handlers ++ tables in
+    let tables = items_counted raw_bytes c.attributes in
+    let behind = items_counted handler_bytes c.handlers ++ tables in
     let whole = length-append c.code behind in
     let handlers = length-append (flat_map handler_bytes c.handlers) tables in
     let eight = length-handlers c.handlers in

@@ -8,8 +8,8 @@ use Rattle.std.proofs.lemmas.Str.{IsUtf8-from_is_utf8, is_utf8-from_IsUtf8}
 use Rattle.command_line.specs.Raw.{AreTexts}
 use Rattle.std.proofs.lemmas.Option.{same_Some}
 use Rattle.command_line.proofs.Sound.{sound}
-use Rattle.command_line.specs.Words.{IsSound, Read, is_refused, is_taken, read_of, said}
-use Rattle.jfluid_cli.specs.Words.{accepted, is_allowed, AreClaps, AreRefused}
+use Rattle.command_line.specs.Words.{IsSound, Read, is_refused, is_taken, read_of, words_said}
+use Rattle.jfluid_cli.specs.Words.{words_accepted, is_allowed, AreClaps, AreRefused}
 
 all-utf8 : (words : List (List ℕ)) → AreTexts words → list_all is_utf8 words ≡ true
 all-utf8 [] texts = refl
@@ -40,10 +40,10 @@ failed true true true o (inr (inl e)) = absurd cc
 failed true true true o (inr (inr e)) = absurd cc
 
 pub accepted-read : (words : List (List ℕ)) (r : Read) → AreTexts words → is_taken words ≡ true
-    → is_refused (said words) ≡ false → r ≡ read_of (said words) → accepted words ≡ Some r
-unfolding accepted is_allowed
+    → is_refused (words_said words) ≡ false → r ≡ read_of (words_said words) → words_accepted words ≡ Some r
+unfolding words_accepted is_allowed
 accepted-read words r texts taken fine is =
-    passed (list_all is_utf8 words) (is_taken words) (not (is_refused (said words))) (read_of (said words)) r
+    passed (list_all is_utf8 words) (is_taken words) (not (is_refused (words_said words))) (read_of (words_said words)) r
     (all-utf8 words texts) taken (ap not fine) is
 
 -- the third test passed where something is read, and this is it
@@ -59,27 +59,27 @@ not-barred true e = absurd cc
 not-barred false e = refl
 
 -- what is read of accepted words is sound
-pub accepted-sound : (words : List (List ℕ)) (r : Read) → accepted words ≡ Some r → IsSound r
-unfolding accepted is_allowed
+pub accepted-sound : (words : List (List ℕ)) (r : Read) → words_accepted words ≡ Some r → IsSound r
+unfolding words_accepted is_allowed
 accepted-sound words r e =
-    let there = read-there (list_all is_utf8 words) (is_taken words) (not (is_refused (said words))) (read_of (said words)) r e in
-    subst IsSound there.1 (sound (said words) (not-barred (is_refused (said words)) there.0))
+    let there = read-there (list_all is_utf8 words) (is_taken words) (not (is_refused (words_said words))) (read_of (words_said words)) r e in
+    subst IsSound there.1 (sound (words_said words) (not-barred (is_refused (words_said words)) there.0))
 
-pub refused-rule : (words : List (List ℕ)) → is_taken words ≡ true → is_refused (said words) ≡ true → AreRefused words
+pub refused-rule : (words : List (List ℕ)) → is_taken words ≡ true → is_refused (words_said words) ≡ true → AreRefused words
 unfolding is_allowed
 refused-rule words taken refused = inr (taken, ap not refused)
 
-pub accepted-claps : (words : List (List ℕ)) → AreClaps words → accepted words ≡ None
-unfolding accepted
+pub accepted-claps : (words : List (List ℕ)) → AreClaps words → words_accepted words ≡ None
+unfolding words_accepted
 accepted-claps words claps =
-    failed (list_all is_utf8 words) (is_taken words) (is_allowed words) (Some (read_of (said words))) (inr (inl claps.1))
+    failed (list_all is_utf8 words) (is_taken words) (is_allowed words) (Some (read_of (words_said words))) (inr (inl claps.1))
 
-pub accepted-refused : (words : List (List ℕ)) → AreRefused words → accepted words ≡ None
-unfolding accepted
+pub accepted-refused : (words : List (List ℕ)) → AreRefused words → words_accepted words ≡ None
+unfolding words_accepted
 accepted-refused words (inl no_text) = elim (cases_Bool (list_all is_utf8 words)) [
   | inl utf8 ↦ absurd (no_text (all-texts words utf8))
   | inr other ↦
-      failed (list_all is_utf8 words) (is_taken words) (is_allowed words) (Some (read_of (said words))) (inl other)
+      failed (list_all is_utf8 words) (is_taken words) (is_allowed words) (Some (read_of (words_said words))) (inl other)
 ]
 accepted-refused words (inr (taken, barred)) =
-    failed (list_all is_utf8 words) (is_taken words) (is_allowed words) (Some (read_of (said words))) (inr (inr barred))
+    failed (list_all is_utf8 words) (is_taken words) (is_allowed words) (Some (read_of (words_said words))) (inr (inr barred))

@@ -13,7 +13,7 @@ use Rattle.jvm_model.specs.declared.program.Program.{Program}
 use Rattle.jvm_model.specs.Soundness.Calls.{AreFrom}
 use Rattle.jvm_model.specs.Soundness.SoundPrograms.{main_in}
 use Rattle.admit_check.specs.declared.error.AdmitError.{AdmitError}
-use Rattle.admit_check.specs.Admission.{IsAdmittedProgram, act_of, act_with, acts_from, admission_of, classes_fault, completed, count_fault, program_with, root_in, unless_fault, with_acts, with_main}
+use Rattle.admit_check.specs.Admission.{IsAdmittedProgram, act_of, act_with, acts_from, admission_of, classes_fault, program_completed, count_fault, program_with, root_in, unless_fault, with_acts, with_main}
 
 -- its first classes are those that were given
 pub first-classes : (classes : List ClassFile) (name : List ℕ) (p : Program) → IsAdmittedProgram classes name p
@@ -52,7 +52,7 @@ acts-found classes name plan p e =
     let given = length classes in
     main-ok whole plan (main_in whole given name) p
     (unless-ok (count_fault whole) (with_main whole plan (main_in whole given name)) p
-    (unless-ok (classes_fault [] classes) (completed whole given name plan) p e))
+    (unless-ok (classes_fault [] classes) (program_completed whole given name plan) p e))
 
 -- what becomes of an action
 abbrev pub IsActOf : Program → Action → Act → Type 0

@@ -16,16 +16,16 @@ use Rattle.plan_text.specs.declared.plan.LineCause.TheVariants as cause
 use Rattle.plan_text.specs.declared.plan.PlanError.{PlanError}
 use Rattle.plan_text.specs.declared.plan.PlanError.TheVariants as error
 use Rattle.plan_text.specs.declared.plan.RootName.{RootName}
-use Rattle.plan_text.specs.Lines.{IsActed, IsLine, IsOrdered, IsPlanRead, IsRead, IsSaid, IsTimed, IsWorded, halves, is_silent, lines_of, misplaced, most_bytes, most_said, order_of, same_root, selected_after, silent_plan, with_action, with_arg, with_budget, with_heap, with_main, with_placed, with_root, word_of}
+use Rattle.plan_text.specs.Lines.{IsActed, IsLine, IsOrdered, IsPlanRead, IsRead, IsSaid, IsTimed, IsWorded, halves, is_silent, lines_of, action_misplaced, most_bytes, most_said, order_of, same_root, selected_after, silent_plan, with_action, with_arg, with_budget, with_heap, with_main, with_placed, with_root, word_of}
 use Rattle.plan_text.specs.Numbers.{greatest_steps, heap_of, number_of}
 use Rattle.plan_text.specs.Plans.{plan_selecting}
-use Rattle.plan_text.specs.Roots.{slashed}
+use Rattle.plan_text.specs.Roots.{name_slashed}
 use Rattle.jf_bytes.specs.Unicode.{utf16_of}
 use Rattle.command_line.specs.Chosen.{IsOwnPlan}
 use Rattle.jvm_model.specs.declared.event.Act.{Act}
 use Rattle.jvm_model.specs.declared.program.Program.{Program}
 use Rattle.jvm_model.specs.Classes.Load.{is_among}
-use Rattle.jvm_model.specs.Profiling.Points.{chosen}
+use Rattle.jvm_model.specs.Profiling.Points.{methods_selected}
 use Rattle.admit_check.specs.Admission.{admission_of, root_in}
 use Rattle.jfluid_cli.specs.Actions.{Alternate, AlternateRoots, chosen_by}
 use Rattle.jfluid_cli.proofs.Admitted.{IsActOf, plan-acts, program_for}
@@ -61,7 +61,7 @@ abbrev IsFine : Answer → Type 0
 IsFine (Ok plan) = AlternateRoots [] plan.actions
 IsFine (Err fault) = Unit {0}
 
-placed-well : (earlier : List Action) (a : Action) (number : ℕ) → misplaced number earlier a ≡ None
+placed-well : (earlier : List Action) (a : Action) (number : ℕ) → action_misplaced number earlier a ≡ None
     → selected_after false a.root earlier ≡ not a.select
 placed-well earlier a number e =
     by (list_any (λ x. nat_lt a.moment x.moment) earlier) a.select (selected_after false a.root earlier) e
@@ -79,8 +79,8 @@ placed-well earlier a number e =
     by false false false e = absurd cc
 
 action-fine : (number : ℕ) (plan : Plan) (a : Action) → AlternateRoots [] plan.actions → IsFine (with_action number plan a)
-action-fine number plan a fine = by (misplaced number plan.actions a) refl where
-  by : (o : Option PlanError) → misplaced number plan.actions a ≡ o → IsFine (with_placed plan a o)
+action-fine number plan a fine = by (action_misplaced number plan.actions a) refl where
+  by : (o : Option PlanError) → action_misplaced number plan.actions a ≡ o → IsFine (with_placed plan a o)
   by (Some fault) e = tt
   by None e = one-behind [] plan.actions a fine (placed-well plan.actions a number e)
 
@@ -122,7 +122,7 @@ main-fine : (number : ℕ) (plan : Plan) (name : List ℕ) → AlternateRoots []
 main-fine number plan name fine = by (length name == 0) (is_some plan.main) where
   by : (none twice : Bool)
       → IsFine (cond none (Err (error.BadLine number cause.Name)) (cond twice (Err (error.BadLine number cause.Twice))
-      (Ok (record plan { main = Some (slashed (utf16_of name)) }))))
+      (Ok (record plan { main = Some (name_slashed (utf16_of name)) }))))
   by true twice = tt
   by false true = tt
   by false false = fine
@@ -245,7 +245,7 @@ differ k m e is = not-both (sym e ∙ eq-eqb k m (sym is))
 
 -- what one action makes of what is selected
 chosen-one : (m : ℕ) (act : Act) (selected : List ℕ)
-    → is_among m (chosen act selected) ≡ cond (act.method == m) act.select (is_among m selected)
+    → is_among m (methods_selected act selected) ≡ cond (act.method == m) act.select (is_among m selected)
 chosen-one m act selected = by (act.method == m) refl act.select where
   by : (b : Bool) → (act.method == m) ≡ b → (select : Bool)
       → (let others : List ℕ = filter (λ x. not (x == act.method)) selected in
@@ -292,7 +292,7 @@ selected-alike p r m named [] (act ∷ acts) zip selected before is = absurd zip
 selected-alike p r m named (a ∷ rest) [] zip selected before is = absurd zip
 selected-alike p r m named (a ∷ rest) (act ∷ acts) zip selected before is =
     let of = act-is p a act zip.0 in
-    selected-alike p r m named rest acts zip.1 (chosen act selected) (cond (same_root a.root r) a.select before)
+    selected-alike p r m named rest acts zip.1 (methods_selected act selected) (cond (same_root a.root r) a.select before)
     (chosen-one m act selected
     ∙ (ap (λ b. cond b act.select (is_among m selected)) (sym (same-iff p a.root r act.method m of.0 named))
     ∙ (ap (λ s. cond (same_root a.root r) s (is_among m selected)) of.1

@@ -23,7 +23,7 @@ use Rattle.jfluid_cli.specs.Origins.{HasOrigin, IsOnlyProgram}
 use Rattle.jfluid_cli.specs.Refusals.{status_of}
 use Rattle.jfluid_cli.specs.Runs.{PutsAtMost, RunsProgram, SameProgram, IsCarriedOut, output_at, world_on}
 use Rattle.jfluid_cli.specs.Top.{IsProgram}
-use Rattle.jfluid_cli.specs.Words.{Command, accepted, asks_images, budget_of, command_of, file_words, is_generated, plan_word}
+use Rattle.jfluid_cli.specs.Words.{Command, words_accepted, asks_images, budget_of, command_of, file_words, is_generated, plan_word}
 use Rattle.command_line.proofs.Rests.{rest-of-long, rest-untaken, rest-within}
 use Rattle.jfluid_cli.proofs.OneCommand.{commanded}
 
@@ -109,14 +109,14 @@ carried-early c r none out report images input early fetch = record {
 }
 
 -- the files are called as the words say
-pub files-said : (words : List (List ℕ)) (r : Read) → accepted words ≡ Some r → r.files ≡ file_words words
+pub files-said : (words : List (List ℕ)) (r : Read) → words_accepted words ≡ Some r → r.files ≡ file_words words
 files-said words r e = sym (ap (λ (o : Option Read). option_map_or (λ (x : Read). x.files) o []) e)
 
-pub plan-said : (words : List (List ℕ)) (r : Read) → accepted words ≡ Some r → r.plan ≡ plan_word words
+pub plan-said : (words : List (List ℕ)) (r : Read) → words_accepted words ≡ Some r → r.plan ≡ plan_word words
 plan-said words r e = sym (ap (option_and_then (λ (x : Read). x.plan)) e)
 
 -- refused behind accepted words
-pub carried-refused : (c : Call) (words : Read) (r : Refusal) → accepted (words_of c) ≡ Some words
+pub carried-refused : (c : Call) (words : Read) (r : Refusal) → words_accepted (words_of c) ≡ Some words
     → c.kept ≡ None → IsUntold c.streams.out c.streams.out_after
     → IsUntold c.streams.report c.streams.report_after → IsUntold c.streams.images c.streams.images_after
     → c.input_after ≡ c.input → IsBeforeTheRun (given_of c) r → HasFetchCause words.plan words.files c.files c.files_after r
@@ -417,15 +417,15 @@ run-asked c budget made (Err r) is same stopped front images unasked calm input_
     }
 
 -- the words that were read ask for the images
-images-said : (words : List (List ℕ)) (r : Read) → accepted words ≡ Some r → asks_images words ≡ r.images
+images-said : (words : List (List ℕ)) (r : Read) → words_accepted words ≡ Some r → asks_images words ≡ r.images
 images-said words r e = ap (λ (o : Option Read). option_map_or (λ (x : Read). x.images) o false) e
 
 -- and, where they generate the program, for sums
-pub generation-said : (words : List (List ℕ)) (r : Read) → accepted words ≡ Some r → is_generated words ≡ is_some r.generated
+pub generation-said : (words : List (List ℕ)) (r : Read) → words_accepted words ≡ Some r → is_generated words ≡ is_some r.generated
 generation-said words r e = ap (λ (o : Option Read). option_map_or (λ (x : Read). is_some x.generated) o false) e
 
 pub carried-run : (c : Call) (summary : Bool) (budget : ℕ) (made : Kept) (r : Result ℕ Refusal) (words : Read)
-    → accepted (words_of c) ≡ Some words → summary ≡ is_some words.generated
+    → words_accepted (words_of c) ≡ Some words → summary ≡ is_some words.generated
     → IsMade c budget made → IsSomeAnd c.kept (IsSameRun made)
     → MatchResult r (λ status. IsSomeAnd c.kept (IsRun summary words.images budget c.streams status))
     (IsStopped c.streams)

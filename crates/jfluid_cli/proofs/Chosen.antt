@@ -10,7 +10,7 @@ use Rattle.jvm_model.specs.Soundness.Calls.{AreFrom}
 use Rattle.jvm_model.specs.Basis.Data.{Change, Loads, Began, Left, Unwound, Listing, World}
 use Rattle.jvm_model.specs.Classes.Load.{is_among}
 use Rattle.jvm_model.specs.Codes.Originals.{original}
-use Rattle.jvm_model.specs.Profiling.Points.{Standing, acts_at, acts_behind, after_act, after_acts, after_change, after_changes, chosen, is_quiet, nothing, settled, standing_in, standing_in-suc, standing_in-zero}
+use Rattle.jvm_model.specs.Profiling.Points.{Standing, acts_at, acts_behind, after_act, after_acts, after_change, after_changes, methods_selected, is_quiet, nothing, standing_settled, standing_in, standing_in-suc, standing_in-zero}
 use Rattle.jvm_model.specs.Running.Run.{turn_in}
 use Rattle.profile_session.specs.Sessions.{Profiling, is_selected_in, standing_of, world_of}
 use Rattle.jfluid_cli.specs.Actions.{Alternate, CanBeTaken, IsAlong, IsDue, chosen_by}
@@ -18,11 +18,11 @@ use Rattle.jfluid_cli.proofs.ActionLemmas.{IsFrom, keeps-all, keeps-none, rise, 
 
 chosen-append : (selected : List ℕ) (xs ys : List Act) → chosen_by selected (xs ++ ys) ≡ chosen_by (chosen_by selected xs) ys
 chosen-append selected [] ys = refl
-chosen-append selected (x ∷ xs) ys = chosen-append (chosen x selected) xs ys
+chosen-append selected (x ∷ xs) ys = chosen-append (methods_selected x selected) xs ys
 
 -- ---- a step
 
-settled-selected : (acts : List Act) (s : Standing) → (settled acts s).selected ≡ s.selected
+settled-selected : (acts : List Act) (s : Standing) → (standing_settled acts s).selected ≡ s.selected
 settled-selected acts s = by (is_quiet acts s) where
   by : (b : Bool) → (cond b (record s { entered = [] }) s).selected ≡ s.selected
   by true = refl
@@ -32,7 +32,7 @@ acts-selected : (acts todo : List Act) (s : Standing) → (after_acts acts s tod
 acts-selected acts [] s = refl
 acts-selected acts (act ∷ more) s =
     acts-selected acts more (after_act acts s act)
-    ∙ ap (λ (now : List ℕ). chosen_by now more) (settled-selected acts (record s { selected = chosen act s.selected }))
+    ∙ ap (λ (now : List ℕ). chosen_by now more) (settled-selected acts (record s { selected = methods_selected act s.selected }))
 
 changes-selected : (acts : List Act) (step : ℕ) (changes : List Change) (s : Standing)
     → (after_changes acts step s changes).selected ≡ s.selected
@@ -53,7 +53,7 @@ standing-chosen acts w t zero =
 standing-chosen acts w t (suc n) =
     let changes = (turn_in w t n).changes in
     let before : Standing = standing_in acts w t n in
-    let «end» : Standing = settled acts (after_changes acts n before changes) in
+    let «end» : Standing = standing_settled acts (after_changes acts n before changes) in
     ap (λ (s : Standing). s.selected) (standing_in-suc acts w t n)
     ∙ (acts-selected acts (acts_behind n acts) «end»
     ∙ (ap (λ (now : List ℕ). chosen_by now (acts_behind n acts))

@@ -9,7 +9,7 @@ use Rattle.admit_check.specs.declared.error.AdmitError.TheVariants as admit
 use Rattle.plan_text.specs.declared.plan.Plan.{Plan}
 use Rattle.plan_text.specs.declared.plan.PlanError.{PlanError}
 use Rattle.plan_text.specs.declared.plan.PlanError.TheVariants as plan
-use Rattle.command_line.specs.Chosen.{Chosen, chosen}
+use Rattle.command_line.specs.Chosen.{Chosen, run_chosen}
 use Rattle.command_line.specs.Words.{Read}
 use Rattle.command_line.specs.declared.words.Generation.{Generation}
 use Rattle.jfluid_cli.specs.declared.refusal.Refusal.{Refusal}
@@ -22,7 +22,7 @@ use Rattle.jfluid_cli.specs.Contents.{AreContentsBy, AreFetched, AreToldAs, Spel
 use Rattle.jfluid_cli.specs.Sinks.{FilesView}
 use Rattle.jfluid_cli.specs.Stages.{AreReadWith, HasFetchCause, IsFetchedFor, IsFetchFault, IsFetchRefusal, IsPlanRefusal, IsReadRefusal, IsWordsRefusal, IsBeforeTheRun, IsLoaded, is_before_the_run}
 use Rattle.jfluid_cli.specs.Top.{IsProgram, HasRefused, answer_for}
-use Rattle.jfluid_cli.specs.Words.{Command, accepted, command_with}
+use Rattle.jfluid_cli.specs.Words.{Command, words_accepted, command_with}
 use Rattle.jfluid_cli.proofs.Spelled.{files-alone}
 use Rattle.jfluid_cli.proofs.ToldFiles.{told-contents, fronts-files, fronts-fault}
 
@@ -47,7 +47,7 @@ pub due-memory : (g : Given) → IsBeforeTheRun g NoMemory
 due-memory g = record { cause = tt; before_the_run = refl }
 
 -- a plan that has a fault
-due-fault-of : (g : Given) (words : Read) (fault : PlanError) → accepted g.words ≡ Some words
+due-fault-of : (g : Given) (words : Read) (fault : PlanError) → words_accepted g.words ≡ Some words
     → ((fault ≡ plan.NoMemory → ⊥) → IsPlanFor g.told words (Err fault)) → IsBeforeTheRun g (refusal_of fault)
 due-fault-of g words plan.TooLong read is =
     record { cause = (words, read, record { fault_is = is (λ e. cc e); other = λ e. cc e }); before_the_run = refl }
@@ -63,7 +63,7 @@ due-fault-of g words (plan.TooMany number) read is =
     record { cause = (words, read, record { fault_is = is (λ e. cc e); other = λ e. cc e }); before_the_run = refl }
 due-fault-of g words plan.NoMemory read is = due-memory g
 
-pub due-plan : (g : Given) (words : Read) (told : Option Told) (r : Refusal) → accepted g.words ≡ Some words
+pub due-plan : (g : Given) (words : Read) (told : Option Told) (r : Refusal) → words_accepted g.words ≡ Some words
     → g.told ≡ told → IsPlanRefusal told words r → IsBeforeTheRun g r
 due-plan g words told r read same (inl (failed, named)) =
     subst (IsBeforeTheRun g) (sym failed) (record { cause = (words, read, named); before_the_run = refl })
@@ -72,7 +72,7 @@ due-plan g words told r read same (inr (fault, is, holds)) =
     (λ other. subst (λ (t : Option Told). IsPlanFor t words (Err fault)) (sym same) (holds other)))
 
 -- words and a plan with no main class
-pub due-mainless : (g : Given) (words : Read) (p : Plan) → AreReadWith g words p → None ≡ chosen words p
+pub due-mainless : (g : Given) (words : Read) (p : Plan) → AreReadWith g words p → None ≡ run_chosen words p
     → IsBeforeTheRun g refusal.Words
 due-mainless g words p with_plan none = record {
   cause = inr (
@@ -89,7 +89,7 @@ due-mainless g words p with_plan none = record {
 
 -- what they ask for else
 pub made-command : (g : Given) (words : Read) (p : Plan) (c : Chosen) → AreReadWith g words p
-    → Some c ≡ chosen words p → Accepts g (command_with words p c)
+    → Some c ≡ run_chosen words p → Accepts g (command_with words p c)
 made-command g words p c with_plan is = record {
   words = words;
   read = with_plan.read;

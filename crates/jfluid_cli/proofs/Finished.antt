@@ -25,7 +25,7 @@ use Rattle.jfluid_cli.specs.Origins.{HasOrigin, IsOnlyProgram}
 use Rattle.jfluid_cli.specs.Refusals.{status_of, refusal_line, IsNameless}
 use Rattle.jfluid_cli.specs.Runs.{ending_at, world_on}
 use Rattle.jfluid_cli.specs.Top.{IsProgram, answer_for, is_among, is_refused, is_run, is_status, status_of_ending}
-use Rattle.jfluid_cli.specs.Words.{Command, accepted, asks_images, budget_of, command_of, file_words, is_generated, plan_word, words_in}
+use Rattle.jfluid_cli.specs.Words.{Command, words_accepted, asks_images, budget_of, command_of, file_words, is_generated, plan_word, words_in}
 use Rattle.jfluid_cli.proofs.Carried.{carried-early, files-said, memory-refused, plan-said}
 use Rattle.jfluid_cli.proofs.Early.{due-words, no-fault}
 use Rattle.jfluid_cli.proofs.Fixed.{by-status, read-or, accepted-or, two-refused, not-rooted, not-named, tells, same-contents, three-refused, program-told, not-unfit, long-told, not-long, kept-input, kept-short, kept-program}
@@ -169,7 +169,7 @@ answered-run c status heard carried =
 
 -- ---- a refusal
 
-words-only : (c : Call) (r : Refusal) → IsRefused c r → accepted (words_of c) ≡ None
+words-only : (c : Call) (r : Refusal) → IsRefused c r → words_accepted (words_of c) ≡ None
     → (status_of r ≡ 2) ⊎ (status_of r ≡ 9)
 words-only c r refused none = elim (read-or (given_of c) r refused.cause) [
   | inl early ↦ early
@@ -424,7 +424,7 @@ answered-words words files_told files input out report images after kept r told 
     was is (nameless-told r told nameless was None (plan_word (words_in words)) [] (file_words (words_in words))) puts
 
 -- what a line calls by words is called as the accepted words say
-pub called-line : (words : List (List ℕ)) (r : Read) (told : Refusal) (names : List (List ℕ)) → accepted words ≡ Some r
+pub called-line : (words : List (List ℕ)) (r : Read) (told : Refusal) (names : List (List ℕ)) → words_accepted words ≡ Some r
     → names ≡ r.files → refusal_line told r.plan names ≡ refusal_line told (plan_word words) (file_words words)
 called-line words r told names read same =
     ap (refusal_line told r.plan) (same ∙ files-said words r read)

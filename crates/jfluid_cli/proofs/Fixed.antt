@@ -18,7 +18,7 @@ use Rattle.jfluid_cli.specs.Contents.{AreContentsBy, AreToldAs}
 use Rattle.jfluid_cli.specs.Origins.{HasOrigin}
 use Rattle.jfluid_cli.specs.Refusals.{status_of}
 use Rattle.jfluid_cli.specs.Top.{HasNoProgram, IsProgram, is_among}
-use Rattle.jfluid_cli.specs.Words.{Command, accepted}
+use Rattle.jfluid_cli.specs.Words.{Command, words_accepted}
 use Rattle.jfluid_cli.proofs.Accepted.{accepted-claps, accepted-refused}
 use Rattle.jfluid_cli.proofs.OneCommand.{not-misplanned, one-command}
 use Rattle.jfluid_cli.proofs.Spelled.{none-faulty, none-spelled}
@@ -45,7 +45,7 @@ abbrev pub IsTwoOrNine : Refusal → Type 0
 IsTwoOrNine r = (status_of r ≡ 2) ⊎ (status_of r ≡ 9)
 
 abbrev AreRead : Given → Type 0
-AreRead g = (words : Read) × (accepted g.words ≡ Some words)
+AreRead g = (words : Read) × (words_accepted g.words ≡ Some words)
 
 read-by : (g : Given) (k : Command) → Accepts g k → AreRead g
 read-by g k accepts = (accepts.words, accepts.read)

@@ -6,7 +6,7 @@ use Rattle.jf_bytes.specs.Streams.{Told}
 use Rattle.const_pool.specs.declared.class.ClassFile.{ClassFile}
 use Rattle.class_reader.specs.Files.{IsFile}
 use Rattle.plan_text.specs.declared.plan.Plan.{Plan}
-use Rattle.program_gen.specs.Generated.{generated}
+use Rattle.program_gen.specs.Generated.{classes_generated}
 use Rattle.jvm_model.specs.declared.program.Program.{Program}
 use Rattle.admit_check.specs.declared.error.AdmitError.{AdmitError}
 use Rattle.admit_check.specs.Admission.{IsAdmittedProgram, admission_of}
@@ -14,7 +14,7 @@ use Rattle.generated_programs.specs.Admitted.{IsRefusedFor, admission_of_generat
 use Rattle.generated_programs.proofs.GeneratedAdmitted.{generated-admitted}
 use Rattle.generated_programs.proofs.GeneratedFiles.{generated-files}
 use Rattle.command_line.specs.declared.words.Generation.{Generation}
-use Rattle.command_line.specs.Chosen.{Chosen, chosen, chosen_for, either}
+use Rattle.command_line.specs.Chosen.{Chosen, run_chosen, chosen_for, either}
 use Rattle.command_line.specs.Words.{IsGeneration, IsSound, Read, generated_main}
 use Rattle.jfluid_cli.specs.declared.refusal.Refusal.TheVariants.{NotAdmitted, NoMemory}
 use Rattle.jfluid_cli.specs.Asking.{asked_by}
@@ -34,7 +34,7 @@ use Rattle.jfluid_cli.proofs.Spelled.{spelled-alone, spelled-program, spells-alo
 
 -- The program of a command is generated of this.
 pub record IsGeneratedOf (k : Command) (o : Generation) : Type 0 where
-  pub generated : k.generated ≡ Some o
+  pub classes_generated : k.generated ≡ Some o
   pub main : k.main ≡ generated_main
   pub some : 1 ≤ o.size
   pub most : o.size ≤ 200
@@ -44,14 +44,14 @@ pub generation-fits : (r : Read) (o : Generation) → IsSound r → r.generated 
 generation-fits r o sound is = subst (λ (x : Option Generation). IfSome x (IsGeneration r)) is sound.generated
 
 -- the main class is the generated one, whatever the plan names
-main-of : (r : Read) (p : Plan) (c : Chosen) → r.main ≡ Some generated_main → Some c ≡ chosen r p → c.main ≡ generated_main
+main-of : (r : Read) (p : Plan) (c : Chosen) → r.main ≡ Some generated_main → Some c ≡ run_chosen r p → c.main ≡ generated_main
 main-of r p c main is =
     let e : Some c ≡ option_map (chosen_for r p) (either (Some generated_main) p.main) =
     is ∙ ap (λ (o : Option (List ℕ)). option_map (chosen_for r p) (either o p.main)) main in
     ap (λ (x : Chosen). x.main) (same_Some c (chosen_for r p generated_main) e)
 
 pub made-generated : (r : Read) (p : Plan) (c : Chosen) (o : Generation) → IsSound r → r.generated ≡ Some o
-    → Some c ≡ chosen r p → IsGeneratedOf (command_with r p c) o
+    → Some c ≡ run_chosen r p → IsGeneratedOf (command_with r p c) o
 made-generated r p c o sound own is =
     let fits = generation-fits r o sound own in
     record { generated = own; main = main-of r p c fits.main is; some = fits.some; most = fits.most }
@@ -59,15 +59,15 @@ made-generated r p c o sound own is =
 -- ---- its classes
 
 pub answer-generated : (k : Command) (o : Generation) → IsGeneratedOf k o
-    → answer_for (asked_by k) (generated o.seed o.size) ≡ admission_of_generated o.seed o.size k.plan
+    → answer_for (asked_by k) (classes_generated o.seed o.size) ≡ admission_of_generated o.seed o.size k.plan
 answer-generated k o is =
-    ap (λ (m : List ℕ). admission_of (generated o.seed o.size) m k.plan) is.main
+    ap (λ (m : List ℕ). admission_of (classes_generated o.seed o.size) m k.plan) is.main
     ∙ generated-admitted o.seed o.size k.plan is.some is.most
 
 pub alone-generated : (seed size : ℕ) → 1 ≤ size → size ≤ 200
-    → SpellAlone (generated_contents seed size) (generated seed size)
+    → SpellAlone (generated_contents seed size) (classes_generated seed size)
 alone-generated seed size some most =
-    zip-weaken IsFile SpellsAlone (generated_contents seed size) (generated seed size) spells-alone
+    zip-weaken IsFile SpellsAlone (generated_contents seed size) (classes_generated seed size) spells-alone
     (generated-files seed size some most)
 
 pub told-generated : (told : Option Told) (k : Command) (o : Generation) (contents : List (List ℕ))
@@ -80,9 +80,9 @@ told-generated told k o contents own is =
 pub loaded-generated : (told : Option Told) (k : Command) (o : Generation) (contents : List (List ℕ)) (p : Program)
     → IsGeneratedOf k o → contents ≡ generated_contents o.seed o.size
     → admission_of_generated o.seed o.size k.plan ≡ Ok p
-    → IsAdmittedProgram (generated o.seed o.size) generated_main p → IsLoaded told k contents p
+    → IsAdmittedProgram (classes_generated o.seed o.size) generated_main p → IsLoaded told k contents p
 loaded-generated told k o contents p is contents_are admitted sound =
-    let classes : List ClassFile = generated o.seed o.size in
+    let classes : List ClassFile = classes_generated o.seed o.size in
     let alone : SpellAlone contents classes =
     subst (λ (xs : List (List ℕ)). SpellAlone xs classes) (sym contents_are)
     (alone-generated o.seed o.size is.some is.most) in
@@ -112,7 +112,7 @@ due-generated g k o fault accepts is refused = by (is_memory fault) refl where
         contents = generated_contents o.seed o.size;
         told_as = told-generated g.told k o (generated_contents o.seed o.size) is.generated refl;
         holds = (
-          generated o.seed o.size,
+          classes_generated o.seed o.size,
           generated-files o.seed o.size is.some is.most,
           answer-generated k o is ∙ refused (λ same. not-both (sym other ∙ ap is_memory same)),
         );
@@ -123,13 +123,13 @@ due-generated g k o fault accepts is refused = by (is_memory fault) refl where
 -- words with a plan are the words of their command
 record HasChoice (words : Read) (p : Plan) (k : Command) : Type 0 where
   choice : Chosen
-  is : Some choice ≡ chosen words p
+  is : Some choice ≡ run_chosen words p
   with : command_with words p choice ≡ k
 
 choice-of : (words : Read) (p : Plan) (k : Command) → command_for words p ≡ Some k → HasChoice words p k
-choice-of words p k asked = by (chosen words p) refl asked
+choice-of words p k asked = by (run_chosen words p) refl asked
   where
-    by : (o : Option Chosen) → chosen words p ≡ o → option_map (command_with words p) o ≡ Some k → HasChoice words p k
+    by : (o : Option Chosen) → run_chosen words p ≡ o → option_map (command_with words p) o ≡ Some k → HasChoice words p k
     by None e asked = absurd cc
     by (Some c) e asked = record { choice = c; is = sym e; with = same_Some (command_with words p c) k asked }
 

@@ -15,7 +15,7 @@ use Rattle.command_line.specs.Chosen.{IsOwnPlan}
 use Rattle.command_line.specs.Words.{Read}
 use Rattle.jfluid_cli.specs.Asking.{IsMisplanned, IsPlanBy, IsPlanFor, IsToldPlan}
 use Rattle.jfluid_cli.specs.Causes.{Given, Accepts}
-use Rattle.jfluid_cli.specs.Words.{Command, accepted, command_for, command_of}
+use Rattle.jfluid_cli.specs.Words.{Command, words_accepted, command_for, command_of}
 
 abbrev Answer : Type 0
 Answer = Result Plan PlanError
@@ -73,7 +73,7 @@ by-other (Some files) root (Some name) a fault tells left right other =
 
 -- ---- what words ask for
 
-same-words : (g : Given) (words others : Read) → accepted g.words ≡ Some words → accepted g.words ≡ Some others
+same-words : (g : Given) (words others : Read) → words_accepted g.words ≡ Some words → words_accepted g.words ≡ Some others
     → words ≡ others
 same-words g words others left right = same_Some words others (sym left ∙ right)
 
@@ -89,7 +89,7 @@ one-command g k l tells left right =
     ∙ (ap (λ (p : Plan). command_for right.words p) plan ∙ right.asked)))
 
 -- words that are accepted with their plan are not refused for it
-pub not-misplanned : (g : Given) (words : Read) (k : Command) → IsSome g.told → accepted g.words ≡ Some words
+pub not-misplanned : (g : Given) (words : Read) (k : Command) → IsSome g.told → words_accepted g.words ≡ Some words
     → IsMisplanned g.told words → Accepts g k → ⊥
 not-misplanned g words k tells read (inl (fault, is)) accepts =
     let here : IsPlanFor g.told words (Ok k.plan) =

@@ -7,7 +7,7 @@ use Rattle.const_pool.specs.declared.class.ClassFile.{ClassFile}
 use Rattle.class_reader.specs.Files.{IsFile}
 use Rattle.class_reader.proofs.Files.{no_first_fault}
 use Rattle.plan_text.specs.declared.plan.Action.{Action}
-use Rattle.program_gen.specs.Generated.{generated}
+use Rattle.program_gen.specs.Generated.{classes_generated}
 use Rattle.jvm_model.specs.declared.event.Act.{Act}
 use Rattle.jvm_model.specs.declared.program.Program.{Program}
 use Rattle.admit_check.specs.declared.error.AdmitError.{AdmitError}
@@ -74,7 +74,7 @@ three-rootless g (NotRead at fault) cause three e =
     contents-generated g.told k o cause.contents own.1.generated cause.told_as in
     let there : slice_get (generated_contents o.seed o.size) at ≡ Some cause.holds.bytes =
     subst (λ (xs : List (List ℕ)). slice_get xs at ≡ Some cause.holds.bytes) is cause.holds.there in
-    let here = zip-at IsFile (generated_contents o.seed o.size) (generated o.seed o.size) at cause.holds.bytes
+    let here = zip-at IsFile (generated_contents o.seed o.size) (classes_generated o.seed o.size) at cause.holds.bytes
     (generated-files o.seed o.size own.1.some own.1.most) there in
     absurd (no_first_fault cause.holds.bytes here.other fault here.holds cause.holds.first)
 three-rootless g (NotAdmitted fault) cause three e =
@@ -82,7 +82,7 @@ three-rootless g (NotAdmitted fault) cause three e =
     let a = cause.accepts in
     let own = generated-by g k a (sym (generation-said g.words a.words a.read) ∙ e) in
     let o = own.0 in
-    let classes : List ClassFile = generated o.seed o.size in
+    let classes : List ClassFile = classes_generated o.seed o.size in
     let is : cause.contents ≡ generated_contents o.seed o.size =
     contents-generated g.told k o cause.contents own.1.generated cause.told_as in
     let alone : SpellAlone cause.contents classes =
@@ -117,7 +117,7 @@ none-rooted : (k : Command) (o : Generation) (p : Program) → IsGeneratedOf k o
     → IsProgram (asked_by k) (generated_contents o.seed o.size) p → ⊥
 none-rooted k o p is h program =
     let contents : List (List ℕ) = generated_contents o.seed o.size in
-    let classes : List ClassFile = generated o.seed o.size in
+    let classes : List ClassFile = classes_generated o.seed o.size in
     let whole : Program = generated_program o.seed o.size k.plan in
     let same : classes_for contents p ≡ classes =
     one-spelling contents classes (classes_for contents p) (alone-generated o.seed o.size is.some is.most)

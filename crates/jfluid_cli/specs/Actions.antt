@@ -6,7 +6,7 @@ use Rattle.plan_text.specs.Lines.{selected_after}
 use Rattle.jvm_model.specs.declared.event.Act.{Act}
 use Rattle.jvm_model.specs.Soundness.Calls.{AreFrom}
 use Rattle.jvm_model.specs.Classes.Load.{is_among}
-use Rattle.jvm_model.specs.Profiling.Points.{chosen}
+use Rattle.jvm_model.specs.Profiling.Points.{methods_selected}
 use Rattle.profile_session.specs.Sessions.{LiveRunOn, Profiling}
 use Rattle.jfluid_cli.specs.declared.running.Reached.{Reached}
 use Rattle.jfluid_cli.specs.Runs.{IsPlanned, is_ended_at}
@@ -16,7 +16,7 @@ use Rattle.jfluid_cli.specs.Runs.{IsPlanned, is_ended_at}
 -- what is selected behind actions, where these methods were selected before
 abbrev pub chosen_by : List ℕ → List Act → List ℕ
 chosen_by selected [] = selected
-chosen_by selected (act ∷ more) = chosen_by (chosen act selected) more
+chosen_by selected (act ∷ more) = chosen_by (methods_selected act selected) more
 
 -- Each action that stands behind others selects a method that is not selected then, or deselects one
 -- that is.

@@ -18,7 +18,7 @@ use Rattle.jfluid_cli.specs.Refusals.{status_of, refusal_line}
 use Rattle.jfluid_cli.specs.Runs.{IsCarriedOut, PutsAtMost, ending_at, world_on}
 use Rattle.jfluid_cli.specs.Sinks.{SinkView, SourceView, FilesView, Streams, FailsOnce, IsUntold, PutsOrRose}
 use Rattle.jfluid_cli.specs.Top.{IsWithoutFault, is_run, is_refused, is_unadmitted, is_status, report_of, status_of_ending}
-use Rattle.jfluid_cli.specs.Words.{accepted, asks_images, budget_of, file_words, is_generated, plan_word, words_in}
+use Rattle.jfluid_cli.specs.Words.{words_accepted, asks_images, budget_of, file_words, is_generated, plan_word, words_in}
 
 -- ---- a call
 
@@ -177,7 +177,7 @@ pub record IsAnswered (c : Call) (status : ℕ) : Type 0 where
   -- 9 where there was no memory for the words
   pub unheard : IsErr c.words → status ≡ 9
   -- 2 wherever the words are not accepted, whatever the files do, unless memory ran out
-  pub words_only : accepted (words_of c) ≡ None → (status ≡ 2) ⊎ (status ≡ 9)
+  pub words_only : words_accepted (words_of c) ≡ None → (status ≡ 2) ⊎ (status ≡ 9)
   -- and wherever the word for a root names no method
   pub root_only : OfWords (given_of c) HasBadRoot → (status ≡ 2) ⊎ (status ≡ 9)
   -- and wherever the plan that the files tell is refused, or names no main class and no word does

@@ -14,7 +14,7 @@ use Rattle.plan_text.specs.declared.plan.Action.{Action}
 use Rattle.jfluid_cli.specs.Asking.{asked_by, IsPlanFor, IsFaultOfPlan, HasNoMain, IsMisplanned}
 use Rattle.jfluid_cli.specs.Contents.{AreContentsBy, AreToldAs, IsFaultAt}
 use Rattle.jfluid_cli.specs.Top.{IsProgram, HasProgram, HasRefused, HasNoProgram}
-use Rattle.jfluid_cli.specs.Words.{Command, accepted, AreClaps, AreRefused, command_for}
+use Rattle.jfluid_cli.specs.Words.{Command, words_accepted, AreClaps, AreRefused, command_for}
 
 -- the words as bytes, what the files tell, and what the source of input has left, where it tells it
 pub record Given : Type 0 where
@@ -31,7 +31,7 @@ AreContentsOf told k contents = AreContentsBy told k.generated k.files contents
 -- The words are accepted with their plan, and this is what they ask for.
 pub record Accepts (g : Given) (k : Command) : Type 0 where
   pub words : Read
-  pub read : accepted g.words ≡ Some words
+  pub read : words_accepted g.words ≡ Some words
   pub planned : IsPlanFor g.told words (Ok k.plan)
   pub asked : command_for words k.plan ≡ Some k
 
@@ -91,7 +91,7 @@ pub record HasNoRoot (g : Given) : Type 0 where
 -- The words are accepted by themselves, and not with their plan, which the files tell.
 pub record HasBadPlan (g : Given) : Type 0 where
   pub words : Read
-  pub read : accepted g.words ≡ Some words
+  pub read : words_accepted g.words ≡ Some words
   pub telling : IsSome g.told
   pub misplanned : IsMisplanned g.told words
 
@@ -103,7 +103,7 @@ IsLong left = IfSome left (λ all. most_input < length all)
 
 -- the words are accepted by themselves, and this holds of them
 abbrev pub OfWords : Given → (Read → Type 0) → Type 0
-OfWords g P = (words : Read) × (accepted g.words ≡ Some words) × P words
+OfWords g P = (words : Read) × (words_accepted g.words ≡ Some words) × P words
 
 -- The words are accepted, all of their files are told, or generated, and this holds of the contents.
 pub record OfFiles (g : Given) (P : Command → List (List ℕ) → Type 0) : Type 0 where

@@ -23,7 +23,7 @@ use Rattle.jfluid_cli.specs.Refusals.{status_of, refusal_of}
 use Rattle.jfluid_cli.specs.Runs.{SameProgram}
 use Rattle.jfluid_cli.specs.Sinks.{FilesView, SourceView, Streams, IsUntold}
 use Rattle.jfluid_cli.specs.Top.{IsProgram, is_among}
-use Rattle.jfluid_cli.specs.Words.{Command, accepted, AreClaps, AreRefused}
+use Rattle.jfluid_cli.specs.Words.{Command, words_accepted, AreClaps, AreRefused}
 
 -- ---- before a session is made
 
@@ -67,7 +67,7 @@ IsPlanRefusal told words r =
 
 -- Words are accepted by themselves, and have this plan.
 pub record AreReadWith (g : Given) (words : Read) (plan : Plan) : Type 0 where
-  pub read : accepted g.words ≡ Some words
+  pub read : words_accepted g.words ≡ Some words
   pub planned : IsPlanFor g.told words (Ok plan)
 
 -- What was fetched for a command that asks for this: the contents of its files, or of longer ones

@@ -15,7 +15,7 @@ ghost use Rattle.jfluid_cli.specs.Sinks.{files_view};
 ghost use Rattle.jfluid_cli.specs.Stages.{AreReadWith, IsFetchedFor, IsFetchFault, IsFetchRefusal, IsUnread};
 ghost use Rattle.jfluid_cli.specs.Stages.{IsReadRefusal, IsPrepared, IsBeforeTheRun, HasFetchCause};
 ghost use Rattle.jfluid_cli.specs.Top.{IsProgram};
-ghost use Rattle.jfluid_cli.specs.Words.{accepted};
+ghost use Rattle.jfluid_cli.specs.Words.{words_accepted};
 ghost use Rattle.program_fit.specs.Runnable.{IsAdmitted};
 
 use crate::plans::plan_of;
@@ -309,13 +309,13 @@ fn load<F: Files>(
 /// Reads the plan of the words, and loads the classes that they ask for with it.
 pub fn prepare<F: Files>(alloc: Global, words: &Words<'_>, files: &mut F) -> Result<Loaded, Refusal>
     requires sound { IsSound (read_in words.now) }
-    ensures ok { (g : Given) → accepted g.words ≡ Some (read_in words.now) →
+    ensures ok { (g : Given) → words_accepted g.words ≡ Some (read_in words.now) →
         g.told ≡ F.contents files.old → IfOk result (λ l.
         IsPrepared g l.plan l.budget l.contents l.program) }
     ensures small { IfOk result (λ l. l.budget ≤ greatest_steps) }
     ensures admitted { IfOk result (λ l. IsAdmitted l.program) }
     ensures acts { IfOk result (λ l. CanBeTaken l.program.acts) }
-    ensures before_the_run { (g : Given) → accepted g.words ≡ Some (read_in words.now) →
+    ensures before_the_run { (g : Given) → words_accepted g.words ≡ Some (read_in words.now) →
         g.told ≡ F.contents files.old → IfErr result (IsBeforeTheRun g) }
     ensures stay { F.contents files.new ≡ F.contents files.old }
     ensures without_fault { let old = files_view (F.faults files.old) (F.last_failed files.old) in

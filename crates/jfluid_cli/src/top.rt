@@ -12,7 +12,7 @@ ghost use Rattle.jfluid_cli.specs.Images.{images_of};
 ghost use Rattle.jfluid_cli.specs.Stages.{IsStopped, IsSameRun, IsCarried};
 ghost use Rattle.jfluid_cli.specs.Runs.{IsFresh, IsGoing, IsPlanned, PutsAtMost, SameProgram};
 ghost use Rattle.jfluid_cli.specs.Sinks.{Streams, IsUntold, sink_view, source_view, files_view};
-ghost use Rattle.jfluid_cli.specs.Words.{accepted};
+ghost use Rattle.jfluid_cli.specs.Words.{words_accepted};
 
 use crate::images::show;
 use crate::input::take;
@@ -124,7 +124,7 @@ fn carry_out<F: Files, I: Source, O: Sink, P: Sink, G: Sink>(
     requires sound { IsSound (read_in words.now) }
     requires empty { kept.old ≡ None }
     ensures stay { F.contents files.new ≡ F.contents files.old }
-    ensures carried { (list : List (List ℕ)) → accepted list ≡ Some (read_in words.now) →
+    ensures carried { (list : List (List ℕ)) → words_accepted list ≡ Some (read_in words.now) →
         let call : Call = record {
           words = Ok list;
           told = F.contents files.old;

@@ -19,9 +19,9 @@ use Rattle.jvm_model.specs.Basis.Data.{Outcome as Asked, GoesOn as AsksOn, Break
 use Rattle.jvm_model.specs.Codes.Lines.{value_in, slot_in, increment_in, target_in, keys_in, targets_of}
 use Rattle.jvm_model.specs.Instructions.LocalRules
 use Rattle.jvm_model.specs.Basis.StackForms.{forms_of}
-use Rattle.jvm_model.specs.Basis.Values.{datum_of, loaded, is_storable, local_in, has_slots, stored, int_of, managed_stack}
+use Rattle.jvm_model.specs.Basis.Values.{datum_of, local_loaded, is_storable, local_in, has_slots, local_stored, int_of, managed_stack}
 use Rattle.jvm_basic.specs.Outcomes.{Rule, Leaves, top_locals, effect_in, frames_in, effect_of, after}
-use Rattle.jvm_basic.specs.Rules.{datum_in, placed, going, needs, does, rule_by}
+use Rattle.jvm_basic.specs.Rules.{datum_in, outcome_placed, going, needs, does, rule_by}
 
 -- ---- outcomes that name no target
 
@@ -32,7 +32,7 @@ is_simple (AsksOn l o (Back t)) = true
 is_simple (AsksBreak false) = true
 is_simple _ = false
 
-pub simple-any : (x : Asked) (next : ℕ) (targets : List ℕ) (l : Locals) (o : Operands) → is_simple x ≡ true → placed next [] l o x ≡ placed next targets l o x
+pub simple-any : (x : Asked) (next : ℕ) (targets : List ℕ) (l : Locals) (o : Operands) → is_simple x ≡ true → outcome_placed next [] l o x ≡ outcome_placed next targets l o x
 simple-any (AsksOn m p Behind) next targets l o h = refl
 simple-any (AsksOn m p (Back t)) next targets l o h = refl
 simple-any (AsksOn m p (Target k)) next targets l o h = absurd (false≢true h)
@@ -57,7 +57,7 @@ leaves-simple (Some o) l = refl
 
 pub stores-simple : (k : Kind) (slot : ℕ) (l : Locals) (o : Operands) → is_simple (LocalRules.stores k slot l o) ≡ true
 stores-simple k slot l [] = refl
-stores-simple k slot l (v ∷ o) = choice-simple (is_storable k v && has_slots l slot v) (stored l slot v) o
+stores-simple k slot l (v ∷ o) = choice-simple (is_storable k v && has_slots l slot v) (local_stored l slot v) o
 
 pub increments-simple : (slot : ℕ) (d : ℤ) (v : Option Value) (l : Locals) (o : Operands) → is_simple (LocalRules.increments slot d v l o) ≡ true
 increments-simple slot d (Some (Int n)) l o = refl
@@ -70,27 +70,27 @@ back-simple _ l o = refl
 -- ---- others
 
 divides-any : (x : Option (Option Value)) (next : ℕ) (targets : List ℕ) (l : Locals) (o : Operands)
-    → placed next [] l o (LocalRules.divides_these x l o) ≡ placed next targets l o (LocalRules.divides_these x l o)
+    → outcome_placed next [] l o (LocalRules.divides_these x l o) ≡ outcome_placed next targets l o (LocalRules.divides_these x l o)
 divides-any None next targets l o = refl
 divides-any (Some None) next targets l o = refl
 divides-any (Some (Some v)) next targets l o = refl
 
 back-any : (v : Option Value) (next : ℕ) (targets : List ℕ) (l : Locals) (o : Operands)
-    → placed 0 [] l o (LocalRules.goes_back v l o) ≡ placed next targets l o (LocalRules.goes_back v l o)
+    → outcome_placed 0 [] l o (LocalRules.goes_back v l o) ≡ outcome_placed next targets l o (LocalRules.goes_back v l o)
 back-any (Some (Addr t)) next targets l o = refl
 back-any _ next targets l o = refl
 
 switch-any : (keys : Keys) (n : Option ℤ) (next : ℕ) (targets : List ℕ) (l : Locals) (o : Operands)
-    → placed 0 targets l o (LocalRules.switches_on keys n l o) ≡ placed next targets l o (LocalRules.switches_on keys n l o)
+    → outcome_placed 0 targets l o (LocalRules.switches_on keys n l o) ≡ outcome_placed next targets l o (LocalRules.switches_on keys n l o)
 switch-any keys None next targets l o = refl
 switch-any keys (Some n) next targets l o = refl
 
-return-left : (k : Option Kind) (next : ℕ) (targets : List ℕ) (l : Locals) (o : Operands) → Leaves ≡ placed next targets l o (LocalRules.returns k o)
+return-left : (k : Option Kind) (next : ℕ) (targets : List ℕ) (l : Locals) (o : Operands) → Leaves ≡ outcome_placed next targets l o (LocalRules.returns k o)
 return-left None next targets l o = refl
 return-left (Some k) next targets l [] = refl
 return-left (Some k) next targets l (v ∷ o) = by (datum_of k v)
   where
-    by : (d : Option Datum) → Leaves ≡ placed next targets l (v ∷ o) (LocalRules.returns_datum d)
+    by : (d : Option Datum) → Leaves ≡ outcome_placed next targets l (v ∷ o) (LocalRules.returns_datum d)
     by None = refl
     by (Some d) = refl
 
@@ -127,8 +127,8 @@ does-is family.PoolConstant a c next l o = needs-map Constant (option_and_then d
 does-is family.OperandConstant a c next l o = needs-map Constant (value_in a) _ next (targets_of a) l o (λ d. refl)
 does-is (family.Load k) a c next l o =
     needs-map (Load k) (slot_in a) _ next (targets_of a) l o
-    (λ n. simple-any _ next (targets_of a) l o (pushes-simple (loaded k (slice_get l n)) l o))
-does-is (family.LoadFrom k slot) a c next l o = simple-any _ next (targets_of a) l o (pushes-simple (loaded k (slice_get l slot)) l o)
+    (λ n. simple-any _ next (targets_of a) l o (pushes-simple (local_loaded k (slice_get l n)) l o))
+does-is (family.LoadFrom k slot) a c next l o = simple-any _ next (targets_of a) l o (pushes-simple (local_loaded k (slice_get l slot)) l o)
 does-is (family.Store k) a c next l o =
     needs-map (Store k) (slot_in a) _ next (targets_of a) l o (λ n. simple-any _ next (targets_of a) l o (stores-simple k n l o))
 does-is (family.StoreTo k slot) a c next l o = simple-any _ next (targets_of a) l o (stores-simple k slot l o)

@@ -9,7 +9,7 @@ use Rattle.jvm_basic.proofs.Tops.{can_push-is}
 use Rattle.jvm_model.specs.Basis.Data.{Operands}
 use Rattle.jvm_basic.specs.Outcomes.{top_locals, can_hold, with_top, effect_of, after}
 use Rattle.jvm_model.specs.Basis.Values.{with_value as above}
-use Rattle.jvm_basic.specs.Copies.{inserted, inserts, with_operands}
+use Rattle.jvm_basic.specs.Copies.{values_inserted, inserts, with_operands}
 use Rattle.jvm_basic.specs.declared.effect.Effect.TheVariants.{Next, Bad}
 
 -- a push that is taken back
@@ -71,26 +71,26 @@ height-cut zero o = omega arith
 height-cut (suc n) [] = omega arith
 height-cut (suc n) (v ∷ o) = omega (arith, height-cut n o)
 
-pub height-inserted : (n : ℕ) (values o : Operands) → height_of (inserted n values o) ≡ height_of (values ++ o)
+pub height-inserted : (n : ℕ) (values o : Operands) → height_of (values_inserted n values o) ≡ height_of (values ++ o)
 height-inserted n values o =
     omega (arith, height-append (take n o) (values ++ drop n o), height-append values (drop n o), height-append values o, height-cut n o)
 
-pub inserted-holds : (n : ℕ) (values o : Operands) (fs : List PlacedFrame) → can_hold (inserted n values o) fs ≡ can_hold (values ++ o) fs
+pub inserted-holds : (n : ℕ) (values o : Operands) (fs : List PlacedFrame) → can_hold (values_inserted n values o) fs ≡ can_hold (values ++ o) fs
 inserted-holds n values o [] = refl
 inserted-holds n values o (f ∷ fs) = ap (λ k. nat_le k f.max_stack) (height-inserted n values o)
 
 -- the operand that was taken off goes back
 pub put-back : (n : ℕ) (values : List Value) (fs : List PlacedFrame) → can_hold (values ++ top_operands fs) fs ≡ true
-    → can_hold (above (slice_get (top_operands fs) 0) (inserted n values (drop 1 (top_operands fs)))) fs ≡ true
+    → can_hold (above (slice_get (top_operands fs) 0) (values_inserted n values (drop 1 (top_operands fs)))) fs ≡ true
 put-back n values [] h = absurd (false≢true h)
 put-back n values (f ∷ fs) h = le-leb _ _ (by f.operands (leb-true _ _ h))
   where
-    by : (o : Operands) → height_of (values ++ o) ≤ f.max_stack → height_of (above (slice_get o 0) (inserted n values (drop 1 o))) ≤ f.max_stack
+    by : (o : Operands) → height_of (values ++ o) ≤ f.max_stack → height_of (above (slice_get o 0) (values_inserted n values (drop 1 o))) ≤ f.max_stack
     by [] le = omega (arith, height-inserted n values [], le)
     by (v ∷ o) le = omega (arith, height-inserted n values o, height-append values o, height-append values (v ∷ o), le)
 
 abbrev inserted-below : ℕ → List Value → List PlacedFrame → List PlacedFrame
-inserted-below n values fs = with_operands (inserted n values (top_operands (without_operand fs))) (without_operand fs)
+inserted-below n values fs = with_operands (values_inserted n values (top_operands (without_operand fs))) (without_operand fs)
 
 pub put-back-on : (n : ℕ) (values : List Value) (fs : List PlacedFrame) → can_hold (values ++ top_operands fs) fs ≡ true
     → can_hold (above (slice_get (top_operands fs) 0) (top_operands (inserted-below n values fs))) (inserted-below n values fs) ≡ true
@@ -107,10 +107,10 @@ copy-not n values place s h =
 
 pub copy-done : (n : ℕ) (values : List Value) (place : ℕ) (s : FramesView) → can_hold (values ++ top_operands s.frames) s.frames ≡ true
     → (Next ≡ effect_of (inserts n values place) s)
-    × (with_frames (with_place place (with_operands (inserted n values (top_operands s.frames)) s.frames)) s ≡ after (inserts n values place) s)
+    × (with_frames (with_place place (with_operands (values_inserted n values (top_operands s.frames)) s.frames)) s ≡ after (inserts n values place) s)
 copy-done n values place s h =
     let held = inserted-holds n values (top_operands s.frames) s.frames ∙ h in
-    (rw held refl, rw held (ap (λ fs. with_frames fs s) (with-top (inserted n values (top_operands s.frames)) place s.frames)))
+    (rw held refl, rw held (ap (λ fs. with_frames fs s) (with-top (values_inserted n values (top_operands s.frames)) place s.frames)))
 
 pub ruleset copied = (
   pushed-popped,

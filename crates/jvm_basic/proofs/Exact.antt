@@ -21,15 +21,15 @@ use Rattle.jvm_model.specs.declared.family.Family.{Family}
 use Rattle.jvm_model.specs.declared.family.Family.TheVariants as family
 use Rattle.jvm_model.specs.Basis.Families.{rows, family_of}
 use Rattle.jvm_model.specs.Basis.Data.{Locals, Operands}
-use Rattle.jvm_basic.specs.Outcomes.{Outcome, GoesOn, Raises, Breaks, Leaves, Rule, can_hold, with_top, effect_in, frames_in, asked, effect_of, after}
-use Rattle.jvm_model.specs.Basis.Values.{loaded, int_of, ints_of, longs_of, local_in}
+use Rattle.jvm_basic.specs.Outcomes.{Outcome, GoesOn, Raises, Breaks, Leaves, Rule, can_hold, with_top, effect_in, frames_in, outcome_asked, effect_of, after}
+use Rattle.jvm_model.specs.Basis.Values.{local_loaded, int_of, ints_of, longs_of, local_in}
 use Rattle.jvm_model.specs.Basis.StackForms.{forms_of}
 use Rattle.jvm_model.specs.Basis.Values.{managed_stack}
 use Rattle.jvm_model.specs.Basis.Data.{Keys, Next as Behind, Target, Back}
 use Rattle.jvm_model.specs.Basis.Data.{Outcome as Asked, GoesOn as AsksOn, Breaks as AsksBreak}
 use Rattle.jvm_model.specs.Codes.Lines.{value_in, slot_in, increment_in, target_in, keys_in, targets_of}
 use Rattle.jvm_model.specs.Instructions.LocalRules
-use Rattle.jvm_basic.specs.Rules.{datum_in, arithmetic_exception, goes_at, placed, needs, does, rule_by, rule_of}
+use Rattle.jvm_basic.specs.Rules.{datum_in, arithmetic_exception, goes_at, outcome_placed, needs, does, rule_by, rule_of}
 use Rattle.jvm_basic.proofs.Fitting.{arithmetic-position}
 use Rattle.jvm_basic.proofs.Asked.{is_simple, pushes-simple, replaces-simple, leaves-simple, stores-simple, increments-simple, back-simple, does-is}
 use Rattle.jvm_basic.specs.Laws.{is_elsewhere, has_zero_divisor, divides_by_zero}
@@ -49,7 +49,7 @@ at-stays : (l : Locals) (o : Operands) (place : Option ℕ) → Stays (goes_at l
 at-stays l o None = refl
 at-stays l o (Some place) = refl
 
-simple-stays : (x : Asked) (next : ℕ) (targets : List ℕ) (l : Locals) (o : Operands) → is_simple x ≡ true → Stays (placed next targets l o x)
+simple-stays : (x : Asked) (next : ℕ) (targets : List ℕ) (l : Locals) (o : Operands) → is_simple x ≡ true → Stays (outcome_placed next targets l o x)
 simple-stays (AsksOn m p Behind) next targets l o h = refl
 simple-stays (AsksOn m p (Back t)) next targets l o h = refl
 simple-stays (AsksOn m p (Target k)) next targets l o h = absurd (false≢true h)
@@ -61,12 +61,12 @@ needs-stays : {A : Type 0} (v : Option A) (rule : A → Rule) (l : Locals) (o : 
 needs-stays None rule l o each = refl
 needs-stays (Some x) rule l o each = each x
 
-branch-stays : (b : Option Bool) (taken next target : ℕ) (l : Locals) (o : Operands) → Stays (placed next (target ∷ []) l o (LocalRules.goes_if b taken l o))
+branch-stays : (b : Option Bool) (taken next target : ℕ) (l : Locals) (o : Operands) → Stays (outcome_placed next (target ∷ []) l o (LocalRules.goes_if b taken l o))
 branch-stays None taken next target l o = refl
 branch-stays (Some true) taken next target l o = refl
 branch-stays (Some false) taken next target l o = refl
 
-switch-stays : (keys : Keys) (n : Option ℤ) (targets : List ℕ) (l : Locals) (o : Operands) → Stays (placed 0 targets l o (LocalRules.switches_on keys n l o))
+switch-stays : (keys : Keys) (n : Option ℤ) (targets : List ℕ) (l : Locals) (o : Operands) → Stays (outcome_placed 0 targets l o (LocalRules.switches_on keys n l o))
 switch-stays keys None targets l o = refl
 switch-stays keys (Some n) targets l o = at-stays l (drop 1 o) (slice_get targets (LocalRules.target_by keys n))
 
@@ -109,7 +109,7 @@ lacks (Some (Some v)) = false
 lacks None = false
 
 divides-comes : (x : Option (Option Value)) (next : ℕ) (l : Locals) (o : Operands) (z : Bool) → lacks x ≡ z
-    → Comes (placed next [] l o (LocalRules.divides_these x l o)) false z
+    → Comes (outcome_placed next [] l o (LocalRules.divides_these x l o)) false z
 divides-comes None next l o z h = record { left = refl; throws = h; only = λ class e. absurd (false≢true (ap throwing e)) }
 divides-comes (Some None) next l o z h = record { left = refl; throws = h; only = λ class e. sym (ap class_of e) ∙ arithmetic-position }
 divides-comes (Some (Some v)) next l o z h = record { left = refl; throws = h; only = λ class e. absurd (false≢true (ap throwing e)) }
@@ -137,8 +137,8 @@ comes family.Nop a c next l o = stays-comes _ refl
 comes (family.Constant d) a c next l o = stays-comes _ refl
 comes family.PoolConstant a c next l o = stays-comes _ (needs-stays (option_and_then datum_in c) _ l o (λ d. refl))
 comes family.OperandConstant a c next l o = stays-comes _ (needs-stays (value_in a) _ l o (λ d. refl))
-comes (family.Load k) a c next l o = stays-comes _ (needs-stays (slot_in a) _ l o (λ n. simple-stays _ next [] l o (pushes-simple (loaded k (slice_get l n)) l o)))
-comes (family.LoadFrom k slot) a c next l o = stays-comes _ (simple-stays _ next [] l o (pushes-simple (loaded k (slice_get l slot)) l o))
+comes (family.Load k) a c next l o = stays-comes _ (needs-stays (slot_in a) _ l o (λ n. simple-stays _ next [] l o (pushes-simple (local_loaded k (slice_get l n)) l o)))
+comes (family.LoadFrom k slot) a c next l o = stays-comes _ (simple-stays _ next [] l o (pushes-simple (local_loaded k (slice_get l slot)) l o))
 comes (family.Store k) a c next l o = stays-comes _ (needs-stays (slot_in a) _ l o (λ n. simple-stays _ next [] l o (stores-simple k n l o)))
 comes (family.StoreTo k slot) a c next l o = stays-comes _ (simple-stays _ next [] l o (stores-simple k slot l o))
 comes (family.ManageStack op) a c next l o = stays-comes _ (simple-stays _ next [] l o (leaves-simple (managed_stack (forms_of op) o) l))
@@ -246,7 +246,7 @@ elsewhere-is op h = equal-from-same _ _ (holds-below (λ k. same (other (family_
 pub other-exactly : (i : Instr) (c : Option Value) (next : ℕ) (s : FramesView) → i.op < 256
     → (effect_of (rule_of i c next) s ≡ Other) ↔ IsTrue (is_elsewhere i.op)
 other-exactly i c next s h =
-    let x = asked (rule_of i c next) s.frames in
+    let x = outcome_asked (rule_of i c next) s.frames in
     let is : is_other (effect_in x s.frames) ≡ is_elsewhere i.op =
     effect-other x s.frames ∙ ((rule-comes (family_of i.op) i.arg c next _ _).left ∙ elsewhere-is i.op h) in
     (λ e. sym is ∙ ap is_other e, λ e. other-is (effect_in x s.frames) (is ∙ e))
@@ -254,12 +254,12 @@ other-exactly i c next s h =
 pub throws-only : (i : Instr) (c : Option Value) (next : ℕ) (s : FramesView) (class : ℕ)
     → effect_of (rule_of i c next) s ≡ Throws class → class ≡ arithmetic_exception
 throws-only i c next s class e =
-    (rule-comes (family_of i.op) i.arg c next _ _).only class (effect-raises (asked (rule_of i c next) s.frames) s.frames class e)
+    (rule-comes (family_of i.op) i.arg c next _ _).only class (effect-raises (outcome_asked (rule_of i c next) s.frames) s.frames class e)
 
 pub throws-exactly : (i : Instr) (c : Option Value) (next : ℕ) (s : FramesView)
     → (effect_of (rule_of i c next) s ≡ Throws arithmetic_exception) ↔ IsTrue (divides_by_zero (family_of i.op) (top_operands s.frames))
 throws-exactly i c next s =
-    let x = asked (rule_of i c next) s.frames in
+    let x = outcome_asked (rule_of i c next) s.frames in
     let is : is_throw (effect_in x s.frames) ≡ divides_by_zero (family_of i.op) (top_operands s.frames) =
     effect-throws x s.frames ∙ (rule-comes (family_of i.op) i.arg c next _ _).throws in
     (λ e. sym is ∙ ap is_throw e, λ e. thrown-is (effect_in x s.frames) (is ∙ e) (λ class. throws-only i c next s class))
@@ -271,7 +271,7 @@ throws-exactly i c next s =
     thrown-is Other h only = absurd (false≢true h)
 
 pub kept-unless-next : (r : Rule) (s : FramesView) → (effect_of r s ≡ Next → ⊥) → after r s ≡ s
-kept-unless-next r s apart = ap (λ fs. with_frames fs s) (by (asked r s.frames) s.frames apart)
+kept-unless-next r s apart = ap (λ fs. with_frames fs s) (by (outcome_asked r s.frames) s.frames apart)
   where
     chosen-kept : (b : Bool) (fs gs : List PlacedFrame) → ((if b then Next else Bad) ≡ Next → ⊥) → (if b then gs else fs) ≡ fs
     chosen-kept true fs gs apart = absurd (apart refl)

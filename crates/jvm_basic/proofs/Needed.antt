@@ -18,8 +18,8 @@ use Rattle.jvm_model.specs.declared.family.Family.{Family}
 use Rattle.jvm_model.specs.declared.family.Family.TheVariants as family
 use Rattle.jvm_model.specs.Basis.Families.{family_of}
 use Rattle.jvm_model.specs.Basis.Data.{Locals, Operands}
-use Rattle.jvm_basic.specs.Outcomes.{Rule, Outcome, GoesOn, Raises, Breaks, Leaves, top_locals, can_hold, effect_in, asked, effect_of}
-use Rattle.jvm_model.specs.Basis.Values.{int_of, long_of, ref_of, ints_of, longs_of, long_and_int_of, refs_of, local_in, has_kind, loaded, is_storable, has_slots, stored}
+use Rattle.jvm_basic.specs.Outcomes.{Rule, Outcome, GoesOn, Raises, Breaks, Leaves, top_locals, can_hold, effect_in, outcome_asked, effect_of}
+use Rattle.jvm_model.specs.Basis.Values.{int_of, long_of, ref_of, ints_of, longs_of, long_and_int_of, refs_of, local_in, has_kind, local_loaded, is_storable, has_slots, local_stored}
 use Rattle.jvm_model.specs.Basis.Data.{StackForm}
 use Rattle.jvm_model.specs.Basis.StackForms.{forms_of}
 use Rattle.jvm_model.specs.Basis.Values.{has_form, puts_on, managed_stack}
@@ -27,7 +27,7 @@ use Rattle.jvm_model.specs.Basis.Data.{Keys, Next as Behind}
 use Rattle.jvm_model.specs.Basis.Data.{GoesOn as AsksOn, Breaks as AsksBreak}
 use Rattle.jvm_model.specs.Codes.Lines.{value_in, slot_in, increment_in, target_in, keys_in, targets_of}
 use Rattle.jvm_model.specs.Instructions.LocalRules
-use Rattle.jvm_basic.specs.Rules.{datum_in, goes_at, placed, going, needs, loads, stores, increments, branches, chosen, switches, goes_back, does, rule_by, rule_of}
+use Rattle.jvm_basic.specs.Rules.{datum_in, goes_at, outcome_placed, going, needs, loads, stores, increments, branches, target_chosen, switches, goes_back, does, rule_by, rule_of}
 use Rattle.jvm_basic.proofs.Asked.{does-is}
 use Rattle.jvm_basic.specs.Needs.{int, long, reference, address, stand, is_as, reads, takes_slots, fits_form, operands_of, has_needs, too_deep}
 
@@ -82,19 +82,19 @@ is-some-map f (Some x) = refl
 
 -- ---- each rule
 
-replaces-breaks : (n : ℕ) (v : Option Value) (next : ℕ) (l : Locals) (o : Operands) → breaks (placed next [] l o (LocalRules.replaces n v l o)) ≡ not (is_some v)
+replaces-breaks : (n : ℕ) (v : Option Value) (next : ℕ) (l : Locals) (o : Operands) → breaks (outcome_placed next [] l o (LocalRules.replaces n v l o)) ≡ not (is_some v)
 replaces-breaks n None next l o = refl
 replaces-breaks n (Some v) next l o = refl
 
 calculated-breaks : {A : Type 0} (n : ℕ) (f : A → Value) (x : Option A) (b : Bool) (next : ℕ) (l : Locals) (o : Operands) → is_some x ≡ b
-    → breaks (placed next [] l o (LocalRules.replaces n (option_map f x) l o)) ≡ not b
+    → breaks (outcome_placed next [] l o (LocalRules.replaces n (option_map f x) l o)) ≡ not b
 calculated-breaks n f x b next l o e = replaces-breaks n (option_map f x) next l o ∙ ap not (is-some-map f x ∙ e)
 
 divides-breaks : {A : Type 0} (f : A → Option Value) (x : Option A) (b : Bool) (next : ℕ) (l : Locals) (o : Operands) → is_some x ≡ b
-    → breaks (placed next [] l o (LocalRules.divides_these (option_map f x) l o)) ≡ not b
+    → breaks (outcome_placed next [] l o (LocalRules.divides_these (option_map f x) l o)) ≡ not b
 divides-breaks f x b next l o e = by (option_map f x) ∙ ap not (is-some-map f x ∙ e)
   where
-    by : (y : Option (Option Value)) → breaks (placed next [] l o (LocalRules.divides_these y l o)) ≡ not (is_some y)
+    by : (y : Option (Option Value)) → breaks (outcome_placed next [] l o (LocalRules.divides_these y l o)) ≡ not (is_some y)
     by None = refl
     by (Some None) = refl
     by (Some (Some v)) = refl
@@ -105,7 +105,7 @@ given-breaks : {A : Type 0} (v : Option A) (rule : A → Rule) (l : Locals) (o :
 given-breaks None rule l o each = refl
 given-breaks (Some x) rule l o each = each x
 
-choice-breaks : (b : Bool) (next : ℕ) (m l : Locals) (p o : Operands) → breaks (placed next [] l o (if b then AsksOn m p Behind else AsksBreak false)) ≡ not b
+choice-breaks : (b : Bool) (next : ℕ) (m l : Locals) (p o : Operands) → breaks (outcome_placed next [] l o (if b then AsksOn m p Behind else AsksBreak false)) ≡ not b
 choice-breaks true next m l p o = refl
 choice-breaks false next m l p o = refl
 
@@ -113,11 +113,11 @@ loads-breaks : (k : Kind) (slot : Option ℕ) (next : ℕ) (l : Locals) (o : Ope
 loads-breaks k None next l o = refl
 loads-breaks k (Some slot) next l o = by (slice_get l slot)
   where
-    kept : (b : Bool) (v : Value) → breaks (placed next [] l o (LocalRules.pushes (if b then Some v else None) l o)) ≡ not b
+    kept : (b : Bool) (v : Value) → breaks (outcome_placed next [] l o (LocalRules.pushes (if b then Some v else None) l o)) ≡ not b
     kept true v = refl
     kept false v = refl
 
-    by : (x : Option (Option Value)) → breaks (placed next [] l o (LocalRules.pushes (loaded k x) l o)) ≡ not (is_as (has_kind k) (option_flatten x))
+    by : (x : Option (Option Value)) → breaks (outcome_placed next [] l o (LocalRules.pushes (local_loaded k x) l o)) ≡ not (is_as (has_kind k) (option_flatten x))
     by None = refl
     by (Some None) = refl
     by (Some (Some v)) = kept (has_kind k v) v
@@ -135,7 +135,7 @@ stores-breaks : (k : Kind) (slot : Option ℕ) (next : ℕ) (l : Locals) (o : Op
 stores-breaks k None next l o = ap not (and-false (stand (is_storable k ∷ []) o))
 stores-breaks k (Some slot) next l [] = refl
 stores-breaks k (Some slot) next l (v ∷ o) =
-    choice-breaks (is_storable k v && has_slots l slot v) next (stored l slot v) l o (v ∷ o)
+    choice-breaks (is_storable k v && has_slots l slot v) next (local_stored l slot v) l o (v ∷ o)
     ∙ ap not (alone (is_storable k v) (has_slots l slot v))
 
 increments-breaks : (x : Option (ℕ × ℤ)) (next : ℕ) (l : Locals) (o : Operands)
@@ -143,7 +143,7 @@ increments-breaks : (x : Option (ℕ × ℤ)) (next : ℕ) (l : Locals) (o : Ope
 increments-breaks None next l o = refl
 increments-breaks (Some (slot, d)) next l o = by (local_in l slot)
   where
-    by : (v : Option Value) → breaks (placed next [] l o (LocalRules.increments slot d v l o)) ≡ not (is_as int v)
+    by : (v : Option Value) → breaks (outcome_placed next [] l o (LocalRules.increments slot d v l o)) ≡ not (is_as int v)
     by None = refl
     by (Some (Int n)) = refl
     by (Some (Long n)) = refl
@@ -151,13 +151,13 @@ increments-breaks (Some (slot, d)) next l o = by (local_in l slot)
     by (Some (Addr n)) = refl
 
 manages_stack-breaks : (forms : List StackForm) (next : ℕ) (l : Locals) (o : Operands)
-    → breaks (placed next [] l o (LocalRules.leaves (managed_stack forms o) l)) ≡ not (list_any (fits_form o) forms)
+    → breaks (outcome_placed next [] l o (LocalRules.leaves (managed_stack forms o) l)) ≡ not (list_any (fits_form o) forms)
 manages_stack-breaks [] next l o = refl
 manages_stack-breaks (form ∷ forms) next l o =
     by (has_form form.takes o) (puts_on form.puts o (drop (length form.takes) o)) (list_any (fits_form o) forms) (manages_stack-breaks forms next l o)
   where
-    by : (b : Bool) (p : Operands) (c : Bool) → breaks (placed next [] l o (LocalRules.leaves (managed_stack forms o) l)) ≡ not c
-        → breaks (placed next [] l o (LocalRules.leaves (if b then Some p else managed_stack forms o) l)) ≡ not (b || c)
+    by : (b : Bool) (p : Operands) (c : Bool) → breaks (outcome_placed next [] l o (LocalRules.leaves (managed_stack forms o) l)) ≡ not c
+        → breaks (outcome_placed next [] l o (LocalRules.leaves (if b then Some p else managed_stack forms o) l)) ≡ not (b || c)
     by true p c h = refl
     by false p c h = h
 
@@ -172,7 +172,7 @@ branches-breaks : (t : Test) (target : Option ℕ) (next : ℕ) (l : Locals) (o 
 branches-breaks t None next l o = refl
 branches-breaks t (Some target) next l o = by (LocalRules.holds t o) ∙ ap not (holds-stands t o)
   where
-    by : (b : Option Bool) → breaks (placed next (target ∷ []) l o (LocalRules.goes_if b (LocalRules.tests t) l o)) ≡ not (is_some b)
+    by : (b : Option Bool) → breaks (outcome_placed next (target ∷ []) l o (LocalRules.goes_if b (LocalRules.tests t) l o)) ≡ not (is_some b)
     by None = refl
     by (Some true) = refl
     by (Some false) = refl
@@ -181,14 +181,14 @@ at-breaks : (l : Locals) (o : Operands) (place : Option ℕ) → breaks (goes_at
 at-breaks l o None = refl
 at-breaks l o (Some place) = refl
 
-switches-breaks : (a : Arg) (l : Locals) (o : Operands) → breaks (switches a l o) ≡ not (is_some (option_and_then (chosen a) (int_of o)))
+switches-breaks : (a : Arg) (l : Locals) (o : Operands) → breaks (switches a l o) ≡ not (is_some (option_and_then (target_chosen a) (int_of o)))
 switches-breaks a l o = by_keys (keys_in a)
   where
     none : (n : Option ℤ) → true ≡ not (is_some (option_and_then (λ m. let place : Option ℕ = None in place) n))
     none None = refl
     none (Some n) = refl
 
-    some : (keys : Keys) (n : Option ℤ) → breaks (placed 0 (targets_of a) l o (LocalRules.switches_on keys n l o))
+    some : (keys : Keys) (n : Option ℤ) → breaks (outcome_placed 0 (targets_of a) l o (LocalRules.switches_on keys n l o))
         ≡ not (is_some (option_and_then (λ m. slice_get (targets_of a) (LocalRules.target_by keys m)) n))
     some keys None = refl
     some keys (Some n) = at-breaks l (drop 1 o) (slice_get (targets_of a) (LocalRules.target_by keys n))
@@ -202,7 +202,7 @@ back-breaks : (slot : Option ℕ) (l : Locals) (o : Operands) → breaks (goes_b
 back-breaks None l o = refl
 back-breaks (Some slot) l o = by (local_in l slot)
   where
-    by : (v : Option Value) → breaks (placed 0 [] l o (LocalRules.goes_back v l o)) ≡ not (is_as address v)
+    by : (v : Option Value) → breaks (outcome_placed 0 [] l o (LocalRules.goes_back v l o)) ≡ not (is_as address v)
     by None = refl
     by (Some (Int n)) = refl
     by (Some (Long n)) = refl
@@ -268,9 +268,9 @@ effect-bad Leaves fs = refl
 
 pub bad-exactly : (i : Instr) (c : Option Value) (next : ℕ) (s : FramesView)
     → (effect_of (rule_of i c next) s ≡ Bad)
-    ↔ IsTrue (not (has_needs (family_of i.op) i.arg c (top_locals s.frames) (top_operands s.frames)) || too_deep (asked (rule_of i c next) s.frames) s.frames)
+    ↔ IsTrue (not (has_needs (family_of i.op) i.arg c (top_locals s.frames) (top_operands s.frames)) || too_deep (outcome_asked (rule_of i c next) s.frames) s.frames)
 bad-exactly i c next s =
-    let x = asked (rule_of i c next) s.frames in
+    let x = outcome_asked (rule_of i c next) s.frames in
     let is = effect-bad x s.frames
     ∙ ap (λ b. b || too_deep x s.frames) (rule-breaks (family_of i.op) i.arg c next (top_locals s.frames) (top_operands s.frames)) in
     (λ e. sym is ∙ ap is_bad_effect e, λ e. bad-is (effect_in x s.frames) (is ∙ e))

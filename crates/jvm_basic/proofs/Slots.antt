@@ -13,7 +13,7 @@ use Rattle.jvm_basic.proofs.TopReads.{int_narrow}
 use Rattle.jvm_basic.proofs.Exchanged.{shrunk}
 use Rattle.jvm_model.specs.Basis.Data.{Locals, Operands}
 use Rattle.jvm_basic.specs.Outcomes.{top_locals, can_hold, with_top}
-use Rattle.jvm_model.specs.Basis.Values.{local_in, has_slots, stored}
+use Rattle.jvm_model.specs.Basis.Values.{local_in, has_slots, local_stored}
 
 pub local_of-is : (slot : ℕ) (fs : List PlacedFrame) → local_of slot fs ≡ local_in (top_locals fs) slot
 local_of-is slot [] = refl
@@ -56,7 +56,7 @@ written-holds slot v o [] = refl
 written-holds slot v o (f ∷ fs) = refl
 
 pub written-top : (slot : ℕ) (v : Value) (o : Operands) (place : ℕ) (fs : List PlacedFrame)
-    → with_top (top_locals (with_local slot v fs)) o place (with_local slot v fs) ≡ with_top (stored (top_locals fs) slot v) o place fs
+    → with_top (top_locals (with_local slot v fs)) o place (with_local slot v fs) ≡ with_top (local_stored (top_locals fs) slot v) o place fs
 written-top slot v o place [] = refl
 written-top slot v o place (f ∷ fs) = refl
 

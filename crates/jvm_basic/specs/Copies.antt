@@ -7,15 +7,15 @@ use Rattle.jvm_model.specs.Basis.Values.{with_value}
 use Rattle.jvm_basic.specs.Outcomes.{Rule, GoesOn, Breaks, can_hold}
 
 -- these values, below so many operands
-abbrev pub inserted : ℕ → List Value → Operands → Operands
-inserted under values o = take under o ++ (values ++ drop under o)
+abbrev pub values_inserted : ℕ → List Value → Operands → Operands
+values_inserted under values o = take under o ++ (values ++ drop under o)
 
 -- the first one above the second one
 abbrev pub values_of : Value → Option Value → List Value
 values_of first second = first ∷ with_value second []
 
 abbrev pub inserts : ℕ → List Value → ℕ → Rule
-inserts under values place l o = GoesOn l (inserted under values o) place
+inserts under values place l o = GoesOn l (values_inserted under values o) place
 
 abbrev pub copies_value : ℕ → Option Value → ℕ → Rule
 copies_value under None place l o = Breaks
@@ -35,7 +35,7 @@ copies_two under place l o = copies_values under (slice_get o 0) (slice_get o 1)
 
 abbrev pub swaps_value : Option Value → ℕ → Rule
 swaps_value None place l o = Breaks
-swaps_value (Some v) place l o = GoesOn l (inserted 1 (v ∷ []) (drop 1 o)) place
+swaps_value (Some v) place l o = GoesOn l (values_inserted 1 (v ∷ []) (drop 1 o)) place
 
 -- the topmost operand below the one under it
 abbrev pub swaps : ℕ → Rule
@@ -58,4 +58,4 @@ abbrev pub with_some : Option Value → FramesView → FramesView
 with_some value s = with_frames (with_operands (with_value value (top_operands s.frames)) s.frames) s
 
 abbrev pub with_inserted : ℕ → List Value → FramesView → FramesView
-with_inserted under values s = with_frames (with_operands (inserted under values (top_operands s.frames)) s.frames) s
+with_inserted under values s = with_frames (with_operands (values_inserted under values (top_operands s.frames)) s.frames) s

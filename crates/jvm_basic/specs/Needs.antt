@@ -17,8 +17,8 @@ use Rattle.jvm_model.specs.Basis.Families.{family_of}
 use Rattle.jvm_model.specs.Codes.Lines.{value_in, slot_in, increment_in, target_in}
 use Rattle.jvm_model.specs.Basis.StackForms.{forms_of}
 use Rattle.jvm_model.specs.Basis.Values.{int_of, local_in, has_kind, is_storable, has_slots, has_form}
-use Rattle.jvm_basic.specs.Outcomes.{Outcome, GoesOn, Raises, Breaks, Leaves, top_locals, can_hold, asked}
-use Rattle.jvm_basic.specs.Rules.{datum_in, chosen, rule_of}
+use Rattle.jvm_basic.specs.Outcomes.{Outcome, GoesOn, Raises, Breaks, Leaves, top_locals, can_hold, outcome_asked}
+use Rattle.jvm_basic.specs.Rules.{datum_in, target_chosen, rule_of}
 
 abbrev pub Wish : Type 0
 Wish = Value → Bool
@@ -90,7 +90,7 @@ has_needs (family.Branch test) a c l o = is_some (target_in a) && stand (operand
 has_needs family.Goto a c l o = is_some (target_in a)
 has_needs family.Jsr a c l o = is_some (target_in a)
 has_needs family.Ret a c l o = reads address (slot_in a) l
-has_needs family.Switch a c l o = is_some (option_and_then (chosen a) (int_of o))
+has_needs family.Switch a c l o = is_some (option_and_then (target_chosen a) (int_of o))
 has_needs _ a c l o = true
 
 -- the operands that the rule gives are too deep, or there is no frame
@@ -104,4 +104,4 @@ too_deep Leaves fs = false
 abbrev pub is_bad : Instr → Option Value → ℕ → FramesView → Bool
 is_bad i c next s =
     not (has_needs (family_of i.op) i.arg c (top_locals s.frames) (top_operands s.frames))
-    || too_deep (asked (rule_of i c next) s.frames) s.frames
+    || too_deep (outcome_asked (rule_of i c next) s.frames) s.frames

@@ -49,11 +49,11 @@ frames_in Leaves fs = fs
 abbrev pub Rule : Type 0
 Rule = Locals → Operands → Outcome
 
-abbrev pub asked : Rule → List PlacedFrame → Outcome
-asked rule fs = rule (top_locals fs) (top_operands fs)
+abbrev pub outcome_asked : Rule → List PlacedFrame → Outcome
+outcome_asked rule fs = rule (top_locals fs) (top_operands fs)
 
 abbrev pub effect_of : Rule → FramesView → Effect
-effect_of rule s = effect_in (asked rule s.frames) s.frames
+effect_of rule s = effect_in (outcome_asked rule s.frames) s.frames
 
 abbrev pub after : Rule → FramesView → FramesView
-after rule s = with_frames (frames_in (asked rule s.frames) s.frames) s
+after rule s = with_frames (frames_in (outcome_asked rule s.frames) s.frames) s

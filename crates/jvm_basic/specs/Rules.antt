@@ -53,15 +53,15 @@ place_in next targets (Target k) = slice_get targets k
 place_in next targets (Back place) = Some place
 
 -- Of a frame with these locals and operands. What ends an activation or needs more than the frame is left to others.
-abbrev pub placed : ℕ → List ℕ → Locals → Operands → Asked → Outcome
-placed next targets l o (AsksOn m p to) = goes_at m p (place_in next targets to)
-placed next targets l o Subroutine = goes_at l (Addr next ∷ o) (slice_get targets 0)
-placed next targets l o (AsksRaise name message) = Raises (class_position name)
-placed next targets l o (AsksBreak false) = Breaks
-placed next targets l o _ = Leaves
+abbrev pub outcome_placed : ℕ → List ℕ → Locals → Operands → Asked → Outcome
+outcome_placed next targets l o (AsksOn m p to) = goes_at m p (place_in next targets to)
+outcome_placed next targets l o Subroutine = goes_at l (Addr next ∷ o) (slice_get targets 0)
+outcome_placed next targets l o (AsksRaise name message) = Raises (class_position name)
+outcome_placed next targets l o (AsksBreak false) = Breaks
+outcome_placed next targets l o _ = Leaves
 
 abbrev pub going : Asking → ℕ → List ℕ → Rule
-going asks next targets l o = placed next targets l o (asks l o)
+going asks next targets l o = outcome_placed next targets l o (asks l o)
 
 -- the instruction needs this of its operand
 abbrev pub needs : {A : Type 0} → Option A → (A → Rule) → Rule
@@ -140,8 +140,8 @@ abbrev pub goes_to : Option ℕ → Rule
 goes_to target = needs target (λ t. going (LocalRules.within Goto) 0 (t ∷ []))
 
 -- where a switch goes by a number
-abbrev pub chosen : Arg → ℤ → Option ℕ
-chosen a n = option_and_then (λ keys. slice_get (targets_of a) (LocalRules.target_by keys n)) (keys_in a)
+abbrev pub target_chosen : Arg → ℤ → Option ℕ
+target_chosen a n = option_and_then (λ keys. slice_get (targets_of a) (LocalRules.target_by keys n)) (keys_in a)
 
 abbrev pub switches : Arg → Rule
 switches a = needs (keys_in a) (λ keys. going (LocalRules.switches keys) 0 (targets_of a))

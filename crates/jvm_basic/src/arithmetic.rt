@@ -3,7 +3,7 @@
 ghost use Rattle.std.specs.Prelude.{◌≡◌};
 ghost use Rattle.std.specs.Int.{w32, w64};
 ghost use Rattle.jvm_basic.specs.Outcomes.{effect_of, after};
-ghost use Rattle.jvm_model.specs.Instructions.LocalRules.{calculated, calculated_long, shifted, divided};
+ghost use Rattle.jvm_model.specs.Instructions.LocalRules.{int_calculated, calculated_long, long_shifted, number_divided};
 ghost use Rattle.jvm_model.specs.Instructions.LocalRules.{of_int, of_long};
 ghost use Rattle.jvm_basic.specs.Rules.{compares_longs, divides_ints};
 ghost use Rattle.jvm_basic.specs.Rules.{calculates, calculates_long, shifts};
@@ -24,8 +24,8 @@ use jvm_model::{Division, IntOperator, LongOperator, LongShift, OfInt, OfLong};
 // ---- results
 
 #[inline(always)]
-fn calculated(op: IntOperator, a: i32, b: i32) -> i32
-    ensures { result ≡ calculated op a b }
+fn int_calculated(op: IntOperator, a: i32, b: i32) -> i32
+    ensures { result ≡ int_calculated op a b }
 {
     match op {
         IntOperator::Iadd => add_i32(a, b),
@@ -53,8 +53,8 @@ fn calculated_long(op: LongOperator, a: i64, b: i64) -> i64
     }
 }
 
-fn shifted(op: LongShift, a: i64, n: i32) -> i64
-    ensures { result ≡ shifted op a n }
+fn long_shifted(op: LongShift, a: i64, n: i32) -> i64
+    ensures { result ≡ long_shifted op a n }
 {
     match op {
         LongShift::Lshl => shl_i64(a, n),
@@ -65,7 +65,7 @@ fn shifted(op: LongShift, a: i64, n: i32) -> i64
 
 #[inline(always)]
 fn divided_int(op: Division, a: i32, b: i32) -> Option<i32>
-    ensures { result ≡ divided op w32 a b }
+    ensures { result ≡ number_divided op w32 a b }
 {
     match op {
         Division::Quotient => div_i32(a, b),
@@ -74,7 +74,7 @@ fn divided_int(op: Division, a: i32, b: i32) -> Option<i32>
 }
 
 fn divided_long(op: Division, a: i64, b: i64) -> Option<i64>
-    ensures { result ≡ divided op w64 a b }
+    ensures { result ≡ number_divided op w64 a b }
 {
     match op {
         Division::Quotient => div_i64(a, b),
@@ -115,7 +115,7 @@ pub fn calculate(frames: &mut Frames, op: IntOperator, next: u16) -> Effect
     let Some((a, b)) = ints_of(frames) else {
         return Effect::Bad;
     };
-    exchange_two(frames, Value::Int(calculated(op, a, b)), next)
+    exchange_two(frames, Value::Int(int_calculated(op, a, b)), next)
 }
 
 /// ladd to lxor, but for the shifts.
@@ -139,7 +139,7 @@ pub fn shift(frames: &mut Frames, op: LongShift, next: u16) -> Effect
     let Some((a, n)) = long_and_int_of(frames) else {
         return Effect::Bad;
     };
-    replace_two(frames, Value::Long(shifted(op, a, n)), next)
+    replace_two(frames, Value::Long(long_shifted(op, a, n)), next)
 }
 
 /// lcmp.

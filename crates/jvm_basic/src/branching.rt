@@ -7,7 +7,7 @@ ghost use Rattle.jvm_basic.specs.Outcomes.{effect_of, after};
 ghost use Rattle.jvm_model.specs.Codes.Lines.{target_in};
 ghost use Rattle.jvm_model.specs.Instructions.LocalRules.{compares, is_same, holds, tests, target_at, target_of};
 ghost use Rattle.jvm_basic.specs.Rules.{branches, goes_to, calls_subroutine};
-ghost use Rattle.jvm_basic.specs.Rules.{chosen, switches};
+ghost use Rattle.jvm_basic.specs.Rules.{target_chosen, switches};
 
 use crate::effect::Effect;
 use crate::moving::{drop_narrow, drop_one, go_on, put};
@@ -170,8 +170,8 @@ fn target_of(default: u16, keys: &Seq<i32>, targets: &Seq<u16>, n: i32) -> Optio
 }
 
 /// Where a switch goes.
-fn chosen(arg: &Arg, n: i32) -> Option<u16>
-    ensures { result ≡ chosen arg.now n }
+fn target_chosen(arg: &Arg, n: i32) -> Option<u16>
+    ensures { result ≡ target_chosen arg.now n }
 {
     match arg {
         Arg::Table(default, low, targets) => Some(target_at(*default, targets, *low, n)),
@@ -188,7 +188,7 @@ pub fn switch(frames: &mut Frames, arg: &Arg) -> Effect
     let Some(n) = int_of(frames) else {
         return Effect::Bad;
     };
-    let Some(target) = chosen(arg, n) else {
+    let Some(target) = target_chosen(arg, n) else {
         return Effect::Bad;
     };
     drop_one(frames, target)

@@ -17,7 +17,7 @@ use Rattle.jvm_model.specs.Codes.Originals.{original}
 use Rattle.jvm_model.specs.Turns.Pauses.{is_end, later_of}
 use Rattle.jvm_model.specs.Turns.Rest.{Attempt, Todo}
 use Rattle.jvm_model.specs.Running.Run.{turn}
-use Rattle.jvm_model.specs.Rewriting.StandsForRun.{at_homes, forgotten, norm_by}
+use Rattle.jvm_model.specs.Rewriting.StandsForRun.{at_homes, versions_forgotten, norm_by}
 use Rattle.jvm_model.specs.Turns.StepPauses.{Awaits, is_at_return}
 use Rattle.jvm_model.specs.Turns.Told.{held_by, helds}
 use Rattle.jvm_steps.specs.declared.turns.hands.Gone.{Gone}
@@ -28,7 +28,7 @@ use Rattle.prepared_code.specs.Standing.{places_of}
 use Rattle.prepared_code.specs.Versions.{Setup, mark_of, method_of}
 use Rattle.jvm_machine.specs.declared.advancing.Telling.TheVariants as telling
 use Rattle.jvm_machine.specs.Advances.{left_in}
-use Rattle.jvm_machine.specs.Machine.{IsMachine, IsSoundOnce, seen}
+use Rattle.jvm_machine.specs.Machine.{IsMachine, IsSoundOnce, state_seen}
 use Rattle.jvm_machine.specs.Probes.{IfLeaves, IsReturn, StandsAtReturn}
 use Rattle.jvm_machine.specs.View.{is_resting}
 
@@ -36,9 +36,9 @@ told-busy : (b : Bool) → (b && not true) ≡ false
 told-busy true = refl
 told-busy false = refl
 
-module _ (w : Setup) (loaded : List ℕ) (hand : Hand) (clock : ℕ) (s : State) (is : IsMachine w loaded hand (seen w s true false clock hand) s) (delivered : hand.delivered ≡ true)
+module _ (w : Setup) (loaded : List ℕ) (hand : Hand) (clock : ℕ) (s : State) (is : IsMachine w loaded hand (state_seen w s true false clock hand) s) (delivered : hand.delivered ≡ true)
     (todo : todo_of hand.moves ≡ Attempt) where
-  busy : is_resting (seen w s true false clock hand) ≡ false
+  busy : is_resting (state_seen w s true false clock hand) ≡ false
   busy = ap (λ b. hand.passed == 0 && not b) delivered ∙ told-busy (hand.passed == 0)
 
   in_hand : HasInHand w is.homes (turn w.world clock) hand (helds (mark_of w.versions) s.stack) s
@@ -70,7 +70,7 @@ module _ (w : Setup) (loaded : List ℕ) (hand : Hand) (clock : ℕ) (s : State)
     same-active x y same = ap (frame_or f) same
 
   by : (ending : Option Ending) (stack : List Entry) → in_hand.between.stack ≡ stack
-      → is_at_return (original w.world.program) ending (moved_stack (forgotten (method_of w.versions)) stack) ≡ true → StandsAtReturn (seen w s true false clock hand)
+      → is_at_return (original w.world.program) ending (moved_stack (versions_forgotten (method_of w.versions)) stack) ≡ true → StandsAtReturn (state_seen w s true false clock hand)
   by None [] e back = absurd (let h : false ≡ true = back in cc)
   by None (Initializing class part ∷ below) e back = absurd (let h : false ≡ true = back in cc)
   by (Some ended) stack e back = absurd (let h : false ≡ true = back in cc)
@@ -92,7 +92,7 @@ module _ (w : Setup) (loaded : List ℕ) (hand : Hand) (clock : ℕ) (s : State)
       IsSoundStack : List Entry → Type 0
       IsSoundStack z = AllByRecursion (IsSoundEntryIn w s.shared.loaded) z
 
-  pub stands-at-return : StandsAtReturn (seen w s true false clock hand)
+  pub stands-at-return : StandsAtReturn (state_seen w s true false clock hand)
   stands-at-return =
       let there : State = original_of (versioned_in w is.homes) in_hand.between in
       let awaits : Awaits w.world (original w.world.program) Attempt there = subst (λ (t : Todo). Awaits w.world (original w.world.program) t there) todo (in_hand.awaits delivered) in
@@ -104,9 +104,9 @@ pub some-left : (o : Option Gone) (gone : Gone) → o ≡ Some gone → IfSome o
 some-left o gone is left = subst (λ x. IfSome x (λ g. IsLeft g)) is left
 
 pub leaves-by : (w : Setup) (loaded : List ℕ) (hand : Hand) (clock : ℕ) (s : State) (gone : Gone) → hand ≡ left_in gone → IsLeft gone
-    → IsMachine w loaded hand (seen w s true false clock hand) s → IfLeaves (telling.Due gone.due) (seen w s true false clock hand)
+    → IsMachine w loaded hand (state_seen w s true false clock hand) s → IfLeaves (telling.Due gone.due) (state_seen w s true false clock hand)
 leaves-by w loaded hand clock s gone handed left is = by gone.due refl where
-  by : (due : Due) → gone.due ≡ due → IfLeaves (telling.Due due) (seen w s true false clock hand)
+  by : (due : Due) → gone.due ≡ due → IfLeaves (telling.Due due) (state_seen w s true false clock hand)
   by Nothing e = tt
   by Begins e = tt
   by (Ends kind.Root) e = tt

@@ -15,7 +15,7 @@ use Rattle.jvm_steps.specs.Moves.Hands.{IsLeft}
 use Rattle.jvm_steps.specs.Moves.Turning.{loads_none}
 use Rattle.jvm_machine.specs.declared.advancing.Telling.TheVariants as telling
 use Rattle.jvm_machine.specs.Advances.{Stops, clock_in, left_in, taken_hand, taken_loads, taken_state}
-use Rattle.jvm_machine.specs.Machine.{IsMachine, IsSoundOnce, IsTidy, seen}
+use Rattle.jvm_machine.specs.Machine.{IsMachine, IsSoundOnce, IsTidy, state_seen}
 use Rattle.jvm_machine.specs.Probes.{IfLeaves}
 use Rattle.jvm_machine.specs.View.{View, IsGoingOn, has_ended, is_resting}
 use Rattle.jvm_machine.proofs.BeforeReturns.{leaves-by}
@@ -24,10 +24,10 @@ use Rattle.jvm_machine.proofs.Machines.{goes-stops, gone-machine}
 use Rattle.jvm_machine.proofs.Shown.{over-is}
 
 -- what was taken up of a machine that was started: the step in hand, or the next one
-module _ (w : Setup) (h : Hand) (clock : ℕ) (s : State) (loaded : List ℕ) (is : IsMachine w loaded h (seen w s true false clock h) s) (taken : Hand)
-    (handed : taken ≡ taken_hand w.world (is_resting (seen w s true false clock h)) true h) where
+module _ (w : Setup) (h : Hand) (clock : ℕ) (s : State) (loaded : List ℕ) (is : IsMachine w loaded h (state_seen w s true false clock h) s) (taken : Hand)
+    (handed : taken ≡ taken_hand w.world (is_resting (state_seen w s true false clock h)) true h) where
   abbrev now : Bool
-  now = is_resting (seen w s true false clock h)
+  now = is_resting (state_seen w s true false clock h)
 
   nothing : taken_loads w.world now true ≡ []
   nothing = by now where
@@ -67,9 +67,9 @@ module _ (w : Setup) (h : Hand) (clock : ℕ) (s : State) (loaded : List ℕ) (i
     then_clock = clock_in now true clock
 
     abbrev there : View
-    there = seen w new true false then_clock (left_in gone)
+    there = state_seen w new true false then_clock (left_in gone)
 
-    stops : Stops (seen w s true false clock h) gone.due there
+    stops : Stops (state_seen w s true false clock h) gone.due there
     stops = goes-stops w h true clock s loaded is nothing (carried Some' some) new gone left (carried (λ hand z. GoesOnFrom w hand z gone new) hands)
 
     machine : (loaded' : List ℕ) → loaded' ≡ new.shared.loaded → IsMachine w loaded' (left_in gone) there new
@@ -80,20 +80,20 @@ module _ (w : Setup) (h : Hand) (clock : ℕ) (s : State) (loaded : List ℕ) (i
 -- ---- of the parts of a machine
 
 module _ (w : Setup) (loaded : List ℕ) (h : Hand) (started broken : Bool) (clock : ℕ) (ms : List Initialization) (p : Parts)
-    (is : IsMachine w loaded h (seen w (state_of ms p) started broken clock h) (state_of ms p)) (v : View) (view : seen w (state_of ms p) started broken clock h ≡ v)
+    (is : IsMachine w loaded h (state_seen w (state_of ms p) started broken clock h) (state_of ms p)) (v : View) (view : state_seen w (state_of ms p) started broken clock h ≡ v)
     (begun_is : started ≡ true) (whole : broken ≡ false) (resting : Bool) (rests : resting ≡ is_resting v) where
   abbrev s : State
   s = state_of ms p
 
-  is-now : IsMachine w loaded h (seen w s true false clock h) s
+  is-now : IsMachine w loaded h (state_seen w s true false clock h) s
   is-now =
-      subst (λ b. IsMachine w loaded h (seen w s b false clock h) s) begun_is
-      (subst (λ b. IsMachine w loaded h (seen w s started b clock h) s) whole is)
+      subst (λ b. IsMachine w loaded h (state_seen w s b false clock h) s) begun_is
+      (subst (λ b. IsMachine w loaded h (state_seen w s started b clock h) s) whole is)
 
-  view-now : seen w s true false clock h ≡ v
-  view-now = ap₂ (λ a b. seen w s a b clock h) (sym begun_is) (sym whole) ∙ view
+  view-now : state_seen w s true false clock h ≡ v
+  view-now = ap₂ (λ a b. state_seen w s a b clock h) (sym begun_is) (sym whole) ∙ view
 
-  resting-is : is_resting (seen w s true false clock h) ≡ resting
+  resting-is : is_resting (state_seen w s true false clock h) ≡ resting
   resting-is = ap is_resting view-now ∙ sym rests
 
   -- the run goes on
@@ -108,7 +108,7 @@ module _ (w : Setup) (loaded : List ℕ) (h : Hand) (started broken : Bool) (clo
   was-whole = ap (λ (x : View). x.broken) (sym view) ∙ whole
 
   module _ (taken : Hand) (handed : taken ≡ taken_hand w.world resting true h) where
-    handed-now : taken ≡ taken_hand w.world (is_resting (seen w s true false clock h)) true h
+    handed-now : taken ≡ taken_hand w.world (is_resting (state_seen w s true false clock h)) true h
     handed-now = handed ∙ ap (λ b. taken_hand w.world b true h) (sym resting-is)
 
     pub calm-attempted : taken.moves ≡ false → IsSoundIn w s
@@ -121,36 +121,36 @@ module _ (w : Setup) (loaded : List ℕ) (h : Hand) (started broken : Bool) (clo
       abbrev new : State
       new = state_of ms after
 
-      ticks-now : clock_in (is_resting (seen w s true false clock h)) true clock ≡ clock'
+      ticks-now : clock_in (is_resting (state_seen w s true false clock h)) true clock ≡ clock'
       ticks-now = ap (λ b. clock_in b true clock) resting-is ∙ sym ticks
 
-      as-now : (P : View → Type 0) → P (seen w new true false (clock_in (is_resting (seen w s true false clock h)) true clock) (left_in gone))
-          → P (seen w new started broken clock' h')
+      as-now : (P : View → Type 0) → P (state_seen w new true false (clock_in (is_resting (state_seen w s true false clock h)) true clock) (left_in gone))
+          → P (state_seen w new started broken clock' h')
       as-now P holds =
-          subst (λ b. P (seen w new started b clock' h')) (sym whole)
-          (subst (λ b. P (seen w new b false clock' h')) (sym begun_is)
-          (subst (λ x. P (seen w new true false clock' x)) (sym left)
-          (subst (λ c. P (seen w new true false c (left_in gone))) ticks-now holds)))
+          subst (λ b. P (state_seen w new started b clock' h')) (sym whole)
+          (subst (λ b. P (state_seen w new b false clock' h')) (sym begun_is)
+          (subst (λ x. P (state_seen w new true false clock' x)) (sym left)
+          (subst (λ c. P (state_seen w new true false c (left_in gone))) ticks-now holds)))
 
-      pub calm-stops : Stops v gone.due (seen w new started broken clock' h')
+      pub calm-stops : Stops v gone.due (state_seen w new started broken clock' h')
       calm-stops =
           as-now (Stops v gone.due)
-          (subst (λ x. Stops x gone.due (seen w new true false (clock_in (is_resting (seen w s true false clock h)) true clock) (left_in gone))) view-now
+          (subst (λ x. Stops x gone.due (state_seen w new true false (clock_in (is_resting (state_seen w s true false clock h)) true clock) (left_in gone))) view-now
           (stops w h clock s loaded is-now taken handed-now new gone goes.loads goes.left hands sound starts))
 
       linked : loaded ≡ new.shared.loaded
       linked = (is-now.whole refl).linked ∙ sym goes.loaded
 
-      pub calm-machine : IsMachine w loaded h' (seen w new started broken clock' h') new
+      pub calm-machine : IsMachine w loaded h' (state_seen w new started broken clock' h') new
       calm-machine =
           as-now (λ x. IsMachine w loaded h' x new)
-          (subst (λ x. IsMachine w loaded x (seen w new true false (clock_in (is_resting (seen w s true false clock h)) true clock) (left_in gone)) new) (sym left)
+          (subst (λ x. IsMachine w loaded x (state_seen w new true false (clock_in (is_resting (state_seen w s true false clock h)) true clock) (left_in gone)) new) (sym left)
           (machine w h clock s loaded is-now taken handed-now new gone goes.loads goes.left hands sound starts loaded linked))
 
-      pub calm-leaves : IfLeaves (telling.Due gone.due) (seen w new started broken clock' h')
+      pub calm-leaves : IfLeaves (telling.Due gone.due) (state_seen w new started broken clock' h')
       calm-leaves =
           as-now (IfLeaves (telling.Due gone.due))
-          (leaves-by w loaded (left_in gone) (clock_in (is_resting (seen w s true false clock h)) true clock) new gone refl goes.left
+          (leaves-by w loaded (left_in gone) (clock_in (is_resting (state_seen w s true false clock h)) true clock) new gone refl goes.left
           (machine w h clock s loaded is-now taken handed-now new gone goes.loads goes.left hands sound starts loaded linked))
 
       pub calm-tidy : IsTidy w.versions s.stack → IsTidy w.versions new.stack

@@ -18,8 +18,8 @@ use Rattle.prepared_code.specs.Entries.{no_version, original_slot, original_vers
 use Rattle.prepared_code.specs.Standing.{IsSetUp}
 use Rattle.prepared_code.specs.Tables.{Version, Versions}
 use Rattle.prepared_code.specs.Versions.{Setup, mark_of}
-use Rattle.jvm_machine.specs.Machine.{IsMachine, marks_of, seen}
-use Rattle.jvm_machine.specs.View.{View, made}
+use Rattle.jvm_machine.specs.Machine.{IsMachine, marks_of, state_seen}
+use Rattle.jvm_machine.specs.View.{View, machine_made}
 
 abbrev fresh_hand : Hand
 fresh_hand = record { moves = false; delivered = false; passed = 0 }
@@ -63,7 +63,7 @@ original-marks p count = all-same (mark_of (original_versions p)) (λ k. slot-pl
 -- ---- the machine
 
 module _ (w : Setup) (s : State) (set : IsSetUp w) (at_start : IsAtStart w.world s) where
-  pub fresh-machine : (loaded : List ℕ) → loaded ≡ (before w.world).shared.loaded → IsMachine w loaded fresh_hand (seen w s false false 0 fresh_hand) s
+  pub fresh-machine : (loaded : List ℕ) → loaded ≡ (before w.world).shared.loaded → IsMachine w loaded fresh_hand (state_seen w s false false 0 fresh_hand) s
   fresh-machine loaded linked = record {
     homes = set.homes;
     has = set.has;
@@ -78,11 +78,11 @@ module _ (w : Setup) (s : State) (set : IsSetUp w) (at_start : IsAtStart w.world
     };
   }
 
-  pub fresh-seen : (p : Program) (input : List ℕ) → w.world.program ≡ p → w.world.input ≡ input → w.versions ≡ original_versions p → seen w s false false 0 fresh_hand ≡ made p input
+  pub fresh-seen : (p : Program) (input : List ℕ) → w.world.program ≡ p → w.world.input ≡ input → w.versions ≡ original_versions p → state_seen w s false false 0 fresh_hand ≡ machine_made p input
   fresh-seen p input program given versions =
       let count : length (original_versions p).current ≡ length p.methods =
       sym (ap (λ (v : Versions). length v.current) versions) ∙ (set.has.are.count ∙ ap (λ (q : Program). length q.methods) program) in
-      let view : Program → List ℕ → View = λ q given. record (made q given) { marks = marks_of w.versions; live = helds (mark_of w.versions) s.stack } in
+      let view : Program → List ℕ → View = λ q given. record (machine_made q given) { marks = marks_of w.versions; live = helds (mark_of w.versions) s.stack } in
       ap₂ view program given
-      ∙ ap₂ (λ marks live. record (made p input) { marks = marks; live = live }) (ap marks_of versions ∙ original-marks p count)
+      ∙ ap₂ (λ marks live. record (machine_made p input) { marks = marks; live = live }) (ap marks_of versions ∙ original-marks p count)
       (ap (λ (z : State). helds (mark_of w.versions) z.stack) at_start.before)

@@ -12,11 +12,11 @@ use Rattle.jvm_model.specs.Running.Applies.{still}
 use Rattle.jvm_model.specs.Basis.Data.{Change, Listing, Turn, World}
 use Rattle.jvm_model.specs.Turns.InHand.{InHand, behind_load, original_of}
 use Rattle.jvm_model.specs.Classes.Load.{Fault}
-use Rattle.jvm_model.specs.Running.Moves.{settled}
+use Rattle.jvm_model.specs.Running.Moves.{turn_settled}
 use Rattle.jvm_model.specs.Codes.Originals.{original}
 use Rattle.jvm_model.specs.Turns.Pauses.{Stop, change_due, is_end, stop_by, stop_from, stop_in}
 use Rattle.jvm_model.specs.Turns.Rest.{Todo, loads_first, step_loads}
-use Rattle.jvm_model.specs.Running.Run.{arguments_made, before, loaded_turn, main_classes, main_loading, main_loads, opened, run, starts_if, starts_unless, starts_with, step, turn, turn_in-more, turn_in-zero, with_loaded}
+use Rattle.jvm_model.specs.Running.Run.{arguments_made, before, loaded_turn, main_classes, main_loading, main_loads, run_opened, run, starts_if, starts_unless, starts_with, step, turn, turn_in-more, turn_in-zero, with_loaded}
 use Rattle.jvm_model.specs.Basis.SharedState.{arguments_fit}
 use Rattle.jvm_model.specs.Rewriting.StandsFor.{mark_at}
 use Rattle.jvm_model.specs.Rewriting.StandsForRun.{StandsFor}
@@ -35,7 +35,7 @@ use Rattle.jvm_steps.specs.Moves.Turning.{loads_in, loads_none}
 use Rattle.prepared_code.specs.Versions.{Setup, current_of, mark_of, method_of, listing_of}
 use Rattle.prepared_code.proofs.VersionsAgree.{versions-agree}
 use Rattle.jvm_machine.specs.Advances.{left_in, passed_then, told_in}
-use Rattle.jvm_machine.specs.Machine.{Stands, marks_of, seen}
+use Rattle.jvm_machine.specs.Machine.{Stands, marks_of, state_seen}
 use Rattle.jvm_machine.specs.View.{View, loads_next, next_stop, to_come}
 
 -- ---- frames behind a load
@@ -47,7 +47,7 @@ loaded-held v (c ∷ more) s = refl
 -- the start has none
 pub starts-held : (v : ℕ → Mark) (w : World) → helds v (starts_with w).stack ≡ []
 starts-held v w = by (arguments_fit w.program) where
-  unless-none : (o : Option Fault) → helds v (starts_unless w o (opened w)).stack ≡ []
+  unless-none : (o : Option Fault) → helds v (starts_unless w o (run_opened w)).stack ≡ []
   unless-none None = refl
   unless-none (Some fault) = loaded-held v (main_classes w) (arguments_made w (before w))
 
@@ -95,7 +95,7 @@ module _ (w : Setup) (homes : ℕ → ℕ → ℕ) (has : HasVersions w homes) w
 
   module _ (started broken : Bool) (clock : ℕ) (hand : Hand) (s : State) (in_hand : HasInHand w homes (turn w.world clock) hand (helds marked s.stack) s) where
     abbrev v : View
-    v = seen w s started broken clock hand
+    v = state_seen w s started broken clock hand
 
     -- nothing is loaded any more
     pub no-loads : loads_next v ≡ []
@@ -110,11 +110,11 @@ module _ (w : Setup) (homes : ℕ → ℕ → ℕ) (has : HasVersions w homes) w
       due-is = ap (λ (x : Stop). x.due) stop-is
 
       abbrev there : View
-      there = seen w new started broken clock (left_in gone)
+      there = state_seen w new started broken clock (left_in gone)
 
       pub goes-stopped : there ≡ told_in v gone.due
       goes-stopped = by gone.due refl where
-        by : (d : Due) → gone.due ≡ d → seen w new started broken clock (record gone.hand { passed = passed_then d gone.hand.passed }) ≡ told_in v d
+        by : (d : Due) → gone.due ≡ d → state_seen w new started broken clock (record gone.hand { passed = passed_then d gone.hand.passed }) ≡ told_in v d
         by Nothing e =
             ap₂ (λ delivered live. record v { passed = 0; delivered = delivered; live = live }) (left.delivered ∙ ap is_end e) (sym (ap (λ (x : Stop). x.live) stop-is))
         by (Ends k) e =
@@ -191,4 +191,4 @@ module _ (w : Setup) (homes : ℕ → ℕ → ℕ) (has : HasVersions w homes) w
   pub start-first : (c : ℕ) (more : List ℕ) → main_loads w.world ≡ c ∷ more → loads_first (turn w.world 0).changes ≡ c ∷ more
   start-first c more loads =
       ap (λ (a : Turn). loads_first a.changes) (turn_in-zero w.world t)
-      ∙ ap (λ cs. loads_first (loaded_turn cs (settled w.world t (still (starts_with w.world)))).changes) loads
+      ∙ ap (λ cs. loads_first (loaded_turn cs (turn_settled w.world t (still (starts_with w.world)))).changes) loads

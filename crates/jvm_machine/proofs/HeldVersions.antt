@@ -20,7 +20,7 @@ use Rattle.jvm_model.specs.Running.Run.{starts_with, with_loaded}
 use Rattle.jvm_steps.specs.declared.turns.hands.Hand.{Hand}
 use Rattle.prepared_code.specs.Versions.{Setup}
 use Rattle.jvm_machine.specs.Advances.{taken_state}
-use Rattle.jvm_machine.specs.Machine.{IsTidy, Keeps, holds_stale, is_stale, seen, viewed}
+use Rattle.jvm_machine.specs.Machine.{IsTidy, Keeps, holds_stale, is_stale, state_seen, state_viewed}
 use Rattle.jvm_steps.specs.Instructions.Passing.{runs}
 use Rattle.jvm_machine.specs.View.{View}
 
@@ -40,20 +40,20 @@ tidy-seen v stack tidy =
 
 -- no version is seen that is held needlessly
 pub plain-view : (w : Setup) (loaded : List ℕ) (hand : Hand) (started broken : Bool) (clock : ℕ) (s : State) → (broken ≡ false → IsTidy w.versions s.stack)
-    → viewed w s started broken clock hand ≡ seen w s started broken clock hand
+    → state_viewed w s started broken clock hand ≡ state_seen w s started broken clock hand
 plain-view w loaded hand started true clock s tidy = refl
-plain-view w loaded hand started false clock s tidy = ap (λ b. record (seen w s started false clock hand) { stale = b }) (tidy-seen w.versions s.stack (tidy refl))
+plain-view w loaded hand started false clock s tidy = ap (λ b. record (state_seen w s started false clock hand) { stale = b }) (tidy-seen w.versions s.stack (tidy refl))
 
 -- what is seen is that
 pub seen-is : {w : Setup} {loaded : List ℕ} {hand : Hand} {started broken : Bool} {clock : ℕ} {s : State} {v : View} (is : Keeps w loaded hand started broken clock s)
-    → viewed w s started broken clock hand ≡ v → seen w s started broken clock hand ≡ v
+    → state_viewed w s started broken clock hand ≡ v → state_seen w s started broken clock hand ≡ v
 seen-is {w} {loaded} {hand} {started} {broken} {clock} {s} is view = sym (plain-view w loaded hand started broken clock s is.tidy) ∙ view
 
 pub never-stale : {w : Setup} {loaded : List ℕ} {hand : Hand} {started broken : Bool} {clock : ℕ} {s : State} {v : View} (is : Keeps w loaded hand started broken clock s)
-    → viewed w s started broken clock hand ≡ v → v.stale ≡ false
+    → state_viewed w s started broken clock hand ≡ v → v.stale ≡ false
 never-stale is view = sym (ap (λ (v : View). v.stale) (seen-is is view))
 
-pub as-viewed : (w : Setup) (loaded : List ℕ) (hand : Hand) (clock : ℕ) (s : State) (P : View → Type 0) → IsTidy w.versions s.stack → P (seen w s true false clock hand) → P (viewed w s true false clock hand)
+pub as-viewed : (w : Setup) (loaded : List ℕ) (hand : Hand) (clock : ℕ) (s : State) (P : View → Type 0) → IsTidy w.versions s.stack → P (state_seen w s true false clock hand) → P (state_viewed w s true false clock hand)
 as-viewed w loaded hand clock s P tidy holds = subst P (sym (plain-view w loaded hand true false clock s (λ whole. tidy))) holds
 
 pub unless-some : {A : Type 0} (o : Option A) → ((a : A) → o ≡ Some a → ⊥) → (P : Type 0) → IfNone o P → P

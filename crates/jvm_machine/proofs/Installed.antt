@@ -24,7 +24,7 @@ use Rattle.prepared_code.proofs.ClassVersionLaws.{versions-of}
 use Rattle.prepared_code.proofs.StandingSteps.{has-one}
 use Rattle.prepared_code.proofs.VersionsRun.{count-added, same-added}
 use Rattle.jvm_machine.specs.Installs.{IsFormed, IsImageOf, marks_over, with_class}
-use Rattle.jvm_machine.specs.Machine.{IsMachine, marks_of, seen}
+use Rattle.jvm_machine.specs.Machine.{IsMachine, marks_of, state_seen}
 use Rattle.jvm_machine.specs.View.{View, is_resting, run_state}
 use Rattle.jvm_machine.proofs.ImagedMethods.{method-images, version-marked}
 use Rattle.jvm_machine.proofs.Kept.{AreKept, hand-stays, kept-of-sound, kept-once, once-stays, same-helds, sound-stays, stands-stays}
@@ -32,7 +32,7 @@ use Rattle.jvm_machine.proofs.MarkedClasses.{class-marks, marks-all}
 
 module _ (started broken : Bool) (clock : ℕ) (hand : Hand) (s : State) (loaded : List ℕ) (whole : broken ≡ false) where
   abbrev view : Setup → View
-  view w = seen w s started broken clock hand
+  view w = state_seen w s started broken clock hand
 
   -- the frames run held versions
   machine-kept : (w : Setup) → IsMachine w loaded hand (view w) s → AreKept w.versions s.stack

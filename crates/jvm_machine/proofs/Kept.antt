@@ -11,7 +11,7 @@ use Rattle.jvm_model.specs.declared.state.State.{State}
 use Rattle.jvm_model.specs.Basis.Data.{Turn, World}
 use Rattle.jvm_model.specs.Classes.Load.{Fault}
 use Rattle.jvm_model.specs.Codes.Originals.{original}
-use Rattle.jvm_model.specs.Running.Run.{arguments_made, before, main_classes, main_loading, opened, starts_if, starts_unless, starts_with, with_loaded}
+use Rattle.jvm_model.specs.Running.Run.{arguments_made, before, main_classes, main_loading, run_opened, starts_if, starts_unless, starts_with, with_loaded}
 use Rattle.jvm_model.specs.Basis.SharedState.{arguments_fit}
 use Rattle.jvm_model.specs.Soundness.SoundListings.{IsSoundEntry}
 use Rattle.jvm_model.specs.Rewriting.StandsForRun.{KeepVersions}
@@ -42,7 +42,7 @@ loaded-kept v (c ∷ more) s are = are
 
 pub starts-kept : (v : Versions) (w : World) → AreKept v (starts_with w).stack
 starts-kept v w = by (arguments_fit w.program) where
-  unless-kept : (o : Option Fault) → AreKept v (starts_unless w o (opened w)).stack
+  unless-kept : (o : Option Fault) → AreKept v (starts_unless w o (run_opened w)).stack
   unless-kept None = (tt, tt)
   unless-kept (Some fault) = loaded-kept v (main_classes w) (arguments_made w (before w)) tt
 

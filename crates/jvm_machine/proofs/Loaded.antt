@@ -31,7 +31,7 @@ use Rattle.jvm_steps.specs.Moves.Turning.{loads_in}
 use Rattle.prepared_code.specs.Versions.{Setup, mark_of, listing_of}
 use Rattle.prepared_code.proofs.StandingSteps.{set-up-runs}
 use Rattle.prepared_code.proofs.VersionsRun.{step-stands}
-use Rattle.jvm_machine.specs.Machine.{IsMachine, IsSoundOnce, Stands, seen}
+use Rattle.jvm_machine.specs.Machine.{IsMachine, IsSoundOnce, Stands, state_seen}
 use Rattle.jvm_machine.specs.View.{View, is_resting, run_state}
 use Rattle.jvm_machine.proofs.Going.{in-hand-loads}
 use Rattle.jvm_machine.proofs.Machines.{none-front}
@@ -100,8 +100,8 @@ module _ (w : Setup) (homes : ℕ → ℕ → ℕ) (has : HasVersions w homes) (
 
 -- ---- the machine
 
-module _ (w : Setup) (loaded : List ℕ) (hand : Hand) (started broken : Bool) (clock : ℕ) (s : State) (is : IsMachine w loaded hand (seen w s started broken clock hand) s)
-    (v : View) (view : seen w s started broken clock hand ≡ v) (whole : v.broken ≡ false) where
+module _ (w : Setup) (loaded : List ℕ) (hand : Hand) (started broken : Bool) (clock : ℕ) (s : State) (is : IsMachine w loaded hand (state_seen w s started broken clock hand) s)
+    (v : View) (view : state_seen w s started broken clock hand ≡ v) (whole : v.broken ≡ false) where
   unbroken : broken ≡ false
   unbroken = ap (λ (x : View). x.broken) view ∙ whole
 
@@ -115,7 +115,7 @@ module _ (w : Setup) (loaded : List ℕ) (hand : Hand) (started broken : Bool) (
   busy-loaded : is_resting v ≡ false → s.shared.loaded ≡ (run_state v).shared.loaded
   busy-loaded busy =
       let w_is = is.whole unbroken in
-      let resting : is_resting (seen w s started broken clock hand) ≡ false = ap is_resting view ∙ busy in
+      let resting : is_resting (state_seen w s started broken clock hand) ≡ false = ap is_resting view ∙ busy in
       sym (hand-loaded w is.homes is.has (turn w.world clock) hand (helds (mark_of w.versions) s.stack) s (w_is.in_hand resting) (w_is.sound resting))
       ∙ (ap (λ b. (if b then run w.world clock else before w.world).shared.loaded) (sym (busy-started started refl busy))
       ∙ ap (λ (x : View). (run_state x).shared.loaded) view)

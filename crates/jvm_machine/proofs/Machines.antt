@@ -21,8 +21,8 @@ use Rattle.prepared_code.specs.Tables.{Releases, Versions}
 use Rattle.jvm_steps.specs.Moves.Turning.{loads_in, loads_none}
 use Rattle.prepared_code.specs.Versions.{Setup, mark_of}
 use Rattle.jvm_machine.specs.Advances.{Stops, TellsClasses, clock_in, left_in, passed_then, taken_hand, taken_loads, taken_state, told_in}
-use Rattle.jvm_machine.specs.Machine.{IsMachine, IsSoundOnce, IsWhole, Stands, seen}
-use Rattle.jvm_machine.specs.View.{View, advanced, begun, is_resting, loads_next, next_stop}
+use Rattle.jvm_machine.specs.Machine.{IsMachine, IsSoundOnce, IsWhole, Stands, state_seen}
+use Rattle.jvm_machine.specs.View.{View, clock_advanced, step_begun, is_resting, loads_next, next_stop}
 use Rattle.jvm_machine.proofs.Going.{due-is, goes-hand, goes-rests, goes-stopped, in-hand-loads, no-loads, passed-some, start-first, start-hand, starts-held, step-first, step-hand}
 use Rattle.jvm_machine.proofs.Kept.{AreKept, kept-of-sound, kept-once}
 use Rattle.jvm_machine.proofs.Released.{hand-left, has-then, helds-left, same-marks, sound-left, stands-left, then_homes}
@@ -51,27 +51,27 @@ not_is false e = refl
 -- ---- superseded versions are dropped
 
 module _ (w : Setup) (fs : List PlacedFrame) (after : Versions) (released : Releases fs w.versions after) (hand : Hand) (clock : ℕ) (s : State) (loaded : List ℕ) (pinned : IsPinned fs s.stack)
-    (is : IsMachine w loaded hand (seen w s true false clock hand) s) where
+    (is : IsMachine w loaded hand (state_seen w s true false clock hand) s) where
   abbrev u : Setup
   u = record w { versions = after }
 
-  machine-kept : (resting : Bool) → is_resting (seen w s true false clock hand) ≡ resting → AreKept w.versions s.stack
+  machine-kept : (resting : Bool) → is_resting (state_seen w s true false clock hand) ≡ resting → AreKept w.versions s.stack
   machine-kept true e = kept-of-sound w s ((is.whole refl).rests e refl)
   machine-kept false e = kept-once w hand s ((is.whole refl).sound e)
 
   are : AreKept w.versions s.stack
-  are = machine-kept (is_resting (seen w s true false clock hand)) refl
+  are = machine-kept (is_resting (state_seen w s true false clock hand)) refl
 
-  pub released-seen : seen u s true false clock hand ≡ seen w s true false clock hand
+  pub released-seen : state_seen u s true false clock hand ≡ state_seen w s true false clock hand
   released-seen =
-      ap₂ (λ marks live. record (seen w s true false clock hand) { marks = marks; live = live })
+      ap₂ (λ marks live. record (state_seen w s true false clock hand) { marks = marks; live = live })
       (same-marks w is.homes is.has fs after released) (helds-left w is.homes is.has fs after released s are pinned)
 
   sound-then : IsSoundOnce w hand s → IsSoundOnce u hand s
   sound-then (inl sound) = inl (sound-left w is.homes is.has fs after released s pinned sound)
   sound-then (inr starting) = inr (record { moves = starting.moves; undelivered = starting.undelivered; begins = starting.begins })
 
-  pub released-machine : IsMachine u loaded hand (seen u s true false clock hand) s
+  pub released-machine : IsMachine u loaded hand (state_seen u s true false clock hand) s
   released-machine =
       let whole = is.whole refl in
       record {
@@ -92,9 +92,9 @@ module _ (w : Setup) (fs : List PlacedFrame) (after : Versions) (released : Rele
 
 -- ---- what is taken up
 
-module _ (w : Setup) (hand : Hand) (started : Bool) (clock : ℕ) (s : State) (loaded : List ℕ) (is : IsMachine w loaded hand (seen w s started false clock hand) s) where
+module _ (w : Setup) (hand : Hand) (started : Bool) (clock : ℕ) (s : State) (loaded : List ℕ) (is : IsMachine w loaded hand (state_seen w s started false clock hand) s) where
   abbrev pub old : View
-  old = seen w s started false clock hand
+  old = state_seen w s started false clock hand
 
   abbrev pub resting_now : Bool
   resting_now = is_resting old
@@ -133,10 +133,10 @@ module _ (w : Setup) (hand : Hand) (started : Bool) (clock : ℕ) (s : State) (l
   -- ---- what is seen then
 
   abbrev seen_by : Bool → Bool → View
-  seen_by resting started = seen w (taken_state w.world resting started s) true false (clock_in resting started clock) (taken_hand w.world resting started hand)
+  seen_by resting started = state_seen w (taken_state w.world resting started s) true false (clock_in resting started clock) (taken_hand w.world resting started hand)
 
   abbrev begun_by : Bool → ℕ → View
-  begun_by resting n = record (if resting then advanced old else old) { passed = n }
+  begun_by resting n = record (if resting then clock_advanced old else old) { passed = n }
 
   rest-seen : (b : Bool) → started ≡ b → resting_now ≡ true → seen_by true b ≡ begun_by true (taken_hand w.world true b hand).passed
   rest-seen true e rests =
@@ -145,11 +145,11 @@ module _ (w : Setup) (hand : Hand) (started : Bool) (clock : ℕ) (s : State) (l
       ap₂ (λ (b delivered : Bool). record (seen_by true false) { clock = if b then clock + 1 else 0; delivered = delivered }) (sym e) (sym (resting-parts rests).1)
       ∙ ap (λ live. record (begun_by true (behind_load (main_loads w.world))) { live = live }) (starts-held (mark_of w.versions) w.world ∙ sym (no-frames e))
 
-  taken-seen : (resting : Bool) → resting_now ≡ resting → seen_by resting started ≡ record (begun old) { passed = (taken_hand w.world resting started hand).passed }
+  taken-seen : (resting : Bool) → resting_now ≡ resting → seen_by resting started ≡ record (step_begun old) { passed = (taken_hand w.world resting started hand).passed }
   taken-seen true e =
       rest-seen started refl e ∙ ap (λ r. begun_by r (taken_hand w.world true started hand).passed) (sym e)
   taken-seen false e =
-      ap (λ b. seen w s b false clock hand) (sym (started-if started refl e)) ∙ ap (λ r. begun_by r hand.passed) (sym e)
+      ap (λ b. state_seen w s b false clock hand) (sym (started-if started refl e)) ∙ ap (λ r. begun_by r hand.passed) (sym e)
 
   -- where it has loaded nothing, that is the step in hand
   passed-same : (resting b : Bool) → resting_now ≡ resting → started ≡ b → taken_loads w.world resting b ≡ [] → (taken_hand w.world resting b hand).passed ≡ hand.passed
@@ -157,16 +157,16 @@ module _ (w : Setup) (hand : Hand) (started : Bool) (clock : ℕ) (s : State) (l
   passed-same true false e f none = ap behind_load none ∙ sym (resting-parts e).0
   passed-same false b e f none = refl
 
-  begun-same : (resting : Bool) → resting_now ≡ resting → begun_by resting hand.passed ≡ begun old
+  begun-same : (resting : Bool) → resting_now ≡ resting → begun_by resting hand.passed ≡ step_begun old
   begun-same resting e = ap (λ r. begun_by r hand.passed) (sym e) ∙ by resting_now where
-    by : (r : Bool) → begun_by r hand.passed ≡ (if r then advanced old else old)
+    by : (r : Bool) → begun_by r hand.passed ≡ (if r then clock_advanced old else old)
     by true = refl
     by false = refl
 
-  taken-begun : taken_loads w.world resting_now started ≡ [] → seen_by resting_now started ≡ begun old
+  taken-begun : taken_loads w.world resting_now started ≡ [] → seen_by resting_now started ≡ step_begun old
   taken-begun none =
       taken-seen resting_now refl
-      ∙ (ap (λ n. record (begun old) { passed = n }) (passed-same resting_now started refl refl none)
+      ∙ (ap (λ n. record (step_begun old) { passed = n }) (passed-same resting_now started refl refl none)
       ∙ begun-same resting_now refl)
 
   -- ---- what is in hand then
@@ -200,24 +200,24 @@ module _ (w : Setup) (hand : Hand) (started : Bool) (clock : ℕ) (s : State) (l
     at_start : FromStart
     at_start = from-start resting_now started refl refl loads
 
-    start-clock : (begun old).clock ≡ 0
-    start-clock = ap (λ r. (if r then advanced old else old).clock) at_start.first ∙ ap (λ b. if b then clock + 1 else 0) at_start.before_the_run
+    start-clock : (step_begun old).clock ≡ 0
+    start-clock = ap (λ r. (if r then clock_advanced old else old).clock) at_start.first ∙ ap (λ b. if b then clock + 1 else 0) at_start.before_the_run
 
     one-passed : then_hand.passed ≡ 1
     one-passed = ap₂ (λ r b. (taken_hand w.world r b hand).passed) at_start.first at_start.before_the_run ∙ ap behind_load at_start.loading
 
-    pub start-tells : TellsClasses old (c ∷ more) (seen w then_state true false then_clock then_hand)
+    pub start-tells : TellsClasses old (c ∷ more) (state_seen w then_state true false then_clock then_hand)
     start-tells = record {
       first = at_start.first;
       some = omega arith;
-      loads = ap (λ r. loads_next (if r then advanced old else old)) at_start.first
+      loads = ap (λ r. loads_next (if r then clock_advanced old else old)) at_start.first
           ∙ (ap₂ (λ n b. loads_first (drop n (turn w.world (if b then clock + 1 else 0)).changes)) (resting-parts at_start.first).0 at_start.before_the_run
           ∙ start-first w is.homes is.has c more at_start.loading);
-      stepped = taken-seen resting_now refl ∙ ap (λ n. record (begun old) { passed = n }) one-passed;
+      stepped = taken-seen resting_now refl ∙ ap (λ n. record (step_begun old) { passed = n }) one-passed;
     }
 
     start-machine-by : (resting b : Bool) → resting ≡ true → b ≡ false → (loaded' : List ℕ) → loaded' ≡ (taken_state w.world resting b s).shared.loaded
-        → IsMachine w loaded' (taken_hand w.world resting b hand) (seen w (taken_state w.world resting b s) true false (clock_in resting b clock) (taken_hand w.world resting b hand)) (taken_state w.world resting b s)
+        → IsMachine w loaded' (taken_hand w.world resting b hand) (state_seen w (taken_state w.world resting b s) true false (clock_in resting b clock) (taken_hand w.world resting b hand)) (taken_state w.world resting b s)
     start-machine-by true false e f loaded' linked = record {
       homes = is.homes;
       has = is.has;
@@ -231,12 +231,12 @@ module _ (w : Setup) (hand : Hand) (started : Bool) (clock : ℕ) (s : State) (l
         first = λ no. absurd (let e : true ≡ false = no in cc);
       };
     } where
-      busy : is_resting (seen w (starts_with w.world) true false 0 (taken_hand w.world true false hand)) ≡ true → ⊥
+      busy : is_resting (state_seen w (starts_with w.world) true false 0 (taken_hand w.world true false hand)) ≡ true → ⊥
       busy resting = (let h : false ≡ true = sym (ap (λ l. behind_load l == 0 && not false) at_start.loading) ∙ resting in cc)
     start-machine-by true true e f loaded' linked = absurd (let h : true ≡ false = f in cc)
     start-machine-by false b e f loaded' linked = absurd (let h : false ≡ true = e in cc)
 
-    pub start-machine : (loaded' : List ℕ) → loaded' ≡ then_state.shared.loaded → IsMachine w loaded' then_hand (seen w then_state true false then_clock then_hand) then_state
+    pub start-machine : (loaded' : List ℕ) → loaded' ≡ then_state.shared.loaded → IsMachine w loaded' then_hand (state_seen w then_state true false then_clock then_hand) then_state
     start-machine loaded' linked = start-machine-by resting_now started at_start.first at_start.before_the_run loaded' linked
 
   -- ---- the step has loaded classes
@@ -244,7 +244,7 @@ module _ (w : Setup) (hand : Hand) (started : Bool) (clock : ℕ) (s : State) (l
   module _ (none : (then_hand.moves || loads_none w then_state) ≡ false) where
     pub record FromRest : Type 0 where
       pub first : resting_now ≡ true
-      pub begun : started ≡ true
+      pub step_begun : started ≡ true
       pub loads : loads_none w s ≡ false
 
     busy-loads : (moves : Bool) → hand.moves ≡ moves → resting_now ≡ false → (moves || loads_none w s) ≡ true
@@ -273,24 +273,24 @@ module _ (w : Setup) (hand : Hand) (started : Bool) (clock : ℕ) (s : State) (l
 
     -- with these classes
     module _ (c : ℕ) (more : List ℕ) (loads : loads_in w s ≡ c ∷ more) where
-      loads-seen : seen w next_state true false (clock + 1) loads_hand ≡ record (begun old) { passed = 1 }
+      loads-seen : state_seen w next_state true false (clock + 1) loads_hand ≡ record (step_begun old) { passed = 1 }
       loads-seen =
-          ap (λ l. seen w (with_loaded l s) true false (clock + 1) loads_hand) loads
-          ∙ (ap₂ (λ (b delivered : Bool). record (seen w s true false (if b then clock + 1 else 0) loads_hand) { delivered = delivered }) (sym at_rest.begun) (sym (resting-parts at_rest.first).1)
+          ap (λ l. state_seen w (with_loaded l s) true false (clock + 1) loads_hand) loads
+          ∙ (ap₂ (λ (b delivered : Bool). record (state_seen w s true false (if b then clock + 1 else 0) loads_hand) { delivered = delivered }) (sym at_rest.begun) (sym (resting-parts at_rest.first).1)
           ∙ ap (λ r. begun_by r 1) (sym at_rest.first))
 
-      pub loads-tell : TellsClasses old (c ∷ more) (seen w next_state true false (clock + 1) loads_hand)
+      pub loads-tell : TellsClasses old (c ∷ more) (state_seen w next_state true false (clock + 1) loads_hand)
       loads-tell = record {
         first = at_rest.first;
         some = omega arith;
-        loads = ap (λ r. loads_next (if r then advanced old else old)) at_rest.first
+        loads = ap (λ r. loads_next (if r then clock_advanced old else old)) at_rest.first
             ∙ (ap₂ (λ n b. loads_first (drop n (turn w.world (if b then clock + 1 else 0)).changes)) (resting-parts at_rest.first).0 at_rest.begun
             ∙ step-first w is.homes is.has clock s (stands_now at_rest.first at_rest.begun) c more loads);
         stepped = loads-seen;
       }
 
       pub loads-machine : (loaded' : List ℕ) → loaded' ≡ next_state.shared.loaded → (IsSoundIn w s → IsSoundIn w next_state)
-          → IsMachine w loaded' loads_hand (seen w next_state true false (clock + 1) loads_hand) next_state
+          → IsMachine w loaded' loads_hand (state_seen w next_state true false (clock + 1) loads_hand) next_state
       loads-machine loaded' linked sound = record {
         homes = is.homes;
         has = is.has;
@@ -317,7 +317,7 @@ module _ (w : Setup) (hand : Hand) (started : Bool) (clock : ℕ) (s : State) (l
     goes_on = hands is.homes (turn w.world then_clock) (helds (mark_of w.versions) then_state.stack) is.has in_hand_then
 
     abbrev pub there : View
-    there = seen w new true false then_clock (left_in gone)
+    there = state_seen w new true false then_clock (left_in gone)
 
     pub goes-stops : Stops old gone.due there
     goes-stops = record {

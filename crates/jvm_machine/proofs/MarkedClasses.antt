@@ -17,7 +17,7 @@ use Rattle.jvm_model.specs.declared.event.Mark.TheVariants.{Off}
 use Rattle.jvm_model.specs.declared.program.MethodPlace.{MethodPlace}
 use Rattle.jvm_model.specs.declared.program.Program.{Program}
 use Rattle.jvm_model.specs.Basis.Methods.{code_of, method_code}
-use Rattle.jvm_model.specs.Basis.Programs.{class_at, number_of_method, numbered, place_of_method}
+use Rattle.jvm_model.specs.Basis.Programs.{class_at, number_of_method, methods_numbered, place_of_method}
 use Rattle.jvm_model.specs.Rewriting.StandsFor.{mark_at}
 use Rattle.prepared_code.specs.ClassVersions.{alone, class_version, class_versions, homes_at, member_version, version_by, versions_from}
 use Rattle.prepared_code.specs.Entries.{no_version, original_version, version_entry, version_in, version_of}
@@ -169,7 +169,7 @@ set-length : (o : Option Version) (old : List Mark) → length (set_by o old) �
 set-length None old = refl
 set-length (Some x) old = length-set old x.method x.prepared.mark
 
-module _ (p : Program) (methods : p.methods ≡ numbered p.classes) (class : ℕ) (c : ClassFile) (there : class_at p class ≡ Some c) (image : ClassFile) (marks : List Mark) (homes : List (Option Homes))
+module _ (p : Program) (methods : p.methods ≡ methods_numbered p.classes) (class : ℕ) (c : ClassFile) (there : class_at p class ≡ Some c) (image : ClassFile) (marks : List Mark) (homes : List (Option Homes))
     (marked : (at k : ℕ) (code : CodeAttribute) → method_code c at ≡ Some code → (class_version p image homes at code k).prepared.mark ≡ mark_at marks at) where
   abbrev place_at : ℕ → MethodPlace
   place_at at = record { class = class; position = at }

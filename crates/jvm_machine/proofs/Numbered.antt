@@ -11,7 +11,7 @@ use Rattle.const_pool.specs.declared.class.Member.{Member}
 use Rattle.jvm_model.specs.declared.program.MethodPlace.{MethodPlace}
 use Rattle.jvm_model.specs.declared.program.Program.{Program}
 use Rattle.jvm_model.specs.Basis.Methods.{code_of, method_code}
-use Rattle.jvm_model.specs.Basis.Programs.{class_at, coded_from, number_from, number_of_method, numbered, numbered_from, place_of_method, same_place}
+use Rattle.jvm_model.specs.Basis.Programs.{class_at, coded_from, number_from, number_of_method, methods_numbered, numbered_from, place_of_method, same_place}
 
 -- what holds of all holds of each
 pub each-of : {A : Type 0} (P : A → Type 0) (xs : List A) (k : ℕ) (x : A) → AllByRecursion P xs → slice_get xs k ≡ Some x → P x
@@ -121,7 +121,7 @@ numbered-rising class (c ∷ rest) =
     in-front x is = all-weaker (IsBehind (class + 1)) (Before x) (numbered_from (class + 1) rest) (λ place behind. less x place is behind) (numbered-behind (class + 1) rest)
 
 -- the number of a place
-pub number-of : (p : Program) → p.methods ≡ numbered p.classes → (k class at : ℕ) → place_of_method p k ≡ Some (record { class = class; position = at }) → number_of_method p class at ≡ Some k
+pub number-of : (p : Program) → p.methods ≡ methods_numbered p.classes → (k class at : ℕ) → place_of_method p k ≡ Some (record { class = class; position = at }) → number_of_method p class at ≡ Some k
 number-of p methods k class at found =
     let zero_more : 0 + k ≡ k = omega arith in
     number-rising 0 class at p.methods k (subst AreRising (sym methods) (numbered-rising 0 p.classes)) found ∙ ap (λ n. let o : Option ℕ = Some n in o) zero_more
@@ -172,10 +172,10 @@ all-there n (c ∷ rest) =
     later place is = let same : place.class ≡ n + 1 + is.index = is.class_is in record { index = suc is.index; file = is.file; code = is.code; class_is = omega (arith, same); found = is.found; coded = is.coded }
 
 -- the method with a number has Code in its class
-pub method-there : (p : Program) → p.methods ≡ numbered p.classes → (k : ℕ) (place : MethodPlace) (c : ClassFile) → place_of_method p k ≡ Some place → class_at p place.class ≡ Some c
+pub method-there : (p : Program) → p.methods ≡ methods_numbered p.classes → (k : ℕ) (place : MethodPlace) (c : ClassFile) → place_of_method p k ≡ Some place → class_at p place.class ≡ Some c
     → (code : CodeAttribute) × (method_code c place.position ≡ Some code)
 method-there p methods k place c found there =
-    let is = each-of (HasMethod 0 p.classes) (numbered p.classes) k place (all-there 0 p.classes) (ap (λ (l : List MethodPlace). slice_get l k) (sym methods) ∙ found) in
+    let is = each-of (HasMethod 0 p.classes) (methods_numbered p.classes) k place (all-there 0 p.classes) (ap (λ (l : List MethodPlace). slice_get l k) (sym methods) ∙ found) in
     let zero_more : 0 + is.index ≡ is.index = omega arith in
     let same : is.file ≡ c = same_Some is.file c (sym is.found ∙ (ap (slice_get p.classes) (sym zero_more ∙ sym is.class_is) ∙ there)) in
     (is.code, ap (λ (x : ClassFile). method_code x place.position) (sym same) ∙ is.coded)

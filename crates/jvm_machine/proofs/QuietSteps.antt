@@ -28,11 +28,11 @@ use Rattle.prepared_code.specs.Standing.{IsRunOf, places_of}
 use Rattle.prepared_code.specs.Versions.{Setup, current_of, mark_of, method_of, listing_of}
 use Rattle.prepared_code.proofs.StandingSteps.{run-of-more}
 use Rattle.prepared_code.proofs.VersionsAgree.{versions-agree}
-use Rattle.jvm_machine.specs.Machine.{IsMachine, IsTidy, Stands, marks_of, seen}
+use Rattle.jvm_machine.specs.Machine.{IsMachine, IsTidy, Stands, marks_of, state_seen}
 use Rattle.jvm_machine.proofs.Going.{marks-same}
 use Rattle.jvm_machine.specs.Several.{Passes, more, none}
 use Rattle.jvm_machine.specs.Turns.{Settles}
-use Rattle.jvm_machine.specs.View.{View, advanced, begun, has_ended, is_resting, loads_next, next_stop, rested, world}
+use Rattle.jvm_machine.specs.View.{View, clock_advanced, step_begun, has_ended, is_resting, loads_next, next_stop, step_rested, world}
 use Rattle.jvm_machine.proofs.Machines.{not_is, zero_is}
 use Rattle.jvm_machine.proofs.Shown.{stands-shows}
 
@@ -43,32 +43,32 @@ record TellsNothing (marks : ℕ → Mark) (live : List Held) (changes : List Ch
   loads : loads_first changes ≡ []
   due : (stop_in marks 0 live changes).due ≡ Nothing
 
-module _ (v : View) (resting : is_resting v ≡ true) (nothing : TellsNothing (mark_at v.marks) v.live (turn (world v) (advanced v).clock).changes) where
+module _ (v : View) (resting : is_resting v ≡ true) (nothing : TellsNothing (mark_at v.marks) v.live (turn (world v) (clock_advanced v).clock).changes) where
   parts : (v.passed ≡ 0) × (v.delivered ≡ false)
   parts = let both = and_parts (v.passed == 0) (not v.delivered) resting in (zero_is v.passed both.0, not_is v.delivered both.1)
 
   abbrev changes : List Change
-  changes = (turn (world v) (advanced v).clock).changes
+  changes = (turn (world v) (clock_advanced v).clock).changes
 
-  at-end : next_stop (advanced v) ≡ stop_in (mark_at v.marks) 0 v.live changes
+  at-end : next_stop (clock_advanced v) ≡ stop_in (mark_at v.marks) 0 v.live changes
   at-end = ap₂ (λ n delivered. stop_from (mark_at v.marks) delivered n v.live (drop n changes)) parts.0 parts.1
 
-  begun-is : begun v ≡ advanced v
-  begun-is = ap (λ b. if b then advanced v else v) resting
+  begun-is : step_begun v ≡ clock_advanced v
+  begun-is = ap (λ b. if b then clock_advanced v else v) resting
 
   -- what is seen behind it
   abbrev after : View
-  after = record (advanced v) { live = (stop_in (mark_at v.marks) 0 v.live changes).live }
+  after = record (clock_advanced v) { live = (stop_in (mark_at v.marks) 0 v.live changes).live }
 
-  silent-settles : v.broken ≡ false → has_ended v ≡ false → has_ended (advanced v) ≡ false → Settles v after
+  silent-settles : v.broken ≡ false → has_ended v ≡ false → has_ended (clock_advanced v) ≡ false → Settles v after
   silent-settles whole going_before going_after = record {
     whole = whole;
     went_on = ap₂ (λ a b. a && b) resting going_before;
     loads = ap loads_next begun-is ∙ (ap (λ n. loads_first (drop n changes)) parts.0 ∙ nothing.loads);
     all = ap (λ (x : View). (next_stop x).due) begun-is ∙ (ap (λ (s : Stop). s.due) at-end ∙ nothing.due);
     stepped = ap₂ (λ n delivered. record after { passed = n; delivered = delivered }) parts.0 parts.1
-        ∙ (ap (λ live. record (advanced v) { passed = 0; delivered = false; live = live }) (sym (ap (λ (s : Stop). s.live) at-end))
-        ∙ ap rested (sym begun-is));
+        ∙ (ap (λ live. record (clock_advanced v) { passed = 0; delivered = false; live = live }) (sym (ap (λ (s : Stop). s.live) at-end))
+        ∙ ap step_rested (sym begun-is));
     goes_on = going_after;
   }
 
@@ -111,12 +111,12 @@ module _ (w : Setup) (s : State) (silent : IsSilent w s) where
 
 -- ---- several
 
-module _ (w : Setup) (hand : Hand) (clock : ℕ) (s : State) (is : IsRunOf w clock s) (resting : is_resting (seen w s true false clock hand) ≡ true) where
+module _ (w : Setup) (hand : Hand) (clock : ℕ) (s : State) (is : IsRunOf w clock s) (resting : is_resting (state_seen w s true false clock hand) ≡ true) where
   abbrev v : View
-  v = seen w s true false clock hand
+  v = state_seen w s true false clock hand
 
   abbrev later : ℕ → View
-  later n = seen w (steps_from w n s) true false (clock + n) hand
+  later n = state_seen w (steps_from w n s) true false (clock + n) hand
 
   runs_then : (n : ℕ) → IsRunOf w (clock + n) (steps_from w n s)
   runs_then n = run-of-more w clock n s is
@@ -140,7 +140,7 @@ module _ (w : Setup) (hand : Hand) (clock : ℕ) (s : State) (is : IsRunOf w clo
   all-pass : (n : ℕ) → AreSilent w s n → ((k : ℕ) → k < n → is_some (steps_from w k s).ending ≡ false) → is_some (steps_from w n s).ending ≡ false → Passes v n (later n)
   all-pass zero silent going last =
       let here : clock ≡ clock + 0 = omega arith in
-      subst (λ (x : View). Passes v 0 x) (ap₂ (λ c (z : State). seen w z true false c hand) here (sym (steps_from-zero w s))) none
+      subst (λ (x : View). Passes v 0 x) (ap₂ (λ c (z : State). state_seen w z true false c hand) here (sym (steps_from-zero w s))) none
   all-pass (suc n) silent going last =
       more n (later n) (later (suc n)) (all-pass n (λ k less. silent k (omega (arith, less))) (λ k less. going k (omega (arith, less))) (going n (omega arith)))
       (settles-at n (silent n (omega arith)) (going n (omega arith)) last)
@@ -155,14 +155,14 @@ module _ (w : Setup) (hand : Hand) (clock : ℕ) (s : State) (is : IsRunOf w clo
 
   module _ (n : ℕ) (new : State) (leads : Leads w s n new) (silent : AreSilent w s n) (going : is_some new.ending ≡ false) where
     abbrev there : View
-    there = seen w new true false (clock + n) hand
+    there = state_seen w new true false (clock + n) hand
 
     pub silent-tidy : IsTidy w.versions s.stack → IsTidy w.versions new.stack
     silent-tidy tidy = subst (λ (z : State). IsTidy w.versions z.stack) (sym leads.made) (all-tidy n silent tidy)
 
     pub silent-passes : Passes v n there
     silent-passes =
-        subst (λ (z : State). Passes v n (seen w z true false (clock + n) hand)) (sym leads.made)
+        subst (λ (z : State). Passes v n (state_seen w z true false (clock + n) hand)) (sym leads.made)
         (all-pass n silent leads.before (ap (λ (z : State). is_some z.ending) (sym leads.made) ∙ going))
 
     pub silent-machine : (loaded : List ℕ) → loaded ≡ new.shared.loaded → IsMachine w loaded hand there new
@@ -184,8 +184,8 @@ module _ (w : Setup) (hand : Hand) (clock : ℕ) (s : State) (is : IsRunOf w clo
 
 -- ---- of the parts of a machine
 
-module _ (w : Setup) (loaded : List ℕ) (hand : Hand) (started broken : Bool) (clock : ℕ) (ms : List Initialization) (p : Parts) (is : IsMachine w loaded hand (seen w (state_of ms p) started broken clock hand) (state_of ms p))
-    (v : View) (view : seen w (state_of ms p) started broken clock hand ≡ v) (begun_is : started ≡ true) (whole : broken ≡ false) (rests : is_resting v ≡ true)
+module _ (w : Setup) (loaded : List ℕ) (hand : Hand) (started broken : Bool) (clock : ℕ) (ms : List Initialization) (p : Parts) (is : IsMachine w loaded hand (state_seen w (state_of ms p) started broken clock hand) (state_of ms p))
+    (v : View) (view : state_seen w (state_of ms p) started broken clock hand ≡ v) (begun_is : started ≡ true) (whole : broken ≡ false) (rests : is_resting v ≡ true)
     (n : ℕ) (after : Parts) (passed : Silent w ms p n after) where
   abbrev s : State
   s = state_of ms p
@@ -193,7 +193,7 @@ module _ (w : Setup) (loaded : List ℕ) (hand : Hand) (started broken : Bool) (
   abbrev new : State
   new = state_of ms after
 
-  resting : is_resting (seen w s started broken clock hand) ≡ true
+  resting : is_resting (state_seen w s started broken clock hand) ≡ true
   resting = ap is_resting view ∙ rests
 
   run_now : IsRunOf w clock s
@@ -207,17 +207,17 @@ module _ (w : Setup) (loaded : List ℕ) (hand : Hand) (started broken : Bool) (
   going-on : is_some new.ending ≡ false
   going-on = ap is_some passed.at_instruction.ending
 
-  pub plain-passes : Passes v n (seen w new started broken (clock + n) hand)
+  pub plain-passes : Passes v n (state_seen w new started broken (clock + n) hand)
   plain-passes =
-      subst (λ x. Passes x n (seen w new started broken (clock + n) hand)) view
-      (subst (λ b. Passes (seen w s started b clock hand) n (seen w new started b (clock + n) hand)) (sym whole)
-      (subst (λ b. Passes (seen w s b false clock hand) n (seen w new b false (clock + n) hand)) (sym begun_is)
+      subst (λ x. Passes x n (state_seen w new started broken (clock + n) hand)) view
+      (subst (λ b. Passes (state_seen w s started b clock hand) n (state_seen w new started b (clock + n) hand)) (sym whole)
+      (subst (λ b. Passes (state_seen w s b false clock hand) n (state_seen w new b false (clock + n) hand)) (sym begun_is)
       (silent-passes w hand clock s run_now resting n new passed.leads passed.silent going-on)))
 
-  pub plain-machine : IsMachine w loaded hand (seen w new started broken (clock + n) hand) new
+  pub plain-machine : IsMachine w loaded hand (state_seen w new started broken (clock + n) hand) new
   plain-machine =
-      subst (λ b. IsMachine w loaded hand (seen w new started b (clock + n) hand) new) (sym whole)
-      (subst (λ b. IsMachine w loaded hand (seen w new b false (clock + n) hand) new) (sym begun_is)
+      subst (λ b. IsMachine w loaded hand (state_seen w new started b (clock + n) hand) new) (sym whole)
+      (subst (λ b. IsMachine w loaded hand (state_seen w new b false (clock + n) hand) new) (sym begun_is)
       (silent-machine w hand clock s run_now resting n new passed.leads passed.silent going-on loaded ((is.whole whole).linked ∙ sym passed.loaded)))
 
   pub plain-tidy : IsTidy w.versions s.stack → IsTidy w.versions new.stack

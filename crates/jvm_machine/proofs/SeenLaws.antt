@@ -17,7 +17,7 @@ use Rattle.jvm_model.specs.declared.due.Due.TheVariants.{Begins, Ends, Nothing}
 use Rattle.jvm_model.specs.Turns.Pauses.{Stop, told_at, told_from, is_end, IsStop}
 use Rattle.jvm_model.specs.Turns.Rest.{loads_first}
 use Rattle.jvm_machine.specs.Turns.{Settles, Tells}
-use Rattle.jvm_machine.specs.View.{View, begun, events_left, is_resting, live_then, next_event, next_stop, stopped, to_come, world}
+use Rattle.jvm_machine.specs.View.{View, step_begun, events_left, is_resting, live_then, next_event, next_stop, step_stopped, to_come, world}
 use Rattle.jvm_machine.proofs.Going.{stop-begins}
 use Rattle.jvm_model.proofs.Turns.Stops.{stop_from-is}
 use Rattle.jvm_model.proofs.Events.Traces.{IsTrace, no_trace-is, trace_in-is}
@@ -28,12 +28,12 @@ at-stop : (v : View) → IsStop (mark_at v.marks) v.clock v.passed v.delivered v
 at-stop v = stop_from-is (mark_at v.marks) v.clock v.delivered v.passed v.live (to_come v)
 
 -- what is left behind a stop
-left-there : (v : View) → to_come (stopped v) ≡ (at-stop v).more
+left-there : (v : View) → to_come (step_stopped v) ≡ (at-stop v).more
 left-there v =
     let is = at-stop v in
     ap (λ n. drop n (turn (world v) v.clock).changes) is.count ∙ drop-passed v.passed is.passed is.more (turn (world v) v.clock).changes is.all
 
-pub stop-tells : (v : View) (e : Event) → next_event v ≡ Some e → events_left v ≡ e ∷ events_left (stopped v)
+pub stop-tells : (v : View) (e : Event) → next_event v ≡ Some e → events_left v ≡ e ∷ events_left (step_stopped v)
 stop-tells v e delivered =
     let is = at-stop v in
     let s : Stop = next_stop v in
@@ -41,7 +41,7 @@ stop-tells v e delivered =
     ∙ (ap (λ o. option_map_or (λ e. e ∷ told_from (mark_at v.marks) v.clock (is_end s.due) s.live is.more) o []) delivered
     ∙ ap (λ more. e ∷ told_from (mark_at v.marks) v.clock (is_end s.due) s.live more) (sym (left-there v)))
 
-pub stop-lives : (v : View) → live_then (stopped v) ≡ live_then v
+pub stop-lives : (v : View) → live_then (step_stopped v) ≡ live_then v
 stop-lives v = ap (all_held (mark_at v.marks) (next_stop v).live) (left-there v) ∙ (at-stop v).lives
 
 pub end-tells : (v : View) → (next_stop v).due ≡ Nothing → events_left v ≡ []
@@ -56,18 +56,18 @@ end-lives v nothing = let is = at-stop v in sym (ap (all_held (mark_at v.marks) 
 -- ---- turns
 
 -- an event is the next one
-pub tells-next : (old new : View) (e : Event) → Tells old e new → events_left (begun old) ≡ e ∷ events_left new
-tells-next old new e is = stop-tells (begun old) e is.next ∙ ap (λ (v : View). e ∷ events_left v) (sym is.stepped)
+pub tells-next : (old new : View) (e : Event) → Tells old e new → events_left (step_begun old) ≡ e ∷ events_left new
+tells-next old new e is = stop-tells (step_begun old) e is.next ∙ ap (λ (v : View). e ∷ events_left v) (sym is.stepped)
 
-pub tells-lives : (old new : View) (e : Event) → Tells old e new → live_then new ≡ live_then (begun old)
-tells-lives old new e is = ap live_then is.stepped ∙ stop-lives (begun old)
+pub tells-lives : (old new : View) (e : Event) → Tells old e new → live_then new ≡ live_then (step_begun old)
+tells-lives old new e is = ap live_then is.stepped ∙ stop-lives (step_begun old)
 
 -- at the end none is left, and the live activations are those after the step
-pub settles-none : (old new : View) → Settles old new → events_left (begun old) ≡ []
-settles-none old new is = end-tells (begun old) is.all
+pub settles-none : (old new : View) → Settles old new → events_left (step_begun old) ≡ []
+settles-none old new is = end-tells (step_begun old) is.all
 
-pub settles-lives : (old new : View) → Settles old new → new.live ≡ live_then (begun old)
-settles-lives old new is = ap (λ (v : View). v.live) is.stepped ∙ end-lives (begun old) is.all
+pub settles-lives : (old new : View) → Settles old new → new.live ≡ live_then (step_begun old)
+settles-lives old new is = ap (λ (v : View). v.live) is.stepped ∙ end-lives (step_begun old) is.all
 
 -- ---- whole steps
 
@@ -107,9 +107,9 @@ and-false : (b : Bool) → (b && false) ≡ false
 and-false true = refl
 and-false false = refl
 
-pub stopped-busy : (v : View) (e : Event) → next_event v ≡ Some e → is_resting (stopped v) ≡ false
+pub stopped-busy : (v : View) (e : Event) → next_event v ≡ Some e → is_resting (step_stopped v) ≡ false
 stopped-busy v e delivered = by (next_stop v).due refl where
-  by : (d : Due) → (next_stop v).due ≡ d → is_resting (stopped v) ≡ false
+  by : (d : Due) → (next_stop v).due ≡ d → is_resting (step_stopped v) ≡ false
   by Nothing is = absurd (let h : None ≡ Some e = sym (ap (λ d. told_at d v.clock (next_stop v).live) is) ∙ delivered in cc)
   by (Ends k) is = ap (λ d. (next_stop v).passed == 0 && not (is_end d)) is ∙ and-false ((next_stop v).passed == 0)
   by Begins is = ap (λ b. b && not (is_end (next_stop v).due)) (stop-begins (mark_at v.marks) v.delivered v.passed v.live (to_come v) is)

@@ -1,6 +1,6 @@
 -- A step that is settled by one turn is one more of several.
 use Rattle.std.proofs.Common.{◌≡◌, ℕ, suc, ◌+◌, ◌≤◌, Bool, true, false, if◌then◌else◌, refl, sym, ap, subst, arith}
-use Rattle.jvm_machine.specs.View.{View, begun, is_resting}
+use Rattle.jvm_machine.specs.View.{View, step_begun, is_resting}
 use Rattle.jvm_machine.specs.declared.turn.Turn.{Turn}
 use Rattle.jvm_machine.specs.declared.turn.Turn.TheVariants.{Settled, Loaded, Probe, Ended, Broken, NoMemory}
 use Rattle.jvm_machine.specs.Several.{Passes, RunsOn, is_settled, more, none}
@@ -14,7 +14,7 @@ settled-is Ended e = absurd (let h : false ≡ true = e in cc)
 settled-is Broken e = absurd (let h : false ≡ true = e in cc)
 settled-is NoMemory e = absurd (let h : false ≡ true = e in cc)
 
-begun-clock : (v : View) → (begun v).clock ≤ v.clock + 1
+begun-clock : (v : View) → (step_begun v).clock ≤ v.clock + 1
 begun-clock v = by (is_resting v) v.started where
   by : (a b : Bool) → (let x : View = if a then record v { started = true; clock = if b then v.clock + 1 else 0 } else v in x).clock ≤ v.clock + 1
   by true true = omega arith

@@ -8,14 +8,14 @@ use Rattle.jvm_model.specs.declared.state.Entry.TheVariants.{Active, Initializin
 use Rattle.jvm_model.specs.declared.state.State.{State}
 use Rattle.jvm_model.specs.Running.Applies.{live_in}
 use Rattle.jvm_model.specs.Running.Run.{before, run}
-use Rattle.jvm_model.specs.Rewriting.StandsForRun.{at_homes, forgotten}
+use Rattle.jvm_model.specs.Rewriting.StandsForRun.{at_homes, versions_forgotten}
 use Rattle.jvm_model.specs.Turns.Told.{helds}
 use Rattle.jvm_model.proofs.Relocated.AppliesMoves.{live-moves}
 use Rattle.jvm_steps.specs.declared.turns.hands.Hand.{Hand}
 use Rattle.prepared_code.specs.Versions.{Setup, mark_of, method_of}
-use Rattle.jvm_machine.specs.Machine.{IsMachine, Stands, seen}
+use Rattle.jvm_machine.specs.Machine.{IsMachine, Stands, state_seen}
 use Rattle.jvm_machine.specs.Turns.{Ends}
-use Rattle.jvm_machine.specs.View.{View, begun, has_ended, is_resting, rested, run_state}
+use Rattle.jvm_machine.specs.View.{View, step_begun, has_ended, is_resting, step_rested, run_state}
 
 -- live activations are those of the frames
 helds-live : (mark : ℕ → Mark) (stack : List Entry) → length (helds mark stack) ≡ live_in stack
@@ -36,7 +36,7 @@ stands-shows w homes s from_original stands = record {
   ending = ap (λ (z : State). z.ending) stands.versioned_is ∙ sym (ap (λ (z : State). z.ending) stands.original_is);
   loaded = ap (λ (z : State). z.shared.loaded) stands.versioned_is ∙ sym (ap (λ (z : State). z.shared.loaded) stands.original_is);
   live = (ap (λ (z : State). live_in z.stack) stands.versioned_is ∙ live-moves (at_homes homes) stands.between.stack)
-      ∙ sym (ap (λ (z : State). live_in z.stack) stands.original_is ∙ live-moves (forgotten (method_of w.versions)) stands.between.stack);
+      ∙ sym (ap (λ (z : State). live_in z.stack) stands.original_is ∙ live-moves (versions_forgotten (method_of w.versions)) stands.between.stack);
 }
 
 same-shows : (s z : State) → s ≡ z → Shows s z
@@ -47,12 +47,12 @@ same-shows s z e = record {
   live = ap (λ (x : State). live_in x.stack) e;
 }
 
-module _ (w : Setup) (loaded : List ℕ) (hand : Hand) (started broken : Bool) (clock : ℕ) (s : State) (is : IsMachine w loaded hand (seen w s started broken clock hand) s)
-    (v : View) (view : seen w s started broken clock hand ≡ v) (whole : v.broken ≡ false) where
+module _ (w : Setup) (loaded : List ℕ) (hand : Hand) (started broken : Bool) (clock : ℕ) (s : State) (is : IsMachine w loaded hand (state_seen w s started broken clock hand) s)
+    (v : View) (view : state_seen w s started broken clock hand ≡ v) (whole : v.broken ≡ false) where
   unbroken : broken ≡ false
   unbroken = ap (λ (x : View). x.broken) view ∙ whole
 
-  shows-by : (b : Bool) → started ≡ b → is_resting (seen w s started broken clock hand) ≡ true → Shows s (if b then run w.world clock else before w.world)
+  shows-by : (b : Bool) → started ≡ b → is_resting (state_seen w s started broken clock hand) ≡ true → Shows s (if b then run w.world clock else before w.world)
   shows-by true e resting =
       stands-shows w is.homes s (run w.world clock)
       (subst (λ b. Stands w is.homes s (if b then run w.world clock else before w.world)) e ((is.whole unbroken).stands resting e))
@@ -77,6 +77,6 @@ over-ends v whole over = record {
   whole = whole;
   loads = λ going. absurd (let e : true ≡ false = sym over ∙ going in cc);
   all = λ going. absurd (let e : true ≡ false = sym over ∙ going in cc);
-  stepped = ap (λ b. if b then v else rested (begun v)) (sym over);
+  stepped = ap (λ b. if b then v else step_rested (step_begun v)) (sym over);
   ended = (and_parts (is_resting v) (has_ended v) over).1;
 }

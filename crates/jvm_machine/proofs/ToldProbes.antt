@@ -39,7 +39,7 @@ use Rattle.code_model.proofs.Readings.{instruction_at_within}
 use Rattle.jvm_machine.specs.declared.advancing.Telling.TheVariants as telling
 use Rattle.jvm_machine.specs.Advances.{Stops, told_in}
 use Rattle.jvm_machine.specs.Probes.{ComesFromProbe, HasBytes, IfLeaves, IsReturn, StandsAtReturn, probe_index, probe_place}
-use Rattle.jvm_machine.specs.View.{View, begun, next_stop, to_come}
+use Rattle.jvm_machine.specs.View.{View, step_begun, next_stop, to_come}
 use Rattle.jvm_machine.proofs.ReturnCodes.{return-opcode}
 use Rattle.jvm_machine.proofs.VersionProbes.{entry-there, leave-there, unwind-there}
 
@@ -223,12 +223,12 @@ pub from-probe : (old new : View) (due : Due) → Stops old due new → IfLeaves
 from-probe old new due stops leaves event delivered =
     comes-by new new.clock new.live due event refl (by due refl) leaves delivered
   where
-    here : IsTold (next_stop (begun old)).due (next_stop (begun old)).live
-    here = stop-told (mark_at (begun old).marks) (begun old).delivered (begun old).passed (begun old).live (to_come (begun old))
+    here : IsTold (next_stop (step_begun old)).due (next_stop (step_begun old)).live
+    here = stop-told (mark_at (step_begun old).marks) (step_begun old).delivered (step_begun old).passed (step_begun old).live (to_come (step_begun old))
 
     by : (d : Due) → due ≡ d → IsTold d new.live
     by Nothing e = tt
     by Begins e =
-        subst (λ l. IsTold Begins l) (sym (ap (λ (x : View). x.live) (stops.stepped ∙ ap (told_in (begun old)) e))) (subst (λ d. IsTold d (next_stop (begun old)).live) (stops.due_is ∙ e) here)
+        subst (λ l. IsTold Begins l) (sym (ap (λ (x : View). x.live) (stops.stepped ∙ ap (told_in (step_begun old)) e))) (subst (λ d. IsTold d (next_stop (step_begun old)).live) (stops.due_is ∙ e) here)
     by (Ends k) e =
-        subst (λ l. IsTold (Ends k) l) (sym (ap (λ (x : View). x.live) (stops.stepped ∙ ap (told_in (begun old)) e))) (subst (λ d. IsTold d (next_stop (begun old)).live) (stops.due_is ∙ e) here)
+        subst (λ l. IsTold (Ends k) l) (sym (ap (λ (x : View). x.live) (stops.stepped ∙ ap (told_in (step_begun old)) e))) (subst (λ d. IsTold d (next_stop (step_begun old)).live) (stops.due_is ∙ e) here)

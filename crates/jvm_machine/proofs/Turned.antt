@@ -11,7 +11,7 @@ use Rattle.jvm_model.specs.Basis.Data.{Change, Loads, Began, Left, Unwound}
 use Rattle.jvm_model.specs.Rewriting.StandsFor.{mark_at}
 use Rattle.jvm_model.specs.Turns.Told.{Held, held_after}
 use Rattle.jvm_model.specs.Turns.Pauses.{begin_kind, unless_off, end_due, Stop, stop_by, stop_in, stop_from, told_at}
-use Rattle.jvm_machine.specs.View.{View, has_ended, is_resting, begun, to_come, next_stop, next_event, rested, stopped, IsGoingOn}
+use Rattle.jvm_machine.specs.View.{View, has_ended, is_resting, step_begun, to_come, next_stop, next_event, step_rested, step_stopped, IsGoingOn}
 use Rattle.jvm_machine.specs.declared.turn.Turn.TheVariants.{Ended, Settled}
 use Rattle.jvm_machine.specs.Advances.{Stops, told_in}
 use Rattle.jvm_machine.specs.declared.advancing.Telling.TheVariants as telling
@@ -62,22 +62,22 @@ from-told marks true n live (c ∷ more) = in-told marks (suc n) (held_after mar
 -- ---- turns
 
 -- what is told of the machine that was left is the next event
-told-next : (old new : View) (due : Due) → Stops old due new → told_at due new.clock new.live ≡ next_event (begun old)
+told-next : (old new : View) (due : Due) → Stops old due new → told_at due new.clock new.live ≡ next_event (step_begun old)
 told-next old new due is = by due is.stepped is.due_is where
-  by : (d : Due) → new ≡ told_in (begun old) d → (next_stop (begun old)).due ≡ d → told_at d new.clock new.live ≡ next_event (begun old)
+  by : (d : Due) → new ≡ told_in (step_begun old) d → (next_stop (step_begun old)).due ≡ d → told_at d new.clock new.live ≡ next_event (step_begun old)
   by Nothing e f = ap₂ (λ (v : View) d. told_at d v.clock v.live) e (sym f)
   by (Ends k) e f = ap₂ (λ (v : View) d. told_at d v.clock v.live) e (sym f)
   by Begins e f = ap₂ (λ (v : View) d. told_at d v.clock v.live) e (sym f)
 
 pub nothing-due : (old new : View) (due : Due) → Stops old due new → told_at due new.clock new.live ≡ None → due ≡ Nothing
 nothing-due old new due is none =
-    let v : View = begun old in
+    let v : View = step_begun old in
     sym is.due_is ∙ from-told (mark_at v.marks) v.delivered v.passed v.live (to_come v) v.clock (sym (told-next old new due is) ∙ none)
 
 pub rests-then : (old new : View) (due : Due) → Stops old due new → told_at due new.clock new.live ≡ None → is_resting new ≡ true
 rests-then old new due is none =
     let nothing = nothing-due old new due is none in
-    ap is_resting (is.stepped ∙ ap (told_in (begun old)) nothing)
+    ap is_resting (is.stepped ∙ ap (told_in (step_begun old)) nothing)
 
 pub turned : (old new : View) (due : Due) → old.broken ≡ false → IsGoingOn old → Stops old due new → IfLeaves (telling.Due due) new → Turns old (turn_by (told_at due new.clock new.live) (has_ended new)) new
 turned old new due whole going is leaves = by (told_at due new.clock new.live) refl where
@@ -86,11 +86,11 @@ turned old new due whole going is leaves = by (told_at due new.clock new.live) r
     whole = whole;
     loads = λ going. is.loads;
     all = λ going. is.due_is ∙ nothing;
-    stepped = is.stepped ∙ (ap (told_in (begun old)) nothing ∙ ap (λ b. if b then old else rested (begun old)) (sym going));
+    stepped = is.stepped ∙ (ap (told_in (step_begun old)) nothing ∙ ap (λ b. if b then old else step_rested (step_begun old)) (sym going));
     ended = e;
   }
   ended false e nothing =
-      let same : new ≡ rested (begun old) = is.stepped ∙ ap (told_in (begun old)) nothing in
+      let same : new ≡ step_rested (step_begun old) = is.stepped ∙ ap (told_in (step_begun old)) nothing in
       record {
         whole = whole;
         went_on = going;
@@ -100,10 +100,10 @@ turned old new due whole going is leaves = by (told_at due new.clock new.live) r
         goes_on = e;
       }
 
-  stopped-by : (d : Due) → due ≡ d → (event : Event) → told_at due new.clock new.live ≡ Some event → new ≡ stopped (begun old)
+  stopped-by : (d : Due) → due ≡ d → (event : Event) → told_at due new.clock new.live ≡ Some event → new ≡ step_stopped (step_begun old)
   stopped-by Nothing e event delivered = absurd (let h : None ≡ Some event = sym (ap (λ d. told_at d new.clock new.live) e) ∙ delivered in cc)
-  stopped-by (Ends k) e event delivered = is.stepped ∙ ap (told_in (begun old)) e
-  stopped-by Begins e event delivered = is.stepped ∙ ap (told_in (begun old)) e
+  stopped-by (Ends k) e event delivered = is.stepped ∙ ap (told_in (step_begun old)) e
+  stopped-by Begins e event delivered = is.stepped ∙ ap (told_in (step_begun old)) e
 
   by : (o : Option Event) → told_at due new.clock new.live ≡ o → Turns old (turn_by o (has_ended new)) new
   by None e = ended (has_ended new) refl (nothing-due old new due is e)

@@ -10,7 +10,7 @@ use Rattle.jvm_steps.specs.declared.turns.hands.Gone.{Gone}
 use Rattle.jvm_steps.specs.declared.turns.hands.Hand.{Hand}
 use Rattle.jvm_machine.specs.declared.advancing.Telling.{Telling}
 use Rattle.jvm_machine.specs.declared.advancing.Telling.TheVariants as telling
-use Rattle.jvm_machine.specs.View.{View, begun, is_resting, loads_next, next_stop, rested, stopped}
+use Rattle.jvm_machine.specs.View.{View, step_begun, is_resting, loads_next, next_stop, step_rested, step_stopped}
 
 -- ---- what is in hand is taken up, or the start, or the next step
 
@@ -44,25 +44,25 @@ abbrev pub left_in : Gone → Hand
 left_in gone = record gone.hand { passed = passed_then gone.due gone.hand.passed }
 
 abbrev pub told_in : View → Due → View
-told_in v Nothing = rested v
-told_in v (Ends k) = stopped v
-told_in v Begins = stopped v
+told_in v Nothing = step_rested v
+told_in v (Ends k) = step_stopped v
+told_in v Begins = step_stopped v
 
 abbrev pub broken_in : View → View → View
-broken_in old new = record (begun old) { broken = true; passed = new.passed; delivered = new.delivered; live = new.live }
+broken_in old new = record (step_begun old) { broken = true; passed = new.passed; delivered = new.delivered; live = new.live }
 
 -- it tells classes, which were loaded before anything else
 pub record TellsClasses (old : View) (classes : List ℕ) (new : View) : Type 0 where
   pub first : is_resting old ≡ true
   pub some : 0 < length classes
-  pub loads : loads_next (begun old) ≡ classes
-  pub stepped : new ≡ record (begun old) { passed = 1 }
+  pub loads : loads_next (step_begun old) ≡ classes
+  pub stepped : new ≡ record (step_begun old) { passed = 1 }
 
 -- or it has come to the next stop
 pub record Stops (old : View) (due : Due) (new : View) : Type 0 where
-  pub loads : loads_next (begun old) ≡ []
-  pub due_is : (next_stop (begun old)).due ≡ due
-  pub stepped : new ≡ told_in (begun old) due
+  pub loads : loads_next (step_begun old) ≡ []
+  pub due_is : (next_stop (step_begun old)).due ≡ due
+  pub stepped : new ≡ told_in (step_begun old) due
 
 abbrev pub Advances : View → Telling → View → Type 0
 Advances old (telling.Classes classes) new = TellsClasses old classes new

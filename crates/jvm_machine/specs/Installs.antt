@@ -8,7 +8,7 @@ use Rattle.jvm_model.specs.declared.event.Mark.{Mark}
 use Rattle.jvm_model.specs.declared.program.MethodPlace.{MethodPlace}
 use Rattle.jvm_model.specs.declared.program.Program.{Program}
 use Rattle.jvm_model.specs.Rewriting.Images.{IsImage}
-use Rattle.jvm_model.specs.Basis.Programs.{class_at, numbered}
+use Rattle.jvm_model.specs.Basis.Programs.{class_at, methods_numbered}
 use Rattle.jvm_model.specs.Soundness.SoundPrograms.{HasOperations}
 use Rattle.jvm_model.specs.Rewriting.StandsFor.{mark_at}
 use Rattle.jvm_model.specs.Profiling.Swaps.{first_number}
@@ -18,7 +18,7 @@ use Rattle.jvm_machine.specs.View.{View}
 -- that the rules of instructions know. A sound program is one.
 pub record IsFormed (p : Program) : Type 0 where
   pub formed : AllByRecursion IsClassFile p.classes
-  pub methods : p.methods ≡ numbered p.classes
+  pub methods : p.methods ≡ methods_numbered p.classes
   pub operations : HasOperations p
 
 -- the image of this class of a program for these marks, one a method of the class

@@ -25,8 +25,8 @@ abbrev pub marks_of : Versions → List Mark
 marks_of v = map (mark_of v) v.current
 
 -- what is seen where no version is held needlessly
-abbrev pub seen : Setup → State → Bool → Bool → ℕ → Hand → View
-seen w s started broken clock hand = record {
+abbrev pub state_seen : Setup → State → Bool → Bool → ℕ → Hand → View
+state_seen w s started broken clock hand = record {
   program = w.world.program;
   input = w.world.input;
   marks = marks_of w.versions;
@@ -49,9 +49,9 @@ abbrev pub holds_stale : Versions → List Entry → Bool
 holds_stale v stack = list_any (is_stale v stack) (range_with_len 0 (length v.slots))
 
 -- what is seen; where memory has run out nothing is said of the versions
-abbrev pub viewed : Setup → State → Bool → Bool → ℕ → Hand → View
-viewed w s started broken clock hand =
-    record (seen w s started broken clock hand) { stale = not broken && holds_stale w.versions s.stack }
+abbrev pub state_viewed : Setup → State → Bool → Bool → ℕ → Hand → View
+state_viewed w s started broken clock hand =
+    record (state_seen w s started broken clock hand) { stale = not broken && holds_stale w.versions s.stack }
 
 -- each version that is held is the one in which its method begins, or a live activation runs it
 abbrev pub IsTidy : Versions → List Entry → Type 0
@@ -96,5 +96,5 @@ pub record IsMachine (w : Setup) (loaded : List ℕ) (hand : Hand) (v : View) (s
 
 -- and no version is held needlessly
 pub record Keeps (w : Setup) (loaded : List ℕ) (hand : Hand) (started broken : Bool) (clock : ℕ) (s : State) : Type 0 where
-  pub machine : IsMachine w loaded hand (seen w s started broken clock hand) s
+  pub machine : IsMachine w loaded hand (state_seen w s started broken clock hand) s
   pub tidy : broken ≡ false → IsTidy w.versions s.stack

@@ -5,7 +5,7 @@ use Rattle.jvm_model.specs.declared.event.Event.{Event}
 use Rattle.jvm_machine.specs.declared.turn.Turn.{Turn}
 use Rattle.jvm_machine.specs.declared.turn.Turn.TheVariants.{Settled, Loaded, Probe, Ended, Broken, NoMemory}
 use Rattle.jvm_machine.specs.Probes.{ComesFromProbe}
-use Rattle.jvm_machine.specs.View.{IsGoingOn, View, begun, has_ended, is_resting, loads_next, next_event, next_stop, rested, stopped}
+use Rattle.jvm_machine.specs.View.{IsGoingOn, View, step_begun, has_ended, is_resting, loads_next, next_event, next_stop, step_rested, step_stopped}
 
 -- the classes that the step has loaded are told, one or more, in order; it has not gone on
 pub record TellsLoads (old : View) (classes : List ℕ) (new : View) : Type 0 where
@@ -13,35 +13,35 @@ pub record TellsLoads (old : View) (classes : List ℕ) (new : View) : Type 0 wh
   pub went_on : IsGoingOn old
   pub first : is_resting old ≡ true
   pub some : 0 < length classes
-  pub loads : loads_next (begun old) ≡ classes
-  pub stepped : new ≡ record (begun old) { passed = 1 }
+  pub loads : loads_next (step_begun old) ≡ classes
+  pub stepped : new ≡ record (step_begun old) { passed = 1 }
 
 -- the next event of the step is told, by a probe that stands in the current version where its frame does
 pub record Tells (old : View) (event : Event) (new : View) : Type 0 where
   pub whole : old.broken ≡ false
   pub went_on : IsGoingOn old
-  pub loads : loads_next (begun old) ≡ []
-  pub next : next_event (begun old) ≡ Some event
-  pub stepped : new ≡ stopped (begun old)
+  pub loads : loads_next (step_begun old) ≡ []
+  pub next : next_event (step_begun old) ≡ Some event
+  pub stepped : new ≡ step_stopped (step_begun old)
   pub probe : ComesFromProbe new event
 
 -- the step is done: its classes and all its events were told, and the run goes on
 pub record Settles (old new : View) : Type 0 where
   pub whole : old.broken ≡ false
   pub went_on : IsGoingOn old
-  pub loads : loads_next (begun old) ≡ []
-  pub all : (next_stop (begun old)).due ≡ Nothing
-  pub stepped : new ≡ rested (begun old)
+  pub loads : loads_next (step_begun old) ≡ []
+  pub all : (next_stop (step_begun old)).due ≡ Nothing
+  pub stepped : new ≡ step_rested (step_begun old)
   pub goes_on : has_ended new ≡ false
 
 -- the run had ended before, or it has ended in this step, of which nothing is left to tell
 abbrev pub after_last : View → View
-after_last old = if is_resting old && has_ended old then old else rested (begun old)
+after_last old = if is_resting old && has_ended old then old else step_rested (step_begun old)
 
 pub record Ends (old new : View) : Type 0 where
   pub whole : old.broken ≡ false
-  pub loads : IsGoingOn old → loads_next (begun old) ≡ []
-  pub all : IsGoingOn old → (next_stop (begun old)).due ≡ Nothing
+  pub loads : IsGoingOn old → loads_next (step_begun old) ≡ []
+  pub all : IsGoingOn old → (next_stop (step_begun old)).due ≡ Nothing
   pub stepped : new ≡ after_last old
   pub ended : has_ended new ≡ true
 
@@ -54,7 +54,7 @@ pub record Refuses (old new : View) : Type 0 where
 pub record Breaks (old new : View) : Type 0 where
   pub whole : old.broken ≡ false
   pub went_on : IsGoingOn old
-  pub stepped : new ≡ record (begun old) { broken = true; passed = new.passed; delivered = new.delivered; live = new.live }
+  pub stepped : new ≡ record (step_begun old) { broken = true; passed = new.passed; delivered = new.delivered; live = new.live }
 
 abbrev pub Turns : View → Turn → View → Type 0
 Turns old Settled new = Settles old new

@@ -29,8 +29,8 @@ pub record View : Type 0 where
   pub stale : Bool
 
 -- a machine that was just made runs original code
-abbrev pub made : Program → List ℕ → View
-made program input = record {
+abbrev pub machine_made : Program → List ℕ → View
+machine_made program input = record {
   program = program;
   input = input;
   marks = map (λ place. Off) program.methods;
@@ -64,12 +64,12 @@ abbrev pub IsGoingOn : View → Type 0
 IsGoingOn v = (is_resting v && has_ended v) ≡ false
 
 -- the start, or one step further
-abbrev pub advanced : View → View
-advanced v = record v { started = true; clock = if v.started then v.clock + 1 else 0 }
+abbrev pub clock_advanced : View → View
+clock_advanced v = record v { started = true; clock = if v.started then v.clock + 1 else 0 }
 
 -- the step in hand, or else the next one
-abbrev pub begun : View → View
-begun v = if is_resting v then advanced v else v
+abbrev pub step_begun : View → View
+step_begun v = if is_resting v then clock_advanced v else v
 
 -- ---- the rest of the step in hand
 
@@ -88,12 +88,12 @@ abbrev pub next_event : View → Option Event
 next_event v = told_at (next_stop v).due v.clock (next_stop v).live
 
 -- what is seen there
-abbrev pub stopped : View → View
-stopped v = record v { passed = (next_stop v).passed; delivered = is_end (next_stop v).due; live = (next_stop v).live }
+abbrev pub step_stopped : View → View
+step_stopped v = record v { passed = (next_stop v).passed; delivered = is_end (next_stop v).due; live = (next_stop v).live }
 
 -- and where the step is done
-abbrev pub rested : View → View
-rested v = record v { passed = 0; delivered = false; live = (next_stop v).live }
+abbrev pub step_rested : View → View
+step_rested v = record v { passed = 0; delivered = false; live = (next_stop v).live }
 
 -- ---- what is left of it
 

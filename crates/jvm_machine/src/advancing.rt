@@ -52,7 +52,7 @@ pub fn hand_now(resting: bool, hand: Hand) -> Hand
 
 /// What is in hand where a step has stopped: nothing where it is done.
 #[inline(always)]
-pub fn left(gone: Gone) -> Hand
+pub fn hand_left(gone: Gone) -> Hand
     ensures { result ≡ left_in gone }
 {
     let mut hand = gone.hand;

@@ -15,9 +15,9 @@ ghost use Rattle.jvm_machine.specs.Installs.{IsFormed, IsImageOf, with_class};
 ghost use Rattle.jvm_machine.specs.Probes.{IfLeaves};
 ghost use Rattle.jvm_machine.specs.Turns.{Turns, turn_by};
 ghost use Rattle.jvm_machine.specs.Several.{Passes, RunsOn, is_settled};
-ghost use Rattle.jvm_machine.specs.View.{IsGoingOn, has_ended, is_resting, made, run_state};
+ghost use Rattle.jvm_machine.specs.View.{IsGoingOn, has_ended, is_resting, machine_made, run_state};
 
-use crate::advancing::{Telling, clock_in, hand_now, left, loaded_since, take_up};
+use crate::advancing::{Telling, clock_in, hand_left, hand_now, loaded_since, take_up};
 use crate::telling::event_told;
 use crate::turn::Turn;
 use class_linker::Linker;
@@ -46,12 +46,12 @@ pub struct Vm {
 
 impl Model for Vm {
     ghost use Rattle.prepared_code.specs.Initializations.{state_of};
-    ghost use Rattle.jvm_machine.specs.Machine.{Keeps, viewed};
+    ghost use Rattle.jvm_machine.specs.Machine.{Keeps, state_viewed};
     ghost use Rattle.jvm_machine.specs.View.{View};
 
     ghost Value = { View };
 
-    ghost view = { λ v. viewed v.originals.setup (state_of v.initializing v.parts) v.started
+    ghost view = { λ v. state_viewed v.originals.setup (state_of v.initializing v.parts) v.started
         v.broken v.clock v.hand };
 
     ghost invariant = { λ v. Keeps v.originals.setup v.originals.loaded v.hand v.started
@@ -89,7 +89,7 @@ impl Vm {
         requires fit { IsFit program }
         requires closed { HasClosedCodes program }
         requires starts { CanStart program }
-        ensures { IfOk result (λ vm. vm ≡ made program input.items) }
+        ensures { IfOk result (λ vm. vm ≡ machine_made program input.items) }
     {
         let parts = parts_before(alloc, &program)?;
         let originals = Originals::new(alloc, program, Seq::from_vec(input))?;
@@ -163,7 +163,7 @@ impl Vm {
             return Ok(Telling::Classes(classes));
         };
         self.originals.release(&self.parts.frames);
-        self.hand = left(gone);
+        self.hand = hand_left(gone);
         self.broken = false;
         Ok(Telling::Due(gone.due))
     }
@@ -190,7 +190,7 @@ impl Vm {
             return None;
         };
         self.clock = clock_in(resting, true, self.clock);
-        self.hand = left(gone);
+        self.hand = hand_left(gone);
         Some(gone.due)
     }
 

@@ -8,7 +8,7 @@ use Rattle.jvm_model.specs.declared.program.Program.{Program}
 use Rattle.jvm_model.specs.declared.state.Shared.{Shared}
 use Rattle.jvm_model.specs.Basis.Data.{Operands}
 use Rattle.jvm_model.specs.Classes.Kinds.{Element, Primitive, Named, kind_named, meaning_of}
-use Rattle.jvm_model.specs.Classes.Load.{Fault, Loading, There, Begun, Fresh, behind_needs, by_standing, done, is_among, load_element, load_named, load_needs, load_of, needs_of, standing_of}
+use Rattle.jvm_model.specs.Classes.Load.{Fault, Loading, There, Begun, Fresh, behind_needs, by_standing, loading_done, is_among, load_element, load_named, load_needs, load_of, needs_of, standing_of}
 use Rattle.jvm_model.specs.Basis.Programs.{class_named}
 use Rattle.jvm_model.proofs.Loading.LoadsAgain.{newly-again, newly-loaded}
 use Rattle.jvm_model.specs.Instructions.SymbolicReference.{SymbolicReference, kind_unless, newly_loaded, resolved_kind, resolved_name, resolves}
@@ -26,28 +26,28 @@ use Rattle.jvm_named.proofs.Attempted.{done_found, done_skipped}
 use Rattle.jvm_named.proofs.Loads.{Loads, loads}
 use Rattle.jvm_named.proofs.ObjectLemmas.{among-front, usable_more, with_more}
 
-nothing-by : (p : Program) (loaded : List ℕ) (n : SymbolicReference) (b : Bool) → load_of p loaded (resolved_name n) ≡ done loaded
+nothing-by : (p : Program) (loaded : List ℕ) (n : SymbolicReference) (b : Bool) → load_of p loaded (resolved_name n) ≡ loading_done loaded
     → (if b then drop (length loaded) (load_of p loaded (resolved_name n)).loaded else []) ≡ []
 nothing-by p loaded n true is = ap (λ (l : Loading). drop (length loaded) l.loaded) is ∙ drop-length loaded
 nothing-by p loaded n false is = refl
 
-pub nothing-new : (p : Program) (loaded : List ℕ) (n : SymbolicReference) (o : Operands) → load_of p loaded (resolved_name n) ≡ done loaded → newly_loaded p loaded n o ≡ []
+pub nothing-new : (p : Program) (loaded : List ℕ) (n : SymbolicReference) (o : Operands) → load_of p loaded (resolved_name n) ≡ loading_done loaded → newly_loaded p loaded n o ≡ []
 nothing-new p loaded n o is = nothing-by p loaded n (resolves n o) is
 
-pub same-shared : (p : Program) (n : SymbolicReference) (s : Shared) (f : FramesView) → load_of p s.loaded (resolved_name n) ≡ done s.loaded → shared_loaded p n s f ≡ s
+pub same-shared : (p : Program) (n : SymbolicReference) (s : Shared) (f : FramesView) → load_of p s.loaded (resolved_name n) ≡ loading_done s.loaded → shared_loaded p n s f ≡ s
 same-shared p n s f is =
     ap (λ more. record s { loaded = s.loaded ++ more }) (nothing-new p s.loaded n (top_operands f.frames) is)
     ∙ ap (λ classes. record s { loaded = classes }) (append-nil s.loaded)
 
-pub kind-there : (p : Program) (loaded name : List ℕ) (kind : ℕ) → load_of p loaded name ≡ done loaded → kind_named p name ≡ Some kind
+pub kind-there : (p : Program) (loaded name : List ℕ) (kind : ℕ) → load_of p loaded name ≡ loading_done loaded → kind_named p name ≡ Some kind
     → Ok kind ≡ resolved_kind p loaded name
 kind-there p loaded name kind is named =
     sym (ap (λ (l : Loading). kind_unless l.fault (kind_named p name)) is ∙ ap (λ o. kind_unless None o) named)
 
 module _ (l : LinkerView) (input : List ℕ) (n : SymbolicReference) (k : Known) (s : Shared) (f : FramesView)
     (linked : l.loaded ≡ s.loaded) (known : IsKnown l n k) where
-  loads-same : load_of l.program s.loaded (resolved_name n) ≡ done s.loaded
-  loads-same = subst (λ classes. load_of l.program classes (resolved_name n) ≡ done classes) linked known.loads
+  loads-same : load_of l.program s.loaded (resolved_name n) ≡ loading_done s.loaded
+  loads-same = subst (λ classes. load_of l.program classes (resolved_name n) ≡ loading_done classes) linked known.loads
 
   same : does_named (world_over l input) n s (top_locals f.frames) (top_operands f.frames) ≡ done_on (attempts (world_over l input) n s f) f
   same = sym (ap (λ (t : Shared). does_named (world_over l input) n t (top_locals f.frames) (top_operands f.frames)) (same-shared l.program n s f loads-same))
@@ -74,7 +74,7 @@ no-fault None kind k e = refl
 no-fault (Some fault) kind k e = absurd (let no : Ok k ≡ kind_unless (Some fault) kind → ⊥ = λ e. cc in no e)
 
 pub loads-done : (p : Program) (loaded name : List ℕ) (kind : ℕ) → Ok kind ≡ resolved_kind p loaded name → (load_of p loaded name).loaded ≡ loaded
-    → load_of p loaded name ≡ done loaded
+    → load_of p loaded name ≡ loading_done loaded
 loads-done p loaded name kind found is =
     let none : (load_of p loaded name).fault ≡ None = no-fault (load_of p loaded name).fault (kind_named p name) kind found in
     ap (λ classes. let v : Loading = record { loaded = classes; fault = (load_of p loaded name).fault } in v) is
@@ -90,7 +90,7 @@ loads-in l new before after n o is more does =
 stays-element : (p : Program) (n : ℕ) (big : List ℕ) (e : Element)
     → ((name : List ℕ) → e ≡ Named name → (class : ℕ) × (class_named p name ≡ Some class) × (is_among class big ≡ true))
     → load_element e big (λ name. by_standing (standing_of [] big (class_named p name)) name big
-    (λ class. behind_needs class (load_needs p (load_named p n ([] ++ class ∷ [])) (needs_of p class) big))) ≡ done big
+    (λ class. behind_needs class (load_needs p (load_named p n ([] ++ class ∷ [])) (needs_of p class) big))) ≡ loading_done big
 stays-element p n big (Primitive code) has = refl
 stays-element p n big (Named own) has = by (has own refl)
   where
@@ -98,15 +98,15 @@ stays-element p n big (Named own) has = by (has own refl)
     fresh class = behind_needs class (load_needs p (load_named p n ([] ++ class ∷ [])) (needs_of p class) big)
 
     by : (class : ℕ) × (class_named p own ≡ Some class) × (is_among class big ≡ true)
-        → by_standing (standing_of [] big (class_named p own)) own big fresh ≡ done big
+        → by_standing (standing_of [] big (class_named p own)) own big fresh ≡ loading_done big
     by (class, named, there) =
         ap (λ o. by_standing (standing_of [] big o) own big fresh) named
         ∙ ap (λ b. by_standing (if b then There else if is_among class [] then Begun else Fresh class) own big fresh) there
 
-pub loads-more : (p : Program) (loaded more name : List ℕ) → load_of p loaded name ≡ done loaded → load_of p (loaded ++ more) name ≡ done (loaded ++ more)
+pub loads-more : (p : Program) (loaded more name : List ℕ) → load_of p loaded name ≡ loading_done loaded → load_of p (loaded ++ more) name ≡ loading_done (loaded ++ more)
 loads-more p loaded more name is =
     let one : length p.classes + 1 ≡ suc (length p.classes) = omega arith in
-    subst (λ depth. load_named p depth [] name (loaded ++ more) ≡ done (loaded ++ more)) (sym one)
+    subst (λ depth. load_named p depth [] name (loaded ++ more) ≡ loading_done (loaded ++ more)) (sym one)
     (stays-element p (length p.classes) (loaded ++ more) (meaning_of name).element
     (λ own e. by own (there.class own e)))
   where
@@ -129,13 +129,13 @@ pub loaded_again : (l : LinkerView) (n : SymbolicReference) (k : Known) (s : Sha
     → l.loaded ≡ loaded_for l.program n s f
 loaded_again l n k s f linked known =
     linked ∙ ap (λ (t : Shared). t.loaded)
-    (sym (same-shared l.program n s f (subst (λ classes. load_of l.program classes (resolved_name n) ≡ done classes) linked known.loads)))
+    (sym (same-shared l.program n s f (subst (λ classes. load_of l.program classes (resolved_name n) ≡ loading_done classes) linked known.loads)))
 
 pub loads_none : (l : LinkerView) (n : SymbolicReference) (k : Known) (s : Shared) (f : FramesView) → l.loaded ≡ s.loaded → IsKnown l n k
     → loads_nothing l.program s.loaded n (top_operands f.frames) ≡ true
 loads_none l n k s f linked known =
     ap (λ (classes : List ℕ). length classes == 0)
-    (nothing-new l.program s.loaded n (top_operands f.frames) (subst (λ classes. load_of l.program classes (resolved_name n) ≡ done classes) linked known.loads))
+    (nothing-new l.program s.loaded n (top_operands f.frames) (subst (λ classes. load_of l.program classes (resolved_name n) ≡ loading_done classes) linked known.loads))
 
 -- what is known behind a resolution
 pub known_found : (l : LinkerView) (n : SymbolicReference) (k : Known) → Ok k.kind ≡ resolved_kind l.program l.loaded (resolved_name n) → IsResolved l (resolved_name n) k.kind

@@ -11,7 +11,7 @@ use Rattle.jvm_model.specs.Instructions.LocalRules.{replaces}
 use Rattle.jvm_model.specs.Instructions.SymbolicReference.{◌>>=◌, SymbolicReference, New, Getfield, Putfield, Getstatic, Putstatic, Invokevirtual, Invokespecial, Invokestatic, Invokeinterface, Checkcast, Instanceof, Anewarray, Multianewarray, LdcClass, is_null, resolved_kind, resolved_name, resolves, unless_refused}
 use Rattle.jvm_model.specs.Instructions.ReferenceRules.{does_named}
 use Rattle.jvm_model.specs.Instructions.ObjectRules.{done}
-use Rattle.jvm_model.specs.Instructions.Rules.{initialized}
+use Rattle.jvm_model.specs.Instructions.Rules.{class_initialized}
 use Rattle.jvm_model.specs.Basis.Values.{ref_of}
 use Rattle.jvm_named.specs.Resolved.{does_resolved, field_found, method_found, skips}
 
@@ -45,7 +45,7 @@ behind w (Getstatic r) s l o is =
     then-unless s (resolved_kind w.program s.loaded r.class) (λ kind. field_found w.program kind true r) (λ m. pushes_static w.program m s l o)
 behind w (Putstatic r) s l o is =
     then-unless s (resolved_kind w.program s.loaded r.class) (λ kind. field_found w.program kind true r)
-    (λ m. initialized w.program m.class s (sets_static m (held_of (kind_by r) o) s l o))
+    (λ m. class_initialized w.program m.class s (sets_static m (held_of (kind_by r) o) s l o))
 behind w (Invokevirtual r) s l o is =
     then-unless s (resolved_kind w.program s.loaded r.class) (λ kind. method_found w.program kind false false r)
     (λ m. invokes_on w Virtual r m (arguments_by true r.member o) s l o)
@@ -54,7 +54,7 @@ behind w (Invokespecial caller r interface) s l o is =
     (λ m. invokes_on w (Special caller interface) r m (arguments_by true r.member o) s l o)
 behind w (Invokestatic r) s l o is =
     then-unless s (resolved_kind w.program s.loaded r.class) (λ kind. method_found w.program kind false true r)
-    (λ m. initialized w.program m.class s (invokes_with_static w m (arguments_by false r.member o) s l o))
+    (λ m. class_initialized w.program m.class s (invokes_with_static w m (arguments_by false r.member o) s l o))
 behind w (Invokeinterface r) s l o is =
     then-unless s (resolved_kind w.program s.loaded r.class) (λ kind. method_found w.program kind true false r)
     (λ m. invokes_on w OfInterface r m (arguments_by true r.member o) s l o)

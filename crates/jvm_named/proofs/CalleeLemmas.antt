@@ -16,7 +16,7 @@ use Rattle.jvm_model.specs.Basis.Programs.{number_of_method}
 use Rattle.jvm_named.specs.declared.asked.Asked.TheVariants.{Invokes as Calling}
 use Rattle.jvm_named.specs.Answers.{Calls}
 use Rattle.jvm_named.specs.Callees.{IsCode, IsNative}
-use Rattle.jvm_named.specs.Does.{Does, IsDone, changed}
+use Rattle.jvm_named.specs.Does.{Does, IsDone, parts_changed}
 use Rattle.jvm_named.specs.Targets.{data_in}
 use Rattle.jvm_named.proofs.TargetLemmas.{length-data}
 
@@ -38,8 +38,8 @@ module _ (w : World) (m : MemberPlace) (args : List Datum) (s : Shared) (l : Loc
 -- a call of code by its number
 pub code-does : (w : World) (m : MemberPlace) (s : Shared) (f : FramesView) (out : List ℕ) (count next n : ℕ) → count ≤ length (top_operands f.frames) → IsCode w.program m n
     → Does (Ok (Calling n count)) (invokes_selected w (Some m) (data_in count (top_operands f.frames)) s (top_locals f.frames) (drop count (top_operands f.frames))) next
-    (changed f s out) (changed f s out)
+    (parts_changed f s out) (parts_changed f s out)
 code-does w m s f out count next n within is =
-    subst (λ d. IsDone d next (changed f s out) (changed f s out) (Calling n count))
+    subst (λ d. IsDone d next (parts_changed f s out) (parts_changed f s out) (Calling n count))
     (sym (code-invoked w m (data_in count (top_operands f.frames)) s (top_locals f.frames) (drop count (top_operands f.frames)) n is))
     (record { answer = ap (Calls n) (sym (length-data count (top_operands f.frames) within)); frames = refl; shared = refl; output = sym (append-nil out) })

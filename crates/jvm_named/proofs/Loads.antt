@@ -7,7 +7,7 @@ use Rattle.std.specs.Option.{option_map}
 use Rattle.jvm_model.specs.declared.program.Program.{Program}
 use Rattle.jvm_model.specs.Basis.KindNumbers.{base_of_class, kind_number, user_count}
 use Rattle.jvm_model.specs.Classes.Kinds.{Element, Primitive, Named, Meaning, array_from, array_of, before_semicolon, element_of, kind_named, meaning_of, parts_named, primitive_code}
-use Rattle.jvm_model.specs.Classes.Load.{Fault, NoClass, Circular, Loading, There, Begun, Fresh, behind_needs, by_standing, done, is_among, load_element, load_named, load_needs, load_of, needs_of, standing_of, unless}
+use Rattle.jvm_model.specs.Classes.Load.{Fault, NoClass, Circular, Loading, There, Begun, Fresh, behind_needs, by_standing, loading_done, is_among, load_element, load_named, load_needs, load_of, needs_of, standing_of, unless}
 use Rattle.jvm_model.specs.Basis.Programs.{class_named, has_name}
 use Rattle.class_linker.specs.Linkers.{IsLoaded, LinkerView}
 use Rattle.jvm_named.specs.Objects.{IsUsable}
@@ -29,8 +29,8 @@ among-last class (x ∷ xs) = by (class == x) (among-last class xs)
 
 -- ---- the class of a name
 
-behind-there : (class : ℕ) (o : Option Fault) (loaded : List ℕ) → (unless o loaded (λ after. done (after ++ class ∷ []))).fault ≡ None
-    → is_among class (unless o loaded (λ after. done (after ++ class ∷ []))).loaded ≡ true
+behind-there : (class : ℕ) (o : Option Fault) (loaded : List ℕ) → (unless o loaded (λ after. loading_done (after ++ class ∷ []))).fault ≡ None
+    → is_among class (unless o loaded (λ after. loading_done (after ++ class ∷ []))).loaded ≡ true
 behind-there class None loaded none = among-last class loaded
 behind-there class (Some fault) loaded none = absurd (some-none fault none)
 

@@ -29,7 +29,7 @@ use Rattle.jvm_model.specs.Instructions.NativeRules.{kinds_in, outcome_of, runs_
 use Rattle.class_linker.specs.Linkers.{IsLoaded, LinkerView}
 use Rattle.jvm_named.specs.declared.asked.Asked.{Asked}
 use Rattle.jvm_named.specs.Answers.{answer_of, answer_view, frames_of}
-use Rattle.jvm_named.specs.Does.{Does, IsDone, changed}
+use Rattle.jvm_named.specs.Does.{Does, IsDone, parts_changed}
 use Rattle.jvm_named.specs.Natives.{HasBuiltIn, outcome_by}
 use Rattle.jvm_named.specs.Objects.{AreLoaded, IsUsable}
 use Rattle.jvm_named.specs.Targets.{as_datum, data_in}
@@ -137,20 +137,20 @@ module _ (w : World) (number : ℕ) (args : List Datum) (s : Shared) (f : Frames
   module _ (native : Native) (q : Outcome) (same : outcome_by native (top_locals f.frames) below_in ≡ q) (moved : FramesView) (asked : Asked)
       (answers : answer_view asked ≡ answer_of (λ l o. outcome_by native l (drop count o)) f)
       (goes : moved ≡ frames_of (λ l o. outcome_by native l (drop count o)) next f) (left : natives.World) where
-    with-outcome : IsDone (record { shared = shared_with left s; wrote = left.wrote; outcome = q }) next (changed f s old)
-        (changed moved (shared_with left s) (old ++ left.wrote)) asked
+    with-outcome : IsDone (record { shared = shared_with left s; wrote = left.wrote; outcome = q }) next (parts_changed f s old)
+        (parts_changed moved (shared_with left s) (old ++ left.wrote)) asked
     with-outcome =
-        subst (λ q. IsDone (record { shared = shared_with left s; wrote = left.wrote; outcome = q }) next (changed f s old)
-        (changed moved (shared_with left s) (old ++ left.wrote)) asked) same
+        subst (λ q. IsDone (record { shared = shared_with left s; wrote = left.wrote; outcome = q }) next (parts_changed f s old)
+        (parts_changed moved (shared_with left s) (old ++ left.wrote)) asked) same
         (record { answer = answers; frames = goes; shared = refl; output = refl })
 
   pub by-number : (native : Native) (moved : FramesView) (asked : Asked) → is_done native ≡ true
       → IsAnswer native (answer_by number kinds args seen)
       → answer_view asked ≡ answer_of (λ l o. outcome_by native l (drop count o)) f
       → moved ≡ frames_of (λ l o. outcome_by native l (drop count o)) next f
-      → IsDone comes_to next (changed f s old) (changed moved (shared_with (left_in native) s) (old ++ (left_in native).wrote)) asked
+      → IsDone comes_to next (parts_changed f s old) (parts_changed moved (shared_with (left_in native) s) (old ++ (left_in native).wrote)) asked
   by-number native moved asked enough is answers goes =
-      subst (λ (left : natives.World). IsDone comes_to next (changed f s old) (changed moved (shared_with left s) (old ++ left.wrote)) asked)
+      subst (λ (left : natives.World). IsDone comes_to next (parts_changed f s old) (parts_changed moved (shared_with left s) (old ++ left.wrote)) asked)
       (sym (ap (λ b. changed_if b (world_by number kinds args) seen) enough))
       (with-outcome native (outcome_of (answer_by number kinds args seen) (top_locals f.frames) below_in)
       (ap (λ a. outcome_by a (top_locals f.frames) below_in) (is enough)
@@ -163,13 +163,13 @@ module _ (w : World) (number : ℕ) (args : List Datum) (s : Shared) (f : Frames
       → OnOk result (is_done native ≡ true)
       → IfOk result (λ a. answer_view a ≡ answer_of (λ l o. outcome_by native l (drop count o)) f)
       → OnOk result (moved ≡ frames_of (λ l o. outcome_by native l (drop count o)) next f)
-      → Does result comes_to next (changed f s old) (changed moved (record s { heap = heap; made = made; read = read }) out)
+      → Does result comes_to next (parts_changed f s old) (parts_changed moved (record s { heap = heap; made = made; read = read }) out)
   runs-numbered native (Err e) moved heap made read out is enough answers goes = tt
   runs-numbered native (Ok asked) moved heap made read out is enough answers goes =
-      subst (λ (x : HeapView). IsDone comes_to next (changed f s old) (changed moved (record s { heap = x; made = made; read = read }) out) asked) (sym is.heaped)
-      (subst (λ (x : MadeView). IsDone comes_to next (changed f s old) (changed moved (record s { heap = left.heap; made = x; read = read }) out) asked) (sym is.kept)
-      (subst (λ (x : ℕ). IsDone comes_to next (changed f s old) (changed moved (record s { heap = left.heap; made = left.made; read = x }) out) asked) (sym is.taken)
-      (subst (λ (x : List ℕ). IsDone comes_to next (changed f s old) (changed moved (shared_with left s) x) asked) (sym is.written)
+      subst (λ (x : HeapView). IsDone comes_to next (parts_changed f s old) (parts_changed moved (record s { heap = x; made = made; read = read }) out) asked) (sym is.heaped)
+      (subst (λ (x : MadeView). IsDone comes_to next (parts_changed f s old) (parts_changed moved (record s { heap = left.heap; made = x; read = read }) out) asked) (sym is.kept)
+      (subst (λ (x : ℕ). IsDone comes_to next (parts_changed f s old) (parts_changed moved (record s { heap = left.heap; made = left.made; read = x }) out) asked) (sym is.taken)
+      (subst (λ (x : List ℕ). IsDone comes_to next (parts_changed f s old) (parts_changed moved (shared_with left s) x) asked) (sym is.written)
       (by-number native moved asked enough is.answer answers goes))))
     where
       left : natives.World

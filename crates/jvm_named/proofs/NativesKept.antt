@@ -49,7 +49,7 @@ use Rattle.native_ops.specs.MadeViews.{MadeView}
 use Rattle.native_ops.specs.Effects.{gives_int, gives_long, gives_reference, throws, unless_null}
 use Rattle.native_ops.specs.Places.{place_in, range_in, range_from, counted_range, between}
 use Rattle.native_ops.specs.Shown.{is_null_array}
-use Rattle.native_ops.specs.Parsing.{parsed}
+use Rattle.native_ops.specs.Parsing.{number_parsed}
 use Rattle.native_ops.specs.Boxes.{small_place, char_place, box_of, compared_if}
 use Rattle.native_ops.specs.Roots.{clone, object_effect, class_effect}
 use Rattle.native_ops.specs.Strings.{init_text, char_at, part_of, substring, string_effect}
@@ -70,7 +70,7 @@ use Rattle.std.proofs.lemmas.Bool.{false≢true}
 use Rattle.native_ops.specs.declared.answer.Answer.{Answer}
 use Rattle.heap_objects.specs.Heaps.{growth_of, has_unit_at, units_at}
 use Rattle.heap_objects.specs.Interning.{number_of}
-use Rattle.native_ops.specs.Making.{is_full, resized}
+use Rattle.native_ops.specs.Making.{is_full, units_resized}
 use Rattle.native_ops.specs.MadeViews.{object_of_box, object_of_class}
 use Rattle.native_ops.specs.Numbers.{out_of_memory_error}
 use Rattle.native_ops.specs.Worlds.{after, answer_of}
@@ -281,7 +281,7 @@ compared-still other same comparison =
 integer-still : (m : IntegerMethod) (kinds : KindsView) (args : List Datum) (h : HeapView) → IsStill (integer_effect m kinds args h)
 integer-still integer.ValueOf kinds args h = box-still integer_kind (small_place (int_in args 0)) (datum.Int (int_in args 0))
 integer-still integer.Parse kinds args h =
-    found gives_int (if reference_in args 0 == 0 then None else parsed 31 (text_at (reference_in args 0) h)) _ (λ n. tt) tt
+    found gives_int (if reference_in args 0 == 0 then None else number_parsed 31 (text_at (reference_in args 0) h)) _ (λ n. tt) tt
 integer-still integer.TextOf kinds args h = tt
 integer-still integer.HexOf kinds args h = tt
 integer-still integer.IntValue kinds args h = tt
@@ -296,7 +296,7 @@ integer-still integer.CompareTo kinds args h =
 long-still : (m : LongMethod) (kinds : KindsView) (args : List Datum) (h : HeapView) → IsStill (long_effect m kinds args h)
 long-still long.ValueOf kinds args h = box-still long_kind (small_place (long_in args 0)) (datum.Long (long_in args 0))
 long-still long.Parse kinds args h =
-    found gives_long (if reference_in args 0 == 0 then None else parsed 63 (text_at (reference_in args 0) h)) _ (λ n. tt) tt
+    found gives_long (if reference_in args 0 == 0 then None else number_parsed 63 (text_at (reference_in args 0) h)) _ (λ n. tt) tt
 long-still long.TextOf kinds args h = tt
 long-still long.IntValue kinds args h = tt
 long-still long.LongValue kinds args h = tt
@@ -439,7 +439,7 @@ still-keeps (Appends object units) w still = text-keeps (is_some (units_at objec
 still-keeps (Replaces object units value) w still = text-keeps (is_some (units_at object w.heap)) (is_full (growth_of object units w.heap) w.heap) w _ _ still
 still-keeps (PutsUnit object at unit) w still = unit-keeps (has_unit_at object at w.heap) w _
 still-keeps (Resizes object size) w still =
-    text-keeps (is_some (units_at object w.heap)) (is_full (growth_of object (resized size (text_at object w.heap)) w.heap) w.heap) w _ _ tt
+    text-keeps (is_some (units_at object w.heap)) (is_full (growth_of object (units_resized size (text_at object w.heap)) w.heap) w.heap) w _ _ tt
 still-keeps (Interns units) w still = interned-keeps (is_some (number_of units w.heap.interned)) (is_full (1 + length units) w.heap) w _ _ _ tt
 still-keeps (Prints units) w still = inr tt
 still-keeps Reads w still = inr tt

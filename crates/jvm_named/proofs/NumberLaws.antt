@@ -9,8 +9,8 @@ use Rattle.const_pool.specs.declared.class.Member.{Member}
 use Rattle.jvm_model.specs.declared.program.MethodPlace.{MethodPlace}
 use Rattle.jvm_model.specs.declared.program.Program.{Program}
 use Rattle.jvm_model.specs.Basis.Methods.{code_of}
-use Rattle.jvm_model.specs.Basis.Programs.{coded_from, number_from, numbered, numbered_from}
-use Rattle.jvm_named.specs.Numbers.{AreNumbers, Row, coded, number_in, row_from, rows_from}
+use Rattle.jvm_model.specs.Basis.Programs.{coded_from, number_from, methods_numbered, numbered_from}
+use Rattle.jvm_named.specs.Numbers.{AreNumbers, Row, coded_count, number_in, row_from, rows_from}
 
 abbrev place : ℕ → ℕ → MethodPlace
 place class at = record { class = class; position = at }
@@ -26,15 +26,15 @@ pass-one n class at c k rest other =
     ap (λ b. cond (b && (k == at)) (let o : Option ℕ = Some n in o) (number_from (n + 1) class at rest)) (ne_eqb c class (λ e. other (sym e)))
 
 pass-class : (n class at c k : ℕ) (ms : List Member) (rest : List MethodPlace) → (class ≡ c → ⊥)
-    → number_from n class at (coded_from c k ms ++ rest) ≡ number_from (n + coded ms) class at rest
+    → number_from n class at (coded_from c k ms ++ rest) ≡ number_from (n + coded_count ms) class at rest
 pass-class n class at c k [] rest other = ap (λ m. number_from m class at rest) (sym (add-zero n))
 pass-class n class at c k (m ∷ ms) rest other = by (is_some (code_of m)) (λ x. pass-class x class at c (k + 1) ms rest other) where
-  by : (b : Bool) → ((x : ℕ) → number_from x class at (coded_from c (k + 1) ms ++ rest) ≡ number_from (x + coded ms) class at rest)
-      → number_from n class at (cond b (place c k ∷ coded_from c (k + 1) ms) (coded_from c (k + 1) ms) ++ rest) ≡ number_from (n + cond b (1 + coded ms) (coded ms)) class at rest
+  by : (b : Bool) → ((x : ℕ) → number_from x class at (coded_from c (k + 1) ms ++ rest) ≡ number_from (x + coded_count ms) class at rest)
+      → number_from n class at (cond b (place c k ∷ coded_from c (k + 1) ms) (coded_from c (k + 1) ms) ++ rest) ≡ number_from (n + cond b (1 + coded_count ms) (coded_count ms)) class at rest
   by true behind =
       pass-one n class at c k (coded_from c (k + 1) ms ++ rest) other
       ∙ (behind (n + 1)
-      ∙ (let e : n + 1 + coded ms ≡ n + (1 + coded ms) = omega arith in ap (λ x. number_from x class at rest) e))
+      ∙ (let e : n + 1 + coded_count ms ≡ n + (1 + coded_count ms) = omega arith in ap (λ x. number_from x class at rest) e))
   by false behind = behind n
 
 -- of a class in front of all of these
@@ -42,7 +42,7 @@ none-behind : (n class at c : ℕ) (cs : List ClassFile) → class < c → numbe
 none-behind n class at c [] before = refl
 none-behind n class at c (x ∷ cs) before =
     pass-class n class at c 0 x.methods (numbered_from (c + 1) cs) (λ e. absurd (omega (arith, e)))
-    ∙ none-behind (n + coded x.methods) class at (c + 1) cs (omega arith)
+    ∙ none-behind (n + coded_count x.methods) class at (c + 1) cs (omega arith)
 
 -- at a position in front of all of these
 none-before : (n c at k : ℕ) (ms : List Member) (cs : List ClassFile) → at < k → number_from n c at (coded_from c k ms ++ numbered_from (c + 1) cs) ≡ None
@@ -93,12 +93,12 @@ over-classes n c zero at (x ∷ cs) =
 over-classes n c (suc i) at (x ∷ cs) =
     let later : c + suc i ≡ c + 1 + i = omega arith in
     pass-class n (c + suc i) at c 0 x.methods (numbered_from (c + 1) cs) (λ e. absurd (omega (arith, e)))
-    ∙ (ap (λ class. number_from (n + coded x.methods) class at (numbered_from (c + 1) cs)) later
-    ∙ over-classes (n + coded x.methods) (c + 1) i at cs)
+    ∙ (ap (λ class. number_from (n + coded_count x.methods) class at (numbered_from (c + 1) cs)) later
+    ∙ over-classes (n + coded_count x.methods) (c + 1) i at cs)
 
-pub rows-number : (p : Program) → p.methods ≡ numbered p.classes → AreNumbers p (rows_from 0 p.classes)
+pub rows-number : (p : Program) → p.methods ≡ methods_numbered p.classes → AreNumbers p (rows_from 0 p.classes)
 rows-number p methods class at =
     sym
     (ap (number_from 0 class at) methods
-    ∙ (ap (λ c. number_from 0 c at (numbered p.classes)) (sym (zero-add class))
+    ∙ (ap (λ c. number_from 0 c at (methods_numbered p.classes)) (sym (zero-add class))
     ∙ over-classes 0 0 class at p.classes))

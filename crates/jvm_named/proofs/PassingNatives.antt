@@ -25,7 +25,7 @@ use Rattle.jvm_model.specs.Instructions.NativeRules.{kinds_in, runs_number, seen
 use Rattle.jvm_model.specs.Basis.Values.{as_value, with_value}
 use Rattle.jvm_named.specs.declared.asked.Asked.TheVariants as asked
 use Rattle.jvm_named.specs.Answers.{Continues, Exceeds, answer_in, answer_of, frames_of}
-use Rattle.jvm_named.specs.Does.{Changed, changed}
+use Rattle.jvm_named.specs.Does.{Changed, parts_changed}
 use Rattle.jvm_named.specs.Natives.{outcome_by}
 use Rattle.jvm_named.specs.Passing.{IfRan, is_next}
 use Rattle.jvm_named.proofs.Going.{height-dropped, least-width, within-limit}
@@ -93,16 +93,16 @@ module _ (w : World) (number : ℕ) (s : Shared) (f : FramesView) (old : List �
   goes_by x l o = outcome_by x l (drop count o)
 
   abbrev before : Changed
-  before = changed f s old
+  before = parts_changed f s old
 
   -- what a call leaves
   abbrev behind : FramesView → natives.World → Changed
-  behind moved left = changed moved (shared_with left s) (old ++ left.wrote)
+  behind moved left = parts_changed moved (shared_with left s) (old ++ left.wrote)
 
   none-changed : (moved : FramesView) (left : natives.World) → moved ≡ f → left ≡ seen → behind moved left ≡ before
   none-changed moved left same kept =
       ap (λ (x : FramesView). behind x left) same
-      ∙ (ap (λ (x : natives.World). behind f x) kept ∙ ap (λ o. changed f s o) (append-nil old))
+      ∙ (ap (λ (x : natives.World). behind f x) kept ∙ ap (λ o. parts_changed f s o) (append-nil old))
 
   module _ (x : Native) (moved : FramesView) (sound : AreSound f.frames) (other : (number == 79) ≡ false) (some : 0 < count) (within : count ≤ length (top_operands f.frames))
       (is : IsAnswer x (answer_by number kinds args seen)) (goes : moved ≡ frames_of (goes_by x) next f) where
@@ -137,12 +137,12 @@ module _ (w : World) (number : ℕ) (s : Shared) (f : FramesView) (old : List �
   pub native-ran : (x : Native) (b : Bool) (moved : FramesView) (heap : HeapView) (made : MadeView) (read : ℕ) (out : List ℕ) → AreSound f.frames → (number == 79) ≡ false
       → 0 < count → count ≤ length (top_operands f.frames) → IsCalled w number s old x heap made read out s.loaded args
       → b ≡ is_next (answer_of (goes_by x) f) → moved ≡ frames_of (goes_by x) next f
-      → IfRan b comes_to next before (changed moved (record s { heap = heap; made = made; read = read }) out)
+      → IfRan b comes_to next before (parts_changed moved (record s { heap = heap; made = made; read = read }) out)
   native-ran x b moved heap made read out sound other some within is told goes =
-      subst (λ (y : HeapView). IfRan b comes_to next before (changed moved (record s { heap = y; made = made; read = read }) out)) (sym is.heaped)
-      (subst (λ (y : MadeView). IfRan b comes_to next before (changed moved (record s { heap = left.heap; made = y; read = read }) out)) (sym is.kept)
-      (subst (λ (y : ℕ). IfRan b comes_to next before (changed moved (record s { heap = left.heap; made = left.made; read = y }) out)) (sym is.taken)
-      (subst (λ (y : List ℕ). IfRan b comes_to next before (changed moved (shared_with left s) y)) (sym is.written)
+      subst (λ (y : HeapView). IfRan b comes_to next before (parts_changed moved (record s { heap = y; made = made; read = read }) out)) (sym is.heaped)
+      (subst (λ (y : MadeView). IfRan b comes_to next before (parts_changed moved (record s { heap = left.heap; made = y; read = read }) out)) (sym is.kept)
+      (subst (λ (y : ℕ). IfRan b comes_to next before (parts_changed moved (record s { heap = left.heap; made = left.made; read = y }) out)) (sym is.taken)
+      (subst (λ (y : List ℕ). IfRan b comes_to next before (parts_changed moved (shared_with left s) y)) (sym is.written)
       (ran x moved sound other some within is.answer goes b told))))
     where
       left : natives.World

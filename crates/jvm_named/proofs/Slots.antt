@@ -8,7 +8,7 @@ use Rattle.heap_objects.specs.declared.object.Object.{Object}
 use Rattle.heap_objects.specs.declared.object.Object.TheVariants.{Instance, Array, Text}
 use Rattle.heap_objects.specs.Changes.{changed_if}
 use Rattle.heap_objects.specs.Heaps.{HeapView, has_slot_at, kind_at, with_slot_at}
-use Rattle.heap_objects.specs.Kept.{kept}
+use Rattle.heap_objects.specs.Kept.{element_kept}
 use Rattle.heap_objects.specs.Kinds.{element_of}
 use Rattle.heap_objects.specs.Objects.{changed_at, has_slot, with_slot}
 use Rattle.const_pool.specs.References.{Reference}
@@ -34,7 +34,7 @@ outside slot xs h = grind (arith)
 slot-missing : (slot : ℕ) (v : Datum) (o : Object) → has_slot slot o ≡ false → with_slot slot v o ≡ o
 slot-missing slot v (Instance kind fields) h = ap (λ fs. Instance kind fs) (set_past fields slot v (outside slot fields h))
 slot-missing slot v (Array a) h =
-    ap (λ items. Array (record { kind = a.kind; items = items })) (set_past a.items slot (kept (element_of a.kind) v) (outside slot a.items h))
+    ap (λ items. Array (record { kind = a.kind; items = items })) (set_past a.items slot (element_kept (element_of a.kind) v) (outside slot a.items h))
 slot-missing slot v (Text kind units) h = refl
 
 place-missing : (slot : ℕ) (v : Datum) (place : ℕ) (os : List Object) → option_map_or (has_slot slot) (slice_get os place) false ≡ false

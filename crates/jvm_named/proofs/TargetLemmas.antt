@@ -27,7 +27,7 @@ use Rattle.jvm_named.specs.declared.asked.AbruptCompletion.{AbruptCompletion}
 use Rattle.jvm_named.specs.declared.asked.AbruptCompletion.TheVariants as refusal
 use Rattle.jvm_named.specs.declared.targets.Target.{Target as TheTarget}
 use Rattle.jvm_named.specs.Answers.{abrupt_view}
-use Rattle.jvm_named.specs.Does.{IsDone, changed}
+use Rattle.jvm_named.specs.Does.{IsDone, parts_changed}
 use Rattle.jvm_named.specs.Objects.{class_at_kind}
 use Rattle.jvm_named.specs.Callees.{chosen_place}
 use Rattle.jvm_named.specs.Resolved.{invokes_instance, invokes_static_method, method_found}
@@ -111,9 +111,9 @@ does-target w found s l o t is enough =
 -- ---- a refusal changes nothing
 
 pub refuses : (d : Done) (next : ℕ) (f : FramesView) (s : Shared) (out : List ℕ) (e : AbruptCompletion) → d ≡ done s (abrupt_view e)
-    → IsDone d next (changed f s out) (changed f s out) (Refused e)
-refuses d next f s out e is = subst (λ d. IsDone d next (changed f s out) (changed f s out) (Refused e)) (sym is) (by e) where
-  by : (e : AbruptCompletion) → IsDone (done s (abrupt_view e)) next (changed f s out) (changed f s out) (Refused e)
+    → IsDone d next (parts_changed f s out) (parts_changed f s out) (Refused e)
+refuses d next f s out e is = subst (λ d. IsDone d next (parts_changed f s out) (parts_changed f s out) (Refused e)) (sym is) (by e) where
+  by : (e : AbruptCompletion) → IsDone (done s (abrupt_view e)) next (parts_changed f s out) (parts_changed f s out) (Refused e)
   by (refusal.Raises class message) = record { answer = refl; frames = refl; shared = refl; output = sym (append-nil out) }
   by (refusal.Throws object) = record { answer = refl; frames = refl; shared = refl; output = sym (append-nil out) }
   by (refusal.Initializes class) = record { answer = refl; frames = refl; shared = refl; output = sym (append-nil out) }

@@ -14,5 +14,5 @@ lengths_from out (pos n ∷ more) = lengths_from (out ++ n ∷ []) more
 lengths_from out (negsuc n ∷ more) = None
 
 -- a number, or the greatest that an index can be where it is greater
-abbrev pub capped : ℕ → ℕ
-capped n = if nat_lt n 18446744073709551616 then n else 18446744073709551615
+abbrev pub number_capped : ℕ → ℕ
+number_capped n = if nat_lt n 18446744073709551616 then n else 18446744073709551615

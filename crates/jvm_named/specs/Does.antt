@@ -13,8 +13,8 @@ pub record Changed : Type 0 where
   pub shared : Shared
   pub output : List ℕ
 
-abbrev pub changed : FramesView → Shared → List ℕ → Changed
-changed frames shared output = record { frames = frames; shared = shared; output = output }
+abbrev pub parts_changed : FramesView → Shared → List ℕ → Changed
+parts_changed frames shared output = record { frames = frames; shared = shared; output = output }
 
 -- where the frame goes on it is at this place then
 pub record IsDone (d : Done) (next : ℕ) (old new : Changed) (a : Asked) : Type 0 where

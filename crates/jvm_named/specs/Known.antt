@@ -6,7 +6,7 @@ use Rattle.class_linker.specs.Linkers.{LinkerView}
 use Rattle.jvm_model.specs.declared.program.Program.{Program}
 use Rattle.jvm_model.specs.Instructions.CreationRules.{has_no_instances, is_text_class}
 use Rattle.jvm_model.specs.Instructions.FieldRules.{slot_of}
-use Rattle.jvm_model.specs.Classes.Load.{done, load_of}
+use Rattle.jvm_model.specs.Classes.Load.{loading_done, load_of}
 use Rattle.jvm_model.specs.Instructions.InvocationRules.{Selecting, Virtual, OfInterface, Special, names_interface, selected_by}
 use Rattle.jvm_model.specs.Instructions.SymbolicReference.{SymbolicReference, Getfield, Putfield, Getstatic, Putstatic, Invokevirtual, Invokespecial, Invokestatic, Invokeinterface, is_below_kind, resolved_name}
 use Rattle.jvm_model.specs.Basis.SharedState.{class_of_kind}
@@ -103,5 +103,5 @@ LoadsNothing l n = (load_of l.program l.loaded (resolved_name n)).loaded ≡ l.l
 -- the kind that the class's name was resolved to, where resolving it loads nothing, and the member
 pub record IsKnown (l : LinkerView) (n : SymbolicReference) (k : Known) : Type 0 where
   pub resolved : IsResolved l (resolved_name n) k.kind
-  pub loads : load_of l.program l.loaded (resolved_name n) ≡ done l.loaded
+  pub loads : load_of l.program l.loaded (resolved_name n) ≡ loading_done l.loaded
   pub found : IsFoundAs k.found l.program k.kind n

@@ -13,7 +13,7 @@ ghost use Rattle.jvm_model.specs.Instructions.SymbolicReference.{Invokevirtual};
 ghost use Rattle.jvm_named.specs.Answers.{Answers, Moves, Shares, wrote_by};
 ghost use Rattle.jvm_named.specs.Attempts.{world_over};
 ghost use Rattle.jvm_named.specs.Callees.{HasCallee, chosen_place};
-ghost use Rattle.jvm_named.specs.Does.{Does, changed};
+ghost use Rattle.jvm_named.specs.Does.{Does, parts_changed};
 ghost use Rattle.jvm_named.specs.Known.{IsFoundAs, symbolic_reference_by};
 ghost use Rattle.jvm_named.specs.Natives.{HasBuiltIn};
 ghost use Rattle.jvm_named.specs.Numbers.{AreNumbers};
@@ -57,8 +57,8 @@ fn invoke_native(
     ensures done { let fs = frames.old.frames in let o = top_operands fs in
         let rule = invokes_native (world_over linker.now input.now) (at_place m) (data_in count o)
         shared.old (top_locals fs) (drop count o) in
-        Does result rule next (changed frames.old shared.old output.old)
-        (changed frames.new shared.new output.new) }
+        Does result rule next (parts_changed frames.old shared.old output.old)
+        (parts_changed frames.new shared.new output.new) }
     ensures objects { OnOk result (AreLoaded linker.now shared.new.heap) }
 {
     if m.class < user_count(linker) {
@@ -88,8 +88,8 @@ fn invoke_found(
     ensures done { let fs = frames.old.frames in let o = top_operands fs in
         let rule = invokes_selected (world_over linker.now input.now) (Some (at_place m)) (data_in
         count o) shared.old (top_locals fs) (drop count o) in
-        Does result rule next (changed frames.old shared.old output.old)
-        (changed frames.new shared.new output.new) }
+        Does result rule next (parts_changed frames.old shared.old output.old)
+        (parts_changed frames.new shared.new output.new) }
     ensures objects { OnOk result (AreLoaded linker.now shared.new.heap) }
 {
     if is_abstract(linker.program(), m) {
@@ -123,8 +123,8 @@ fn invoke_chosen(
     ensures done { let fs = frames.old.frames in let o = top_operands fs in
         let rule = invokes_selected (world_over linker.now input.now) (Some (chosen_place m))
         (data_in count o) shared.old (top_locals fs) (drop count o) in
-        Does result rule next (changed frames.old shared.old output.old)
-        (changed frames.new shared.new output.new) }
+        Does result rule next (parts_changed frames.old shared.old output.old)
+        (parts_changed frames.new shared.new output.new) }
     ensures objects { OnOk result (AreLoaded linker.now shared.new.heap) }
 {
     match m.callee {
@@ -164,8 +164,8 @@ fn invoke_selected(
         let rule = invokes_selected (world_over linker.now input.now)
         (option_map chosen_place selected) (data_in count o) shared.old (top_locals fs)
         (drop count o) in
-        Does result rule next (changed frames.old shared.old output.old)
-        (changed frames.new shared.new output.new) }
+        Does result rule next (parts_changed frames.old shared.old output.old)
+        (parts_changed frames.new shared.new output.new) }
     ensures objects { OnOk result (AreLoaded linker.now shared.new.heap) }
 {
     match selected {
@@ -204,8 +204,8 @@ fn invoke_instance(
     ensures done { let fs = frames.old.frames in
         let rule = invokes_instance (world_over linker.now input.now) kind (selecting_view by.entry)
         method.now shared.old (top_locals fs) (top_operands fs) in
-        Does result rule next (changed frames.old shared.old output.old)
-        (changed frames.new shared.new output.new) }
+        Does result rule next (parts_changed frames.old shared.old output.old)
+        (parts_changed frames.new shared.new output.new) }
     ensures objects { OnOk result (AreLoaded linker.now shared.new.heap) }
     ensures found { IsFoundAs found.new linker.now.program kind
         (symbolic_reference_by (selecting_view by.entry) method.now) }
@@ -414,8 +414,8 @@ fn invoke_fixed(
     ensures done { let fs = frames.old.frames in
         let rule = invokes_static_method (world_over linker.now input.now) kind method.now
         shared.old (top_locals fs) (top_operands fs) in
-        Does result rule next (changed frames.old shared.old output.old)
-        (changed frames.new shared.new output.new) }
+        Does result rule next (parts_changed frames.old shared.old output.old)
+        (parts_changed frames.new shared.new output.new) }
     ensures objects { OnOk result (AreLoaded linker.now shared.new.heap) }
     ensures found { IsFoundAs found.new linker.now.program kind
         (Invokestatic method.now) }

@@ -9,7 +9,7 @@ ghost use Rattle.jvm_model.specs.Running.Constants.{sets_constants, sets_field, 
 ghost use Rattle.jvm_model.specs.Basis.SharedState.{kind_for, string};
 ghost use Rattle.jvm_named.specs.Held.{IsSetting, constant_view, field_of};
 
-use crate::held::{field_kind, narrowed};
+use crate::held::{field_kind, field_narrowed};
 use crate::static_fields::set_static;
 use class_index::{STATIC, has_flag};
 use const_pool::{Attribute, ClassFile, Const, Kind, Member, Pool};
@@ -55,7 +55,7 @@ fn constant_of<'a>(pool: &'a Pool, kind: Kind, entry: &Const) -> Option<FieldCon
     ensures { option_map constant_view result ≡ constant_of pool.now kind entry.now }
 {
     match entry {
-        Const::Integer(n) => Some(FieldConstant::Number(narrowed(kind, Datum::Int(*n)))),
+        Const::Integer(n) => Some(FieldConstant::Number(field_narrowed(kind, Datum::Int(*n)))),
         Const::Long(n) => Some(FieldConstant::Number(Datum::Long(*n))),
         Const::Text(index) => units_at(pool, *index),
         _ => None,

@@ -5,7 +5,7 @@ ghost use Rattle.heap_objects.specs.Heaps.{with_instance, with_text};
 ghost use Rattle.jvm_model.specs.Instructions.CreationRules.{allocates, has_no_instances, makes_instance};
 ghost use Rattle.jvm_model.specs.Instructions.CreationRules.{makes_object, zero_of};
 ghost use Rattle.jvm_model.specs.Classes.Layouts.{layout};
-ghost use Rattle.jvm_model.specs.Instructions.Rules.{initialized};
+ghost use Rattle.jvm_model.specs.Instructions.Rules.{class_initialized};
 ghost use Rattle.jvm_model.specs.Basis.SharedState.{class_of_kind};
 ghost use Rattle.class_linker.specs.Linkers.{IsLoaded};
 ghost use Rattle.jvm_named.specs.Answers.{Answers, Moves, Shares};
@@ -202,13 +202,13 @@ fn make_initialized(
     requires kind { class ≡ class_of_kind linker.now.program kind }
     requires found { IsClassFound found.old linker.now.program kind }
     requires objects { AreLoaded linker.now shared.old.heap }
-    ensures answer { Answers result (λ l o. initialized linker.now.program class shared.old
+    ensures answer { Answers result (λ l o. class_initialized linker.now.program class shared.old
         (makes_instance linker.now.program kind class shared.old l o)) frames.old }
     ensures frames { Moves result frames.new
-        (λ l o. initialized linker.now.program class shared.old
+        (λ l o. class_initialized linker.now.program class shared.old
         (makes_instance linker.now.program kind class shared.old l o)) next frames.old }
     ensures shared { Shares result shared.new
-        (λ l o. initialized linker.now.program class shared.old
+        (λ l o. class_initialized linker.now.program class shared.old
         (makes_instance linker.now.program kind class shared.old l o)) frames.old }
     ensures objects { OnOk result (AreLoaded linker.now shared.new.heap) }
     ensures found { IsClassFound found.new linker.now.program kind }

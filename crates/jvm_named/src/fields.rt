@@ -23,7 +23,7 @@ ghost use Rattle.jvm_named.specs.Resolved.{field_found, gets_instance, puts_inst
 
 use crate::asked::{AbruptCompletion, Asked, Exception};
 use crate::declared_member::DeclaredMember;
-use crate::held::{held_by, narrowed};
+use crate::held::{field_narrowed, held_by};
 use crate::instances::{class_of_kind, kind_of_object};
 use crate::known::Found;
 use crate::members::field_found;
@@ -385,7 +385,7 @@ pub fn putting_of(frames: &Frames, kind: Kind) -> Option<Putting>
     let Some(Value::Ref(object)) = frames.peek(1) else {
         return None;
     };
-    let datum = narrowed(kind, datum_of(kind, value)?);
+    let datum = field_narrowed(kind, datum_of(kind, value)?);
     Some(Putting { object, datum })
 }
 

@@ -4,7 +4,7 @@ ghost use Rattle.std.specs.Prelude.{◌≡◌};
 ghost use Rattle.class_linker.specs.Linkers.{IsLoaded};
 ghost use Rattle.jvm_model.specs.Instructions.FieldRules.{is_static_field};
 ghost use Rattle.jvm_model.specs.Classes.Lookup.{resolved_field};
-ghost use Rattle.jvm_model.specs.Instructions.SymbolicReference.{found};
+ghost use Rattle.jvm_model.specs.Instructions.SymbolicReference.{member_found};
 ghost use Rattle.jvm_model.specs.Basis.SharedState.{class_of_kind};
 ghost use Rattle.jvm_named.specs.Answers.{place_found};
 ghost use Rattle.jvm_named.specs.Members.{at_place, reference_of};
@@ -40,7 +40,7 @@ fn resolved_field(
 ) -> Result<DeclaredMember, AbruptCompletion>
     requires { IsLoaded linker.now class }
     ensures { place_found result
-        ≡ found (resolved_field linker.now.program class (reference_of member.now).member) }
+        ≡ member_found (resolved_field linker.now.program class (reference_of member.now).member) }
 {
     match linker.resolve_field(class, &member.name, &member.descriptor) {
         Resolved::Found(class, position) => Ok(DeclaredMember { class, position }),

@@ -10,7 +10,7 @@ ghost use Rattle.jvm_basic.specs.Outcomes.{can_hold};
 ghost use Rattle.jvm_model.specs.Instructions.CreationRules.{allocates, counts_of, lengths_of, makes_arrays};
 ghost use Rattle.jvm_model.specs.Instructions.CreationRules.{makes_by_counts, slots_of_arrays, with_arrays};
 ghost use Rattle.jvm_named.specs.Answers.{Answers, Moves, Shares};
-ghost use Rattle.jvm_named.specs.Arrays.{capped, int_at, lengths_from};
+ghost use Rattle.jvm_named.specs.Arrays.{number_capped, int_at, lengths_from};
 ghost use Rattle.jvm_named.specs.Objects.{AreLoaded, IsUsable};
 
 use crate::asked::{AbruptCompletion, Asked, Exception};
@@ -81,7 +81,7 @@ fn read_lengths(alloc: Global, counts: &[i32]) -> Result<Option<Seq<u32>>, NoMem
 
 /// A product, or the greatest number where it is greater.
 fn times(a: usize, b: usize) -> usize
-    ensures { result ≡ capped (a * b) }
+    ensures { result ≡ number_capped (a * b) }
 {
     match a.checked_mul(b) {
         Some(product) => product,
@@ -91,7 +91,7 @@ fn times(a: usize, b: usize) -> usize
 
 /// A sum, or the greatest number where it is greater.
 fn plus(a: usize, b: usize) -> usize
-    ensures { result ≡ capped (a + b) }
+    ensures { result ≡ number_capped (a + b) }
 {
     match a.checked_add(b) {
         Some(sum) => sum,
@@ -101,7 +101,7 @@ fn plus(a: usize, b: usize) -> usize
 
 /// How many slots arrays of these lengths take, or the greatest number where it is greater.
 fn slots_of_arrays(lengths: &[u32]) -> usize
-    ensures { result ≡ capped (slots_of_arrays lengths.now) }
+    ensures { result ≡ number_capped (slots_of_arrays lengths.now) }
 {
     let Some((first, rest)) = lengths.split_first() else {
         return 0;

@@ -15,7 +15,7 @@ ghost use Rattle.jvm_model.specs.Basis.Values.{as_value, with_value};
 ghost use Rattle.native_ops.specs.Calls.{is_done};
 ghost use Rattle.jvm_named.specs.Answers.{answer_of, answer_view, frames_of, abrupt_view};
 ghost use Rattle.jvm_named.specs.Attempts.{world_over};
-ghost use Rattle.jvm_named.specs.Does.{Does, changed};
+ghost use Rattle.jvm_named.specs.Does.{Does, parts_changed};
 ghost use Rattle.jvm_named.specs.Members.{at_place};
 ghost use Rattle.jvm_named.specs.Natives.{HasBuiltIn, outcome_by};
 ghost use Rattle.jvm_named.specs.Objects.{AreLoaded};
@@ -196,8 +196,8 @@ fn pass_with(
     requires linked { linker.now.loaded ≡ shared.old.loaded }
     ensures { let fs = frames.old.frames in
         let d = runs_native_call (world_over linker.now input.now) native shared.old fs in
-        IfRan result d next (changed frames.old shared.old output.old)
-        (changed frames.new shared.new output.new) }
+        IfRan result d next (parts_changed frames.old shared.old output.old)
+        (parts_changed frames.new shared.new output.new) }
 {
     recall(frames);
     let kinds = LinkedKinds { linker };
@@ -231,8 +231,8 @@ pub fn pass_native(
     requires linked { linker.now.loaded ≡ shared.old.loaded }
     ensures { let fs = frames.old.frames in
         let d = runs_native_call (world_over linker.now input.now) native shared.old fs in
-        IfRan result d next (changed frames.old shared.old output.old)
-        (changed frames.new shared.new output.new) }
+        IfRan result d next (parts_changed frames.old shared.old output.old)
+        (parts_changed frames.new shared.new output.new) }
 {
     if native.count == 0 || native.number == ARRAYCOPY {
         return false;
@@ -299,8 +299,8 @@ pub fn run_numbered(
     ensures done { let fs = frames.old.frames in let o = top_operands fs in
         let rule = runs_number (world_over linker.now input.now) number (data_in count o) shared.old
         (top_locals fs) (drop count o) in
-        Does result rule next (changed frames.old shared.old output.old)
-        (changed frames.new shared.new output.new) }
+        Does result rule next (parts_changed frames.old shared.old output.old)
+        (parts_changed frames.new shared.new output.new) }
     ensures objects { OnOk result (AreLoaded linker.now shared.new.heap) }
 {
     let args = arguments(alloc, frames, count)?;
@@ -338,8 +338,8 @@ pub fn run_native(
     ensures done { let fs = frames.old.frames in let o = top_operands fs in
         let rule = runs_native (world_over linker.now input.now) (reference_to linker.now.program
         (at_place m)) (data_in count o) shared.old (top_locals fs) (drop count o) in
-        Does result rule next (changed frames.old shared.old output.old)
-        (changed frames.new shared.new output.new) }
+        Does result rule next (parts_changed frames.old shared.old output.old)
+        (parts_changed frames.new shared.new output.new) }
     ensures objects { OnOk result (AreLoaded linker.now shared.new.heap) }
 {
     match native_at(linker.program(), m) {

@@ -2,8 +2,8 @@
 
 ghost use Rattle.std.specs.Prelude.{◌≡◌, ◌+◌, ◌<◌, ◌^◌, is_some, IfOk};
 ghost use Rattle.jvm_model.specs.Basis.Methods.{code_of};
-ghost use Rattle.jvm_model.specs.Basis.Programs.{numbered};
-ghost use Rattle.jvm_named.specs.Numbers.{AreNumbers, all_coded, coded};
+ghost use Rattle.jvm_model.specs.Basis.Programs.{methods_numbered};
+ghost use Rattle.jvm_named.specs.Numbers.{AreNumbers, all_coded, coded_count};
 ghost use Rattle.jvm_named.specs.Numbers.{number_in, row_from, rows_from};
 
 use const_pool::{Attribute, ClassFile, Member};
@@ -41,9 +41,9 @@ fn has_code(method: &Member) -> bool
 }
 
 /// How many methods have Code.
-fn coded(methods: &[Member]) -> u32
-    requires { coded methods.now < 2 ^ 32 }
-    ensures { result ≡ coded methods.now }
+fn coded_count(methods: &[Member]) -> u32
+    requires { coded_count methods.now < 2 ^ 32 }
+    ensures { result ≡ coded_count methods.now }
 {
     let mut count = 0;
     for method in methods {
@@ -56,7 +56,7 @@ fn coded(methods: &[Member]) -> u32
 
 /// The numbers of a class's methods, from this one on.
 fn row_from(alloc: Global, first: u32, methods: &[Member]) -> Result<Seq<Option<u32>>, NoMemory>
-    requires { first + coded methods.now < 2 ^ 32 }
+    requires { first + coded_count methods.now < 2 ^ 32 }
     ensures { IfOk result (λ row. row ≡ row_from first methods.now) }
 {
     let mut row = Seq::with_capacity(alloc, methods.len())?;
@@ -82,7 +82,7 @@ fn rows_of(alloc: Global, classes: &[ClassFile]) -> Result<Seq<Seq<Option<u32>>>
     for class in classes {
         let methods = class.methods.as_slice();
         rows.push(row_from(alloc, next, methods)?)?;
-        next += coded(methods);
+        next += coded_count(methods);
     }
     Ok(rows)
 }
@@ -90,7 +90,7 @@ fn rows_of(alloc: Global, classes: &[ClassFile]) -> Result<Seq<Seq<Option<u32>>>
 impl MethodNumbers {
     /// The numbers of a program's methods.
     pub fn new(alloc: Global, program: &Program) -> Result<MethodNumbers, NoMemory>
-        requires numbered { program.now.methods ≡ numbered program.now.classes }
+        requires numbered { program.now.methods ≡ methods_numbered program.now.classes }
         requires few { all_coded program.now.classes < 2 ^ 32 }
         ensures { IfOk result (λ numbers. AreNumbers program.now numbers) }
     {

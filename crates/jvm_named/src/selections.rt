@@ -165,7 +165,7 @@ fn put_from(wider: &mut Seq<Option<Selection>>, slots: &Seq<Option<Selection>>, 
 }
 
 /// Twice as many slots, with what is kept.
-fn widened(
+fn slots_widened(
     alloc: Global,
     slots: &Seq<Option<Selection>>,
 ) -> Result<Seq<Option<Selection>>, NoMemory>
@@ -219,7 +219,7 @@ impl Selections {
         if self.taken < self.slots.len() / 2 {
             return Ok(());
         }
-        match widened(alloc, &self.slots) {
+        match slots_widened(alloc, &self.slots) {
             Ok(wider) => {
                 self.slots = wider;
                 Ok(())

@@ -9,7 +9,7 @@ ghost use Rattle.jvm_model.specs.Instructions.FieldRules.{pushes_static, sets_st
 ghost use Rattle.jvm_model.specs.Instructions.LocalRules.{pushes};
 ghost use Rattle.jvm_model.specs.Instructions.SymbolicReference.{Getstatic, Putstatic};
 ghost use Rattle.jvm_model.specs.Basis.Programs.{name_at};
-ghost use Rattle.jvm_model.specs.Instructions.Rules.{initialized};
+ghost use Rattle.jvm_model.specs.Instructions.Rules.{class_initialized};
 ghost use Rattle.jvm_model.specs.Basis.SharedState.{no_class_definition, static_at};
 ghost use Rattle.jvm_model.specs.Basis.Values.{as_value};
 ghost use Rattle.jvm_named.specs.Answers.{Answers, Moves, Shares, Stops, answer_by, answer_of};
@@ -22,7 +22,7 @@ ghost use Rattle.jvm_named.specs.Resolved.{gets_static, puts_static};
 use crate::asked::{AbruptCompletion, Asked, Exception};
 use crate::classes::name_at;
 use crate::declared_member::DeclaredMember;
-use crate::held::{held_by, narrowed};
+use crate::held::{field_narrowed, held_by};
 use crate::known::Found;
 use crate::members::field_found;
 use crate::moving::{drop_one, put};
@@ -171,7 +171,7 @@ pub fn held_of(frames: &Frames, kind: Kind) -> Option<Datum>
 {
     let value = frames.peek(0)?;
     let datum = datum_of(kind, value)?;
-    Some(narrowed(kind, datum))
+    Some(field_narrowed(kind, datum))
 }
 
 /// The topmost operand goes into a static field of this kind; its class is initialized, or is being.
@@ -210,13 +210,13 @@ fn put_field(
     next: u16,
 ) -> Result<Asked, NoMemory>
     ensures answer { Answers result
-        (λ l o. initialized linker.now.program field.class shared.old
+        (λ l o. class_initialized linker.now.program field.class shared.old
         (sets_static (at_place field) (held_of kind o) shared.old l o)) frames.old }
     ensures frames { Moves result frames.new
-        (λ l o. initialized linker.now.program field.class shared.old
+        (λ l o. class_initialized linker.now.program field.class shared.old
         (sets_static (at_place field) (held_of kind o) shared.old l o)) next frames.old }
     ensures shared { Shares result shared.new
-        (λ l o. initialized linker.now.program field.class shared.old
+        (λ l o. class_initialized linker.now.program field.class shared.old
         (sets_static (at_place field) (held_of kind o) shared.old l o)) frames.old }
     ensures heap { shared.new.heap ≡ shared.old.heap }
 {

@@ -7,7 +7,7 @@ ghost use Rattle.const_pool.specs.References.{name_type_of};
 ghost use Rattle.frame_stack.specs.FrameLists.{top_operands};
 ghost use Rattle.jvm_model.specs.Instructions.InvocationRules.{names_interface, not_of_class, selected_by};
 ghost use Rattle.jvm_model.specs.Classes.Lookup.{resolved_method};
-ghost use Rattle.jvm_model.specs.Instructions.SymbolicReference.{Invokestatic, found, is_below_kind, where_fitting};
+ghost use Rattle.jvm_model.specs.Instructions.SymbolicReference.{Invokestatic, member_found, is_below_kind, where_fitting};
 ghost use Rattle.jvm_model.specs.Basis.Data.{Raises};
 ghost use Rattle.jvm_model.specs.Basis.Programs.{class_named, name_at};
 ghost use Rattle.jvm_model.specs.Classes.Selection.{access_of, is_abstract, is_static};
@@ -96,7 +96,7 @@ fn found_in(
     member: &MemberName,
 ) -> Result<DeclaredMember, AbruptCompletion>
     requires { IsLoaded linker.now class }
-    ensures { place_found result ≡ found (resolved_method linker.now.program class interface
+    ensures { place_found result ≡ member_found (resolved_method linker.now.program class interface
         (name_type_of member.now.name member.now.descriptor)) }
 {
     match linker.resolve_method(class, interface, &member.name, &member.descriptor) {
@@ -219,7 +219,7 @@ fn receiver_kind(
 // ---- selection
 
 /// A place as the linker gives it.
-fn placed(found: Option<(u32, u16)>) -> Option<DeclaredMember>
+fn member_placed(found: Option<(u32, u16)>) -> Option<DeclaredMember>
     ensures { option_map at_place result ≡ option_map place_view found }
 {
     let (class, position) = found?;
@@ -235,7 +235,7 @@ fn selected_special(linker: &Linker, caller: &Text16, m: DeclaredMember) -> Opti
         (class_named linker.now.program caller.now) }
 {
     let current = linker.index().class_named(caller.units())?;
-    placed(linker.special(current, m.class, m.position))
+    member_placed(linker.special(current, m.class, m.position))
 }
 
 /// What the receiver's class has for the resolved method, or what the caller's class takes.
@@ -251,8 +251,8 @@ fn selected_by(
         ≡ selected_by linker.now.program (selecting_view by.entry) (at_place m) class }
 {
     match by {
-        Selecting::Virtual => placed(linker.select(class, m.class, m.position, false)),
-        Selecting::OfInterface => placed(linker.select(class, m.class, m.position, true)),
+        Selecting::Virtual => member_placed(linker.select(class, m.class, m.position, false)),
+        Selecting::OfInterface => member_placed(linker.select(class, m.class, m.position, true)),
         Selecting::Special(caller, _) => selected_special(linker, caller, m),
     }
 }
@@ -449,7 +449,7 @@ pub fn instance_target(
 // ---- a static method
 
 /// A text with the same units.
-fn copied(alloc: Global, text: &Text16) -> Result<Text16, NoMemory>
+fn text_copied(alloc: Global, text: &Text16) -> Result<Text16, NoMemory>
     ensures { IfOk result (λ copy. copy ≡ text.now) }
 {
     Ok(Text16::new(Vec::from_slice(alloc, text.units())?))
@@ -461,7 +461,7 @@ fn unusable(alloc: Global, linker: &Linker, class: u32) -> Result<AbruptCompleti
         ≡ Raises no_class_definition (name_at linker.now.program class)) }
 {
     let message = match name_at(linker, class) {
-        Some(name) => Some(copied(alloc, name)?),
+        Some(name) => Some(text_copied(alloc, name)?),
         None => None,
     };
     Ok(AbruptCompletion::Raises(Exception::NoClassDefinition, message))

@@ -4,7 +4,7 @@ use Rattle.std.specs.Prelude.{◌&&◌, if◌then◌else◌}
 use Rattle.jvm_machine.specs.declared.turn.Turn.{Turn}
 use Rattle.jvm_machine.specs.declared.turn.Turn.TheVariants as turn
 use Rattle.jvm_machine.specs.Turns.{Turns}
-use Rattle.jvm_machine.specs.View.{View, begun, has_ended, is_resting, rested}
+use Rattle.jvm_machine.specs.View.{View, step_begun, has_ended, is_resting, step_rested}
 use Rattle.machine_rows.specs.declared.line.Line.{Line}
 use Rattle.machine_rows.specs.declared.line.Line.TheVariants as line
 use Rattle.machine_rows.specs.Played.{IsPlayed}
@@ -15,7 +15,7 @@ first : (a b : Bool) → (a && b) ≡ true → a ≡ true
 first true b e = refl
 first false b e = e
 
-last : (old : View) (b : Bool) → (is_resting old && has_ended old) ≡ b → is_resting (if b then old else rested (begun old)) ≡ true
+last : (old : View) (b : Bool) → (is_resting old && has_ended old) ≡ b → is_resting (if b then old else step_rested (step_begun old)) ≡ true
 last old true e = first (is_resting old) (has_ended old) e
 last old false e = refl
 

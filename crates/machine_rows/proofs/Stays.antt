@@ -5,7 +5,7 @@ use Rattle.jvm_machine.specs.declared.turn.Turn.{Turn}
 use Rattle.jvm_machine.specs.declared.turn.Turn.TheVariants.{Settled, Loaded, Probe, Ended, Broken, NoMemory}
 use Rattle.jvm_machine.specs.Several.{Passes, RunsOn}
 use Rattle.jvm_machine.specs.Turns.{Turns}
-use Rattle.jvm_machine.specs.View.{View, advanced, begun, has_ended, is_resting, rested}
+use Rattle.jvm_machine.specs.View.{View, clock_advanced, step_begun, has_ended, is_resting, step_rested}
 use Rattle.std.proofs.Common.{List}
 use Rattle.jvm_model.specs.declared.event.Mark.{Mark}
 use Rattle.jvm_machine.specs.Installs.{with_class}
@@ -20,20 +20,20 @@ record Stays (old new : View) : Type 0 where
 ready : (old new : View) → IsReady old → Stays old new → IsReady new
 ready old new r s = record { whole = s.broken ∙ r.whole; admitted = subst IsAdmitted (sym s.program) r.admitted }
 
-begun-stays : (v : View) → Stays v (begun v)
+begun-stays : (v : View) → Stays v (step_begun v)
 begun-stays v = by (is_resting v) where
-  by : (b : Bool) → Stays v (if b then advanced v else v)
+  by : (b : Bool) → Stays v (if b then clock_advanced v else v)
   by true = record { program = refl; broken = refl }
   by false = record { program = refl; broken = refl }
 
 -- what is made of the step that was begun
-behind : (old new mid : View) → new ≡ mid → Stays (begun old) mid → Stays old new
+behind : (old new mid : View) → new ≡ mid → Stays (step_begun old) mid → Stays old new
 behind old new mid e s = record {
   program = ap (λ v. v.program) e ∙ (s.program ∙ (begun-stays old).program);
   broken = ap (λ v. v.broken) e ∙ (s.broken ∙ (begun-stays old).broken);
 }
 
-last : (old : View) (b : Bool) → Stays old (if b then old else rested (begun old))
+last : (old : View) (b : Bool) → Stays old (if b then old else step_rested (step_begun old))
 last old true = record { program = refl; broken = refl }
 last old false = record { program = (begun-stays old).program; broken = (begun-stays old).broken }
 

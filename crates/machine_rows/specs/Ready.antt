@@ -8,7 +8,7 @@ use Rattle.jvm_model.specs.declared.program.Program.{Program}
 use Rattle.jvm_model.specs.Basis.Programs.{class_at}
 use Rattle.class_shape.specs.Swaps.{IsSwap}
 use Rattle.jvm_machine.specs.Installs.{IsImageOf}
-use Rattle.jvm_machine.specs.View.{View, made}
+use Rattle.jvm_machine.specs.View.{View, machine_made}
 use Rattle.program_fit.specs.Runnable.{IsAdmitted}
 
 -- The machine has found memory so far, and its program was admitted.
@@ -20,11 +20,11 @@ pub record IsReady (v : View) : Type 0 where
 pub record IsFresh (v : View) : Type 0 where
   pub program : Program
   pub admitted : IsAdmitted program
-  pub made : v ≡ made program []
+  pub machine_made : v ≡ machine_made program []
 
 -- a class file that is the image of a class for these marks
 pub record IsImageFile (p : Program) (class : ℕ) (marks : List Mark) (image : ClassFile) (homes : List (Option Homes)) : Type 0 where
-  pub made : IsImageOf p class marks image homes
+  pub machine_made : IsImageOf p class marks image homes
   pub formed : IsClassFile image
 
 -- the bytes redefine no class at this position

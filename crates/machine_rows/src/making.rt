@@ -6,7 +6,7 @@ ghost use Rattle.const_pool.specs.ClassFile.{IsClassFile};
 ghost use Rattle.machine_rows.specs.Ready.{IsFresh};
 ghost use Rattle.program_fit.specs.Runnable.{IsAdmitted};
 
-use crate::parts::{RowError, fetch_file, parted};
+use crate::parts::{RowError, fetch_file, line_parted};
 use admit_check::{AdmitError, admit};
 use class_reader::{ReadError, read_class};
 use const_pool::ClassFile;
@@ -41,7 +41,7 @@ fn read_classes<F: Files>(
 {
     let mut classes = Seq::new(alloc);
     for line in lines {
-        let (word, path) = parted(line);
+        let (word, path) = line_parted(line);
         if word == "class" {
             let class = match read_file(alloc, path, files) {
                 Ok(class) => class,
@@ -58,7 +58,7 @@ fn read_classes<F: Files>(
 /// The main class that the line `main NAME` of a row names.
 fn main_of<'a>(lines: &[&'a str]) -> &'a str {
     for line in lines {
-        let (word, name) = parted(line);
+        let (word, name) = line_parted(line);
         if word == "main" {
             return name;
         }
@@ -85,7 +85,7 @@ fn program_of(alloc: Global, classes: Seq<ClassFile>, main: &str) -> Result<Prog
 }
 
 /// A new machine, in a place of its own.
-fn placed(alloc: Global, program: Program) -> Result<Box<Vm>, NoMemory>
+fn machine_placed(alloc: Global, program: Program) -> Result<Box<Vm>, NoMemory>
     requires { IsAdmitted program }
     ensures { IfOk result (λ vm. IsFresh vm.value) }
 {
@@ -101,7 +101,7 @@ pub fn make<F: Files>(alloc: Global, lines: &[&str], files: &mut F) -> Result<Bo
         Err(error) => return Err(error),
     };
     match program_of(alloc, classes, main_of(lines)) {
-        Ok(program) => Ok(placed(alloc, program)?),
+        Ok(program) => Ok(machine_placed(alloc, program)?),
         Err(error) => Err(error),
     }
 }

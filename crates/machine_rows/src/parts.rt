@@ -86,7 +86,7 @@ pub fn lines_of<'a>(alloc: Global, text: &'a str) -> Result<Vec<&'a str>, AllocE
 }
 
 /// The first word of a line, and what stands behind it.
-pub fn parted(line: &str) -> (&str, &str)
+pub fn line_parted(line: &str) -> (&str, &str)
     ensures word { result.0.now ≡ before_first (λ byte. byte == 32) line.now }
     ensures rest { result.1.now ≡ drop (length result.0.now + 1) line.now }
 {

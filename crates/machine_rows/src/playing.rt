@@ -33,7 +33,12 @@ impl fmt::Display for Failure {
 }
 
 /// What came in place of the wanted turn.
-fn compared(wanted: &Turn, clock: u64, came: Turn, now: u64) -> Result<Option<Difference>, NoMemory>
+fn turn_compared(
+    wanted: &Turn,
+    clock: u64,
+    came: Turn,
+    now: u64,
+) -> Result<Option<Difference>, NoMemory>
     ensures turn { result ≡ Ok None → came ≡ wanted.now }
     ensures clock { result ≡ Ok None → now ≡ clock }
     ensures found { result ≡ Ok None → came ≢ of_memory }
@@ -57,7 +62,7 @@ fn turn(vm: &mut Vm, wanted: &Turn, clock: u64) -> Result<Option<Difference>, No
         return Ok(Some(Difference::Exhausted));
     }
     let came = vm.step();
-    compared(wanted, clock, came, vm.clock())
+    turn_compared(wanted, clock, came, vm.clock())
 }
 
 /// Asks for several steps, where no step is in hand.
@@ -77,7 +82,7 @@ fn run(
         return Ok(Some(Difference::Exhausted));
     }
     let came = vm.run_on(most);
-    compared(wanted, clock, came, vm.clock())
+    turn_compared(wanted, clock, came, vm.clock())
 }
 
 fn same_ending(wanted: Ending, came: Option<Ending>) -> Option<Difference>

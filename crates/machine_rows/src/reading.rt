@@ -2,7 +2,7 @@
 
 use crate::line::{Line, Placed};
 use crate::names::{class_named, method_named};
-use crate::parts::{RowError, fetch_file, parted};
+use crate::parts::{RowError, fetch_file, line_parted};
 use class_reader::ReadError;
 use class_shape::SwapError;
 use jf_bytes::{Files, NoMemory, Seq};
@@ -51,7 +51,7 @@ fn kind_of(word: &str) -> Option<EventKind> {
 }
 
 fn fault_of(words: &str) -> Option<ReadError> {
-    match parted(words) {
+    match line_parted(words) {
         ("Truncated", at) => Some(ReadError::Truncated(at.parse::<usize>().ok()?)),
         ("BadMagic", _) => Some(ReadError::BadMagic),
         _ => None,
@@ -60,7 +60,7 @@ fn fault_of(words: &str) -> Option<ReadError> {
 
 /// Why a class is not redefined, by its words.
 fn refusal_of(words: &str) -> Option<SwapError> {
-    match parted(words) {
+    match line_parted(words) {
         ("NotSameShape", position) => {
             Some(SwapError::NotSameShape(position.parse::<u16>().ok()?))
         }
@@ -121,7 +121,7 @@ impl<'a> Reading<'a> {
 
     /// The method and the offset that end a run as unverifiable, by their words.
     fn unverifiable(&self, words: &str) -> Result<Option<Ending>, NoMemory> {
-        let (word, offset) = parted(words);
+        let (word, offset) = line_parted(words);
         let Some(method) = self.method(word)? else {
             return Ok(None);
         };
@@ -133,7 +133,7 @@ impl<'a> Reading<'a> {
 
     /// The ending that words say.
     fn ending(&self, words: &str) -> Result<Option<Ending>, NoMemory> {
-        match parted(words) {
+        match line_parted(words) {
             ("returned", _) => Ok(Some(Ending::Returned)),
             ("exited", status) => Ok(status.parse::<i32>().ok().map(Ending::Exited)),
             ("uncaught", class) => Ok(self.class(class)?.map(Ending::Uncaught)),
@@ -144,7 +144,7 @@ impl<'a> Reading<'a> {
 
     /// The event of this kind, of the method and at the clock that words say.
     fn event(&self, kind: EventKind, words: &str) -> Result<Option<Told>, NoMemory> {
-        let (word, clock) = parted(words);
+        let (word, clock) = line_parted(words);
         let Some(method) = self.method(word)? else {
             return Ok(None);
         };
@@ -161,7 +161,7 @@ impl<'a> Reading<'a> {
 
     /// The turn that a line says, where it is one turn: `loaded CLASS..`, `ended CLOCK ..`, or an event.
     fn turn(&self, word: &str, rest: &str) -> Result<Option<Told>, NoMemory> {
-        let clock = parted(rest).0.parse::<u64>();
+        let clock = line_parted(rest).0.parse::<u64>();
         match (word, clock) {
             ("loaded", _) => Ok(
                 self.classes(rest)?.map(|classes| Told {
@@ -208,7 +208,7 @@ impl<'a> Reading<'a> {
 
     /// The ending, where a turn says that the run has ended.
     fn add_ending(&mut self, words: &str) -> Result<bool, NoMemory> {
-        match self.ending(parted(words).1)? {
+        match self.ending(line_parted(words).1)? {
             Some(ending) => {
                 self.add(Line::Ended(ending))?;
                 Ok(true)
@@ -219,7 +219,7 @@ impl<'a> Reading<'a> {
 
     /// One turn, of one step or of several.
     fn add_turn(&mut self, most: Option<u64>, words: &str) -> Result<bool, NoMemory> {
-        let (word, rest) = parted(words);
+        let (word, rest) = line_parted(words);
         let Some(told) = self.turn(word, rest)? else {
             return Ok(false);
         };
@@ -238,7 +238,7 @@ impl<'a> Reading<'a> {
 
     /// The same turn so many times: `times COUNT TURN`.
     fn add_times(&mut self, words: &str) -> Result<bool, NoMemory> {
-        let (count, rest) = parted(words);
+        let (count, rest) = line_parted(words);
         let Ok(count) = count.parse::<u64>() else {
             return Ok(false);
         };
@@ -274,9 +274,9 @@ impl<'a> Reading<'a> {
 
     /// The same: `each FIRST LAST KIND METHOD`.
     fn add_each(&mut self, words: &str) -> Result<bool, NoMemory> {
-        let (first, rest) = parted(words);
-        let (last, rest) = parted(rest);
-        let (kind, word) = parted(rest);
+        let (first, rest) = line_parted(words);
+        let (last, rest) = line_parted(rest);
+        let (kind, word) = line_parted(rest);
         let (Ok(first), Ok(last)) = (first.parse::<u64>(), last.parse::<u64>()) else {
             return Ok(false);
         };
@@ -292,7 +292,7 @@ impl<'a> Reading<'a> {
 
     /// An install: `install CLASS MARKS`.
     fn add_install(&mut self, words: &str) -> Result<bool, NoMemory> {
-        let (name, letters) = parted(words);
+        let (name, letters) = line_parted(words);
         let Some(class) = self.class(name)? else {
             return Ok(false);
         };
@@ -305,8 +305,8 @@ impl<'a> Reading<'a> {
 
     /// Bytes that redefine nothing: `refused CLASS FILE CAUSE..`.
     fn add_refusal<F: Files>(&mut self, words: &str, files: &mut F) -> Result<bool, RowError> {
-        let (name, rest) = parted(words);
-        let (path, cause) = parted(rest);
+        let (name, rest) = line_parted(words);
+        let (path, cause) = line_parted(rest);
         let Some(class) = self.class(name)? else {
             return Ok(false);
         };
@@ -320,13 +320,13 @@ impl<'a> Reading<'a> {
 
     /// What a line says of a turn or of several.
     fn add_turns(&mut self, text: &str) -> Result<bool, NoMemory> {
-        let (word, rest) = parted(text);
-        match (word, parted(rest).0.parse::<u64>()) {
+        let (word, rest) = line_parted(text);
+        match (word, line_parted(rest).0.parse::<u64>()) {
             ("settled", Ok(last)) => {
                 self.add_settled(last)?;
                 Ok(true)
             }
-            ("run", Ok(most)) => self.add_turn(Some(most), parted(rest).1),
+            ("run", Ok(most)) => self.add_turn(Some(most), line_parted(rest).1),
             ("times", _) => self.add_times(rest),
             ("each", _) => self.add_each(rest),
             _ => self.add_turn(None, text),
@@ -349,7 +349,7 @@ impl<'a> Reading<'a> {
 
     /// Takes a line, where it says something.
     fn take<F: Files>(&mut self, text: &str, files: &mut F) -> Result<bool, RowError> {
-        let (word, rest) = parted(text);
+        let (word, rest) = line_parted(text);
         match word {
             "" | "#" | "class" | "main" => Ok(true),
             "install" => Ok(self.add_install(rest)?),

@@ -15,7 +15,7 @@ use Rattle.native_ops.specs.Numbers.{string_kind, class_kind}
 use Rattle.native_ops.specs.Objects.{size_at, text_at}
 use Rattle.native_ops.specs.KindsViews.{KindsView}
 use Rattle.native_ops.specs.MadeViews.{MadeView, object_of_class, object_of_box}
-use Rattle.native_ops.specs.Making.{is_full, put_at, with_values, heap_with_append, heap_with_replace, heap_with_interned, heap_after_class, resized}
+use Rattle.native_ops.specs.Making.{is_full, put_at, with_values, heap_with_append, heap_with_replace, heap_with_interned, heap_after_class, units_resized}
 use Rattle.native_ops.specs.Worlds.{World, after, world}
 use Rattle.native_ops.specs.Calls.{effect_of, world_by}
 use Rattle.native_ops.proofs.KindsMade.{AreMade, HaveKinds, IsMadeOf, effect-made}
@@ -107,7 +107,7 @@ module _ (P : ℕ → Type 0) (K : List Object → Type 0) (stays : StaysBy P K)
   after-keeps (PutsUnit object at unit) w made are is =
       either (has_unit_at object at w.heap) (with_unit_at object at unit w.heap) w.heap
       (stays.changed (with_unit at unit) (unit-kind at unit) (object - 1) w.heap.objects is) is
-  after-keeps (Resizes object size) w made are is = replace-keeps object (resized size (text_at object w.heap)) w.heap is
+  after-keeps (Resizes object size) w made are is = replace-keeps object (units_resized size (text_at object w.heap)) w.heap is
   after-keeps (Interns units) w made are is = intern-keeps units w.heap are.text is
   after-keeps (Prints units) w made are is = is
   after-keeps Reads w made are is = is

@@ -55,7 +55,7 @@ use Rattle.native_ops.specs.MadeViews.{MadeView}
 use Rattle.native_ops.specs.Effects.{gives_int, gives_long, gives_reference, throws, unless_null}
 use Rattle.native_ops.specs.Places.{place_in, range_in, range_from, counted_range, between}
 use Rattle.native_ops.specs.Shown.{is_null_array}
-use Rattle.native_ops.specs.Parsing.{parsed}
+use Rattle.native_ops.specs.Parsing.{number_parsed}
 use Rattle.native_ops.specs.Boxes.{small_place, char_place, box_of, compared_if}
 use Rattle.native_ops.specs.Roots.{clone, object_effect, class_effect}
 use Rattle.native_ops.specs.Strings.{init_text, char_at, part_of, substring, string_effect}
@@ -301,7 +301,7 @@ module _ (P : ℕ → Type 0) where
   integer-made : (m : IntegerMethod) (kinds : KindsView) (args : List Datum) (h : HeapView) → AreMade P → IsMadeOf P (integer_effect m kinds args h)
   integer-made integer.ValueOf kinds args h are = box-made integer_kind (small_place (int_in args 0)) (datum.Int (int_in args 0)) are.integer
   integer-made integer.Parse kinds args h are =
-      found gives_int (if reference_in args 0 == 0 then None else parsed 31 (text_at (reference_in args 0) h)) _ (λ n. tt) tt
+      found gives_int (if reference_in args 0 == 0 then None else number_parsed 31 (text_at (reference_in args 0) h)) _ (λ n. tt) tt
   integer-made integer.TextOf kinds args h are = tt
   integer-made integer.HexOf kinds args h are = tt
   integer-made integer.IntValue kinds args h are = tt
@@ -316,7 +316,7 @@ module _ (P : ℕ → Type 0) where
   long-made : (m : LongMethod) (kinds : KindsView) (args : List Datum) (h : HeapView) → AreMade P → IsMadeOf P (long_effect m kinds args h)
   long-made long.ValueOf kinds args h are = box-made long_kind (small_place (long_in args 0)) (datum.Long (long_in args 0)) are.long
   long-made long.Parse kinds args h are =
-      found gives_long (if reference_in args 0 == 0 then None else parsed 63 (text_at (reference_in args 0) h)) _ (λ n. tt) tt
+      found gives_long (if reference_in args 0 == 0 then None else number_parsed 63 (text_at (reference_in args 0) h)) _ (λ n. tt) tt
   long-made long.TextOf kinds args h are = tt
   long-made long.IntValue kinds args h are = tt
   long-made long.LongValue kinds args h are = tt

@@ -11,7 +11,7 @@ use Rattle.native_ops.specs.declared.effect.Effect.TheVariants.{Answers, MakesTe
 use Rattle.native_ops.specs.Numbers.{string_kind, class_kind}
 use Rattle.native_ops.specs.Objects.{size_at, text_at}
 use Rattle.native_ops.specs.MadeViews.{object_of_class, object_of_box}
-use Rattle.native_ops.specs.Making.{is_full, put_at, with_values, heap_with_append, heap_with_replace, heap_with_interned, resized}
+use Rattle.native_ops.specs.Making.{is_full, put_at, with_values, heap_with_append, heap_with_replace, heap_with_interned, units_resized}
 use Rattle.native_ops.specs.Worlds.{World, after}
 
 -- either heap has the limit
@@ -60,7 +60,7 @@ after-limit (MakesInstance kind fields) w =
 after-limit (Appends object units) w = append-limit object units w.heap
 after-limit (Replaces object units value) w = replace-limit object units w.heap
 after-limit (PutsUnit object at unit) w = either (has_unit_at object at w.heap) w.heap.limit (with_unit_at object at unit w.heap) w.heap refl refl
-after-limit (Resizes object size) w = replace-limit object (resized size (text_at object w.heap)) w.heap
+after-limit (Resizes object size) w = replace-limit object (units_resized size (text_at object w.heap)) w.heap
 after-limit (Interns units) w = intern-limit units w.heap
 after-limit (Prints units) w = refl
 after-limit Reads w = refl

@@ -5,7 +5,7 @@ use Rattle.std.proofs.Math.Nat.{add-mul, mod-add-mod, pow-succ'}
 use Rattle.std.proofs.lemmas.Nat.{mul-mod_first}
 use Rattle.std.proofs.lemmas.List.{drop_all, length-drop}
 use Rattle.native_ops.proofs.ListLemmas.{drop_is}
-use Rattle.native_ops.specs.Texts.{weighted, first_difference}
+use Rattle.native_ops.specs.Texts.{units_weighted, first_difference}
 use Rattle.native_ops.specs.Places.{pair_from}
 
 reduced : (a w r m : ℕ) → (a % m * w + r) % m ≡ (a * w + r) % m
@@ -19,18 +19,18 @@ mod_step s u w r m =
     sym (reduced (s * 31 % m + u) w r m
     ∙ (ap (λ k. k % m) spread ∙ (reduced (s * 31) w (u * w + r) m ∙ ap (λ k. (k + (u * w + r)) % m) same)))
 
-step : (s u : ℕ) (units : List ℕ) → (s * 31 ^ length (u ∷ units) + weighted (u ∷ units)) % 4294967296
-    ≡ ((s * 31 % 4294967296 + u) % 4294967296 * 31 ^ length units + weighted units) % 4294967296
+step : (s u : ℕ) (units : List ℕ) → (s * 31 ^ length (u ∷ units) + units_weighted (u ∷ units)) % 4294967296
+    ≡ ((s * 31 % 4294967296 + u) % 4294967296 * 31 ^ length units + units_weighted units) % 4294967296
 step s u units =
-    ap (λ p. (s * p + (u * 31 ^ length units + weighted units)) % 4294967296) (pow-succ' 31 (length units))
-    ∙ mod_step s u (31 ^ length units) (weighted units) 4294967296
+    ap (λ p. (s * p + (u * 31 ^ length units + units_weighted units)) % 4294967296) (pow-succ' 31 (length units))
+    ∙ mod_step s u (31 ^ length units) (units_weighted units) 4294967296
 
 -- one unit more is hashed
 pub hash_step : (s i : ℕ) (units : List ℕ) (u d : ℕ) → i < length units → u ≡ get_or units i d
-    → (s * 31 ^ length (drop i units) + weighted (drop i units)) % 4294967296
-    ≡ ((s * 31 % 4294967296 + u) % 4294967296 * 31 ^ length (drop (i + 1) units) + weighted (drop (i + 1) units)) % 4294967296
+    → (s * 31 ^ length (drop i units) + units_weighted (drop i units)) % 4294967296
+    ≡ ((s * 31 % 4294967296 + u) % 4294967296 * 31 ^ length (drop (i + 1) units) + units_weighted (drop (i + 1) units)) % 4294967296
 hash_step s i units u d within h =
-    ap (λ us. (s * 31 ^ length us + weighted us) % 4294967296) (drop_is i units u d within h) ∙ step s u (drop (i + 1) units)
+    ap (λ us. (s * 31 ^ length us + units_weighted us) % 4294967296) (drop_is i units u d within h) ∙ step s u (drop (i + 1) units)
 
 none_with : (xs : List ℕ) → first_difference xs [] ≡ None
 none_with [] = refl

@@ -15,7 +15,7 @@ use Rattle.native_ops.specs.Arguments.{int_in, reference_in, char_in}
 use Rattle.native_ops.specs.Objects.{text_at, size_at, number_as_int}
 use Rattle.native_ops.specs.Effects.{gives_int, throws}
 use Rattle.native_ops.specs.Places.{place_in}
-use Rattle.native_ops.specs.Shown.{shown, is_null_array}
+use Rattle.native_ops.specs.Shown.{argument_shown, is_null_array}
 use Rattle.native_ops.specs.Strings.{init_text, char_at}
 
 -- a capacity is no part of a text
@@ -27,7 +27,7 @@ abbrev pub append : Printable → List Datum → HeapView → Effect
 append what args h =
     if is_null_array what 1 args
     then throws null_pointer_exception
-    else Appends (reference_in args 0) (shown what 1 args h)
+    else Appends (reference_in args 0) (argument_shown what 1 args h)
 
 abbrev pub set_char_at : ℕ → ℤ → ℕ → HeapView → Effect
 set_char_at object place unit h =

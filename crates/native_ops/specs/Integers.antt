@@ -16,13 +16,13 @@ use Rattle.native_ops.specs.Arguments.{int_in, reference_in}
 use Rattle.native_ops.specs.Objects.{text_at, int_field}
 use Rattle.native_ops.specs.KindsViews.{KindsView, is_instance}
 use Rattle.native_ops.specs.Texts.{text_of_number}
-use Rattle.native_ops.specs.Parsing.{parsed}
+use Rattle.native_ops.specs.Parsing.{number_parsed}
 use Rattle.native_ops.specs.Boxes.{small_place, box_of, gives_parsed_int, compared_if}
 use Rattle.native_ops.specs.Effects.{gives_int, gives_long, gives_boolean}
 
 -- null is no number
 abbrev pub parse_int : ℕ → HeapView → Effect
-parse_int object h = gives_parsed_int (if object == 0 then None else parsed 31 (text_at object h))
+parse_int object h = gives_parsed_int (if object == 0 then None else number_parsed 31 (text_at object h))
 
 abbrev pub hex_of : ℤ → List ℕ
 hex_of n = digits 16 false (cast_unsigned w32 n)

@@ -16,13 +16,13 @@ use Rattle.native_ops.specs.Arguments.{long_in, reference_in}
 use Rattle.native_ops.specs.Objects.{text_at, long_field}
 use Rattle.native_ops.specs.KindsViews.{KindsView, is_instance}
 use Rattle.native_ops.specs.Texts.{text_of_number}
-use Rattle.native_ops.specs.Parsing.{parsed}
+use Rattle.native_ops.specs.Parsing.{number_parsed}
 use Rattle.native_ops.specs.Boxes.{small_place, box_of, gives_parsed_long, compared_if}
 use Rattle.native_ops.specs.Effects.{gives_int, gives_long, gives_boolean}
 
 -- null is no number
 abbrev pub parse_long : ℕ → HeapView → Effect
-parse_long object h = gives_parsed_long (if object == 0 then None else parsed 63 (text_at object h))
+parse_long object h = gives_parsed_long (if object == 0 then None else number_parsed 63 (text_at object h))
 
 -- the exclusive or of the low and the high half
 abbrev pub hash_of_long : ℤ → ℤ

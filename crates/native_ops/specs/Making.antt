@@ -98,14 +98,14 @@ abbrev pub heap_with_unit : ℕ → ℕ → ℕ → HeapView → HeapView
 heap_with_unit object at unit h = changed_if (has_unit_at object at h) (with_unit_at object at unit) h
 
 -- the first so many units, with units of 0 behind them where there are fewer
-abbrev pub resized : ℕ → List ℕ → List ℕ
-resized size units = take size units ++ replicate (size - length units) 0
+abbrev pub units_resized : ℕ → List ℕ → List ℕ
+units_resized size units = take size units ++ replicate (size - length units) 0
 
 abbrev pub answer_of_resize : ℕ → ℕ → HeapView → Answer
-answer_of_resize object size h = answer_of_replace object (resized size (text_at object h)) None h
+answer_of_resize object size h = answer_of_replace object (units_resized size (text_at object h)) None h
 
 abbrev pub heap_with_resize : ℕ → ℕ → HeapView → HeapView
-heap_with_resize object size h = heap_with_replace object (resized size (text_at object h)) h
+heap_with_resize object size h = heap_with_replace object (units_resized size (text_at object h)) h
 
 -- ---- what is made once
 

@@ -2,7 +2,7 @@
 use Rattle.std.specs.Prelude.{ℕ, ◌-◌, List, [], ◌++◌, slice_get, unwrap_or, codes}
 use Rattle.const_pool.specs.References.{Reference}
 use Rattle.const_pool.specs.BuiltIn.{built_in_names}
-use Rattle.base_classes.specs.Natives.{named}
+use Rattle.base_classes.specs.Natives.{method_named}
 use Rattle.native_ops.specs.declared.rows.Row.{Row}
 use Rattle.native_ops.specs.declared.method.Method.{Method}
 use Rattle.native_ops.specs.declared.method.Method.TheVariants as method
@@ -41,7 +41,7 @@ use Rattle.native_ops.specs.declared.signature.Receiver.TheVariants as receiver
 use Prim.Native.String.{String}
 
 abbrev pub of_class : List ℕ → String → String → Reference
-of_class class name descriptor = named class (codes name) (codes descriptor)
+of_class class name descriptor = method_named class (codes name) (codes descriptor)
 
 -- ---- classes
 
@@ -84,7 +84,7 @@ descriptor_of printable.Chars = codes "[C"
 
 -- a method of one argument
 abbrev pub of_one : List ℕ → String → Printable → List ℕ → Reference
-of_one class name what result = named class (codes name) (codes "(" ++ (descriptor_of what ++ (codes ")" ++ result)))
+of_one class name what result = method_named class (codes name) (codes "(" ++ (descriptor_of what ++ (codes ")" ++ result)))
 
 -- the type of a class
 abbrev pub own_type : List ℕ → List ℕ
@@ -134,7 +134,7 @@ builder_method class builder.SetCharAt = of_class class "setCharAt" "(IC)V"
 builder_method class builder.SetLength = of_class class "setLength" "(I)V"
 builder_method class builder.ToText = of_class class "toString" "()Ljava/lang/String;"
 builder_method class (builder.Append what) = of_one class "append" what (own_type class)
-builder_method class builder.DeleteCharAt = named class (codes "deleteCharAt") (codes "(I)" ++ own_type class)
+builder_method class builder.DeleteCharAt = method_named class (codes "deleteCharAt") (codes "(I)" ++ own_type class)
 
 abbrev pub input_method : List ℕ → InputMethod → Reference
 input_method class input.Read = of_class class "read" "()I"

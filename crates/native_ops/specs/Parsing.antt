@@ -23,9 +23,9 @@ abbrev pub negative : ℕ → ℤ
 negative n = neg_ℤ (pos n)
 
 -- the number of a text, where it is one of those below 2 ^ bits in two's complement with one bit more
-abbrev pub parsed : ℕ → List ℕ → Option ℤ
-parsed bits [] = None
-parsed bits (u ∷ units) =
+abbrev pub number_parsed : ℕ → List ℕ → Option ℤ
+number_parsed bits [] = None
+number_parsed bits (u ∷ units) =
     if u == 45
     then option_map negative (magnitude (2 ^ bits) units)
     else option_map pos (magnitude (2 ^ bits - 1) (u ∷ units))

@@ -17,10 +17,10 @@ is_null_array Long place args = false
 is_null_array Text place args = false
 is_null_array Chars place args = reference_in args place == 0
 
-abbrev pub shown : Printable → ℕ → List Datum → HeapView → List ℕ
-shown Boolean place args h = text_of_boolean (boolean_in args place)
-shown Char place args h = char_in args place ∷ []
-shown Int place args h = text_of_number (int_in args place)
-shown Long place args h = text_of_number (long_in args place)
-shown Text place args h = text_or_null (reference_in args place) h
-shown Chars place args h = chars_at (reference_in args place) h
+abbrev pub argument_shown : Printable → ℕ → List Datum → HeapView → List ℕ
+argument_shown Boolean place args h = text_of_boolean (boolean_in args place)
+argument_shown Char place args h = char_in args place ∷ []
+argument_shown Int place args h = text_of_number (int_in args place)
+argument_shown Long place args h = text_of_number (long_in args place)
+argument_shown Text place args h = text_or_null (reference_in args place) h
+argument_shown Chars place args h = chars_at (reference_in args place) h

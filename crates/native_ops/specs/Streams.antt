@@ -11,7 +11,7 @@ use Rattle.native_ops.specs.declared.method.PrintMethod.{PrintMethod}
 use Rattle.native_ops.specs.declared.method.PrintMethod.TheVariants.{Print, Println, EndLine, Flush}
 use Rattle.native_ops.specs.Numbers.{null_pointer_exception}
 use Rattle.native_ops.specs.Effects.{gives_nothing, throws}
-use Rattle.native_ops.specs.Shown.{shown, is_null_array}
+use Rattle.native_ops.specs.Shown.{argument_shown, is_null_array}
 
 abbrev pub input_effect : InputMethod → Effect
 input_effect Read = Reads
@@ -23,7 +23,7 @@ line_end = 10 ∷ []
 
 abbrev pub prints : Printable → List ℕ → List Datum → HeapView → Effect
 prints what behind args h =
-    if is_null_array what 1 args then throws null_pointer_exception else Prints (shown what 1 args h ++ behind)
+    if is_null_array what 1 args then throws null_pointer_exception else Prints (argument_shown what 1 args h ++ behind)
 
 abbrev pub print_effect : PrintMethod → List Datum → HeapView → Effect
 print_effect (Print what) args h = prints what [] args h

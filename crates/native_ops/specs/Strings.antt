@@ -16,7 +16,7 @@ use Rattle.native_ops.specs.Objects.{text_at, chars_at, size_at, has_kind, numbe
 use Rattle.native_ops.specs.Effects.{gives_int, gives_boolean, gives_reference, throws, unless_null}
 use Rattle.native_ops.specs.Texts.{hash_of_text, compared_texts, begins_with}
 use Rattle.native_ops.specs.Places.{place_in, range_in, range_from, counted_range, between, place_of_character}
-use Rattle.native_ops.specs.Shown.{shown, is_null_array}
+use Rattle.native_ops.specs.Shown.{argument_shown, is_null_array}
 
 -- ---- constructors: the text has units in place of its own
 
@@ -92,7 +92,7 @@ to_char_array object h = MakesArray chars_kind (map char_datum (text_at object h
 
 abbrev pub value_of : Printable → List Datum → HeapView → Effect
 value_of what args h =
-    if is_null_array what 0 args then throws null_pointer_exception else MakesText (shown what 0 args h)
+    if is_null_array what 0 args then throws null_pointer_exception else MakesText (argument_shown what 0 args h)
 
 -- ---- all
 

@@ -18,12 +18,12 @@ abbrev pub text_or_null : ℕ → HeapView → List ℕ
 text_or_null object h = if object == 0 then codes "null" else text_at object h
 
 -- The sum of the units with weights: 31 to the power of the units that follow.
-abbrev pub weighted : List ℕ → ℕ
-weighted [] = 0
-weighted (u ∷ units) = u * 31 ^ length units + weighted units
+abbrev pub units_weighted : List ℕ → ℕ
+units_weighted [] = 0
+units_weighted (u ∷ units) = u * 31 ^ length units + units_weighted units
 
 abbrev pub hash_of_text : List ℕ → ℤ
-hash_of_text units = cast_signed w32 (weighted units % 4294967296)
+hash_of_text units = cast_signed w32 (units_weighted units % 4294967296)
 
 -- the difference of the first units that differ at one place
 abbrev pub first_difference : List ℕ → List ℕ → Option ℤ

@@ -11,9 +11,9 @@ use crate::numbers::{
 };
 use crate::places::{place_in, small_place_in};
 use crate::reading::{number_as_int, size_at, text_at};
-use crate::shown::{is_null_array, shown};
+use crate::shown::{argument_shown, is_null_array};
 use crate::strings::{char_at, init_text, own_units};
-use crate::texts::joined;
+use crate::texts::units_joined;
 use heap_objects::{Datum, Heap};
 use jf_bytes::{NoMemory, Seq};
 use std::alloc::Global;
@@ -35,7 +35,7 @@ fn append(alloc: Global, what: Printable, args: &[Datum], heap: &Heap) -> Result
     if is_null_array(what, 1, args) {
         return Ok(throws(NULL_POINTER_EXCEPTION));
     }
-    let units = shown(alloc, what, 1, args, heap)?;
+    let units = argument_shown(alloc, what, 1, args, heap)?;
     Ok(Effect::Appends(reference_in(args, 0), units))
 }
 
@@ -64,7 +64,7 @@ fn without(alloc: Global, place: usize, units: &[u16]) -> Result<Seq<u16>, NoMem
     requires { place < length units.now }
     ensures { IfOk result (λ left. left ≡ without place units.now) }
 {
-    joined(alloc, &units[..place], &units[place + 1..])
+    units_joined(alloc, &units[..place], &units[place + 1..])
 }
 
 /// deleteCharAt(I).

@@ -5,7 +5,7 @@ ghost use Rattle.heap_objects.specs.Changes.{changed_if};
 ghost use Rattle.native_ops.specs.Making.{answer_of_text, heap_with_text, answer_of_instance, heap_with_instance};
 ghost use Rattle.native_ops.specs.Making.{put_at, with_values, with_fields, answer_of_array, heap_with_array};
 ghost use Rattle.native_ops.specs.Making.{answer_of_append, heap_with_append, answer_of_replace, heap_with_replace};
-ghost use Rattle.native_ops.specs.Making.{answer_of_unit, heap_with_unit, resized, answer_of_resize, heap_with_resize, answer_of_intern, heap_with_interned};
+ghost use Rattle.native_ops.specs.Making.{answer_of_unit, heap_with_unit, units_resized, answer_of_resize, heap_with_resize, answer_of_intern, heap_with_interned};
 ghost use Rattle.native_ops.specs.Making.{object_answer, change_answer};
 
 use crate::answer::Answer;
@@ -150,8 +150,8 @@ pub fn put_unit(object: u32, at: u32, unit: u16, heap: &mut Heap) -> Answer
 }
 
 /// The first so many units, with units of 0 behind them where there are fewer.
-fn resized(alloc: Global, size: usize, units: &[u16]) -> Result<Seq<u16>, NoMemory>
-    ensures { IfOk result (λ r. r ≡ resized size units.now) }
+fn units_resized(alloc: Global, size: usize, units: &[u16]) -> Result<Seq<u16>, NoMemory>
+    ensures { IfOk result (λ r. r ≡ units_resized size units.now) }
 {
     let kept = size.min(units.len());
     let mut made = Seq::with_capacity(alloc, size)?;
@@ -173,7 +173,7 @@ pub fn resize(alloc: Global, object: u32, size: u32, heap: &mut Heap) -> Result<
     if !heap.has_room(size.saturating_sub(size_at(object, heap)) as usize) {
         return Ok(Answer::Throws(OUT_OF_MEMORY_ERROR));
     }
-    let units = resized(alloc, size as usize, text_at(object, heap))?;
+    let units = units_resized(alloc, size as usize, text_at(object, heap))?;
     replace(object, units, None, heap)
 }
 

@@ -2,7 +2,7 @@
 
 ghost use Rattle.std.specs.Prelude.{◌≡◌, ◌≤◌, ◌<◌, ◌^◌, IfOk, map, codes};
 ghost use Rattle.std.specs.Str.{bytes_eq};
-ghost use Rattle.native_ops.specs.Parsing.{is_digit, read_digits, up_to, magnitude, parsed, lower_case, is_true};
+ghost use Rattle.native_ops.specs.Parsing.{is_digit, read_digits, up_to, magnitude, number_parsed, lower_case, is_true};
 
 use crate::texts::{same_units, units_of};
 use jf_bytes::{NoMemory, Seq};
@@ -44,7 +44,7 @@ fn magnitude(greatest: u64, units: &[u16]) -> Option<u64>
 
 /// The number of a text, where it is an int.
 pub fn parsed_int(units: &[u16]) -> Option<i32>
-    ensures { result ≡ parsed 31 units.now }
+    ensures { result ≡ number_parsed 31 units.now }
 {
     let first = units.first()?;
     if *first == 45 {
@@ -57,7 +57,7 @@ pub fn parsed_int(units: &[u16]) -> Option<i32>
 
 /// The number of a text, where it is a long.
 pub fn parsed_long(units: &[u16]) -> Option<i64>
-    ensures { result ≡ parsed 63 units.now }
+    ensures { result ≡ number_parsed 63 units.now }
 {
     let first = units.first()?;
     if *first == 45 {

@@ -1,7 +1,7 @@
 //! Arguments as texts.
 
 ghost use Rattle.std.specs.Prelude.{◌≡◌, ◌∷◌, [], IfOk};
-ghost use Rattle.native_ops.specs.Shown.{is_null_array, shown};
+ghost use Rattle.native_ops.specs.Shown.{is_null_array, argument_shown};
 
 use crate::arguments::{boolean_in, char_in, int_in, long_in, reference_in};
 use crate::method::Printable;
@@ -35,14 +35,14 @@ pub fn unit_alone(alloc: Global, unit: u16) -> Result<Seq<u16>, NoMemory>
 }
 
 /// What is made of an argument of a type.
-pub fn shown(
+pub fn argument_shown(
     alloc: Global,
     what: Printable,
     place: usize,
     args: &[Datum],
     heap: &Heap,
 ) -> Result<Seq<u16>, NoMemory>
-    ensures { IfOk result (λ units. units ≡ shown what place args.now heap.now) }
+    ensures { IfOk result (λ units. units ≡ argument_shown what place args.now heap.now) }
 {
     match what {
         Printable::Boolean => text_of_boolean(alloc, boolean_in(args, place)),

@@ -6,7 +6,7 @@ ghost use Rattle.native_ops.specs.Streams.{input_effect, prints, print_effect};
 use crate::effect::{Effect, gives_nothing, throws};
 use crate::method::{InputMethod, PrintMethod, Printable};
 use crate::numbers::NULL_POINTER_EXCEPTION;
-use crate::shown::{is_null_array, shown, unit_alone};
+use crate::shown::{argument_shown, is_null_array, unit_alone};
 use heap_objects::{Datum, Heap};
 use jf_bytes::NoMemory;
 use std::alloc::Global;
@@ -36,7 +36,7 @@ fn prints(
     if is_null_array(what, 1, args) {
         return Ok(throws(NULL_POINTER_EXCEPTION));
     }
-    let mut units = shown(alloc, what, 1, args, heap)?;
+    let mut units = argument_shown(alloc, what, 1, args, heap)?;
     units.extend_from_slice(behind)?;
     Ok(Effect::Prints(units))
 }

@@ -16,8 +16,8 @@ use crate::numbers::{
 };
 use crate::places::{counted_range, place_in, place_of_character, range_from, range_in};
 use crate::reading::{chars_at, chars_between, has_kind, number_as_int, size_at, text_at};
-use crate::shown::{is_null_array, shown};
-use crate::texts::{begins_with, compared_texts, hash_of_text, joined, same_units};
+use crate::shown::{argument_shown, is_null_array};
+use crate::texts::{begins_with, compared_texts, hash_of_text, same_units, units_joined};
 use heap_objects::{Datum, Heap};
 use jf_bytes::{NoMemory, Seq};
 use std::alloc::Global;
@@ -162,7 +162,7 @@ fn concat(alloc: Global, object: u32, other: u32, heap: &Heap) -> Result<Effect,
     if added.is_empty() {
         return Ok(gives_reference(object));
     }
-    Ok(Effect::MakesText(joined(alloc, text_at(object, heap), added)?))
+    Ok(Effect::MakesText(units_joined(alloc, text_at(object, heap), added)?))
 }
 
 /// A part of a text, which is the text itself where it is the whole.
@@ -224,7 +224,7 @@ fn value_of(alloc: Global, what: Printable, args: &[Datum], heap: &Heap) -> Resu
     if is_null_array(what, 0, args) {
         return Ok(throws(NULL_POINTER_EXCEPTION));
     }
-    Ok(Effect::MakesText(shown(alloc, what, 0, args, heap)?))
+    Ok(Effect::MakesText(argument_shown(alloc, what, 0, args, heap)?))
 }
 
 /// substring(I)S.

@@ -112,7 +112,7 @@ pub fn begins_with(front: &[u16], units: &[u16]) -> bool
 }
 
 /// The units of one text and then of the other.
-pub fn joined(alloc: Global, one: &[u16], other: &[u16]) -> Result<Seq<u16>, NoMemory>
+pub fn units_joined(alloc: Global, one: &[u16], other: &[u16]) -> Result<Seq<u16>, NoMemory>
     ensures { IfOk result (λ units. units ≡ one.now ++ other.now) }
 {
     let mut units = Seq::with_capacity(alloc, one.len() + other.len())?;

@@ -21,8 +21,8 @@ use Rattle.plan_text.specs.declared.plan.PlanError.TheVariants.{BadLine, TooMany
 use Rattle.plan_text.specs.declared.lines.Word.{Word}
 use Rattle.plan_text.specs.declared.lines.Word.TheVariants.{Main, Arg, Budget, Heap, At}
 use Rattle.plan_text.specs.Numbers.{is_number, number_of, heap_of, greatest_steps, least_heap, greatest_heap}
-use Rattle.plan_text.specs.Roots.{slashed}
-use Rattle.plan_text.specs.Lines.{halves, is_silent, word_of, order_of, most_said, silent_plan, selected_after, misplaced, with_main, with_arg, with_budget, with_heap, with_placed, with_action, with_root, IsActed, IsOrdered, IsTimed, IsWorded, IsSaid, IsLine, IsRead, UpToMemory}
+use Rattle.plan_text.specs.Roots.{name_slashed}
+use Rattle.plan_text.specs.Lines.{halves, is_silent, word_of, order_of, most_said, silent_plan, selected_after, action_misplaced, with_main, with_arg, with_budget, with_heap, with_placed, with_action, with_root, IsActed, IsOrdered, IsTimed, IsWorded, IsSaid, IsLine, IsRead, UpToMemory}
 use Rattle.plan_text.specs.Bounds.{DoNotFall, IsWithin}
 
 abbrev Answer : Type 0
@@ -77,7 +77,7 @@ least-fits (Some slots) most = least_if (nat_le least_heap slots) slots (λ t. l
 
 main-within : (number : ℕ) (plan : Plan) (name : List ℕ) → IsWithin plan → IsKept (with_main number plan name)
 main-within number plan name w =
-    let more : Plan = record plan { main = Some (slashed (utf16_of name)) } in
+    let more : Plan = record plan { main = Some (name_slashed (utf16_of name)) } in
     kept_if (length name == 0) (Err (BadLine number Name)) (if is_some plan.main then Err (BadLine number Twice) else Ok more)
     (λ _. tt)
     (λ _. kept_if (is_some plan.main) (Err (BadLine number Twice)) (Ok more) (λ _. tt)
@@ -148,7 +148,7 @@ placed-within plan action (Some fault) within = tt
 
 action-within : (number : ℕ) (plan : Plan) (action : Action) → action.moment ≤ greatest_steps → IsWithin plan → IsKept (with_action number plan action)
 action-within number plan action early w =
-    placed-within plan action (misplaced number plan.actions action) (λ fine.
+    placed-within plan action (action_misplaced number plan.actions action) (λ fine.
     let selected : Bool = selected_after false action.root plan.actions in
     let found = no_fault (list_any (λ e. nat_lt action.moment e.moment) plan.actions) (action.select && selected)
     (not action.select && not selected) (nat_lt (length plan.actions) most_said)

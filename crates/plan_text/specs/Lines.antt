@@ -14,7 +14,7 @@ use Rattle.plan_text.specs.declared.plan.PlanError.TheVariants.{TooLong, BadLine
 use Rattle.plan_text.specs.declared.lines.Word.{Word}
 use Rattle.plan_text.specs.declared.lines.Word.TheVariants.{Main, Arg, Budget, Heap, At}
 use Rattle.plan_text.specs.Numbers.{number_of, heap_of, greatest_steps}
-use Rattle.plan_text.specs.Roots.{IsRoot, IsNoRoot, slashed}
+use Rattle.plan_text.specs.Roots.{IsRoot, IsNoRoot, name_slashed}
 
 -- ---- lines and their words
 
@@ -87,7 +87,7 @@ abbrev pub with_main : ℕ → Plan → List ℕ → Result Plan PlanError
 with_main number plan name =
     if length name == 0 then Err (BadLine number Name)
     else if is_some plan.main then Err (BadLine number Twice)
-    else Ok (record plan { main = Some (slashed (utf16_of name)) })
+    else Ok (record plan { main = Some (name_slashed (utf16_of name)) })
 
 abbrev pub with_arg : ℕ → Plan → List ℕ → Result Plan PlanError
 with_arg number plan text =
@@ -117,8 +117,8 @@ selected_after before root (action ∷ rest) =
     selected_after (if same_root action.root root then action.select else before) root rest
 
 -- an action is out of place: its moment is below an earlier one, its root is selected twice, or is not selected
-abbrev pub misplaced : ℕ → List Action → Action → Option PlanError
-misplaced number earlier action =
+abbrev pub action_misplaced : ℕ → List Action → Action → Option PlanError
+action_misplaced number earlier action =
     let selected = selected_after false action.root earlier in
     if list_any (λ e. nat_lt action.moment e.moment) earlier then Some (Backwards number)
     else if action.select && selected then Some (AlreadySelected number)
@@ -131,7 +131,7 @@ with_placed plan action (Some fault) = Err fault
 with_placed plan action None = Ok (record plan { actions = plan.actions ++ action ∷ [] })
 
 abbrev pub with_action : ℕ → Plan → Action → Result Plan PlanError
-with_action number plan action = with_placed plan action (misplaced number plan.actions action)
+with_action number plan action = with_placed plan action (action_misplaced number plan.actions action)
 
 -- with the action for the root that a word names, if it names one
 abbrev pub with_root : ℕ → Plan → ℕ → Bool → Option RootName → Result Plan PlanError

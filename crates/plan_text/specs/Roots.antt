@@ -23,14 +23,14 @@ abbrev pub slash_for_dot : ℕ → ℕ
 slash_for_dot unit = if unit == 46 then 47 else unit
 
 -- a name in its internal form (JVM Specification 4.2.1)
-abbrev pub slashed : List ℕ → List ℕ
-slashed name = map slash_for_dot name
+abbrev pub name_slashed : List ℕ → List ℕ
+name_slashed name = map slash_for_dot name
 
 -- the parts, where the class and the name are not empty
 abbrev pub root_at : List ℕ → ℕ → ℕ → Option RootName
 root_at units open_at dot =
     if dot == 0 || dot + 1 == open_at then None
-    else Some (record { class = slashed (take dot units); name = slice_range units (dot + 1) open_at; descriptor = drop open_at units })
+    else Some (record { class = name_slashed (take dot units); name = slice_range units (dot + 1) open_at; descriptor = drop open_at units })
 
 -- the last dot before the first `(` divides the class from the name
 abbrev pub root_in : List ℕ → Option RootName

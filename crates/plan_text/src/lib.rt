@@ -9,4 +9,4 @@ mod roots;
 pub use lines::{answer_is_one, read_plan, silent};
 pub use numbers::number_of;
 pub use plan::{Action, LineCause, Plan, PlanError, RootName, plan_of_root};
-pub use roots::slashed;
+pub use roots::name_slashed;

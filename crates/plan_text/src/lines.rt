@@ -12,7 +12,7 @@ ghost use Rattle.plan_text.specs.Lines.{word_of as word_said, order_of as order_
 ghost use Rattle.plan_text.specs.Lines.{without_return as less_return, line_before as line_at};
 ghost use Rattle.plan_text.specs.Lines.{with_main as main_said, with_arg as arg_said};
 ghost use Rattle.plan_text.specs.Lines.{with_budget as budget_said, with_heap as heap_said};
-ghost use Rattle.plan_text.specs.Lines.{with_action as action_said, misplaced as misplaced_in};
+ghost use Rattle.plan_text.specs.Lines.{with_action as action_said, action_misplaced as misplaced_in};
 ghost use Rattle.plan_text.specs.Lines.{selected_after, same_root as are_same};
 ghost use Rattle.plan_text.specs.Numbers.{number_of as number_said, heap_of as slots_said};
 ghost use Rattle.plan_text.specs.Numbers.{greatest_steps};
@@ -20,7 +20,7 @@ ghost use Rattle.plan_text.specs.Bounds.{IsWithin};
 
 use crate::numbers::{heap_of, number_of};
 use crate::plan::{Action, LineCause, Plan, PlanError, RootName};
-use crate::roots::{read_root, slashed};
+use crate::roots::{name_slashed, read_root};
 use jf_bytes::{Seq, from_utf8};
 use std::alloc::{AllocError, Global};
 
@@ -109,7 +109,7 @@ fn with_main(alloc: Global, plan: Plan, number: u32, name: &str) -> Result<Plan,
     }
     let units = from_utf8(alloc, name)?;
     let mut plan = plan;
-    plan.main = Some(slashed(alloc, units.units())?);
+    plan.main = Some(name_slashed(alloc, units.units())?);
     Ok(plan)
 }
 
@@ -182,7 +182,7 @@ fn is_backwards(actions: &[Action], moment: u64) -> bool
 }
 
 /// Why an action can't follow these ones.
-fn misplaced(actions: &[Action], number: u32, action: &Action) -> Option<PlanError>
+fn action_misplaced(actions: &[Action], number: u32, action: &Action) -> Option<PlanError>
     ensures { result ≡ misplaced_in number actions.now action.now }
 {
     if is_backwards(actions, action.moment) {
@@ -205,7 +205,7 @@ fn misplaced(actions: &[Action], number: u32, action: &Action) -> Option<PlanErr
 fn with_action(plan: Plan, number: u32, action: Action) -> Result<Plan, PlanError>
     ensures { UpToMemory result (λ r. r ≡ action_said number plan action) }
 {
-    if let Some(fault) = misplaced(plan.actions.as_slice(), number, &action) {
+    if let Some(fault) = action_misplaced(plan.actions.as_slice(), number, &action) {
         return Err(fault);
     }
     let mut plan = plan;

@@ -2,7 +2,7 @@
 
 ghost use Rattle.std.specs.Prelude.{◌≡◌, ◌<◌, length, position, IfOk, MatchOption};
 ghost use Rattle.plan_text.specs.Roots.{last_dot as last_dot_of, root_at, root_in, is_open, IsRoot, IsNoRoot};
-ghost use Rattle.plan_text.specs.Roots.{slashed as with_slashes};
+ghost use Rattle.plan_text.specs.Roots.{name_slashed as with_slashes};
 
 use crate::plan::RootName;
 use const_pool::{DescriptorError, parse_method};
@@ -31,7 +31,7 @@ fn last_dot(units: &[u16]) -> Option<usize>
 }
 
 /// A class name in its internal form, with slashes for dots (JVM Specification 4.2.1).
-pub fn slashed(alloc: Global, units: &[u16]) -> Result<Text16, NoMemory>
+pub fn name_slashed(alloc: Global, units: &[u16]) -> Result<Text16, NoMemory>
     ensures { IfOk result (λ text. text ≡ with_slashes units.now) }
 {
     let slashed = units
@@ -63,7 +63,7 @@ fn divide(
         return Ok(None);
     }
     Ok(Some(RootName {
-        class: slashed(alloc, &units[..dot])?,
+        class: name_slashed(alloc, &units[..dot])?,
         name: text_of(alloc, &units[dot + 1..opening])?,
         descriptor: text_of(alloc, &units[opening..])?,
     }))

@@ -26,7 +26,7 @@ use Rattle.jvm_model.specs.Basis.Methods.{method_code}
 use Rattle.jvm_model.specs.Codes.Originals.{original}
 use Rattle.jvm_model.specs.Basis.Programs.{class_at, place_of_method}
 use Rattle.jvm_model.specs.Basis.Values.{as_value}
-use Rattle.jvm_basic.specs.Rules.{datum_in, placed, going, needs, rule_by, rule_of}
+use Rattle.jvm_basic.specs.Rules.{datum_in, outcome_placed, going, needs, rule_by, rule_of}
 use Rattle.prepared_code.specs.declared.line.Line.{Line}
 use Rattle.prepared_code.specs.Ready.{CanRun, HasLocal, IsOwnLine, IsRuleOf, IsTied}
 use Rattle.prepared_code.specs.Versions.{Setup, instruction_by, instruction_in, is_athrow, is_last_family, next_in, operation_as, operation_in, listing_of}
@@ -142,7 +142,7 @@ module _ (c : ClassFile) (i : Instr) where
       ∙ ap (λ b. cond b None (cond (is_last_family (family_of i.op)) None (Some (end_of i)))) (sym (local-throws l))
 
   rule-same : (f : Family) → (f ≡ family.NotLocal → ⊥) → family_of i.op ≡ f → (l : Local) → local_of f i.arg constant ≡ Some l → (m : Locals) (o : Operands)
-      → rule_of i (option_map as_value constant) (end_of i) m o ≡ placed (end_of i) (targets_of i.arg) m o (within l m o)
+      → rule_of i (option_map as_value constant) (end_of i) m o ≡ outcome_placed (end_of i) (targets_of i.arg) m o (within l m o)
   rule-same f apart is l e m o =
       ap (λ x. rule_by x i.arg (option_and_then datum_in (option_map as_value constant)) (end_of i) m o) is
       ∙ (ap (λ d. rule_by f i.arg d (end_of i) m o) (datum-back constant)

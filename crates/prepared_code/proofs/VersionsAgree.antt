@@ -11,7 +11,7 @@ use Rattle.jvm_model.specs.Codes.Lines.{method_instruction}
 use Rattle.jvm_model.specs.Codes.Moved.{IsPlace, moved_catcher, moved_instruction}
 use Rattle.jvm_model.specs.Codes.Originals.{method_handlers, original}
 use Rattle.jvm_model.specs.Basis.Programs.{class_at}
-use Rattle.jvm_model.specs.Rewriting.StandsForRun.{IsOfVersions, named}
+use Rattle.jvm_model.specs.Rewriting.StandsForRun.{IsOfVersions, listing_named}
 use Rattle.prepared_code.specs.Tables.{Version, Versions, version_at}
 use Rattle.prepared_code.specs.Versions.{catcher_in, current_of, first_of, handlers_in, instruction_in, line_in, method_of, listing_of}
 use Rattle.prepared_code.specs.VersionListings.{AreVersions}
@@ -27,7 +27,7 @@ none-handled p k le =
 
 module _ (p : Program) (norm : ℕ → ℕ → ℕ) (homes : ℕ → ℕ → ℕ) (v : Versions) (are : AreVersions p norm homes v) where
   abbrev t : Listing
-  t = named (method_of v) (current_of v) (original p)
+  t = listing_named (method_of v) (current_of v) (original p)
 
   pub method-held : (k : ℕ) (x : Version) → version_at v k ≡ Some x → method_of v k ≡ x.method
   method-held k x is = ap (λ (o : Option Version). option_map_or (λ y. y.method) o (max (k - 4294967296) (length v.current))) is

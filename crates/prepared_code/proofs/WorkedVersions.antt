@@ -20,7 +20,7 @@ use Rattle.jvm_model.specs.declared.state.State.{State}
 use Rattle.jvm_model.specs.declared.state.Phase.TheVariants.{Ready}
 use Rattle.jvm_model.specs.Basis.Data.{World}
 use Rattle.jvm_model.specs.Basis.Families.{rows, family_of}
-use Rattle.jvm_model.specs.Basis.Programs.{numbered}
+use Rattle.jvm_model.specs.Basis.Programs.{methods_numbered}
 use Rattle.jvm_model.specs.Running.Run.{step}
 use Rattle.jvm_model.specs.Basis.SharedState.{shared_before}
 use Rattle.prepared_code.specs.Tables.{Versions}
@@ -52,7 +52,7 @@ class_with code = record {
 
 abbrev world_of : CodeAttribute → World
 world_of code = record {
-  program = record { classes = class_with code ∷ []; methods = numbered (class_with code ∷ []); main = 0; acts = []; args = []; heap = 4194304 };
+  program = record { classes = class_with code ∷ []; methods = methods_numbered (class_with code ∷ []); main = 0; acts = []; args = []; heap = 4194304 };
   input = [];
 }
 

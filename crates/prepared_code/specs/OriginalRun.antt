@@ -13,11 +13,11 @@ abbrev pub original_setup : World → Setup
 original_setup w = record { world = w; versions = original_versions w.program }
 
 -- each place at home
-abbrev pub unmoved : ℕ → ℕ → ℕ
-unmoved version at = at
+abbrev pub place_unmoved : ℕ → ℕ → ℕ
+place_unmoved version at = at
 
 abbrev pub StandsForOriginal : Program → State → State → Type 0
-StandsForOriginal p versioned from_original = StandsFor unmoved (method_of (original_versions p)) unmoved versioned from_original
+StandsForOriginal p versioned from_original = StandsFor place_unmoved (method_of (original_versions p)) place_unmoved versioned from_original
 
 -- a state that stands for the run's after so many steps
 pub record IsRunOfOriginal (w : World) (clock : ℕ) (s : State) : Type 0 where

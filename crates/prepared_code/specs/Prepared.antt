@@ -15,7 +15,7 @@ use Rattle.jvm_model.specs.Classes.Load.{circular_class, load_of}
 use Rattle.jvm_model.specs.Instructions.LocalRules.{arithmetic_exception}
 use Rattle.jvm_model.specs.Classes.Lookup.{incompatible_change}
 use Rattle.jvm_model.specs.Basis.Methods.{code_of}
-use Rattle.jvm_model.specs.Basis.Programs.{class_at, has_built_in_name, name_at, name_of, numbered, params_of_method, max_stack_of, max_locals_of}
+use Rattle.jvm_model.specs.Basis.Programs.{class_at, has_built_in_name, name_at, name_of, methods_numbered, params_of_method, max_stack_of, max_locals_of}
 use Rattle.jvm_model.specs.Running.Run.{main_class}
 use Rattle.jvm_model.specs.Basis.SharedState.{built_in_from, kind_for, string, array_store, in_initializer, index_outside, negative_array_size, no_class_definition, no_such_field, no_such_method, null_pointer, stack_overflow}
 use Rattle.jvm_named.specs.Numbers.{AreNumbers, Row}
@@ -51,7 +51,7 @@ load_built_in p (c ∷ rest) loaded = load_built_in p rest (with_built_in p c lo
 -- what it names above itself stands in front of it.
 pub record FitsOriginals (p : Program) : Type 0 where
   pub linkable : IsLinkable p
-  pub numbered : p.methods ≡ numbered p.classes
+  pub methods_numbered : p.methods ≡ methods_numbered p.classes
   pub methods : length p.methods < 2 ^ 32
   pub codes : AllByRecursion HasShortCodes p.classes
   pub built_in : load_built_in p p.classes [] ≡ built_in_from 0 p.classes
@@ -116,7 +116,7 @@ exception_in x UnsatisfiedLink = x.unsatisfied_link
 pub record IsPrepared (p : Program) (methods : List Method) (versions : Versions) (exceptions : Exceptions) (rows : List Row) : Type 0 where
   pub fits : FitsOriginals p
   pub few : length p.classes < 2 ^ 24
-  pub numbered : length p.methods < 2 ^ 32
+  pub methods_numbered : length p.methods < 2 ^ 32
   pub params : (k : ℕ) → option_and_then (λ m. m.params) (slice_get methods k) ≡ params_of_method p k
   pub max_stack : (k : ℕ) → option_map_or (λ m. m.max_stack) (slice_get methods k) 0 ≡ max_stack_of (world_in p []) k
   pub max_locals : (k : ℕ) → option_map_or (λ m. m.max_locals) (slice_get methods k) 0 ≡ max_locals_of (world_in p []) k

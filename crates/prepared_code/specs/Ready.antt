@@ -9,7 +9,7 @@ use Rattle.jvm_model.specs.Instructions.LocalRules.{within}
 use Rattle.jvm_model.specs.Soundness.Sound.{IsFit}
 use Rattle.jvm_model.specs.declared.state.Entry.{Entry}
 use Rattle.jvm_model.specs.declared.state.State.{State}
-use Rattle.jvm_basic.specs.Rules.{datum_in, placed, rule_of}
+use Rattle.jvm_basic.specs.Rules.{datum_in, outcome_placed, rule_of}
 use Rattle.prepared_code.specs.declared.line.Line.{Line}
 use Rattle.prepared_code.specs.Lines.{action_of}
 use Rattle.jvm_model.specs.Soundness.SoundListings.{IsSound, IsSoundEntry, IsSoundListing}
@@ -18,7 +18,7 @@ use Rattle.prepared_code.specs.Versions.{Setup, line_at, method_of, next_in, ope
 -- the rule of jvm_basic is that of the model with the line's places put in
 abbrev pub IsRuleOf : Line → Local → Type 0
 IsRuleOf line l =
-    (m : Locals) (o : Operands) → rule_of line.instr line.constant line.next m o ≡ placed line.next (targets_of line.instr.arg) m o (within l m o)
+    (m : Locals) (o : Operands) → rule_of line.instr line.constant line.next m o ≡ outcome_placed line.next (targets_of line.instr.arg) m o (within l m o)
 
 -- it is that of its family and operand
 abbrev pub HasLocal : Line → Local → Type 0

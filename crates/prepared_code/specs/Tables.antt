@@ -15,8 +15,8 @@ pub record Versions : Type 0 where
   pub current : List ℕ
 
 -- of a table with any room
-abbrev pub seen : Table PreparedCode → Versions
-seen t = record { slots = t.slots; current = t.current }
+abbrev pub table_seen : Table PreparedCode → Versions
+table_seen t = record { slots = t.slots; current = t.current }
 
 abbrev pub version_at : Versions → ℕ → Option Version
 version_at v version = held_in v.slots version

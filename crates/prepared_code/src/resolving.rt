@@ -87,7 +87,7 @@ fn object_given(alloc: Global, pool: &Pool, arg: &Arg) -> Result<Option<Action>,
 }
 
 /// What an ldc does: it pushes a number, or else a String or a Class.
-fn given(alloc: Global, pool: &Pool, arg: &Arg) -> Result<Option<Action>, NoMemory>
+fn pool_constant_action(alloc: Global, pool: &Pool, arg: &Arg) -> Result<Option<Action>, NoMemory>
     ensures { let constant = constant_in pool.now arg.now in
         let number = option_map Within (local_of PoolConstant arg.now constant) in
         IfOk result (λ a. a ≡ option_map action_of
@@ -210,7 +210,7 @@ fn action_of(
 {
     match family {
         Family::NotLocal => other_action(alloc, class, instr.op, &instr.arg),
-        Family::PoolConstant => given(alloc, &class.pool, &instr.arg),
+        Family::PoolConstant => pool_constant_action(alloc, &class.pool, &instr.arg),
         family => Ok(local_action(family, &class.pool, &instr.arg)),
     }
 }

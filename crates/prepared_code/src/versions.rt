@@ -5,7 +5,7 @@ ghost use Rattle.std.specs.Prelude.{◌≡◌, ◌≤◌, ℕ, false, length, tr
 ghost use Rattle.std.specs.Option.{option_copied};
 ghost use Rattle.method_versions.specs.Tables.{IsFirst, is_superseded_in, method_in};
 ghost use Rattle.prepared_code.specs.Making.{HasItsLines, IsReplaced, has_lines, with_lines};
-ghost use Rattle.prepared_code.specs.Tables.{Adds, AreAllCurrent, AreOfMethods, Releases, seen, version_at};
+ghost use Rattle.prepared_code.specs.Tables.{Adds, AreAllCurrent, AreOfMethods, Releases, table_seen, version_at};
 ghost use Rattle.prepared_code.specs.Versions.{current_of, first_of, line_at, line_in, mark_of};
 
 use crate::line::Line;
@@ -48,11 +48,11 @@ pub struct Versions {
 
 impl Model for Versions {
     ghost use Rattle.prepared_code.specs.Tables as tables;
-    ghost use Rattle.prepared_code.specs.Tables.{seen};
+    ghost use Rattle.prepared_code.specs.Tables.{table_seen};
 
     ghost Value = { tables.Versions };
 
-    ghost view = { λ v. seen v.table };
+    ghost view = { λ v. table_seen v.table };
 }
 
 impl Versions {
@@ -101,7 +101,7 @@ impl Versions {
 fn add_each(table: &mut Table<PreparedCode>, more: Seq<Version>, frames: &Frames)
     requires room { length more ≤ table.old.spare }
     requires methods { AreOfMethods (length table.old.current) more }
-    ensures { Adds frames.now.frames more (seen table.old) (seen table.new) }
+    ensures { Adds frames.now.frames more (table_seen table.old) (table_seen table.new) }
 {
     for version in more.into_vec() {
         let Held { method, prepared } = version;

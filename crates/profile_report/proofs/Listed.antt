@@ -9,7 +9,7 @@ use Rattle.jvm_model.specs.declared.program.Program.{Program}
 use Rattle.jvm_model.specs.Profiling.Paths.{Context}
 use Rattle.context_tree.specs.Profiles.{children_of, is_child, last_method, path_of_node, total_of}
 use Rattle.profile_report.specs.Nodes.{lines_below, lines_from, node_line}
-use Rattle.profile_report.specs.Reports.{below, context_line, line_text, listed, tree_text}
+use Rattle.profile_report.specs.Reports.{below, context_line, line_text, contexts_listed, tree_text}
 use Rattle.profile_report.proofs.Children.{flat_map-numbers, length-child, length-numbers}
 
 flat_map-flat_map : {X Y A : Type 0} (f : Y → List A) (g : X → List Y) (xs : List X) → flat_map f (flat_map g xs) ≡ flat_map (λ x. flat_map f (g x)) xs
@@ -25,13 +25,13 @@ module _ (program : Program) (contexts : List Context) where
       ∙ ap (λ l. line_text program l c.calls c.own (total_of c.path contexts) (last_method c.path)) level
 
   pub lines_below-listed : (levels : ℕ) (from : Option ℕ)
-      → lines_below program contexts levels (length (path_of_node from contexts)) from ≡ flat_map (context_line program contexts) (listed levels contexts (path_of_node from contexts))
+      → lines_below program contexts levels (length (path_of_node from contexts)) from ≡ flat_map (context_line program contexts) (contexts_listed levels contexts (path_of_node from contexts))
   lines_below-listed zero from = refl
   lines_below-listed (suc levels) from =
       let path : List ℕ = path_of_node from contexts in
       flat_map-numbers path
       (λ i. node_line program contexts (length path) i ++ lines_below program contexts levels (length path + 1) (Some i))
-      (λ c. flat_map (context_line program contexts) (c ∷ listed levels contexts c.path))
+      (λ c. flat_map (context_line program contexts) (c ∷ contexts_listed levels contexts c.path))
       0 contexts
       (λ k c found is.
       let first : 0 + k ≡ k = omega arith in
@@ -42,8 +42,8 @@ module _ (program : Program) (contexts : List Context) where
       ∙ ap (λ t. context_line program contexts c ++ t)
       (ap (λ l. lines_below program contexts levels l (Some k)) deeper
       ∙ lines_below-listed levels (Some k)
-      ∙ ap (λ p. flat_map (context_line program contexts) (listed levels contexts p)) there))
-      ∙ sym (flat_map-flat_map (context_line program contexts) (λ (c : Context). c ∷ listed levels contexts c.path) (below contexts path))
+      ∙ ap (λ p. flat_map (context_line program contexts) (contexts_listed levels contexts p)) there))
+      ∙ sym (flat_map-flat_map (context_line program contexts) (λ (c : Context). c ∷ contexts_listed levels contexts c.path) (below contexts path))
 
 -- ---- the loop over the children of a node
 

@@ -13,7 +13,7 @@ use Rattle.jvm_model.specs.declared.program.Program.{Program}
 use Rattle.jvm_model.specs.declared.ending.Ending.{Ending}
 use Rattle.jvm_model.specs.declared.ending.Ending.TheVariants.{Returned, Exited, Uncaught, Unverifiable}
 use Rattle.profile_report.specs.declared.facts.Facts.{Facts}
-use Rattle.profile_report.specs.Shown.{shown}
+use Rattle.profile_report.specs.Shown.{text_shown}
 
 -- ---- what is written
 
@@ -25,14 +25,14 @@ Adds result old new text = OnOk result (new ≡ old ++ text)
 
 -- the class at this position
 abbrev pub class_text : Program → ℕ → List ℕ
-class_text p class = shown (name_at p class)
+class_text p class = text_shown (name_at p class)
 
 -- class, dot, name, descriptor
 abbrev pub member_text : ClassFile → ℕ → List ℕ
 member_text c position =
-    shown (name_of c) ++ (codes "." ++ (
-    option_map_or (λ m. shown (named_text c.pool m.name)) (slice_get c.methods position) []
-    ++ option_map_or (λ m. shown (named_text c.pool m.descriptor)) (slice_get c.methods position) []))
+    text_shown (name_of c) ++ (codes "." ++ (
+    option_map_or (λ m. text_shown (named_text c.pool m.name)) (slice_get c.methods position) []
+    ++ option_map_or (λ m. text_shown (named_text c.pool m.descriptor)) (slice_get c.methods position) []))
 
 -- the method with this number
 abbrev pub method_text : Program → ℕ → List ℕ
@@ -72,9 +72,9 @@ below contexts path = filter (is_child path) contexts
 
 -- Each context below a path with those below it, so many levels deep. No path is longer than there are contexts, since
 -- each of its fronts is the path of one.
-abbrev pub listed : ℕ → List Context → List ℕ → List Context
-listed zero contexts path = []
-listed (suc levels) contexts path = flat_map (λ (c : Context). c ∷ listed levels contexts c.path) (below contexts path)
+abbrev pub contexts_listed : ℕ → List Context → List ℕ → List Context
+contexts_listed zero contexts path = []
+contexts_listed (suc levels) contexts path = flat_map (λ (c : Context). c ∷ contexts_listed levels contexts c.path) (below contexts path)
 
 -- three counts, each with a space behind it
 abbrev pub counts_text : ℕ → ℕ → ℕ → List ℕ
@@ -90,7 +90,7 @@ abbrev pub context_line : Program → List Context → Context → List ℕ
 context_line program contexts c = line_text program (length c.path - 1) c.calls c.own (total_of c.path contexts) (last_method c.path)
 
 abbrev pub tree_text : Program → List Context → List ℕ
-tree_text program contexts = codes "tree\n" ++ flat_map (context_line program contexts) (listed (length contexts) contexts [])
+tree_text program contexts = codes "tree\n" ++ flat_map (context_line program contexts) (contexts_listed (length contexts) contexts [])
 
 -- in place of the tree: how many contexts it has, and the sums of calls and of own steps
 abbrev pub summary_text : List Context → List ℕ

@@ -3,6 +3,6 @@ use Rattle.std.specs.Prelude.{ℕ, List, [], Option, Some, None}
 use Rattle.jf_bytes.specs.Unicode.{utf8_of}
 
 -- a text that the pool may have, in UTF-8; where it has none, nothing
-abbrev pub shown : Option (List ℕ) → List ℕ
-shown None = []
-shown (Some text) = utf8_of text
+abbrev pub text_shown : Option (List ℕ) → List ℕ
+text_shown None = []
+text_shown (Some text) = utf8_of text

@@ -3,7 +3,7 @@
 ghost use Rattle.std.specs.Prelude.{◌≡◌, ◌++◌, OnOk};
 ghost use Rattle.std.specs.Option.{option_copied};
 ghost use Rattle.profile_report.specs.Reports.{class_text, member_text, method_text};
-ghost use Rattle.profile_report.specs.Shown.{shown};
+ghost use Rattle.profile_report.specs.Shown.{text_shown};
 
 use const_pool::ClassFile;
 use jf_bytes::{NoMemory, Text16, to_utf8};
@@ -12,7 +12,7 @@ use std::alloc::Global;
 
 /// Adds a text that the pool may have, in UTF-8.
 fn push_text(alloc: Global, out: &mut Vec<u8>, text: Option<&Text16>) -> Result<(), NoMemory>
-    ensures { OnOk result (out.new.items ≡ out.old.items ++ shown (option_copied text.entry)) }
+    ensures { OnOk result (out.new.items ≡ out.old.items ++ text_shown (option_copied text.entry)) }
 {
     let Some(text) = text else {
         return Ok(());

@@ -17,10 +17,10 @@ use Rattle.jvm_model.proofs.Events.TracesEntries.{entries-append}
 use Rattle.jvm_machine.specs.declared.turn.Turn.{Turn}
 use Rattle.jvm_machine.specs.declared.turn.Turn.TheVariants.{Settled, Loaded, Probe, Ended, Broken, NoMemory}
 use Rattle.jvm_machine.specs.Turns.{Turns}
-use Rattle.jvm_machine.specs.View.{View, IsGoingOn, begun, has_ended, is_resting, run_state, world}
+use Rattle.jvm_machine.specs.View.{View, IsGoingOn, step_begun, has_ended, is_resting, run_state, world}
 use Rattle.call_revelation.specs.Reveals.{IsRevelation}
 use Rattle.context_tree.specs.Counts.{AreInOrder, path_after}
-use Rattle.context_tree.specs.Profiles.{Profile, blank, credited, profile_of, taken, event_told}
+use Rattle.context_tree.specs.Profiles.{Profile, blank, steps_credited, profile_of, event_taken, event_told}
 use Rattle.context_tree.proofs.Credits.{credits-add}
 use Rattle.profile_session.specs.declared.parts.Parts.{Parts}
 use Rattle.profile_session.specs.Advances.{After, Stays}
@@ -49,7 +49,7 @@ clock-rises x es v stands went = subst (λ n. x.vm.clock ≤ n) (sym went.clock)
   at_rest true early = omega arith
   at_rest false early = let e = early refl in omega (arith, e)
 
-  by : StandsIn x es → x.vm.clock ≤ (begun x.vm).clock
+  by : StandsIn x es → x.vm.clock ≤ (step_begun x.vm).clock
   by (rests r) = subst (λ (y : View). x.vm.clock ≤ y.clock) (sym (begun-is x.vm r.resting)) (at_rest x.vm.started r.before_the_run)
   by (within busy s) = subst (λ (y : View). x.vm.clock ≤ y.clock) (sym (begun-busy x.vm busy)) (omega arith)
 
@@ -71,18 +71,18 @@ fits x v fit went up = record {
 
 -- ---- the events so far
 
-fold-clock : (p : Profile) (es : List Event) (c : ℕ) → AreInOrder p.clock es c → (fold taken p es).clock ≤ c
+fold-clock : (p : Profile) (es : List Event) (c : ℕ) → AreInOrder p.clock es c → (fold event_taken p es).clock ≤ c
 fold-clock p [] c order = order
-fold-clock p (e ∷ es) c order = fold-clock (taken p e) es c (subst (λ n. AreInOrder n es c) (sym (taken-clock p e)) order.1)
+fold-clock p (e ∷ es) c order = fold-clock (event_taken p e) es c (subst (λ n. AreInOrder n es c) (sym (taken-clock p e)) order.1)
 
 pub profile-clock : (x : Parts) → AreFit x → (profile_in x).clock ≤ x.vm.clock
 profile-clock x fit = fold-clock x.tree x.buffer.events x.vm.clock fit.order
 
-later-credit : (p q : Profile) (c d : ℕ) → p.clock ≤ c → q.clock ≤ c → c ≤ d → credited c p ≡ credited c q → credited d p ≡ credited d q
-later-credit p q c d le_p le_q on same = sym (credits-add c d p le_p on) ∙ (ap (credited d) same ∙ credits-add c d q le_q on)
+later-credit : (p q : Profile) (c d : ℕ) → p.clock ≤ c → q.clock ≤ c → c ≤ d → steps_credited c p ≡ steps_credited c q → steps_credited d p ≡ steps_credited d q
+later-credit p q c d le_p le_q on same = sym (credits-add c d p le_p on) ∙ (ap (steps_credited d) same ∙ credits-add c d q le_q on)
 
 -- what was told stays, up to a later clock
-stays-of : (x : Parts) (es : List Event) (d : ℕ) → AreFit x → AreOf x es → x.vm.clock ≤ d → credited d (profile_in x) ≡ credited d (profile_of es)
+stays-of : (x : Parts) (es : List Event) (d : ℕ) → AreFit x → AreOf x es → x.vm.clock ≤ d → steps_credited d (profile_in x) ≡ steps_credited d (profile_of es)
 stays-of x es d fit are on =
     later-credit (profile_in x) (profile_of es) x.vm.clock d (fold-clock x.tree x.buffer.events x.vm.clock fit.order) (fold-clock blank es x.vm.clock are.order) on are.profile
 
@@ -91,7 +91,7 @@ open-of x es are = ap (λ (q : Profile). q.open) are.profile
 
 pub still-of : (x new : Parts) (es : List Event) → AreFit x → AreOf x es → x.vm.clock ≤ new.vm.clock → profile_in new ≡ profile_in x → calls_in new ≡ calls_in x → AreOf new es
 still-of x new es fit are on same calls = record {
-  profile = ap (credited new.vm.clock) same ∙ stays-of x es new.vm.clock fit are on;
+  profile = ap (steps_credited new.vm.clock) same ∙ stays-of x es new.vm.clock fit are on;
   calls = (let c = are.calls in omega (arith, c, calls));
   order = order-later 0 es x.vm.clock new.vm.clock are.order on;
 }
@@ -99,20 +99,20 @@ still-of x new es fit are on same calls = record {
 are-still : (x new : Parts) (es : List Event) → AreFit x → AreOf x es → x.vm.clock ≤ new.vm.clock → profile_in new ≡ profile_in x → calls_in new ≤ calls_in x + 0 → AreOf new (es ++ [])
 are-still x new es fit are on same calls =
     subst (AreOf new) (sym (append-nil es)) (record {
-      profile = ap (credited new.vm.clock) same ∙ stays-of x es new.vm.clock fit are on;
+      profile = ap (steps_credited new.vm.clock) same ∙ stays-of x es new.vm.clock fit are on;
       calls = (let c = are.calls in omega (arith, c, calls));
       order = order-later 0 es x.vm.clock new.vm.clock are.order on;
     })
 
-are-told : (x new : Parts) (es : List Event) (e : Event) → AreFit x → AreOf x es → x.vm.clock ≤ new.vm.clock → e.clock ≡ new.vm.clock → profile_in new ≡ taken (profile_in x) e
+are-told : (x new : Parts) (es : List Event) (e : Event) → AreFit x → AreOf x es → x.vm.clock ≤ new.vm.clock → e.clock ≡ new.vm.clock → profile_in new ≡ event_taken (profile_in x) e
     → calls_in new ≤ calls_in x + entries (e ∷ []) → AreOf new (es ++ e ∷ [])
 are-told x new es e fit are on now same calls =
     let d = new.vm.clock in
-    let credits : credited e.clock (profile_in x) ≡ credited e.clock (profile_of es) = stays-of x es e.clock fit are (omega (arith, on, now)) in
-    let both : taken (profile_in x) e ≡ taken (profile_of es) e = ap (event_told e.kind e.method) credits in
+    let credits : steps_credited e.clock (profile_in x) ≡ steps_credited e.clock (profile_of es) = stays-of x es e.clock fit are (omega (arith, on, now)) in
+    let both : event_taken (profile_in x) e ≡ event_taken (profile_of es) e = ap (event_told e.kind e.method) credits in
     let more : entries (es ++ e ∷ []) ≡ entries es + entries (e ∷ []) = entries-append es (e ∷ []) in
     record {
-      profile = ap (credited d) (same ∙ (both ∙ sym (fold-both es (e ∷ []) blank)));
+      profile = ap (steps_credited d) (same ∙ (both ∙ sym (fold-both es (e ∷ []) blank)));
       calls = (let c = are.calls in omega (arith, c, calls, more));
       order = order-push 0 es e d (order-later 0 es x.vm.clock d are.order on) now;
     }
@@ -122,9 +122,9 @@ path-entries : (path : List ℕ) (es : List Event) → length (fold path_after p
 path-entries path [] = omega arith
 path-entries path (e ∷ es) = (let rest = path-entries (path_after path e) es in let one = path-entry path e in omega (arith, rest, one))
 
-open-fold : (p : Profile) (es : List Event) → (fold taken p es).open ≡ fold path_after p.open es
+open-fold : (p : Profile) (es : List Event) → (fold event_taken p es).open ≡ fold path_after p.open es
 open-fold p [] = refl
-open-fold p (e ∷ es) = open-fold (taken p e) es ∙ ap (λ path. fold path_after path es) (open-taken p e)
+open-fold p (e ∷ es) = open-fold (event_taken p e) es ∙ ap (λ path. fold path_after path es) (open-taken p e)
 
 open-entries : (es : List Event) → length (profile_of es).open ≤ entries es
 open-entries es =
@@ -244,13 +244,13 @@ module _ (x new : Parts) (es : List Event) (v : View) (turn : Turn) (is : IsProf
         (subst (λ k. InStep x.acts (world x.vm) (es ++ events_in turn) k new.vm) (sym kept_is) r));
   }
 
-  clock_is : new.vm.clock ≡ (begun x.vm).clock
+  clock_is : new.vm.clock ≡ (step_begun x.vm).clock
   clock_is = clock_now ∙ goes.clock
 
   ended_as : (b : Bool) → has_ended v ≡ b → has_ended new.vm ≡ b
   ended_as b e = ap has_ended h.vm ∙ e
 
-  begun-started : StandsIn x es → (begun x.vm).started ≡ true
+  begun-started : StandsIn x es → (step_begun x.vm).started ≡ true
   begun-started (rests r) = ap (λ (y : View). y.started) (begun-is x.vm r.resting)
   begun-started (within busy i) = ap (λ (y : View). y.started) (begun-busy x.vm busy) ∙ i.started
 

@@ -22,15 +22,15 @@ use Rattle.jvm_model.proofs.Revealing.Revealable.{revealable}
 use Rattle.class_linker.specs.Linkers.{LinkerView}
 use Rattle.call_revelation.specs.declared.reveal.Reveal.{Reveal}
 use Rattle.call_revelation.specs.Reveals.{IsAhead, IsPrefix, IsRevelation, nothing_revealed, now_of}
-use Rattle.jvm_machine.specs.View.{View, made, run_state, world}
+use Rattle.jvm_machine.specs.View.{View, machine_made, run_state, world}
 use Rattle.context_tree.specs.Counts.{AreInOrder}
-use Rattle.context_tree.specs.Profiles.{Profile, blank, calls_of, credited, taken}
+use Rattle.context_tree.specs.Profiles.{Profile, blank, calls_of, steps_credited, event_taken}
 use Rattle.context_tree.specs.Seen.{first_seen}
 use Rattle.event_buffer.specs.Buffers.{Held, empty, last_clock}
 use Rattle.profile_session.specs.declared.parts.Parts.{Parts}
 use Rattle.profile_session.specs.declared.swap.Swap.{Swap}
 use Rattle.profile_session.specs.Beginning.{CanBeProfiled, IsFirst}
-use Rattle.profile_session.specs.Keeping.{Kept, first_kept, kept_by-zero, revealed}
+use Rattle.profile_session.specs.Keeping.{Kept, first_kept, kept_by-zero, methods_revealed}
 use Rattle.profile_session.specs.Parts.{calls_in, kept_in, linking, profile_in, seen_by}
 use Rattle.profile_session.specs.Sessions.{Stands}
 use Rattle.profile_session.specs.Standing.{AtRest}
@@ -97,13 +97,13 @@ none-marked p loaded m = by (has_class p loaded m) where
 
 module _ (p : Program) (input : List ℕ) where
   abbrev v : View
-  v = made p input
+  v = machine_made p input
 
   abbrev w : World
   w = world v
 
-  first-marks : v.marks ≡ marks_of p (revealed (first_seen w))
-  first-marks = all-off p (revealed (first_seen w)) 0 p.methods (none-marked p (before w).shared.loaded)
+  first-marks : v.marks ≡ marks_of p (methods_revealed (first_seen w))
+  first-marks = all-off p (methods_revealed (first_seen w)) 0 p.methods (none-marked p (before w).shared.loaded)
 
   first-rests : AtRest [] w [] (first_kept w) v
   first-rests = record {
@@ -119,21 +119,21 @@ module _ (p : Program) (input : List ℕ) where
     moments = tt;
   }
 
-pub begun-stands : (x : Parts) → x.vm ≡ made x.vm.program x.vm.input → CanBeProfiled x.vm.program → IsFirst x.vm x.reveal → x.tree ≡ blank → x.buffer ≡ empty 65536 → x.depth ≡ 0
+pub begun-stands : (x : Parts) → x.vm ≡ machine_made x.vm.program x.vm.input → CanBeProfiled x.vm.program → IsFirst x.vm x.reveal → x.tree ≡ blank → x.buffer ≡ empty 65536 → x.depth ≡ 0
     → x.swaps ≡ [] → x.acts ≡ [] → x.started ≡ false → Stands x
 begun-stands x fresh can first tree buffer depth swaps acts started =
     let p = x.vm.program in
     let w = world x.vm in
     let clock : x.vm.clock ≡ 0 = ap (λ (v : View). v.clock) fresh in
     let events : x.buffer.events ≡ [] = ap (λ (b : Held). b.events) buffer in
-    let profile : profile_in x ≡ blank = ap₂ (λ t es. fold taken t es) tree events in
+    let profile : profile_in x ≡ blank = ap₂ (λ t es. fold event_taken t es) tree events in
     let calls : calls_in x ≡ 0 = ap₂ (λ (t : Profile) es. calls_of t + entries es) tree events in
     let last : last_clock x.buffer ≡ 0 = ap last_clock buffer in
     let marks : x.vm.marks ≡ x.reveal.shown =
     ap (λ (v : View). v.marks) fresh ∙ (first-marks p x.vm.input ∙ (ap (marks_of p) (sym first.now) ∙ sym first.shown)) in
     let kept : kept_in x ≡ first_kept w =
     ap₂ (λ (r : Revealed) (l : List Swap). let k : Kept = record { seen = seen_by r (profile_in x).open; swaps = l } in k) first.now swaps
-    ∙ ap (λ (q : Profile). let k : Kept = record { seen = seen_by (revealed (first_seen w)) q.open; swaps = [] } in k) profile in
+    ∙ ap (λ (q : Profile). let k : Kept = record { seen = seen_by (methods_revealed (first_seen w)) q.open; swaps = [] } in k) profile in
     record {
       rests = record {
         is = record {
@@ -156,7 +156,7 @@ begun-stands x fresh can first tree buffer depth swaps acts started =
           from = subst (AreFrom 0) (sym acts) tt;
         };
         delivered = [];
-        are = record { profile = ap (credited x.vm.clock) profile; calls = omega (arith, calls); order = omega (arith, clock) };
+        are = record { profile = ap (steps_credited x.vm.clock) profile; calls = omega (arith, calls); order = omega (arith, clock) };
         stands = subst (λ l. AtRest l w [] (kept_in x) x.vm) (sym acts)
             (subst (λ k. AtRest [] w [] k x.vm) (sym kept) (subst (λ (v : View). AtRest [] (world v) [] (first_kept (world v)) v) (sym fresh) (first-rests p x.vm.input)));
       };

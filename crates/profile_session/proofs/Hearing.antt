@@ -12,7 +12,7 @@ use Rattle.jvm_model.specs.Profiling.Revealed.{Revealed, marks_of, with_loaded, 
 use Rattle.jvm_machine.specs.declared.turn.Turn.TheVariants.{Settled, Loaded, Probe, Ended}
 use Rattle.jvm_machine.specs.View.{View}
 use Rattle.context_tree.specs.Counts.{opens, path_after}
-use Rattle.context_tree.specs.Profiles.{Profile, credited, opened, taken, event_told}
+use Rattle.context_tree.specs.Profiles.{Profile, steps_credited, path_opened, event_taken, event_told}
 use Rattle.context_tree.specs.Seen.{Seen, seen_event}
 use Rattle.event_buffer.specs.Buffers.{Held}
 use Rattle.profile_session.specs.declared.parts.Parts.{Parts}
@@ -21,13 +21,13 @@ use Rattle.profile_session.specs.Parts.{AreFit, AreLoadable, AreShown, CanLoad, 
 
 -- ---- the open path of a profile
 
-pub open-taken : (p : Profile) (e : Event) → (taken p e).open ≡ path_after p.open e
+pub open-taken : (p : Profile) (e : Event) → (event_taken p e).open ≡ path_after p.open e
 open-taken p e = by e.kind where
-  either : (b : Bool) → (let q : Profile = if b then credited e.clock p else opened e.method (credited e.clock p) in q).open ≡ (if b then p.open else p.open ++ e.method ∷ [])
+  either : (b : Bool) → (let q : Profile = if b then steps_credited e.clock p else path_opened e.method (steps_credited e.clock p) in q).open ≡ (if b then p.open else p.open ++ e.method ∷ [])
   either true = refl
   either false = refl
 
-  by : (k : EventKind) → (event_told k e.method (credited e.clock p)).open ≡ path_after p.open (record e { kind = k })
+  by : (k : EventKind) → (event_told k e.method (steps_credited e.clock p)).open ≡ path_after p.open (record e { kind = k })
   by Root = refl
   by Enter = either (is_outside p.open)
   by Leave = refl
@@ -116,7 +116,7 @@ module _ (x : Parts) (e : Event) (t : Profile) (b : Held) (d : ℕ) where
   abbrev still : Kept
   still = record k { seen = seen_event k.seen e }
 
-  opened-path : profile_in y ≡ taken (profile_in x) e → (profile_in y).open ≡ path_after (profile_in x).open e
+  opened-path : profile_in y ≡ event_taken (profile_in x) e → (profile_in y).open ≡ path_after (profile_in x).open e
   opened-path is = ap (λ (q : Profile). q.open) is ∙ open-taken (profile_in x) e
 
   entered-in : (opening : Bool) → opens (profile_in x).open e.kind ≡ opening
@@ -126,7 +126,7 @@ module _ (x : Parts) (e : Event) (t : Profile) (b : Held) (d : ℕ) where
       ap (λ b. let s : Seen = record k.seen { entered = if b then with_entered e.method x.reveal.entered else x.reveal.entered; «open» = path_after (profile_in x).open e } in s) is
 
   -- that opens a path
-  hears-opening : (new : Parts) → e.clock ≡ x.vm.clock → opens (profile_in x).open e.kind ≡ true → profile_in y ≡ taken (profile_in x) e → calls_in y ≤ calls_in x + entries_by e.kind
+  hears-opening : (new : Parts) → e.clock ≡ x.vm.clock → opens (profile_in x).open e.kind ≡ true → profile_in y ≡ event_taken (profile_in x) e → calls_in y ≤ calls_in x + entries_by e.kind
       → IsPoint y (with_method_entered e.method (revealed_in x)) new → Hears x (Probe e) new
   hears-opening new now opening profile calls n =
       let p = x.vm.program in
@@ -144,7 +144,7 @@ module _ (x : Parts) (e : Event) (t : Profile) (b : Held) (d : ℕ) where
       }
 
   -- and another one
-  hears-another : AreFit y → AreShown x → opens (profile_in x).open e.kind ≡ false → profile_in y ≡ taken (profile_in x) e → calls_in y ≤ calls_in x + entries_by e.kind → Hears x (Probe e) y
+  hears-another : AreFit y → AreShown x → opens (profile_in x).open e.kind ≡ false → profile_in y ≡ event_taken (profile_in x) e → calls_in y ≤ calls_in x + entries_by e.kind → Hears x (Probe e) y
   hears-another fit shown shut profile calls =
       let seen : seen_by (revealed_in x) (profile_in y).open ≡ seen_event k.seen e = ap (seen_by (revealed_in x)) (opened-path profile) ∙ sym (entered-in false shut) in
       record {
@@ -161,16 +161,16 @@ module _ (x : Parts) (e : Event) (t : Profile) (b : Held) (d : ℕ) where
 pub hears-open : (x y new : Parts) (e : Event) → Takes x e y → e.clock ≡ x.vm.clock → opens (profile_in x).open e.kind ≡ true
     → IsPoint y (with_method_entered e.method (revealed_in y)) new → Hears x (Probe e) new
 hears-open x y new e t now opening n = there y t.same t.profile t.calls n where
-  there : (z : Parts) → z ≡ record x { tree = y.tree; buffer = y.buffer; depth = y.depth } → profile_in z ≡ taken (profile_in x) e → calls_in z ≤ calls_in x + entries_by e.kind
+  there : (z : Parts) → z ≡ record x { tree = y.tree; buffer = y.buffer; depth = y.depth } → profile_in z ≡ event_taken (profile_in x) e → calls_in z ≤ calls_in x + entries_by e.kind
       → IsPoint z (with_method_entered e.method (revealed_in z)) new → Hears x (Probe e) new
   there z same profile calls n =
-      hears-opening x e y.tree y.buffer y.depth new now opening (subst (λ (z : Parts). profile_in z ≡ taken (profile_in x) e) same profile)
+      hears-opening x e y.tree y.buffer y.depth new now opening (subst (λ (z : Parts). profile_in z ≡ event_taken (profile_in x) e) same profile)
       (subst (λ (z : Parts). calls_in z ≤ calls_in x + entries_by e.kind) same calls) (subst (λ (z : Parts). IsPoint z (with_method_entered e.method (revealed_in z)) new) same n)
 
 pub hears-shut : (x y : Parts) (e : Event) → AreShown x → Takes x e y → opens (profile_in x).open e.kind ≡ false → Hears x (Probe e) y
 hears-shut x y e shown t shut = subst (Hears x (Probe e)) (sym t.same) (there y t.same t.profile t.calls t.fit) where
-  there : (z : Parts) → z ≡ record x { tree = y.tree; buffer = y.buffer; depth = y.depth } → profile_in z ≡ taken (profile_in x) e → calls_in z ≤ calls_in x + entries_by e.kind → AreFit z
+  there : (z : Parts) → z ≡ record x { tree = y.tree; buffer = y.buffer; depth = y.depth } → profile_in z ≡ event_taken (profile_in x) e → calls_in z ≤ calls_in x + entries_by e.kind → AreFit z
       → Hears x (Probe e) (record x { tree = y.tree; buffer = y.buffer; depth = y.depth })
   there z same profile calls fit =
-      hears-another x e y.tree y.buffer y.depth (subst AreFit same fit) shown shut (subst (λ (z : Parts). profile_in z ≡ taken (profile_in x) e) same profile)
+      hears-another x e y.tree y.buffer y.depth (subst AreFit same fit) shown shut (subst (λ (z : Parts). profile_in z ≡ event_taken (profile_in x) e) same profile)
       (subst (λ (z : Parts). calls_in z ≤ calls_in x + entries_by e.kind) same calls)

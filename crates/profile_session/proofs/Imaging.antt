@@ -13,7 +13,7 @@ use Rattle.jvm_model.specs.declared.event.Mark.TheVariants.{Off}
 use Rattle.jvm_model.specs.declared.program.Program.{Program}
 use Rattle.jvm_model.specs.Rewriting.Images.{IsImage, is_off}
 use Rattle.jvm_model.specs.Basis.Methods.{code_of}
-use Rattle.jvm_model.specs.Basis.Programs.{no_class, number_of_method, numbered}
+use Rattle.jvm_model.specs.Basis.Programs.{no_class, number_of_method, methods_numbered}
 use Rattle.jvm_model.specs.Profiling.Revealed.{Revealed, mark_of}
 use Rattle.jvm_model.specs.Profiling.Swaps.{first_number}
 use Rattle.inject_events.specs.declared.image.Image.{Image}
@@ -61,7 +61,7 @@ members-coded f n (m ∷ l) each =
       members-coded f (n + 1) l (λ i x found on. let q : n + suc i ≡ n + 1 + i = omega arith in each (suc i) x found (ap (λ k. is_off (f k)) q ∙ on)),
     )
 
-pub marks-coded : (p : Program) (r : Revealed) → p.methods ≡ numbered p.classes → (class : ℕ) → MarkedHaveCode (marks_for p r class) (class_in p class).methods
+pub marks-coded : (p : Program) (r : Revealed) → p.methods ≡ methods_numbered p.classes → (class : ℕ) → MarkedHaveCode (marks_for p r class) (class_in p class).methods
 marks-coded p r are class =
     members-coded (mark_at_position p r class) 0 (class_in p class).methods (λ i m there on.
     by i m there (number_of_method p class i) refl (ap (λ k. is_off (mark_at_position p r class k)) (sym (zero-add i)) ∙ on))

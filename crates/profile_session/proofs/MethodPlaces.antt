@@ -7,7 +7,7 @@ use Rattle.const_pool.specs.declared.class.Member.{Member}
 use Rattle.jvm_model.specs.declared.program.MethodPlace.{MethodPlace}
 use Rattle.jvm_model.specs.declared.program.Program.{Program}
 use Rattle.jvm_model.specs.Basis.Methods.{code_of}
-use Rattle.jvm_model.specs.Basis.Programs.{coded_from, no_class, number_from, number_of_method, numbered, numbered_from, same_place}
+use Rattle.jvm_model.specs.Basis.Programs.{coded_from, no_class, number_from, number_of_method, methods_numbered, numbered_from, same_place}
 use Rattle.profile_session.specs.Images.{class_in}
 
 abbrev place_at : ℕ → ℕ → MethodPlace
@@ -88,11 +88,11 @@ numbers-back n c k (y ∷ rest) (suc i) x are found =
     (is-other y x (found-from y.class (y.position + 1) rest i x are.1 found))
     ∙ (numbers-back (n + 1) y.class (y.position + 1) rest i x are.1 found ∙ (let e : n + 1 + i ≡ n + suc i = omega arith in ap (λ k. let o : Option ℕ = Some k in o) e))
 
-pub number-back : (p : Program) → p.methods ≡ numbered p.classes → (i : ℕ) (x : MethodPlace) → slice_get p.methods i ≡ Some x
+pub number-back : (p : Program) → p.methods ≡ methods_numbered p.classes → (i : ℕ) (x : MethodPlace) → slice_get p.methods i ≡ Some x
     → number_of_method p x.class x.position ≡ Some i
 number-back p are i x found =
     ap (number_from 0 x.class x.position) are
-    ∙ (numbers-back 0 0 0 (numbered p.classes) i x (rising-numbered 0 p.classes) (ap (λ l. slice_get l i) (sym are) ∙ found)
+    ∙ (numbers-back 0 0 0 (methods_numbered p.classes) i x (rising-numbered 0 p.classes) (ap (λ l. slice_get l i) (sym are) ∙ found)
     ∙ ap (λ k. let o : Option ℕ = Some k in o) (zero-add i))
 
 -- ---- and is within its class
@@ -179,12 +179,12 @@ in-numbered c (y ∷ cs) i x found =
       is = record { class = n.is.class; found = n.is.found; member = n.is.member; there = n.is.there; coded = n.is.coded; within = n.is.within };
     }
 
-pub class-of : (p : Program) → p.methods ≡ numbered p.classes → (i : ℕ) (x : MethodPlace) → slice_get p.methods i ≡ Some x → IsIn p.classes x.class x.position
+pub class-of : (p : Program) → p.methods ≡ methods_numbered p.classes → (i : ℕ) (x : MethodPlace) → slice_get p.methods i ≡ Some x → IsIn p.classes x.class x.position
 class-of p are i x found =
     let there = in-numbered 0 p.classes i x (ap (λ l. slice_get l i) (sym are) ∙ found) in
     subst (λ at. IsIn p.classes at x.position) (sym (there.class_is ∙ zero-add there.at)) there.is
 
-pub within-class : (p : Program) → p.methods ≡ numbered p.classes → (i : ℕ) (x : MethodPlace) → slice_get p.methods i ≡ Some x → x.position < length (class_in p x.class).methods
+pub within-class : (p : Program) → p.methods ≡ methods_numbered p.classes → (i : ℕ) (x : MethodPlace) → slice_get p.methods i ≡ Some x → x.position < length (class_in p x.class).methods
 within-class p are i x found =
     let is = class-of p are i x found in
     subst (λ (o : Option ClassFile). x.position < length (unwrap_or o no_class).methods) (sym is.found) is.within
@@ -205,10 +205,10 @@ place-found n class at (x ∷ rest) k found = by (same_place class at x) refl (�
       (0, ap (λ (y : MethodPlace). let o : Option MethodPlace = Some y in o) same)
   by false e later found = later found
 
-pub number-coded : (p : Program) → p.methods ≡ numbered p.classes → (class at k : ℕ) (m : Member) → number_of_method p class at ≡ Some k → slice_get (class_in p class).methods at ≡ Some m
+pub number-coded : (p : Program) → p.methods ≡ methods_numbered p.classes → (class at k : ℕ) (m : Member) → number_of_method p class at ≡ Some k → slice_get (class_in p class).methods at ≡ Some m
     → is_some (code_of m) ≡ true
-number-coded p are class at k m numbered there =
-    let place = place-found 0 class at p.methods k numbered in
+number-coded p are class at k m methods_numbered there =
+    let place = place-found 0 class at p.methods k methods_numbered in
     let is = class-of p are place.0 (place_at class at) place.1 in
     let same : Some m ≡ Some is.member =
     sym there ∙ (ap (λ (o : Option ClassFile). slice_get (unwrap_or o no_class).methods at) is.found ∙ is.there) in

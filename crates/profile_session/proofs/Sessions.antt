@@ -17,7 +17,7 @@ use Rattle.jvm_model.specs.Running.Run.{before, ending_of, run}
 use Rattle.jvm_model.specs.Profiling.Swaps.{points_before}
 use Rattle.jvm_model.specs.Turns.Told.{held_in}
 use Rattle.jvm_model.specs.Soundness.Whole.{IsWhole}
-use Rattle.context_tree.specs.Profiles.{Profile, credited, profile_of}
+use Rattle.context_tree.specs.Profiles.{Profile, steps_credited, profile_of}
 use Rattle.context_tree.specs.Seen.{Matches, seen_act}
 use Rattle.context_tree.proofs.Credits.{credits-add}
 use Rattle.context_tree.proofs.Headline.{session-whole, tree-whole}
@@ -126,11 +126,11 @@ tree-of x new b g s brings =
     let m = marking_of x.acts w in
     let delivered : (started : Bool) → x.started ≡ started → r.delivered ≡ told_before m w (if started then x.vm.clock + 1 else 0) =
     λ started e. r.stands.delivered ∙ ap (λ b. told_before m w (if b then x.vm.clock + 1 else 0)) (sym s.started ∙ e) in
-    let tree : new.tree ≡ credited x.vm.clock (profile_of r.delivered) = brings.tree ∙ r.are.profile in
+    let tree : new.tree ≡ steps_credited x.vm.clock (profile_of r.delivered) = brings.tree ∙ r.are.profile in
     record {
-      before_the_run = λ no. ap (λ (q : Profile). q.contexts) (tree ∙ ap (λ es. credited x.vm.clock (profile_of es)) (delivered false no));
+      before_the_run = λ no. ap (λ (q : Profile). q.contexts) (tree ∙ ap (λ es. steps_credited x.vm.clock (profile_of es)) (delivered false no));
       tree = λ yes.
-          ap (λ (q : Profile). q.contexts) (tree ∙ ap (λ es. credited x.vm.clock (profile_of es)) (delivered true yes ∙ ap (told_before m w) (add-one x.vm.clock)))
+          ap (λ (q : Profile). q.contexts) (tree ∙ ap (λ es. steps_credited x.vm.clock (profile_of es)) (delivered true yes ∙ ap (told_before m w) (add-one x.vm.clock)))
           ∙ tree-whole w r.is.whole x.acts r.is.from x.vm.clock r.stands.going;
     }
 
@@ -139,13 +139,13 @@ brought-stands x new s b = subst Stands (sym b.same) (there b.same b.profile b.c
   y : Parts
   y = record x { tree = new.tree; buffer = new.buffer }
 
-  there : new ≡ y → profile_in new ≡ credited x.vm.clock (profile_in x) → calls_in new ≤ calls_in x → AreFit new → Stands y
+  there : new ≡ y → profile_in new ≡ steps_credited x.vm.clock (profile_in x) → calls_in new ≤ calls_in x → AreFit new → Stands y
   there same profile calls fit =
       let r = s.rests in
       let c = x.vm.clock in
-      let profile_y : profile_in y ≡ credited c (profile_in x) = sym (ap profile_in same) ∙ profile in
+      let profile_y : profile_in y ≡ steps_credited c (profile_in x) = sym (ap profile_in same) ∙ profile in
       let calls_y : calls_in y ≤ calls_in x = subst (λ (z : Parts). calls_in z ≤ calls_in x) same calls in
-      let twice : credited c (profile_in y) ≡ credited c (profile_in x) = ap (credited c) profile_y ∙ credits-add c c (profile_in x) (profile-clock x r.is.fit) (omega arith) in
+      let twice : steps_credited c (profile_in y) ≡ steps_credited c (profile_in x) = ap (steps_credited c) profile_y ∙ credits-add c c (profile_in x) (profile-clock x r.is.fit) (omega arith) in
       let kept : kept_in x ≡ kept_in y = ap (λ path. let k : Kept = record { seen = seen_by (revealed_in x) path; swaps = x.swaps } in k) (sym (ap (λ (q : Profile). q.open) profile_y)) in
       record {
         rests = record {

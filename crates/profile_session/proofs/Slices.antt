@@ -6,7 +6,7 @@ use Rattle.jvm_machine.specs.declared.turn.Turn.{Turn}
 use Rattle.jvm_machine.specs.declared.turn.Turn.TheVariants.{Settled}
 use Rattle.jvm_machine.specs.Several.{Passes, RunsOn, none, more}
 use Rattle.jvm_machine.specs.Turns.{Turns}
-use Rattle.jvm_machine.specs.View.{View, IsGoingOn, advanced, begun, has_ended, is_resting, world, events_left}
+use Rattle.jvm_machine.specs.View.{View, IsGoingOn, clock_advanced, step_begun, has_ended, is_resting, world, events_left}
 use Rattle.profile_session.specs.declared.parts.Parts.{Parts}
 use Rattle.profile_session.specs.Advances.{After, Finished, Goes, Makes, Ran, Sliced, Stays, Tells}
 use Rattle.std.specs.Prelude.{MatchResult}
@@ -29,10 +29,10 @@ and-false false = refl
 pub rest-going : (x : Parts) → has_ended x.vm ≡ false → IsGoingOn x.vm
 rest-going x e = ap (λ b. is_resting x.vm && b) e ∙ and-false (is_resting x.vm)
 
-pub busy-clock : (x : Parts) → IsBusy x → (begun x.vm).clock ≡ x.vm.clock
+pub busy-clock : (x : Parts) → IsBusy x → (step_begun x.vm).clock ≡ x.vm.clock
 busy-clock x busy = ap (λ (v : View). v.clock) (begun-busy x.vm busy.busy)
 
-pub rest-clock : (x : Parts) → Rests x → (begun x.vm).clock ≡ next_step x.vm
+pub rest-clock : (x : Parts) → Rests x → (step_begun x.vm).clock ≡ next_step x.vm
 rest-clock x r = ap (λ (v : View). v.clock) (begun-is x.vm r.stands.resting)
 
 pub turn-hearable : (x : Parts) (v : View) (turn : Turn) → IsBusy x → Turns x.vm turn v → is_telling turn ≡ true → x.vm.clock < 9223372036854775808 → IsHearable (record x { vm = v }) turn
@@ -62,7 +62,7 @@ passed x _ _ r on (more n mid v before t) =
     let es = b.rests.delivered in
     let up = clock-rises y es v (rests b.rests.stands) went in
     let stands : AtRest x.acts (world mid) es (kept_in x) v = passes (world mid) b.rests.is.whole x.acts b.rests.is.from es (kept_in x) mid v b.rests.stands t in
-    let begun_mid : begun mid ≡ advanced mid = begun-is mid b.rests.stands.resting in
+    let begun_mid : step_begun mid ≡ clock_advanced mid = begun-is mid b.rests.stands.resting in
     let clock : v.clock ≡ next_step mid = went.clock ∙ ap (λ (y : View). y.clock) begun_mid in
     let started : v.started ≡ true = went.started ∙ ap (λ (y : View). y.started) begun_mid in
     let after_next : next_step v ≡ v.clock + 1 = ap (λ b. if b then v.clock + 1 else 0) started in

@@ -19,7 +19,7 @@ use Rattle.jvm_model.specs.Turns.Pauses.{begin_kind, end_due, Stop, passed_by, s
 use Rattle.jvm_model.specs.Running.Run.{before, run, turn}
 use Rattle.jvm_model.specs.Turns.Rest.{loads_first}
 use Rattle.jvm_machine.specs.Turns.{TellsLoads}
-use Rattle.jvm_machine.specs.View.{View, IsGoingOn, has_ended, world, advanced, begun, is_resting, to_come, loads_next, next_stop, next_event, stopped, rested, events_left, live_then}
+use Rattle.jvm_machine.specs.View.{View, IsGoingOn, has_ended, world, clock_advanced, step_begun, is_resting, to_come, loads_next, next_stop, next_event, step_stopped, step_rested, events_left, live_then}
 use Rattle.jvm_model.specs.Rewriting.StandsFor.{mark_at}
 use Rattle.jvm_model.specs.Turns.Told.{Held, held_after, held_in, all_held, changes_told}
 use Rattle.jvm_model.specs.declared.event.EventKind.{EventKind}
@@ -254,18 +254,18 @@ module _ (w : World) (is : IsWhole w.program) (acts : List Act) (from : AreFrom 
       at true same = ap (λ m. is_some (run w m).ending) (eqb-true m v.clock same) ∙ now
       at false other = r.going m (let ne = eqb-false m v.clock other in omega (arith, less, ne))
 
-  begun-is : (v : View) → is_resting v ≡ true → begun v ≡ advanced v
-  begun-is v e = ap (λ b. let r : View = if b then advanced v else v in r) e
+  begun-is : (v : View) → is_resting v ≡ true → step_begun v ≡ clock_advanced v
+  begun-is v e = ap (λ b. let r : View = if b then clock_advanced v else v in r) e
 
-  pub begins : (es : List Event) (k : Kept) (v : View) → AtRest acts w es k v → IsGoingOn v → loads_next (advanced v) ≡ [] → InStep acts w es k (advanced v)
+  pub begins : (es : List Event) (k : Kept) (v : View) → AtRest acts w es k v → IsGoingOn v → loads_next (clock_advanced v) ≡ [] → InStep acts w es k (clock_advanced v)
   begins es k v r on none_loaded =
       let n = next_step v in
       let resting = r.resting in
       let changes = (turn w n).changes in
       let parts = and_parts (v.passed == 0) (not v.delivered) resting in
-      let coming : to_come (advanced v) ≡ changes = ap₂ (λ a b. drop a (turn b n).changes) (zero-is v.passed parts.0) r.same in
+      let coming : to_come (clock_advanced v) ≡ changes = ap₂ (λ a b. drop a (turn b n).changes) (zero-is v.passed parts.0) r.same in
       let no_loads : loads_of changes ≡ [] = first-of changes (run-ordered w (original w.program) n) ∙ (ap loads_first (sym coming) ∙ none_loaded) in
-      sets-out es k (advanced v) changes (record {
+      sets-out es k (clock_advanced v) changes (record {
         same = r.same;
         whole = r.whole;
         going = going-next es k v resting on r;
@@ -313,19 +313,19 @@ module _ (w : World) (is : IsWhole w.program) (acts : List Act) (from : AreFrom 
     parts : (old.passed ≡ 0) × (old.delivered ≡ false)
     parts = let ps = and_parts (old.passed == 0) (not old.delivered) is.first in (zero-is old.passed ps.0, not-is old.delivered ps.1)
 
-    coming : to_come (advanced old) ≡ changes
+    coming : to_come (clock_advanced old) ≡ changes
     coming = ap₂ (λ a b. drop a (turn b n).changes) parts.0 r.same
 
     loaded : loads_first changes ≡ classes
     loaded = ap loads_first (sym coming) ∙ (ap loads_next (sym (begun-is old is.first)) ∙ is.loads)
 
-    at : (new : View) → new ≡ record (advanced old) { passed = 1 }
-        → let behind : Kept = kept_load p n k classes in InStep acts w es behind (record (advanced old) { passed = 1; marks = marks_seen p behind.seen })
+    at : (new : View) → new ≡ record (clock_advanced old) { passed = 1 }
+        → let behind : Kept = kept_load p n k classes in InStep acts w es behind (record (clock_advanced old) { passed = 1; marks = marks_seen p behind.seen })
     at new e =
         let some = some-front classes is.some in
         let first = first-loads changes some.0 some.1 (loaded ∙ some.2) in
         let behind : Kept = kept_load p n k classes in
-        sets-out es behind (record (advanced old) { passed = 1; marks = marks_seen p behind.seen }) (drop 1 changes) (record {
+        sets-out es behind (record (clock_advanced old) { passed = 1; marks = marks_seen p behind.seen }) (drop 1 changes) (record {
           same = r.same;
           whole = r.whole;
           going = going-next es k old is.first is.went_on r;
@@ -343,23 +343,23 @@ module _ (w : World) (is : IsWhole w.program) (acts : List Act) (from : AreFrom 
           moments = later-moments old.clock n acts r.moments (clock-up old r.before_the_run);
         })
 
-    there : (new : View) → new ≡ record (begun old) { passed = 1 }
+    there : (new : View) → new ≡ record (step_begun old) { passed = 1 }
         → let behind : Kept = kept_load p new.clock k classes in InStep acts w es behind (record new { marks = marks_seen p behind.seen })
     there new e =
-        let e' : new ≡ record (advanced old) { passed = 1 } = e ∙ ap (λ (v : View). let r : View = record v { passed = 1 } in r) (begun-is old is.first) in
+        let e' : new ≡ record (clock_advanced old) { passed = 1 } = e ∙ ap (λ (v : View). let r : View = record v { passed = 1 } in r) (begun-is old is.first) in
         subst (λ (x : View). let behind : Kept = kept_load p x.clock k classes in InStep acts w es behind (record x { marks = marks_seen p behind.seen })) (sym e') (at new e')
 
   -- ---- an event
 
-  stays-ordered : (v : View) → AreOrdered (to_come v) → AreOrdered (to_come (stopped v))
+  stays-ordered : (v : View) → AreOrdered (to_come v) → AreOrdered (to_come (step_stopped v))
   stays-ordered v order =
       let is = stop_from-is (mark_at v.marks) v.clock v.delivered v.passed v.live (to_come v) in
-      let there : to_come (stopped v) ≡ is.more =
+      let there : to_come (step_stopped v) ≡ is.more =
       ap (λ n. drop n (turn (world v) v.clock).changes) is.count ∙ drop-passed v.passed is.passed is.more (turn (world v) v.clock).changes is.all in
       subst AreOrdered (sym there) (ordered-behind is.passed is.more (subst AreOrdered is.all order))
 
   -- nothing is left behind an event that opens a path
-  none-left : (v : View) (path : List ℕ) (e : Event) → AreOrdered (to_come v) → next_event v ≡ Some e → opens path e.kind ≡ true → to_come (stopped v) ≡ []
+  none-left : (v : View) (path : List ℕ) (e : Event) → AreOrdered (to_come v) → next_event v ≡ Some e → opens path e.kind ≡ true → to_come (step_stopped v) ≡ []
   none-left v path e order delivered opening =
       let changes = (turn (world v) v.clock).changes in
       let all = from-last (mark_at v.marks) v.clock path e opening v.delivered (to_come v) order v.passed v.live delivered in
@@ -371,18 +371,18 @@ module _ (w : World) (is : IsWhole w.program) (acts : List Act) (from : AreFrom 
 
   goes-on : (es : List Event) (k : Kept) (v : View) (e : Event) (later : Kept) (marks : List Mark) → InStep acts w es k v → next_event v ≡ Some e → later ≡ kept_event p k e
       → marks ≡ marks_seen p later.seen
-      → events_left (record (stopped v) { marks = marks }) ≡ events_left (stopped v) → live_then (record (stopped v) { marks = marks }) ≡ live_then (stopped v)
-      → (new : View) → new ≡ record (stopped v) { marks = marks } → InStep acts w (es ++ e ∷ []) later new × (events_left new ≡ events_left (stopped v))
+      → events_left (record (step_stopped v) { marks = marks }) ≡ events_left (step_stopped v) → live_then (record (step_stopped v) { marks = marks }) ≡ live_then (step_stopped v)
+      → (new : View) → new ≡ record (step_stopped v) { marks = marks } → InStep acts w (es ++ e ∷ []) later new × (events_left new ≡ events_left (step_stopped v))
   goes-on es k v e later marks s delivered is_later marked events lives new is_new =
-      let tells : events_left v ≡ e ∷ events_left (stopped v) = stop-tells v e delivered in
-      subst (λ (x : View). InStep acts w (es ++ e ∷ []) later x × (events_left x ≡ events_left (stopped v))) (sym is_new) (
+      let tells : events_left v ≡ e ∷ events_left (step_stopped v) = stop-tells v e delivered in
+      subst (λ (x : View). InStep acts w (es ++ e ∷ []) later x × (events_left x ≡ events_left (step_stopped v))) (sym is_new) (
         record {
           same = s.same;
           whole = s.whole;
           going = s.going;
           started = s.started;
           kept = ap₂ (λ k es. fold (kept_event p) k es) is_later events ∙ (ap (fold (kept_event p) k) (sym tells) ∙ s.kept);
-          delivered = ap (λ l. (es ++ e ∷ []) ++ l) events ∙ (append_assoc es (e ∷ []) (events_left (stopped v)) ∙ (ap (λ l. es ++ l) (sym tells) ∙ s.delivered));
+          delivered = ap (λ l. (es ++ e ∷ []) ++ l) events ∙ (append_assoc es (e ∷ []) (events_left (step_stopped v)) ∙ (ap (λ l. es ++ l) (sym tells) ∙ s.delivered));
           lives = lives ∙ (stop-lives v ∙ s.lives);
           marks = marked;
           loaded = ap (λ (k : Kept). k.seen.loaded) is_later ∙ (ap (λ (s : Seen). s.loaded) (event-seen p k e) ∙ s.loaded);
@@ -395,24 +395,24 @@ module _ (w : World) (is : IsWhole w.program) (acts : List Act) (from : AreFrom 
 
   -- behind an event that opens a path, with the images installed
   pub opened : (es : List Event) (k : Kept) (v : View) (e : Event) → InStep acts w es k v → next_event v ≡ Some e → opens k.seen.open e.kind ≡ true → (new : View)
-      → (let later : Kept = at_point p e.clock k (seen_event k.seen e) in new ≡ record (stopped v) { marks = marks_seen p later.seen })
-      → InStep acts w (es ++ e ∷ []) (at_point p e.clock k (seen_event k.seen e)) new × (events_left new ≡ events_left (stopped v))
+      → (let later : Kept = at_point p e.clock k (seen_event k.seen e) in new ≡ record (step_stopped v) { marks = marks_seen p later.seen })
+      → InStep acts w (es ++ e ∷ []) (at_point p e.clock k (seen_event k.seen e)) new × (events_left new ≡ events_left (step_stopped v))
   opened es k v e s delivered opening new is_new =
       let later : Kept = at_point p e.clock k (seen_event k.seen e) in
       let marks = marks_seen p later.seen in
       let nothing = none-left v k.seen.open e s.order delivered opening in
       let is_later : later ≡ kept_event p k e = ap (λ b. let r : Kept = if b then later else record k { seen = seen_event k.seen e } in r) (sym opening) in
       goes-on es k v e later marks s delivered is_later refl
-      (ap (told_from (mark_at marks) v.clock (stopped v).delivered (stopped v).live) nothing
-      ∙ (none-told (mark_at marks) v.clock (stopped v).delivered (stopped v).live
-      ∙ (sym (none-told (mark_at v.marks) v.clock (stopped v).delivered (stopped v).live)
-      ∙ ap (told_from (mark_at v.marks) v.clock (stopped v).delivered (stopped v).live) (sym nothing))))
-      (ap (all_held (mark_at marks) (stopped v).live) nothing ∙ ap (all_held (mark_at v.marks) (stopped v).live) (sym nothing))
+      (ap (told_from (mark_at marks) v.clock (step_stopped v).delivered (step_stopped v).live) nothing
+      ∙ (none-told (mark_at marks) v.clock (step_stopped v).delivered (step_stopped v).live
+      ∙ (sym (none-told (mark_at v.marks) v.clock (step_stopped v).delivered (step_stopped v).live)
+      ∙ ap (told_from (mark_at v.marks) v.clock (step_stopped v).delivered (step_stopped v).live) (sym nothing))))
+      (ap (all_held (mark_at marks) (step_stopped v).live) nothing ∙ ap (all_held (mark_at v.marks) (step_stopped v).live) (sym nothing))
       new is_new
 
   -- behind another event
   pub unopened : (es : List Event) (k : Kept) (v : View) (e : Event) → InStep acts w es k v → next_event v ≡ Some e → opens k.seen.open e.kind ≡ false
-      → (new : View) → new ≡ stopped v → InStep acts w (es ++ e ∷ []) (record k { seen = seen_event k.seen e }) new × (events_left new ≡ events_left (stopped v))
+      → (new : View) → new ≡ step_stopped v → InStep acts w (es ++ e ∷ []) (record k { seen = seen_event k.seen e }) new × (events_left new ≡ events_left (step_stopped v))
   unopened es k v e s delivered shut new is_new =
       let later : Kept = record k { seen = seen_event k.seen e } in
       let is_later : later ≡ kept_event p k e = ap (λ b. let r : Kept = if b then at_point p e.clock k (seen_event k.seen e) else later in r) (sym shut) in
@@ -424,12 +424,12 @@ module _ (w : World) (is : IsWhole w.program) (acts : List Act) (from : AreFrom 
   -- ---- the end of a step
 
   pub settles : (es : List Event) (k : Kept) (v : View) → InStep acts w es k v → (next_stop v).due ≡ Nothing → (new : View)
-      → new ≡ record (rested v) { marks = marks_seen p (kept_end p v.clock k).seen } → AtRest acts w es (kept_end p v.clock k) new
+      → new ≡ record (step_rested v) { marks = marks_seen p (kept_end p v.clock k).seen } → AtRest acts w es (kept_end p v.clock k) new
   settles es k v s nothing new is_new =
       let n = v.clock in
       let none : events_left v ≡ [] = end-tells v nothing in
       let kept_now : k ≡ kept_behind acts w n = ap (fold (kept_event p) k) (sym none) ∙ s.kept in
-      let next : next_step (rested v) ≡ suc n = ap (λ b. if b then n + 1 else 0) s.started ∙ add-one n in
+      let next : next_step (step_rested v) ≡ suc n = ap (λ b. if b then n + 1 else 0) s.started ∙ add-one n in
       let no_acts : acts_behind n acts ≡ [] = s.none n (omega arith) in
       subst (AtRest acts w es (kept_end p n k)) (sym is_new) (record {
         same = s.same;

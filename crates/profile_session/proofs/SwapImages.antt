@@ -10,7 +10,7 @@ use Rattle.jvm_model.specs.declared.program.Program.{Program}
 use Rattle.jvm_model.specs.Profiling.Points.{Standing, mark_in}
 use Rattle.jvm_model.specs.Basis.Programs.{class_at, no_class}
 use Rattle.jvm_model.specs.Profiling.Revealed.{Revealed, revealed_in}
-use Rattle.jvm_model.specs.Profiling.Swaps.{HasBytes, Point, Swapped, differs, first_number, same_mark, swapped, swapped_at, swaps_from}
+use Rattle.jvm_model.specs.Profiling.Swaps.{HasBytes, Point, Swapped, differs, first_number, same_mark, class_swapped, swapped_at, swaps_from}
 use Rattle.jvm_model.specs.Profiling.Targets.{operations_of}
 use Rattle.inject_events.specs.declared.image.Image.{Image}
 use Rattle.inject_events.specs.Answers.{IsProfilable, IsReadableClass, MarkedHaveCode}
@@ -75,12 +75,12 @@ module _ (p : Program) (is : AreImageable p) where
       (there.class, ap (class_at p) (sym at) ∙ there.found)
 
   at-point : (before : Standing) (now : Point) (classes : List ℕ)
-      → AllByRecursion (IsEntry p) (map (swapped p (operations_of p) now) (filter (differs p (operations_of p) before now.standing) classes))
+      → AllByRecursion (IsEntry p) (map (class_swapped p (operations_of p) now) (filter (differs p (operations_of p) before now.standing) classes))
   at-point before now [] = tt
   at-point before now (c ∷ classes) = by (differs p (operations_of p) before now.standing c) refl (at-point before now classes) where
     by : (b : Bool) → differs p (operations_of p) before now.standing c ≡ b
-        → AllByRecursion (IsEntry p) (map (swapped p (operations_of p) now) (filter (differs p (operations_of p) before now.standing) classes))
-        → AllByRecursion (IsEntry p) (map (swapped p (operations_of p) now) (if b then c ∷ filter (differs p (operations_of p) before now.standing) classes else filter (differs p (operations_of p) before now.standing) classes))
+        → AllByRecursion (IsEntry p) (map (class_swapped p (operations_of p) now) (filter (differs p (operations_of p) before now.standing) classes))
+        → AllByRecursion (IsEntry p) (map (class_swapped p (operations_of p) now) (if b then c ∷ filter (differs p (operations_of p) before now.standing) classes else filter (differs p (operations_of p) before now.standing) classes))
     by true e rest =
         let found = class-found before now.standing c e in
         (record { now = revealed_in now.standing; marks_are = refl; class_is = found.0; found = found.1 }, rest)

@@ -21,7 +21,7 @@ use Rattle.jvm_model.proofs.Events.Marked as marked
 use Rattle.jvm_model.proofs.Events.Marked.{suits-run}
 use Rattle.jvm_model.specs.Soundness.Calls.{AreFrom, IsTold}
 use Rattle.std.specs.Option.{option_map_or}
-use Rattle.jvm_model.specs.Profiling.Activations.{Activation, Trace, all_changed, current, changed, trace_before}
+use Rattle.jvm_model.specs.Profiling.Activations.{Activation, Trace, all_changed, current, trace_changed, trace_before}
 use Rattle.jvm_model.specs.Basis.Data.{Change, Loads, Began, Left, Unwound, World}
 use Rattle.jvm_model.specs.Profiling.EventLists.{Marking, all_told, begin_events, current_activation, end_events, end_of, step_events, events_told}
 use Rattle.jvm_model.specs.Running.Changes.{EndThenBegin, AreOrdered}
@@ -34,13 +34,13 @@ use Rattle.context_tree.proofs.Projected.{Telling, in_full, outside, gone_on, is
 use Rattle.context_tree.proofs.SeenRuns.{acts-match, after-trace, change-matches, end-matches, settled-trace, first-suited}
 use Rattle.jvm_model.specs.Soundness.Suited.{Suits, AreSuited, StaySuited}
 use Rattle.context_tree.specs.Counts.{opens}
-use Rattle.jvm_model.specs.Profiling.Points.{Standing, acts_at, acts_behind, after_act, after_acts, chosen, marking_of, settled, standing_in, standing_in-zero, standing_in-suc, after_change, after_changes, is_profiled, nothing, with_entered}
+use Rattle.jvm_model.specs.Profiling.Points.{Standing, acts_at, acts_behind, after_act, after_acts, methods_selected, marking_of, standing_settled, standing_in, standing_in-zero, standing_in-suc, after_change, after_changes, is_profiled, nothing, with_entered}
 use Rattle.context_tree.specs.Seen.{Matches, Seen, open_of, seen_act, seen_end, seen_event}
 use Rattle.jvm_model.specs.Profiling.Swaps.{Point, Swapped, act_points, points_before, points_in, points_in-zero, points_in-suc, step_points, change_point, change_points, point, last_standing, swapped_at, swaps_from}
 use Rattle.jvm_model.specs.Profiling.Targets.{operations_of}
 use Rattle.jvm_model.specs.Profiling.Revealed.{Revealed, changed_of, revealed_in}
 use Rattle.profile_session.specs.Images.{marks_for}
-use Rattle.profile_session.specs.Keeping.{Kept, at_point, first_kept, is_idle, kept_act, kept_acts, kept_before, kept_by-zero, kept_by-suc, kept_end, kept_event, kept_load, kept_told, revealed, swap_of, swapped_now}
+use Rattle.profile_session.specs.Keeping.{Kept, at_point, first_kept, is_idle, kept_act, kept_acts, kept_before, kept_by-zero, kept_by-suc, kept_end, kept_event, kept_load, kept_told, methods_revealed, swap_of, swapped_now}
 use Rattle.profile_session.proofs.Joins.{ends-load, events-seen}
 use Rattle.profile_session.proofs.Passing.{none-changed}
 
@@ -66,9 +66,9 @@ map-now : (p : Program) (clock : ℕ) (r : Revealed) (classes : List ℕ) → sw
 map-now p clock r [] = refl
 map-now p clock r (c ∷ more) = ap (λ l. swap_of p (entry_now p clock r c) ∷ l) (map-now p clock r more)
 
-matched : (acts : List Act) (seen : Seen) (s : Standing) → Matches acts seen s → revealed seen ≡ revealed_in s
+matched : (acts : List Act) (seen : Seen) (s : Standing) → Matches acts seen s → methods_revealed seen ≡ revealed_in s
 matched acts seen s m =
-    ap (λ l. let r : Revealed = record (revealed seen) { selected = l } in r) m.selected
+    ap (λ l. let r : Revealed = record (methods_revealed seen) { selected = l } in r) m.selected
     ∙ (ap (λ l. let r : Revealed = record { selected = s.selected; entered = l; loaded = seen.loaded } in r) m.entered
     ∙ ap (λ l. let r : Revealed = record { selected = s.selected; entered = s.entered; loaded = l } in r) m.loaded)
 
@@ -84,12 +84,12 @@ module _ (acts : List Act) (w : World) where
 
   -- a point
   pub at-point : (k later : Kept) (s after : Standing) (ps : List Point) (clock : ℕ) → Tracks k s ps → Matches acts later.seen after
-      → later.swaps ≡ k.swaps ++ swapped_now p clock (revealed later.seen) (changed_of p (revealed k.seen) (revealed later.seen)) → Tracks later after (ps ++ point clock after ∷ [])
+      → later.swaps ≡ k.swaps ++ swapped_now p clock (methods_revealed later.seen) (changed_of p (methods_revealed k.seen) (methods_revealed later.seen)) → Tracks later after (ps ++ point clock after ∷ [])
   at-point k later s after ps clock t m is =
       let before = last_standing (nothing w) ps in
-      let was : revealed k.seen ≡ revealed_in before = matched acts k.seen s t.matches ∙ sym t.last in
-      let now : revealed later.seen ≡ revealed_in after = matched acts later.seen after m in
-      let mine : changed_of p (revealed k.seen) (revealed later.seen) ≡ changed_of p (revealed_in before) (revealed_in after) = ap₂ (changed_of p) was now in
+      let was : methods_revealed k.seen ≡ revealed_in before = matched acts k.seen s t.matches ∙ sym t.last in
+      let now : methods_revealed later.seen ≡ revealed_in after = matched acts later.seen after m in
+      let mine : changed_of p (methods_revealed k.seen) (methods_revealed later.seen) ≡ changed_of p (revealed_in before) (revealed_in after) = ap₂ (changed_of p) was now in
       record {
         matches = m;
         last = ap revealed_in (last-push (nothing w) ps (point clock after));
@@ -102,10 +102,10 @@ module _ (acts : List Act) (w : World) where
 
   -- a point at which nothing is other than before
   pub at-same : (k later : Kept) (s after : Standing) (ps : List Point) (clock : ℕ) → Tracks k s ps → Matches acts later.seen after → later.swaps ≡ k.swaps
-      → revealed later.seen ≡ revealed k.seen → Tracks later after (ps ++ point clock after ∷ [])
+      → methods_revealed later.seen ≡ methods_revealed k.seen → Tracks later after (ps ++ point clock after ∷ [])
   at-same k later s after ps clock t m is same =
       at-point k later s after ps clock t m
-      (is ∙ (sym (append-nil k.swaps) ∙ ap (λ l. k.swaps ++ swapped_now p clock (revealed later.seen) l) (sym (none-changed p (revealed k.seen)) ∙ ap (changed_of p (revealed k.seen)) (sym same))))
+      (is ∙ (sym (append-nil k.swaps) ∙ ap (λ l. k.swaps ++ swapped_now p clock (methods_revealed later.seen) l) (sym (none-changed p (methods_revealed k.seen)) ∙ ap (changed_of p (methods_revealed k.seen)) (sym same))))
 
   -- no point
   pub at-none : (k later : Kept) (s after : Standing) (ps : List Point) → Tracks k s ps → Matches acts later.seen after → later.swaps ≡ k.swaps → revealed_in after ≡ revealed_in s → Tracks later after ps
@@ -122,20 +122,20 @@ end-swaps p k_ never step method Root k = ap (λ b. let e : Event = record { kin
 -- a begin is one exactly where it is profiled
 pub begin-swaps : (p : Program) (step method : ℕ) (root : Bool) (path : List ℕ) (mark : Mark) → Telling method root path mark → (k : Kept) → k.seen.open ≡ path
     → (let later : Kept = fold (kept_event p) k (begin_events step method mark) in
-    later.swaps ≡ (if is_inside (gone_on method root path) then k.swaps ++ swapped_now p step (revealed later.seen) (changed_of p (revealed k.seen) (revealed later.seen)) else k.swaps))
+    later.swaps ≡ (if is_inside (gone_on method root path) then k.swaps ++ swapped_now p step (methods_revealed later.seen) (changed_of p (methods_revealed k.seen) (methods_revealed later.seen)) else k.swaps))
 begin-swaps p step method root path mark (outside e gone empty) k at =
     subst (λ m. let later : Kept = fold (kept_event p) k (begin_events step method m) in
-    later.swaps ≡ (if is_inside (gone_on method root path) then k.swaps ++ swapped_now p step (revealed later.seen) (changed_of p (revealed k.seen) (revealed later.seen)) else k.swaps)) (sym e)
-    (sym (ap (λ q. if is_inside q then k.swaps ++ swapped_now p step (revealed k.seen) (changed_of p (revealed k.seen) (revealed k.seen)) else k.swaps) gone))
+    later.swaps ≡ (if is_inside (gone_on method root path) then k.swaps ++ swapped_now p step (methods_revealed later.seen) (changed_of p (methods_revealed k.seen) (methods_revealed later.seen)) else k.swaps)) (sym e)
+    (sym (ap (λ q. if is_inside q then k.swaps ++ swapped_now p step (methods_revealed k.seen) (changed_of p (methods_revealed k.seen) (methods_revealed k.seen)) else k.swaps) gone))
 begin-swaps p step method root path mark (in_full e) k at =
     subst (λ m. let later : Kept = fold (kept_event p) k (begin_events step method m) in
-    later.swaps ≡ (if is_inside (gone_on method root path) then k.swaps ++ swapped_now p step (revealed later.seen) (changed_of p (revealed k.seen) (revealed later.seen)) else k.swaps)) (sym e)
+    later.swaps ≡ (if is_inside (gone_on method root path) then k.swaps ++ swapped_now p step (methods_revealed later.seen) (changed_of p (methods_revealed k.seen) (methods_revealed later.seen)) else k.swaps)) (sym e)
     (by root)
   where
     same : (event : Event) → (b c : Bool) → b ≡ c → event.clock ≡ step
         → (let later : Kept = if b then at_point p event.clock k (seen_event k.seen event) else record k { seen = seen_event k.seen event } in
-        later.swaps ≡ (if c then k.swaps ++ swapped_now p step (revealed later.seen) (changed_of p (revealed k.seen) (revealed later.seen)) else k.swaps))
-    same event true true q clock = ap (λ n. k.swaps ++ swapped_now p n (revealed (seen_event k.seen event)) (changed_of p (revealed k.seen) (revealed (seen_event k.seen event)))) clock
+        later.swaps ≡ (if c then k.swaps ++ swapped_now p step (methods_revealed later.seen) (changed_of p (methods_revealed k.seen) (methods_revealed later.seen)) else k.swaps))
+    same event true true q clock = ap (λ n. k.swaps ++ swapped_now p n (methods_revealed (seen_event k.seen event)) (changed_of p (methods_revealed k.seen) (methods_revealed (seen_event k.seen event)))) clock
     same event false false q clock = refl
     same event true false q clock = absurd (let h : true ≡ false = q in cc)
     same event false true q clock = absurd (let h : false ≡ true = q in cc)
@@ -145,7 +145,7 @@ begin-swaps p step method root path mark (in_full e) k at =
     goes false = refl
 
     by : (root : Bool) → (let later : Kept = fold (kept_event p) k (begin_events step method (if root then Root else Plain)) in
-        later.swaps ≡ (if is_inside (gone_on method root path) then k.swaps ++ swapped_now p step (revealed later.seen) (changed_of p (revealed k.seen) (revealed later.seen)) else k.swaps))
+        later.swaps ≡ (if is_inside (gone_on method root path) then k.swaps ++ swapped_now p step (methods_revealed later.seen) (changed_of p (methods_revealed k.seen) (methods_revealed later.seen)) else k.swaps))
     by true = same (record { kind = kind.Root; method = method; clock = step }) true (is_inside (path ++ method ∷ [])) (sym (is_inside-push path method)) refl
     by false = same (record { kind = kind.Enter; method = method; clock = step }) (is_inside k.seen.open) (is_inside (gone_on method false path)) (ap is_inside at ∙ goes (is_inside path)) refl
 
@@ -173,7 +173,7 @@ module _ (acts : List Act) (w : World) (marking : Marking) (step : ℕ) where
     by (Some a) = end-swaps w.program k_ never step a.method (marking a.begin a.method) k
 
   one-change : (k : Kept) (s : Standing) (ps : List Point) (c : Change) → ((classes : List ℕ) → c ≡ Loads classes → ⊥) → IsTrace s.trace → AreSuited acts marking s.trace.activations
-      → AreSuited acts marking (changed step s.trace c).activations → Tracks acts w k s ps → Goes k s ps c
+      → AreSuited acts marking (trace_changed step s.trace c).activations → Tracks acts w k s ps → Goes k s ps c
   one-change k s ps (Loads classes) other is suited then_suited t = absurd (other classes refl)
   one-change k s ps Left other is suited then_suited t =
       no-point k (heard k s.trace Left) s (after_change acts step s Left) ps t
@@ -196,23 +196,23 @@ module _ (acts : List Act) (w : World) (marking : Marking) (step : ℕ) where
       let m : Matches acts (heard k s.trace (Began method)).seen (after_change acts step s (Began method)) =
       subst (λ x. Matches acts x (after_change acts step s (Began method))) (sym (events-seen w.program (events_told marking step s.trace (Began method)) k))
       (change-matches acts marking step k.seen s (Began method) other is suited then_suited t.matches) in
-      by (is_profiled acts (changed step s.trace (Began method))) refl (swaps ∙ ap (λ q. if is_inside q then
-      k.swaps ++ swapped_now w.program step (revealed (heard k s.trace (Began method)).seen) (changed_of w.program (revealed k.seen) (revealed (heard k s.trace (Began method)).seen)) else k.swaps) (sym last)) m
+      by (is_profiled acts (trace_changed step s.trace (Began method))) refl (swaps ∙ ap (λ q. if is_inside q then
+      k.swaps ++ swapped_now w.program step (methods_revealed (heard k s.trace (Began method)).seen) (changed_of w.program (methods_revealed k.seen) (methods_revealed (heard k s.trace (Began method)).seen)) else k.swaps) (sym last)) m
     where
-      by : (b : Bool) → is_profiled acts (changed step s.trace (Began method)) ≡ b
-          → (heard k s.trace (Began method)).swaps ≡ (if is_profiled acts (changed step s.trace (Began method)) then
-          k.swaps ++ swapped_now w.program step (revealed (heard k s.trace (Began method)).seen) (changed_of w.program (revealed k.seen) (revealed (heard k s.trace (Began method)).seen)) else k.swaps)
+      by : (b : Bool) → is_profiled acts (trace_changed step s.trace (Began method)) ≡ b
+          → (heard k s.trace (Began method)).swaps ≡ (if is_profiled acts (trace_changed step s.trace (Began method)) then
+          k.swaps ++ swapped_now w.program step (methods_revealed (heard k s.trace (Began method)).seen) (changed_of w.program (methods_revealed k.seen) (methods_revealed (heard k s.trace (Began method)).seen)) else k.swaps)
           → Matches acts (heard k s.trace (Began method)).seen (after_change acts step s (Began method)) → Goes k s ps (Began method)
       by true e swaps m =
           let after = after_change acts step s (Began method) in
           subst (λ b. Tracks acts w (heard k s.trace (Began method)) after (ps ++ (if b then point step after ∷ [] else []))) (sym e)
           (at-point acts w k (heard k s.trace (Began method)) s after ps step t m
-          (swaps ∙ ap (λ b. if b then k.swaps ++ swapped_now w.program step (revealed (heard k s.trace (Began method)).seen) (changed_of w.program (revealed k.seen) (revealed (heard k s.trace (Began method)).seen)) else k.swaps) e))
+          (swaps ∙ ap (λ b. if b then k.swaps ++ swapped_now w.program step (methods_revealed (heard k s.trace (Began method)).seen) (changed_of w.program (methods_revealed k.seen) (methods_revealed (heard k s.trace (Began method)).seen)) else k.swaps) e))
       by false e swaps m =
           let after = after_change acts step s (Began method) in
           subst (λ b. Tracks acts w (heard k s.trace (Began method)) after (ps ++ (if b then point step after ∷ [] else []))) (sym e)
           (no-point k (heard k s.trace (Began method)) s after ps t m
-          (swaps ∙ ap (λ b. if b then k.swaps ++ swapped_now w.program step (revealed (heard k s.trace (Began method)).seen) (changed_of w.program (revealed k.seen) (revealed (heard k s.trace (Began method)).seen)) else k.swaps) e)
+          (swaps ∙ ap (λ b. if b then k.swaps ++ swapped_now w.program step (methods_revealed (heard k s.trace (Began method)).seen) (changed_of w.program (methods_revealed k.seen) (methods_revealed (heard k s.trace (Began method)).seen)) else k.swaps) e)
           (ap (λ b. let r : Revealed = record (revealed_in s) { entered = if b then with_entered method s.entered else s.entered } in r) e))
 
   then-track : (k : Kept) (s : Standing) (ps : List Point) (c : Change) (more : List Change) → ((classes : List ℕ) → c ≡ Loads classes → ⊥) → IsTrace s.trace
@@ -223,16 +223,16 @@ module _ (acts : List Act) (w : World) (marking : Marking) (step : ℕ) where
   then-track k s ps c more other is stay t rest =
       let next = after_change acts step s c in
       let same = trace-same s c other in
-      let one = one-change k s ps c other is stay.0 (first-suited acts marking step (changed step s.trace c) more stay.1) t in
+      let one = one-change k s ps c other is stay.0 (first-suited acts marking step (trace_changed step s.trace c) more stay.1) t in
       let behind = rest (heard k s.trace c) next (ps ++ change_point acts step c next) (subst IsTrace (sym same) (changed-keeps step s.trace c is))
       (subst (λ t. StaySuited acts marking step t more) (sym same) stay.1) one in
       subst (λ x. Tracks acts w x (after_changes acts step next more) (ps ++ (change_point acts step c next ++ change_points acts step next more)))
-      (sym (fold-both w.program (events_told marking step s.trace c) (all_told marking step (changed step s.trace c) more) k))
+      (sym (fold-both w.program (events_told marking step s.trace c) (all_told marking step (trace_changed step s.trace c) more) k))
       (subst (λ t. Tracks acts w (fold (kept_event w.program) (heard k s.trace c) (all_told marking step t more)) (after_changes acts step next more) (ps ++ (change_point acts step c next ++ change_points acts step next more))) same
       (subst (Tracks acts w (fold (kept_event w.program) (heard k s.trace c) (all_told marking step next.trace more)) (after_changes acts step next more))
       (append_assoc ps (change_point acts step c next) (change_points acts step next more)) behind))
     where
-      trace-same : (s : Standing) (c : Change) → ((classes : List ℕ) → c ≡ Loads classes → ⊥) → (after_change acts step s c).trace ≡ changed step s.trace c
+      trace-same : (s : Standing) (c : Change) → ((classes : List ℕ) → c ≡ Loads classes → ⊥) → (after_change acts step s c).trace ≡ trace_changed step s.trace c
       trace-same s (Loads classes) other = refl
       trace-same s (Began method) other = refl
       trace-same s Left other = refl
@@ -276,17 +276,17 @@ module _ (acts : List Act) (w : World) (marking : Marking) (step : ℕ) where
       (sym (ends-load (Began m ∷ rest) order)) (ends-track (Began m ∷ rest) order k s ps is stay t)
 
   -- the end of the step
-  end-track : (k : Kept) (s : Standing) (ps : List Point) → IsTrace s.trace → Tracks acts w k s ps → Tracks acts w (kept_end w.program step k) (settled acts s) (ps ++ point step (settled acts s) ∷ [])
+  end-track : (k : Kept) (s : Standing) (ps : List Point) → IsTrace s.trace → Tracks acts w k s ps → Tracks acts w (kept_end w.program step k) (standing_settled acts s) (ps ++ point step (standing_settled acts s) ∷ [])
   end-track k s ps is t = by (is_idle k.seen) refl (end-matches acts k.seen s is t.matches) where
-    by : (b : Bool) → is_idle k.seen ≡ b → Matches acts (seen_end k.seen) (settled acts s) → Tracks acts w (kept_end w.program step k) (settled acts s) (ps ++ point step (settled acts s) ∷ [])
+    by : (b : Bool) → is_idle k.seen ≡ b → Matches acts (seen_end k.seen) (standing_settled acts s) → Tracks acts w (kept_end w.program step k) (standing_settled acts s) (ps ++ point step (standing_settled acts s) ∷ [])
     by true e m =
         let later : Kept = at_point w.program step k (record k.seen { entered = [] }) in
-        subst (λ b. Tracks acts w (if b then later else k) (settled acts s) (ps ++ point step (settled acts s) ∷ [])) (sym e)
-        (at-point acts w k later s (settled acts s) ps step t (subst (λ b. Matches acts (if b then record k.seen { entered = [] } else k.seen) (settled acts s)) e m) refl)
+        subst (λ b. Tracks acts w (if b then later else k) (standing_settled acts s) (ps ++ point step (standing_settled acts s) ∷ [])) (sym e)
+        (at-point acts w k later s (standing_settled acts s) ps step t (subst (λ b. Matches acts (if b then record k.seen { entered = [] } else k.seen) (standing_settled acts s)) e m) refl)
     by false e m =
         let later : Kept = at_point w.program step k (record k.seen { entered = [] }) in
-        subst (λ b. Tracks acts w (if b then later else k) (settled acts s) (ps ++ point step (settled acts s) ∷ [])) (sym e)
-        (at-same acts w k k s (settled acts s) ps step t (subst (λ b. Matches acts (if b then record k.seen { entered = [] } else k.seen) (settled acts s)) e m) refl refl)
+        subst (λ b. Tracks acts w (if b then later else k) (standing_settled acts s) (ps ++ point step (standing_settled acts s) ∷ [])) (sym e)
+        (at-same acts w k k s (standing_settled acts s) ps step t (subst (λ b. Matches acts (if b then record k.seen { entered = [] } else k.seen) (standing_settled acts s)) e m) refl refl)
 
   -- the actions behind it
   acts-track : (todo : List Act) → AllByRecursion (λ (a : Act). a.moment ≡ step) todo → (k : Kept) (s : Standing) (ps : List Point) → IsTrace s.trace → Tracks acts w k s ps
@@ -295,9 +295,9 @@ module _ (acts : List Act) (w : World) (marking : Marking) (step : ℕ) where
   acts-track (a ∷ todo) each k s ps is t =
       let next = after_act acts s a in
       let one = at-point acts w k (kept_act w.program k a) s next ps step t (acts-match acts (a ∷ []) k.seen s is t.matches)
-      (ap (λ n. k.swaps ++ swapped_now w.program n (revealed (seen_act k.seen a)) (changed_of w.program (revealed k.seen) (revealed (seen_act k.seen a)))) each.0) in
+      (ap (λ n. k.swaps ++ swapped_now w.program n (methods_revealed (seen_act k.seen a)) (changed_of w.program (methods_revealed k.seen) (methods_revealed (seen_act k.seen a)))) each.0) in
       subst (Tracks acts w (kept_acts w.program (kept_act w.program k a) todo) (after_acts acts next todo)) (append_assoc ps (point step next ∷ []) (act_points acts step next todo))
-      (acts-track todo each.1 (kept_act w.program k a) next (ps ++ point step next ∷ []) (subst IsTrace (sym (settled-trace acts (record s { selected = chosen a s.selected }))) is) one)
+      (acts-track todo each.1 (kept_act w.program k a) next (ps ++ point step next ∷ []) (subst IsTrace (sym (settled-trace acts (record s { selected = methods_selected a s.selected }))) is) one)
 
 filter-moments : (n : ℕ) (acts : List Act) → AllByRecursion (λ (a : Act). a.moment ≡ n) (filter (λ (act : Act). act.moment == n) acts)
 filter-moments n [] = tt
@@ -352,7 +352,7 @@ module _ (w : World) (is : IsWhole w.program) (acts : List Act) (from : AreFrom 
       let there : Tracks acts w behind after (ps ++ change_points acts n s changes) =
       subst (λ es. Tracks acts w (kept_told w.program n k (loads_of changes) es) after (ps ++ change_points acts n s changes)) told_same walked in
       let keeps : IsTrace after.trace = subst IsTrace (sym (after-trace acts m n changes s)) (all-keeps n changes s.trace trace_is) in
-      let ended = settled acts after in
+      let ended = standing_settled acts after in
       let at_end = end-track acts w m n behind after (ps ++ change_points acts n s changes) keeps there in
       let acted = acts-track acts w m n (acts_behind n acts) (behind-moments n acts) (kept_end w.program n behind) ended ((ps ++ change_points acts n s changes) ++ point n ended ∷ [])
       (subst IsTrace (sym (settled-trace acts after)) keeps) at_end in
@@ -365,7 +365,7 @@ module _ (w : World) (is : IsWhole w.program) (acts : List Act) (from : AreFrom 
     where
       all-keeps : (n : ℕ) (changes : List Change) (t : Trace) → IsTrace t → IsTrace (all_changed n t changes)
       all-keeps n [] t is = is
-      all-keeps n (c ∷ more) t is = all-keeps n more (changed n t c) (changed-keeps n t c is)
+      all-keeps n (c ∷ more) t is = all-keeps n more (trace_changed n t c) (changed-keeps n t c is)
 
   -- The swaps that a session keeps are those of the rule.
   pub swaps-are : (n : ℕ) → (kept_before acts w n).swaps ≡ map (swap_of w.program) (swaps_from w.program (operations_of w.program) (nothing w) (points_before acts w (original w.program) n))

@@ -14,7 +14,7 @@ use Rattle.jvm_model.specs.declared.program.MethodPlace.{MethodPlace}
 use Rattle.jvm_model.specs.declared.program.Program.{Program}
 use Rattle.jvm_model.specs.Classes.Load.{is_among}
 use Rattle.jvm_model.specs.Profiling.Points.{is_target}
-use Rattle.jvm_model.specs.Basis.Programs.{number_of_method, numbered}
+use Rattle.jvm_model.specs.Basis.Programs.{number_of_method, methods_numbered}
 use Rattle.jvm_model.specs.Profiling.Revealed.{Revealed, changed_of, mark_of, marks_of, stand_of}
 use Rattle.jvm_model.specs.Rewriting.StandsFor.{mark_at}
 use Rattle.jvm_model.specs.Profiling.Swaps.{differs, same_mark}
@@ -62,7 +62,7 @@ either f g true false = refl
 either f g false true = refl
 either f g false false = refl
 
-module _ (p : Program) (r : Revealed) (are : p.methods ≡ numbered p.classes) where
+module _ (p : Program) (r : Revealed) (are : p.methods ≡ methods_numbered p.classes) where
   -- the mark that a class's list has for one of its methods
   in-class : (i : ℕ) (x : MethodPlace) → slice_get p.methods i ≡ Some x → mark_at (marks_for p r x.class) x.position ≡ mark_of p r i
   in-class i x found =
@@ -150,7 +150,7 @@ any-at test n (y ∷ l) (suc i) x found none =
     right true b e = absurd (let h : true ≡ false = e in cc)
     right false b e = e
 
-module _ (p : Program) (shown now : Revealed) (are : p.methods ≡ numbered p.classes) (grown : (class : ℕ) → is_among class shown.loaded ≡ true → is_among class now.loaded ≡ true) where
+module _ (p : Program) (shown now : Revealed) (are : p.methods ≡ methods_numbered p.classes) (grown : (class : ℕ) → is_among class shown.loaded ≡ true → is_among class now.loaded ≡ true) where
   -- a method whose class is not loaded
   unloaded : (r : Revealed) (i : ℕ) (x : MethodPlace) → slice_get p.methods i ≡ Some x → is_among x.class r.loaded ≡ false → mark_of p r i ≡ Off
   unloaded r i x found out =
@@ -241,7 +241,7 @@ filter-all test P each (n ∷ l) = by (test n) refl (filter-all test P each l) w
   by true e rest = (each n e, rest)
   by false e rest = rest
 
-pub changed-known : (p : Program) → p.methods ≡ numbered p.classes → (shown : List Mark) (now : Revealed) → AreKnown p (changed_from p shown now)
+pub changed-known : (p : Program) → p.methods ≡ methods_numbered p.classes → (shown : List Mark) (now : Revealed) → AreKnown p (changed_from p shown now)
 changed-known p are shown now =
     filter-all (differs_from p shown now) (λ class. class < length p.classes) (λ class differs.
     let there = pair-with (λ (e : Place). e.1.class == class && not (same_mark (mark_at shown e.0) (mark_of p now e.0))) 0 p.methods differs in

@@ -10,9 +10,9 @@ use Rattle.jvm_model.specs.Classes.Load.{is_among}
 use Rattle.jvm_model.specs.Profiling.Paths.{is_outside}
 use Rattle.jvm_model.proofs.Events.TracesEntries.{entries-append}
 use Rattle.context_tree.specs.Counts.{AreInOrder, path_after}
-use Rattle.context_tree.specs.Profiles.{Profile, calls_of, credited, opened, taken, event_told}
+use Rattle.context_tree.specs.Profiles.{Profile, calls_of, steps_credited, path_opened, event_taken, event_told}
 use Rattle.context_tree.proofs.EventCalls.{calls_of-taken}
-use Rattle.event_buffer.specs.Buffers.{Held, last_clock, pushed, rest_of}
+use Rattle.event_buffer.specs.Buffers.{Held, last_clock, event_pushed, rest_of}
 use Rattle.profile_session.specs.declared.parts.Parts.{Parts}
 use Rattle.call_revelation.specs.Reveals.{IsRevelation}
 use Rattle.profile_session.specs.Images.{AreImageable}
@@ -20,17 +20,17 @@ use Rattle.profile_session.specs.Parts.{AreFit, Drains, IsTellable, Pushes, Take
 use Rattle.profile_session.proofs.Hearing.{open-taken}
 use Rattle.profile_session.proofs.Steps.{order-push}
 
-pub fold-both : (a b : List Event) (p : Profile) → fold taken p (a ++ b) ≡ fold taken (fold taken p a) b
+pub fold-both : (a b : List Event) (p : Profile) → fold event_taken p (a ++ b) ≡ fold event_taken (fold event_taken p a) b
 fold-both [] b p = refl
-fold-both (e ∷ a) b p = fold-both a b (taken p e)
+fold-both (e ∷ a) b p = fold-both a b (event_taken p e)
 
-pub taken-clock : (p : Profile) (e : Event) → (taken p e).clock ≡ e.clock
+pub taken-clock : (p : Profile) (e : Event) → (event_taken p e).clock ≡ e.clock
 taken-clock p e = by e.kind where
-  either : (b : Bool) → (let q : Profile = if b then credited e.clock p else opened e.method (credited e.clock p) in q).clock ≡ e.clock
+  either : (b : Bool) → (let q : Profile = if b then steps_credited e.clock p else path_opened e.method (steps_credited e.clock p) in q).clock ≡ e.clock
   either true = refl
   either false = refl
 
-  by : (k : EventKind) → (event_told k e.method (credited e.clock p)).clock ≡ e.clock
+  by : (k : EventKind) → (event_told k e.method (steps_credited e.clock p)).clock ≡ e.clock
   by Root = refl
   by Enter = either (is_outside p.open)
   by Leave = refl
@@ -62,14 +62,14 @@ pub taken-countable : (x : Parts) → AreFit x → calls_of x.tree < 2 ^ 64 - 1
 taken-countable x fit = let few = fit.few in omega (arith, few)
 
 pub taken-next : (first x : Parts) (e : Event) (tree : Profile) (buffer : Held) → IsDraining first x → slice_get x.buffer.events 0 ≡ Some e
-    → buffer ≡ rest_of x.buffer x.buffer.events → last_clock buffer ≡ last_clock x.buffer → tree ≡ taken x.tree e → calls_of tree ≤ calls_of x.tree + 1
+    → buffer ≡ rest_of x.buffer x.buffer.events → last_clock buffer ≡ last_clock x.buffer → tree ≡ event_taken x.tree e → calls_of tree ≤ calls_of x.tree + 1
     → IsDraining first (record x { tree = tree; buffer = buffer })
 taken-next first x e tree buffer d is rest last is_taken calls =
     let front = front-is x.buffer.events e is in
     let rest_is : buffer.events ≡ front.0 = ap (λ (b : Held). b.events) (rest ∙ ap (rest_of x.buffer) front.1) in
     let room : buffer.capacity ≡ x.buffer.capacity = ap (λ (b : Held). b.capacity) (rest ∙ ap (rest_of x.buffer) front.1) in
     let new : Parts = record x { tree = tree; buffer = buffer } in
-    let profile : profile_in new ≡ profile_in x = ap₂ (λ t es. fold taken t es) is_taken rest_is ∙ ap (fold taken x.tree) (sym front.1) in
+    let profile : profile_in new ≡ profile_in x = ap₂ (λ t es. fold event_taken t es) is_taken rest_is ∙ ap (fold event_taken x.tree) (sym front.1) in
     let more = calls_of-taken x.tree tree e is_taken calls in
     let before : entries x.buffer.events ≡ entries_by e.kind + entries front.0 = ap entries front.1 in
     let after : entries buffer.events ≡ entries front.0 = ap entries rest_is in
@@ -110,26 +110,26 @@ drained first x buffer d none rest =
 
 -- ---- into the buffer
 
-pub pushed-first : (x : Parts) (e : Event) (buffer : Held) → AreFit x → e.clock ≡ x.vm.clock → buffer ≡ pushed x.buffer e → last_clock buffer ≡ e.clock → Pushes x e (record x { buffer = buffer })
+pub pushed-first : (x : Parts) (e : Event) (buffer : Held) → AreFit x → e.clock ≡ x.vm.clock → buffer ≡ event_pushed x.buffer e → last_clock buffer ≡ e.clock → Pushes x e (record x { buffer = buffer })
 pushed-first x e buffer fit now is last =
     let events : buffer.events ≡ x.buffer.events ++ e ∷ [] = ap (λ (b : Held). b.events) is in
     let more : entries buffer.events ≡ entries x.buffer.events + entries (e ∷ []) = ap entries events ∙ entries-append x.buffer.events (e ∷ []) in
     record {
       same = refl;
-      profile = ap (fold taken x.tree) events ∙ fold-both x.buffer.events (e ∷ []) x.tree;
+      profile = ap (fold event_taken x.tree) events ∙ fold-both x.buffer.events (e ∷ []) x.tree;
       calls = omega (arith, more);
       order = subst (λ es. AreInOrder x.tree.clock es x.vm.clock) (sym events) (order-push x.tree.clock x.buffer.events e x.vm.clock fit.order now);
       last = omega (arith, last, now);
       room = subst (λ n. 16 ≤ n) (sym (ap (λ (b : Held). b.capacity) is)) fit.room;
     }
 
-pub pushed-behind : (x y : Parts) (e : Event) (buffer : Held) → Drains x y → e.clock ≡ x.vm.clock → buffer ≡ pushed y.buffer e → last_clock buffer ≡ e.clock → Pushes x e (record y { buffer = buffer })
+pub pushed-behind : (x y : Parts) (e : Event) (buffer : Held) → Drains x y → e.clock ≡ x.vm.clock → buffer ≡ event_pushed y.buffer e → last_clock buffer ≡ e.clock → Pushes x e (record y { buffer = buffer })
 pushed-behind x y e buffer d now is last =
     let clock : e.clock ≡ y.vm.clock = now ∙ sym (ap (λ (z : Parts). z.vm.clock) d.same) in
     let p = pushed-first y e buffer d.fit clock is last in
     record {
       same = ap (λ (z : Parts). let q : Parts = record z { buffer = buffer } in q) d.same;
-      profile = p.profile ∙ ap (λ q. taken q e) d.profile;
+      profile = p.profile ∙ ap (λ q. event_taken q e) d.profile;
       calls = (let a = p.calls in let b = d.calls in omega (arith, a, b));
       order = p.order;
       last = p.last;

@@ -23,7 +23,7 @@ use Rattle.context_tree.specs.Seen.{Seen, seen_event}
 use Rattle.jvm_machine.specs.declared.turn.Turn.{Turn}
 use Rattle.jvm_machine.specs.declared.turn.Turn.TheVariants.{Settled, Loaded, Probe, Ended, Broken, NoMemory}
 use Rattle.jvm_machine.specs.Turns.{Tells, TellsLoads, Turns, after_last}
-use Rattle.jvm_machine.specs.View.{View, IsGoingOn, run_state, world, advanced, begun, is_resting, loads_next, next_stop, next_event, stopped, rested, to_come, events_left}
+use Rattle.jvm_machine.specs.View.{View, IsGoingOn, run_state, world, clock_advanced, step_begun, is_resting, loads_next, next_stop, next_event, step_stopped, step_rested, to_come, events_left}
 use Rattle.profile_session.specs.Keeping.{Kept, at_point, kept_end, kept_event, kept_load, marks_seen}
 use Rattle.profile_session.specs.Standing.{AtRest, InStep, Stands, rests, within}
 use Rattle.profile_session.specs.Turned.{events_in, is_telling, kept_turned}
@@ -32,21 +32,21 @@ use Rattle.profile_session.proofs.Joins.{load-seen}
 use Rattle.profile_session.proofs.Steps.{begins, loads, opened, settles, told-clock, told-of, unopened}
 use Rattle.jvm_machine.proofs.SeenLaws.{stop-tells, stopped-busy}
 
-abbrev pub begun-is : (v : View) → is_resting v ≡ true → begun v ≡ advanced v
-begun-is v e = ap (λ b. let r : View = if b then advanced v else v in r) e
+abbrev pub begun-is : (v : View) → is_resting v ≡ true → step_begun v ≡ clock_advanced v
+begun-is v e = ap (λ b. let r : View = if b then clock_advanced v else v in r) e
 
-abbrev pub begun-busy : (v : View) → is_resting v ≡ false → begun v ≡ v
-begun-busy v e = ap (λ b. let r : View = if b then advanced v else v in r) e
+abbrev pub begun-busy : (v : View) → is_resting v ≡ false → step_begun v ≡ v
+begun-busy v e = ap (λ b. let r : View = if b then clock_advanced v else v in r) e
 
 -- where there was a step to make, its end is told of the step
-pub last-is : (v : View) → IsGoingOn v → after_last v ≡ rested (begun v)
-last-is v on = ap (λ b. let r : View = if b then v else rested (begun v) in r) on
+pub last-is : (v : View) → IsGoingOn v → after_last v ≡ step_rested (step_begun v)
+last-is v on = ap (λ b. let r : View = if b then v else step_rested (step_begun v) in r) on
 
 module _ (w : World) (is : IsWhole w.program) (acts : List Act) (from : AreFrom 0 acts) where
   abbrev p : Program
   p = w.program
 
-  in-step : (es : List Event) (k : Kept) (v : View) → Stands acts w es k v → IsGoingOn v → loads_next (begun v) ≡ [] → InStep acts w es k (begun v)
+  in-step : (es : List Event) (k : Kept) (v : View) → Stands acts w es k v → IsGoingOn v → loads_next (step_begun v) ≡ [] → InStep acts w es k (step_begun v)
   in-step es k v (rests r) on no_loads =
       let at = begun-is v r.resting in
       subst (InStep acts w es k) (sym at) (begins w is acts from es k v r on (ap loads_next (sym at) ∙ no_loads))
@@ -54,7 +54,7 @@ module _ (w : World) (is : IsWhole w.program) (acts : List Act) (from : AreFrom 
 
   -- within a step one event less is left
   abbrev IsFurther : View → View → Type 0
-  IsFurther old new = suc (length (events_left new)) ≡ length (events_left (begun old))
+  IsFurther old new = suc (length (events_left new)) ≡ length (events_left (step_begun old))
 
   abbrev pub IsBehind : View → Turn → List Event → Kept → View → Type 0
   IsBehind old Settled es k v = AtRest acts w es k v
@@ -68,7 +68,7 @@ module _ (w : World) (is : IsWhole w.program) (acts : List Act) (from : AreFrom 
   pub record IsToldNow (es : List Event) (k : Kept) (e : Event) (mid : View) : Type 0 where
     pub now : e.clock ≡ mid.clock
     pub loaded : k.seen.loaded ≡ (run_state mid).shared.loaded
-    pub begun : opens k.seen.open e.kind ≡ true → has_class p k.seen.loaded e.method ≡ true
+    pub step_begun : opens k.seen.open e.kind ≡ true → has_class p k.seen.loaded e.method ≡ true
     pub few : entries es + entries_by e.kind ≤ suc mid.clock
 
   pub record AreLoadedNow (k : Kept) (classes : List ℕ) (mid : View) : Type 0 where
@@ -90,36 +90,36 @@ module _ (w : World) (is : IsWhole w.program) (acts : List Act) (from : AreFrom 
   state-then v same started = ap₂ (λ b w. if b then run w v.clock else before w) started same
 
   -- the end of a step
-  ends-heard : (es : List Event) (k : Kept) (v mid : View) → InStep acts w es k v → (next_stop v).due ≡ Nothing → mid ≡ rested v
+  ends-heard : (es : List Event) (k : Kept) (v mid : View) → InStep acts w es k v → (next_stop v).due ≡ Nothing → mid ≡ step_rested v
       → (new : View) → new ≡ record mid { marks = marks_seen p (kept_end p mid.clock k).seen } → AtRest acts w (es ++ []) (kept_end p mid.clock k) new
   ends-heard es k v mid s nothing stepped =
       subst (λ (m : View). (new : View) → new ≡ record m { marks = marks_seen p (kept_end p m.clock k).seen } → AtRest acts w (es ++ []) (kept_end p m.clock k) new) (sym stepped)
       (λ new e. subst (λ es. AtRest acts w es (kept_end p v.clock k) new) (sym (append-nil es)) (settles w is acts from es k v s nothing new e))
 
   -- an event
-  event-heard : (es : List Event) (k : Kept) (v mid : View) (e : Event) → InStep acts w es k v → next_event v ≡ Some e → mid ≡ stopped v
-      → (new : View) → new ≡ record mid { marks = marks_seen p (kept_event p k e).seen } → InStep acts w (es ++ e ∷ []) (kept_event p k e) new × (events_left new ≡ events_left (stopped v))
+  event-heard : (es : List Event) (k : Kept) (v mid : View) (e : Event) → InStep acts w es k v → next_event v ≡ Some e → mid ≡ step_stopped v
+      → (new : View) → new ≡ record mid { marks = marks_seen p (kept_event p k e).seen } → InStep acts w (es ++ e ∷ []) (kept_event p k e) new × (events_left new ≡ events_left (step_stopped v))
   event-heard es k v mid e s delivered stepped =
       subst (λ (m : View). (new : View) → new ≡ record m { marks = marks_seen p (kept_event p k e).seen }
-      → InStep acts w (es ++ e ∷ []) (kept_event p k e) new × (events_left new ≡ events_left (stopped v))) (sym stepped)
+      → InStep acts w (es ++ e ∷ []) (kept_event p k e) new × (events_left new ≡ events_left (step_stopped v))) (sym stepped)
       (λ new q. by (opens k.seen.open e.kind) refl new q)
     where
       by : (b : Bool) → opens k.seen.open e.kind ≡ b → (new : View)
           → (let later : Kept = if b then at_point p e.clock k (seen_event k.seen e) else record k { seen = seen_event k.seen e } in
-          new ≡ record (stopped v) { marks = marks_seen p later.seen })
-          → InStep acts w (es ++ e ∷ []) (if b then at_point p e.clock k (seen_event k.seen e) else record k { seen = seen_event k.seen e }) new × (events_left new ≡ events_left (stopped v))
+          new ≡ record (step_stopped v) { marks = marks_seen p later.seen })
+          → InStep acts w (es ++ e ∷ []) (if b then at_point p e.clock k (seen_event k.seen e) else record k { seen = seen_event k.seen e }) new × (events_left new ≡ events_left (step_stopped v))
       by true opening new is_new = opened w is acts from es k v e s delivered opening new is_new
       by false shut new is_new =
           let entered : (if opens k.seen.open e.kind then with_entered e.method k.seen.entered else k.seen.entered) ≡ k.seen.entered =
           ap (λ b. if b then with_entered e.method k.seen.entered else k.seen.entered) shut in
           let same : marks_seen p (seen_event k.seen e) ≡ v.marks = ap (λ l. let r : Seen = record k.seen { entered = l } in marks_seen p r) entered ∙ sym s.marks in
           unopened w is acts from es k v e s delivered shut new
-          (is_new ∙ ap (λ l. let r : View = record (stopped v) { marks = l } in r) same)
+          (is_new ∙ ap (λ l. let r : View = record (step_stopped v) { marks = l } in r) same)
 
   -- what is known of it
   fewer : (es : List Event) (k : Kept) (v : View) (e : Event) → InStep acts w es k v → next_event v ≡ Some e → entries es + entries_by e.kind ≤ suc v.clock
   fewer es k v e s delivered =
-      let rest : List Event = events_left (stopped v) in
+      let rest : List Event = events_left (step_stopped v) in
       let all : entries es + (entries_by e.kind + entries rest) ≡ entries (events_of (marking_of acts w) w v.clock) =
       sym (entries-append es (e ∷ rest)) ∙ ap entries (ap (λ l. es ++ l) (sym (stop-tells v e delivered)) ∙ s.delivered) in
       let most = events_of-entries (marking_of acts w) w v.clock in
@@ -158,7 +158,7 @@ module _ (w : World) (is : IsWhole w.program) (acts : List Act) (from : AreFrom 
   tell-heard : (es : List Event) (k : Kept) (old mid : View) (e : Event) → Stands acts w es k old → IsGoingOn old → Tells old e mid → Heard old es k (Probe e) mid
   tell-heard es k old mid e stands on t =
       let s = in-step es k old stands on t.loads in
-      let v : View = begun old in
+      let v : View = step_begun old in
       let clock : mid.clock ≡ v.clock = ap (λ (v : View). v.clock) t.stepped in
       let state : (run_state mid).shared.loaded ≡ (run w v.clock).shared.loaded =
       ap (λ (v : View). (run_state v).shared.loaded) t.stepped ∙ ap (λ (s : State). s.shared.loaded) (state-then v s.same s.started) in
@@ -180,9 +180,9 @@ module _ (w : World) (is : IsWhole w.program) (acts : List Act) (from : AreFrom 
   pub turn-heard : (es : List Event) (k : Kept) (old mid : View) (turn : Turn) → Stands acts w es k old → IsGoingOn old → Turns old turn mid → is_telling turn ≡ true
       → Heard old es k turn mid
   turn-heard es k old mid Settled stands on t tells =
-      record { knows = tt; behind = ends-heard es k (begun old) mid (in-step es k old stands on t.loads) t.all t.stepped }
+      record { knows = tt; behind = ends-heard es k (step_begun old) mid (in-step es k old stands on t.loads) t.all t.stepped }
   turn-heard es k old mid Ended stands on t tells =
-      record { knows = tt; behind = ends-heard es k (begun old) mid (in-step es k old stands on (t.loads on)) (t.all on) (t.stepped ∙ last-is old on) }
+      record { knows = tt; behind = ends-heard es k (step_begun old) mid (in-step es k old stands on (t.loads on)) (t.all on) (t.stepped ∙ last-is old on) }
   turn-heard es k old mid (Loaded classes) stands on t tells = load-heard es k old mid classes stands t
   turn-heard es k old mid (Probe e) stands on t tells = tell-heard es k old mid e stands on t
   turn-heard es k old mid Broken stands on t tells = absurd (let h : false ≡ true = tells in cc)
@@ -196,11 +196,11 @@ pub record Went (old new : View) : Type 0 where
   pub marks : new.marks ≡ old.marks
   pub whole : new.broken ≡ old.broken
   pub tidy : new.stale ≡ old.stale
-  pub clock : new.clock ≡ (begun old).clock
-  pub started : new.started ≡ (begun old).started
+  pub clock : new.clock ≡ (step_begun old).clock
+  pub started : new.started ≡ (step_begun old).started
 
-went-by : (old new x : View) → x.program ≡ (begun old).program → x.input ≡ (begun old).input → x.marks ≡ (begun old).marks → x.broken ≡ (begun old).broken
-    → x.stale ≡ (begun old).stale → x.clock ≡ (begun old).clock → x.started ≡ (begun old).started → new ≡ x → Went old new
+went-by : (old new x : View) → x.program ≡ (step_begun old).program → x.input ≡ (step_begun old).input → x.marks ≡ (step_begun old).marks → x.broken ≡ (step_begun old).broken
+    → x.stale ≡ (step_begun old).stale → x.clock ≡ (step_begun old).clock → x.started ≡ (step_begun old).started → new ≡ x → Went old new
 went-by old new x a b c d t e f is =
     subst (Went old) (sym is) (record {
       program = a ∙ by (λ (v : View). v.program) (is_resting old) refl refl;
@@ -212,14 +212,14 @@ went-by old new x a b c d t e f is =
       started = f;
     })
   where
-    by : {A : Type 0} (look : View → A) (b : Bool) → look (advanced old) ≡ look old → look old ≡ look old → look (if b then advanced old else old) ≡ look old
+    by : {A : Type 0} (look : View → A) (b : Bool) → look (clock_advanced old) ≡ look old → look old ≡ look old → look (if b then clock_advanced old else old) ≡ look old
     by look true e f = e
     by look false e f = f
 
 pub turn-went : (old new : View) (turn : Turn) → IsGoingOn old → Turns old turn new → is_telling turn ≡ true → Went old new
-turn-went old new Settled on t tells = went-by old new (rested (begun old)) refl refl refl refl refl refl refl t.stepped
-turn-went old new Ended on t tells = went-by old new (rested (begun old)) refl refl refl refl refl refl refl (t.stepped ∙ last-is old on)
-turn-went old new (Loaded classes) on t tells = went-by old new (record (begun old) { passed = 1 }) refl refl refl refl refl refl refl t.stepped
-turn-went old new (Probe e) on t tells = went-by old new (stopped (begun old)) refl refl refl refl refl refl refl t.stepped
+turn-went old new Settled on t tells = went-by old new (step_rested (step_begun old)) refl refl refl refl refl refl refl t.stepped
+turn-went old new Ended on t tells = went-by old new (step_rested (step_begun old)) refl refl refl refl refl refl refl (t.stepped ∙ last-is old on)
+turn-went old new (Loaded classes) on t tells = went-by old new (record (step_begun old) { passed = 1 }) refl refl refl refl refl refl refl t.stepped
+turn-went old new (Probe e) on t tells = went-by old new (step_stopped (step_begun old)) refl refl refl refl refl refl refl t.stepped
 turn-went old new Broken on t tells = absurd (let h : false ≡ true = tells in cc)
 turn-went old new NoMemory on t tells = absurd (let h : false ≡ true = tells in cc)

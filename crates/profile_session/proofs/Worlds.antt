@@ -4,17 +4,17 @@ use Rattle.jvm_machine.specs.declared.turn.Turn.{Turn}
 use Rattle.jvm_machine.specs.declared.turn.Turn.TheVariants.{Settled, Loaded, Probe, Ended, Broken, NoMemory}
 use Rattle.jvm_machine.specs.Several.{Passes, RunsOn, none, more}
 use Rattle.jvm_machine.specs.Turns.{Turns, after_last}
-use Rattle.jvm_machine.specs.View.{View, advanced, begun, has_ended, is_resting, rested, world}
+use Rattle.jvm_machine.specs.View.{View, clock_advanced, step_begun, has_ended, is_resting, step_rested, world}
 
-begun-world : (v : View) → world (begun v) ≡ world v
+begun-world : (v : View) → world (step_begun v) ≡ world v
 begun-world v = by (is_resting v) where
-  by : (b : Bool) → world (let y : View = if b then advanced v else v in y) ≡ world v
+  by : (b : Bool) → world (let y : View = if b then clock_advanced v else v in y) ≡ world v
   by true = refl
   by false = refl
 
 last-world : (v : View) → world (after_last v) ≡ world v
 last-world v = by (is_resting v && has_ended v) where
-  by : (b : Bool) → world (let y : View = if b then v else rested (begun v) in y) ≡ world v
+  by : (b : Bool) → world (let y : View = if b then v else step_rested (step_begun v) in y) ≡ world v
   by true = refl
   by false = begun-world v
 

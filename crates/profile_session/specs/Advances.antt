@@ -2,7 +2,7 @@
 use Rattle.std.specs.Prelude.{◌≡◌, ℕ, suc, ◌+◌, ◌≤◌, ◌<◌, Bool, true, false, length}
 use Rattle.jvm_machine.specs.declared.turn.Turn.{Turn}
 use Rattle.jvm_machine.specs.declared.turn.Turn.TheVariants.{Settled, Loaded, Probe, Ended, Broken, NoMemory}
-use Rattle.jvm_machine.specs.View.{begun, has_ended, is_resting, world, events_left}
+use Rattle.jvm_machine.specs.View.{step_begun, has_ended, is_resting, world, events_left}
 use Rattle.profile_session.specs.declared.parts.Parts.{Parts}
 use Rattle.profile_session.specs.Parts.{IsBusy, Rests}
 use Rattle.profile_session.specs.Standing.{next_step}
@@ -17,19 +17,19 @@ pub record Finished (old : Parts) (ended : Bool) (new : Parts) : Type 0 where
   pub stays : Stays old new
   pub rests : Rests new
   pub ended_is : has_ended new.vm ≡ ended
-  pub clock : new.vm.clock ≡ (begun old.vm).clock
+  pub clock : new.vm.clock ≡ (step_begun old.vm).clock
   pub started : new.vm.started ≡ true
 
 -- it goes on
 pub record Goes (old new : Parts) : Type 0 where
   pub stays : Stays old new
   pub busy : IsBusy new
-  pub clock : new.vm.clock ≡ (begun old.vm).clock
+  pub clock : new.vm.clock ≡ (step_begun old.vm).clock
 
 -- with one event less that is left
 pub record Tells (old new : Parts) : Type 0 where
   pub goes : Goes old new
-  pub fewer : suc (length (events_left new.vm)) ≡ length (events_left (begun old.vm))
+  pub fewer : suc (length (events_left new.vm)) ≡ length (events_left (step_begun old.vm))
 
 -- classes are told first
 pub record Loads (old new : Parts) : Type 0 where

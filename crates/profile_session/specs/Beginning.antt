@@ -10,7 +10,7 @@ use Rattle.call_revelation.specs.declared.reveal.Reveal.{Reveal}
 use Rattle.call_revelation.specs.Reveals.{IsRevelation, now_of}
 use Rattle.context_tree.specs.Seen.{first_seen}
 use Rattle.profile_session.specs.Images.{AreImageable}
-use Rattle.profile_session.specs.Keeping.{revealed}
+use Rattle.profile_session.specs.Keeping.{methods_revealed}
 
 -- An admitted program is one.
 pub record CanBeProfiled (p : Program) : Type 0 where
@@ -21,5 +21,5 @@ pub record CanBeProfiled (p : Program) : Type 0 where
 -- nothing is selected or entered, and this is shown
 pub record IsFirst (v : View) (r : Reveal) : Type 0 where
   pub revelation : IsRevelation v.program r
-  pub now : now_of r ≡ revealed (first_seen (world v))
+  pub now : now_of r ≡ methods_revealed (first_seen (world v))
   pub shown : r.shown ≡ marks_of v.program (now_of r)

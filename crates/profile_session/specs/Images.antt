@@ -8,7 +8,7 @@ use Rattle.inject_events.specs.Answers.{IsProfilable, IsReadableClass}
 use Rattle.inject_events.specs.Rewriting.{image_of}
 use Rattle.jvm_model.specs.declared.event.Mark.{Mark}
 use Rattle.jvm_model.specs.declared.program.Program.{Program}
-use Rattle.jvm_model.specs.Basis.Programs.{class_at, no_class, numbered}
+use Rattle.jvm_model.specs.Basis.Programs.{class_at, no_class, methods_numbered}
 use Rattle.jvm_model.specs.Profiling.Revealed.{Revealed, stand_of}
 use Rattle.jvm_model.specs.Soundness.SoundPrograms.{HasOperations}
 use Rattle.jvm_model.specs.Profiling.Swaps.{first_number, marks_of_class}
@@ -38,6 +38,6 @@ pub record AreImageable (p : Program) : Type 0 where
   pub formed : AllByRecursion IsClassFile p.classes
   pub readable : AllByRecursion IsReadableClass p.classes
   pub profilable : AllByRecursion IsProfilable p.classes
-  pub numbered_are : p.methods ≡ numbered p.classes
+  pub numbered_are : p.methods ≡ methods_numbered p.classes
   pub few : length p.methods ≤ 32768
   pub operations : HasOperations p

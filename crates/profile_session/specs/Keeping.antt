@@ -18,20 +18,20 @@ use Rattle.context_tree.specs.Seen.{Seen, first_seen, seen_act, seen_event, seen
 use Rattle.profile_session.specs.declared.swap.Swap.{Swap}
 use Rattle.profile_session.specs.Images.{image_bytes, marks_for}
 
-abbrev pub revealed : Seen → Revealed
-revealed s = record { selected = s.selected; entered = s.entered; loaded = s.loaded }
+abbrev pub methods_revealed : Seen → Revealed
+methods_revealed s = record { selected = s.selected; entered = s.entered; loaded = s.loaded }
 
 abbrev pub stand : Seen → Standing
-stand s = stand_of (revealed s)
+stand s = stand_of (methods_revealed s)
 
 abbrev pub mark_seen : Program → Seen → ℕ → Mark
-mark_seen p s method = mark_of p (revealed s) method
+mark_seen p s method = mark_of p (methods_revealed s) method
 
 abbrev pub marks_seen : Program → Seen → List Mark
-marks_seen p s = marks_of p (revealed s)
+marks_seen p s = marks_of p (methods_revealed s)
 
 abbrev pub changed_classes : Program → Seen → Seen → List ℕ
-changed_classes p before now = changed_of p (revealed before) (revealed now)
+changed_classes p before now = changed_of p (methods_revealed before) (methods_revealed now)
 
 -- ---- swaps
 
@@ -56,7 +56,7 @@ first_kept w = record { seen = first_seen w; swaps = [] }
 
 -- a point: the classes whose marks are others now are swapped
 abbrev pub at_point : Program → ℕ → Kept → Seen → Kept
-at_point p clock k now = record { seen = now; swaps = k.swaps ++ swapped_now p clock (revealed now) (changed_classes p k.seen now) }
+at_point p clock k now = record { seen = now; swaps = k.swaps ++ swapped_now p clock (methods_revealed now) (changed_classes p k.seen now) }
 
 -- behind a load there is one where classes were loaded
 abbrev pub kept_load : Program → ℕ → Kept → List ℕ → Kept

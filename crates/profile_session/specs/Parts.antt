@@ -10,7 +10,7 @@ use Rattle.jvm_model.specs.Soundness.Calls.{AreFrom}
 use Rattle.jvm_model.specs.Profiling.EventLists.{entries, entries_by}
 use Rattle.jvm_model.specs.Basis.KindNumbers.{user_count}
 use Rattle.jvm_model.specs.Classes.Load.{is_among}
-use Rattle.jvm_model.specs.Profiling.Points.{chosen, has_class}
+use Rattle.jvm_model.specs.Profiling.Points.{methods_selected, has_class}
 use Rattle.jvm_model.specs.Profiling.Revealed.{Revealed, mark_of, marks_of}
 use Rattle.jvm_model.specs.Profiling.Revelation.{IsLoadOrder}
 use Rattle.jvm_model.specs.Rewriting.StandsFor.{mark_at}
@@ -22,7 +22,7 @@ use Rattle.jvm_machine.specs.View.{View, is_resting, run_state, world}
 use Rattle.class_linker.specs.Linkers.{LinkerView}
 use Rattle.call_revelation.specs.Reveals.{IsPrefix, IsRevelation, now_of}
 use Rattle.context_tree.specs.Counts.{AreInOrder, opens}
-use Rattle.context_tree.specs.Profiles.{Profile, calls_of, credited, profile_of, taken}
+use Rattle.context_tree.specs.Profiles.{Profile, calls_of, steps_credited, profile_of, event_taken}
 use Rattle.context_tree.specs.Seen.{Seen, seen_act}
 use Rattle.event_buffer.specs.Buffers.{last_clock}
 use Rattle.profile_session.specs.declared.parts.Parts.{Parts}
@@ -35,7 +35,7 @@ use Rattle.profile_session.specs.Turned.{events_in, kept_turned}
 
 -- what the tree is, once it has taken what the buffer holds
 abbrev pub profile_in : Parts → Profile
-profile_in x = fold taken x.tree x.buffer.events
+profile_in x = fold event_taken x.tree x.buffer.events
 
 -- the calls that it has at most then
 abbrev pub calls_in : Parts → ℕ
@@ -139,7 +139,7 @@ pub record Drains (old new : Parts) : Type 0 where
 -- the event is the last one that is held
 pub record Pushes (old : Parts) (e : Event) (new : Parts) : Type 0 where
   pub same : new ≡ record old { tree = new.tree; buffer = new.buffer }
-  pub profile : profile_in new ≡ taken (profile_in old) e
+  pub profile : profile_in new ≡ event_taken (profile_in old) e
   pub calls : calls_in new ≤ calls_in old + entries_by e.kind
   pub order : AreInOrder new.tree.clock new.buffer.events new.vm.clock
   pub last : last_clock new.buffer ≤ new.vm.clock
@@ -148,7 +148,7 @@ pub record Pushes (old : Parts) (e : Event) (new : Parts) : Type 0 where
 -- and the depth is that of the path which is open then
 pub record Takes (old : Parts) (e : Event) (new : Parts) : Type 0 where
   pub same : new ≡ record old { tree = new.tree; buffer = new.buffer; depth = new.depth }
-  pub profile : profile_in new ≡ taken (profile_in old) e
+  pub profile : profile_in new ≡ event_taken (profile_in old) e
   pub calls : calls_in new ≤ calls_in old + entries_by e.kind
   pub fit : AreFit new
 
@@ -157,7 +157,7 @@ pub record Takes (old : Parts) (e : Event) (new : Parts) : Type 0 where
 -- the session has done what the turn asks
 pub record Hears (old : Parts) (turn : Turn) (new : Parts) : Type 0 where
   pub kept : kept_in new ≡ kept_turned old.vm.program old.vm.clock (kept_in old) turn
-  pub profile : profile_in new ≡ fold taken (profile_in old) (events_in turn)
+  pub profile : profile_in new ≡ fold event_taken (profile_in old) (events_in turn)
   pub calls : calls_in new ≤ calls_in old + entries (events_in turn)
   pub vm : new.vm ≡ record old.vm { marks = marks_seen old.vm.program (kept_in new).seen }
   pub fit : AreFit new
@@ -200,7 +200,7 @@ pub record IsHearable (x : Parts) (turn : Turn) : Type 0 where
 -- ---- actions
 
 abbrev pub chosen_by : Act → Revealed → Revealed
-chosen_by act r = record r { selected = chosen act r.selected }
+chosen_by act r = record r { selected = methods_selected act r.selected }
 
 -- the action is accepted, and the classes whose marks it has changed were swapped
 pub record Acts (old : Parts) (act : Act) (new : Parts) : Type 0 where
@@ -216,8 +216,8 @@ pub record Acts (old : Parts) (act : Act) (new : Parts) : Type 0 where
 -- the tree has taken all that was told, and the steps up to the clock
 pub record Brings (old new : Parts) : Type 0 where
   pub same : new ≡ record old { tree = new.tree; buffer = new.buffer }
-  pub tree : new.tree ≡ credited old.vm.clock (profile_in old)
-  pub profile : profile_in new ≡ credited old.vm.clock (profile_in old)
+  pub tree : new.tree ≡ steps_credited old.vm.clock (profile_in old)
+  pub profile : profile_in new ≡ steps_credited old.vm.clock (profile_in old)
   pub calls : calls_in new ≤ calls_in old
   pub fit : AreFit new
 
@@ -225,7 +225,7 @@ pub record Brings (old new : Parts) : Type 0 where
 
 -- What they are of these events: the tree is theirs once it has taken what the buffer holds, but for steps that it was given already.
 pub record AreOf (x : Parts) (delivered : List Event) : Type 0 where
-  pub profile : credited x.vm.clock (profile_in x) ≡ credited x.vm.clock (profile_of delivered)
+  pub profile : steps_credited x.vm.clock (profile_in x) ≡ steps_credited x.vm.clock (profile_of delivered)
   pub calls : calls_in x ≤ entries delivered
   pub order : AreInOrder 0 delivered x.vm.clock
 

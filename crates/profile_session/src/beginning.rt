@@ -1,7 +1,7 @@
 //! A session's parts before anything was done.
 
 ghost use Rattle.std.specs.Prelude.{◌≡◌, false, IfOk};
-ghost use Rattle.jvm_machine.specs.View.{made};
+ghost use Rattle.jvm_machine.specs.View.{machine_made};
 ghost use Rattle.profile_session.specs.Beginning.{CanBeProfiled, IsFirst};
 ghost use Rattle.profile_session.specs.Sessions.{Stands, profiling_in, profiling_of};
 
@@ -28,7 +28,7 @@ fn reveal_first(alloc: Global, vm: &Vm) -> Result<Reveal, NoMemory>
 
 /// The parts of a session on a machine that was just made. Its buffer has 65,536 bytes.
 pub fn begin(alloc: Global, vm: Box<Vm>) -> Result<Parts, NoMemory>
-    requires fresh { vm.value ≡ made vm.value.program vm.value.input }
+    requires fresh { vm.value ≡ machine_made vm.value.program vm.value.input }
     requires profilable { CanBeProfiled vm.value.program }
     ensures stands { IfOk result Stands }
     ensures seen { IfOk result (λ x. profiling_in false false x

@@ -1,7 +1,7 @@
 //! The session.
 
 ghost use Rattle.std.specs.Prelude.{◌≡◌, ◌+◌, ◌≤◌, true, false, IfOk, IfErr, OnOk};
-ghost use Rattle.jvm_machine.specs.View.{made};
+ghost use Rattle.jvm_machine.specs.View.{machine_made};
 ghost use Rattle.profile_session.specs.Answers.{Accepts, Advances, Gathers, LendsNoTree};
 ghost use Rattle.profile_session.specs.Answers.{RefusesAct, RefusesTree, refusal_of, run_by};
 ghost use Rattle.profile_session.specs.Beginning.{CanBeProfiled};
@@ -63,7 +63,7 @@ fn run_by(ended: bool) -> Run
 impl Session {
     /// A session on a machine that was just made: no step was made, no image installed. After an Err the machine is given up.
     pub fn new(alloc: Global, vm: Box<Vm>) -> Result<Session, NoMemory>
-        requires fresh { vm.value ≡ made vm.value.program vm.value.input }
+        requires fresh { vm.value ≡ machine_made vm.value.program vm.value.input }
         requires profilable { CanBeProfiled vm.value.program }
         ensures { IfOk result (λ session. session
             ≡ profiling_of vm.value.program vm.value.input) }

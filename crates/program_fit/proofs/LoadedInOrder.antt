@@ -9,7 +9,7 @@ use Rattle.std.proofs.lemmas.Bool.{eq-eqb, ltb-false, ltb-true, ne_eqb}
 use Rattle.std.proofs.lemmas.List.{append-nil}
 use Rattle.const_pool.specs.declared.class.ClassFile.{ClassFile}
 use Rattle.jvm_model.specs.declared.program.Program.{Program}
-use Rattle.jvm_model.specs.Classes.Load.{Loading, Need, Incompatible, behind_needs, class_needs, done, go_on, is_among, is_met, load_named, load_needs, load_of, need_fault, needs_of, unless}
+use Rattle.jvm_model.specs.Classes.Load.{Loading, Need, Incompatible, behind_needs, class_needs, loading_done, go_on, is_among, is_met, load_named, load_needs, load_of, need_fault, needs_of, unless}
 use Rattle.jvm_model.specs.Classes.Lookup.{is_interface}
 use Rattle.jvm_model.specs.Basis.Methods.{has_flag}
 use Rattle.jvm_model.specs.Basis.Programs.{class_at, class_named, has_built_in_name, has_name, name_of}
@@ -79,7 +79,7 @@ module _ (p : Program) (classes files : List ClassFile) (are : p.classes ≡ cla
     others : (j : ℕ) → k ≤ j → is_among (n + j) loaded ≡ false
 
   needs-loaded : (depth k : ℕ) (path loaded : List ℕ) (needs : List Need) → AreLoadedTo loaded k → list_all (is_before files k) needs ≡ true
-      → load_needs p (load_named p (suc depth) path) needs loaded ≡ done loaded
+      → load_needs p (load_named p (suc depth) path) needs loaded ≡ loading_done loaded
   needs-loaded depth k path loaded [] to e = refl
   needs-loaded depth k path loaded (x ∷ needs) to e =
       let parts = both (is_before files k x) (list_all (is_before files k) needs) e in

@@ -3,7 +3,7 @@ use Rattle.std.proofs.Common.{◌≡◌, ℕ, suc, Bool, true, false, List, [], 
 use Rattle.std.specs.Prelude.{unwrap_or}
 use Rattle.jvm_model.specs.declared.program.Program.{Program}
 use Rattle.jvm_model.specs.Classes.Kinds.{Element, Named, Meaning, array_from, array_of, is_array_name}
-use Rattle.jvm_model.specs.Classes.Load.{Loading, There, Begun, Fresh, behind_needs, by_standing, done, is_among, load_element, load_named, load_needs, needs_of, standing_of}
+use Rattle.jvm_model.specs.Classes.Load.{Loading, There, Begun, Fresh, behind_needs, by_standing, loading_done, is_among, load_element, load_named, load_needs, needs_of, standing_of}
 use Rattle.jvm_model.specs.Basis.Programs.{class_named}
 
 module _ (p : Program) where
@@ -22,7 +22,7 @@ module _ (p : Program) where
 
   -- a class that is loaded loads nothing
   pub load-there : (depth : ℕ) (path loaded name : List ℕ) (class : ℕ) → is_array_name name ≡ false → class_named p name ≡ Some class → is_among class loaded ≡ true
-      → load_named p (suc depth) path name loaded ≡ done loaded
+      → load_named p (suc depth) path name loaded ≡ loading_done loaded
   load-there depth path loaded name class plain named among =
       load-class depth path loaded name plain
       ∙ (ap (λ o. by_standing (standing_of path loaded o) name loaded (fresh_class depth path loaded)) named

@@ -11,7 +11,7 @@ use Rattle.program_gen.specs.declared.rows.ClassRow.{ClassRow}
 use Rattle.program_gen.specs.declared.rows.Choices.{Choices}
 use Rattle.program_gen.specs.Draws.{draw_at, superclass_of, choices_of}
 use Rattle.program_gen.specs.Fits.{FitsName, FitsMethod, FitsClass}
-use Rattle.program_gen.specs.Generated.{AreNamed, HasOwnPool, IsShortFile, generated}
+use Rattle.program_gen.specs.Generated.{AreNamed, HasOwnPool, IsShortFile, classes_generated}
 use Rattle.program_gen.specs.Making.{class_file_of}
 use Rattle.program_gen.specs.Members.{HaveCodes, HaveMembers}
 use Rattle.program_gen.specs.Programs.{constructor, run_method, main_row, numbered_row, rows_below, program_rows}
@@ -91,7 +91,7 @@ count-below seed size (suc n) =
     let rest = count-below seed size n in
     omega (arith, one, rest)
 
-pub generated-count : (seed size : ℕ) → length (generated seed size) ≡ size + 1
+pub generated-count : (seed size : ℕ) → length (classes_generated seed size) ≡ size + 1
 generated-count seed size =
     let all = length-map (program_rows seed size) class_file_of in
     let below = count-below seed size size in
@@ -117,23 +117,23 @@ pool-classes : (rows : List ClassRow) → AllByRecursion FitsClass rows → AllB
 pool-classes [] fits = tt
 pool-classes (row ∷ rows) fits = ((class-holds row fits.0).own_pool, pool-classes rows fits.1)
 
-pub generated-short : (seed size : ℕ) → 1 ≤ size → size ≤ 200 → AllByRecursion IsShortFile (generated seed size)
+pub generated-short : (seed size : ℕ) → 1 ≤ size → size ≤ 200 → AllByRecursion IsShortFile (classes_generated seed size)
 generated-short seed size some most = short-classes (program_rows seed size) (rows-fit seed size some most)
 
-pub generated-named : (seed size : ℕ) → 1 ≤ size → size ≤ 200 → AreNamed (program_rows seed size) (generated seed size)
+pub generated-named : (seed size : ℕ) → 1 ≤ size → size ≤ 200 → AreNamed (program_rows seed size) (classes_generated seed size)
 generated-named seed size some most = named-classes (program_rows seed size) (rows-fit seed size some most)
 
-pub generated-members : (seed size : ℕ) → 1 ≤ size → size ≤ 200 → HaveMembers (program_rows seed size) (generated seed size)
+pub generated-members : (seed size : ℕ) → 1 ≤ size → size ≤ 200 → HaveMembers (program_rows seed size) (classes_generated seed size)
 generated-members seed size some most = member-classes (program_rows seed size) (rows-fit seed size some most)
 
-pub generated-codes : (seed size : ℕ) → 1 ≤ size → size ≤ 200 → HaveCodes (program_rows seed size) (generated seed size)
+pub generated-codes : (seed size : ℕ) → 1 ≤ size → size ≤ 200 → HaveCodes (program_rows seed size) (classes_generated seed size)
 generated-codes seed size some most = code-classes (program_rows seed size) (rows-fit seed size some most)
 
-pub generated-pools : (seed size : ℕ) → 1 ≤ size → size ≤ 200 → AllByRecursion HasOwnPool (generated seed size)
+pub generated-pools : (seed size : ℕ) → 1 ≤ size → size ≤ 200 → AllByRecursion HasOwnPool (classes_generated seed size)
 generated-pools seed size some most = pool-classes (program_rows seed size) (rows-fit seed size some most)
 
 -- what holds of the generated classes holds of an answer that is those
-pub all-of : {V : Type 0} (items : V → List ClassFile) (P : List ClassFile → Type 0) (seed size : ℕ) → P (generated seed size) → (r : Result V NoMemory)
-    → IfOk r (λ v. items v ≡ generated seed size) → IfOk r (λ v. P (items v))
+pub all-of : {V : Type 0} (items : V → List ClassFile) (P : List ClassFile → Type 0) (seed size : ℕ) → P (classes_generated seed size) → (r : Result V NoMemory)
+    → IfOk r (λ v. items v ≡ classes_generated seed size) → IfOk r (λ v. P (items v))
 all-of items P seed size holds (Ok v) is = subst P (sym is) holds
 all-of items P seed size holds (Err e) is = tt

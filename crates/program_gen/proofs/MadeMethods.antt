@@ -13,7 +13,7 @@ use Rattle.const_pool.specs.Pool.{is_utf8}
 use Rattle.const_pool.specs.ClassFile.{IsByte, IsCode, IsMember, IsMethodAttribute, code_bytes, code_name, member_bytes}
 use Rattle.program_gen.specs.declared.rows.MethodRow.{MethodRow}
 use Rattle.program_gen.specs.Names.{member_text, member_descriptor}
-use Rattle.program_gen.specs.Making.{shared, code_from, MethodMade, method_added, MethodsMade, methods_from}
+use Rattle.program_gen.specs.Making.{entry_shared, code_from, MethodMade, method_added, MethodsMade, methods_from}
 use Rattle.program_gen.specs.Fits.{FitsMethod}
 use Rattle.program_gen.specs.Members.{HasCodeOf, IsMethodOf}
 use Rattle.program_gen.proofs.Pools.{zip-push, zip-by, names-at, text-named, IsGood}
@@ -114,11 +114,11 @@ unfolding method_added
 method-grows n pool row g h fits =
     let few = fits.few in
     let a = text-added n pool (member_text row.name) g (omega arith) (member_text-fit row.name) in
-    let name = shared pool (Utf8 (member_text row.name)) in
+    let name = entry_shared pool (Utf8 (member_text row.name)) in
     let b = text-added (n + 1) name.pool (member_descriptor row.name) a.grows.good (omega arith) (member_descriptor-fit row.name) in
-    let descriptor = shared name.pool (Utf8 (member_descriptor row.name)) in
+    let descriptor = entry_shared name.pool (Utf8 (member_descriptor row.name)) in
     let c = text-added ((n + 1) + 1) descriptor.pool (codes "Code") b.grows.good (omega arith) code-fit in
-    let attribute = shared descriptor.pool (Utf8 (codes "Code")) in
+    let attribute = entry_shared descriptor.pool (Utf8 (codes "Code")) in
     let d = code-grows row.code (((n + 1) + 1) + 1) attribute.pool [] c.grows.good (omega (arith, few)) tt fits.each in
     let whole = code-parts row.code (((n + 1) + 1) + 1) attribute.pool [] c.grows.good (omega (arith, few)) tt fits.each in
     let size = 6 * length row.code in

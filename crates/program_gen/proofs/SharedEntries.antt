@@ -7,7 +7,7 @@ use Rattle.std.proofs.lemmas.Option.{slice_get_within}
 use Rattle.std.proofs.lemmas.Slice.Eq.{bytes_eq-Decides}
 use Rattle.const_pool.specs.declared.pool.Const.{Const}
 use Rattle.const_pool.specs.declared.pool.Const.TheVariants.{Gap, Utf8, Integer, Float, Long, Double, Class, Text, Field, Method, InterfaceMethod, NameType}
-use Rattle.program_gen.specs.Making.{short_of, is_text, is_class, is_field, is_method, is_name_type, is_same, Shared, shared_at, shared}
+use Rattle.program_gen.specs.Making.{short_of, is_text, is_class, is_field, is_method, is_name_type, is_same, Shared, shared_at, entry_shared}
 use Rattle.program_gen.proofs.Pools.{seam, IsNarrow, IsGood, good-push, good-wider}
 
 text-is : (text : List ℕ) (other : Const) → is_text text other ≡ true → Utf8 text ≡ other
@@ -153,8 +153,8 @@ shared-new n pool entry g h plain =
       small = omega (arith, short, count);
     }
 
-pub shared-holds : (n : ℕ) (pool : List Const) (entry : Const) → IsGood n pool → n < 65535 → IsNarrow pool entry → IsShared n pool entry (shared pool entry)
-unfolding shared
+pub shared-holds : (n : ℕ) (pool : List Const) (entry : Const) → IsGood n pool → n < 65535 → IsNarrow pool entry → IsShared n pool entry (entry_shared pool entry)
+unfolding entry_shared
 shared-holds n pool entry g h plain = by (position_from (is_same entry) 0 pool) refl
   where
     by : (o : Option ℕ) → position_from (is_same entry) 0 pool ≡ o → IsShared n pool entry (shared_at pool entry (position_from (is_same entry) 0 pool))

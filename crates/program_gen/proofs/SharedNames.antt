@@ -14,7 +14,7 @@ use Rattle.program_gen.specs.declared.rows.ClassName.TheVariants.{Object, System
 use Rattle.program_gen.specs.declared.rows.MemberName.{MemberName}
 use Rattle.program_gen.specs.declared.rows.MemberName.TheVariants.{Initializer, Entry, Run, Out, Println}
 use Rattle.program_gen.specs.Names.{class_text, member_text, member_descriptor}
-use Rattle.program_gen.specs.Making.{Shared, shared, class_shared, name_type_shared, member_entry, member_shared}
+use Rattle.program_gen.specs.Making.{Shared, entry_shared, class_shared, name_type_shared, member_entry, member_shared}
 use Rattle.program_gen.specs.Fits.{FitsName}
 use Rattle.program_gen.proofs.Pools.{front, names-at, IsNarrow, IsGood}
 use Rattle.program_gen.proofs.SharedEntries.{shared-holds}
@@ -102,16 +102,16 @@ pub record HasAdded (n added : ℕ) (pool : List Const) (entry : Const) (s : Sha
   pub at : slice_get s.pool s.index ≡ Some entry
   pub small : s.index < 2 ^ 16
 
-pub entry-added : (n : ℕ) (pool : List Const) (entry : Const) → IsGood n pool → n < 65535 → IsNarrow pool entry → HasAdded n 1 pool entry (shared pool entry)
+pub entry-added : (n : ℕ) (pool : List Const) (entry : Const) → IsGood n pool → n < 65535 → IsNarrow pool entry → HasAdded n 1 pool entry (entry_shared pool entry)
 entry-added n pool entry g h plain =
     let s = shared-holds n pool entry g h plain in
     record {
-      grows = record { more = s.more; grown = s.grown; good = subst (λ k. IsGood k (shared pool entry).pool) (let e : suc n ≡ n + 1 = omega arith in e) s.good };
+      grows = record { more = s.more; grown = s.grown; good = subst (λ k. IsGood k (entry_shared pool entry).pool) (let e : suc n ≡ n + 1 = omega arith in e) s.good };
       at = s.at;
       small = s.small;
     }
 
-pub text-added : (n : ℕ) (pool : List Const) (text : List ℕ) → IsGood n pool → n < 65535 → is_fit text ≡ true → HasAdded n 1 pool (Utf8 text) (shared pool (Utf8 text))
+pub text-added : (n : ℕ) (pool : List Const) (text : List ℕ) → IsGood n pool → n < 65535 → is_fit text ≡ true → HasAdded n 1 pool (Utf8 text) (entry_shared pool (Utf8 text))
 text-added n pool text g h fit = entry-added n pool (Utf8 text) g h (text-narrow pool text fit)
 
 -- no class is that of the probes, which has another letter after the first
@@ -132,7 +132,7 @@ pub class-added : (n : ℕ) (pool : List Const) (name : ClassName) → IsGood n 
 unfolding class_shared
 class-added n pool name g h fits =
     let t = text-added n pool (class_text name) g (omega arith) (class_text-fit name fits) in
-    let text = shared pool (Utf8 (class_text name)) in
+    let text = entry_shared pool (Utf8 (class_text name)) in
     let c = entry-added (n + 1) text.pool (Class text.index) t.grows.good (omega arith)
     (record {
       entry = (t.small, names-at is_utf8 text.pool text.index _ t.at refl);
@@ -157,9 +157,9 @@ name_type-added : (n : ℕ) (pool : List Const) (member : MemberName) → IsGood
 unfolding name_type_shared
 name_type-added n pool member g h =
     let a = text-added n pool (member_text member) g (omega arith) (member_text-fit member) in
-    let name = shared pool (Utf8 (member_text member)) in
+    let name = entry_shared pool (Utf8 (member_text member)) in
     let b = text-added (n + 1) name.pool (member_descriptor member) a.grows.good (omega arith) (member_descriptor-fit member) in
-    let descriptor = shared name.pool (Utf8 (member_descriptor member)) in
+    let descriptor = entry_shared name.pool (Utf8 (member_descriptor member)) in
     let both = then-grows n 1 1 _ _ _ a.grows b.grows in
     let name_at = at-grown (n + 1) 1 _ _ name.index _ b.grows a.at in
     let c = entry-added (n + 2) descriptor.pool (NameType name.index descriptor.index) both.good (omega arith)

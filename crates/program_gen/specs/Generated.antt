@@ -12,8 +12,8 @@ use Rattle.program_gen.specs.Names.{class_text}
 use Rattle.program_gen.specs.Programs.{program_rows}
 use Rattle.program_gen.specs.Making.{class_file_of}
 
-abbrev pub generated : ℕ → ℕ → List ClassFile
-generated seed size = map class_file_of (program_rows seed size)
+abbrev pub classes_generated : ℕ → ℕ → List ClassFile
+classes_generated seed size = map class_file_of (program_rows seed size)
 
 -- the most bytes of a class file that is read
 abbrev pub most_bytes : ℕ

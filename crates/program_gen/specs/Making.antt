@@ -65,17 +65,17 @@ abbrev pub shared_at : List Const → Const → Option ℕ → Shared
 shared_at pool entry (Some place) = record { pool = pool; index = short_of place }
 shared_at pool entry None = record { pool = pool ++ entry ∷ []; index = short_of (length pool) }
 
-unfoldable pub shared : List Const → Const → Shared
-shared pool entry = shared_at pool entry (position_from (is_same entry) 0 pool)
+unfoldable pub entry_shared : List Const → Const → Shared
+entry_shared pool entry = shared_at pool entry (position_from (is_same entry) 0 pool)
 
 unfoldable pub class_shared : List Const → ClassName → Shared
-class_shared pool name = let t = shared pool (Utf8 (class_text name)) in shared t.pool (Class t.index)
+class_shared pool name = let t = entry_shared pool (Utf8 (class_text name)) in entry_shared t.pool (Class t.index)
 
 unfoldable pub name_type_shared : List Const → MemberName → Shared
 name_type_shared pool member =
-    let n = shared pool (Utf8 (member_text member)) in
-    let d = shared n.pool (Utf8 (member_descriptor member)) in
-    shared d.pool (NameType n.index d.index)
+    let n = entry_shared pool (Utf8 (member_text member)) in
+    let d = entry_shared n.pool (Utf8 (member_descriptor member)) in
+    entry_shared d.pool (NameType n.index d.index)
 
 -- getstatic names a field, and the others a method
 abbrev pub member_entry : ℕ → ℕ → ℕ → Const
@@ -85,7 +85,7 @@ unfoldable pub member_shared : List Const → ℕ → ClassName → MemberName �
 member_shared pool op class member =
     let c = class_shared pool class in
     let m = name_type_shared c.pool member in
-    shared m.pool (member_entry op c.index m.index)
+    entry_shared m.pool (member_entry op c.index m.index)
 
 -- ---- code
 
@@ -123,9 +123,9 @@ AddsMethod result pool made = IfOk result (λ member. (member ≡ made.member) �
 
 unfoldable pub method_added : List Const → MethodRow → MethodMade
 method_added pool row =
-    let n = shared pool (Utf8 (member_text row.name)) in
-    let d = shared n.pool (Utf8 (member_descriptor row.name)) in
-    let a = shared d.pool (Utf8 (codes "Code")) in
+    let n = entry_shared pool (Utf8 (member_text row.name)) in
+    let d = entry_shared n.pool (Utf8 (member_descriptor row.name)) in
+    let a = entry_shared d.pool (Utf8 (codes "Code")) in
     let c = code_from a.pool [] row.code in
     record {
       pool = c.pool;

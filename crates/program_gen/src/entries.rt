@@ -4,7 +4,7 @@ ghost use Rattle.std.specs.Prelude.{◌≡◌, ◌<◌, ◌^◌, length, IfOk};
 ghost use Rattle.std.specs.List.{position_from};
 ghost use Rattle.const_pool.specs.declared.pool.Const.TheVariants.{Utf8};
 ghost use Rattle.program_gen.specs.Names.{class_text, member_text, member_descriptor};
-ghost use Rattle.program_gen.specs.Making.{Shares, short_of, is_text, is_class, is_field, is_method, is_name_type, is_same, shared, class_shared, name_type_shared, member_entry, member_shared};
+ghost use Rattle.program_gen.specs.Making.{Shares, short_of, is_text, is_class, is_field, is_method, is_name_type, is_same, entry_shared, class_shared, name_type_shared, member_entry, member_shared};
 
 use crate::names::{class_text, member_descriptor, member_text, text_of};
 use crate::rows::{ClassName, MemberName};
@@ -95,9 +95,9 @@ fn place_of(pool: &[Const], entry: &Const) -> Option<usize>
 }
 
 /// The index of an entry, which is added where there is none that is equal.
-#[tactic(auto, unfolding(crate::specs::Making::shared))]
+#[tactic(auto, unfolding(crate::specs::Making::entry_shared))]
 fn share(pool: &mut Vec<Const>, entry: Const) -> Result<u16, NoMemory>
-    ensures { Shares result pool.new.items (shared pool.old.items entry) }
+    ensures { Shares result pool.new.items (entry_shared pool.old.items entry) }
 {
     match place_of(pool, &entry) {
         Some(place) => Ok(short_of(place)),
@@ -111,7 +111,7 @@ fn share(pool: &mut Vec<Const>, entry: Const) -> Result<u16, NoMemory>
 
 /// The index of an ASCII text (4.4.7).
 pub(crate) fn share_text(alloc: Global, pool: &mut Vec<Const>, text: &str) -> Result<u16, NoMemory>
-    ensures { Shares result pool.new.items (shared pool.old.items (Utf8 text.now)) }
+    ensures { Shares result pool.new.items (entry_shared pool.old.items (Utf8 text.now)) }
 {
     share(pool, Const::Utf8(text_of(alloc, text)?))
 }

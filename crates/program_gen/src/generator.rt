@@ -4,7 +4,7 @@ ghost use Rattle.std.specs.Prelude.{◌≡◌, ◌<◌, ◌≤◌, ◌+◌, leng
 ghost use Rattle.std.specs.List.{AllByRecursion};
 ghost use Rattle.const_pool.specs.ClassFile.{IsClassFile};
 ghost use Rattle.program_gen.specs.Fits.{FitsClass};
-ghost use Rattle.program_gen.specs.Generated.{AreNamed, HasOwnPool, HaveOwnNames, IsShortFile, generated};
+ghost use Rattle.program_gen.specs.Generated.{AreNamed, HasOwnPool, HaveOwnNames, IsShortFile, classes_generated};
 ghost use Rattle.program_gen.specs.Members.{HaveCodes, HaveMembers};
 ghost use Rattle.program_gen.specs.Programs.{program_rows};
 
@@ -19,7 +19,7 @@ use std::alloc::Global;
 fn classes_of(alloc: Global, seed: u32, size: u32) -> Result<Vec<ClassFile>, NoMemory>
     requires some { 1 ≤ size }
     requires most { size ≤ 200 }
-    ensures classes { IfOk result (λ classes. classes.items ≡ generated seed size) }
+    ensures classes { IfOk result (λ classes. classes.items ≡ classes_generated seed size) }
     ensures formed { IfOk result (λ classes. AllByRecursion IsClassFile classes.items) }
 {
     let mut classes = Vec::new(alloc);
@@ -38,7 +38,7 @@ fn classes_of(alloc: Global, seed: u32, size: u32) -> Result<Vec<ClassFile>, NoM
 pub fn generate(alloc: Global, seed: u32, size: u32) -> Result<Vec<ClassFile>, NoMemory>
     requires some { 1 ≤ size }
     requires most { size ≤ 200 }
-    ensures classes { IfOk result (λ classes. classes.items ≡ generated seed size) }
+    ensures classes { IfOk result (λ classes. classes.items ≡ classes_generated seed size) }
     ensures formed { IfOk result (λ classes. AllByRecursion IsClassFile classes.items) }
     ensures count { IfOk result (λ classes. length classes.items ≡ size + 1) }
     ensures short { IfOk result (λ classes. AllByRecursion IsShortFile classes.items) }

@@ -29,7 +29,12 @@ fn marks(alloc: Global, linker: &Linker, reveal: &Reveal) -> Result<Seq<Mark>, N
 }
 
 /// The methods that this one, whose class is loaded, can begin.
-fn begun(alloc: Global, linker: &Linker, reveal: &Reveal, method: u32) -> Result<Seq<u32>, NoMemory>
+fn methods_begun(
+    alloc: Global,
+    linker: &Linker,
+    reveal: &Reveal,
+    method: u32,
+) -> Result<Seq<u32>, NoMemory>
     requires ready { IsReady linker.now reveal.now }
     requires class { has_class linker.now.program linker.now.loaded method ≡ true }
     ensures { IfOk result (AreTargets linker.now.program (now_of reveal.now) method) }
@@ -38,7 +43,7 @@ fn begun(alloc: Global, linker: &Linker, reveal: &Reveal, method: u32) -> Result
 }
 
 /// The fact of the same kind that is the case, where it can be told.
-pub fn told(
+pub fn fact_told(
     alloc: Global,
     linker: &Linker,
     reveal: &Reveal,
@@ -52,7 +57,7 @@ pub fn told(
         Fact::Changed(_) => Ok(Some(Fact::Changed(reveal.changed(alloc)?))),
         Fact::Begins(method, _) => {
             if has_class(linker, *method) {
-                Ok(Some(Fact::Begins(*method, begun(alloc, linker, reveal, *method)?)))
+                Ok(Some(Fact::Begins(*method, methods_begun(alloc, linker, reveal, *method)?)))
             } else {
                 Ok(None)
             }

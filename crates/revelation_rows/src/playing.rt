@@ -7,7 +7,7 @@ ghost use Rattle.revelation_rows.specs.Rows.{Comes, first};
 ghost use Rattle.revelation_rows.specs.Scenes.{ComesTo, IsFresh, IsReady};
 
 use crate::item::{Difference, Fact, Happening, Item};
-use crate::looking::{is_same, told};
+use crate::looking::{fact_told, is_same};
 use crate::scenes::{Scene, deselect, enter, has_class, load, quiet, select, show};
 use call_revelation::Reveal;
 use class_linker::Linker;
@@ -81,7 +81,7 @@ fn look(
     ensures { IfOk result (ComesTo (Is fact.now)
         linker.now reveal.now linker.now reveal.now) }
 {
-    match told(alloc, linker, reveal, fact)? {
+    match fact_told(alloc, linker, reveal, fact)? {
         Some(came) => {
             if is_same(fact, &came) {
                 return Ok(None);

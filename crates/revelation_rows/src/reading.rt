@@ -96,7 +96,7 @@ fn item_of(verb: &str, method: u32) -> Option<Item> {
 }
 
 /// A class that is loaded.
-fn loaded(alloc: Global, name: &str) -> Result<Option<Item>, NoMemory> {
+fn item_loaded(alloc: Global, name: &str) -> Result<Option<Item>, NoMemory> {
     Ok(Some(Item::Happens(Happening::Loaded(from_utf8(alloc, name)?))))
 }
 
@@ -116,7 +116,7 @@ fn begins(alloc: Global, program: &Program, words: &str) -> Result<Option<Item>,
 fn read_word(alloc: Global, program: &Program, word: &str) -> Result<Option<Item>, NoMemory> {
     let (verb, name) = word.split_once(':').unwrap_or((word, ""));
     match verb {
-        "load" => loaded(alloc, name),
+        "load" => item_loaded(alloc, name),
         "begins" => begins(alloc, program, name),
         "quiet" => Ok(Some(Item::Happens(Happening::Quiet))),
         "show" => Ok(Some(Item::Happens(Happening::Shown))),

@@ -10,7 +10,7 @@ ghost use Rattle.call_revelation.specs.Reveals.{now_of};
 ghost use Rattle.revelation_rows.specs.declared.item.Happening.TheVariants.{Loaded as class_loaded, Entered, Selected, Deselected, Quiet, Shown};
 ghost use Rattle.revelation_rows.specs.Scenes.{HasHappened, IsAlong, IsBlank, IsFresh, IsLinked, IsReady, loading};
 
-use crate::spent::{Spent, taken};
+use crate::spent::{Spent, time_taken};
 use call_revelation::Reveal;
 use class_linker::{Linker, Loaded};
 use jf_bytes::{NoMemory, Text16, from_utf8};
@@ -65,11 +65,11 @@ pub fn load<R: CpuClock>(
     ensures { OnOk result (HasHappened (class_loaded name.now) scene.old.linker scene.old.reveal
         scene.new.linker scene.new.reveal) }
 {
-    let start = taken(rt);
+    let start = time_taken(rt);
     link(&mut scene.linker, name)?;
-    let linked = taken(rt);
+    let linked = time_taken(rt);
     follow(alloc, &scene.linker, &mut scene.reveal)?;
-    let end = taken(rt);
+    let end = time_taken(rt);
     scene
         .spent
         .add(linked.saturating_sub(start), end.saturating_sub(linked));
@@ -161,11 +161,11 @@ pub fn enter<R: CpuClock>(
     ensures { OnOk result (HasHappened (Entered method times) scene.old.linker scene.old.reveal
         scene.new.linker scene.new.reveal) }
 {
-    let start = taken(rt);
+    let start = time_taken(rt);
     for _ in 0..times {
         enter_once(alloc, &scene.linker, &mut scene.reveal, method)?;
     }
-    let end = taken(rt);
+    let end = time_taken(rt);
     scene.spent.add(0, end.saturating_sub(start));
     Ok(())
 }

@@ -35,7 +35,7 @@ impl Spent {
 }
 
 /// The nanoseconds of the processor that were taken so far, where there is a clock of it.
-pub fn taken<R: CpuClock>(rt: &R) -> u64 {
+pub fn time_taken<R: CpuClock>(rt: &R) -> u64 {
     match rt.thread_cpu_time() {
         Ok(time) => u64::try_from(time.as_nanos()).unwrap_or(0),
         Err(_) => 0,

@@ -75,7 +75,7 @@ pub(crate) fn recursive() -> &'static [u8] {
 }
 
 /// What the top call keeps of these words.
-pub(crate) fn kept(alloc: Global, words: &[&str]) -> Result<Kept, Fail> {
+pub(crate) fn session_kept(alloc: Global, words: &[&str]) -> Result<Kept, Fail> {
     let words = bytes_of(alloc, words)?;
     let mut files = files(alloc)?;
     let mut input = MemSource::new(Vec::new(alloc), Vec::new(alloc));

@@ -1,6 +1,6 @@
 //! Which actions a session refuses, and when.
 
-use crate::kept::{advance, kept};
+use crate::kept::{advance, session_kept};
 use jvm_model::Mark;
 use profile_session::{ActError, Run, Session};
 use std::test::Fail;
@@ -21,7 +21,7 @@ fn what_is_so_already_is_refused(rt: HostRuntime) -> Result<(), Fail> {
     let words = [
         "jfluid", "--main", "P1", "--root", "P1.f(I)I", "--budget", "3", "P1.class",
     ];
-    let mut kept = kept(rt.alloc(), &words)?;
+    let mut kept = session_kept(rt.alloc(), &words)?;
     let session = &mut *kept.session;
     let Some(root) = session.program().acts.get(0).copied() else {
         return Err("no root".into());
@@ -47,7 +47,7 @@ fn behind_the_end_all_are_refused(rt: HostRuntime) -> Result<(), Fail> {
     let words = [
         "jfluid", "--main", "P1", "--root", "P1.f(I)I", "--budget", "3", "P1.class",
     ];
-    let mut kept = kept(rt.alloc(), &words)?;
+    let mut kept = session_kept(rt.alloc(), &words)?;
     let session = &mut *kept.session;
     let Some(root) = session.program().acts.get(0).copied() else {
         return Err("no root".into());

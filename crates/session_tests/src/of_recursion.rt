@@ -1,6 +1,6 @@
 //! A recursive method that is deselected while its activations are live.
 
-use crate::kept::{advance, kept, recursive};
+use crate::kept::{advance, recursive, session_kept};
 use jvm_model::Mark;
 use profile_session::Run;
 use std::test::Fail;
@@ -10,7 +10,7 @@ fn behind_the_last_activation_all_is_original(rt: HostRuntime) -> Result<(), Fai
     let words = [
         "jfluid", "--main", "R", "--root", "R.r(I)V", "--budget", "4", "R.class",
     ];
-    let mut kept = kept(rt.alloc(), &words)?;
+    let mut kept = session_kept(rt.alloc(), &words)?;
     let session = &mut *kept.session;
     let Some(root) = session.program().acts.get(0).copied() else {
         return Err("no root".into());

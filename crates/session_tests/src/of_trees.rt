@@ -1,6 +1,6 @@
 //! The tree of a session that is asked for it once or often.
 
-use crate::kept::{advance, kept};
+use crate::kept::{advance, session_kept};
 use context_tree::Node;
 use profile_session::{Run, Session};
 use std::alloc::Global;
@@ -29,8 +29,8 @@ const WORDS: [&str; 8] = [
 #[test]
 fn a_tree_that_is_asked_for_often_is_the_same(rt: HostRuntime) -> Result<(), Fail> {
     let alloc = rt.alloc();
-    let mut often = kept(alloc, &WORDS)?;
-    let mut once = kept(alloc, &WORDS)?;
+    let mut often = session_kept(alloc, &WORDS)?;
+    let mut once = session_kept(alloc, &WORDS)?;
     for step in 1..=9u64 {
         let came = advance(&mut often.session, 1);
         assert_eq!(rt; came, Some(if step == 9 { Run::Ended } else { Run::Still }));

@@ -56,7 +56,7 @@ fn device_of(word: &str) -> Option<Device> {
 }
 
 /// What a line of the file `given` says behind its word `padded`.
-fn padded(rest: &str) -> Option<Line<'_>> {
+fn line_padded(rest: &str) -> Option<Line<'_>> {
     let (name, rest) = rest.split_once(' ')?;
     let (path, length) = rest.split_once(' ')?;
     let length = length.parse::<usize>().ok()?;
@@ -76,7 +76,7 @@ fn line_of(text: &str) -> Option<Line<'_>> {
             let count = count.parse::<usize>().ok()?;
             Some(Line::Zeros { name, count })
         }
-        "padded" => padded(rest),
+        "padded" => line_padded(rest),
         "front" => {
             let (name, path) = rest.split_once(' ')?;
             Some(Line::Front { name, path })

@@ -176,7 +176,7 @@ enum By {
 }
 
 /// What is invoked for the method at a position of a class: by an object of the subject, or by invokespecial in a method of it.
-fn invoked(linker: &Linker, subject: u32, by: By, class: u32, position: u16) -> Given {
+fn method_invoked(linker: &Linker, subject: u32, by: By, class: u32, position: u16) -> Given {
     if !is_loaded(linker, subject) {
         return Given::NotAsked;
     }
@@ -201,7 +201,7 @@ fn invoke(
     let subject = class_of(alloc, linker, subject)?;
     Ok(
         match method(alloc, linker, by == By::Interface, reference)? {
-            Given::Member(class, position) => invoked(linker, subject, by, class, position),
+            Given::Member(class, position) => method_invoked(linker, subject, by, class, position),
             _ => Given::NotAsked,
         },
     )

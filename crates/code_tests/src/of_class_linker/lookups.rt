@@ -45,7 +45,7 @@ const BUILT_IN: [&str; 4] = [
 ];
 
 /// A linker that has loaded all of these.
-fn loaded(alloc: Global) -> Result<Linker, Fail> {
+fn linker_loaded(alloc: Global) -> Result<Linker, Fail> {
     let mut linker = linker_of(alloc, shapes())?;
     for (_, name, _, _, _, _) in shapes() {
         let _given = linker.load(&text(alloc, name)?);
@@ -155,7 +155,7 @@ fn rows() -> &'static [Row] {
 }
 
 /// What is found in the class at a position, where it is loaded.
-fn found(
+fn member_found(
     alloc: Global,
     linker: &Linker,
     class: u32,
@@ -189,10 +189,10 @@ fn is_wanted(linker: &Linker, given: Resolved, wanted: &str, place: Option<u16>)
 #[test]
 fn members_by_name_and_descriptor(rt: HostRuntime) -> Result<(), Fail> {
     let alloc = rt.alloc();
-    let linker = loaded(alloc)?;
+    let linker = linker_loaded(alloc)?;
     for (name, sought, member, descriptor, wanted, place) in rows() {
         let class = class_named(&linker, name);
-        let given = found(alloc, &linker, class, sought, member, descriptor)?;
+        let given = member_found(alloc, &linker, class, sought, member, descriptor)?;
         assert!(rt;
             is_wanted(&linker, given, wanted, *place),
             "{member} of {name}"
@@ -223,7 +223,7 @@ fn is_laid_out(linker: &Linker, class: u32, kinds: &[Kind]) -> bool {
 
 #[test]
 fn slots_of_objects(rt: HostRuntime) -> Result<(), Fail> {
-    let linker = loaded(rt.alloc())?;
+    let linker = linker_loaded(rt.alloc())?;
     for (name, kinds) in layouts() {
         let class = class_named(&linker, name);
         assert!(rt; is_laid_out(&linker, class, kinds), "of {name}");

@@ -48,7 +48,7 @@ fn shapes() -> &'static [Shape] {
 }
 
 /// A linker that has loaded all of these.
-fn loaded(alloc: Global) -> Result<Linker, Fail> {
+fn linker_loaded(alloc: Global) -> Result<Linker, Fail> {
     let mut linker = linker_of(alloc, shapes())?;
     for (_, name, _, _, _, _) in shapes() {
         let _given = linker.load(&text(alloc, name)?);
@@ -111,7 +111,7 @@ fn is_selected(
 
 #[test]
 fn selected_methods(rt: HostRuntime) -> Result<(), Fail> {
-    let linker = loaded(rt.alloc())?;
+    let linker = linker_loaded(rt.alloc())?;
     for (receiver, class, interface, wanted) in selections() {
         let from = class_named(&linker, receiver);
         let own = class_named(&linker, class);
@@ -154,7 +154,7 @@ fn special(linker: &Linker, caller: u32, class: u32) -> Option<(u32, u16)> {
 
 #[test]
 fn special_methods(rt: HostRuntime) -> Result<(), Fail> {
-    let linker = loaded(rt.alloc())?;
+    let linker = linker_loaded(rt.alloc())?;
     for (caller, class, wanted) in specials() {
         let from = class_named(&linker, caller);
         let own = class_named(&linker, class);
@@ -197,7 +197,7 @@ fn overrides(linker: &Linker, class: u32, above: u32) -> Option<bool> {
 
 #[test]
 fn overridden_methods(rt: HostRuntime) -> Result<(), Fail> {
-    let linker = loaded(rt.alloc())?;
+    let linker = linker_loaded(rt.alloc())?;
     for (class, above, wanted) in overridings() {
         let lower = class_named(&linker, class);
         let upper = class_named(&linker, above);
@@ -280,7 +280,7 @@ pub(super) fn subtype(
 #[test]
 fn subtypes_of_kinds(rt: HostRuntime) -> Result<(), Fail> {
     let alloc = rt.alloc();
-    let mut linker = loaded(alloc)?;
+    let mut linker = linker_loaded(alloc)?;
     for (below, above, wanted) in subtypes() {
         let given = subtype(alloc, &mut linker, below, above);
         assert!(rt; given == Some(*wanted), "{below} and {above}");

@@ -9,16 +9,16 @@ use std::alloc::Global;
 use std::test::Fail;
 
 /// A linker for the classes of the loads.
-fn made(alloc: Global) -> Option<Linker> {
+fn linker_made(alloc: Global) -> Option<Linker> {
     let program = shaped_program(alloc, shapes())?;
     Linker::new(alloc, program).ok()
 }
 
 /// The same, made anew where memory ran out.
 fn made_again(alloc: Global) -> Option<Linker> {
-    match made(alloc) {
+    match linker_made(alloc) {
         Some(linker) => Some(linker),
-        None => made(alloc),
+        None => linker_made(alloc),
     }
 }
 
@@ -38,7 +38,7 @@ fn are_loaded(linker: &Linker, count: usize) -> bool {
 }
 
 /// What loading the name gives, with memory. None where something was loaded or lost by want of memory.
-fn loaded(linker: &mut Linker, name: &Text16) -> Option<Loaded> {
+fn class_loaded(linker: &mut Linker, name: &Text16) -> Option<Loaded> {
     let count = linker.loaded().len();
     match linker.load(name) {
         Loaded::NoMemory => {
@@ -57,7 +57,7 @@ fn loads_whatever_fails(rt: HostRuntime) -> Result<(), Fail> {
     let alloc = rt.alloc();
     let mut linker = made_again(alloc).ok_or("a linker")?;
     for (name, wanted) in loads() {
-        let given = loaded(&mut linker, &name_of(alloc, name)?).ok_or("what was loaded")?;
+        let given = class_loaded(&mut linker, &name_of(alloc, name)?).ok_or("what was loaded")?;
         assert!(rt; is_wanted(&linker, &given, wanted), "of {name}");
     }
     assert!(rt; are_loaded(&linker, in_the_end().len()));

@@ -50,7 +50,7 @@ fn all_lead_to_starts(instrs: &[Instr]) -> bool
 }
 
 /// The bytes of the code that these bytes are.
-fn encoded(alloc: Global, bytes: &[u8]) -> Result<Vec<u8>, Fail>
+fn code_encoded(alloc: Global, bytes: &[u8]) -> Result<Vec<u8>, Fail>
     requires some { 0 < length bytes.now }
     requires short { length bytes.now ≤ 65535 }
 {
@@ -81,7 +81,7 @@ fn gives_the_bytes_back(rt: HostRuntime) -> Result<(), Fail> {
         WIDE_FORMS.as_slice(),
     ];
     for bytes in codes {
-        let again = encoded(rt.alloc(), bytes)?;
+        let again = code_encoded(rt.alloc(), bytes)?;
         assert_eq!(rt; again.as_slice(), bytes);
     }
     Ok(())

@@ -56,7 +56,7 @@ pub(super) fn wide() -> &'static [u8; 201] {
 }
 
 /// Some bytes, so many times others, and then further ones.
-pub(super) fn repeated(
+pub(super) fn byte_repeated(
     alloc: Global,
     front: &[u8],
     item: &[u8],

@@ -1,6 +1,6 @@
 //! Files of the greatest lengths and counts. Each is read in proportion to its bytes.
 
-use super::files::{fault_of, p1, repeated};
+use super::files::{byte_repeated, fault_of, p1};
 use class_reader::ReadError::TooLong;
 use class_reader::{read_class, read_image};
 use std::test::Fail;
@@ -12,8 +12,8 @@ const LONGER: [u8; 8] = [0, 1, 0, 1, 0x00, 0x3f, 0xfe, 0xd3];
 
 #[test]
 fn long_attribute(rt: HostRuntime) -> Result<(), Fail> {
-    let front = repeated(rt.alloc(), &p1()[..294], &[], 0, &LONG)?;
-    let bytes = repeated(rt.alloc(), &front, &[7], 4_194_002, &[])?;
+    let front = byte_repeated(rt.alloc(), &p1()[..294], &[], 0, &LONG)?;
+    let bytes = byte_repeated(rt.alloc(), &front, &[7], 4_194_002, &[])?;
     assert_eq!(rt; bytes.len(), 4_194_304);
     let class = read_class(rt.alloc(), &bytes)?;
     assert_eq!(rt; class.attributes.len(), 1);
@@ -22,8 +22,8 @@ fn long_attribute(rt: HostRuntime) -> Result<(), Fail> {
 
 #[test]
 fn too_long(rt: HostRuntime) -> Result<(), Fail> {
-    let front = repeated(rt.alloc(), &p1()[..294], &[], 0, &LONGER)?;
-    let bytes = repeated(rt.alloc(), &front, &[7], 4_194_003, &[])?;
+    let front = byte_repeated(rt.alloc(), &p1()[..294], &[], 0, &LONGER)?;
+    let bytes = byte_repeated(rt.alloc(), &front, &[7], 4_194_003, &[])?;
     assert_eq!(rt; fault_of(rt.alloc(), &bytes), Some(TooLong));
     let class = read_image(rt.alloc(), &bytes)?;
     assert_eq!(rt; class.attributes.len(), 1);
@@ -41,7 +41,7 @@ const NO_MEMBERS: [u8; 14] = [0, 0x21, 0, 2, 0, 0, 0, 0, 0, 0, 0, 0, 0, 0];
 #[test]
 fn full_pool(rt: HostRuntime) -> Result<(), Fail> {
     // Strings, each of the first text
-    let bytes = repeated(rt.alloc(), &FULL_POOL, &[8, 0, 1], 65_532, &NO_MEMBERS)?;
+    let bytes = byte_repeated(rt.alloc(), &FULL_POOL, &[8, 0, 1], 65_532, &NO_MEMBERS)?;
     let class = read_class(rt.alloc(), &bytes)?;
     assert_eq!(rt; class.pool.count(), 65_535);
     Ok(())
@@ -56,7 +56,7 @@ const MANY_METHODS: [u8; 29] = [
 #[test]
 fn many_methods(rt: HostRuntime) -> Result<(), Fail> {
     let method = [0, 1, 0, 1, 0, 1, 0, 0];
-    let bytes = repeated(rt.alloc(), &MANY_METHODS, &method, 65_535, &[0, 0])?;
+    let bytes = byte_repeated(rt.alloc(), &MANY_METHODS, &method, 65_535, &[0, 0])?;
     let class = read_class(rt.alloc(), &bytes)?;
     assert_eq!(rt; class.methods.len(), 65_535);
     Ok(())

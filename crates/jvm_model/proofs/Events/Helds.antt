@@ -11,9 +11,9 @@ use Rattle.jvm_model.specs.Basis.Programs.{super_of, initializer_of}
 use Rattle.jvm_model.specs.Basis.SharedState.{phase_of, class_of, arguments_fit}
 use Rattle.jvm_model.specs.Instructions.Does.{does, loads}
 use Rattle.jvm_model.specs.Running.Applies.{still, with_frame, breaks, goes, place_of, enters_subroutine, has_room, live_in, most_live, begins_beside, resumes, gives_back, applies}
-use Rattle.jvm_model.specs.Running.Moves.{handler_for, own_at, caught, after_super, with_super, runs_initializer, argument_array, main_or_end, moves, move, then_turn, settled}
+use Rattle.jvm_model.specs.Running.Moves.{handler_for, own_at, throw_caught, after_super, with_super, runs_initializer, argument_array, main_or_end, moves, move, then_turn, turn_settled}
 use Rattle.jvm_model.specs.Classes.Load.{Fault}
-use Rattle.jvm_model.specs.Running.Run.{attempt, starts, is_quiet, before, arguments_made, with_loaded, loaded_turn, steps_by, steps_at, steps_on, step, main_loading, main_classes, loads_if, starts_unless, opened, exhausted, starts_if, start}
+use Rattle.jvm_model.specs.Running.Run.{attempt, starts, is_quiet, before, arguments_made, with_loaded, loaded_turn, steps_by, steps_at, steps_on, step, main_loading, main_classes, loads_if, starts_unless, run_opened, heap_exhausted, starts_if, start}
 use Rattle.jvm_model.specs.Turns.Told.{Held, held_by, helds, mark_now, held_after, all_held}
 use Rattle.jvm_model.proofs.Running.Settles.{settled-keeps}
 use Rattle.jvm_model.proofs.Running.Attempts.{again-by, with_loaded-shared}
@@ -77,7 +77,7 @@ module _ (v : ℕ → Mark) where
 
   -- ---- moves
 
-  caught-tells : (w : World) (t : Listing) (s : State) (r : ℕ) (f : Frame) (h : Option ℕ) → Tells t (held_by v f ∷ helds v s.stack) (caught w t s r f h)
+  caught-tells : (w : World) (t : Listing) (s : State) (r : ℕ) (f : Frame) (h : Option ℕ) → Tells t (held_by v f ∷ helds v s.stack) (throw_caught w t s r f h)
   caught-tells w t s r f None = refl
   caught-tells w t s r f (Some target) = goes-helds (record s { thrown = None }) f (own_at t f) f.locals (Ref r ∷ []) (Some target)
 
@@ -110,7 +110,7 @@ module _ (v : ℕ → Mark) where
   moves-tell w t s None None (Initializing c Initializer ∷ below) same = runs-tells w t (record s { stack = below }) c (initializer_of w.program c)
   moves-tell w t s None None (Initializing c Finish ∷ below) same = refl
 
-  pub settled-tells : (w : World) (t : Listing) (ms : List Held) (a : Turn) → Tells t ms a → Tells t ms (settled w t a)
+  pub settled-tells : (w : World) (t : Listing) (ms : List Held) (a : Turn) → Tells t ms a → Tells t ms (turn_settled w t a)
   settled-tells w t ms a p = settled-keeps w t (Tells t ms)
       (λ b q. IfSome_then (move w t b.after) {P = Tells t (helds v b.after.stack)} {Q = λ next. Tells t ms (then_turn b next)}
       (moves-tell w t b.after b.after.ending b.after.thrown b.after.stack refl) (λ next r. then-tells t ms b next q r)) a p
@@ -165,9 +165,9 @@ module _ (v : ℕ → Mark) where
 
   pub start-tells : (w : World) (t : Listing) → helds v (start w t).after.stack ≡ all_held (mark_now v t) [] (start w t).changes
   start-tells w t = by (arguments_fit w.program) where
-    by : (b : Bool) → Tells t [] (loaded_turn (loads_if w b) (settled w t (still (starts_if w b))))
+    by : (b : Bool) → Tells t [] (loaded_turn (loads_if w b) (turn_settled w t (still (starts_if w b))))
     by true =
-        let same : (opened w).stack ≡ [] = ap (λ (x : State). x.stack) (with_loaded-shared (main_classes w) (arguments_made w (before w))) in
-        let none = starts_unless-helds w (main_loading w).fault (opened w) (ap (helds v) same) in
-        loaded-tells t (main_classes w) [] (settled w t (still (starts_if w true))) (settled-tells w t [] (still (starts_if w true)) none)
-    by false = settled-tells w t [] (still (exhausted w)) refl
+        let same : (run_opened w).stack ≡ [] = ap (λ (x : State). x.stack) (with_loaded-shared (main_classes w) (arguments_made w (before w))) in
+        let none = starts_unless-helds w (main_loading w).fault (run_opened w) (ap (helds v) same) in
+        loaded-tells t (main_classes w) [] (turn_settled w t (still (starts_if w true))) (settled-tells w t [] (still (starts_if w true)) none)
+    by false = settled-tells w t [] (still (heap_exhausted w)) refl

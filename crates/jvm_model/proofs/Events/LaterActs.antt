@@ -9,16 +9,16 @@ use Rattle.jvm_model.specs.declared.event.Act.{Act}
 use Rattle.jvm_model.specs.declared.event.Event.{Event}
 use Rattle.jvm_model.specs.declared.event.EventKind.{EventKind}
 use Rattle.jvm_model.specs.declared.event.EventKind.TheVariants as kind
-use Rattle.jvm_model.specs.Profiling.Activations.{Activation, Trace, no_trace, current, without_current, with_end, changed, all_changed, trace, trace_in-zero, trace_in-suc}
+use Rattle.jvm_model.specs.Profiling.Activations.{Activation, Trace, no_trace, current, without_current, with_end, trace_changed, all_changed, trace, trace_in-zero, trace_in-suc}
 use Rattle.jvm_model.specs.Basis.Data.{Change, Loads, Began, Left, Unwound, Operation, Listing, World}
 use Rattle.jvm_model.specs.Profiling.EventLists.{Marking, all_told, begin_events, end_events, end_of, events_of, events_of-zero, events_of-suc, events_told}
 use Rattle.jvm_model.specs.Codes.Originals.{original}
 use Rattle.jvm_model.specs.Profiling.Paths.{contexts_of, is_inside}
-use Rattle.jvm_model.specs.Profiling.Projection.{acted, is_root, is_selected, paths_made, paths_made-zero, paths_made-suc, paths_of, projection, who}
+use Rattle.jvm_model.specs.Profiling.Projection.{selection_acted, is_root, is_selected, paths_made, paths_made-zero, paths_made-suc, paths_of, projection, who}
 use Rattle.jvm_model.specs.Running.Run.{turn, turn_in}
 use Rattle.jvm_model.proofs.Events.Chains.{path_below, path_in, paths_after, paths_of-recursion}
 use Rattle.jvm_model.specs.Profiling.Swaps.{Point, point, act_points, change_point, change_points, points_in, points_in-zero, points_in-suc, step_points}
-use Rattle.jvm_model.specs.Profiling.Points.{Standing, nothing, has_root, is_empty, is_quiet, settled, chosen, after_act, after_acts, acts_at, acts_behind, is_profiled, with_entered, after_change, after_changes, after_step, standing_in, standing_in-zero, standing_in-suc, mark_in, before_begin, marking_in}
+use Rattle.jvm_model.specs.Profiling.Points.{Standing, nothing, has_root, is_empty, is_quiet, standing_settled, methods_selected, after_act, after_acts, acts_at, acts_behind, is_profiled, with_entered, after_change, after_changes, after_step, standing_in, standing_in-zero, standing_in-suc, mark_in, before_begin, marking_in}
 
 false_true : false ≡ true → ⊥
 false_true e = cc
@@ -79,7 +79,7 @@ early-end n step t each = by t.live
     by [] = each
     by (number ∷ rest) = set number (slice_get t.activations number) refl
 
-pub early-change : (n step : ℕ) (t : Trace) (c : Change) → step ≤ n → Early n t.activations → Early n (changed step t c).activations
+pub early-change : (n step : ℕ) (t : Trace) (c : Change) → step ≤ n → Early n t.activations → Early n (trace_changed step t c).activations
 early-change n step t (Loads classes) le each = each
 early-change n step t (Began method) le each = early-push n t.activations (record { method = method; parent = current t.live; begin = step; «end» = None }) each le
 early-change n step t Left le each = early-end n step t each
@@ -87,7 +87,7 @@ early-change n step t Unwound le each = early-end n step t each
 
 pub early-changes : (n step : ℕ) (t : Trace) (changes : List Change) → step ≤ n → Early n t.activations → Early n (all_changed step t changes).activations
 early-changes n step t [] le each = each
-early-changes n step t (c ∷ more) le each = early-changes n step (changed step t c) more le (early-change n step t c le each)
+early-changes n step t (c ∷ more) le each = early-changes n step (trace_changed step t c) more le (early-change n step t c le each)
 
 pub trace-early : (w : World) (n k : ℕ) → k ≤ n → Early n (trace w k).activations
 trace-early w n zero le = subst (λ (t : Trace). Early n t.activations) (sym (trace_in-zero w (original w.program))) (early-changes n 0 no_trace (turn w 0).changes le tt)
@@ -100,7 +100,7 @@ module _ (acts : List Act) (x : Act) (behind : 1 ≤ x.moment) where
   more = acts ++ x ∷ []
 
   pub same-selected : (k method : ℕ) → k ≤ x.moment → is_selected more k method ≡ is_selected acts k method
-  same-selected k method le = fold-push (acted k method) false acts x ∙ by (x.method == method) (nat_le x.moment (k - 1)) (above-false x.moment (k - 1) (omega arith))
+  same-selected k method le = fold-push (selection_acted k method) false acts x ∙ by (x.method == method) (nat_le x.moment (k - 1)) (above-false x.moment (k - 1) (omega arith))
     where
       by : (a b : Bool) → b ≡ false → (if a && b then x.select else is_selected acts k method) ≡ is_selected acts k method
       by true false e = refl
@@ -134,11 +134,11 @@ module _ (acts : List Act) (x : Act) (behind : 1 ≤ x.moment) where
 
   -- ---- what stands
 
-  pub same-settled : (s : Standing) → Early x.moment s.trace.activations → settled more s ≡ settled acts s
+  pub same-settled : (s : Standing) → Early x.moment s.trace.activations → standing_settled more s ≡ standing_settled acts s
   same-settled s each =
       ap (λ b. let r : Standing = if is_empty s.selected && not b then record s { entered = [] } else s in r) (same-has_root s.trace.activations s.trace.live each)
 
-  pub settled-trace : (acts : List Act) (s : Standing) → (settled acts s).trace ≡ s.trace
+  pub settled-trace : (acts : List Act) (s : Standing) → (standing_settled acts s).trace ≡ s.trace
   settled-trace acts s = by (is_quiet acts s)
     where
       by : (b : Bool) → (let r : Standing = if b then record s { entered = [] } else s in r).trace ≡ s.trace
@@ -147,26 +147,26 @@ module _ (acts : List Act) (x : Act) (behind : 1 ≤ x.moment) where
 
   pub acts-trace : (acts todo : List Act) (s : Standing) → (after_acts acts s todo).trace ≡ s.trace
   acts-trace acts [] s = refl
-  acts-trace acts (act ∷ todo) s = acts-trace acts todo (after_act acts s act) ∙ settled-trace acts (record s { selected = chosen act s.selected })
+  acts-trace acts (act ∷ todo) s = acts-trace acts todo (after_act acts s act) ∙ settled-trace acts (record s { selected = methods_selected act s.selected })
 
   pub same-acts : (todo : List Act) (s : Standing) → Early x.moment s.trace.activations → after_acts more s todo ≡ after_acts acts s todo
   same-acts [] s each = refl
   same-acts (act ∷ todo) s each =
-      let one : after_act more s act ≡ after_act acts s act = same-settled (record s { selected = chosen act s.selected }) each in
+      let one : after_act more s act ≡ after_act acts s act = same-settled (record s { selected = methods_selected act s.selected }) each in
       ap (λ r. after_acts more r todo) one
       ∙ same-acts todo (after_act acts s act)
-      (subst (λ (t : Trace). Early x.moment t.activations) (sym (settled-trace acts (record s { selected = chosen act s.selected }))) each)
+      (subst (λ (t : Trace). Early x.moment t.activations) (sym (settled-trace acts (record s { selected = methods_selected act s.selected }))) each)
 
   same-change : (step : ℕ) (s : Standing) (c : Change) → step ≤ x.moment → Early x.moment s.trace.activations → after_change more step s c ≡ after_change acts step s c
   same-change step s (Loads classes) le each = refl
   same-change step s (Began method) le each =
-      let t = changed step s.trace (Began method) in
+      let t = trace_changed step s.trace (Began method) in
       let paths : paths_of more t.activations ≡ paths_of acts t.activations = same-paths t.activations (early-change x.moment step s.trace (Began method) le each) in
       ap (λ q. let r : Standing = record s { entered = if is_inside (path_in q (current t.live)) then with_entered method s.entered else s.entered; trace = t } in r) paths
   same-change step s Left le each = refl
   same-change step s Unwound le each = refl
 
-  change-trace : (acts : List Act) (step : ℕ) (s : Standing) (c : Change) → (after_change acts step s c).trace ≡ changed step s.trace c
+  change-trace : (acts : List Act) (step : ℕ) (s : Standing) (c : Change) → (after_change acts step s c).trace ≡ trace_changed step s.trace c
   change-trace acts step s (Loads classes) = refl
   change-trace acts step s (Began method) = refl
   change-trace acts step s Left = refl
@@ -189,10 +189,10 @@ module _ (acts : List Act) (x : Act) (behind : 1 ≤ x.moment) where
   changes-early acts step s (c ∷ rest) le each = changes-early acts step (after_change acts step s c) rest le (early-after acts step s c le each)
 
   ended-early : (acts todo : List Act) (step : ℕ) (s : Standing) (changes : List Change) → step ≤ x.moment → IsBeforeTheRun s
-      → IsBeforeTheRun (after_acts acts (settled acts (after_changes acts step s changes)) todo)
+      → IsBeforeTheRun (after_acts acts (standing_settled acts (after_changes acts step s changes)) todo)
   ended-early acts todo step s changes le each =
       subst (λ (t : Trace). Early x.moment t.activations)
-      (sym (acts-trace acts todo (settled acts (after_changes acts step s changes)) ∙ settled-trace acts (after_changes acts step s changes)))
+      (sym (acts-trace acts todo (standing_settled acts (after_changes acts step s changes)) ∙ settled-trace acts (after_changes acts step s changes)))
       (changes-early acts step s changes le each)
 
   module _ (w : World) (t : Listing) where
@@ -219,12 +219,12 @@ module _ (acts : List Act) (x : Act) (behind : 1 ≤ x.moment) where
         let each = standing-early k (omega arith) in
         let less : k < x.moment = omega arith in
         let after : after_changes more k s changes ≡ after_changes acts k s changes = same-changes k s changes (omega arith) each in
-        let ended : settled more (after_changes more k s changes) ≡ settled acts (after_changes acts k s changes) =
-        ap (settled more) after ∙ same-settled (after_changes acts k s changes) (changes-early acts k s changes (omega arith) each) in
+        let ended : standing_settled more (after_changes more k s changes) ≡ standing_settled acts (after_changes acts k s changes) =
+        ap (standing_settled more) after ∙ same-settled (after_changes acts k s changes) (changes-early acts k s changes (omega arith) each) in
         standing_in-suc more w t k
         ∙ (ap (λ r. after_step more k r changes) (same-standing k (omega arith))
         ∙ (ap₂ (λ r todo. after_acts more r todo) ended (same-behind k less)
-        ∙ (same-acts (acts_behind k acts) (settled acts (after_changes acts k s changes)) (ended-early acts [] k s changes (omega arith) each)
+        ∙ (same-acts (acts_behind k acts) (standing_settled acts (after_changes acts k s changes)) (ended-early acts [] k s changes (omega arith) each)
         ∙ sym (standing_in-suc acts w t k))))
 
     pub acts-last : (acts todo : List Act) (s : Standing) (y : Act) → after_acts acts s (todo ++ y ∷ []) ≡ after_act acts (after_acts acts s todo) y
@@ -244,17 +244,17 @@ module _ (acts : List Act) (x : Act) (behind : 1 ≤ x.moment) where
             let le : n ≤ x.moment = omega arith in
             let each = standing-early n (omega arith) in
             let after : after_changes more n s changes ≡ after_changes acts n s changes = same-changes n s changes le each in
-            let ended : settled more (after_changes more n s changes) ≡ settled acts (after_changes acts n s changes) =
-            ap (settled more) after ∙ same-settled (after_changes acts n s changes) (changes-early acts n s changes le each) in
+            let ended : standing_settled more (after_changes more n s changes) ≡ standing_settled acts (after_changes acts n s changes) =
+            ap (standing_settled more) after ∙ same-settled (after_changes acts n s changes) (changes-early acts n s changes le each) in
             let todo : acts_behind n more ≡ acts_behind n acts ++ x ∷ [] =
             ap (λ k. acts_behind k more) e ∙ (filter-last (λ (act : Act). act.moment == suc k) acts x (eq-eqb x.moment (suc k) e) ∙ ap (λ k. acts_behind k acts ++ x ∷ []) (sym e)) in
-            let before_x = after_acts acts (settled acts (after_changes acts n s changes)) (acts_behind n acts) in
+            let before_x = after_acts acts (standing_settled acts (after_changes acts n s changes)) (acts_behind n acts) in
             standing_in-suc more w t n
             ∙ (ap (λ r. after_step more n r changes) (same-standing n le)
             ∙ (ap₂ (λ r l. after_acts more r l) ended todo
-            ∙ (acts-last more (acts_behind n acts) (settled acts (after_changes acts n s changes)) x
-            ∙ (ap (λ r. after_act more r x) (same-acts (acts_behind n acts) (settled acts (after_changes acts n s changes)) (ended-early acts [] n s changes le each))
-            ∙ (same-settled (record before_x { selected = chosen x before_x.selected }) (ended-early acts (acts_behind n acts) n s changes le each)
+            ∙ (acts-last more (acts_behind n acts) (standing_settled acts (after_changes acts n s changes)) x
+            ∙ (ap (λ r. after_act more r x) (same-acts (acts_behind n acts) (standing_settled acts (after_changes acts n s changes)) (ended-early acts [] n s changes le each))
+            ∙ (same-settled (record before_x { selected = methods_selected x before_x.selected }) (ended-early acts (acts_behind n acts) n s changes le each)
             ∙ ap (λ r. after_act acts r x) (sym (standing_in-suc acts w t n)))))))
 
     -- ---- marks
@@ -306,7 +306,7 @@ module _ (acts : List Act) (x : Act) (behind : 1 ≤ x.moment) where
     pub same-all : (step : ℕ) (t : Trace) (changes : List Change) → step ≤ x.moment → Early x.moment t.activations → all_told after step t changes ≡ all_told before step t changes
     same-all step t [] le each = refl
     same-all step t (c ∷ rest) le each =
-        ap₂ (λ (a b : List Event). a ++ b) (same-told step t c le each) (same-all step (changed step t c) rest le (early-change x.moment step t c le each))
+        ap₂ (λ (a b : List Event). a ++ b) (same-told step t c le each) (same-all step (trace_changed step t c) rest le (early-change x.moment step t c le each))
 
     -- What was told up to its moment stays told.
     pub same-events : (n : ℕ) → n ≤ x.moment → events_of after w n ≡ events_of before w n
@@ -349,7 +349,7 @@ module _ (acts : List Act) (x : Act) (behind : 1 ≤ x.moment) where
   same-act_points : (step : ℕ) (s : Standing) (todo : List Act) → IsBeforeTheRun s → act_points more step s todo ≡ act_points acts step s todo
   same-act_points step s [] each = refl
   same-act_points step s (act ∷ todo) each =
-      let chosen_s : Standing = record s { selected = chosen act s.selected } in
+      let chosen_s : Standing = record s { selected = methods_selected act s.selected } in
       ap (λ r. point step r ∷ act_points more step r todo) (same-settled chosen_s each)
       ∙ ap (λ l. point step (after_act acts s act) ∷ l)
       (same-act_points step (after_act acts s act) todo (subst (λ (t : Trace). Early x.moment t.activations) (sym (settled-trace acts chosen_s)) each))
@@ -362,26 +362,26 @@ module _ (acts : List Act) (x : Act) (behind : 1 ≤ x.moment) where
   module _ (w : World) (t : Listing) where
     -- what ends a step, and the points of its changes
     ended-same : (n : ℕ) → n ≤ x.moment
-        → settled more (after_changes more n (standing_in acts w t n) (turn_in w t n).changes) ≡ settled acts (after_changes acts n (standing_in acts w t n) (turn_in w t n).changes)
+        → standing_settled more (after_changes more n (standing_in acts w t n) (turn_in w t n).changes) ≡ standing_settled acts (after_changes acts n (standing_in acts w t n) (turn_in w t n).changes)
     ended-same n le =
         let s = standing_in acts w t n in
         let each = standing-early w t n (omega arith) in
-        ap (settled more) (same-changes n s (turn_in w t n).changes le each)
+        ap (standing_settled more) (same-changes n s (turn_in w t n).changes le each)
         ∙ same-settled (after_changes acts n s (turn_in w t n).changes) (changes-early acts n s (turn_in w t n).changes le each)
 
     -- with these actions behind the step
     step-points-same : (n : ℕ) (todo : List Act) → n ≤ x.moment
         → change_points more n (standing_in acts w t n) (turn_in w t n).changes
-        ++ point n (settled more (after_changes more n (standing_in acts w t n) (turn_in w t n).changes))
-        ∷ act_points more n (settled more (after_changes more n (standing_in acts w t n) (turn_in w t n).changes)) todo
+        ++ point n (standing_settled more (after_changes more n (standing_in acts w t n) (turn_in w t n).changes))
+        ∷ act_points more n (standing_settled more (after_changes more n (standing_in acts w t n) (turn_in w t n).changes)) todo
         ≡ change_points acts n (standing_in acts w t n) (turn_in w t n).changes
-        ++ point n (settled acts (after_changes acts n (standing_in acts w t n) (turn_in w t n).changes))
-        ∷ act_points acts n (settled acts (after_changes acts n (standing_in acts w t n) (turn_in w t n).changes)) todo
+        ++ point n (standing_settled acts (after_changes acts n (standing_in acts w t n) (turn_in w t n).changes))
+        ∷ act_points acts n (standing_settled acts (after_changes acts n (standing_in acts w t n) (turn_in w t n).changes)) todo
     step-points-same n todo le =
         let s = standing_in acts w t n in
         let changes = (turn_in w t n).changes in
         let each = standing-early w t n (omega arith) in
-        let ended = settled acts (after_changes acts n s changes) in
+        let ended = standing_settled acts (after_changes acts n s changes) in
         ap (λ r. change_points more n s changes ++ point n r ∷ act_points more n r todo) (ended-same n le)
         ∙ ap₂ (λ (a b : List Point). a ++ point n ended ∷ b) (same-change_points n s changes le each)
         (same-act_points n ended todo (ended-early acts [] n s changes le each))
@@ -399,8 +399,8 @@ module _ (acts : List Act) (x : Act) (behind : 1 ≤ x.moment) where
         ∙ (ap₂ (λ (a b : List Point). a ++ b) (same-points n (omega arith))
         (ap (λ s. step_points more (suc n) s (turn_in w t (suc n)).changes) (same-standing w t (suc n) (omega arith))
         ∙ (ap (λ todo. change_points more (suc n) (standing_in acts w t (suc n)) (turn_in w t (suc n)).changes
-        ++ point (suc n) (settled more (after_changes more (suc n) (standing_in acts w t (suc n)) (turn_in w t (suc n)).changes))
-        ∷ act_points more (suc n) (settled more (after_changes more (suc n) (standing_in acts w t (suc n)) (turn_in w t (suc n)).changes)) todo) (same-behind w t (suc n) less)
+        ++ point (suc n) (standing_settled more (after_changes more (suc n) (standing_in acts w t (suc n)) (turn_in w t (suc n)).changes))
+        ∷ act_points more (suc n) (standing_settled more (after_changes more (suc n) (standing_in acts w t (suc n)) (turn_in w t (suc n)).changes)) todo) (same-behind w t (suc n) less)
         ∙ step-points-same (suc n) (acts_behind (suc n) acts) (omega arith)))
         ∙ sym (points_in-suc acts w t n))
 
@@ -417,11 +417,11 @@ module _ (acts : List Act) (x : Act) (behind : 1 ≤ x.moment) where
             let n = suc k in
             let s = standing_in acts w t n in
             let changes = (turn_in w t n).changes in
-            let ended = settled acts (after_changes acts n s changes) in
+            let ended = standing_settled acts (after_changes acts n s changes) in
             let todo = acts_at n acts in
             let last : acts_at n more ≡ todo ++ x ∷ [] = filter-last (λ (act : Act). act.moment == n) acts x (eq-eqb x.moment n e) in
             let stepped : step_points more n s changes ≡ (change_points acts n s changes ++ point n ended ∷ act_points acts n ended todo) ++ point n (after_act acts (after_acts acts ended todo) x) ∷ [] =
-            ap (λ l. change_points more n s changes ++ point n (settled more (after_changes more n s changes)) ∷ act_points more n (settled more (after_changes more n s changes)) l) last
+            ap (λ l. change_points more n s changes ++ point n (standing_settled more (after_changes more n s changes)) ∷ act_points more n (standing_settled more (after_changes more n s changes)) l) last
             ∙ (step-points-same n (todo ++ x ∷ []) (omega (arith, e))
             ∙ (ap (λ l. change_points acts n s changes ++ point n ended ∷ l) (act_points-last n ended todo x)
             ∙ sym (append_assoc (change_points acts n s changes) (point n ended ∷ act_points acts n ended todo) (point n (after_act acts (after_acts acts ended todo) x) ∷ [])))) in

@@ -10,7 +10,7 @@ use Rattle.jvm_model.specs.declared.event.Act.{Act}
 use Rattle.jvm_model.specs.declared.event.Mark.{Mark}
 use Rattle.jvm_model.specs.declared.event.Mark.TheVariants.{Off, Plain, Root}
 use Rattle.jvm_model.specs.Basis.Data.{Program, Change, Loads, Began, Left, Unwound, Operation, World}
-use Rattle.jvm_model.specs.Profiling.Activations.{Activation, Trace, current, without_current, with_end, changed, all_changed, trace, trace_before, trace_in-zero, trace_in-suc}
+use Rattle.jvm_model.specs.Profiling.Activations.{Activation, Trace, current, without_current, with_end, trace_changed, all_changed, trace, trace_before, trace_in-zero, trace_in-suc}
 use Rattle.jvm_model.specs.Running.Changes.{EndThenBegin, AreOrdered}
 use Rattle.jvm_model.specs.Profiling.EventLists.{Marking}
 use Rattle.jvm_model.specs.Classes.Load.{is_among}
@@ -23,7 +23,7 @@ use Rattle.jvm_model.proofs.Events.Order.{run-ordered}
 use Rattle.jvm_model.proofs.Events.Traces.{IsLive, AreLive, IsTrace, no_trace-is, changed-keeps, ended_in, ended_at-found, live_methods, changed-methods, method_at}
 use Rattle.jvm_model.proofs.Events.TracesFrames.{live-frames}
 use Rattle.jvm_model.specs.Soundness.Calls.{AreFrom, IsCalled, AreCalled, loads_of, loaded_before, methods_before, IsTold}
-use Rattle.jvm_model.specs.Profiling.Points.{Standing, nothing, has_root, is_empty, is_quiet, settled, chosen, after_act, after_acts, acts_at, acts_behind, is_profiled, with_entered, after_change, after_changes, standing_in, standing_in-zero, standing_in-suc, has_class, is_target, mark_in, before_begin, marking_in}
+use Rattle.jvm_model.specs.Profiling.Points.{Standing, nothing, has_root, is_empty, is_quiet, standing_settled, methods_selected, after_act, after_acts, acts_at, acts_behind, is_profiled, with_entered, after_change, after_changes, standing_in, standing_in-zero, standing_in-suc, has_class, is_target, mark_in, before_begin, marking_in}
 use Rattle.jvm_model.specs.Soundness.Suited.{Suits, AreSuited, StaySuited}
 use Rattle.jvm_model.specs.Profiling.Targets.{targets_in}
 
@@ -105,7 +105,7 @@ among-others x y (z ∷ xs) = by (z == y) refl (among-others x y xs)
     by true e rest = rest ∙ same (eqb-true z y e) (y == x) refl
     by false e rest = ap (λ b. x == z || b) rest ∙ other (λ z_y. false_true (sym e ∙ eq-eqb z y z_y)) (y == x) refl
 
-pub among-chosen : (act : Act) (selected : List ℕ) (m : ℕ) → is_among m (chosen act selected) ≡ set_by m (is_among m selected) act
+pub among-chosen : (act : Act) (selected : List ℕ) (m : ℕ) → is_among m (methods_selected act selected) ≡ set_by m (is_among m selected) act
 among-chosen act selected m = by act.select
   where
     turned : (b : Bool) → (act.method == m) ≡ b → (m == act.method || (if b then false else is_among m selected)) ≡ (if b then true else is_among m selected)
@@ -305,7 +305,7 @@ pub record Keeps (acts : List Act) (marking : Marking) (step : ℕ) (s : Standin
 
 -- ---- a quiet point
 
-settled-keeps : (acts : List Act) (marking : Marking) (step : ℕ) (s : Standing) → Keeps acts marking step s → Keeps acts marking step (settled acts s)
+settled-keeps : (acts : List Act) (marking : Marking) (step : ℕ) (s : Standing) → Keeps acts marking step s → Keeps acts marking step (standing_settled acts s)
 settled-keeps acts marking step s keeps = by (is_quiet acts s) refl
   where
     rootless-all : (b : Bool) → (is_empty s.selected && not (has_root acts s.trace.activations s.trace.live)) ≡ true → open_of acts s.trace ≡ []
@@ -517,7 +517,7 @@ module _ (acts : List Act) (p : Program) (code : ℕ → List Operation) (markin
     pub way : StaySuited acts marking step s.trace changes
     pub after : Keeps acts marking step (after_changes acts step s changes)
 
-  then-stays : (s : Standing) (c : Change) (more : List Change) → Keeps acts marking step s → (after_change acts step s c).trace ≡ changed step s.trace c
+  then-stays : (s : Standing) (c : Change) (more : List Change) → Keeps acts marking step s → (after_change acts step s c).trace ≡ trace_changed step s.trace c
       → Stays (after_change acts step s c) more → Stays s (c ∷ more)
   then-stays s c more keeps same rest =
       record { way = (keeps.suited, subst (λ t. StaySuited acts marking step t more) same rest.way); after = rest.after }
@@ -603,14 +603,14 @@ record SameRun (s after : Standing) : Type 0 where
   trace : after.trace ≡ s.trace
   loaded : after.loaded ≡ s.loaded
 
-settled-run : (acts : List Act) (s : Standing) → SameRun s (settled acts s)
+settled-run : (acts : List Act) (s : Standing) → SameRun s (standing_settled acts s)
 settled-run acts s = by (is_quiet acts s)
   where
     by : (b : Bool) → SameRun s (if b then record s { entered = [] } else s)
     by true = record { trace = refl; loaded = refl }
     by false = record { trace = refl; loaded = refl }
 
-settled-selected : (acts : List Act) (s : Standing) → (settled acts s).selected ≡ s.selected
+settled-selected : (acts : List Act) (s : Standing) → (standing_settled acts s).selected ≡ s.selected
 settled-selected acts s = by (is_quiet acts s)
   where
     by : (b : Bool) → (if b then record s { entered = [] } else s).selected ≡ s.selected
@@ -622,7 +622,7 @@ settled-selected acts s = by (is_quiet acts s)
 acts-run : (acts more : List Act) (s : Standing) → SameRun s (after_acts acts s more)
 acts-run acts [] s = record { trace = refl; loaded = refl }
 acts-run acts (act ∷ more) s =
-    let first = settled-run acts (record s { selected = chosen act s.selected }) in
+    let first = settled-run acts (record s { selected = methods_selected act s.selected }) in
     let rest = acts-run acts more (after_act acts s act) in
     record { trace = rest.trace ∙ first.trace; loaded = rest.loaded ∙ first.loaded }
 
@@ -632,7 +632,7 @@ acts-selected acts [] s method = refl
 acts-selected acts (act ∷ more) s method =
     acts-selected acts more (after_act acts s act) method
     ∙ ap (λ b. fold (set_by method) b more)
-    (ap (is_among method) (settled-selected acts (record s { selected = chosen act s.selected })) ∙ among-chosen act s.selected method)
+    (ap (is_among method) (settled-selected acts (record s { selected = methods_selected act s.selected })) ∙ among-chosen act s.selected method)
 
 -- all but the selection
 record Half (acts : List Act) (marking : Marking) (s : Standing) : Type 0 where
@@ -640,7 +640,7 @@ record Half (acts : List Act) (marking : Marking) (s : Standing) : Type 0 where
   entered : All s.entered (open_of acts s.trace)
   suited : AreSuited acts marking s.trace.activations
 
-half-settled : (acts : List Act) (marking : Marking) (s : Standing) → Half acts marking s → Half acts marking (settled acts s)
+half-settled : (acts : List Act) (marking : Marking) (s : Standing) → Half acts marking s → Half acts marking (standing_settled acts s)
 half-settled acts marking s half = by (is_quiet acts s) refl
   where
     none : (a b : Bool) → (a && not b) ≡ true → b ≡ false
@@ -660,7 +660,7 @@ half-acts : (acts : List Act) (marking : Marking) (more : List Act) (s : Standin
 half-acts acts marking [] s half = half
 half-acts acts marking (act ∷ more) s half =
     half-acts acts marking more (after_act acts s act)
-    (half-settled acts marking (record s { selected = chosen act s.selected }) (record { live = half.live; entered = half.entered; suited = half.suited }))
+    (half-settled acts marking (record s { selected = methods_selected act s.selected }) (record { live = half.live; entered = half.entered; suited = half.suited }))
 
 -- ---- the run
 
@@ -722,7 +722,7 @@ module _ (acts : List Act) (w : World) (code : ℕ → List Operation) (from : A
       let changes = (turn w n).changes in
       let s = standing n in
       let after = after_changes acts n s changes in
-      let ended = settled acts after in
+      let ended = standing_settled acts after in
       let stays = step-stays n stands in
       let run_ended = settled-run acts after in
       let run_acts = acts-run acts (acts_behind n acts) ended in
@@ -763,7 +763,7 @@ rooted acts activations (number ∷ rest) are =
 
 -- Where the current activation is profiled no point is quiet: so the end of a step in which a profiled activation begins stands as the point
 -- behind that begin, and changes no mark.
-pub profiled-unsettled : (acts : List Act) (s : Standing) → IsTrace s.trace → is_profiled acts s.trace ≡ true → settled acts s ≡ s
+pub profiled-unsettled : (acts : List Act) (s : Standing) → IsTrace s.trace → is_profiled acts s.trace ≡ true → standing_settled acts s ≡ s
 profiled-unsettled acts s is inside =
     ap (λ b. if is_empty s.selected && not b then record s { entered = [] } else s) (rooted acts s.trace.activations s.trace.live is ∙ inside)
     ∙ by (is_empty s.selected)

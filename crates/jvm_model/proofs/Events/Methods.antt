@@ -10,9 +10,9 @@ use Rattle.jvm_model.specs.Basis.Programs.{super_of, initializer_of}
 use Rattle.jvm_model.specs.Basis.SharedState.{phase_of, class_of, arguments_fit}
 use Rattle.jvm_model.specs.Instructions.Does.{does, loads}
 use Rattle.jvm_model.specs.Running.Applies.{still, with_frame, breaks, goes, place_of, enters_subroutine, has_room, live_in, most_live, begins_beside, resumes, gives_back, applies}
-use Rattle.jvm_model.specs.Running.Moves.{handler_for, own_at, caught, after_super, with_super, runs_initializer, argument_array, main_or_end, moves, move, then_turn, settled}
+use Rattle.jvm_model.specs.Running.Moves.{handler_for, own_at, throw_caught, after_super, with_super, runs_initializer, argument_array, main_or_end, moves, move, then_turn, turn_settled}
 use Rattle.jvm_model.specs.Classes.Load.{Fault}
-use Rattle.jvm_model.specs.Running.Run.{attempt, starts, is_quiet, before, arguments_made, with_loaded, loaded_turn, steps_by, steps_at, steps_on, step, main_loading, main_classes, loads_if, starts_unless, opened, exhausted, starts_if, start, turn_in, turn_in-zero, turn_in-suc}
+use Rattle.jvm_model.specs.Running.Run.{attempt, starts, is_quiet, before, arguments_made, with_loaded, loaded_turn, steps_by, steps_at, steps_on, step, main_loading, main_classes, loads_if, starts_unless, run_opened, heap_exhausted, starts_if, start, turn_in, turn_in-zero, turn_in-suc}
 use Rattle.jvm_model.specs.Running.Changes.{methods, after_change, after_changes}
 use Rattle.jvm_model.proofs.Running.Settles.{settled-keeps}
 use Rattle.jvm_model.proofs.Running.Attempts.{again-by, with_loaded-shared}
@@ -75,7 +75,7 @@ applies-tells w t i (Breaks false) s f = refl
 
 -- ---- moves
 
-caught-tells : (w : World) (t : Listing) (s : State) (r : ℕ) (f : Frame) (h : Option ℕ) → Tells (f.method ∷ methods s.stack) (caught w t s r f h)
+caught-tells : (w : World) (t : Listing) (s : State) (r : ℕ) (f : Frame) (h : Option ℕ) → Tells (f.method ∷ methods s.stack) (throw_caught w t s r f h)
 caught-tells w t s r f None = refl
 caught-tells w t s r f (Some target) = goes-methods (record s { thrown = None }) f (own_at t f) f.locals (Ref r ∷ []) (Some target)
 
@@ -108,7 +108,7 @@ moves-tell w t s None None (Initializing c Superclass ∷ below) same = with_sup
 moves-tell w t s None None (Initializing c Initializer ∷ below) same = runs-tells w t (record s { stack = below }) c (initializer_of w.program c)
 moves-tell w t s None None (Initializing c Finish ∷ below) same = refl
 
-pub settled-tells : (w : World) (t : Listing) (ms : List ℕ) (a : Turn) → Tells ms a → Tells ms (settled w t a)
+pub settled-tells : (w : World) (t : Listing) (ms : List ℕ) (a : Turn) → Tells ms a → Tells ms (turn_settled w t a)
 settled-tells w t ms a p = settled-keeps w t (Tells ms)
     (λ b q. IfSome_then (move w t b.after) {P = Tells (methods b.after.stack)} {Q = λ next. Tells ms (then_turn b next)}
     (moves-tell w t b.after b.after.ending b.after.thrown b.after.stack refl) (λ next r. then-tells ms b next q r)) a p
@@ -163,12 +163,12 @@ starts_unless-methods w (Some fault) s e = e
 
 pub start-tells : (w : World) (t : Listing) → methods (start w t).after.stack ≡ after_changes [] (start w t).changes
 start-tells w t = by (arguments_fit w.program) where
-  by : (b : Bool) → Tells [] (loaded_turn (loads_if w b) (settled w t (still (starts_if w b))))
+  by : (b : Bool) → Tells [] (loaded_turn (loads_if w b) (turn_settled w t (still (starts_if w b))))
   by true =
-      let same : (opened w).stack ≡ [] = ap (λ (x : State). x.stack) (with_loaded-shared (main_classes w) (arguments_made w (before w))) in
-      let none = starts_unless-methods w (main_loading w).fault (opened w) (ap methods same) in
-      loaded-tells (main_classes w) [] (settled w t (still (starts_if w true))) (settled-tells w t [] (still (starts_if w true)) none)
-  by false = settled-tells w t [] (still (exhausted w)) refl
+      let same : (run_opened w).stack ≡ [] = ap (λ (x : State). x.stack) (with_loaded-shared (main_classes w) (arguments_made w (before w))) in
+      let none = starts_unless-methods w (main_loading w).fault (run_opened w) (ap methods same) in
+      loaded-tells (main_classes w) [] (turn_settled w t (still (starts_if w true))) (settled-tells w t [] (still (starts_if w true)) none)
+  by false = settled-tells w t [] (still (heap_exhausted w)) refl
 
 -- ---- the run
 

@@ -8,9 +8,9 @@ use Rattle.jvm_model.specs.Basis.Programs.{initializer_of}
 use Rattle.jvm_model.specs.Basis.SharedState.{class_of}
 use Rattle.jvm_model.specs.Instructions.Does.{does, loads}
 use Rattle.jvm_model.specs.Running.Applies.{still, with_frame, new_frame, has_room, live_in, most_live, begins, begins_beside, applies}
-use Rattle.jvm_model.specs.Running.Moves.{handler_for, caught, at_part, runs_initializer, argument_array, main_or_end, moves, move, then_turn, settled}
+use Rattle.jvm_model.specs.Running.Moves.{handler_for, throw_caught, at_part, runs_initializer, argument_array, main_or_end, moves, move, then_turn, turn_settled}
 use Rattle.jvm_model.specs.Running.Run.{attempt, starts, is_quiet, goes_on, with_loaded, loaded_turn, steps_by, steps_at, steps_on, step, main_loads, starts_with, start, turn_in, turn_in-zero, turn_in-suc}
-use Rattle.jvm_model.specs.Running.Changes.{begun, EndThenBegin, OnlyEnd, AreOrdered}
+use Rattle.jvm_model.specs.Running.Changes.{begun_count, EndThenBegin, OnlyEnd, AreOrdered}
 use Rattle.jvm_model.proofs.Running.Settles.{settled-keeps, settled-stops}
 use Rattle.jvm_model.proofs.Running.Attempts.{again-by, with_loaded-shared, loaded-after}
 
@@ -50,7 +50,7 @@ loaded-ordered [] a o = begin-ordered a.changes o
 loaded-ordered (c ∷ more) a o = o
 
 -- one begins at most
-begin-once : (cs : List Change) → EndThenBegin cs → begun cs ≤ 1
+begin-once : (cs : List Change) → EndThenBegin cs → begun_count cs ≤ 1
 begin-once [] o = omega arith
 begin-once (Left ∷ more) o = begin-once more o
 begin-once (Unwound ∷ more) o = begin-once more o
@@ -58,7 +58,7 @@ begin-once (Began m ∷ []) o = omega arith
 begin-once (Began m ∷ c ∷ more) o = absurd o
 begin-once (Loads classes ∷ more) o = absurd o
 
-pub ordered-once : (cs : List Change) → AreOrdered cs → begun cs ≤ 1
+pub ordered-once : (cs : List Change) → AreOrdered cs → begun_count cs ≤ 1
 ordered-once [] o = omega arith
 ordered-once (Loads classes ∷ more) o = begin-once more o
 ordered-once (Left ∷ more) o = begin-once more o
@@ -75,7 +75,7 @@ chosen-well : (w : World) (t : Listing) (test : Bool) (x y : Turn) → GoesWell 
 chosen-well w t true x y p q = p
 chosen-well w t false x y p q = q
 
-caught-well : (w : World) (t : Listing) (s : State) (r : ℕ) (f : Frame) (h : Option ℕ) → GoesWell w t (caught w t s r f h)
+caught-well : (w : World) (t : Listing) (s : State) (r : ℕ) (f : Frame) (h : Option ℕ) → GoesWell w t (throw_caught w t s r f h)
 caught-well w t s r f None = inl tt
 caught-well w t s r f (Some target) = inl tt
 
@@ -125,8 +125,8 @@ well-begins : (w : World) (t : Listing) (a : Turn) → GoesWell w t a → EndThe
 well-begins w t a (inl p) = end-begin a.changes p
 well-begins w t a (inr p) = p.0
 
-settled-begins : (w : World) (t : Listing) (a : Turn) → GoesWell w t a → EndThenBegin (settled w t a).changes
-settled-begins w t a p = well-begins w t (settled w t a) (settled-keeps w t (GoesWell w t) (goes-well w t) a p)
+settled-begins : (w : World) (t : Listing) (a : Turn) → GoesWell w t a → EndThenBegin (turn_settled w t a).changes
+settled-begins w t a p = well-begins w t (turn_settled w t a) (settled-keeps w t (GoesWell w t) (goes-well w t) a p)
 
 -- ---- a step
 
@@ -206,17 +206,17 @@ on-ordered w t u s (Some e) stack open' stop = tt
 pub step-ordered : (w : World) (t u : Listing) (s : State) → move w t s ≡ None → AreOrdered (step w u s).changes
 step-ordered w t u s stop = on-ordered w t u s s.ending s.stack refl stop
 
-pub step-begins : (w : World) (t u : Listing) (s : State) → move w t s ≡ None → begun (step w u s).changes ≤ 1
+pub step-begins : (w : World) (t u : Listing) (s : State) → move w t s ≡ None → begun_count (step w u s).changes ≤ 1
 step-begins w t u s stop = ordered-once (step w u s).changes (step-ordered w t u s stop)
 
 -- behind what the start loads
-pub started-begins : (w : World) (t : Listing) → EndThenBegin (settled w t (still (starts_with w))).changes
+pub started-begins : (w : World) (t : Listing) → EndThenBegin (turn_settled w t (still (starts_with w))).changes
 started-begins w t = settled-begins w t (still (starts_with w)) (inl tt)
 
 pub start-ordered : (w : World) (t : Listing) → AreOrdered (start w t).changes
-start-ordered w t = loaded-ordered (main_loads w) (settled w t (still (starts_with w))) (started-begins w t)
+start-ordered w t = loaded-ordered (main_loads w) (turn_settled w t (still (starts_with w))) (started-begins w t)
 
-pub start-begins : (w : World) (t : Listing) → begun (start w t).changes ≤ 1
+pub start-begins : (w : World) (t : Listing) → begun_count (start w t).changes ≤ 1
 start-begins w t = ordered-once (start w t).changes (start-ordered w t)
 
 -- ---- a step ends in a normal state
@@ -268,7 +268,7 @@ step-stops w t u s stop = on-stops w t u s s.ending s.stack refl stop
 pub start-stops : (w : World) (t : Listing) → move w t (start w t).after ≡ None
 start-stops w t =
     let first = still (starts_with w) in
-    ap (move w t) (loaded-after (main_loads w) (settled w t first)) ∙ settled-stops w t first
+    ap (move w t) (loaded-after (main_loads w) (turn_settled w t first)) ∙ settled-stops w t first
 
 -- ---- the run
 
@@ -282,5 +282,5 @@ run-ordered w t zero = subst (λ (a : Turn). AreOrdered a.changes) (sym (turn_in
 run-ordered w t (suc n) = subst (λ (a : Turn). AreOrdered a.changes) (sym (turn_in-suc w t n)) (step-ordered w t t (turn_in w t n).after (run-stops w t n))
 
 -- in each step one activation begins at most
-pub run-begins : (w : World) (t : Listing) (n : ℕ) → begun (turn_in w t n).changes ≤ 1
+pub run-begins : (w : World) (t : Listing) (n : ℕ) → begun_count (turn_in w t n).changes ≤ 1
 run-begins w t n = ordered-once (turn_in w t n).changes (run-ordered w t n)

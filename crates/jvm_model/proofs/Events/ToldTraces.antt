@@ -5,7 +5,7 @@ use Rattle.std.proofs.lemmas.Option.{slice_get_within, same_Some}
 use Rattle.jvm_model.specs.declared.event.EventKind.{EventKind}
 use Rattle.jvm_model.specs.declared.event.EventKind.TheVariants as kind
 use Rattle.jvm_model.specs.Basis.Data.{Change, Loads, Began, Left, Unwound}
-use Rattle.jvm_model.specs.Profiling.Activations.{Activation, Trace, current, with_begin, without_current, with_end, changed, all_changed}
+use Rattle.jvm_model.specs.Profiling.Activations.{Activation, Trace, current, with_begin, without_current, with_end, trace_changed, all_changed}
 use Rattle.jvm_model.specs.Profiling.EventLists.{Marking, end_events, end_of, events_told, all_told}
 use Rattle.jvm_model.specs.Turns.Told.{Held, without_held, held_after, end_told, change_told, changes_told, all_held, held_of, nothing_held, held_at, held_in}
 use Rattle.jvm_model.proofs.Events.Chains.{slice_get-append_left, slice_get_at}
@@ -46,7 +46,7 @@ module _ (marking : Marking) where
         ap (λ (activations : List Activation). map (held_at marking activations) rest) (ended_at-found step number t.activations are.0.activation are.0.found)
         ∙ held-set t.activations number are.0.activation step are.0.found rest
 
-  pub changed-held : (step : ℕ) (t : Trace) (c : Change) → IsTrace t → held_in marking (changed step t c) ≡ held_after (marking step) (held_in marking t) c
+  pub changed-held : (step : ℕ) (t : Trace) (c : Change) → IsTrace t → held_in marking (trace_changed step t c) ≡ held_after (marking step) (held_in marking t) c
   changed-held step t (Loads classes) is = refl
   changed-held step t (Began method) is = begin-held step method t is
   changed-held step t Left is = end-held step t is
@@ -56,7 +56,7 @@ module _ (marking : Marking) where
   pub all_changed-held : (step : ℕ) (t : Trace) (changes : List Change) → IsTrace t → held_in marking (all_changed step t changes) ≡ all_held (marking step) (held_in marking t) changes
   all_changed-held step t [] is = refl
   all_changed-held step t (c ∷ more) is =
-      all_changed-held step (changed step t c) more (changed-keeps step t c is) ∙ ap (λ live. all_held (marking step) live more) (changed-held step t c is)
+      all_changed-held step (trace_changed step t c) more (changed-keeps step t c is) ∙ ap (λ live. all_held (marking step) live more) (changed-held step t c is)
 
   -- ---- what a change tells
 
@@ -80,5 +80,5 @@ module _ (marking : Marking) where
   pub all-told : (step : ℕ) (t : Trace) (changes : List Change) → IsTrace t → all_told marking step t changes ≡ changes_told (marking step) step (held_in marking t) changes
   all-told step t [] is = refl
   all-told step t (c ∷ more) is = ap₂ ◌++◌ (change-told step t c is)
-      (all-told step (changed step t c) more (changed-keeps step t c is)
+      (all-told step (trace_changed step t c) more (changed-keeps step t c is)
       ∙ ap (λ live. changes_told (marking step) step live more) (changed-held step t c is))

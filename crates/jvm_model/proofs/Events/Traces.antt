@@ -10,7 +10,7 @@ use Rattle.jvm_model.specs.declared.event.Mark.{Mark}
 use Rattle.jvm_model.specs.Basis.Data.{Listing, World, Change, Loads, Began, Left, Unwound, State}
 use Rattle.jvm_model.specs.Running.Run.{start, step, turn_in, turn_in-zero, turn_in-suc}
 use Rattle.jvm_model.specs.Running.Changes.{methods, without_first, after_change, after_changes}
-use Rattle.jvm_model.specs.Profiling.Activations.{Activation, Trace, no_trace, current, with_begin, ended_at, without_current, with_end, changed, all_changed, trace_in, trace_in-zero, trace_in-suc}
+use Rattle.jvm_model.specs.Profiling.Activations.{Activation, Trace, no_trace, current, with_begin, ended_at, without_current, with_end, trace_changed, all_changed, trace_in, trace_in-zero, trace_in-suc}
 use Rattle.jvm_model.specs.Profiling.EventLists.{Marking, end_events, current_activation, end_of}
 use Rattle.jvm_model.proofs.Events.Chains.{slice_get-append_left, slice_get_at, IsBelow}
 
@@ -115,7 +115,7 @@ end-keeps step t is = keeps t.live is where
 
 -- ---- changes
 
-pub changed-keeps : (step : ℕ) (t : Trace) (c : Change) → IsTrace t → IsTrace (changed step t c)
+pub changed-keeps : (step : ℕ) (t : Trace) (c : Change) → IsTrace t → IsTrace (trace_changed step t c)
 changed-keeps step t (Loads classes) is = is
 changed-keeps step t (Began method) is = begin-keeps step method t is
 changed-keeps step t Left is = end-keeps step t is
@@ -123,7 +123,7 @@ changed-keeps step t Unwound is = end-keeps step t is
 
 pub all_changed-keeps : (step : ℕ) (t : Trace) (changes : List Change) → IsTrace t → IsTrace (all_changed step t changes)
 all_changed-keeps step t [] is = is
-all_changed-keeps step t (c ∷ more) is = all_changed-keeps step (changed step t c) more (changed-keeps step t c is)
+all_changed-keeps step t (c ∷ more) is = all_changed-keeps step (trace_changed step t c) more (changed-keeps step t c is)
 
 pub no_trace-is : IsTrace no_trace
 no_trace-is = tt
@@ -175,7 +175,7 @@ end-methods step t is = ends t.live refl is where
       ap (λ (activations : List Activation). map (method_at activations) rest) (ended_at-found step number t.activations are.0.activation are.0.found)
       ∙ methods-set t.activations number are.0.activation step are.0.found rest
 
-pub changed-methods : (step : ℕ) (t : Trace) (c : Change) → IsTrace t → live_methods (changed step t c) ≡ after_change (live_methods t) c
+pub changed-methods : (step : ℕ) (t : Trace) (c : Change) → IsTrace t → live_methods (trace_changed step t c) ≡ after_change (live_methods t) c
 changed-methods step t (Loads classes) is = refl
 changed-methods step t (Began method) is = begin-methods step method t is
 changed-methods step t Left is = end-methods step t is
@@ -185,7 +185,7 @@ changed-methods step t Unwound is = end-methods step t is
 pub all_changed-methods : (step : ℕ) (t : Trace) (changes : List Change) → IsTrace t → live_methods (all_changed step t changes) ≡ after_changes (live_methods t) changes
 all_changed-methods step t [] is = refl
 all_changed-methods step t (c ∷ more) is =
-    all_changed-methods step (changed step t c) more (changed-keeps step t c is) ∙ ap (λ ms. after_changes ms more) (changed-methods step t c is)
+    all_changed-methods step (trace_changed step t c) more (changed-keeps step t c is) ∙ ap (λ ms. after_changes ms more) (changed-methods step t c is)
 
 -- That frames are changed as told, at the start and in each step over a text.
 pub record FramesFollow (w : World) (t : Listing) : Type 0 where

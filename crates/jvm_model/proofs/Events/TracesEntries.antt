@@ -9,8 +9,8 @@ use Rattle.jvm_model.specs.declared.event.Mark.TheVariants.{Off, Plain, Root}
 use Rattle.jvm_model.specs.Basis.Data.{World, Change, Loads, Began, Left, Unwound}
 use Rattle.jvm_model.specs.Running.Run.{turn}
 use Rattle.jvm_model.specs.Codes.Originals.{original}
-use Rattle.jvm_model.specs.Running.Changes.{begun}
-use Rattle.jvm_model.specs.Profiling.Activations.{Activation, Trace, changed, trace_before}
+use Rattle.jvm_model.specs.Running.Changes.{begun_count}
+use Rattle.jvm_model.specs.Profiling.Activations.{Activation, Trace, trace_changed, trace_before}
 use Rattle.jvm_model.specs.Profiling.EventLists.{Marking, begin_events, end_events, current_activation, end_of, events_told, all_told, step_events, events_of, events_of-zero, events_of-suc, entries_by, entries}
 use Rattle.jvm_model.proofs.Events.Order.{run-begins}
 
@@ -34,17 +34,17 @@ end_of-entries marking k none step t = by (current_activation t) where
   by None = omega arith
   by (Some a) = end-entries k none step a.method (marking a.begin a.method)
 
-pub all_told-entries : (marking : Marking) (step : ℕ) (t : Trace) (changes : List Change) → entries (all_told marking step t changes) ≤ begun changes
+pub all_told-entries : (marking : Marking) (step : ℕ) (t : Trace) (changes : List Change) → entries (all_told marking step t changes) ≤ begun_count changes
 all_told-entries marking step t [] = omega arith
 all_told-entries marking step t (Loads classes ∷ more) = all_told-entries marking step t more
 all_told-entries marking step t (Began method ∷ more) =
-    let next = changed step t (Began method) in
+    let next = trace_changed step t (Began method) in
     omega (arith, entries-append (events_told marking step t (Began method)) (all_told marking step next more), begin-entries step method (marking step method), all_told-entries marking step next more)
 all_told-entries marking step t (Left ∷ more) =
-    let next = changed step t Left in
+    let next = trace_changed step t Left in
     omega (arith, entries-append (events_told marking step t Left) (all_told marking step next more), end_of-entries marking kind.Leave (omega arith) step t, all_told-entries marking step next more)
 all_told-entries marking step t (Unwound ∷ more) =
-    let next = changed step t Unwound in
+    let next = trace_changed step t Unwound in
     omega (arith, entries-append (events_told marking step t Unwound) (all_told marking step next more), end_of-entries marking kind.Unwind (omega arith) step t, all_told-entries marking step next more)
 
 -- one a step at most

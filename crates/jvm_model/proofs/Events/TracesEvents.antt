@@ -8,7 +8,7 @@ use Rattle.jvm_model.specs.Basis.Data.{World, Change, Loads, Began, Left, Unwoun
 use Rattle.jvm_model.specs.Running.Run.{turn, run}
 use Rattle.jvm_model.specs.Codes.Originals.{original}
 use Rattle.jvm_model.specs.Running.Changes.{methods, after_change}
-use Rattle.jvm_model.specs.Profiling.Activations.{Trace, no_trace, changed, trace}
+use Rattle.jvm_model.specs.Profiling.Activations.{Trace, no_trace, trace_changed, trace}
 use Rattle.jvm_model.specs.Profiling.EventLists.{Marking, begin_events, end_events, end_of, events_told, all_told, step_events, events_of, events_of-suc}
 use Rattle.jvm_model.proofs.Events.Traces.{IsTrace, no_trace-is, trace_in-is, changed-keeps, live_methods, changed-methods, FramesFollow, live-follow, end_of-always, end_of-none}
 
@@ -53,7 +53,7 @@ pub all_told-always : (marking : Marking) (mark : ℕ → Mark) → IsAlways mar
     → all_told marking step t changes ≡ all_told_of mark step (live_methods t) changes
 all_told-always marking mark always step t [] is = refl
 all_told-always marking mark always step t (c ∷ more) is = ap₂ ◌++◌ (told_of-always marking mark always step t c is)
-    (all_told-always marking mark always step (changed step t c) more (changed-keeps step t c is)
+    (all_told-always marking mark always step (trace_changed step t c) more (changed-keeps step t c is)
     ∙ ap (λ ms. all_told_of mark step ms more) (changed-methods step t c is))
 
 -- ---- a run's steps

@@ -13,7 +13,7 @@ use Rattle.code_model.specs.declared.laying.Laid.{Laid}
 use Rattle.code_model.specs.Groups.{IsLaidIn}
 use Rattle.code_model.specs.Instructions.{end_of}
 use Rattle.code_model.specs.Operands.{padding_len}
-use Rattle.code_model.specs.Layout.{home_of, moved, moved_arg, opcode_bytes, operand_len, place_of, size_at, width_of}
+use Rattle.code_model.specs.Layout.{home_of, instr_moved, moved_arg, opcode_bytes, operand_len, place_of, size_at, width_of}
 use Rattle.code_model.proofs.Lengths.{size_at-is}
 use Rattle.jvm_model.specs.Basis.Data.{Instruction, Operation}
 use Rattle.jvm_model.specs.Codes.Lines.{code_instruction, ends, instruction_of, next_of, operation_of, targets_of}
@@ -35,8 +35,8 @@ operand-long h place w (arg.Interface index count zero) = refl
 operand-long h place w (arg.Multi index dimensions) = refl
 operand-long h place w (arg.Array code) = refl
 
-size-same : (h : ℕ → ℕ) (place : ℕ) (i : Instr) → size_at place (moved h place i) ≡ size_at place i
-size-same h place i = size_at-is place (moved h place i) ∙ (ap (λ n. length (opcode_bytes i.wide i.op) + n) (operand-long h place (width_of i) i.arg) ∙ sym (size_at-is place i))
+size-same : (h : ℕ → ℕ) (place : ℕ) (i : Instr) → size_at place (instr_moved h place i) ≡ size_at place i
+size-same h place i = size_at-is place (instr_moved h place i) ∙ (ap (λ n. length (opcode_bytes i.wide i.op) + n) (operand-long h place (width_of i) i.arg) ∙ sym (size_at-is place i))
 
 next-moves : (h : ℕ → ℕ) (op : Operation) (at to : ℕ) → to ≡ h at → next_of op to ≡ option_map h (next_of op at)
 next-moves h op at to same = by (ends op) where
@@ -52,7 +52,7 @@ module _ (c image : ClassFile) (laid : Laid) (g : Group) (is : IsLaidIn laid g) 
   place = place_of is.home g
 
   abbrev there : Instr
-  there = moved h place g.instr
+  there = instr_moved h place g.instr
 
   end-there : end_of there ≡ h (end_of g.instr)
   end-there = ap (λ n. place + n) (size-same h place g.instr) ∙ sym (ap (λ o. unwrap_or o 0) is.next)

@@ -15,7 +15,7 @@ use Rattle.code_model.specs.declared.instr.Arg.TheVariants as arg
 use Rattle.code_model.specs.declared.instr.Instr.{Instr}
 use Rattle.op_table.specs.Opcodes.{row_of, groups}
 use Rattle.code_model.specs.Formats.{number}
-use Rattle.code_model.specs.Operands.{signed, instr_with}
+use Rattle.code_model.specs.Operands.{number_signed, instr_with}
 use Rattle.code_model.specs.Instructions.{instruction_at}
 use Rattle.code_model.specs.Layout.{u2}
 use Rattle.code_model.proofs.Again.{made_of, number_again, back16, short_again, instr_of_operand}
@@ -43,7 +43,7 @@ pub sipush_at : (p ys : List ℕ) (number n : ℕ) → number < 2 ^ 16 → lengt
     → instruction_at (p ++ (17 ∷ (u2 number ++ ys))) n ≡ Some (instr_with n false 17 (arg.Value (cast_signed w16 number)))
 unfolding row_of groups
 sipush_at p ys number n lt len =
-    let operand = made_of (signed n w16) arg.Value (u2 number) (cast_signed w16 number) (short_again n number lt) in
+    let operand = made_of (number_signed n w16) arg.Value (u2 number) (cast_signed w16 number) (short_again n number lt) in
     stands_to (p ++ (17 ∷ (u2 number ++ ys))) n (instr_with n false 17 (arg.Value (cast_signed w16 number)))
     (record { front = p; text = 17 ∷ u2 number; rest = ys; parts = refl; place = len; spelled = instr_of_operand n false 17 (u2 number) (arg.Value (cast_signed w16 number)) refl operand })
 

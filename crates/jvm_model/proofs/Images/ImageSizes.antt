@@ -14,7 +14,7 @@ use Rattle.const_pool.specs.declared.class.Attribute.{Attribute}
 use Rattle.const_pool.specs.declared.class.Attribute.TheVariants.{ConstantValue, Code, Other}
 use Rattle.const_pool.specs.declared.class.Raw.{Raw}
 use Rattle.const_pool.specs.declared.pool.Const.{Const}
-use Rattle.const_pool.specs.ClassFile.{counted, raw_bytes, handler_bytes, code_bytes, attribute_bytes, member_bytes, class_bytes}
+use Rattle.const_pool.specs.ClassFile.{items_counted, raw_bytes, handler_bytes, code_bytes, attribute_bytes, member_bytes, class_bytes}
 use Rattle.const_pool.specs.Pool.{u2, u4, entry_bytes, pool_bytes}
 use Rattle.const_pool.specs.Tail.{tail_entries, with_tail, throwable_index}
 use Rattle.code_model.specs.declared.laying.Homes.{Homes}
@@ -108,8 +108,8 @@ length-handlers (h ∷ hs) =
 
 length-code : (k : CodeAttribute) → length (code_bytes k) ≡ 12 + length k.code + 8 * length k.handlers + length (all_raws k.attributes)
 length-code k =
-    let tables = counted raw_bytes k.attributes in
-    let behind = counted handler_bytes k.handlers ++ tables in
+    let tables = items_counted raw_bytes k.attributes in
+    let behind = items_counted handler_bytes k.handlers ++ tables in
     let whole = length-append k.code behind in
     let handlers = length-append (flat_map handler_bytes k.handlers) tables in
     let eight = length-handlers k.handlers in
@@ -208,17 +208,17 @@ pool-le pool =
 
 -- what a class has beside its pool and its methods
 abbrev rest_of : ClassFile → ℕ
-rest_of c = length (counted u2 c.interfaces) + length (counted member_bytes c.fields) + length (counted attribute_bytes c.attributes)
+rest_of c = length (items_counted u2 c.interfaces) + length (items_counted member_bytes c.fields) + length (items_counted attribute_bytes c.attributes)
 
 length-class : (c : ClassFile) → length (class_bytes c) ≡ 16 + length (pool_bytes c.pool) + length (all_members c.methods) + rest_of c
 length-class c =
-    let last = counted attribute_bytes c.attributes in
-    let methods = counted member_bytes c.methods ++ last in
-    let fields = counted member_bytes c.fields ++ methods in
-    let interfaces = counted u2 c.interfaces ++ fields in
-    let a = length-append (counted member_bytes c.methods) last in
-    let b = length-append (counted member_bytes c.fields) methods in
-    let d = length-append (counted u2 c.interfaces) fields in
+    let last = items_counted attribute_bytes c.attributes in
+    let methods = items_counted member_bytes c.methods ++ last in
+    let fields = items_counted member_bytes c.fields ++ methods in
+    let interfaces = items_counted u2 c.interfaces ++ fields in
+    let a = length-append (items_counted member_bytes c.methods) last in
+    let b = length-append (items_counted member_bytes c.fields) methods in
+    let d = length-append (items_counted u2 c.interfaces) fields in
     let e = length-append (pool_bytes c.pool) (u2 c.access ++ (u2 c.this_class ++ (u2 c.super_class ++ interfaces))) in
     omega arith
 

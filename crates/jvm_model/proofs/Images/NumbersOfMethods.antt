@@ -12,7 +12,7 @@ use Rattle.jvm_model.specs.declared.program.MethodPlace.{MethodPlace}
 use Rattle.jvm_model.specs.declared.program.Program.{Program}
 use Rattle.jvm_model.specs.Rewriting.Images.{next_number, number_behind}
 use Rattle.jvm_model.specs.Basis.Methods.{code_of, method_code}
-use Rattle.jvm_model.specs.Basis.Programs.{class_at, coded_from, numbered_from, numbered, place_of_method}
+use Rattle.jvm_model.specs.Basis.Programs.{class_at, coded_from, numbered_from, methods_numbered, place_of_method}
 use Rattle.jvm_model.specs.Profiling.Swaps.{first_number}
 
 -- ---- lists
@@ -145,17 +145,17 @@ some-of f None y e = absurd (none-some y e)
 some-of f (Some x) y e = (x, refl, e)
 
 -- the method with Code at a position of a class stands in its program at the number that its version has
-pub place-behind : (p : Program) (k : ℕ) (c : ClassFile) (j : ℕ) (code : CodeAttribute) → p.methods ≡ numbered p.classes → class_at p k ≡ Some c → method_code c j ≡ Some code
+pub place-behind : (p : Program) (k : ℕ) (c : ClassFile) (j : ℕ) (code : CodeAttribute) → p.methods ≡ methods_numbered p.classes → class_at p k ≡ Some c → method_code c j ≡ Some code
     → place_of_method p (number_behind (first_number p k) c.methods j) ≡ Some (record { class = k; position = j })
 place-behind p k c j code methods at coded =
     let found = some-of code_of (slice_get c.methods j) code coded in
     let zero_more : 0 + k ≡ k = omega arith in
     let there = nth-numbered 0 p.classes k c j found.0 code at found.1 found.2 in
-    let here : slice_get (numbered p.classes) (count_below k (numbered p.classes) + number_behind 0 c.methods j) ≡ Some (place_at k j) =
-    subst (λ i. slice_get (numbered p.classes) (count_below i (numbered p.classes) + number_behind 0 c.methods j) ≡ Some (place_at i j)) zero_more there in
-    let first : first_number p k ≡ count_below k (numbered p.classes) = ap (count_below k) methods in
+    let here : slice_get (methods_numbered p.classes) (count_below k (methods_numbered p.classes) + number_behind 0 c.methods j) ≡ Some (place_at k j) =
+    subst (λ i. slice_get (methods_numbered p.classes) (count_below i (methods_numbered p.classes) + number_behind 0 c.methods j) ≡ Some (place_at i j)) zero_more there in
+    let first : first_number p k ≡ count_below k (methods_numbered p.classes) = ap (count_below k) methods in
     let sums : first_number p k ≡ first_number p k + 0 = omega arith in
     ap (λ i. place_of_method p (number_behind i c.methods j)) sums
     ∙ (ap (place_of_method p) (behind-more (first_number p k) 0 c.methods j)
     ∙ (ap (λ i. place_of_method p (i + number_behind 0 c.methods j)) first
-    ∙ (ap (λ (ms : List MethodPlace). slice_get ms (count_below k (numbered p.classes) + number_behind 0 c.methods j)) methods ∙ here)))
+    ∙ (ap (λ (ms : List MethodPlace). slice_get ms (count_below k (methods_numbered p.classes) + number_behind 0 c.methods j)) methods ∙ here)))

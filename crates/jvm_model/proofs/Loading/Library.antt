@@ -18,14 +18,14 @@ use Rattle.base_classes.specs.TextClasses.{text_classes}
 use Rattle.base_classes.specs.StreamClasses.{stream_classes}
 use Rattle.base_classes.specs.ValueClasses.{value_classes}
 use Rattle.base_classes.specs.ThrowableClasses.{throwable_classes}
-use Rattle.base_classes.specs.Making.{added, text_added, string_added, class_added, name_type_added, reference_added, instruction_added, code_from, code_added, attributes_added, member_added, members_from, superclass_added, interfaces_from, class_file_of}
+use Rattle.base_classes.specs.Making.{entry_added, text_added, string_added, class_added, name_type_added, reference_added, instruction_added, code_from, code_added, attributes_added, member_added, members_from, superclass_added, interfaces_from, class_file_of}
 use Rattle.jvm_model.specs.Basis.Data.{MethodPlace, Program}
 use Rattle.jvm_model.specs.Basis.Descriptors.{same_text}
 use Rattle.jvm_model.specs.Basis.KindNumbers.{user_count}
 use Rattle.jvm_model.specs.Classes.Load.{Need, class_needs, is_among, need}
 use Rattle.jvm_model.specs.Classes.Lookup.{interface_names}
 use Rattle.jvm_model.specs.Basis.Methods.{code_of}
-use Rattle.jvm_model.specs.Basis.Programs.{class_at, class_named, coded_from, has_built_in_name, name_of, number_from, numbered, numbered_from}
+use Rattle.jvm_model.specs.Basis.Programs.{class_at, class_named, coded_from, has_built_in_name, name_of, number_from, methods_numbered, numbered_from}
 use Rattle.jvm_model.specs.Basis.SharedState.{built_in_from, shared_before}
 use Rattle.jvm_model.specs.Soundness.Sound.{IsFit, IsLoaded}
 use Rattle.jvm_model.proofs.Soundness.Ranked.{AreInOrder}
@@ -67,11 +67,11 @@ starts_bare [] = false
 starts_bare (c ∷ rest) = (not (is_some (named_class c.pool c.super_class)) && list_all (λ (name : List ℕ). false) (interface_names c)) && list_all is_uncoded c.methods
 
 files_in_order : are_in_order [] built_in_files ≡ true
-unfolding built_in_classes object_classes text_classes stream_classes value_classes throwable_classes added text_added string_added class_added name_type_added reference_added instruction_added code_from code_added attributes_added member_added members_from superclass_added interfaces_from class_file_of
+unfolding built_in_classes object_classes text_classes stream_classes value_classes throwable_classes entry_added text_added string_added class_added name_type_added reference_added instruction_added code_from code_added attributes_added member_added members_from superclass_added interfaces_from class_file_of
 files_in_order = refl
 
 files_start_bare : starts_bare built_in_files ≡ true
-unfolding built_in_classes object_classes text_classes stream_classes value_classes throwable_classes added text_added string_added class_added name_type_added reference_added instruction_added code_from code_added attributes_added member_added members_from superclass_added interfaces_from class_file_of
+unfolding built_in_classes object_classes text_classes stream_classes value_classes throwable_classes entry_added text_added string_added class_added name_type_added reference_added instruction_added code_from code_added attributes_added member_added members_from superclass_added interfaces_from class_file_of
 files_start_bare = refl
 
 files_counted : length built_in_files ≡ length built_in_names
@@ -109,7 +109,7 @@ abbrev places_from : ℕ → List ClassFile → List ℕ
 places_from at [] = []
 places_from at (c ∷ rest) = at ∷ places_from (at + 1) rest
 
-module _ (p : Program) (fit : IsFit p) (own : List ClassFile) (classes_are : p.classes ≡ own ++ built_in_files) (methods_are : p.methods ≡ numbered p.classes)
+module _ (p : Program) (fit : IsFit p) (own : List ClassFile) (classes_are : p.classes ≡ own ++ built_in_files) (methods_are : p.methods ≡ methods_numbered p.classes)
     (free : AllByRecursion (λ c. has_built_in_name c ≡ false) own) where
   object-at : user_count p ≡ length own
   object-at =

@@ -7,7 +7,7 @@ use Rattle.std.specs.List.{AllByRecursion}
 use Rattle.const_pool.specs.declared.class.ClassFile.{ClassFile}
 use Rattle.jvm_model.specs.Basis.Data.{Program, World}
 use Rattle.jvm_model.specs.Classes.Kinds.{Element, Primitive, Named, meaning_of}
-use Rattle.jvm_model.specs.Classes.Load.{Fault, Loading, Need, There, Begun, Fresh as Unloaded, behind_needs, by_standing, done, is_among, load_element, load_named, load_needs, load_of, need_fault, needs_of, standing_of, unless}
+use Rattle.jvm_model.specs.Classes.Load.{Fault, Loading, Need, There, Begun, Fresh as Unloaded, behind_needs, by_standing, loading_done, is_among, load_element, load_named, load_needs, load_of, need_fault, needs_of, standing_of, unless}
 use Rattle.jvm_model.specs.Basis.Programs.{class_named, has_built_in_name}
 use Rattle.jvm_model.specs.Profiling.Revelation.{IsLoadOrder}
 use Rattle.jvm_model.specs.Running.Run.{before}
@@ -45,7 +45,7 @@ module _ (p : Program) (P : List ℕ → Type 0) (first : List ℕ)
       (λ l g. unless_kept (need_fault p n) l (load_needs p load rest) g (needs_kept load k rest))
 
   behind_kept : (class : ℕ) (l : Loading) → is_among class first ≡ false → P l.loaded → P (behind_needs class l).loaded
-  behind_kept class l other h = unless_kept l.fault l.loaded (λ loaded. done (loaded ++ class ∷ [])) h (λ loaded g. one_more loaded class other g)
+  behind_kept class l other h = unless_kept l.fault l.loaded (λ loaded. loading_done (loaded ++ class ∷ [])) h (λ loaded g. one_more loaded class other g)
 
   -- the path has the first classes
   Begins : List ℕ → Type 0
@@ -120,7 +120,7 @@ module _ (p : Program) (P : List ℕ → Type 0)
       → P l.loaded → P (behind_needs class l).loaded
   behind_ordered class l new needs h = by l.fault refl
     where
-      by : (o : Option Fault) → l.fault ≡ o → P (unless o l.loaded (λ loaded. done (loaded ++ class ∷ []))).loaded
+      by : (o : Option Fault) → l.fault ≡ o → P (unless o l.loaded (λ loaded. loading_done (loaded ++ class ∷ []))).loaded
       by None e = one_more l.loaded class new (needs e) h
       by (Some fault) e = h
 

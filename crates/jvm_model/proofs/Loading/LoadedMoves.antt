@@ -10,9 +10,9 @@ use Rattle.const_pool.specs.declared.class.ClassFile.{ClassFile}
 use Rattle.const_pool.specs.declared.class.Member.{Member}
 use Rattle.jvm_model.specs.Basis.Data.{Ending, Unverifiable, Program, Entry, Active, Initializing, Frame, Part, Constants, Superclass, Initializer, Finish, Phase, Fresh, Running, Ready, Erroneous, Shared, State, Began, Listing, Turn, World}
 use Rattle.jvm_model.specs.Running.Applies.{has_room, live_in, most_live, new_frame, still, with_frame}
-use Rattle.jvm_model.specs.Running.Constants.{FieldConstant, Number, Units, Setting, can_intern, constant_for, set, sets_constants, sets_field, sets_fields, then_sets}
+use Rattle.jvm_model.specs.Running.Constants.{FieldConstant, Number, Units, Setting, can_intern, constant_for, constant_set, sets_constants, sets_field, sets_fields, then_sets}
 use Rattle.jvm_model.specs.Classes.Lookup.{is_below}
-use Rattle.jvm_model.specs.Running.Moves.{after_super, argument_array, at_part, caught, handler_for, initializes, main_or_end, move, moves, raises, runs_initializer, settled, then_turn, with_super, wrapped}
+use Rattle.jvm_model.specs.Running.Moves.{after_super, argument_array, at_part, throw_caught, handler_for, initializes, main_or_end, move, moves, raises, runs_initializer, turn_settled, then_turn, with_super, throw_wrapped}
 use Rattle.jvm_model.specs.Basis.Programs.{class_at, initializer_of, name_at, super_of}
 use Rattle.jvm_model.specs.Basis.SharedState.{Allocated, Field, class_of, error, in_initializer, made_with, message_cost, no_class_definition, null, phase_of, stack_overflow, with_exception, with_message}
 use Rattle.jvm_model.proofs.Running.Settles.{settled-keeps}
@@ -31,7 +31,7 @@ made-loaded w s name message cause = by (nat_le (s.heap.used + (message_cost mes
   by true = refl
   by false = refl
 
-wrapped-loaded : (w : World) (s : Shared) (r : ℕ) → (wrapped w s r).shared.loaded ≡ s.loaded
+wrapped-loaded : (w : World) (s : Shared) (r : ℕ) → (throw_wrapped w s r).shared.loaded ≡ s.loaded
 wrapped-loaded w s r = by (is_below w.program (class_of w.program s r) error) where
   by : (b : Bool) → (cond b (record { shared = s; reference = r }) (made_with w s in_initializer None (datum.Ref r))).shared.loaded ≡ s.loaded
   by true = refl
@@ -64,7 +64,7 @@ fields-loaded p c class position (f ∷ rest) s =
 
 constants-loaded : (p : Program) (class : ℕ) (s : Shared) → (sets_constants p class s).shared.loaded ≡ s.loaded
 constants-loaded p class s = by (class_at p class) where
-  by : (found : Option ClassFile) → (option_map_or (λ (c : ClassFile). sets_fields p c class 0 c.fields s) found (set s)).shared.loaded ≡ s.loaded
+  by : (found : Option ClassFile) → (option_map_or (λ (c : ClassFile). sets_fields p c class 0 c.fields s) found (constant_set s)).shared.loaded ≡ s.loaded
   by None = refl
   by (Some c) = fields-loaded p c class 0 c.fields s
 
@@ -103,7 +103,7 @@ module _ (w : World) (t : Listing) (s : State) where
   part-keeps c Initializer = runs-keeps c (initializer_of w.program c)
   part-keeps c Finish = refl
 
-  caught-keeps : (r : ℕ) (f : Frame) (h : Option ℕ) → Keeps (caught w t s r f h).after
+  caught-keeps : (r : ℕ) (f : Frame) (h : Option ℕ) → Keeps (throw_caught w t s r f h).after
   caught-keeps r f None = refl
   caught-keeps r f (Some target) = chosen-keeps (nat_le (height_of (Ref r ∷ [])) f.max_stack) _ _ refl refl
 
@@ -131,7 +131,7 @@ next-keeps turn None loaded same kept = tt
 next-keeps turn (Some next) loaded same kept = kept ∙ same
 
 -- all moves
-pub settled-loaded : (w : World) (t : Listing) (turn : Turn) → (settled w t turn).after.shared.loaded ≡ turn.after.shared.loaded
+pub settled-loaded : (w : World) (t : Listing) (turn : Turn) → (turn_settled w t turn).after.shared.loaded ≡ turn.after.shared.loaded
 settled-loaded w t turn =
     settled-keeps w t (λ x. x.after.shared.loaded ≡ turn.after.shared.loaded)
     (λ x same. next-keeps x (move w t x.after) turn.after.shared.loaded same (moves-keep w t x.after x.after.ending x.after.thrown x.after.stack)) turn refl

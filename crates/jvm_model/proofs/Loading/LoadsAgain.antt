@@ -6,7 +6,7 @@ use Rattle.std.specs.Prelude.{length, drop, Option, Some, None, ◌==◌, ◌||�
 use Rattle.jvm_model.specs.Basis.Data.{Operands}
 use Rattle.jvm_model.specs.Running.Growth.{Extends}
 use Rattle.jvm_model.specs.Classes.Kinds.{Element, Primitive, Named, kind_named, meaning_of}
-use Rattle.jvm_model.specs.Classes.Load.{Fault, Circular, Loading, Need, There, Begun, Fresh, behind_needs, by_standing, done, failed, go_on, is_among, load_element, load_named, load_needs, load_of, need_fault, needs_of, standing_of, unless}
+use Rattle.jvm_model.specs.Classes.Load.{Fault, Circular, Loading, Need, There, Begun, Fresh, behind_needs, by_standing, loading_done, loading_failed, go_on, is_among, load_element, load_named, load_needs, load_of, need_fault, needs_of, standing_of, unless}
 use Rattle.jvm_model.specs.Instructions.SymbolicReference.{SymbolicReference, kind_unless, newly_loaded, resolved_kind, resolved_name, resolves}
 use Rattle.jvm_model.specs.Basis.Programs.{class_named}
 use Rattle.jvm_model.specs.declared.program.Program.{Program}
@@ -93,7 +93,7 @@ module _ (p : Program) (P : List ℕ → Type 0) (first : List ℕ)
       element-keeps loaded (λ class_name. by_standing (standing_of path loaded (class_named p class_name)) class_name loaded fresh) (meaning_of name).element h
       (λ class_name. class-keeps path class_name loaded fresh (class_named p class_name) h
       (λ class out. unless-keeps (load_needs p (within class) (needs_of p class) loaded).fault (load_needs p (within class) (needs_of p class) loaded).loaded
-      (λ l. done (l ++ class ∷ []))
+      (λ l. loading_done (l ++ class ∷ []))
       (needs-keep (within class) (named-keeps n (path ++ class ∷ []) (longer path class begins)) (needs_of p class) loaded h)
       (λ l g. one_more l class (begins class out) g)))
 
@@ -135,10 +135,10 @@ module _ (p : Program) (c : ℕ) where
 some-none : (f : Fault) → Some f ≡ None → ⊥
 some-none f e = cc
 
-failed-done : (loaded after : List ℕ) (fault : Fault) → failed loaded fault ≡ done after → ⊥
+failed-done : (loaded after : List ℕ) (fault : Fault) → loading_failed loaded fault ≡ loading_done after → ⊥
 failed-done loaded after fault e = some-none fault (ap (λ (l : Loading). l.fault) e)
 
-done-done : (loaded after : List ℕ) → done loaded ≡ done after → loaded ≡ after
+done-done : (loaded after : List ℕ) → loading_done loaded ≡ loading_done after → loaded ≡ after
 done-done loaded after e = ap (λ (l : Loading). l.loaded) e
 
 -- all classes of the one list are among the other
@@ -146,32 +146,32 @@ abbrev Within : List ℕ → List ℕ → Type 0
 Within after big = (c : ℕ) → is_among c after ≡ true → is_among c big ≡ true
 
 module _ (p : Program) (path after big : List ℕ) (within : Within after big) where
-  behind-there : (class : ℕ) (o : Option Fault) (loaded : List ℕ) → unless o loaded (λ l. done (l ++ class ∷ [])) ≡ done after → is_among class big ≡ true
+  behind-there : (class : ℕ) (o : Option Fault) (loaded : List ℕ) → unless o loaded (λ l. loading_done (l ++ class ∷ [])) ≡ loading_done after → is_among class big ≡ true
   behind-there class None loaded e = within class (ap (is_among class) (sym (done-done (loaded ++ class ∷ []) after e)) ∙ among-last class loaded)
   behind-there class (Some fault) loaded e = absurd (failed-done loaded after fault e)
 
   class-there : (name loaded : List ℕ) (load : ℕ → Loading) (o : Option ℕ)
-      → ((class : ℕ) → load class ≡ done after → is_among class big ≡ true)
-      → by_standing (standing_of path loaded o) name loaded load ≡ done after
-      → (again : ℕ → Loading) → by_standing (standing_of path big o) name big again ≡ done big
+      → ((class : ℕ) → load class ≡ loading_done after → is_among class big ≡ true)
+      → by_standing (standing_of path loaded o) name loaded load ≡ loading_done after
+      → (again : ℕ → Loading) → by_standing (standing_of path big o) name big again ≡ loading_done big
   class-there name loaded load None there e again = absurd (failed-done loaded after _ e)
   class-there name loaded load (Some class) there e again =
       ap (λ b. by_standing (if b then There else if is_among class path then Begun else Fresh class) name big again)
       (by (is_among class loaded) (is_among class path) refl e)
     where
       by : (a b : Bool) → is_among class loaded ≡ a
-          → by_standing (if a then There else if b then Begun else Fresh class) name loaded load ≡ done after → is_among class big ≡ true
+          → by_standing (if a then There else if b then Begun else Fresh class) name loaded load ≡ loading_done after → is_among class big ≡ true
       by true b is h = within class (ap (is_among class) (sym (done-done loaded after h)) ∙ is)
       by false true is h = absurd (failed-done loaded after Circular h)
       by false false is h = there class h
 
   element-there : (e : Element) (loaded : List ℕ) (load again : List ℕ → Loading)
-      → ((name : List ℕ) → load name ≡ done after → again name ≡ done big)
-      → load_element e loaded load ≡ done after → load_element e big again ≡ done big
+      → ((name : List ℕ) → load name ≡ loading_done after → again name ≡ loading_done big)
+      → load_element e loaded load ≡ loading_done after → load_element e big again ≡ loading_done big
   element-there (Primitive code) loaded load again there e = refl
   element-there (Named name) loaded load again there e = there name e
 
-  named-there : (depth : ℕ) (name loaded : List ℕ) → load_named p depth path name loaded ≡ done after → load_named p depth path name big ≡ done big
+  named-there : (depth : ℕ) (name loaded : List ℕ) → load_named p depth path name loaded ≡ loading_done after → load_named p depth path name big ≡ loading_done big
   named-there zero name loaded e = absurd (failed-done loaded after Circular e)
   named-there (suc n) name loaded e =
       let fresh : List ℕ → ℕ → Loading = λ l class. behind_needs class (load_needs p (load_named p n (path ++ class ∷ [])) (needs_of p class) l) in
@@ -186,7 +186,7 @@ module _ (p : Program) (path after big : List ℕ) (within : Within after big) w
 
 module _ (p : Program) (load : List ℕ → List ℕ → Loading)
     (named-again : (name loaded : List ℕ) → load name (load name loaded).loaded ≡ load name loaded)
-    (named-there : (name loaded after big : List ℕ) → Within after big → load name loaded ≡ done after → load name big ≡ done big)
+    (named-there : (name loaded after big : List ℕ) → Within after big → load name loaded ≡ loading_done after → load name big ≡ loading_done big)
     (stays : (needs : List Need) (loaded : List ℕ) → Within loaded (load_needs p load needs loaded).loaded) where
   needs-again : (needs : List Need) (loaded : List ℕ) → load_needs p load needs (load_needs p load needs loaded).loaded ≡ load_needs p load needs loaded
   needs-again [] loaded = refl
@@ -203,8 +203,8 @@ module _ (p : Program) (load : List ℕ → List ℕ → Loading)
           (ap (λ o. record { loaded = (load n.name loaded).loaded; fault = o }) none))
           ∙ others (load n.name loaded).loaded
       by_need (Some fault) is none others =
-          ap (λ (l : Loading). go_on l (λ l. failed l fault)) (named-again n.name loaded)
-          ∙ ap (λ o. unless o (load n.name loaded).loaded (λ l. failed l fault)) none
+          ap (λ (l : Loading). go_on l (λ l. loading_failed l fault)) (named-again n.name loaded)
+          ∙ ap (λ o. unless o (load n.name loaded).loaded (λ l. loading_failed l fault)) none
 
       by_fault : (o : Option Fault) → (load n.name loaded).fault ≡ o
           → ((l : List ℕ) → load_needs p load rest (load_needs p load rest l).loaded ≡ load_needs p load rest l)
@@ -223,10 +223,10 @@ module _ (p : Program) (path : List ℕ) (class : ℕ) (load : ℕ → List ℕ 
     (not-there : (loaded : List ℕ) → is_among class loaded ≡ false → is_among class (load class loaded).loaded ≡ false) where
   -- a class that is neither loaded nor being loaded
   fresh-again : (name loaded : List ℕ) (o : Option Fault) → is_among class loaded ≡ false → is_among class path ≡ false → (load class loaded).fault ≡ o
-      → by_standing (standing_of path (unless o (load class loaded).loaded (λ l. done (l ++ class ∷ []))).loaded (Some class)) name
-      (unless o (load class loaded).loaded (λ l. done (l ++ class ∷ []))).loaded
-      (λ c. behind_needs c (load c (unless o (load class loaded).loaded (λ l. done (l ++ class ∷ []))).loaded))
-      ≡ unless o (load class loaded).loaded (λ l. done (l ++ class ∷ []))
+      → by_standing (standing_of path (unless o (load class loaded).loaded (λ l. loading_done (l ++ class ∷ []))).loaded (Some class)) name
+      (unless o (load class loaded).loaded (λ l. loading_done (l ++ class ∷ []))).loaded
+      (λ c. behind_needs c (load c (unless o (load class loaded).loaded (λ l. loading_done (l ++ class ∷ []))).loaded))
+      ≡ unless o (load class loaded).loaded (λ l. loading_done (l ++ class ∷ []))
   fresh-again name loaded None out off is =
       ap (λ b. by_standing (if b then There else if is_among class path then Begun else Fresh class) name ((load class loaded).loaded ++ class ∷ [])
       (λ c. behind_needs c (load c ((load class loaded).loaded ++ class ∷ []))))
@@ -236,7 +236,7 @@ module _ (p : Program) (path : List ℕ) (class : ℕ) (load : ℕ → List ℕ 
       (λ c. behind_needs c (load c (load class loaded).loaded)))
       (not-there loaded out)
       ∙ (ap (λ b. by_standing (if b then Begun else Fresh class) name (load class loaded).loaded (λ c. behind_needs c (load c (load class loaded).loaded))) off
-      ∙ (ap (behind_needs class) (load-again loaded) ∙ ap (λ o. unless o (load class loaded).loaded (λ l. done (l ++ class ∷ []))) is))
+      ∙ (ap (behind_needs class) (load-again loaded) ∙ ap (λ o. unless o (load class loaded).loaded (λ l. loading_done (l ++ class ∷ []))) is))
 
   class-again : (name loaded : List ℕ) (a b : Bool) → is_among class loaded ≡ a → is_among class path ≡ b
       → by_standing (standing_of path (by_standing (if a then There else if b then Begun else Fresh class) name loaded (λ c. behind_needs c (load c loaded))).loaded (Some class)) name

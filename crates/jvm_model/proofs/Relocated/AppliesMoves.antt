@@ -7,11 +7,11 @@ use Rattle.heap_objects.specs.declared.datum.Datum.TheVariants as datum
 use Rattle.heap_objects.specs.declared.Value.TheVariants.{Int, Long, Ref, Addr}
 use Rattle.jvm_model.specs.Basis.Data.{Datum, Locals, Operands, Frame, Entry, Active, Initializing, State, Began, Left, Turn, Instruction, Listing, Where, Next, Target, Back, Outcome, GoesOn, Subroutine, Invokes, Returns, Throws, Raises, Initializes, Exits, Breaks, World}
 use Rattle.frame_stack.specs.Widths.{width, height_of}
-use Rattle.jvm_model.specs.Basis.Values.{as_value, spread, locals_with, with_value}
+use Rattle.jvm_model.specs.Basis.Values.{as_value, arguments_spread, locals_with, with_value}
 use Rattle.jvm_model.specs.Basis.Programs.{max_stack_of, max_locals_of}
-use Rattle.jvm_model.specs.Basis.SharedState.{raised, stack_overflow}
+use Rattle.jvm_model.specs.Basis.SharedState.{exception_raised, stack_overflow}
 use Rattle.jvm_model.specs.Running.Applies.{still, with_frame, breaks, goes, place_of, enters_subroutine, new_frame, throws_at, has_room, begins, live_in, most_live, begins_beside, invokes, resumes, gives_back, applies}
-use Rattle.jvm_model.specs.Codes.Moved.{Moving, moved_slot, moved_locals, moved_operands, moved_where, moved_outcome, moved_frame, moved_stack, moved, moved_turn, moved_instruction, ArePlaces, Agrees}
+use Rattle.jvm_model.specs.Codes.Moved.{Moving, moved_slot, moved_locals, moved_operands, moved_where, moved_outcome, moved_frame, moved_stack, state_moved, moved_turn, moved_instruction, ArePlaces, Agrees}
 use Rattle.jvm_model.proofs.Relocated.WithinMoves.{found-moves, long-moves, with-moves}
 
 -- ---- parts of a frame
@@ -21,7 +21,7 @@ module _ (h : ℕ → ℕ) where
   depth-moves [] = refl
   depth-moves (v ∷ below) = ap (λ b. (if b then 2 else 1) + height_of (moved_operands h below)) (long-moves h v) ∙ ap (λ n. width v + n) (depth-moves below)
 
-  spread-moves : (args : List Datum) → spread args ≡ moved_locals h (spread args)
+  spread-moves : (args : List Datum) → arguments_spread args ≡ moved_locals h (arguments_spread args)
   spread-moves [] = refl
   spread-moves (datum.Long n ∷ args) = ap (λ l. Some (Long n) ∷ None ∷ l) (spread-moves args)
   spread-moves (datum.Int n ∷ args) = ap (λ l. Some (Int n) ∷ l) (spread-moves args)
@@ -33,10 +33,10 @@ module _ (h : ℕ → ℕ) where
 
   locals-moves : (args : List Datum) (most : ℕ) → locals_with args most ≡ moved_locals h (locals_with args most)
   locals-moves args most =
-      let more : ℕ = most - length (spread args) in
+      let more : ℕ = most - length (arguments_spread args) in
       ap (λ l. l ++ replicate more None) (spread-moves args)
-      ∙ (ap (λ l. moved_locals h (spread args) ++ l) (unwritten-moves more)
-      ∙ sym (map-append (moved_slot h) (spread args) (replicate more None)))
+      ∙ (ap (λ l. moved_locals h (arguments_spread args) ++ l) (unwritten-moves more)
+      ∙ sym (map-append (moved_slot h) (arguments_spread args) (replicate more None)))
 
   result-moves : (d : Option Datum) (o : Operands) → with_value (option_map as_value d) (moved_operands h o) ≡ moved_operands h (with_value (option_map as_value d) o)
   result-moves d o = ap (λ v. with_value v (moved_operands h o)) (found-moves h d) ∙ with-moves h (option_map as_value d) o
@@ -53,7 +53,7 @@ live-moves m (Active f ∷ below) = ap suc (live-moves m below)
 live-moves m (Initializing c part ∷ below) = live-moves m below
 
 module _ (w : World) (m : Moving) where
-  chosen-moves : (b : Bool) (x x' y y' : State) → x' ≡ moved m x → y' ≡ moved m y → (if b then x' else y') ≡ moved m (if b then x else y)
+  chosen-moves : (b : Bool) (x x' y y' : State) → x' ≡ state_moved m x → y' ≡ state_moved m y → (if b then x' else y') ≡ state_moved m (if b then x else y)
   chosen-moves true x x' y y' p q = p
   chosen-moves false x x' y y' p q = q
 
@@ -64,27 +64,27 @@ module _ (w : World) (m : Moving) where
   -- ---- a frame goes on
 
   pub goes-moves : (s : State) (f : Frame) (own : ℕ) (l : Locals) (o : Operands) (place : Option ℕ)
-      → goes (moved m s) (moved_frame m f) own (moved_locals (m.home f.version) l) (moved_operands (m.home f.version) o) (option_map (m.home f.version) place) ≡ moved m (goes s f own l o place)
+      → goes (state_moved m s) (moved_frame m f) own (moved_locals (m.home f.version) l) (moved_operands (m.home f.version) o) (option_map (m.home f.version) place) ≡ state_moved m (goes s f own l o place)
   goes-moves s f own l o None = refl
   goes-moves s f own l o (Some place) =
       let there : Frame = record f { place = place; locals = l; operands = o } in
-      ap (λ n. if nat_le n f.max_stack then with_frame (moved m s) (moved_frame m there) else breaks (moved m s) (moved_frame m f) own) (depth-moves (m.home f.version) o)
+      ap (λ n. if nat_le n f.max_stack then with_frame (state_moved m s) (moved_frame m there) else breaks (state_moved m s) (moved_frame m f) own) (depth-moves (m.home f.version) o)
       ∙ chosen-moves (nat_le (height_of o) f.max_stack) (with_frame s there) _ (breaks s f own) _ refl refl
 
   subroutine-moves : (s : State) (f : Frame) (i : Instruction) (next : Option ℕ)
-      → enters_subroutine (moved m s) (moved_frame m f) (moved_instruction (m.home f.version) i) (option_map (m.home f.version) next) ≡ moved m (enters_subroutine s f i next)
+      → enters_subroutine (state_moved m s) (moved_frame m f) (moved_instruction (m.home f.version) i) (option_map (m.home f.version) next) ≡ state_moved m (enters_subroutine s f i next)
   subroutine-moves s f i None = refl
   subroutine-moves s f i (Some next) =
       let h : ℕ → ℕ = m.home f.version in
-      ap (goes (moved m s) (moved_frame m f) i.own (moved_locals h f.locals) (Addr (h next) ∷ moved_operands h f.operands)) (slice_get-map h i.targets 0)
+      ap (goes (state_moved m s) (moved_frame m f) i.own (moved_locals h f.locals) (Addr (h next) ∷ moved_operands h f.operands)) (slice_get-map h i.targets 0)
       ∙ goes-moves s f i.own f.locals (Addr next ∷ f.operands) (slice_get i.targets 0)
 
   resumes-moves : (s : State) (f : Frame) (d : Option Datum) (i : Option Instruction)
-      → resumes (moved m s) (moved_frame m f) d (option_map (moved_instruction (m.home f.version)) i) ≡ moved m (resumes s f d i)
+      → resumes (state_moved m s) (moved_frame m f) d (option_map (moved_instruction (m.home f.version)) i) ≡ state_moved m (resumes s f d i)
   resumes-moves s f d None = refl
   resumes-moves s f d (Some i) =
       let h : ℕ → ℕ = m.home f.version in
-      ap (λ o. goes (moved m s) (moved_frame m f) i.own (moved_locals h f.locals) o (option_map h i.next)) (result-moves h d f.operands)
+      ap (λ o. goes (state_moved m s) (moved_frame m f) i.own (moved_locals h f.locals) o (option_map h i.next)) (result-moves h d f.operands)
       ∙ goes-moves s f i.own f.locals (with_value (option_map as_value d) f.operands) i.next
 
   -- ---- invocation and return
@@ -100,35 +100,35 @@ module _ (w : World) (m : Moving) where
         ∙ ap (at (m.version v) (m.home v (t.first v))) (locals-moves (m.home v) args (max_locals_of w k)))
 
     beside-moves : (s : State) (f : Frame) (k : ℕ) (args : List Datum) (below : Operands) (live : ℕ)
-        → begins_beside w u (moved m s) (moved_frame m f) k args (moved_operands (m.home f.version) below) live ≡ moved_turn m (begins_beside w t s f k args below live)
+        → begins_beside w u (state_moved m s) (moved_frame m f) k args (moved_operands (m.home f.version) below) live ≡ moved_turn m (begins_beside w t s f k args below live)
     beside-moves s f k args below live =
         let waiting : State = with_frame s (record f { operands = below }) in
-        chosen_turn-moves (nat_lt live most_live) (begins w t s f k args below) _ (still (throws_at s f (raised w s.shared stack_overflow None))) _
-        (ap (λ (g : Frame). record { after = with_frame (moved m waiting) g; changes = Began k ∷ [] }) (frame-moves k args))
+        chosen_turn-moves (nat_lt live most_live) (begins w t s f k args below) _ (still (throws_at s f (exception_raised w s.shared stack_overflow None))) _
+        (ap (λ (g : Frame). record { after = with_frame (state_moved m waiting) g; changes = Began k ∷ [] }) (frame-moves k args))
         refl
 
     invokes-moves : (i : Instruction) (s : State) (f : Frame) (k : ℕ) (args : List Datum) (below : Operands)
-        → invokes w u (moved_instruction (m.home f.version) i) (moved m s) (moved_frame m f) k args (moved_operands (m.home f.version) below) ≡ moved_turn m (invokes w t i s f k args below)
+        → invokes w u (moved_instruction (m.home f.version) i) (state_moved m s) (moved_frame m f) k args (moved_operands (m.home f.version) below) ≡ moved_turn m (invokes w t i s f k args below)
     invokes-moves i s f k args below =
-        let beside : ℕ → Turn = λ live. begins_beside w u (moved m s) (moved_frame m f) k args (moved_operands (m.home f.version) below) (suc live) in
+        let beside : ℕ → Turn = λ live. begins_beside w u (state_moved m s) (moved_frame m f) k args (moved_operands (m.home f.version) below) (suc live) in
         chosen_turn-moves (has_room w k args) (begins_beside w t s f k args below (suc (live_in s.stack))) _ (still (breaks s f i.own)) _
         (ap beside (live-moves m s.stack) ∙ beside-moves s f k args below (suc (live_in s.stack)))
         refl
 
-    gives_back-moves : (s : State) (d : Option Datum) (stack : List Entry) → ArePlaces norm stack → gives_back u (moved m s) d (moved_stack m stack) ≡ moved m (gives_back t s d stack)
+    gives_back-moves : (s : State) (d : Option Datum) (stack : List Entry) → ArePlaces norm stack → gives_back u (state_moved m s) d (moved_stack m stack) ≡ state_moved m (gives_back t s d stack)
     gives_back-moves s d [] are = refl
     gives_back-moves s d (Initializing c part ∷ below) are = refl
     gives_back-moves s d (Active f ∷ below) are =
-        ap (resumes (moved m (record s { stack = below })) (moved_frame m f) d) (agrees.lines f.version f.place are.0)
+        ap (resumes (state_moved m (record s { stack = below })) (moved_frame m f) d) (agrees.lines f.version f.place are.0)
         ∙ resumes-moves (record s { stack = below }) f d (t.at f.version f.place)
 
     -- ---- every outcome
 
     pub applies-moves : (i : Instruction) (outcome : Outcome) (s : State) (f : Frame) → ArePlaces norm s.stack
-        → applies w u (moved_instruction (m.home f.version) i) (moved_outcome (m.home f.version) outcome) (moved m s) (moved_frame m f) ≡ moved_turn m (applies w t i outcome s f)
+        → applies w u (moved_instruction (m.home f.version) i) (moved_outcome (m.home f.version) outcome) (state_moved m s) (moved_frame m f) ≡ moved_turn m (applies w t i outcome s f)
     applies-moves i (GoesOn l o to) s f are =
         let h : ℕ → ℕ = m.home f.version in
-        ap (λ p. still (goes (moved m s) (moved_frame m f) i.own (moved_locals h l) (moved_operands h o) p)) (place-moves h i to)
+        ap (λ p. still (goes (state_moved m s) (moved_frame m f) i.own (moved_locals h l) (moved_operands h o) p)) (place-moves h i to)
         ∙ ap still (goes-moves s f i.own l o (place_of i to))
     applies-moves i Subroutine s f are = ap still (subroutine-moves s f i i.next)
     applies-moves i (Invokes k args below) s f are = invokes-moves i s f k args below

@@ -7,7 +7,7 @@ use Rattle.const_pool.specs.declared.pool.Const.{Const}
 use Rattle.code_model.specs.declared.instr.Instr.{Instr}
 use Rattle.code_model.specs.declared.instr.Arg.{Arg}
 use Rattle.code_model.specs.declared.instr.Arg.TheVariants as arg
-use Rattle.code_model.specs.Layout.{moved, moved_arg}
+use Rattle.code_model.specs.Layout.{instr_moved, moved_arg}
 use Rattle.heap_objects.specs.declared.datum.Datum.{Datum}
 use Rattle.jvm_model.specs.declared.family.Family.{Family}
 use Rattle.jvm_model.specs.declared.family.Family.TheVariants as family
@@ -102,7 +102,7 @@ by-moves c op h a f =
     ap (λ d. option_map Within (local_of f (moved_arg h a) d)) (constant-moves c.pool h a)
     ∙ ap (option_map Within) (local-same f (moved_arg h a) a (constant_in c.pool a) (operand-same h a))
 
-pub operation-moves : (c : ClassFile) (h : ℕ → ℕ) (place : ℕ) (i : Instr) → operation_of c (moved h place i) ≡ operation_of c i
+pub operation-moves : (c : ClassFile) (h : ℕ → ℕ) (place : ℕ) (i : Instr) → operation_of c (instr_moved h place i) ≡ operation_of c i
 operation-moves c h place i = by-moves c i.op h i.arg (family_of i.op)
 
 -- ---- targets

@@ -8,8 +8,8 @@ use Rattle.jvm_model.specs.Classes.Lookup.{is_below}
 use Rattle.jvm_model.specs.Basis.Programs.{super_of, initializer_of}
 use Rattle.jvm_model.specs.Basis.SharedState.{phase_of, class_of, stack_overflow}
 use Rattle.jvm_model.specs.Running.Applies.{still, with_frame, goes, new_frame, has_room, live_in, most_live}
-use Rattle.jvm_model.specs.Running.Moves.{covers, handler_for, own_at, caught, at_part, after_super, with_super, raises, runs_initializer, initializes, argument_array, main_or_end, moves, move, weight, weights, fresh, unit, unless, left}
-use Rattle.jvm_model.specs.Codes.Moved.{Moving, moved_locals, moved_frame, moved_stack, moved, moved_turn, moved_instruction, moved_catcher, IsPlace, ArePlaces, HaveBounds, Agrees}
+use Rattle.jvm_model.specs.Running.Moves.{covers, handler_for, own_at, throw_caught, at_part, after_super, with_super, raises, runs_initializer, initializes, argument_array, main_or_end, moves, move, weight, weights, fresh, unit, unless, moves_left}
+use Rattle.jvm_model.specs.Codes.Moved.{Moving, moved_locals, moved_frame, moved_stack, state_moved, moved_turn, moved_instruction, moved_catcher, IsPlace, ArePlaces, HaveBounds, Agrees}
 use Rattle.jvm_model.proofs.Relocated.AppliesMoves.{goes-moves, frame-moves, chosen_turn-moves, live-moves}
 
 chosen_target-moves : (h : ℕ → ℕ) (b : Bool) (x : ℕ) (y : Option ℕ) → (if b then Some (h x) else option_map h y) ≡ option_map h (if b then Some x else y)
@@ -69,38 +69,38 @@ module _ (w : World) (m : Moving) (norm : ℕ → ℕ → ℕ) (t u : Listing) (
       ∙ own_of-moves (m.home f.version) (t.at f.version f.place)
 
   caught-moves : (s : State) (r : ℕ) (f : Frame) → IsPlace norm f.version f.place → (target : Option ℕ)
-      → caught w u (moved m s) r (moved_frame m f) (option_map (m.home f.version) target) ≡ moved_turn m (caught w t s r f target)
+      → throw_caught w u (state_moved m s) r (moved_frame m f) (option_map (m.home f.version) target) ≡ moved_turn m (throw_caught w t s r f target)
   caught-moves s r f here None = refl
   caught-moves s r f here (Some target) =
       let h : ℕ → ℕ = m.home f.version in
       let free : State = record s { thrown = None } in
-      ap (λ own. still (goes (moved m free) (moved_frame m f) own (moved_locals h f.locals) (Ref r ∷ []) (Some (h target)))) (own-moves f here)
+      ap (λ own. still (goes (state_moved m free) (moved_frame m f) own (moved_locals h f.locals) (Ref r ∷ []) (Some (h target)))) (own-moves f here)
       ∙ ap still (goes-moves w m free f (own_at t f) f.locals (Ref r ∷ []) (Some target))
 
   unwound-moves : (s : State) (r : ℕ) (f : Frame) → IsPlace norm f.version f.place
-      → caught w u (moved m s) r (moved_frame m f) (handler_for w (class_of w.program s.shared r) (m.home f.version f.place) (u.handlers (m.version f.version)))
-      ≡ moved_turn m (caught w t s r f (handler_for w (class_of w.program s.shared r) f.place (t.handlers f.version)))
+      → throw_caught w u (state_moved m s) r (moved_frame m f) (handler_for w (class_of w.program s.shared r) (m.home f.version f.place) (u.handlers (m.version f.version)))
+      ≡ moved_turn m (throw_caught w t s r f (handler_for w (class_of w.program s.shared r) f.place (t.handlers f.version)))
   unwound-moves s r f here =
       let class : ℕ = class_of w.program s.shared r in
-      ap (λ hs. caught w u (moved m s) r (moved_frame m f) (handler_for w class (m.home f.version f.place) hs)) (agrees.handlers f.version)
-      ∙ (ap (caught w u (moved m s) r (moved_frame m f)) (handlers-move f.version class f.place here (t.handlers f.version) refl)
+      ap (λ hs. throw_caught w u (state_moved m s) r (moved_frame m f) (handler_for w class (m.home f.version f.place) hs)) (agrees.handlers f.version)
+      ∙ (ap (throw_caught w u (state_moved m s) r (moved_frame m f)) (handlers-move f.version class f.place here (t.handlers f.version) refl)
       ∙ caught-moves s r f here (handler_for w class f.place (t.handlers f.version)))
 
   -- ---- initializations
 
-  after_super-moves : (s : State) (c d : ℕ) (p : Option Phase) → after_super w (moved m s) c d p ≡ moved m (after_super w s c d p)
+  after_super-moves : (s : State) (c d : ℕ) (p : Option Phase) → after_super w (state_moved m s) c d p ≡ state_moved m (after_super w s c d p)
   after_super-moves s c d (Some Fresh) = refl
   after_super-moves s c d (Some Erroneous) = refl
   after_super-moves s c d _ = refl
 
-  with_super-moves : (s : State) (c : ℕ) (d : Option ℕ) → with_super w (moved m s) c d ≡ moved m (with_super w s c d)
+  with_super-moves : (s : State) (c : ℕ) (d : Option ℕ) → with_super w (state_moved m s) c d ≡ state_moved m (with_super w s c d)
   with_super-moves s c None = refl
   with_super-moves s c (Some d) = after_super-moves s c d (phase_of s.shared d)
 
-  runs_initializer-moves : (s : State) (c : ℕ) (k : Option ℕ) → runs_initializer w u (moved m s) c k ≡ moved_turn m (runs_initializer w t s c k)
+  runs_initializer-moves : (s : State) (c : ℕ) (k : Option ℕ) → runs_initializer w u (state_moved m s) c k ≡ moved_turn m (runs_initializer w t s c k)
   runs_initializer-moves s c None = refl
   runs_initializer-moves s c (Some k) =
-      let there : State = moved m (at_part s c Finish) in
+      let there : State = state_moved m (at_part s c Finish) in
       let begun : Turn = record { after = with_frame (at_part s c Finish) (new_frame w t k []); changes = Began k ∷ [] } in
       let overflows : Turn = still (raises w (at_part s c Finish) stack_overflow None) in
       ap (λ live. if nat_lt live most_live then record { after = with_frame there (new_frame w u k []); changes = Began k ∷ [] } else still (raises w there stack_overflow None)) (live-moves m s.stack)
@@ -108,7 +108,7 @@ module _ (w : World) (m : Moving) (norm : ℕ → ℕ → ℕ) (t u : Listing) (
       (ap (λ (g : Frame). record { after = with_frame there g; changes = Began k ∷ [] }) (frame-moves w m norm t u agrees k []))
       refl
 
-  initializes-moves : (s : State) (c : ℕ) (part : Part) → initializes w u (moved m s) c part ≡ moved_turn m (initializes w t s c part)
+  initializes-moves : (s : State) (c : ℕ) (part : Part) → initializes w u (state_moved m s) c part ≡ moved_turn m (initializes w t s c part)
   initializes-moves s c Constants = refl
   initializes-moves s c Superclass = ap still (with_super-moves s c (super_of w.program c))
   initializes-moves s c Initializer = runs_initializer-moves s c (initializer_of w.program c)
@@ -116,7 +116,7 @@ module _ (w : World) (m : Moving) (norm : ℕ → ℕ → ℕ) (t u : Listing) (
 
   -- ---- nothing is left
 
-  main-moves : (s : State) (b : Bool) → main_or_end w u (moved m s) b ≡ moved_turn m (main_or_end w t s b)
+  main-moves : (s : State) (b : Bool) → main_or_end w u (state_moved m s) b ≡ moved_turn m (main_or_end w t s b)
   main-moves s true = refl
   main-moves s false =
       let main : ℕ = w.program.main in
@@ -128,7 +128,7 @@ module _ (w : World) (m : Moving) (norm : ℕ → ℕ → ℕ) (t u : Listing) (
   -- ---- every move
 
   moves-move : (s : State) (ending : Option Ending) (thrown : Option ℕ) (stack : List Entry) → ArePlaces norm stack
-      → moves w u (moved m s) ending thrown (moved_stack m stack) ≡ option_map (moved_turn m) (moves w t s ending thrown stack)
+      → moves w u (state_moved m s) ending thrown (moved_stack m stack) ≡ option_map (moved_turn m) (moves w t s ending thrown stack)
   moves-move s (Some e) thrown stack are = refl
   moves-move s None (Some r) [] are = refl
   moves-move s None (Some r) (Active f ∷ below) are = ap Some (unwound-moves (record s { stack = below }) r f are.0)
@@ -137,7 +137,7 @@ module _ (w : World) (m : Moving) (norm : ℕ → ℕ → ℕ) (t u : Listing) (
   moves-move s None None (Active f ∷ below) are = refl
   moves-move s None None (Initializing c part ∷ below) are = ap Some (initializes-moves (record s { stack = below }) c part)
 
-  pub move-moves : (s : State) → ArePlaces norm s.stack → move w u (moved m s) ≡ option_map (moved_turn m) (move w t s)
+  pub move-moves : (s : State) → ArePlaces norm s.stack → move w u (state_moved m s) ≡ option_map (moved_turn m) (move w t s)
   move-moves s are = moves-move s s.ending s.thrown s.stack are
 
 -- as many moves are left
@@ -146,5 +146,5 @@ weights-moves m [] = refl
 weights-moves m (Active f ∷ below) = ap (λ n. 1 + n) (weights-moves m below)
 weights-moves m (Initializing c part ∷ below) = ap (λ n. weight (Initializing c part) + n) (weights-moves m below)
 
-pub left-moves : (m : Moving) (s : State) → left (moved m s) ≡ left s
+pub left-moves : (m : Moving) (s : State) → moves_left (state_moved m s) ≡ moves_left s
 left-moves m s = ap (λ n. 8 * fresh s.shared.phases + n + unit (is_some s.thrown) + 2 * unless s.begun + unless (is_some s.ending)) (weights-moves m s.stack)

@@ -30,9 +30,9 @@ use Rattle.jvm_model.specs.Basis.Values.{as_value, int_of, ref_of, arguments, wi
 use Rattle.jvm_model.specs.Basis.SharedState.{phase_of, class_of, class_of_kind, kind_for, static_at, string, with_static, null_pointer}
 use Rattle.jvm_model.specs.Instructions.LocalRules.{pushes, replaces}
 use Rattle.jvm_model.specs.Instructions.ObjectRules.{done, makes}
-use Rattle.jvm_model.specs.Instructions.SymbolicReference.{SymbolicReference, New, Getfield, Putfield, Getstatic, Putstatic, Invokevirtual, Invokespecial, Invokestatic, Invokeinterface, Checkcast, Instanceof, Anewarray, Multianewarray, LdcClass, resolved_name, is_null, resolves, newly_loaded, ◌>>=◌, unless_refused, kind_unless, resolved_kind, found, where_fitting, receiver, is_instance}
+use Rattle.jvm_model.specs.Instructions.SymbolicReference.{SymbolicReference, New, Getfield, Putfield, Getstatic, Putstatic, Invokevirtual, Invokespecial, Invokestatic, Invokeinterface, Checkcast, Instanceof, Anewarray, Multianewarray, LdcClass, resolved_name, is_null, resolves, newly_loaded, ◌>>=◌, unless_refused, kind_unless, resolved_kind, member_found, where_fitting, receiver, is_instance}
 use Rattle.jvm_model.specs.Instructions.ReferenceRules.{does_named}
-use Rattle.jvm_model.specs.Instructions.FieldRules.{is_static_field, named_field, kind_by, narrowed, held_of, static_field, gets_static, sets_static, puts_static, slot_of, has_field, field_owner, gets_of, gets_instance, Putting, putting_of, puts_into, puts_instance}
+use Rattle.jvm_model.specs.Instructions.FieldRules.{is_static_field, named_field, kind_by, field_narrowed, held_of, static_field, gets_static, sets_static, puts_static, slot_of, has_field, field_owner, gets_of, gets_instance, Putting, putting_of, puts_into, puts_instance}
 use Rattle.jvm_model.specs.Instructions.ConstantRules.{pushes_object_of, pushes_string}
 use Rattle.jvm_model.specs.Running.Constants.{can_intern}
 use Rattle.jvm_model.specs.Instructions.CreationRules.{allocates, is_text_class, has_no_instances, instantiation_error, zero_of, makes_object, makes_instance, makes_new, array_over, makes_array_of, counts_from, counts_of, lengths_of, slots_of_arrays, with_arrays, makes_arrays, makes_by_counts, makes_multi, class_cast, casts_to, casts, int_for, answers, tells_instance}
@@ -71,7 +71,7 @@ module _ (h : ℕ → ℕ) where
   kind-fixed : (p : Program) (loaded name : List ℕ) → IsFixed (resolved_kind p loaded name)
   kind-fixed p loaded name = kind_unless-fixed (load_of p loaded name).fault (kind_named p name)
 
-  found-fixed : (r : Resolution) → IsFixed (found r)
+  found-fixed : (r : Resolution) → IsFixed (member_found r)
   found-fixed (Found m) = tt
   found-fixed (Fails error) = refl
 
@@ -90,12 +90,12 @@ module _ (h : ℕ → ℕ) where
   field-fixed p loaded static r =
       let fits : MemberPlace → Result MemberPlace Outcome = λ m. where_fitting (beq (is_static_field p m) static) m in
       let of_kind : ℕ → Resolution = λ kind. resolved_field p (class_of_kind p kind) r.member in
-      then-fixed (resolved_kind p loaded r.class) (λ kind. found (of_kind kind) >>= fits) (kind-fixed p loaded r.class)
-      (λ kind. then-fixed (found (of_kind kind)) fits (found-fixed (of_kind kind)) (λ m. fitting-fixed (beq (is_static_field p m) static) m))
+      then-fixed (resolved_kind p loaded r.class) (λ kind. member_found (of_kind kind) >>= fits) (kind-fixed p loaded r.class)
+      (λ kind. then-fixed (member_found (of_kind kind)) fits (found-fixed (of_kind kind)) (λ m. fitting-fixed (beq (is_static_field p m) static) m))
 
   held-moves : (k : Kind) (o : Operands) → held_of k (moved_operands h o) ≡ held_of k o
   held-moves k [] = refl
-  held-moves k (v ∷ below) = ap (option_map (narrowed k)) (kind-moves h k v)
+  held-moves k (v ∷ below) = ap (option_map (field_narrowed k)) (kind-moves h k v)
 
   gets_static-moves : (p : Program) (r : Reference) (s : Shared) (l : Locals) (o : Operands) → gets_static p r s (moved_locals h l) (moved_operands h o) ≡ moved_done h (gets_static p r s l o)
   gets_static-moves p r s l o =
@@ -132,7 +132,7 @@ module _ (h : ℕ → ℕ) where
       (λ m. ap (λ object. gets_of p r m object s (moved_locals h l) (moved_operands h o)) (ref_of-moves h o) ∙ gets_of-moves p r m (ref_of o) s l o)
 
   putting-moves : (k : Kind) (o : Operands) → putting_of k (moved_operands h o) ≡ putting_of k o
-  putting-moves k (v ∷ Ref r ∷ below) = ap (option_map (λ (d : Datum). record { object = r; datum = narrowed k d })) (kind-moves h k v)
+  putting-moves k (v ∷ Ref r ∷ below) = ap (option_map (λ (d : Datum). record { object = r; datum = field_narrowed k d })) (kind-moves h k v)
   putting-moves k _ = refl
 
   puts_into-moves : (p : Program) (r : Reference) (m : MemberPlace) (x : Option Putting) (s : Shared) (l : Locals) (o : Operands)
@@ -203,7 +203,7 @@ module _ (h : ℕ → ℕ) where
   -- ---- checkcast, instanceof
 
   null-moves : (o : Operands) → is_null (moved_operands h o) ≡ is_null o
-  null-moves o = ap (λ found. option_map_or (λ r. r == 0) found false) (ref_of-moves h o)
+  null-moves o = ap (λ member_found. option_map_or (λ r. r == 0) member_found false) (ref_of-moves h o)
 
   casts_to-moves : (p : Program) (name : List ℕ) (object : Option ℕ) (s : Shared) (l : Locals) (o : Operands)
       → casts_to p name object s (moved_locals h l) (moved_operands h o) ≡ moved_outcome h (casts_to p name object s l o)
@@ -238,8 +238,8 @@ module _ (h : ℕ → ℕ) where
   method-fixed p loaded interface static r =
       let fits : MemberPlace → Result MemberPlace Outcome = λ m. where_fitting (beq (is_static p m) static) m in
       let of_kind : ℕ → Resolution = λ kind. resolved_method p (class_of_kind p kind) interface r.member in
-      then-fixed (resolved_kind p loaded r.class) (λ kind. found (of_kind kind) >>= fits) (kind-fixed p loaded r.class)
-      (λ kind. then-fixed (found (of_kind kind)) fits (found-fixed (of_kind kind)) (λ m. fitting-fixed (beq (is_static p m) static) m))
+      then-fixed (resolved_kind p loaded r.class) (λ kind. member_found (of_kind kind) >>= fits) (kind-fixed p loaded r.class)
+      (λ kind. then-fixed (member_found (of_kind kind)) fits (found-fixed (of_kind kind)) (λ m. fitting-fixed (beq (is_static p m) static) m))
 
   taken-moves : (instance : Bool) (shape : Option Shape) (o : Operands)
       → option_and_then (λ (s : Shape). arguments (with_receiver instance s.params) (moved_operands h o)) shape ≡ option_and_then (λ (s : Shape). arguments (with_receiver instance s.params) o) shape
@@ -325,7 +325,7 @@ module _ (h : ℕ → ℕ) where
       let args : Option (List Datum) = arguments_by false r.member o in
       refused-moves s (named_method w.program s.loaded false true r) _ _ (method-fixed w.program s.loaded false true r)
       (λ m. ready-moves h w.program (phase_of s m.class) m.class s (invokes_with_static w m args s l o) _
-      (ap (λ found. invokes_with_static w m found s (moved_locals h l) (moved_operands h o)) (arguments_by-moves false r.member o)
+      (ap (λ member_found. invokes_with_static w m member_found s (moved_locals h l) (moved_operands h o)) (arguments_by-moves false r.member o)
       ∙ invokes_with_static-moves w m args s l o))
 
   -- ---- invokevirtual, invokeinterface, invokespecial
@@ -349,7 +349,7 @@ module _ (h : ℕ → ℕ) where
   invokes_instance-moves w by r s l o =
       let args : Option (List Datum) = arguments_by true r.member o in
       refused-moves s (named_method w.program s.loaded (names_interface by) false r) _ _ (method-fixed w.program s.loaded (names_interface by) false r)
-      (λ m. ap (λ found. invokes_on w by r m found s (moved_locals h l) (moved_operands h o)) (arguments_by-moves true r.member o)
+      (λ m. ap (λ member_found. invokes_on w by r m member_found s (moved_locals h l) (moved_operands h o)) (arguments_by-moves true r.member o)
       ∙ invokes_on-moves w by r m args s l o)
 
   -- ---- every instruction that names something

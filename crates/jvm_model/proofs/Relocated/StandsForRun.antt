@@ -4,10 +4,10 @@ use Rattle.std.specs.Option.{option_map}
 use Rattle.std.proofs.lemmas.List.{map-id}
 use Rattle.jvm_model.specs.Basis.Data.{Entry, Active, Initializing, State, Turn, Instruction, Catcher, Listing, World}
 use Rattle.jvm_model.specs.Running.Applies.{still}
-use Rattle.jvm_model.specs.Running.Moves.{settled}
+use Rattle.jvm_model.specs.Running.Moves.{turn_settled}
 use Rattle.jvm_model.specs.Running.Run.{step, start}
 use Rattle.jvm_model.specs.Codes.Moved.{moved_locals, moved_operands, moved_frame, moved_stack, moved_turn, moved_instruction, moved_catcher, Agrees, self}
-use Rattle.jvm_model.specs.Rewriting.StandsForRun.{named, forgotten, at_homes, norm_by, StandsFor, IsOfVersions, KeepVersions}
+use Rattle.jvm_model.specs.Rewriting.StandsForRun.{listing_named, versions_forgotten, at_homes, norm_by, StandsFor, IsOfVersions, KeepVersions}
 use Rattle.jvm_model.proofs.Relocated.StepMoves.{settled-moves, settled-placed, step-moves, step-placed, start-moves, start-placed}
 
 same-instruction : (i : Option Instruction) → i ≡ option_map (moved_instruction (λ place. place)) i
@@ -25,7 +25,7 @@ same-handlers (h ∷ hs) = ap (λ (l : List Catcher). h ∷ l) (same-handlers hs
 
 module _ (norm : ℕ → ℕ → ℕ) (w : World) (t : Listing) (own : Agrees norm (self norm) t t) (method_of current : ℕ → ℕ) where
   -- the original code under versions is placed where the original is
-  pub named-own : Agrees (norm_by method_of norm) (self (norm_by method_of norm)) (named method_of current t) (named method_of current t)
+  pub named-own : Agrees (norm_by method_of norm) (self (norm_by method_of norm)) (listing_named method_of current t) (listing_named method_of current t)
   named-own = record {
     current = λ k. refl;
     first = λ v. own.first (method_of v);
@@ -36,7 +36,7 @@ module _ (norm : ℕ → ℕ → ℕ) (w : World) (t : Listing) (own : Agrees no
   }
 
   -- and without them it is the original
-  pub named-original : ((k : ℕ) → t.current k ≡ method_of (current k)) → Agrees (norm_by method_of norm) (forgotten method_of) (named method_of current t) t
+  pub named-original : ((k : ℕ) → t.current k ≡ method_of (current k)) → Agrees (norm_by method_of norm) (versions_forgotten method_of) (listing_named method_of current t) t
   named-original begins = record {
     current = begins;
     first = λ v. refl;
@@ -50,18 +50,18 @@ module _ (norm : ℕ → ℕ → ℕ) (w : World) (t : Listing) (own : Agrees no
     -- ---- a step
 
     module _ (versioned original : State) (stands : StandsFor norm method_of homes versioned original) where
-      versioned-step : step w u versioned ≡ moved_turn (at_homes homes) (step w (named method_of current t) stands.between)
-      versioned-step = ap (step w u) stands.versioned_is ∙ step-moves (norm_by method_of norm) w (at_homes homes) (named method_of current t) u named-own is.agrees stands.between stands.at_places
+      versioned-step : step w u versioned ≡ moved_turn (at_homes homes) (step w (listing_named method_of current t) stands.between)
+      versioned-step = ap (step w u) stands.versioned_is ∙ step-moves (norm_by method_of norm) w (at_homes homes) (listing_named method_of current t) u named-own is.agrees stands.between stands.at_places
 
-      original-step : step w t original ≡ moved_turn (forgotten method_of) (step w (named method_of current t) stands.between)
-      original-step = ap (step w t) stands.original_is ∙ step-moves (norm_by method_of norm) w (forgotten method_of) (named method_of current t) t named-own (named-original is.begins) stands.between stands.at_places
+      original-step : step w t original ≡ moved_turn (versions_forgotten method_of) (step w (listing_named method_of current t) stands.between)
+      original-step = ap (step w t) stands.original_is ∙ step-moves (norm_by method_of norm) w (versions_forgotten method_of) (listing_named method_of current t) t named-own (named-original is.begins) stands.between stands.at_places
 
       pub step-stands_for : StandsFor norm method_of homes (step w u versioned).after (step w t original).after
       step-stands_for = record {
-        between = (step w (named method_of current t) stands.between).after;
+        between = (step w (listing_named method_of current t) stands.between).after;
         versioned_is = ap (λ (a : Turn). a.after) versioned-step;
         original_is = ap (λ (a : Turn). a.after) original-step;
-        at_places = step-placed (norm_by method_of norm) w (named method_of current t) named-own stands.between stands.at_places;
+        at_places = step-placed (norm_by method_of norm) w (listing_named method_of current t) named-own stands.between stands.at_places;
       }
 
       pub step-same_changes : (step w u versioned).changes ≡ (step w t original).changes
@@ -69,41 +69,41 @@ module _ (norm : ℕ → ℕ → ℕ) (w : World) (t : Listing) (own : Agrees no
 
       -- ---- moves alone
 
-      versioned-moves : settled w u (still versioned) ≡ moved_turn (at_homes homes) (settled w (named method_of current t) (still stands.between))
+      versioned-moves : turn_settled w u (still versioned) ≡ moved_turn (at_homes homes) (turn_settled w (listing_named method_of current t) (still stands.between))
       versioned-moves =
-          ap (λ s. settled w u (still s)) stands.versioned_is
-          ∙ settled-moves (norm_by method_of norm) w (named method_of current t) named-own (at_homes homes) u is.agrees (still stands.between) stands.at_places
+          ap (λ s. turn_settled w u (still s)) stands.versioned_is
+          ∙ settled-moves (norm_by method_of norm) w (listing_named method_of current t) named-own (at_homes homes) u is.agrees (still stands.between) stands.at_places
 
-      original-moves : settled w t (still original) ≡ moved_turn (forgotten method_of) (settled w (named method_of current t) (still stands.between))
+      original-moves : turn_settled w t (still original) ≡ moved_turn (versions_forgotten method_of) (turn_settled w (listing_named method_of current t) (still stands.between))
       original-moves =
-          ap (λ s. settled w t (still s)) stands.original_is
-          ∙ settled-moves (norm_by method_of norm) w (named method_of current t) named-own (forgotten method_of) t (named-original is.begins) (still stands.between) stands.at_places
+          ap (λ s. turn_settled w t (still s)) stands.original_is
+          ∙ settled-moves (norm_by method_of norm) w (listing_named method_of current t) named-own (versions_forgotten method_of) t (named-original is.begins) (still stands.between) stands.at_places
 
-      pub moves-stand_for : StandsFor norm method_of homes (settled w u (still versioned)).after (settled w t (still original)).after
+      pub moves-stand_for : StandsFor norm method_of homes (turn_settled w u (still versioned)).after (turn_settled w t (still original)).after
       moves-stand_for = record {
-        between = (settled w (named method_of current t) (still stands.between)).after;
+        between = (turn_settled w (listing_named method_of current t) (still stands.between)).after;
         versioned_is = ap (λ (a : Turn). a.after) versioned-moves;
         original_is = ap (λ (a : Turn). a.after) original-moves;
-        at_places = settled-placed (norm_by method_of norm) w (named method_of current t) named-own (still stands.between) stands.at_places;
+        at_places = settled-placed (norm_by method_of norm) w (listing_named method_of current t) named-own (still stands.between) stands.at_places;
       }
 
-      pub moves-same_changes : (settled w u (still versioned)).changes ≡ (settled w t (still original)).changes
+      pub moves-same_changes : (turn_settled w u (still versioned)).changes ≡ (turn_settled w t (still original)).changes
       moves-same_changes = ap (λ (a : Turn). a.changes) versioned-moves ∙ sym (ap (λ (a : Turn). a.changes) original-moves)
 
     -- ---- the start
 
-    versioned-start : start w u ≡ moved_turn (at_homes homes) (start w (named method_of current t))
-    versioned-start = start-moves (norm_by method_of norm) w (at_homes homes) (named method_of current t) u named-own is.agrees
+    versioned-start : start w u ≡ moved_turn (at_homes homes) (start w (listing_named method_of current t))
+    versioned-start = start-moves (norm_by method_of norm) w (at_homes homes) (listing_named method_of current t) u named-own is.agrees
 
-    original-start : start w t ≡ moved_turn (forgotten method_of) (start w (named method_of current t))
-    original-start = start-moves (norm_by method_of norm) w (forgotten method_of) (named method_of current t) t named-own (named-original is.begins)
+    original-start : start w t ≡ moved_turn (versions_forgotten method_of) (start w (listing_named method_of current t))
+    original-start = start-moves (norm_by method_of norm) w (versions_forgotten method_of) (listing_named method_of current t) t named-own (named-original is.begins)
 
     pub start-stands_for : StandsFor norm method_of homes (start w u).after (start w t).after
     start-stands_for = record {
-      between = (start w (named method_of current t)).after;
+      between = (start w (listing_named method_of current t)).after;
       versioned_is = ap (λ (a : Turn). a.after) versioned-start;
       original_is = ap (λ (a : Turn). a.after) original-start;
-      at_places = start-placed (norm_by method_of norm) w (named method_of current t) named-own;
+      at_places = start-placed (norm_by method_of norm) w (listing_named method_of current t) named-own;
     }
 
     pub start-same_changes : (start w u).changes ≡ (start w t).changes
@@ -126,11 +126,11 @@ module _ (old new : ℕ → ℕ) (olds news : ℕ → ℕ → ℕ) where
       ∙ ap (λ stack. Active (moved_frame (at_homes news) f) ∷ stack) (at_homes-kept below keeps.2)
   at_homes-kept (Initializing c part ∷ below) keeps = ap (λ stack. Initializing c part ∷ stack) (at_homes-kept below keeps)
 
-  pub forgotten-kept : (stack : List Entry) → KeepVersions old new olds news stack → moved_stack (forgotten old) stack ≡ moved_stack (forgotten new) stack
+  pub forgotten-kept : (stack : List Entry) → KeepVersions old new olds news stack → moved_stack (versions_forgotten old) stack ≡ moved_stack (versions_forgotten new) stack
   forgotten-kept [] keeps = refl
   forgotten-kept (Active f ∷ below) keeps =
-      ap (λ (v : ℕ). Active (record (moved_frame (forgotten old) f) { version = v }) ∷ moved_stack (forgotten old) below) (sym keeps.0)
-      ∙ ap (λ stack. Active (moved_frame (forgotten new) f) ∷ stack) (forgotten-kept below keeps.2)
+      ap (λ (v : ℕ). Active (record (moved_frame (versions_forgotten old) f) { version = v }) ∷ moved_stack (versions_forgotten old) below) (sym keeps.0)
+      ∙ ap (λ stack. Active (moved_frame (versions_forgotten new) f) ∷ stack) (forgotten-kept below keeps.2)
   forgotten-kept (Initializing c part ∷ below) keeps = ap (λ stack. Initializing c part ∷ stack) (forgotten-kept below keeps)
 
   pub placed-kept : (norm : ℕ → ℕ → ℕ) (stack : List Entry) → KeepVersions old new olds news stack

@@ -8,9 +8,9 @@ use Rattle.jvm_model.specs.Basis.SharedState.{arguments_fit, phase_of}
 use Rattle.jvm_model.specs.Instructions.Does.{does, loads}
 use Rattle.jvm_model.specs.Classes.Load.{Fault}
 use Rattle.jvm_model.specs.Running.Applies.{still, applies}
-use Rattle.jvm_model.specs.Running.Moves.{move, left, then_turn, settles, settled}
-use Rattle.jvm_model.specs.Running.Run.{tries, attempt, starts, is_ready, is_quiet, goes_on, goes_again, steps_by, with_loaded, loaded_turn, steps_at, steps_on, step, before, arguments_made, main_loading, main_classes, main_loads, starts_unless, opened, starts_if, starts_with, start, turn_in, turn_in-zero, turn_in-suc}
-use Rattle.jvm_model.specs.Codes.Moved.{Moving, moved_locals, moved_operands, moved_outcome, moved_done, moved_frame, moved_stack, moved, moved_turn, moved_instruction, IsPlace, ArePlaces, Agrees, self, IsPlaced}
+use Rattle.jvm_model.specs.Running.Moves.{move, moves_left, then_turn, settles, turn_settled}
+use Rattle.jvm_model.specs.Running.Run.{tries, attempt, starts, is_ready, is_quiet, goes_on, goes_again, steps_by, with_loaded, loaded_turn, steps_at, steps_on, step, before, arguments_made, main_loading, main_classes, main_loads, starts_unless, run_opened, starts_if, starts_with, start, turn_in, turn_in-zero, turn_in-suc}
+use Rattle.jvm_model.specs.Codes.Moved.{Moving, moved_locals, moved_operands, moved_outcome, moved_done, moved_frame, moved_stack, state_moved, moved_turn, moved_instruction, IsPlace, ArePlaces, Agrees, self, IsPlaced}
 use Rattle.jvm_model.proofs.Running.Operations.{does-moves, loads-moves}
 use Rattle.jvm_model.proofs.Relocated.AppliesMoves.{applies-moves, chosen_turn-moves}
 use Rattle.jvm_model.proofs.Relocated.MovesMove.{move-moves, left-moves}
@@ -30,7 +30,7 @@ top_frame d (Active f ∷ below) = f
 top_frame d _ = d
 
 module _ (norm : ℕ → ℕ → ℕ) where
-  pub placed-state : (s : State) → IsPlaced norm s → moved (self norm) s ≡ s
+  pub placed-state : (s : State) → IsPlaced norm s → state_moved (self norm) s ≡ s
   placed-state s e = ap (λ stack. record s { stack = stack }) e
 
   pub placed-places : (stack : List Entry) → moved_stack (self norm) stack ≡ stack → ArePlaces norm stack
@@ -58,7 +58,7 @@ module _ (norm : ℕ → ℕ → ℕ) (w : World) (t : Listing) (own : Agrees no
   -- what a move of a placed state gives is placed
   pub next-placed : (s : State) (next : Turn) → IsPlaced norm s → move w t s ≡ Some next → IsPlaced norm next.after
   next-placed s next placed e =
-      let law : move w t (moved (self norm) s) ≡ option_map (moved_turn (self norm)) (move w t s) = move-moves w (self norm) norm t t own s (placed-places norm s.stack placed) in
+      let law : move w t (state_moved (self norm) s) ≡ option_map (moved_turn (self norm)) (move w t s) = move-moves w (self norm) norm t t own s (placed-places norm s.stack placed) in
       let same : Some next ≡ Some (moved_turn (self norm) next) =
       sym e ∙ (ap (move w t) (sym (placed-state norm s placed)) ∙ (law ∙ ap (option_map (moved_turn (self norm))) e)) in
       sym (ap (λ (a : Turn). a.after.stack) (same_Some next (moved_turn (self norm) next) same))
@@ -66,11 +66,11 @@ module _ (norm : ℕ → ℕ → ℕ) (w : World) (t : Listing) (own : Agrees no
   pub applied-placed : (i : Instruction) (s : State) (f : Frame) → IsReadyAt norm i s f → (outcome : Outcome) → moved_outcome (norm f.version) outcome ≡ outcome
       → IsPlaced norm (applies w t i outcome s f).after
   applied-placed i s f at outcome fixed =
-      let there : Turn = applies w t (moved_instruction (norm f.version) i) (moved_outcome (norm f.version) outcome) (moved (self norm) s) (moved_frame (self norm) f) in
+      let there : Turn = applies w t (moved_instruction (norm f.version) i) (moved_outcome (norm f.version) outcome) (state_moved (self norm) s) (moved_frame (self norm) f) in
       let law : there ≡ moved_turn (self norm) (applies w t i outcome s f) = applies-moves w (self norm) norm t t own i outcome s f (placed-places norm s.stack at.below) in
       let here : there ≡ applies w t i outcome s f =
-      ap (λ k. applies w t k (moved_outcome (norm f.version) outcome) (moved (self norm) s) (moved_frame (self norm) f)) at.instruction
-      ∙ (ap (λ k. applies w t i k (moved (self norm) s) (moved_frame (self norm) f)) fixed
+      ap (λ k. applies w t k (moved_outcome (norm f.version) outcome) (state_moved (self norm) s) (moved_frame (self norm) f)) at.instruction
+      ∙ (ap (λ k. applies w t i k (state_moved (self norm) s) (moved_frame (self norm) f)) fixed
       ∙ (ap (λ k. applies w t i outcome k (moved_frame (self norm) f)) (placed-state norm s at.below)
       ∙ ap (applies w t i outcome s) at.frame)) in
       ap (λ (a : Turn). a.after.stack) (sym law ∙ here)
@@ -92,13 +92,13 @@ module _ (norm : ℕ → ℕ → ℕ) (w : World) (t : Listing) (own : Agrees no
         (move-moves w m norm t u agrees a.after (placed-places norm a.after.stack placed))
         ∙ settles_on-moves n (settles-moves n) a (move w t a.after) (λ next e. next-placed a.after next placed e)
 
-    pub settled-moves : (a : Turn) → IsPlaced norm a.after → settled w u (moved_turn m a) ≡ moved_turn m (settled w t a)
-    settled-moves a placed = ap (λ n. settles w u n (moved_turn m a)) (left-moves m a.after) ∙ settles-moves (left a.after) a placed
+    pub settled-moves : (a : Turn) → IsPlaced norm a.after → turn_settled w u (moved_turn m a) ≡ moved_turn m (turn_settled w t a)
+    settled-moves a placed = ap (λ n. settles w u n (moved_turn m a)) (left-moves m a.after) ∙ settles-moves (moves_left a.after) a placed
 
     -- ---- an attempt
 
     attempt-moves : (i : Instruction) (s : State) (f : Frame) → IsReadyAt norm i s f
-        → attempt w u (moved_instruction (m.home f.version) i) (moved m s) (moved_frame m f) ≡ moved_turn m (attempt w t i s f)
+        → attempt w u (moved_instruction (m.home f.version) i) (state_moved m s) (moved_frame m f) ≡ moved_turn m (attempt w t i s f)
     attempt-moves i s f at =
         let h : ℕ → ℕ = m.home f.version in
         let d : Done = does w i.operation s.shared f.locals f.operands in
@@ -107,8 +107,8 @@ module _ (norm : ℕ → ℕ → ℕ) (w : World) (t : Listing) (own : Agrees no
         done-placed (norm f.version) w i.operation s.shared f.locals f.operands (ap (λ (g : Frame). g.locals) at.frame) (ap (λ (g : Frame). g.operands) at.frame) in
         let placed : IsPlaced norm (applies w t i d.outcome after f).after =
         applied-placed i after f (record { below = at.below; frame = at.frame; instruction = at.instruction }) d.outcome (ap (λ (x : Done). x.outcome) fixed) in
-        ap (tries w u (moved_instruction h i) (moved m s) (moved_frame m f)) (does-moves h w i.operation s.shared f.locals f.operands)
-        ∙ (ap (settled w u) (applies-moves w m norm t u agrees i d.outcome after f (placed-places norm s.stack at.below))
+        ap (tries w u (moved_instruction h i) (state_moved m s) (moved_frame m f)) (does-moves h w i.operation s.shared f.locals f.operands)
+        ∙ (ap (turn_settled w u) (applies-moves w m norm t u agrees i d.outcome after f (placed-places norm s.stack at.below))
         ∙ settled-moves (applies w t i d.outcome after f) placed)
 
     pub starts-moves : (h : ℕ → ℕ) (outcome : Outcome) → starts (moved_outcome h outcome) ≡ starts outcome
@@ -116,7 +116,7 @@ module _ (norm : ℕ → ℕ → ℕ) (w : World) (t : Listing) (own : Agrees no
     starts-moves h _ = refl
 
     again-moves : (i : Instruction) (s : State) (f : Frame) → IsReadyAt norm i s f → (c : Option ℕ) (a : Turn)
-        → goes_again w u (moved_instruction (m.home f.version) i) (moved m s) (moved_frame m f) c (moved_turn m a) ≡ moved_turn m (goes_again w t i s f c a)
+        → goes_again w u (moved_instruction (m.home f.version) i) (state_moved m s) (moved_frame m f) c (moved_turn m a) ≡ moved_turn m (goes_again w t i s f c a)
     again-moves i s f at None a = refl
     again-moves i s f at (Some c) a =
         let s' : State = record a.after { stack = s.stack } in
@@ -125,21 +125,21 @@ module _ (norm : ℕ → ℕ → ℕ) (w : World) (t : Listing) (own : Agrees no
         refl
 
     steps_by-moves : (i : Instruction) (s : State) (f : Frame) → IsReadyAt norm i s f
-        → steps_by w u (moved_instruction (m.home f.version) i) (moved m s) (moved_frame m f) (does w i.operation s.shared (moved_frame m f).locals (moved_frame m f).operands)
+        → steps_by w u (moved_instruction (m.home f.version) i) (state_moved m s) (moved_frame m f) (does w i.operation s.shared (moved_frame m f).locals (moved_frame m f).operands)
         ≡ moved_turn m (steps_by w t i s f (does w i.operation s.shared f.locals f.operands))
     steps_by-moves i s f at =
         let j : Instruction = moved_instruction (m.home f.version) i in
         let g : Frame = moved_frame m f in
         let d : Done = does w i.operation s.shared f.locals f.operands in
-        let again : Option ℕ → Turn → Turn = goes_again w u j (moved m s) g in
-        ap (λ (x : Done). again (starts x.outcome) (attempt w u j (moved m s) g)) (does-moves (m.home f.version) w i.operation s.shared f.locals f.operands)
-        ∙ (ap (λ c. again c (attempt w u j (moved m s) g)) (starts-moves (m.home f.version) d.outcome)
+        let again : Option ℕ → Turn → Turn = goes_again w u j (state_moved m s) g in
+        ap (λ (x : Done). again (starts x.outcome) (attempt w u j (state_moved m s) g)) (does-moves (m.home f.version) w i.operation s.shared f.locals f.operands)
+        ∙ (ap (λ c. again c (attempt w u j (state_moved m s) g)) (starts-moves (m.home f.version) d.outcome)
         ∙ (ap (again (starts d.outcome)) (attempt-moves i s f at)
         ∙ again-moves i s f at (starts d.outcome) (attempt w t i s f)))
 
     -- ---- a step
 
-    loaded-moves : (classes : List ℕ) (s : State) → with_loaded classes (moved m s) ≡ moved m (with_loaded classes s)
+    loaded-moves : (classes : List ℕ) (s : State) → with_loaded classes (state_moved m s) ≡ state_moved m (with_loaded classes s)
     loaded-moves [] s = refl
     loaded-moves (c ∷ more) s = refl
 
@@ -148,7 +148,7 @@ module _ (norm : ℕ → ℕ → ℕ) (w : World) (t : Listing) (own : Agrees no
     loaded_turn-moves (c ∷ more) a = refl
 
     steps_at-moves : (s : State) (f : Frame) → IsPlaced norm s → moved_frame (self norm) f ≡ f → (i : Option Instruction) → option_map (moved_instruction (norm f.version)) i ≡ i
-        → steps_at w u (moved m s) (moved_frame m f) (option_map (moved_instruction (m.home f.version)) i) ≡ moved_turn m (steps_at w t s f i)
+        → steps_at w u (state_moved m s) (moved_frame m f) (option_map (moved_instruction (m.home f.version)) i) ≡ moved_turn m (steps_at w t s f i)
     steps_at-moves s f below frame None fixed = refl
     steps_at-moves s f below frame (Some i) fixed =
         let j : Instruction = moved_instruction (m.home f.version) i in
@@ -157,18 +157,18 @@ module _ (norm : ℕ → ℕ → ℕ) (w : World) (t : Listing) (own : Agrees no
         let ready : State = with_loaded classes s in
         let at : IsReadyAt norm i ready f = record { below = loaded-placed norm classes s below; frame = frame; instruction = same_Some _ _ fixed } in
         let stepped : State → Turn = λ s'. steps_by w u j s' g (does w i.operation s'.shared g.locals g.operands) in
-        ap (λ cs. loaded_turn cs (stepped (with_loaded cs (moved m s)))) (loads-moves (m.home f.version) w i.operation s.shared f.operands)
+        ap (λ cs. loaded_turn cs (stepped (with_loaded cs (state_moved m s)))) (loads-moves (m.home f.version) w i.operation s.shared f.operands)
         ∙ (ap (λ s'. loaded_turn classes (stepped s')) (loaded-moves classes s)
         ∙ (ap (loaded_turn classes) (steps_by-moves i ready f at)
         ∙ loaded_turn-moves classes (steps_by w t i ready f (does w i.operation ready.shared f.locals f.operands))))
 
     steps_on-moves : (s : State) (ending : Option Ending) (stack : List Entry) → moved_stack (self norm) stack ≡ stack
-        → steps_on w u (moved m s) ending (moved_stack m stack) ≡ moved_turn m (steps_on w t s ending stack)
+        → steps_on w u (state_moved m s) ending (moved_stack m stack) ≡ moved_turn m (steps_on w t s ending stack)
     steps_on-moves s None (Active f ∷ below) placed =
         let here : IsPlace norm f.version f.place = ap (top_place 0) placed in
         let fixed : option_map (moved_instruction (norm f.version)) (t.at f.version f.place) ≡ t.at f.version f.place =
         sym (own.lines f.version f.place here) ∙ ap (t.at f.version) here in
-        ap (steps_at w u (moved m (record s { stack = below })) (moved_frame m f)) (agrees.lines f.version f.place here)
+        ap (steps_at w u (state_moved m (record s { stack = below })) (moved_frame m f)) (agrees.lines f.version f.place here)
         ∙ steps_at-moves (record s { stack = below }) f (ap tail_of placed) (ap (top_frame f) placed) (t.at f.version f.place) fixed
     steps_on-moves s None [] placed = refl
     steps_on-moves s None (Initializing c part ∷ below) placed = refl
@@ -177,13 +177,13 @@ module _ (norm : ℕ → ℕ → ℕ) (w : World) (t : Listing) (own : Agrees no
 -- ---- a step elsewhere is the step, and leaves a placed state
 
 pub step-moves : (norm : ℕ → ℕ → ℕ) (w : World) (m : Moving) (t u : Listing) → Agrees norm (self norm) t t → Agrees norm m t u → (s : State) → IsPlaced norm s
-    → step w u (moved m s) ≡ moved_turn m (step w t s)
+    → step w u (state_moved m s) ≡ moved_turn m (step w t s)
 step-moves norm w m t u own agrees s placed = steps_on-moves norm w t own m u agrees s s.ending s.stack placed
 
-pub settled-placed : (norm : ℕ → ℕ → ℕ) (w : World) (t : Listing) → Agrees norm (self norm) t t → (a : Turn) → IsPlaced norm a.after → IsPlaced norm (settled w t a).after
+pub settled-placed : (norm : ℕ → ℕ → ℕ) (w : World) (t : Listing) → Agrees norm (self norm) t t → (a : Turn) → IsPlaced norm a.after → IsPlaced norm (turn_settled w t a).after
 settled-placed norm w t own a placed =
     ap (λ (b : Turn). b.after.stack) (sym (settled-moves norm w t own (self norm) t own a placed)
-    ∙ ap (λ s. settled w t (record a { after = s })) (placed-state norm a.after placed))
+    ∙ ap (λ s. turn_settled w t (record a { after = s })) (placed-state norm a.after placed))
 
 pub step-placed : (norm : ℕ → ℕ → ℕ) (w : World) (t : Listing) → Agrees norm (self norm) t t → (s : State) → IsPlaced norm s → IsPlaced norm (step w t s).after
 step-placed norm w t own s placed =
@@ -193,7 +193,7 @@ step-placed norm w t own s placed =
 
 -- what begins has no frame
 module _ (m : Moving) (w : World) where
-  pub unless-still : (fault : Option Fault) (s : State) → moved_stack m s.stack ≡ s.stack → moved m (starts_unless w fault s) ≡ starts_unless w fault s
+  pub unless-still : (fault : Option Fault) (s : State) → moved_stack m s.stack ≡ s.stack → state_moved m (starts_unless w fault s) ≡ starts_unless w fault s
   unless-still (Some fault) s still = ap (λ stack. record (starts_unless w (Some fault) s) { stack = stack }) still
   unless-still None s still = refl
 
@@ -201,20 +201,20 @@ module _ (m : Moving) (w : World) where
   loaded-still [] s still = still
   loaded-still (c ∷ more) s still = still
 
-  if-still : (fits : Bool) → moved m (starts_if w fits) ≡ starts_if w fits
-  if-still true = unless-still (main_loading w).fault (opened w) (loaded-still (main_classes w) (arguments_made w (before w)) refl)
+  if-still : (fits : Bool) → state_moved m (starts_if w fits) ≡ starts_if w fits
+  if-still true = unless-still (main_loading w).fault (run_opened w) (loaded-still (main_classes w) (arguments_made w (before w)) refl)
   if-still false = refl
 
-  pub starts-still : moved m (starts_with w) ≡ starts_with w
+  pub starts-still : state_moved m (starts_with w) ≡ starts_with w
   starts-still = if-still (arguments_fit w.program)
 
 pub start-moves : (norm : ℕ → ℕ → ℕ) (w : World) (m : Moving) (t u : Listing) → Agrees norm (self norm) t t → Agrees norm m t u → start w u ≡ moved_turn m (start w t)
 start-moves norm w m t u own agrees =
     let classes : List ℕ = main_loads w in
     let begun : Turn = still (starts_with w) in
-    ap (λ s. loaded_turn classes (settled w u (still s))) (sym (starts-still m w))
+    ap (λ s. loaded_turn classes (turn_settled w u (still s))) (sym (starts-still m w))
     ∙ (ap (loaded_turn classes) (settled-moves norm w t own m u agrees begun (ap (λ (s : State). s.stack) (starts-still (self norm) w)))
-    ∙ loaded_turn-moves norm w t own m u agrees classes (settled w t begun))
+    ∙ loaded_turn-moves norm w t own m u agrees classes (turn_settled w t begun))
 
 pub start-placed : (norm : ℕ → ℕ → ℕ) (w : World) (t : Listing) → Agrees norm (self norm) t t → IsPlaced norm (start w t).after
 start-placed norm w t own = sym (ap (λ (a : Turn). a.after.stack) (start-moves norm w (self norm) t t own own))

@@ -12,9 +12,9 @@ use Rattle.int_ops.specs.Arithmetic.{wrapped_sum}
 use Rattle.frame_stack.specs.Widths.{is_long, width}
 use Rattle.frame_stack.specs.FrameLists.{is_long_slot, without_long_before, with_value as with_slot}
 use Rattle.jvm_model.specs.Basis.Data.{Datum, Value, Locals, Operands, IntOperator, LongOperator, Division, LongShift, OfInt, Ineg, I2l, I2b, I2c, I2s, OfLong, Lneg, L2i, Test, WithZero, OfInts, OfReferences, IsNull, StackForm, Keys, Local, Nop, Constant, Load, Store, ManageStack, BinaryOfInts, BinaryOfLongs, DivisionOfInts, DivisionOfLongs, ShiftOfLong, UnaryOfInt, UnaryOfLong, Lcmp, Iinc, Branch, Goto, Switch, Jsr, Ret, Return, Next, Outcome, GoesOn, Breaks}
-use Rattle.jvm_model.specs.Basis.Values.{as_value, datum_of, has_kind, loaded, is_storable, local_in, has_slots, stored, with_value, same_width, has_form, puts_on, managed_stack}
+use Rattle.jvm_model.specs.Basis.Values.{as_value, datum_of, has_kind, local_loaded, is_storable, local_in, has_slots, local_stored, with_value, same_width, has_form, puts_on, managed_stack}
 use Rattle.jvm_model.specs.Basis.StackForms.{forms_of}
-use Rattle.jvm_model.specs.Instructions.LocalRules.{pushes, leaves, stores, increments, divided, of_int, of_long, calculates, calculates_long, shifts, compares_longs, divides_these, divides_ints, divides_longs, converts_int, converts_long, where_if, holds, tests, goes_if, branches, switches, goes_back, returns_datum, returns, within}
+use Rattle.jvm_model.specs.Instructions.LocalRules.{pushes, leaves, stores, increments, number_divided, of_int, of_long, calculates, calculates_long, shifts, compares_longs, divides_these, divides_ints, divides_longs, converts_int, converts_long, where_if, holds, tests, goes_if, branches, switches, goes_back, returns_datum, returns, within}
 use Rattle.jvm_model.specs.Codes.Moved.{moved_value, moved_slot, moved_locals, moved_operands, moved_where, moved_outcome}
 
 set-moves : {A B : Type 0} (f : A → B) (xs : List A) (i : ℕ) (x : A) → slice_set (map f xs) i (f x) ≡ map f (slice_set xs i x)
@@ -70,17 +70,17 @@ module _ (h : ℕ → ℕ) where
       → pushes (option_map as_value d) (moved_locals h l) (moved_operands h o) ≡ moved_outcome h (pushes (option_map as_value d) l o)
   pushed-moves d l o = ap (λ v. pushes v (moved_locals h l) (moved_operands h o)) (found-moves d) ∙ pushes-moves (option_map as_value d) l o
 
-  loaded-moves : (k : Kind) (found : Option (Option Value)) → loaded k (option_map (moved_slot h) found) ≡ option_map (moved_value h) (loaded k found)
+  loaded-moves : (k : Kind) (found : Option (Option Value)) → local_loaded k (option_map (moved_slot h) found) ≡ option_map (moved_value h) (local_loaded k found)
   loaded-moves k (Some (Some v)) = ap (λ b. if b then Some (moved_value h v) else None) (has_kind-moves k v) ∙ kept-moves (has_kind k v) v
   loaded-moves k (Some None) = refl
   loaded-moves k None = refl
 
   load-moves : (k : Kind) (slot : ℕ) (l : Locals) (o : Operands)
-      → pushes (loaded k (slice_get (moved_locals h l) slot)) (moved_locals h l) (moved_operands h o) ≡ moved_outcome h (pushes (loaded k (slice_get l slot)) l o)
+      → pushes (local_loaded k (slice_get (moved_locals h l) slot)) (moved_locals h l) (moved_operands h o) ≡ moved_outcome h (pushes (local_loaded k (slice_get l slot)) l o)
   load-moves k slot l o =
       let pushed : Option Value → Outcome = λ v. pushes v (moved_locals h l) (moved_operands h o) in
-      ap (λ found. pushed (loaded k found)) (slice_get-map (moved_slot h) l slot)
-      ∙ (ap pushed (loaded-moves k (slice_get l slot)) ∙ pushes-moves (loaded k (slice_get l slot)) l o)
+      ap (λ found. pushed (local_loaded k found)) (slice_get-map (moved_slot h) l slot)
+      ∙ (ap pushed (loaded-moves k (slice_get l slot)) ∙ pushes-moves (local_loaded k (slice_get l slot)) l o)
 
   -- ---- stores
 
@@ -116,7 +116,7 @@ module _ (h : ℕ → ℕ) where
       ∙ chosen_locals-moves (is_long v) (slice_set (slice_set l slot (Some v)) (slot + 1) None) _ (slice_set l slot (Some v)) _
       (ap (λ x. slice_set x (slot + 1) None) set ∙ set-moves (moved_slot h) (slice_set l slot (Some v)) (slot + 1) None) set
 
-  stored-moves : (l : Locals) (slot : ℕ) (v : Value) → stored (moved_locals h l) slot (moved_value h v) ≡ moved_locals h (stored l slot v)
+  stored-moves : (l : Locals) (slot : ℕ) (v : Value) → local_stored (moved_locals h l) slot (moved_value h v) ≡ moved_locals h (local_stored l slot v)
   stored-moves l slot v = ap (with_slot slot (moved_value h v)) (before-moves slot l) ∙ slot-moves slot v (without_long_before slot l)
 
   slots-moves : (l : Locals) (slot : ℕ) (v : Value) → has_slots (moved_locals h l) slot (moved_value h v) ≡ has_slots l slot v
@@ -129,9 +129,9 @@ module _ (h : ℕ → ℕ) where
   stores-moves : (k : Kind) (slot : ℕ) (l : Locals) (o : Operands) → stores k slot (moved_locals h l) (moved_operands h o) ≡ moved_outcome h (stores k slot l o)
   stores-moves k slot l [] = refl
   stores-moves k slot l (v ∷ below) =
-      ap (λ b. if b then GoesOn (stored (moved_locals h l) slot (moved_value h v)) (moved_operands h below) Next else Breaks false)
+      ap (λ b. if b then GoesOn (local_stored (moved_locals h l) slot (moved_value h v)) (moved_operands h below) Next else Breaks false)
       (ap (λ b. b && has_slots (moved_locals h l) slot (moved_value h v)) (storable-moves k v) ∙ ap (λ b. is_storable k v && b) (slots-moves l slot v))
-      ∙ chosen_outcome-moves (is_storable k v && has_slots l slot v) (GoesOn (stored l slot v) below Next) _ (Breaks false) _
+      ∙ chosen_outcome-moves (is_storable k v && has_slots l slot v) (GoesOn (local_stored l slot v) below Next) _ (Breaks false) _
       (ap (λ x. GoesOn x (moved_operands h below) Next) (stored-moves l slot v)) refl
 
   -- ---- stack instructions, all nine
@@ -199,11 +199,11 @@ module _ (h : ℕ → ℕ) where
   long_quotient-moves (Some n) v w l o = refl
 
   divides_ints-moves : (op : Division) (l : Locals) (o : Operands) → divides_ints op (moved_locals h l) (moved_operands h o) ≡ moved_outcome h (divides_ints op l o)
-  divides_ints-moves op l (Int b ∷ Int a ∷ below) = int_quotient-moves (divided op w32 a b) (Int b) (Int a) l below
+  divides_ints-moves op l (Int b ∷ Int a ∷ below) = int_quotient-moves (number_divided op w32 a b) (Int b) (Int a) l below
   divides_ints-moves op l _ = refl
 
   divides_longs-moves : (op : Division) (l : Locals) (o : Operands) → divides_longs op (moved_locals h l) (moved_operands h o) ≡ moved_outcome h (divides_longs op l o)
-  divides_longs-moves op l (Long b ∷ Long a ∷ below) = long_quotient-moves (divided op w64 a b) (Long b) (Long a) l below
+  divides_longs-moves op l (Long b ∷ Long a ∷ below) = long_quotient-moves (number_divided op w64 a b) (Long b) (Long a) l below
   divides_longs-moves op l _ = refl
 
   of_int-moves : (op : OfInt) (n : ℤ) → of_int op n ≡ moved_value h (of_int op n)

@@ -14,11 +14,11 @@ use Rattle.jvm_model.specs.Running.Changes.{methods, without_first, after_change
 use Rattle.jvm_model.specs.Instructions.Does.{does, loads}
 use Rattle.jvm_model.specs.Classes.Load.{Fault, error_of, is_among}
 use Rattle.jvm_model.specs.Classes.Lookup.{supertypes}
-use Rattle.jvm_model.specs.Running.Moves.{after_super, argument_array, at_part, caught, handler_for, initializes, main_or_end, moves, move, own_at, runs_initializer, settled, then_turn, with_super}
+use Rattle.jvm_model.specs.Running.Moves.{after_super, argument_array, at_part, throw_caught, handler_for, initializes, main_or_end, moves, move, own_at, runs_initializer, turn_settled, then_turn, with_super}
 use Rattle.jvm_model.specs.Instructions.SymbolicReference.{message_of, newly_loaded}
 use Rattle.jvm_model.specs.Codes.Originals.{original}
 use Rattle.jvm_model.specs.Basis.Programs.{initializer_of, place_of_method, super_of}
-use Rattle.jvm_model.specs.Running.Run.{arguments_made, attempt, before, is_quiet, loaded_turn, loads_if, main_class, main_classes, main_loading, main_loads, opened, run, start, starts, starts_if, starts_unless, starts_with, step, steps_at, steps_by, steps_on, turn, turn_in-zero, turn_in-suc, with_loaded}
+use Rattle.jvm_model.specs.Running.Run.{arguments_made, attempt, before, is_quiet, loaded_turn, loads_if, main_class, main_classes, main_loading, main_loads, run_opened, run, start, starts, starts_if, starts_unless, starts_with, step, steps_at, steps_by, steps_on, turn, turn_in-zero, turn_in-suc, with_loaded}
 use Rattle.jvm_model.specs.Basis.SharedState.{arguments_fit, class_of, null, phase_of}
 use Rattle.jvm_model.specs.Soundness.Sound.{CanAttempt, HasClass, HasSupertypes, IsFit, IsLoaded, IsSoundOutcome}
 use Rattle.jvm_model.specs.Soundness.SoundListings.{IsSound, IsSoundEntry, RunsOriginal}
@@ -61,7 +61,7 @@ module _ (w : World) (fit : IsFit w.program) (bare : HasBareObject w.program) (c
   abbrev Goes : List ℕ → List ℕ → Turn → Type 0
   Goes loaded ms a = GoesTo RunsOriginal p loaded a.after × CallsOn w code loaded ms a
 
-  settled-both : (loaded ms : List ℕ) → Climbs p loaded → (a : Turn) → Goes loaded ms a → Goes loaded ms (settled w t a)
+  settled-both : (loaded ms : List ℕ) → Climbs p loaded → (a : Turn) → Goes loaded ms a → Goes loaded ms (turn_settled w t a)
   settled-both loaded ms climbs a is = settled-keeps w t (Goes loaded ms) one a is
     where
       one : (b : Turn) → Goes loaded ms b → IfSome (move w t b.after) (λ next. Goes loaded ms (then_turn b next))
@@ -271,7 +271,7 @@ module _ (w : World) (fit : IsFit w.program) (bare : HasBareObject w.program) (c
       by true = alone
       by false = alone
 
-  caught-first : (s : State) (r : ℕ) (f : Frame) (h : Option ℕ) → AreAlone s.stack → IsFirst (caught w t s r f h)
+  caught-first : (s : State) (r : ℕ) (f : Frame) (h : Option ℕ) → AreAlone s.stack → IsFirst (throw_caught w t s r f h)
   caught-first s r f None alone = record { alone = alone; placed = tt; loads = refl }
   caught-first s r f (Some target) alone =
       record { alone = goes-alone (record s { thrown = None }) f (own_at t f) f.locals (Ref r ∷ []) (Some target) alone; placed = tt; loads = refl }
@@ -315,7 +315,7 @@ module _ (w : World) (fit : IsFit w.program) (bare : HasBareObject w.program) (c
   moves-first s None None (Active f ∷ below) same alone = tt
   moves-first s None None (Initializing c part ∷ below) same alone = part-first (record s { stack = below }) c part alone.0 alone.1
 
-  settled-first : (a : Turn) → IsFirst a → IsFirst (settled w t a)
+  settled-first : (a : Turn) → IsFirst a → IsFirst (turn_settled w t a)
   settled-first a is = settled-keeps w t IsFirst
       (λ b first. IfSome_then (move w t b.after) {P = IsFirst} {Q = λ next. IsFirst (then_turn b next)}
       (moves-first b.after b.after.ending b.after.thrown b.after.stack refl first.alone)
@@ -329,10 +329,10 @@ module _ (w : World) (fit : IsFit w.program) (bare : HasBareObject w.program) (c
   starts-alone false = tt
   starts-alone true = by (main_loading w).fault
     where
-      none : (opened w).stack ≡ []
+      none : (run_opened w).stack ≡ []
       none = ap (λ (x : State). x.stack) (with_loaded-shared (main_classes w) (arguments_made w (before w)))
 
-      by : (o : Option Fault) → AreAlone (starts_unless w o (opened w)).stack
+      by : (o : Option Fault) → AreAlone (starts_unless w o (run_opened w)).stack
       by None = (refl, tt)
       by (Some fault) = subst AreAlone (sym none) tt
 
@@ -340,13 +340,13 @@ module _ (w : World) (fit : IsFit w.program) (bare : HasBareObject w.program) (c
   starts-loaded false = sym (append-nil (before w).shared.loaded)
   starts-loaded true = by (main_loading w).fault ∙ with-loaded-is (main_classes w) (arguments_made w (before w))
     where
-      by : (o : Option Fault) → (starts_unless w o (opened w)).shared.loaded ≡ (opened w).shared.loaded
+      by : (o : Option Fault) → (starts_unless w o (run_opened w)).shared.loaded ≡ (run_opened w).shared.loaded
       by None = refl
-      by (Some fault) = made-loaded w (opened w).shared (error_of fault) (message_of fault) null
+      by (Some fault) = made-loaded w (run_opened w).shared (error_of fault) (message_of fault) null
 
   pub start-loaded : (start w t).after.shared.loaded ≡ (before w).shared.loaded ++ main_loads w
   start-loaded =
-      ap (λ (x : State). x.shared.loaded) (loaded-after (main_loads w) (settled w t (still (starts_with w))))
+      ap (λ (x : State). x.shared.loaded) (loaded-after (main_loads w) (turn_settled w t (still (starts_with w))))
       ∙ (settled-loaded w t (still (starts_with w)) ∙ starts-loaded (arguments_fit p))
 
   -- what begins without a parent is called
@@ -364,21 +364,21 @@ module _ (w : World) (fit : IsFit w.program) (bare : HasBareObject w.program) (c
       first : Turn
       first = still (starts_with w)
 
-      is_first : IsFirst (settled w t (still (starts_with w)))
+      is_first : IsFirst (turn_settled w t (still (starts_with w)))
       is_first = settled-first (still (starts_with w)) (record { alone = starts-alone (arguments_fit p); placed = tt; loads = refl })
 
-      by : (classes : List ℕ) → (settled w t (still (starts_with w))).after.shared.loaded ≡ (before w).shared.loaded ++ classes
-          → StepCalls (before w).shared.loaded [] (loaded_turn classes (settled w t (still (starts_with w))))
+      by : (classes : List ℕ) → (turn_settled w t (still (starts_with w))).after.shared.loaded ≡ (before w).shared.loaded ++ classes
+          → StepCalls (before w).shared.loaded [] (loaded_turn classes (turn_settled w t (still (starts_with w))))
       by [] is = record {
         loads = is ∙ ap (λ l. (before w).shared.loaded ++ l) (sym is_first.loads);
-        due = alone-due (settled w t (still (starts_with w))).after.shared.loaded (settled w t (still (starts_with w))).after.stack is_first.alone;
-        targets = free-targets (settled w t (still (starts_with w))).after.shared.loaded (settled w t (still (starts_with w))).changes (started-begins w t);
+        due = alone-due (turn_settled w t (still (starts_with w))).after.shared.loaded (turn_settled w t (still (starts_with w))).after.stack is_first.alone;
+        targets = free-targets (turn_settled w t (still (starts_with w))).after.shared.loaded (turn_settled w t (still (starts_with w))).changes (started-begins w t);
         placed = is_first.placed;
       }
       by (c ∷ more) is = record {
         loads = is ∙ ap (λ l. (before w).shared.loaded ++ l) (sym (ap (λ l. (c ∷ more) ++ l) is_first.loads ∙ append-nil (c ∷ more)));
-        due = alone-due (settled w t (still (starts_with w))).after.shared.loaded (settled w t (still (starts_with w))).after.stack is_first.alone;
-        targets = free-targets (settled w t (still (starts_with w))).after.shared.loaded (settled w t (still (starts_with w))).changes (started-begins w t);
+        due = alone-due (turn_settled w t (still (starts_with w))).after.shared.loaded (turn_settled w t (still (starts_with w))).after.stack is_first.alone;
+        targets = free-targets (turn_settled w t (still (starts_with w))).after.shared.loaded (turn_settled w t (still (starts_with w))).changes (started-begins w t);
         placed = is_first.placed;
       }
 

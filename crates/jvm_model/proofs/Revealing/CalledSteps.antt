@@ -10,7 +10,7 @@ use Rattle.jvm_model.specs.Basis.Data.{Ending, Program, Frame, Entry, Active, In
 use Rattle.jvm_model.specs.Running.Applies.{still, with_frame, breaks, goes, new_frame, place_of, enters_subroutine, has_room, live_in, most_live, begins, begins_beside, resumes, gives_back, applies}
 use Rattle.jvm_model.specs.Running.Changes.{methods, without_first, after_changes}
 use Rattle.jvm_model.specs.Classes.Load.{is_among}
-use Rattle.jvm_model.specs.Running.Moves.{after_super, argument_array, at_part, caught, handler_for, initializes, main_or_end, moves, own_at, runs_initializer, then_turn, with_super}
+use Rattle.jvm_model.specs.Running.Moves.{after_super, argument_array, at_part, throw_caught, handler_for, initializes, main_or_end, moves, own_at, runs_initializer, then_turn, with_super}
 use Rattle.jvm_model.specs.Codes.Originals.{original}
 use Rattle.jvm_model.specs.Basis.Programs.{initializer_of, place_of_method, super_of}
 use Rattle.jvm_model.specs.Basis.SharedState.{class_of, phase_of}
@@ -205,12 +205,12 @@ module _ (w : World) (code : ℕ → List Operation) where
     own-called [] c m there e due = tt
     own-called (caller ∷ rest) c m there e due = due c m there (climbs.own c there) e
 
-    caught-due : (s : State) (r : ℕ) (f : Frame) (h : Option ℕ) → AreDue loaded s.stack → AreDue loaded (caught w t s r f h).after.stack
+    caught-due : (s : State) (r : ℕ) (f : Frame) (h : Option ℕ) → AreDue loaded s.stack → AreDue loaded (throw_caught w t s r f h).after.stack
     caught-due s r f None due = due
     caught-due s r f (Some target) due = goes-due loaded (record s { thrown = None }) f (own_at t f) f.locals (Ref r ∷ []) (Some target) due
 
-    caught-calls : (s : State) (r : ℕ) (f : Frame) (h : Option ℕ) → Tells (f.method ∷ methods s.stack) (caught w t s r f h) → AreDue loaded s.stack
-        → CallsOn loaded (f.method ∷ methods s.stack) (caught w t s r f h)
+    caught-calls : (s : State) (r : ℕ) (f : Frame) (h : Option ℕ) → Tells (f.method ∷ methods s.stack) (throw_caught w t s r f h) → AreDue loaded s.stack
+        → CallsOn loaded (f.method ∷ methods s.stack) (throw_caught w t s r f h)
     caught-calls s r f None tells due = record { tells = tells; due = due; targets = tt; placed = tt; loads = refl }
     caught-calls s r f (Some target) tells due =
         record { tells = tells; due = caught-due s r f (Some target) due; targets = tt; placed = tt; loads = refl }

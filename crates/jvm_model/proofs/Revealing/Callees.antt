@@ -35,7 +35,7 @@ use Rattle.jvm_model.specs.Classes.Lookup.{MemberPlace, Resolution, Found, Fails
 use Rattle.jvm_model.specs.Classes.Layouts.{layout}
 use Rattle.jvm_model.specs.Instructions.LocalRules.{pushes, replaces}
 use Rattle.jvm_model.specs.Instructions.NativeRules.{kinds_in, outcome_of, runs_native, runs_number, seen_by_natives}
-use Rattle.jvm_model.specs.Instructions.SymbolicReference.{◌>>=◌, SymbolicReference, New, Getfield, Putfield, Getstatic, Putstatic, Invokevirtual, Invokespecial, Invokestatic, Invokeinterface, Checkcast, Instanceof, Anewarray, Multianewarray, LdcClass, found, is_null, newly_loaded, receiver, resolved_name, resolves, is_below_kind, is_instance, kind_unless, resolved_kind, unless_refused, where_fitting}
+use Rattle.jvm_model.specs.Instructions.SymbolicReference.{◌>>=◌, SymbolicReference, New, Getfield, Putfield, Getstatic, Putstatic, Invokevirtual, Invokespecial, Invokestatic, Invokeinterface, Checkcast, Instanceof, Anewarray, Multianewarray, LdcClass, member_found, is_null, newly_loaded, receiver, resolved_name, resolves, is_below_kind, is_instance, kind_unless, resolved_kind, unless_refused, where_fitting}
 use Rattle.jvm_model.specs.Instructions.ConstantRules.{pushes_object_of}
 use Rattle.jvm_model.specs.Running.Constants.{can_intern}
 use Rattle.jvm_model.specs.Instructions.Does.{does, loads}
@@ -43,8 +43,8 @@ use Rattle.jvm_model.specs.Instructions.ReferenceRules.{does_named}
 use Rattle.jvm_model.specs.Instructions.ObjectRules.{Access, ToNull, ToAnother, Outside, Inside, Storing, access_to, array_kind, done, fits_array, makes, place_of, stores_at, stores_element, storing_of}
 use Rattle.jvm_model.specs.Basis.Methods.{method_named}
 use Rattle.jvm_model.specs.Basis.Programs.{class_at, class_named, has_name, initializer_name, initializer_of, number_from, number_of_method, place_of_method, same_place}
-use Rattle.jvm_model.specs.Instructions.Rules.{initialized, when_ready}
-use Rattle.jvm_model.specs.Classes.Selection.{candidate, is_abstract, is_static, nearest, selected}
+use Rattle.jvm_model.specs.Instructions.Rules.{class_initialized, when_ready}
+use Rattle.jvm_model.specs.Classes.Selection.{candidate, is_abstract, is_static, nearest, method_selected}
 use Rattle.jvm_model.specs.Basis.SharedState.{array_store, class_of, class_of_kind, kind_for, string, no_such_field, no_such_method, null_pointer, phase_of, static_at}
 use Rattle.jvm_model.specs.Soundness.Sound.{IsFit, IsLoaded, IsSoundShared}
 use Rattle.jvm_model.proofs.Loading.LoadsAgain.{newly-loaded}
@@ -53,7 +53,7 @@ use Rattle.jvm_model.proofs.Soundness.SoundKinds.{base-below, class-back, named-
 use Rattle.jvm_model.proofs.Soundness.SoundObjects.{object-usable}
 use Rattle.jvm_model.proofs.Revealing.IdleRules.{element-sound, measures-sound, throws-sound, watches-sound, within-sound}
 use Rattle.jvm_model.specs.Soundness.Climbing.{Climbs, HasBareObject, IsDue, Begins}
-use Rattle.jvm_model.specs.Profiling.Targets.{loaded_class_named, is_array_type, found_where, coded_at, coded, initializers, selections, invoked_by, begun_on, begun_static, begun_field, where_loaded, begun_by, begun_by_operation}
+use Rattle.jvm_model.specs.Profiling.Targets.{loaded_class_named, is_array_type, found_where, coded_at, method_coded, initializers, selections, invoked_by, begun_on, begun_static, begun_field, where_loaded, begun_by, begun_by_operation}
 
 false_true : false ≡ true → ⊥
 false_true e = cc
@@ -213,18 +213,18 @@ module _ (p : Program) (fit : IsFit p) where
     where
       by : (o : Option ℕ) → class_named p name ≡ o → option_map kind_number (option_map (λ base. record { dimensions = 0; base = base }) (option_map (base_of_class p) o)) ≡ Some kind
           → Names loaded name kind
-      by None found e = absurd (none-some kind e)
-      by (Some class) found e =
-          let within : class < length p.classes = named-class (has_name name) p.classes class found in
+      by None member_found e = absurd (none-some kind e)
+      by (Some class) member_found e =
+          let within : class < length p.classes = named-class (has_name name) p.classes class member_found in
           let small : base_of_class p class < 16777216 = base-below p class within fit.few in
           let is : kind ≡ base_of_class p class = sym (some-some (0 * 16777216 + base_of_class p class) kind e) ∙ (let z : 0 * 16777216 + base_of_class p class ≡ base_of_class p class = omega arith in z) in
           let back : class_of_base p kind ≡ Some class = ap (class_of_base p) is ∙ class-back p class within fit.few in
           let less : kind < 16777216 = subst (λ k. k < 16777216) (sym is) small in
           of_class class less back
           (ap (λ b. if b then unwrap_or (class_of_base p kind) 0 else user_count p) (below-is kind 16777216 less) ∙ ap (λ o. unwrap_or o 0) back)
-          (there class found)
+          (there class member_found)
           (ap (λ (m : Meaning). nat_lt 0 m.dimensions) plain)
-          (ap (λ o. option_and_then (λ c. if is_among c loaded then Some c else None) o) found ∙ ap (λ b. let o : Option ℕ = if b then Some class else None in o) (there class found))
+          (ap (λ o. option_and_then (λ c. if is_among c loaded then Some c else None) o) member_found ∙ ap (λ b. let o : Option ℕ = if b then Some class else None in o) (there class member_found))
 
   deep-names : (loaded name : List ℕ) (kind : ℕ) → 1 ≤ (meaning_of name).dimensions → kind_named p name ≡ Some kind → Names loaded name kind
   deep-names loaded name kind deep named = by (base_of_element p (meaning_of name).element) named
@@ -243,7 +243,7 @@ module _ (p : Program) (fit : IsFit p) where
       by : Means name (meaning_of name) → Names loaded name kind
       by (own e) =
           own-names loaded name kind e
-          (λ class found. subst (λ l. IsLoaded l class) whole (load-there p loaded name none name (ap (λ (m : Meaning). m.element) e) class found)) named
+          (λ class member_found. subst (λ l. IsLoaded l class) whole (load-there p loaded name none name (ap (λ (m : Meaning). m.element) e) class member_found)) named
       by (deeper deep) = deep-names loaded name kind deep named
 
   -- ---- a receiver
@@ -338,7 +338,7 @@ module _ (p : Program) (bare : HasBareObject p) where
   pub object-due : (loaded ms : List ℕ) → IsDue p loaded ms object
   object-due loaded ms d m there sub e = absurd (no-initializer m (ap (initializer_of p) (sym (above-object (length p.classes) d sub)) ∙ e))
 
-  pub object-coded : (found : Option MemberPlace) → ((m : MemberPlace) → found ≡ Some m → m.class ≡ object) → coded p found ≡ []
+  pub object-coded : (member_found : Option MemberPlace) → ((m : MemberPlace) → member_found ≡ Some m → m.class ≡ object) → method_coded p member_found ≡ []
   object-coded None is = refl
   object-coded (Some m) is = ap option_to_list (ap (λ c. number_of_method p c m.position) (is m refl) ∙ bare.methods m.position)
 
@@ -369,16 +369,16 @@ module _ (p : Program) (bare : HasBareObject p) where
       by true is e = absurd (let no : Fails incompatible_change ≡ Found m → ⊥ = λ e. cc in no e)
       by false is e = among (first_in (method_at p wanted) (superclasses p object ++ superinterfaces p object)) refl e
 
-  pub nearest-object : (interface : Bool) (m found : MemberPlace) → selected p object interface m ≡ Some found → found.class ≡ object
-  nearest-object interface m found e = by (nearest p object interface m) refl e
+  pub nearest-object : (interface : Bool) (m member_found : MemberPlace) → method_selected p object interface m ≡ Some member_found → member_found.class ≡ object
+  nearest-object interface m member_found e = by (nearest p object interface m) refl e
     where
-      of : (b : Bool) (k : MemberPlace) → nearest p object interface m ≡ Some k → (let o : Option MemberPlace = if b then None else Some k in o) ≡ Some found → found.class ≡ object
-      of true k is e = absurd (none-some found e)
+      of : (b : Bool) (k : MemberPlace) → nearest p object interface m ≡ Some k → (let o : Option MemberPlace = if b then None else Some k in o) ≡ Some member_found → member_found.class ≡ object
+      of true k is e = absurd (none-some member_found e)
       of false k is e =
-          supers-object (length p.classes) found.class (first-among (candidate p interface m) (superclasses p object) found (is ∙ e))
+          supers-object (length p.classes) member_found.class (first-among (candidate p interface m) (superclasses p object) member_found (is ∙ e))
 
-      by : (o : Option MemberPlace) → nearest p object interface m ≡ o → option_and_then (λ k. if is_abstract p k then None else Some k) o ≡ Some found → found.class ≡ object
-      by None is e = absurd (none-some found e)
+      by : (o : Option MemberPlace) → nearest p object interface m ≡ o → option_and_then (λ k. if is_abstract p k then None else Some k) o ≡ Some member_found → member_found.class ≡ object
+      by None is e = absurd (none-some member_found e)
       by (Some k) is e = of (is_abstract p k) k is e
 
 -- ---- members of classes
@@ -520,7 +520,7 @@ module _ (w : World) (fit : IsFit w.program) (s : Shared) (is : IsSoundShared w.
     is_found : resolved_field p (class_of_kind p kind) r.member ≡ Found m
     fits : beq (is_static_field p m) true ≡ true
 
-  found-good : (r : Resolution) → Good (λ m. r ≡ Found m) (found r)
+  found-good : (r : Resolution) → Good (λ m. r ≡ Found m) (member_found r)
   found-good (Found m) = refl
   found-good (Fails error) = λ ms. tt
 
@@ -535,11 +535,11 @@ module _ (w : World) (fit : IsFit w.program) (s : Shared) (is : IsSoundShared w.
   method-good : (interface static : Bool) (r : Reference) → Whole r.class → Good (IsMethod interface static r) (named_method p s.loaded interface static r)
   method-good interface static r whole =
       then-good (IsKind r.class) (IsMethod interface static r) (resolved_kind p s.loaded r.class)
-      (λ kind. found (resolved_method p (class_of_kind p kind) interface r.member) >>= λ m. where_fitting (beq (is_static p m) static) m)
+      (λ kind. member_found (resolved_method p (class_of_kind p kind) interface r.member) >>= λ m. where_fitting (beq (is_static p m) static) m)
       (kind-good r.class whole)
       (λ kind is_kind.
       then-good (λ m. resolved_method p (class_of_kind p kind) interface r.member ≡ Found m) (IsMethod interface static r)
-      (found (resolved_method p (class_of_kind p kind) interface r.member)) (λ m. where_fitting (beq (is_static p m) static) m)
+      (member_found (resolved_method p (class_of_kind p kind) interface r.member)) (λ m. where_fitting (beq (is_static p m) static) m)
       (found-good (resolved_method p (class_of_kind p kind) interface r.member))
       (λ m is_found.
       mapped-good (λ k. (k ≡ m) × (beq (is_static p m) static ≡ true)) (IsMethod interface static r) (where_fitting (beq (is_static p m) static) m)
@@ -549,11 +549,11 @@ module _ (w : World) (fit : IsFit w.program) (s : Shared) (is : IsSoundShared w.
   field-good : (r : Reference) → Whole r.class → Good (IsField r) (named_field p s.loaded true r)
   field-good r whole =
       then-good (IsKind r.class) (IsField r) (resolved_kind p s.loaded r.class)
-      (λ kind. found (resolved_field p (class_of_kind p kind) r.member) >>= λ m. where_fitting (beq (is_static_field p m) true) m)
+      (λ kind. member_found (resolved_field p (class_of_kind p kind) r.member) >>= λ m. where_fitting (beq (is_static_field p m) true) m)
       (kind-good r.class whole)
       (λ kind is_kind.
       then-good (λ m. resolved_field p (class_of_kind p kind) r.member ≡ Found m) (IsField r)
-      (found (resolved_field p (class_of_kind p kind) r.member)) (λ m. where_fitting (beq (is_static_field p m) true) m)
+      (member_found (resolved_field p (class_of_kind p kind) r.member)) (λ m. where_fitting (beq (is_static_field p m) true) m)
       (found-good (resolved_field p (class_of_kind p kind) r.member))
       (λ m is_found.
       mapped-good (λ k. (k ≡ m) × (beq (is_static_field p m) true ≡ true)) (IsField r) (where_fitting (beq (is_static_field p m) true) m)
@@ -562,7 +562,7 @@ module _ (w : World) (fit : IsFit w.program) (s : Shared) (is : IsSoundShared w.
 
   -- ---- a class that is initialized before
 
-  initialized-due : (ms : List ℕ) (class : ℕ) (d : Done) → IsDue p s.loaded ms class → Due ms d → Due ms (initialized p class s d)
+  initialized-due : (ms : List ℕ) (class : ℕ) (d : Done) → IsDue p s.loaded ms class → Due ms d → Due ms (class_initialized p class s d)
   initialized-due ms class d due after = by (phase_of s class)
     where
       by : (o : Option Phase) → Due ms (when_ready p o class s d)
@@ -599,7 +599,7 @@ module _ (w : World) (fit : IsFit w.program) (s : Shared) (is : IsSoundShared w.
   new-due name l o whole =
       let ms = begun_by p s.loaded (New name) in
       unless-due (IsKind name) ms (resolved_kind p s.loaded name)
-      (λ kind. initialized p (class_of_kind p kind) s (makes_instance p kind (class_of_kind p kind) s l o)) (kind-good name whole)
+      (λ kind. class_initialized p (class_of_kind p kind) s (makes_instance p kind (class_of_kind p kind) s l o)) (kind-good name whole)
       (λ kind is_kind. initialized-due ms (class_of_kind p kind) (makes_instance p kind (class_of_kind p kind) s l o)
       (named-due name kind (initializers p s.loaded) (class_of_kind p kind) is_kind.0
       (λ class same there. subst (IsDue p s.loaded (initializers p s.loaded class)) (sym same) (initializers-due p s.loaded climbs class)) (λ same. same))
@@ -633,7 +633,7 @@ module _ (w : World) (fit : IsFit w.program) (s : Shared) (is : IsSoundShared w.
   put-static-due : (r : Reference) (l : Locals) (o : Operands) → Whole r.class → Due (begun_by p s.loaded (Putstatic r)) (puts_static p r s l o)
   put-static-due r l o whole =
       let ms = begun_by p s.loaded (Putstatic r) in
-      unless-due (IsField r) ms (named_field p s.loaded true r) (λ m. initialized p m.class s (sets_static m (held_of (kind_by r) o) s l o)) (field-good r whole)
+      unless-due (IsField r) ms (named_field p s.loaded true r) (λ m. class_initialized p m.class s (sets_static m (held_of (kind_by r) o) s l o)) (field-good r whole)
       (λ m field. initialized-due ms m.class (sets_static m (held_of (kind_by r) o) s l o) (field-due r m field) (by ms m (held_of (kind_by r) o)))
     where
       by : (ms : List ℕ) (m : MemberPlace) (d : Option Datum) → Due ms (sets_static m d s l o)
@@ -671,7 +671,7 @@ module _ (w : World) (fit : IsFit w.program) (s : Shared) (is : IsSoundShared w.
       (native-due ms (reference_to p m) args l below)
 
   selected-due : (ms : List ℕ) (o : Option MemberPlace) (args : List Datum) (l : Locals) (below : Operands)
-      → ((n : ℕ) → is_among n (coded p o) ≡ true → is_among n ms ≡ true) → Due ms (invokes_selected w o args s l below)
+      → ((n : ℕ) → is_among n (method_coded p o) ≡ true → is_among n ms ≡ true) → Due ms (invokes_selected w o args s l below)
   selected-due ms None args l below there = tt
   selected-due ms (Some m) args l below there =
       chosen ms (is_abstract p m) (done s (Raises abstract_method None)) (invokes_number w m (number_of_method p m.class m.position) args s l below) tt
@@ -684,7 +684,7 @@ module _ (w : World) (fit : IsFit w.program) (s : Shared) (is : IsSoundShared w.
   static-due r l o whole =
       let ms = begun_by p s.loaded (Invokestatic r) in
       unless-due (IsMethod false true r) ms (named_method p s.loaded false true r)
-      (λ m. initialized p m.class s (invokes_with_static w m (arguments_by false r.member o) s l o)) (method-good false true r whole)
+      (λ m. class_initialized p m.class s (invokes_with_static w m (arguments_by false r.member o) s l o)) (method-good false true r whole)
       (λ m method. initialized-due ms m.class (invokes_with_static w m (arguments_by false r.member o) s l o) (class-due m method)
       (by m method (arguments_by false r.member o)))
     where
@@ -705,7 +705,7 @@ module _ (w : World) (fit : IsFit w.program) (s : Shared) (is : IsSoundShared w.
           (initializers-due p s.loaded climbs class) d k d_there sub e)))
           (λ same. method-object p bare r.member m (ap (λ c. resolved_method p c false r.member) (sym same) ∙ method.is_found))
 
-      own : (m : MemberPlace) (method : IsMethod false true r m) → Names p fit s.loaded r.class method.kind → (n : ℕ) → is_among n (coded p (Some m)) ≡ true
+      own : (m : MemberPlace) (method : IsMethod false true r m) → Names p fit s.loaded r.class method.kind → (n : ℕ) → is_among n (method_coded p (Some m)) ≡ true
           → is_among n (begun_by p s.loaded (Invokestatic r)) ≡ true
       own m method (of_class class small base is_class there plain named) n e =
           ap (λ o. is_among n (option_map_or (λ c. begun_static p s.loaded c r) o [])) named
@@ -713,7 +713,7 @@ module _ (w : World) (fit : IsFit w.program) (s : Shared) (is : IsSoundShared w.
           ∙ among-first n (coded_at p m) (initializers p s.loaded class) e)
       own m method (of_array big is_class array_type) n e =
           let stands : m.class ≡ user_count p = method-object p bare r.member m (ap (λ c. resolved_method p c false r.member) (sym is_class) ∙ method.is_found) in
-          let none : coded p (Some m) ≡ [] = object-coded p bare (Some m) (λ k same. ap (λ (q : MemberPlace). q.class) (sym (some-some m k same)) ∙ stands) in
+          let none : method_coded p (Some m) ≡ [] = object-coded p bare (Some m) (λ k same. ap (λ (q : MemberPlace). q.class) (sym (some-some m k same)) ∙ stands) in
           absurd (false_true (sym (ap (is_among n) none) ∙ e))
 
       by : (m : MemberPlace) → IsMethod false true r m → (args : Option (List Datum)) → Due (begun_by p s.loaded (Invokestatic r)) (invokes_with_static w m args s l o)
@@ -763,12 +763,12 @@ module _ (w : World) (fit : IsFit w.program) (s : Shared) (is : IsSoundShared w.
 
   -- what is selected from the receiver's class
   selection-due : (by : Selecting) (r : Reference) (m : MemberPlace) (x : ℕ) (method : IsMethod (names_interface by) false r m)
-      → ((found : MemberPlace) → x ≡ user_count p → selected_by p by m x ≡ Some found → found.class ≡ user_count p)
-      → HasReceiver r.class method.kind x → (n : ℕ) → is_among n (coded p (selected_by p by m x)) ≡ true
+      → ((member_found : MemberPlace) → x ≡ user_count p → selected_by p by m x ≡ Some member_found → member_found.class ≡ user_count p)
+      → HasReceiver r.class method.kind x → (n : ℕ) → is_among n (method_coded p (selected_by p by m x)) ≡ true
       → is_among n (where_loaded p s.loaded r.class
       (λ class. option_map_or (selections p s.loaded class by) (found_where (is_static p) false (resolved_method p class (names_interface by) r.member)) [])) ≡ true
   selection-due by r m x method of_object (in_array is_object) n e =
-      let none : coded p (selected_by p by m x) ≡ [] = object-coded p bare (selected_by p by m x) (λ found is_found. of_object found is_object is_found) in
+      let none : method_coded p (selected_by p by m x) ≡ [] = object-coded p bare (selected_by p by m x) (λ member_found is_found. of_object member_found is_object is_found) in
       absurd (false_true (sym (ap (is_among n) none) ∙ e))
   selection-due by r m x method of_object (in_class class is_class named there above) n e =
       let found_is : found_where (is_static p) false (resolved_method p class (names_interface by) r.member) ≡ Some m =
@@ -776,13 +776,13 @@ module _ (w : World) (fit : IsFit w.program) (s : Shared) (is : IsSoundShared w.
       ∙ ap (λ b. let o : Option MemberPlace = if b then Some m else None in o) method.fits in
       ap (λ o. is_among n (option_map_or (λ c. option_map_or (selections p s.loaded c by) (found_where (is_static p) false (resolved_method p c (names_interface by) r.member)) []) o [])) named
       ∙ (ap (λ o. is_among n (option_map_or (selections p s.loaded class by) o [])) found_is
-      ∙ among-flat (λ c. coded p (selected_by p by m c)) n x (λ c. x == c) (filter (λ lower. is_subtype p lower class) s.loaded)
+      ∙ among-flat (λ c. method_coded p (selected_by p by m c)) n x (λ c. x == c) (filter (λ lower. is_subtype p lower class) s.loaded)
       (among-filter (λ lower. is_subtype p lower class) x s.loaded there above)
-      (λ c same. ap (λ k. is_among n (coded p (selected_by p by m k))) (sym (eqb-true x c same)) ∙ e))
+      (λ c same. ap (λ k. is_among n (method_coded p (selected_by p by m k))) (sym (eqb-true x c same)) ∙ e))
 
   -- what invokespecial takes
   special-due : (caller : List ℕ) (interface : Bool) (r : Reference) (m : MemberPlace) (x : ℕ) (method : IsMethod interface false r m)
-      → Names p fit s.loaded r.class method.kind → (n : ℕ) → is_among n (coded p (selected_by p (Special caller interface) m x)) ≡ true
+      → Names p fit s.loaded r.class method.kind → (n : ℕ) → is_among n (method_coded p (selected_by p (Special caller interface) m x)) ≡ true
       → is_among n (begun_by p s.loaded (Invokespecial caller r interface)) ≡ true
   special-due caller interface r m x method names n e = by names
     where
@@ -808,13 +808,13 @@ module _ (w : World) (fit : IsFit w.program) (s : Shared) (is : IsSoundShared w.
   called (Special caller interface) r = begun_by p s.loaded (Invokespecial caller r interface)
 
   call-due : (by : Selecting) (r : Reference) (m : MemberPlace) (x : ℕ) (method : IsMethod (names_interface by) false r m) → HasReceiver r.class method.kind x
-      → (n : ℕ) → is_among n (coded p (selected_by p by m x)) ≡ true → is_among n (called by r) ≡ true
+      → (n : ℕ) → is_among n (method_coded p (selected_by p by m x)) ≡ true → is_among n (called by r) ≡ true
   call-due Virtual r m x method receives n e =
       selection-due Virtual r m x method
-      (λ k is_object is_found. nearest-object p bare false m k (ap (λ c. selected p c false m) (sym is_object) ∙ is_found)) receives n e
+      (λ k is_object is_found. nearest-object p bare false m k (ap (λ c. method_selected p c false m) (sym is_object) ∙ is_found)) receives n e
   call-due OfInterface r m x method receives n e =
       selection-due OfInterface r m x method
-      (λ k is_object is_found. nearest-object p bare true m k (ap (λ c. selected p c true m) (sym is_object) ∙ is_found)) receives n e
+      (λ k is_object is_found. nearest-object p bare true m k (ap (λ c. method_selected p c true m) (sym is_object) ∙ is_found)) receives n e
   call-due (Special caller interface) r m x method receives n e = special-due caller interface r m x method method.is_kind.0 n e
 
   invoked-due : (by : Selecting) (r : Reference) (l : Locals) (o : Operands) → Whole r.class → Due (called by r) (invokes_instance w by r s l o)
@@ -850,12 +850,12 @@ module _ (w : World) (fit : IsFit w.program) (s : Shared) (is : IsSoundShared w.
   field-any : (r : Reference) → Good (λ m. Unit {0}) (named_field p s.loaded false r)
   field-any r =
       then-good (λ kind. Unit {0}) (λ m. Unit {0}) (resolved_kind p s.loaded r.class)
-      (λ kind. found (resolved_field p (class_of_kind p kind) r.member) >>= λ m. where_fitting (beq (is_static_field p m) false) m) (kind-any r.class)
+      (λ kind. member_found (resolved_field p (class_of_kind p kind) r.member) >>= λ m. where_fitting (beq (is_static_field p m) false) m) (kind-any r.class)
       (λ kind any.
-      then-good (λ m. Unit {0}) (λ m. Unit {0}) (found (resolved_field p (class_of_kind p kind) r.member)) (λ m. where_fitting (beq (is_static_field p m) false) m)
+      then-good (λ m. Unit {0}) (λ m. Unit {0}) (member_found (resolved_field p (class_of_kind p kind) r.member)) (λ m. where_fitting (beq (is_static_field p m) false) m)
       (found-any (resolved_field p (class_of_kind p kind) r.member)) (λ m all. fitting-any (beq (is_static_field p m) false) m))
     where
-      found-any : (r : Resolution) → Good (λ m. Unit {0}) (found r)
+      found-any : (r : Resolution) → Good (λ m. Unit {0}) (member_found r)
       found-any (Found m) = tt
       found-any (Fails error) = λ ms. tt
 

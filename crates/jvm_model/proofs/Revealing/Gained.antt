@@ -18,7 +18,7 @@ use Rattle.jvm_model.proofs.Soundness.SoundClasses.{supertypes-loaded}
 use Rattle.jvm_model.proofs.Revealing.CalledSteps.{all-at}
 use Rattle.jvm_model.proofs.Revealing.Growing.{filter-front, made-front}
 use Rattle.jvm_model.specs.Profiling.Revelation.{gained_by, gained_by_operation, gained_call, gained_in, gained_named, gained_on, is_named}
-use Rattle.jvm_model.specs.Profiling.Targets.{loaded_class_named, is_array_type, found_where, coded_at, coded, initializers, selections, invoked_by, begun_on, begun_static, begun_field, where_loaded, begun_by, begun_by_operation, targets_in}
+use Rattle.jvm_model.specs.Profiling.Targets.{loaded_class_named, is_array_type, found_where, coded_at, method_coded, initializers, selections, invoked_by, begun_on, begun_static, begun_field, where_loaded, begun_by, begun_by_operation, targets_in}
 
 false_true : false ≡ true → ⊥
 false_true e = cc
@@ -90,18 +90,18 @@ module _ (p : Program) (loaded : List ℕ) (new : ℕ) (above : HasSupertypes p 
       ∙ append-nil (initializers p loaded class))
 
   more-selections : (class : ℕ) (by : Selecting) (k : MemberPlace) (m : ℕ) → is_among m (selections p all class by k) ≡ true
-      → Or m (selections p loaded class by k) (if is_subtype p new class then coded p (selected_by p by k new) else [])
+      → Or m (selections p loaded class by k) (if is_subtype p new class then method_coded p (selected_by p by k new) else [])
   more-selections class by k m h =
-      choose (flat-either (λ receiver. coded p (selected_by p by k receiver)) (filter (λ lower. is_subtype p lower class) loaded) (filter (λ lower. is_subtype p lower class) (new ∷ [])) m
-      (ap (λ l. is_among m (flat_map (λ receiver. coded p (selected_by p by k receiver)) l)) (sym (filter-front (λ lower. is_subtype p lower class) loaded (new ∷ []))) ∙ h))
+      choose (flat-either (λ receiver. method_coded p (selected_by p by k receiver)) (filter (λ lower. is_subtype p lower class) loaded) (filter (λ lower. is_subtype p lower class) (new ∷ [])) m
+      (ap (λ l. is_among m (flat_map (λ receiver. method_coded p (selected_by p by k receiver)) l)) (sym (filter-front (λ lower. is_subtype p lower class) loaded (new ∷ []))) ∙ h))
     where
-      last : (b : Bool) → is_among m (flat_map (λ receiver. coded p (selected_by p by k receiver)) (if b then new ∷ [] else [])) ≡ true
-          → is_among m (if b then coded p (selected_by p by k new) else []) ≡ true
-      last true h = ap (is_among m) (sym (append-nil (coded p (selected_by p by k new)))) ∙ h
+      last : (b : Bool) → is_among m (flat_map (λ receiver. method_coded p (selected_by p by k receiver)) (if b then new ∷ [] else [])) ≡ true
+          → is_among m (if b then method_coded p (selected_by p by k new) else []) ≡ true
+      last true h = ap (is_among m) (sym (append-nil (method_coded p (selected_by p by k new)))) ∙ h
       last false h = h
 
-      choose : Or m (selections p loaded class by k) (flat_map (λ receiver. coded p (selected_by p by k receiver)) (filter (λ lower. is_subtype p lower class) (new ∷ [])))
-          → Or m (selections p loaded class by k) (if is_subtype p new class then coded p (selected_by p by k new) else [])
+      choose : Or m (selections p loaded class by k) (flat_map (λ receiver. method_coded p (selected_by p by k receiver)) (filter (λ lower. is_subtype p lower class) (new ∷ [])))
+          → Or m (selections p loaded class by k) (if is_subtype p new class then method_coded p (selected_by p by k new) else [])
       choose (inl a) = inl a
       choose (inr b) = inr (last (is_subtype p new class) b)
 
@@ -191,13 +191,13 @@ module _ (p : Program) (loaded : List ℕ) (new : ℕ) (above : HasSupertypes p 
       each : (class : ℕ) → IsLoaded loaded class → is_among m (begun_on p all class by r) ≡ true → Or m (begun_on p loaded class by r) (gained_on p new class by r)
       each class there k = found (found_where (is_static p) false (resolved_method p class (names_interface by) r.member)) k
         where
-          turn : (k : MemberPlace) (b : Bool) → Or m (selections p loaded class by k) (if b then coded p (selected_by p by k new) else [])
-              → Or m (invoked_by p loaded class by k) (if b then coded p (selected_by p by k new) else [])
+          turn : (k : MemberPlace) (b : Bool) → Or m (selections p loaded class by k) (if b then method_coded p (selected_by p by k new) else [])
+              → Or m (invoked_by p loaded class by k) (if b then method_coded p (selected_by p by k new) else [])
           turn k b (inl a) = inl (ap (is_among m) (selects loaded class k) ∙ a)
           turn k b (inr c) = inr c
 
           found : (o : Option MemberPlace) → is_among m (option_map_or (invoked_by p all class by) o []) ≡ true
-              → Or m (option_map_or (invoked_by p loaded class by) o []) (if is_subtype p new class then option_map_or (λ m. coded p (selected_by p by m new)) o [] else [])
+              → Or m (option_map_or (invoked_by p loaded class by) o []) (if is_subtype p new class then option_map_or (λ m. method_coded p (selected_by p by m new)) o [] else [])
           found None k = absurd (false_true k)
           found (Some q) k = turn q (is_subtype p new class) (more-selections class by q m (ap (is_among m) (sym (selects all class q)) ∙ k))
 
@@ -281,19 +281,19 @@ module _ (p : Program) (loaded : List ℕ) (new : ℕ) (above : HasSupertypes p 
       → is_among m (gained_call p loaded new by r) ≡ true → is_among m (where_loaded p all r.class (λ class. begun_on p all class by r)) ≡ true
   call-gains by r m selects h = of (class_named p r.class) h
     where
-      picked : (class : ℕ) (k : MemberPlace) → is_subtype p new class ≡ true → is_among m (coded p (selected_by p by k new)) ≡ true → is_among m (invoked_by p all class by k) ≡ true
+      picked : (class : ℕ) (k : MemberPlace) → is_subtype p new class ≡ true → is_among m (method_coded p (selected_by p by k new)) ≡ true → is_among m (invoked_by p all class by k) ≡ true
       picked class k sub h =
           ap (is_among m) (selects all class k)
-          ∙ (ap (λ l. is_among m (flat_map (λ receiver. coded p (selected_by p by k receiver)) l)) (filter-front (λ lower. is_subtype p lower class) loaded (new ∷ []))
-          ∙ (ap (λ b. is_among m (flat_map (λ receiver. coded p (selected_by p by k receiver)) (filter (λ lower. is_subtype p lower class) loaded ++ (if b then new ∷ [] else [])))) sub
+          ∙ (ap (λ l. is_among m (flat_map (λ receiver. method_coded p (selected_by p by k receiver)) l)) (filter-front (λ lower. is_subtype p lower class) loaded (new ∷ []))
+          ∙ (ap (λ b. is_among m (flat_map (λ receiver. method_coded p (selected_by p by k receiver)) (filter (λ lower. is_subtype p lower class) loaded ++ (if b then new ∷ [] else [])))) sub
           ∙ flat-last (filter (λ lower. is_subtype p lower class) loaded)))
         where
-          flat-last : (xs : List ℕ) → is_among m (flat_map (λ receiver. coded p (selected_by p by k receiver)) (xs ++ new ∷ [])) ≡ true
-          flat-last [] = among-first m (coded p (selected_by p by k new)) [] h
-          flat-last (x ∷ xs) = among-second m (coded p (selected_by p by k x)) (flat_map (λ receiver. coded p (selected_by p by k receiver)) (xs ++ new ∷ [])) (flat-last xs)
+          flat-last : (xs : List ℕ) → is_among m (flat_map (λ receiver. method_coded p (selected_by p by k receiver)) (xs ++ new ∷ [])) ≡ true
+          flat-last [] = among-first m (method_coded p (selected_by p by k new)) [] h
+          flat-last (x ∷ xs) = among-second m (method_coded p (selected_by p by k x)) (flat_map (λ receiver. method_coded p (selected_by p by k receiver)) (xs ++ new ∷ [])) (flat-last xs)
 
       mapped : (class : ℕ) (o : Option MemberPlace) (b : Bool) → is_subtype p new class ≡ b
-          → is_among m (if b then option_map_or (λ k. coded p (selected_by p by k new)) o [] else []) ≡ true → is_among m (option_map_or (invoked_by p all class by) o []) ≡ true
+          → is_among m (if b then option_map_or (λ k. method_coded p (selected_by p by k new)) o [] else []) ≡ true → is_among m (option_map_or (invoked_by p all class by) o []) ≡ true
       mapped class o false sub h = absurd (false_true h)
       mapped class None true sub h = absurd (false_true h)
       mapped class (Some k) true sub h = picked class k sub h

@@ -14,7 +14,7 @@ use Rattle.jvm_model.specs.Classes.Lookup.{MemberPlace, is_subtype, resolved_fie
 use Rattle.jvm_model.specs.Basis.Programs.{class_named, initializer_of}
 use Rattle.jvm_model.specs.Classes.Selection.{is_static}
 use Rattle.jvm_model.proofs.Revealing.Callees.{among-first, among-second}
-use Rattle.jvm_model.specs.Profiling.Targets.{loaded_class_named, is_array_type, class_with_methods, found_where, coded_at, coded, initializers, selections, invoked_by, begun_on, begun_static, begun_field, where_loaded, begun_by, begun_by_operation, targets_in}
+use Rattle.jvm_model.specs.Profiling.Targets.{loaded_class_named, is_array_type, class_with_methods, found_where, coded_at, method_coded, initializers, selections, invoked_by, begun_on, begun_static, begun_field, where_loaded, begun_by, begun_by_operation, targets_in}
 
 false_true : false ≡ true → ⊥
 false_true e = cc
@@ -76,13 +76,13 @@ module _ (p : Program) (loaded more : List ℕ) where
 
   selections-grow : (class : ℕ) (by : Selecting) (m : MemberPlace) → Among (selections p loaded class by m) (selections p all class by m)
   selections-grow class by m k h =
-      ap (λ l. is_among k (flat_map (λ receiver. coded p (selected_by p by m receiver)) l)) (filter-front (λ lower. is_subtype p lower class) loaded more)
-      ∙ flat-front (λ receiver. coded p (selected_by p by m receiver)) (filter (λ lower. is_subtype p lower class) loaded) (filter (λ lower. is_subtype p lower class) more) k h
+      ap (λ l. is_among k (flat_map (λ receiver. method_coded p (selected_by p by m receiver)) l)) (filter-front (λ lower. is_subtype p lower class) loaded more)
+      ∙ flat-front (λ receiver. method_coded p (selected_by p by m receiver)) (filter (λ lower. is_subtype p lower class) loaded) (filter (λ lower. is_subtype p lower class) more) k h
 
   invoked-grows : (class : ℕ) (by : Selecting) (m : MemberPlace) → Among (invoked_by p loaded class by m) (invoked_by p all class by m)
   invoked-grows class Virtual m = selections-grow class Virtual m
   invoked-grows class OfInterface m = selections-grow class OfInterface m
-  invoked-grows class (Special caller interface) m = same (coded p (selected_by p (Special caller interface) m class))
+  invoked-grows class (Special caller interface) m = same (method_coded p (selected_by p (Special caller interface) m class))
 
   mapped-grows : (o : Option MemberPlace) (f g : MemberPlace → List ℕ) → ((m : MemberPlace) → Among (f m) (g m)) → Among (option_map_or f o []) (option_map_or g o [])
   mapped-grows None f g each = none []

@@ -8,10 +8,10 @@ use Rattle.const_pool.specs.declared.descriptor.Kind.{Kind}
 use Rattle.jvm_model.specs.Basis.Data.{Program, Shared, Locals, Operands, Local, Nop, Constant, Load, Store, ManageStack, BinaryOfInts, BinaryOfLongs, DivisionOfInts, DivisionOfLongs, ShiftOfLong, UnaryOfInt, UnaryOfLong, Lcmp, Iinc, Branch, Goto, Switch, Jsr, Ret, Return, Keys, Outcome, GoesOn, Next, Throws, Raises, Breaks, World}
 use Rattle.jvm_model.specs.Instructions.LocalRules.{divides_these, goes_back, goes_if, holds, increments, leaves, pushes, replaces, returns, returns_datum, stores, switches_on, tests, within}
 use Rattle.jvm_model.specs.Classes.Lookup.{is_below}
-use Rattle.jvm_model.specs.Instructions.ObjectRules.{Access, ToNull, ToAnother, Outside, Inside, access_to, loads_at, loads_element, measures, refused, throws, watches}
+use Rattle.jvm_model.specs.Instructions.ObjectRules.{Access, ToNull, ToAnother, Outside, Inside, access_to, loads_at, loads_element, measures, access_refused, throws, watches}
 use Rattle.jvm_model.specs.Basis.SharedState.{class_of, null_pointer, throwable}
 use Rattle.jvm_model.specs.Basis.StackForms.{forms_of}
-use Rattle.jvm_model.specs.Basis.Values.{managed_stack, datum_of, int_of, is_storable, has_slots, local_in, stored}
+use Rattle.jvm_model.specs.Basis.Values.{managed_stack, datum_of, int_of, is_storable, has_slots, local_in, local_stored}
 use Rattle.jvm_model.specs.Soundness.Climbing.{Begins}
 
 -- ---- instructions that see their frame alone
@@ -36,7 +36,7 @@ module _ (p : Program) (loaded_classes ms : List ℕ) where
   stores-sound k slot l [] = tt
   stores-sound k slot l (v ∷ below) = by (is_storable k v && has_slots l slot v)
     where
-      by : (b : Bool) → Sound (if b then GoesOn (stored l slot v) below Next else Breaks false)
+      by : (b : Bool) → Sound (if b then GoesOn (local_stored l slot v) below Next else Breaks false)
       by true = tt
       by false = tt
 
@@ -120,7 +120,7 @@ module _ (p : Program) (loaded_classes ms : List ℕ) where
   measures-sound None s l o = tt
   measures-sound (Some r) s l o = null-sound (r == 0) _ (replaces-sound 1 _ l o)
 
-  pub refused-sound : (access : Access) (i : ℤ) → Sound (refused access i)
+  pub refused-sound : (access : Access) (i : ℤ) → Sound (access_refused access i)
   refused-sound ToNull i = tt
   refused-sound ToAnother i = tt
   refused-sound Outside i = tt

@@ -13,7 +13,7 @@ use Rattle.jvm_model.specs.Classes.Load.{is_among}
 use Rattle.jvm_model.specs.Classes.Lookup.{MemberPlace, is_subtype, resolved_method}
 use Rattle.jvm_model.specs.Classes.Selection.{is_static}
 use Rattle.jvm_model.specs.Profiling.Revelation.{Call, call_gain, call_in, call_on, calls_of, gained_by, gained_by_operation, gained_call, gained_from, gained_in, gained_named, gained_on, named_gain, symbolic_reference_in, symbolic_references_of}
-use Rattle.jvm_model.specs.Profiling.Targets.{coded, found_where, loaded_class_named}
+use Rattle.jvm_model.specs.Profiling.Targets.{method_coded, found_where, loaded_class_named}
 
 among-append : (m : ℕ) (xs ys : List ℕ) → is_among m (xs ++ ys) ≡ (is_among m xs || is_among m ys)
 among-append m [] ys = refl
@@ -35,7 +35,7 @@ module _ (p : Program) (loaded : List ℕ) (new : ℕ) where
   call-kept by r = at (loaded_class_named p loaded r.class)
     where
       mapped : (class : ℕ) (o : Option MemberPlace)
-          → (if is_subtype p new class then option_map_or (λ m. coded p (selected_by p by m new)) o [] else [])
+          → (if is_subtype p new class then option_map_or (λ m. method_coded p (selected_by p by m new)) o [] else [])
           ≡ option_map_or (call_gain p new) (option_map (λ m. record { class = class; by = by; method = m }) o) []
       mapped class (Some m) = refl
       mapped class None = test (is_subtype p new class)

@@ -10,7 +10,7 @@ use Rattle.jvm_model.specs.Soundness.Sound.{HasSupertypes}
 use Rattle.jvm_model.proofs.Revealing.Gained.{gained-targets, targets-gain}
 use Rattle.jvm_model.proofs.Revealing.Growing.{targets-grow}
 use Rattle.jvm_model.proofs.Events.Marked.{among-chosen}
-use Rattle.jvm_model.specs.Profiling.Points.{Standing, chosen, has_class, is_target, mark_in, with_entered}
+use Rattle.jvm_model.specs.Profiling.Points.{Standing, methods_selected, has_class, is_target, mark_in, with_entered}
 use Rattle.jvm_model.specs.Profiling.Revelation.{gained_in}
 use Rattle.jvm_model.specs.Profiling.Targets.{targets_in}
 
@@ -19,9 +19,9 @@ false_true e = cc
 
 module _ (p : Program) (code : ℕ → List Operation) where
   -- an action changes the mark of its own method alone
-  pub act-changes : (s : Standing) (act : Act) (m : ℕ) → (act.method == m) ≡ false → mark_in p code (record s { selected = chosen act s.selected }) m ≡ mark_in p code s m
+  pub act-changes : (s : Standing) (act : Act) (m : ℕ) → (act.method == m) ≡ false → mark_in p code (record s { selected = methods_selected act s.selected }) m ≡ mark_in p code s m
   act-changes s act m other =
-      let same : is_among m (chosen act s.selected) ≡ is_among m s.selected = among-chosen act s.selected m ∙ ap (λ b. if b then act.select else is_among m s.selected) other in
+      let same : is_among m (methods_selected act s.selected) ≡ is_among m s.selected = among-chosen act s.selected m ∙ ap (λ b. if b then act.select else is_among m s.selected) other in
       ap (λ b. if has_class p s.loaded m then (if b then Root else if is_target p code s.loaded s.entered m then Plain else Off) else Off) same
 
   -- a method that is entered changes the marks of its targets alone, and where it was entered before, none

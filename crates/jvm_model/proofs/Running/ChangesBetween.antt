@@ -14,30 +14,30 @@ use Rattle.jvm_model.specs.declared.state.Entry.{Entry}
 use Rattle.jvm_model.specs.declared.state.Entry.TheVariants.{Active, Initializing}
 use Rattle.jvm_model.specs.declared.state.Frame.{Frame}
 use Rattle.jvm_model.specs.declared.state.State.{State}
-use Rattle.jvm_model.specs.Basis.SharedState.{raised, stack_overflow}
+use Rattle.jvm_model.specs.Basis.SharedState.{exception_raised, stack_overflow}
 use Rattle.jvm_model.specs.Running.Applies.{still, with_frame, breaks, goes, place_of, enters_subroutine, throws_at, has_room, begins, begins_beside, live_in, most_live, resumes, gives_back, applies}
 use Rattle.jvm_model.specs.Turns.Told.{Held, mark_now}
-use Rattle.jvm_model.specs.Turns.Pauses.{Pause, changes_due, end_due, passed_by, paused, unless_off}
-use Rattle.jvm_model.specs.Turns.StepPauses.{attempted, pause_behind, turn_pause}
-use Rattle.jvm_model.specs.Running.Between.{changes_between, compared, followed, top_method}
+use Rattle.jvm_model.specs.Turns.Pauses.{Pause, changes_due, end_due, passed_by, step_paused, unless_off}
+use Rattle.jvm_model.specs.Turns.StepPauses.{instruction_attempted, pause_behind, turn_pause}
+use Rattle.jvm_model.specs.Running.Between.{changes_between, depths_compared, attempt_followed, top_method}
 
 -- ---- as many are live
 
 same-live : (n : ℕ) (stack : List Entry) → live_in stack ≡ n → changes_between n stack ≡ []
 same-live n stack e =
-    ap (λ k. compared (nat_lt k n) (nat_lt n k) (top_method stack)) e
-    ∙ (ap (λ b. compared b (nat_lt n n) (top_method stack)) (not-less n) ∙ ap (λ b. compared false b (top_method stack)) (not-less n))
+    ap (λ k. depths_compared (nat_lt k n) (nat_lt n k) (top_method stack)) e
+    ∙ (ap (λ b. depths_compared b (nat_lt n n) (top_method stack)) (not-less n) ∙ ap (λ b. depths_compared false b (top_method stack)) (not-less n))
   where
     not-less : (n : ℕ) → nat_lt n n ≡ false
     not-less n = le-ltb n n (omega arith)
 
 fewer-live : (n : ℕ) (stack : List Entry) → suc (live_in stack) ≡ n → changes_between n stack ≡ Left ∷ []
-fewer-live n stack e = ap (λ b. compared b (nat_lt n (live_in stack)) (top_method stack)) (lt-ltb (live_in stack) n (omega arith))
+fewer-live n stack e = ap (λ b. depths_compared b (nat_lt n (live_in stack)) (top_method stack)) (lt-ltb (live_in stack) n (omega arith))
 
 more-live : (n : ℕ) (stack : List Entry) → live_in stack ≡ suc n → changes_between n stack ≡ Began (top_method stack) ∷ []
 more-live n stack e =
-    ap (λ b. compared b (nat_lt n (live_in stack)) (top_method stack)) (le-ltb (live_in stack) n (omega arith))
-    ∙ ap (λ b. compared false b (top_method stack)) (lt-ltb n (live_in stack) (omega arith))
+    ap (λ b. depths_compared b (nat_lt n (live_in stack)) (top_method stack)) (le-ltb (live_in stack) n (omega arith))
+    ∙ ap (λ b. depths_compared false b (top_method stack)) (lt-ltb n (live_in stack) (omega arith))
 
 -- ---- a frame that goes on, or stays
 
@@ -74,9 +74,9 @@ pub applies-tell : (w : World) (t : Listing) (i : Instruction) (q : Outcome) (s 
 applies-tell w t i (GoesOn l o to) s f = stays (suc (live_in s.stack)) (goes s f i.own l o (place_of i to)) (goes-live s f i.own l o (place_of i to))
 applies-tell w t i Subroutine s f = stays (suc (live_in s.stack)) (enters_subroutine s f i i.next) (enters-live s f i i.next)
 applies-tell w t i (Invokes m args below) s f = by (has_room w m args) where
-  beside : (b : Bool) → Tells (suc (live_in s.stack)) (if b then begins w t s f m args below else still (throws_at s f (raised w s.shared stack_overflow None)))
+  beside : (b : Bool) → Tells (suc (live_in s.stack)) (if b then begins w t s f m args below else still (throws_at s f (exception_raised w s.shared stack_overflow None)))
   beside true = sym (more-live (suc (live_in s.stack)) (begins w t s f m args below).after.stack refl)
-  beside false = stays (suc (live_in s.stack)) (throws_at s f (raised w s.shared stack_overflow None)) refl
+  beside false = stays (suc (live_in s.stack)) (throws_at s f (exception_raised w s.shared stack_overflow None)) refl
 
   by : (b : Bool) → Tells (suc (live_in s.stack)) (if b then begins_beside w t s f m args below (suc (live_in s.stack)) else still (breaks s f i.own))
   by true = beside (nat_lt (suc (live_in s.stack)) most_live)
@@ -84,7 +84,7 @@ applies-tell w t i (Invokes m args below) s f = by (has_room w m args) where
 applies-tell w t i (Returns d) s f =
     sym (fewer-live (suc (live_in s.stack)) (gives_back t s d s.stack).stack (ap suc (back-live t s d s.stack refl)))
 applies-tell w t i (Throws r) s f = stays (suc (live_in s.stack)) (throws_at s f (record { shared = s.shared; reference = r })) refl
-applies-tell w t i (Raises c message) s f = stays (suc (live_in s.stack)) (throws_at s f (raised w s.shared c message)) refl
+applies-tell w t i (Raises c message) s f = stays (suc (live_in s.stack)) (throws_at s f (exception_raised w s.shared c message)) refl
 applies-tell w t i (Initializes c) s f = stays (suc (live_in s.stack)) (applies w t i (Initializes c) s f).after refl
 applies-tell w t i (Exits n) s f = stays (suc (live_in s.stack)) (applies w t i (Exits n) s f).after refl
 applies-tell w t i (Breaks true) s f = sym (fewer-live (suc (live_in s.stack)) s.stack refl)
@@ -109,12 +109,12 @@ module _ (w : World) (t : Listing) (v : ℕ → Mark) (n : ℕ) where
   whoever live (Left ∷ more) b l = behind-end kind.Leave live b l
   whoever live (Unwound ∷ more) b l = behind-end kind.Unwind live b l
 
-  pub followed-is : (live : List Held) (a : Turn) → turn_pause w t v n live a ≡ followed w t v n a.changes a.after
-  followed-is live a = whoever live a.changes (record { state = a.after; passed = passed_by n a.changes; due = Begins }) (paused w t v (passed_by n a.changes) a.after)
+  pub followed-is : (live : List Held) (a : Turn) → turn_pause w t v n live a ≡ attempt_followed w t v n a.changes a.after
+  followed-is live a = whoever live a.changes (record { state = a.after; passed = passed_by n a.changes; due = Begins }) (step_paused w t v (passed_by n a.changes) a.after)
 
   -- behind an instruction
   pub attempted-pause : (live : List Held) (i : Instruction) (s : State) (f : Frame)
-      → turn_pause w t v n live (attempted w t i s f) ≡ followed w t v n (changes_between (suc (live_in s.stack)) (attempted w t i s f).after.stack) (attempted w t i s f).after
+      → turn_pause w t v n live (instruction_attempted w t i s f) ≡ attempt_followed w t v n (changes_between (suc (live_in s.stack)) (instruction_attempted w t i s f).after.stack) (instruction_attempted w t i s f).after
   attempted-pause live i s f =
-      followed-is live (attempted w t i s f)
-      ∙ ap (λ changes. followed w t v n changes (attempted w t i s f).after) (applies-tell w t i _ _ f)
+      followed-is live (instruction_attempted w t i s f)
+      ∙ ap (λ changes. attempt_followed w t v n changes (instruction_attempted w t i s f).after) (applies-tell w t i _ _ f)

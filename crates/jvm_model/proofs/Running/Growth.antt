@@ -14,7 +14,7 @@ use Rattle.jvm_model.specs.Basis.Programs.{super_of, initializer_of}
 use Rattle.jvm_model.specs.Basis.SharedState.{phase_of, class_of}
 use Rattle.jvm_model.specs.Instructions.Does.{does, loads}
 use Rattle.jvm_model.specs.Running.Applies.{still, goes, place_of, enters_subroutine, has_room, live_in, most_live, begins_beside, resumes, gives_back, applies}
-use Rattle.jvm_model.specs.Running.Moves.{handler_for, own_at, caught, after_super, with_super, runs_initializer, argument_array, main_or_end, moves, move, settled}
+use Rattle.jvm_model.specs.Running.Moves.{handler_for, own_at, throw_caught, after_super, with_super, runs_initializer, argument_array, main_or_end, moves, move, turn_settled}
 use Rattle.jvm_model.specs.Running.Run.{attempt, starts, with_loaded, steps_by, steps_at, steps_on, step, turn_in, turn_in-suc}
 use Rattle.jvm_model.specs.Running.Growth.{Extends}
 use Rattle.jvm_model.proofs.Running.Settles.{settled-keeps}
@@ -80,7 +80,7 @@ applies-keeps w t i (Breaks false) s f = refl
 
 -- ---- moves leave the output
 
-caught-keeps : (w : World) (t : Listing) (s : State) (r : ℕ) (f : Frame) (h : Option ℕ) → (caught w t s r f h).after.output ≡ s.output
+caught-keeps : (w : World) (t : Listing) (s : State) (r : ℕ) (f : Frame) (h : Option ℕ) → (throw_caught w t s r f h).after.output ≡ s.output
 caught-keeps w t s r f None = refl
 caught-keeps w t s r f (Some target) = goes-keeps (record s { thrown = None }) f (own_at t f) f.locals (Ref r ∷ []) (Some target)
 
@@ -113,7 +113,7 @@ moves-keep w t s None None (Initializing c Superclass ∷ below) = with_super-ke
 moves-keep w t s None None (Initializing c Initializer ∷ below) = runs-keeps w t (record s { stack = below }) c (initializer_of w.program c)
 moves-keep w t s None None (Initializing c Finish ∷ below) = refl
 
-pub settled-output : (w : World) (t : Listing) (kept : List ℕ) (a : Turn) → a.after.output ≡ kept → (settled w t a).after.output ≡ kept
+pub settled-output : (w : World) (t : Listing) (kept : List ℕ) (a : Turn) → a.after.output ≡ kept → (turn_settled w t a).after.output ≡ kept
 settled-output w t kept a e = settled-keeps w t (λ b. b.after.output ≡ kept)
     (λ b p. IfSome_then (move w t b.after) {P = λ next. next.after.output ≡ b.after.output} {Q = λ next. next.after.output ≡ kept}
     (moves-keep w t b.after b.after.ending b.after.thrown b.after.stack) (λ next q. q ∙ p)) a e

@@ -2,18 +2,18 @@
 use Rattle.std.proofs.Common.{◌≡◌, ◌<◌, Some, None, sym, subst}
 use Rattle.std.specs.Option.{IfSome}
 use Rattle.jvm_model.specs.Basis.Data.{Turn, Listing, World}
-use Rattle.jvm_model.specs.Running.Moves.{move, left, then_turn, settled}
+use Rattle.jvm_model.specs.Running.Moves.{move, moves_left, then_turn, turn_settled}
 use Rattle.jvm_model.specs.Running.Normal.{here, by_move}
 use Rattle.jvm_model.proofs.Running.Settles.{move-less}
 use Rattle.jvm_model.proofs.Running.NormalForms.{settled-normal, one-normal-form}
 
-pub moved-less : (w : World) (t : Listing) (a next : Turn) → move w t a.after ≡ Some next → left (then_turn a next).after < left a.after
-moved-less w t a next e = subst (λ found. IfSome found (λ (x : Turn). left x.after < left a.after)) e (move-less w t a.after)
+pub moved-less : (w : World) (t : Listing) (a next : Turn) → move w t a.after ≡ Some next → moves_left (then_turn a next).after < moves_left a.after
+moved-less w t a next e = subst (λ found. IfSome found (λ (x : Turn). moves_left x.after < moves_left a.after)) e (move-less w t a.after)
 
-pub moved-same : (w : World) (t : Listing) (a next : Turn) → move w t a.after ≡ Some next → settled w t (then_turn a next) ≡ settled w t a
+pub moved-same : (w : World) (t : Listing) (a next : Turn) → move w t a.after ≡ Some next → turn_settled w t (then_turn a next) ≡ turn_settled w t a
 moved-same w t a next e =
     let rest = settled-normal w t (then_turn a next) in
-    one-normal-form w t a (settled w t (then_turn a next)) (record { reached = by_move a next e rest.reached; stops = rest.stops })
+    one-normal-form w t a (turn_settled w t (then_turn a next)) (record { reached = by_move a next e rest.reached; stops = rest.stops })
 
-pub moved-end : (w : World) (t : Listing) (a : Turn) → move w t a.after ≡ None → settled w t a ≡ a
+pub moved-end : (w : World) (t : Listing) (a : Turn) → move w t a.after ≡ None → turn_settled w t a ≡ a
 moved-end w t a e = sym (one-normal-form w t a a (record { reached = here; stops = e }))

@@ -20,12 +20,12 @@ use Rattle.jvm_model.specs.Basis.Data.{Keys, Fresh, Running, Ready, Erroneous, L
 use Rattle.jvm_model.specs.Classes.Load.{Fault}
 use Rattle.jvm_model.specs.Classes.Lookup.{MemberPlace, Resolution, Found, Fails}
 use Rattle.jvm_model.specs.Instructions.LocalRules.{pushes, replaces, leaves, stores, increments, divides_these, goes_if, switches_on, goes_back, within}
-use Rattle.jvm_model.specs.Instructions.ObjectRules.{done, measures, makes, Access, ToNull, ToAnother, Outside, Inside, access_to, refused, loads_at, loads_element, Storing, stores_at, stores_element, watches, throws}
-use Rattle.jvm_model.specs.Instructions.SymbolicReference.{◌>>=◌, unless_refused, kind_unless, found, where_fitting, receiver}
+use Rattle.jvm_model.specs.Instructions.ObjectRules.{done, measures, makes, Access, ToNull, ToAnother, Outside, Inside, access_to, access_refused, loads_at, loads_element, Storing, stores_at, stores_element, watches, throws}
+use Rattle.jvm_model.specs.Instructions.SymbolicReference.{◌>>=◌, unless_refused, kind_unless, member_found, where_fitting, receiver}
 use Rattle.std.specs.Prelude.{nat_le, nat_lt, ◌==◌, ◌&&◌, ◌+◌}
 use Rattle.heap_objects.specs.Heaps.{next_number, with_array, with_slot_at}
 use Rattle.jvm_model.specs.Basis.Data.{Next}
-use Rattle.jvm_model.specs.Basis.Values.{has_slots, is_storable, stored}
+use Rattle.jvm_model.specs.Basis.Values.{has_slots, is_storable, local_stored}
 use Rattle.jvm_model.specs.Classes.Lookup.{is_below}
 use Rattle.jvm_model.specs.Basis.SharedState.{array_store, class_of, null_pointer, throwable}
 use Rattle.jvm_model.specs.Instructions.ObjectRules.{array_length, fits_array}
@@ -47,7 +47,7 @@ use Rattle.jvm_model.specs.Instructions.ReferenceRules.{does_named}
 use Rattle.jvm_model.specs.Instructions.NativeRules.{kinds_in, outcome_of, runs_native, runs_number, seen_by_natives}
 use Rattle.jvm_model.specs.Instructions.ObjectRules.{array_kind, place_of, storing_of}
 use Rattle.jvm_model.specs.Basis.Programs.{number_of_method}
-use Rattle.jvm_model.specs.Instructions.Rules.{initialized, when_ready}
+use Rattle.jvm_model.specs.Instructions.Rules.{class_initialized, when_ready}
 use Rattle.jvm_model.specs.Classes.Selection.{is_abstract, is_static}
 use Rattle.jvm_model.specs.Basis.SharedState.{class_of_kind, phase_of, static_at, string, kind_for}
 use Rattle.jvm_model.specs.Basis.Values.{as_value, int_of, ref_of}
@@ -112,7 +112,7 @@ leaves-only (Some o) l = on refl
 
 stores-only : (k : Kind) (slot : ℕ) (l : Locals) (o : Operands) → GoesOnly (stores k slot l o)
 stores-only k slot l [] = on refl
-stores-only k slot l (v ∷ below) = chosen (is_storable k v && has_slots l slot v) (GoesOn (stored l slot v) below Next) (Breaks false) (on refl) (on refl)
+stores-only k slot l (v ∷ below) = chosen (is_storable k v && has_slots l slot v) (GoesOn (local_stored l slot v) below Next) (Breaks false) (on refl) (on refl)
 
 increments-only : (slot : ℕ) (d : ℤ) (v : Option Value) (l : Locals) (o : Operands) → GoesOnly (increments slot d v l o)
 increments-only slot d (Some (Int n)) l o = on refl
@@ -173,7 +173,7 @@ makes-only kind (Some (pos count)) s l o =
     (record { shared = record s { heap = with_array kind (datum.Int (pos 0)) count s.heap }; wrote = []; outcome = GoesOn l (Ref (next_number s.heap) ∷ drop 1 o) Next })
     (done s (Throws 1)) (only-on refl) (only-on refl)
 
-refused-only : (a : Access) (i : ℤ) → GoesOnly (refused a i)
+refused-only : (a : Access) (i : ℤ) → GoesOnly (access_refused a i)
 refused-only ToNull i = on refl
 refused-only ToAnother i = on refl
 refused-only Outside i = on refl
@@ -218,7 +218,7 @@ kind-fine (Some fault) kind = on refl
 kind-fine None (Some kind) = tt
 kind-fine None None = on refl
 
-found-fine : (r : Resolution) → Fine (found r)
+found-fine : (r : Resolution) → Fine (member_found r)
 found-fine (Found m) = tt
 found-fine (Fails error) = on refl
 
@@ -239,14 +239,14 @@ ready-only p None class s d g = only-on refl
 module _ (p : Program) (s : Shared) (l : Locals) (o : Operands) where
   field-fine : (static : Bool) (r : Reference) → Fine (named_field p s.loaded static r)
   field-fine static r =
-      then-fine (resolved_kind p s.loaded r.class) (λ kind. found (resolved_field p (class_of_kind p kind) r.member) >>= λ m. where_fitting (beq (is_static_field p m) static) m) (kind-fine _ _)
-      (λ kind. then-fine (found (resolved_field p (class_of_kind p kind) r.member)) (λ m. where_fitting (beq (is_static_field p m) static) m)
+      then-fine (resolved_kind p s.loaded r.class) (λ kind. member_found (resolved_field p (class_of_kind p kind) r.member) >>= λ m. where_fitting (beq (is_static_field p m) static) m) (kind-fine _ _)
+      (λ kind. then-fine (member_found (resolved_field p (class_of_kind p kind) r.member)) (λ m. where_fitting (beq (is_static_field p m) static) m)
       (found-fine (resolved_field p (class_of_kind p kind) r.member)) (λ m. fitting-fine (beq (is_static_field p m) static) m))
 
   method-fine : (interface static : Bool) (r : Reference) → Fine (named_method p s.loaded interface static r)
   method-fine interface static r =
-      then-fine (resolved_kind p s.loaded r.class) (λ kind. found (resolved_method p (class_of_kind p kind) interface r.member) >>= λ m. where_fitting (beq (is_static p m) static) m) (kind-fine _ _)
-      (λ kind. then-fine (found (resolved_method p (class_of_kind p kind) interface r.member)) (λ m. where_fitting (beq (is_static p m) static) m)
+      then-fine (resolved_kind p s.loaded r.class) (λ kind. member_found (resolved_method p (class_of_kind p kind) interface r.member) >>= λ m. where_fitting (beq (is_static p m) static) m) (kind-fine _ _)
+      (λ kind. then-fine (member_found (resolved_method p (class_of_kind p kind) interface r.member)) (λ m. where_fitting (beq (is_static p m) static) m)
       (found-fine (resolved_method p (class_of_kind p kind) interface r.member)) (λ m. fitting-fine (beq (is_static p m) static) m))
 
   sets-only : (m : MemberPlace) (d : Option Datum) → Only (sets_static m d s l o)
@@ -354,7 +354,7 @@ module _ (w : World) (s : Shared) (l : Locals) (o : Operands) where
 
   named-only : (n : SymbolicReference) → Only (does_named w n s l o)
   named-only (New name) =
-      unless-only s (resolved_kind p s.loaded name) (λ kind. initialized p (class_of_kind p kind) s (makes_instance p kind (class_of_kind p kind) s l o)) (kind-fine _ _)
+      unless-only s (resolved_kind p s.loaded name) (λ kind. class_initialized p (class_of_kind p kind) s (makes_instance p kind (class_of_kind p kind) s l o)) (kind-fine _ _)
       (λ kind. ready-only p _ (class_of_kind p kind) s _ (instance-only p s l o kind (class_of_kind p kind)))
   named-only (Getfield r) = unless-only s (named_field p s.loaded false r) (λ m. gets_of p r m (ref_of o) s l o) (field-fine p s l o false r) (λ m. gets-only p s l o r m (ref_of o))
   named-only (Putfield r) = unless-only s (named_field p s.loaded false r) (λ m. puts_into p r m (putting_of (kind_by r) o) s l o) (field-fine p s l o false r) (λ m. puts-only p s l o r m (putting_of (kind_by r) o))
@@ -362,12 +362,12 @@ module _ (w : World) (s : Shared) (l : Locals) (o : Operands) where
       unless-only s (named_field p s.loaded true r) (λ m. pushes_static p m s l o) (field-fine p s l o true r)
       (λ m. ready-only p (phase_of s m.class) m.class s (done s (pushes (option_map as_value (static_at s (static_field m))) l o)) (only-of (pushes-only (option_map as_value (static_at s (static_field m))) l o)))
   named-only (Putstatic r) =
-      unless-only s (named_field p s.loaded true r) (λ m. initialized p m.class s (sets_static m (held_of (kind_by r) o) s l o)) (field-fine p s l o true r)
+      unless-only s (named_field p s.loaded true r) (λ m. class_initialized p m.class s (sets_static m (held_of (kind_by r) o) s l o)) (field-fine p s l o true r)
       (λ m. ready-only p _ m.class s _ (sets-only p s l o m (held_of (kind_by r) o)))
   named-only (Invokevirtual r) = instance_call-only Virtual r
   named-only (Invokespecial caller r interface) = instance_call-only (Special caller interface) r
   named-only (Invokestatic r) =
-      unless-only s (named_method p s.loaded false true r) (λ m. initialized p m.class s (invokes_with_static w m (arguments_by false r.member o) s l o)) (method-fine p s l o false true r)
+      unless-only s (named_method p s.loaded false true r) (λ m. class_initialized p m.class s (invokes_with_static w m (arguments_by false r.member o) s l o)) (method-fine p s l o false true r)
       (λ m. ready-only p _ m.class s _ (static-only m (arguments_by false r.member o)))
   named-only (Invokeinterface r) = instance_call-only OfInterface r
   named-only (Checkcast name) =

@@ -12,7 +12,7 @@ use Rattle.const_pool.specs.declared.descriptor.Shape.{Shape}
 use Rattle.const_pool.specs.Descriptors.{IsName, IsBase, IsField, AreFields, IsResult, IsMethod, dimensions_text, held_kind, slots, slot_count}
 use Rattle.const_pool.specs.Stages.{letter_kind}
 use Rattle.const_pool.proofs.FieldTexts.{chosen, not_failed, mapped}
-use Rattle.jvm_model.specs.Basis.Descriptors.{same_text, Typed, typed, array_of, name_rest, class_rest, base_front, type_front, first_type, Params, with_param, closed, params_by, params_front, only_type, result_by, result_of, shape_with, with_result, with_room, shape_of}
+use Rattle.jvm_model.specs.Basis.Descriptors.{same_text, Typed, type_parsed, array_of, name_rest, class_rest, base_front, type_front, first_type, Params, with_param, parameters_closed, params_by, params_front, only_type, result_by, result_of, shape_with, with_result, with_room, shape_of}
 
 same_of : {A : Type 0} (x y : A) → ◌≡◌ {A = Option A} (Some x) (Some y) → x ≡ y
 same_of x y e = cc
@@ -35,7 +35,7 @@ no_array : (most unit : ℕ) (rest : List ℕ) → eqb unit 91 ≡ false → typ
 no_array zero unit rest apart = refl
 no_array (suc n) unit rest apart = rw apart refl
 
-base_read : (most : ℕ) (text rest : List ℕ) (kind : Kind) → IsBase text kind → type_front most (text ++ rest) ≡ Some (typed kind rest)
+base_read : (most : ℕ) (text rest : List ℕ) (kind : Kind) → IsBase text kind → type_front most (text ++ rest) ≡ Some (type_parsed kind rest)
 base_read most text rest Byte h = rw h (no_array most 66 rest refl)
 base_read most text rest Char h = rw h (no_array most 67 rest refl)
 base_read most text rest Double h = rw h (no_array most 68 rest refl)
@@ -48,19 +48,19 @@ base_read most text rest Ref h =
     let behind : (h.0 ++ codes ";") ++ rest ≡ h.0 ++ 59 ∷ rest = append_assoc h.0 (codes ";") rest in
     ap (λ t. type_front most (t ++ rest)) h.2
     ∙ (no_array most 76 ((h.0 ++ codes ";") ++ rest) refl
-    ∙ ap (option_map (typed Ref)) (ap class_rest behind ∙ class_read h.0 rest h.1))
+    ∙ ap (option_map (type_parsed Ref)) (ap class_rest behind ∙ class_read h.0 rest h.1))
 
 type_read : (n most : ℕ) (element rest : List ℕ) (kind : Kind) → IsBase element kind → n ≤ most
-    → type_front most ((dimensions_text n ++ element) ++ rest) ≡ Some (typed (held_kind n kind) rest)
+    → type_front most ((dimensions_text n ++ element) ++ rest) ≡ Some (type_parsed (held_kind n kind) rest)
 type_read zero most element rest kind h le = base_read most element rest kind h
 type_read (suc n) zero element rest kind h le = absurd (omega arith)
 type_read (suc n) (suc most) element rest kind h le = ap (option_map array_of) (type_read n most element rest kind h (omega arith))
 
-field_read : (text rest : List ℕ) (kind : Kind) → IsField text kind → first_type (text ++ rest) ≡ Some (typed kind rest)
+field_read : (text rest : List ℕ) (kind : Kind) → IsField text kind → first_type (text ++ rest) ≡ Some (type_parsed kind rest)
 field_read text rest kind h =
     ap (λ t. first_type (t ++ rest)) h.spelled
     ∙ (type_read h.dimensions 255 h.element rest h.element_kind h.base h.most
-    ∙ ap (λ k. Some (typed k rest)) (sym h.held))
+    ∙ ap (λ k. Some (type_parsed k rest)) (sym h.held))
 
 params_read : (n : ℕ) (text rest : List ℕ) (kinds : List Kind) → AreFields text kinds → length kinds ≤ n
     → params_front n (text ++ 41 ∷ rest) ≡ Some (record { kinds = kinds; rest = rest })
@@ -68,7 +68,7 @@ params_read zero text rest [] h le = rw h refl
 params_read (suc n) text rest [] h le = rw h refl
 params_read zero text rest (k ∷ ks) h le = absurd (omega arith)
 params_read (suc n) text rest (k ∷ ks) h le =
-    let one : first_type (text ++ 41 ∷ rest) ≡ Some (typed k (h.1 ++ 41 ∷ rest)) =
+    let one : first_type (text ++ 41 ∷ rest) ≡ Some (type_parsed k (h.1 ++ 41 ∷ rest)) =
     ap (λ t. first_type (t ++ 41 ∷ rest)) h.4 ∙ (ap first_type (append_assoc h.0 h.1 (41 ∷ rest)) ∙ field_read h.0 (h.1 ++ 41 ∷ rest) k h.2) in
     ap (params_by (params_front n) (text ++ 41 ∷ rest)) one ∙ ap (option_map (with_param k)) (params_read n h.1 rest ks h.3 (omega arith))
 
@@ -170,9 +170,9 @@ base_sound : (most unit : ℕ) (rest : List ℕ) (t : Typed) → base_front unit
 base_sound most unit rest t e =
     chosen _ _ _ _ e
     (λ same is.
-    let m = mapped (typed Ref) (class_rest rest) t is in
+    let m = mapped (type_parsed Ref) (class_rest rest) t is in
     let c = class_sound rest m.0 m.1 in
-    let found : IsTyped most (unit ∷ rest) (typed Ref m.0) = record {
+    let found : IsTyped most (unit ∷ rest) (type_parsed Ref m.0) = record {
       dimensions = 0;
       fits = omega arith;
       element = codes "L" ++ (c.0 ++ codes ";");
@@ -183,8 +183,8 @@ base_sound most unit rest t e =
     } in
     subst (IsTyped most (unit ∷ rest)) m.2 found)
     (λ apart is.
-    let m = mapped (λ (kind : Kind). typed kind rest) (letter_kind unit) t is in
-    let found : IsTyped most (unit ∷ rest) (typed m.0 rest) = record {
+    let m = mapped (λ (kind : Kind). type_parsed kind rest) (letter_kind unit) t is in
+    let found : IsTyped most (unit ∷ rest) (type_parsed m.0 rest) = record {
       dimensions = 0;
       fits = omega arith;
       element = unit ∷ [];
@@ -239,7 +239,7 @@ record AreBefore (text : List ℕ) (p : Params) : Type 0 where
   fields : AreFields params p.kinds
   spelled : text ≡ params ++ 41 ∷ p.rest
 
-closed_sound : (text : List ℕ) (p : Params) → closed text ≡ Some p → AreBefore text p
+closed_sound : (text : List ℕ) (p : Params) → parameters_closed text ≡ Some p → AreBefore text p
 closed_sound [] p e = absurd cc
 closed_sound (unit ∷ rest) p e =
     let none : Params = record { kinds = []; rest = rest } in

@@ -12,11 +12,11 @@ use Rattle.jvm_model.specs.Running.Constants.{can_intern}
 use Rattle.jvm_model.specs.Instructions.Does.{does, loads}
 use Rattle.jvm_model.specs.Instructions.LocalRules.{divides_these, goes_back, goes_if, holds, increments, leaves, pushes, replaces, returns, returns_datum, stores, switches_on, tests, within}
 use Rattle.jvm_model.specs.Classes.Lookup.{is_below}
-use Rattle.jvm_model.specs.Instructions.ObjectRules.{Access, ToNull, ToAnother, Outside, Inside, Storing, access_to, array_kind, done, fits_array, loads_at, loads_element, measures, place_of, refused, stores_at, stores_element, storing_of, throws, watches}
+use Rattle.jvm_model.specs.Instructions.ObjectRules.{Access, ToNull, ToAnother, Outside, Inside, Storing, access_to, array_kind, done, fits_array, loads_at, loads_element, measures, place_of, access_refused, stores_at, stores_element, storing_of, throws, watches}
 use Rattle.jvm_model.specs.Basis.SharedState.{array_store, class_of, kind_for, null_pointer, string, throwable}
 use Rattle.jvm_model.specs.Soundness.Sound.{CanAttempt, IsFit, IsSoundDone, IsSoundOutcome, IsSoundShared}
 use Rattle.jvm_model.specs.Basis.StackForms.{forms_of}
-use Rattle.jvm_model.specs.Basis.Values.{managed_stack, datum_of, int_of, is_storable, has_slots, local_in, ref_of, stored}
+use Rattle.jvm_model.specs.Basis.Values.{managed_stack, datum_of, int_of, is_storable, has_slots, local_in, ref_of, local_stored}
 use Rattle.jvm_model.proofs.Soundness.SoundKinds.{has-root, kind-usable, of-primitive}
 use Rattle.jvm_model.proofs.Soundness.SoundObjects.{objects-interned, objects-slot, with-heap}
 use Rattle.jvm_model.proofs.Soundness.SoundRules.{array-fine, sound-named}
@@ -43,7 +43,7 @@ module _ (p : Program) (loaded_classes : List ℕ) where
   stores-sound k slot l [] = tt
   stores-sound k slot l (v ∷ below) = by (is_storable k v && has_slots l slot v)
     where
-      by : (b : Bool) → Sound (if b then GoesOn (stored l slot v) below Next else Breaks false)
+      by : (b : Bool) → Sound (if b then GoesOn (local_stored l slot v) below Next else Breaks false)
       by true = tt
       by false = tt
 
@@ -127,7 +127,7 @@ module _ (p : Program) (loaded_classes : List ℕ) where
   measures-sound None s l o = tt
   measures-sound (Some r) s l o = null-sound (r == 0) _ (replaces-sound 1 _ l o)
 
-  refused-sound : (access : Access) (i : ℤ) → Sound (refused access i)
+  refused-sound : (access : Access) (i : ℤ) → Sound (access_refused access i)
   refused-sound ToNull i = refl
   refused-sound ToAnother i = tt
   refused-sound Outside i = refl
@@ -150,9 +150,9 @@ module _ (w : World) (fit : IsFit w.program) (s : Shared) (is : IsSoundShared w.
   quiet outcome sound = record { loaded_same = refl; shared = is; outcome = sound }
 
   stores-fine : (access : Access) (r : ℕ) (i : ℤ) (d : Datum) (l : Locals) (o : Operands) → IsSoundDone w.program s.loaded (stores_at w.program access r i d s l o)
-  stores-fine ToNull r i d l o = quiet (refused ToNull i) (refused-sound w.program s.loaded ToNull i)
-  stores-fine ToAnother r i d l o = quiet (refused ToAnother i) (refused-sound w.program s.loaded ToAnother i)
-  stores-fine Outside r i d l o = quiet (refused Outside i) (refused-sound w.program s.loaded Outside i)
+  stores-fine ToNull r i d l o = quiet (access_refused ToNull i) (refused-sound w.program s.loaded ToNull i)
+  stores-fine ToAnother r i d l o = quiet (access_refused ToAnother i) (refused-sound w.program s.loaded ToAnother i)
+  stores-fine Outside r i d l o = quiet (access_refused Outside i) (refused-sound w.program s.loaded Outside i)
   stores-fine (Inside slot) r i d l o = by (fits_array w.program d r s.heap)
     where
       by : (b : Bool) → IsSoundDone w.program s.loaded (let d1 : Done = if b

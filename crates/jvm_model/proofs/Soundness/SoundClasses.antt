@@ -7,7 +7,7 @@ use Rattle.std.specs.Option.{option_and_then, option_map_or, option_to_list}
 use Rattle.const_pool.specs.declared.class.ClassFile.{ClassFile}
 use Rattle.const_pool.specs.References.{named_class}
 use Rattle.jvm_model.specs.Classes.Kinds.{Element, Primitive, Named, array_from, array_of, is_array_name, meaning_of}
-use Rattle.jvm_model.specs.Classes.Load.{Fault, NoClass, Circular, Incompatible, Loading, Need, There, Begun, Fresh, behind_needs, by_standing, class_needs, done, is_among, is_met, load_element, load_named, load_needs, load_of, need, need_fault, needs_of, standing_of, unless}
+use Rattle.jvm_model.specs.Classes.Load.{Fault, NoClass, Circular, Incompatible, Loading, Need, There, Begun, Fresh, behind_needs, by_standing, class_needs, loading_done, is_among, is_met, load_element, load_named, load_needs, load_of, need, need_fault, needs_of, standing_of, unless}
 use Rattle.jvm_model.specs.Classes.Lookup.{interface_names, interfaces_of, is_interface, superclass_of, superclasses, superclasses_within, superinterfaces, superinterfaces_within, supertypes, supertypes_within}
 use Rattle.jvm_model.specs.Basis.Programs.{class_at, class_named}
 use Rattle.jvm_model.specs.Soundness.Sound.{HasSupertypes, IsLoaded}
@@ -125,7 +125,7 @@ module _ (p : Program) (P : List ℕ → Type 0)
 
   -- the class itself, behind what it needs
   behind-load : (own loaded : List ℕ) (class : ℕ) (l : Loading) → class_named p own ≡ Some class → AreLoads p P (needs_of p class) loaded l
-      → (o : Option Fault) → l.fault ≡ o → IsLoad p P (Named own) loaded (unless o l.loaded (λ all. done (all ++ class ∷ [])))
+      → (o : Option Fault) → l.fault ≡ o → IsLoad p P (Named own) loaded (unless o l.loaded (λ all. loading_done (all ++ class ∷ [])))
   behind-load own loaded class l found needs None is = record {
     kept = λ h. one_more l.loaded class (needs.there is) (needs.kept h);
     grown = λ c h. among-front c l.loaded (class ∷ []) (needs.grown c h);

@@ -9,12 +9,12 @@ use Rattle.jvm_model.specs.Basis.Data.{Listing, Operands, Frame, Entry, Active, 
 use Rattle.jvm_model.specs.Instructions.Does.{does, loads}
 use Rattle.jvm_model.specs.Classes.Kinds.{meaning_of}
 use Rattle.jvm_model.specs.Classes.Load.{Fault, NoClass, Circular, Incompatible, error_of}
-use Rattle.jvm_model.specs.Running.Moves.{move, moves, settled, then_turn}
+use Rattle.jvm_model.specs.Running.Moves.{move, moves, turn_settled, then_turn}
 use Rattle.jvm_model.specs.Instructions.SymbolicReference.{New, message_of}
 use Rattle.jvm_model.specs.Codes.Originals.{original}
 use Rattle.jvm_model.specs.Basis.Programs.{name_at}
-use Rattle.jvm_model.specs.Running.Run.{arguments_made, attempt, before, main_class, main_classes, main_loading, main_loads, opened, start, starts, starts_if, starts_unless, starts_with, step, steps_at, steps_by, steps_on, tries, with_loaded}
-use Rattle.jvm_model.specs.Basis.SharedState.{arguments_fit, class_of, null, raised, shared_before, with_arguments}
+use Rattle.jvm_model.specs.Running.Run.{arguments_made, attempt, before, main_class, main_classes, main_loading, main_loads, run_opened, start, starts, starts_if, starts_unless, starts_with, step, steps_at, steps_by, steps_on, tries, with_loaded}
+use Rattle.jvm_model.specs.Basis.SharedState.{arguments_fit, class_of, null, exception_raised, shared_before, with_arguments}
 use Rattle.jvm_model.specs.Soundness.Sound.{CanAttempt, HasClass, HasSupertypes, IsBuiltInName, IsFit, IsLoaded, IsSoundOutcome, IsSoundShared}
 use Rattle.jvm_model.specs.Soundness.SoundListings.{IsSound, IsSoundEntry, IsSoundListing, RunsOriginal}
 use Rattle.jvm_model.proofs.Running.Attempts.{again-by, loaded-after, with_loaded-shared}
@@ -158,7 +158,7 @@ module _ (Runs : ℕ → ℕ → Type 0) where
     given = arguments_made w (before w)
 
     abbrev loaded_state : State
-    loaded_state = opened w
+    loaded_state = run_opened w
 
     main-loaded : loaded_state.shared.loaded ≡ (main_loading w).loaded
     main-loaded = with-loaded-is (main_classes w) given ∙ newly-loaded w.program (before w).shared.loaded (New (unwrap_or (name_at w.program (main_class w.program)) [])) [] refl
@@ -195,7 +195,7 @@ module _ (Runs : ℕ → ℕ → Type 0) where
       main = λ on. main-there none;
     })
     begins (Some fault) is = inr (record {
-      object = (raised w loaded_state.shared (error_of fault) (message_of fault)).reference;
+      object = (exception_raised w loaded_state.shared (error_of fault) (message_of fault)).reference;
       shared = (exception-sound w fit loaded_state.shared loaded-sound (error_of fault) (message_of fault) null (fault-named fault)).shared;
       stack = ap (λ (s : State). s.stack) (with_loaded-shared (main_classes w) given);
       ending = ap (λ (s : State). s.ending) (with_loaded-shared (main_classes w) given);
@@ -245,8 +245,8 @@ module _ (Runs : ℕ → ℕ → Type 0) where
     pub sound-start : IsSound Runs w.program (start w t).after
     sound-start =
         let first : Turn = still (starts_with w) in
-        subst (λ (s : State). IsSound Runs w.program s) (sym (loaded-after (main_loads w) (settled w t first)))
-        (at-end (settled w t first).after
+        subst (λ (s : State). IsSound Runs w.program s) (sym (loaded-after (main_loads w) (turn_settled w t first)))
+        (at-end (turn_settled w t first).after
         (settled-keeps w t Either either-moves first (begins-if (arguments_fit w.program)))
         (settled-stops w t first))
 

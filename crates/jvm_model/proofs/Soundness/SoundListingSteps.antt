@@ -13,10 +13,10 @@ use Rattle.jvm_model.specs.Running.Constants.{sets_constants}
 use Rattle.jvm_model.specs.Basis.Data.{Listing, Locals, Operands, Frame, Entry, Active, Initializing, MethodPlace, Part, Constants, Superclass, Initializer, Finish, Phase, Fresh, Running, Ready, Erroneous, Shared, Ending, Exited, Returned, Uncaught, Unverifiable, State, Began, Turn, Instruction, World, Outcome, GoesOn, Subroutine, Invokes, Returns, Throws, Raises, Initializes, Exits, Breaks, Program}
 use Rattle.jvm_model.specs.Classes.Lookup.{is_below}
 use Rattle.jvm_model.specs.Basis.Methods.{method_named}
-use Rattle.jvm_model.specs.Running.Moves.{after_super, argument_array, at_part, caught, fails, handler_for, initializes, main_or_end, move, moves, own_at, raises, runs_initializer, settled, with_constants, with_super, wrapped}
+use Rattle.jvm_model.specs.Running.Moves.{after_super, argument_array, at_part, throw_caught, fails, handler_for, initializes, main_or_end, move, moves, own_at, raises, runs_initializer, turn_settled, with_constants, with_super, throw_wrapped}
 use Rattle.jvm_model.specs.Basis.Programs.{class_at, initializer_name, initializer_of, name_at, number_of_method, super_of}
 use Rattle.jvm_model.specs.Running.Run.{main_class}
-use Rattle.jvm_model.specs.Basis.SharedState.{Allocated, class_of, error, in_initializer, made_with, no_class_definition, null, phase_of, raised, stack_overflow, with_phase}
+use Rattle.jvm_model.specs.Basis.SharedState.{Allocated, class_of, error, in_initializer, made_with, no_class_definition, null, phase_of, exception_raised, stack_overflow, with_phase}
 use Rattle.jvm_model.specs.Soundness.Sound.{HasClass, IsBuiltInName, IsFit, IsLoaded, IsSoundOutcome, IsSoundShared}
 use Rattle.jvm_model.specs.Soundness.SoundListings.{IsSound, IsSoundEntry, IsSoundListing}
 use Rattle.jvm_model.specs.Basis.Values.{as_value, with_value}
@@ -111,15 +111,15 @@ module _ (Runs : ℕ → ℕ → Type 0) where
         throws-sound : (a : Allocated) → KeepsShared w.program s.shared a.shared → GoesTo w.program s.shared.loaded (throws_at s f a)
         throws-sound a kept = moved w.program s (throws_at s f a) kept (entry, is.stack) is.main
 
-        raises-sound : (name : List ℕ) (message : Option (List ℕ)) → IsBuiltInName name → GoesTo w.program s.shared.loaded (throws_at s f (raised w s.shared name message))
-        raises-sound name message known = throws-sound (raised w s.shared name message) (exception-sound w fit s.shared is.shared name message null known)
+        raises-sound : (name : List ℕ) (message : Option (List ℕ)) → IsBuiltInName name → GoesTo w.program s.shared.loaded (throws_at s f (exception_raised w s.shared name message))
+        raises-sound name message known = throws-sound (exception_raised w s.shared name message) (exception-sound w fit s.shared is.shared name message null known)
 
         invokes-sound : (i : Instruction) (m : ℕ) (args : List Datum) (below : Operands) → HasClass w.program s.shared.loaded m
             → GoesTo w.program s.shared.loaded (applies w t i (Invokes m args below) s f).after
         invokes-sound i m args below has =
             chosen-turn w.program s.shared.loaded (has_room w m args) (begins_beside w t s f m args below (suc (live_in s.stack))) (still (breaks s f i.own))
             (chosen-turn w.program s.shared.loaded (nat_lt (suc (live_in s.stack)) most_live) (begins w t s f m args below)
-            (still (throws_at s f (raised w s.shared stack_overflow None)))
+            (still (throws_at s f (exception_raised w s.shared stack_overflow None)))
             (restacked (begins w t s f m args below).after refl ((has, text.begins m), (entry, is.stack)) (λ on. on))
             (raises-sound stack_overflow None refl))
             (breaks-sound i.own)
@@ -180,13 +180,13 @@ module _ (Runs : ℕ → ℕ → Type 0) where
       Goes after = GoesTo w.program s.shared.loaded after
 
       caught-goes : (below : List Entry) (r : ℕ) (f : Frame) (h : Option ℕ) → Entries s below → IsSoundEntry Runs w.program s.shared.loaded (Active f)
-          → Goes (caught w t (record s { stack = below }) r f h).after
+          → Goes (throw_caught w t (record s { stack = below }) r f h).after
       caught-goes below r f None each entry = restacked s is (record s { stack = below }) refl each (λ on. on)
       caught-goes below r f (Some target) each entry =
           goes-sound (record s { stack = below; thrown = None }) (record { shared = is.shared; stack = each; main = is.main }) f entry
           (own_at t f) f.locals (Ref r ∷ []) (Some target)
 
-      wrapped-kept : (r : ℕ) → KeepsShared w.program s.shared (wrapped w s.shared r).shared
+      wrapped-kept : (r : ℕ) → KeepsShared w.program s.shared (throw_wrapped w s.shared r).shared
       wrapped-kept r = by (is_below w.program (class_of w.program s.shared r) error)
         where
           by : (b : Bool) → KeepsShared w.program s.shared
@@ -197,7 +197,7 @@ module _ (Runs : ℕ → ℕ → Type 0) where
       fails-goes : (below : List Entry) (c r : ℕ) → Entries s below → Goes (fails w (record s { stack = below }) c r)
       fails-goes below c r each =
           moved w.program s (fails w (record s { stack = below }) c r)
-          (with-phase w.program s.shared (wrapped w s.shared r).shared c Erroneous (wrapped-kept r)) each is.main
+          (with-phase w.program s.shared (throw_wrapped w s.shared r).shared c Erroneous (wrapped-kept r)) each is.main
 
       part-goes : (below : List Entry) (c : ℕ) (part : Part) → Entries s below → IsLoaded s.shared.loaded c → Goes (at_part (record s { stack = below }) c part)
       part-goes below c part each there = restacked s is (at_part (record s { stack = below }) c part) refl (there, each) (λ on. on)
@@ -267,7 +267,7 @@ module _ (Runs : ℕ → ℕ → Type 0) where
       moves-go None None (Active f ∷ below) on each = tt
       moves-go None None (Initializing c part ∷ below) on each = initializes-goes below c part each.1 each.0
 
-    pub settled-goes : (loaded : List ℕ) (a : Turn) → GoesTo w.program loaded a.after → GoesTo w.program loaded (settled w t a).after
+    pub settled-goes : (loaded : List ℕ) (a : Turn) → GoesTo w.program loaded a.after → GoesTo w.program loaded (turn_settled w t a).after
     settled-goes loaded a is = settled-keeps w t (λ b. GoesTo w.program loaded b.after)
         (λ b was.
         subst (λ now. IfSome (move w t b.after) (λ next. GoesTo w.program now next.after)) was.same
@@ -277,5 +277,5 @@ module _ (Runs : ℕ → ℕ → Type 0) where
         → IsSoundOutcome w.program s.shared.loaded outcome → IsSound Runs w.program (applies w t i outcome s f).after
     sound-applied i outcome s f is entry sound = (applied-goes i outcome s f is entry sound).sound
 
-    pub sound-settled : (a : Turn) → IsSound Runs w.program a.after → IsSound Runs w.program (settled w t a).after
+    pub sound-settled : (a : Turn) → IsSound Runs w.program a.after → IsSound Runs w.program (turn_settled w t a).after
     sound-settled a is = (settled-goes a.after.shared.loaded a (stays w.program a.after is)).sound

@@ -12,7 +12,7 @@ use Rattle.heap_objects.specs.Interning.{number_of, with_number}
 use Rattle.heap_objects.specs.Objects.{changed_at, kind_of, with_slot, with_units}
 use Rattle.const_pool.specs.declared.class.ClassFile.{ClassFile}
 use Rattle.const_pool.specs.declared.class.Member.{Member}
-use Rattle.jvm_model.specs.Running.Constants.{FieldConstant, Number, Units, Setting, can_intern, constant_for, goes_on, set, sets_constants, sets_field, sets_fields, sets_string}
+use Rattle.jvm_model.specs.Running.Constants.{FieldConstant, Number, Units, Setting, can_intern, constant_for, goes_on, constant_set, sets_constants, sets_field, sets_fields, sets_string}
 use Rattle.jvm_model.specs.Instructions.CreationRules.{with_arrays, with_parts}
 use Rattle.jvm_model.specs.Basis.Data.{Shared, World}
 use Rattle.jvm_model.specs.Basis.KindNumbers.{user_count}
@@ -168,7 +168,7 @@ module _ (p : Program) (fit : IsFit p) where
       interned : Shared
       interned = record s { heap = with_interned (kind_for p string) units s.heap }
 
-      by : (b : Bool) → KeepsShared p s (let a : Setting = if b then set (with_static (record s { heap = with_interned (kind_for p string) units s.heap }) f (datum.Ref (interned_number units s.heap))) else record { shared = s; thrown = Some 1 } in a).shared
+      by : (b : Bool) → KeepsShared p s (let a : Setting = if b then constant_set (with_static (record s { heap = with_interned (kind_for p string) units s.heap }) f (datum.Ref (interned_number units s.heap))) else record { shared = s; thrown = Some 1 } in a).shared
       by true = record {
         loaded = refl;
         shared = static-sound p interned f (datum.Ref (interned_number units s.heap))
@@ -200,7 +200,7 @@ module _ (p : Program) (fit : IsFit p) where
   pub constants-sound : (class : ℕ) (s : Shared) → IsSoundShared p s → KeepsShared p s (sets_constants p class s).shared
   constants-sound class s is = by (class_at p class)
     where
-      by : (o : Option ClassFile) → KeepsShared p s (option_map_or (λ (c : ClassFile). sets_fields p c class 0 c.fields s) o (set s)).shared
+      by : (o : Option ClassFile) → KeepsShared p s (option_map_or (λ (c : ClassFile). sets_fields p c class 0 c.fields s) o (constant_set s)).shared
       by None = record { loaded = refl; shared = is }
       by (Some c) = fields-sound c class 0 c.fields s is
 

@@ -36,17 +36,17 @@ use Rattle.jvm_model.specs.Classes.Layouts.{layout}
 use Rattle.jvm_model.specs.Classes.Load.{Fault, NoClass, Circular, Incompatible, error_of, load_of}
 use Rattle.jvm_model.specs.Instructions.LocalRules.{pushes, replaces}
 use Rattle.jvm_model.specs.Classes.Lookup.{MemberPlace, Fails, first_in, field_at, found_or, incompatible_change, is_interface, method_at, method_order, resolved_field, resolved_method, superclasses, superinterfaces, supertypes}
-use Rattle.jvm_model.specs.Instructions.SymbolicReference.{◌>>=◌, SymbolicReference, New, Getfield, Putfield, Getstatic, Putstatic, Invokevirtual, Invokespecial, Invokestatic, Invokeinterface, Checkcast, Instanceof, Anewarray, Multianewarray, LdcClass, found, is_below_kind, is_instance, is_null, kind_unless, newly_loaded, receiver, resolved_kind, resolved_name, resolves, unless_refused, where_fitting}
+use Rattle.jvm_model.specs.Instructions.SymbolicReference.{◌>>=◌, SymbolicReference, New, Getfield, Putfield, Getstatic, Putstatic, Invokevirtual, Invokespecial, Invokestatic, Invokeinterface, Checkcast, Instanceof, Anewarray, Multianewarray, LdcClass, member_found, is_below_kind, is_instance, is_null, kind_unless, newly_loaded, receiver, resolved_kind, resolved_name, resolves, unless_refused, where_fitting}
 use Rattle.jvm_model.specs.Instructions.ReferenceRules.{does_named}
 use Rattle.jvm_model.specs.Instructions.NativeRules.{kinds_in, left_by_native, outcome_of, runs_native, runs_number, seen_by_natives, thrown_by}
 use Rattle.jvm_model.specs.Basis.Descriptors.{same_text}
 use Rattle.jvm_model.specs.Instructions.ObjectRules.{done, makes}
 use Rattle.jvm_model.specs.Basis.Programs.{class_named, name_at, number_from, number_of_method, same_place, super_of}
-use Rattle.jvm_model.specs.Instructions.Rules.{initialized, when_ready}
+use Rattle.jvm_model.specs.Instructions.Rules.{class_initialized, when_ready}
 use Rattle.jvm_model.specs.Classes.Selection.{candidate, is_abstract, is_static, nearest}
 use Rattle.jvm_model.specs.Basis.SharedState.{class_of, class_of_kind, negative_array_size, no_class_definition, no_such_field, no_such_method, null_pointer, phase_of, static_at}
 use Rattle.jvm_model.specs.Soundness.Sound.{HasClass, HasLoadedCaller, IsBuiltInName, IsFit, IsLoaded, IsSoundDone, IsSoundOutcome, IsSoundShared, IsUsable}
-use Rattle.jvm_model.specs.Classes.SuperCalls.{invoked_special, is_inherited, is_initializer, nearest_above, taken}
+use Rattle.jvm_model.specs.Classes.SuperCalls.{invoked_special, is_inherited, is_initializer, nearest_above, method_taken}
 use Rattle.jvm_model.specs.Basis.Values.{as_value, int_of, ref_of}
 use Rattle.jvm_model.specs.Codes.Lines.{has_dimensions}
 use Rattle.jvm_model.proofs.Loading.LoadsAgain.{newly-loaded}
@@ -85,19 +85,19 @@ number-least k n class at (x ∷ rest) e = by (same_place class at x) e (number-
 
 number-place : (k n class at : ℕ) (places : List MethodPlace) (i : ℕ) (place : MethodPlace) → number_from k class at places ≡ Some n → n ≡ k + i
     → slice_get places i ≡ Some place → place.class ≡ class
-number-place k n class at [] i place e is found = absurd (none-some n e)
-number-place k n class at (x ∷ rest) i place e is found =
-    by (same_place class at x) refl e i is found (λ j found is there. number-place (k + 1) n class at rest j place found is there)
+number-place k n class at [] i place e is member_found = absurd (none-some n e)
+number-place k n class at (x ∷ rest) i place e is member_found =
+    by (same_place class at x) refl e i is member_found (λ j member_found is there. number-place (k + 1) n class at rest j place member_found is there)
   where
     by : (b : Bool) → same_place class at x ≡ b → (if b then Some k else number_from (k + 1) class at rest) ≡ Some n → (i : ℕ) → n ≡ k + i
         → slice_get (x ∷ rest) i ≡ Some place
         → ((j : ℕ) → number_from (k + 1) class at rest ≡ Some n → n ≡ k + 1 + j → slice_get rest j ≡ Some place → place.class ≡ class)
         → place.class ≡ class
-    by true same e zero is found behind =
-        ap (λ (q : MethodPlace). q.class) (sym (some-some x place found)) ∙ equal x.class class (first_of_and (x.class == class) (x.position == at) same)
-    by true same e (suc j) is found behind = let here = some-some k n e in absurd (omega arith)
-    by false same e zero is found behind = let later = number-least (k + 1) n class at rest e in absurd (omega arith)
-    by false same e (suc j) is found behind = behind j e (omega arith) found
+    by true same e zero is member_found behind =
+        ap (λ (q : MethodPlace). q.class) (sym (some-some x place member_found)) ∙ equal x.class class (first_of_and (x.class == class) (x.position == at) same)
+    by true same e (suc j) is member_found behind = let here = some-some k n e in absurd (omega arith)
+    by false same e zero is member_found behind = let later = number-least (k + 1) n class at rest e in absurd (omega arith)
+    by false same e (suc j) is member_found behind = behind j e (omega arith) member_found
 
 pub number-class : (p : Program) (class at n : ℕ) (loaded : List ℕ) → number_of_method p class at ≡ Some n → IsLoaded loaded class → HasClass p loaded n
 number-class p class at n loaded e there place is =
@@ -150,9 +150,9 @@ module _ (w : World) (fit : IsFit w.program) (s : Shared) (is : IsSoundShared w.
   chosen true a c first second = first
   chosen false a c first second = second
 
-  replaces-sound : (taken : ℕ) (o : Option Value) (l : Locals) (operands : Operands) → IsSoundOutcome p s.loaded (replaces taken o l operands)
-  replaces-sound taken None l operands = tt
-  replaces-sound taken (Some v) l operands = tt
+  replaces-sound : (method_taken : ℕ) (o : Option Value) (l : Locals) (operands : Operands) → IsSoundOutcome p s.loaded (replaces method_taken o l operands)
+  replaces-sound method_taken None l operands = tt
+  replaces-sound method_taken (Some v) l operands = tt
 
   -- ---- the class that is named
 
@@ -194,7 +194,7 @@ module _ (w : World) (fit : IsFit w.program) (s : Shared) (is : IsSoundShared w.
   abbrev InLoaded : MemberPlace → Type 0
   InLoaded m = IsLoaded s.loaded m.class
 
-  found-good : (o : Option MemberPlace) (error : List ℕ) → IsFoundLoaded s.loaded o → IsBuiltInName error → Good InLoaded (found (found_or o error))
+  found-good : (o : Option MemberPlace) (error : List ℕ) → IsFoundLoaded s.loaded o → IsBuiltInName error → Good InLoaded (member_found (found_or o error))
   found-good None error there known = known
   found-good (Some m) error there known = there m refl
 
@@ -202,7 +202,7 @@ module _ (w : World) (fit : IsFit w.program) (s : Shared) (is : IsSoundShared w.
   fitting-good true m there = there
   fitting-good false m there = refl
 
-  field-found : (class : ℕ) (wanted : NameAndType) → IsLoaded s.loaded class → Good InLoaded (found (resolved_field p class wanted))
+  field-found : (class : ℕ) (wanted : NameAndType) → IsLoaded s.loaded class → Good InLoaded (member_found (resolved_field p class wanted))
   field-found class wanted there =
       found-good (first_in (field_at p wanted) (supertypes p class)) no_such_field
       (λ m e. first-loaded s.loaded (field_at p wanted) (supertypes p class) m (supertypes-loaded p s.loaded is.above class there) e) refl
@@ -226,10 +226,10 @@ module _ (w : World) (fit : IsFit w.program) (s : Shared) (is : IsSoundShared w.
       by false = all-both (IsLoaded s.loaded) (superclasses p class) (superinterfaces p class)
           (superclasses-loaded p s.loaded is.above class there) (superinterfaces-loaded p s.loaded is.above class there)
 
-  method-found : (class : ℕ) (interface : Bool) (wanted : NameAndType) → IsLoaded s.loaded class → Good InLoaded (found (resolved_method p class interface wanted))
+  method-found : (class : ℕ) (interface : Bool) (wanted : NameAndType) → IsLoaded s.loaded class → Good InLoaded (member_found (resolved_method p class interface wanted))
   method-found class interface wanted there = by (beq (is_interface p class) interface)
     where
-      by : (b : Bool) → Good InLoaded (found (if b then found_or (first_in (method_at p wanted) (method_order p class)) no_such_method else Fails incompatible_change))
+      by : (b : Bool) → Good InLoaded (member_found (if b then found_or (first_in (method_at p wanted) (method_order p class)) no_such_method else Fails incompatible_change))
       by true = found-good (first_in (method_at p wanted) (method_order p class)) no_such_method
           (λ m e. first-loaded s.loaded (method_at p wanted) (method_order p class) m (order-loaded class there) e) refl
       by false = refl
@@ -237,20 +237,20 @@ module _ (w : World) (fit : IsFit w.program) (s : Shared) (is : IsSoundShared w.
   named-field : (static : Bool) (r : Reference) → Whole r.class → Good InLoaded (named_field p s.loaded static r)
   named-field static r whole =
       then-good (Resolved r.class) InLoaded (resolved_kind p s.loaded r.class)
-      (λ kind. found (resolved_field p (class_of_kind p kind) r.member) >>= λ m. where_fitting (beq (is_static_field p m) static) m)
+      (λ kind. member_found (resolved_field p (class_of_kind p kind) r.member) >>= λ m. where_fitting (beq (is_static_field p m) static) m)
       (kind-found r.class whole)
       (λ kind usable.
-      then-good InLoaded InLoaded (found (resolved_field p (class_of_kind p kind) r.member)) (λ m. where_fitting (beq (is_static_field p m) static) m)
+      then-good InLoaded InLoaded (member_found (resolved_field p (class_of_kind p kind) r.member)) (λ m. where_fitting (beq (is_static_field p m) static) m)
       (field-found (class_of_kind p kind) r.member usable.0.of_class)
       (λ m there. fitting-good (beq (is_static_field p m) static) m there))
 
   named-method : (interface static : Bool) (r : Reference) → Whole r.class → Good InLoaded (named_method p s.loaded interface static r)
   named-method interface static r whole =
       then-good (Resolved r.class) InLoaded (resolved_kind p s.loaded r.class)
-      (λ kind. found (resolved_method p (class_of_kind p kind) interface r.member) >>= λ m. where_fitting (beq (is_static p m) static) m)
+      (λ kind. member_found (resolved_method p (class_of_kind p kind) interface r.member) >>= λ m. where_fitting (beq (is_static p m) static) m)
       (kind-found r.class whole)
       (λ kind usable.
-      then-good InLoaded InLoaded (found (resolved_method p (class_of_kind p kind) interface r.member)) (λ m. where_fitting (beq (is_static p m) static) m)
+      then-good InLoaded InLoaded (member_found (resolved_method p (class_of_kind p kind) interface r.member)) (λ m. where_fitting (beq (is_static p m) static) m)
       (method-found (class_of_kind p kind) interface r.member usable.0.of_class)
       (λ m there. fitting-good (beq (is_static p m) static) m there))
 
@@ -263,15 +263,15 @@ module _ (w : World) (fit : IsFit w.program) (s : Shared) (is : IsSoundShared w.
   ready-fine (Some Erroneous) class d there fine = quiet (Raises no_class_definition (name_at p class)) refl
   ready-fine None class d there fine = quiet (Raises no_class_definition (name_at p class)) refl
 
-  initialized-fine : (class : ℕ) (d : Done) → IsLoaded s.loaded class → Fine d → Fine (initialized p class s d)
+  initialized-fine : (class : ℕ) (d : Done) → IsLoaded s.loaded class → Fine d → Fine (class_initialized p class s d)
   initialized-fine class d there fine = ready-fine (phase_of s class) class d there fine
 
   -- ---- new objects
 
-  allocates-fine : (slots : ℕ) (make : HeapView → HeapView) (taken : ℕ) (l : Locals) (o : Operands) → AreSound p s.loaded (make s.heap) → Fine (allocates slots make taken s l o)
-  allocates-fine slots make taken l o are =
-      chosen (nat_le (s.heap.used + slots) s.heap.limit) (done (record s { heap = make s.heap }) (GoesOn l (Ref (next_number s.heap) ∷ drop taken o) Next)) (done s (Throws 1))
-      (with-objects (make s.heap) (GoesOn l (Ref (next_number s.heap) ∷ drop taken o) Next) [] are tt) (quiet (Throws 1) tt)
+  allocates-fine : (slots : ℕ) (make : HeapView → HeapView) (method_taken : ℕ) (l : Locals) (o : Operands) → AreSound p s.loaded (make s.heap) → Fine (allocates slots make method_taken s l o)
+  allocates-fine slots make method_taken l o are =
+      chosen (nat_le (s.heap.used + slots) s.heap.limit) (done (record s { heap = make s.heap }) (GoesOn l (Ref (next_number s.heap) ∷ drop method_taken o) Next)) (done s (Throws 1))
+      (with-objects (make s.heap) (GoesOn l (Ref (next_number s.heap) ∷ drop method_taken o) Next) [] are tt) (quiet (Throws 1) tt)
 
   object-fine : (kind class : ℕ) (l : Locals) (o : Operands) → IsUsable p s.loaded kind → Fine (makes_instance p kind class s l o)
   object-fine kind class l o usable =
@@ -285,7 +285,7 @@ module _ (w : World) (fit : IsFit w.program) (s : Shared) (is : IsSoundShared w.
 
   new-fine : (name : List ℕ) (l : Locals) (o : Operands) → Whole name → Fine (makes_new p name s l o)
   new-fine name l o whole =
-      unless-fine (Resolved name) (resolved_kind p s.loaded name) (λ kind. initialized p (class_of_kind p kind) s (makes_instance p kind (class_of_kind p kind) s l o))
+      unless-fine (Resolved name) (resolved_kind p s.loaded name) (λ kind. class_initialized p (class_of_kind p kind) s (makes_instance p kind (class_of_kind p kind) s l o))
       (kind-found name whole)
       (λ kind usable. initialized-fine (class_of_kind p kind) (makes_instance p kind (class_of_kind p kind) s l o) usable.0.of_class
       (object-fine kind (class_of_kind p kind) l o usable.0))
@@ -397,7 +397,7 @@ module _ (w : World) (fit : IsFit w.program) (s : Shared) (is : IsSoundShared w.
 
   put-static-fine : (r : Reference) (l : Locals) (o : Operands) → Whole r.class → Fine (puts_static p r s l o)
   put-static-fine r l o whole =
-      unless-fine InLoaded (named_field p s.loaded true r) (λ m. initialized p m.class s (sets_static m (held_of (kind_by r) o) s l o)) (named-field true r whole)
+      unless-fine InLoaded (named_field p s.loaded true r) (λ m. class_initialized p m.class s (sets_static m (held_of (kind_by r) o) s l o)) (named-field true r whole)
       (λ m there. initialized-fine m.class (sets_static m (held_of (kind_by r) o) s l o) there (by m (held_of (kind_by r) o)))
     where
       by : (m : MemberPlace) (d : Option Datum) → Fine (sets_static m d s l o)
@@ -522,36 +522,36 @@ module _ (w : World) (fit : IsFit w.program) (s : Shared) (is : IsSoundShared w.
 
   static-fine : (r : Reference) (l : Locals) (o : Operands) → Whole r.class → Fine (invokes_static_method w r s l o)
   static-fine r l o whole =
-      unless-fine InLoaded (named_method p s.loaded false true r) (λ m. initialized p m.class s (invokes_with_static w m (arguments_by false r.member o) s l o))
+      unless-fine InLoaded (named_method p s.loaded false true r) (λ m. class_initialized p m.class s (invokes_with_static w m (arguments_by false r.member o) s l o))
       (named-method false true r whole)
       (λ m there. initialized-fine m.class (invokes_with_static w m (arguments_by false r.member o) s l o) there (by m there (arguments_by false r.member o)))
     where
       by : (m : MemberPlace) → InLoaded m → (args : Option (List Datum)) → Fine (invokes_with_static w m args s l o)
       by m there None = quiet (Breaks false) tt
       by m there (Some args) =
-          selected-fine (Some m) args l (drop (length args) o) (λ found e. subst InLoaded (some-some m found e) there)
+          selected-fine (Some m) args l (drop (length args) o) (λ member_found e. subst InLoaded (some-some m member_found e) there)
 
   -- ---- what is selected
 
   unless-abstract : (o : Option MemberPlace) → IsFoundLoaded s.loaded o
-      → IsFoundLoaded s.loaded (option_and_then (λ found. if is_abstract p found then None else Some found) o)
+      → IsFoundLoaded s.loaded (option_and_then (λ member_found. if is_abstract p member_found then None else Some member_found) o)
   unless-abstract None there m e = absurd (none-some m e)
-  unless-abstract (Some found) there m e = by (is_abstract p found) e
+  unless-abstract (Some member_found) there m e = by (is_abstract p member_found) e
     where
-      by : (b : Bool) → (let o : Option MemberPlace = if b then None else Some found in o) ≡ Some m → InLoaded m
+      by : (b : Bool) → (let o : Option MemberPlace = if b then None else Some member_found in o) ≡ Some m → InLoaded m
       by true e = absurd (none-some m e)
       by false e = there m e
 
   nearest-loaded : (class : ℕ) (interface : Bool) (m : MemberPlace) → IsLoaded s.loaded class → IsFoundLoaded s.loaded (nearest p class interface m)
-  nearest-loaded class interface m there found e =
-      first-loaded s.loaded (candidate p interface m) (superclasses p class) found (superclasses-loaded p s.loaded is.above class there) e
+  nearest-loaded class interface m there member_found e =
+      first-loaded s.loaded (candidate p interface m) (superclasses p class) member_found (superclasses-loaded p s.loaded is.above class there) e
 
   above-loaded : (caller : ℕ) (m : MemberPlace) (o : Option ℕ) → AllByRecursion (IsLoaded s.loaded) (option_to_list o)
       → IsFoundLoaded s.loaded (option_and_then (λ above. nearest p above true m) o)
-  above-loaded caller m None each found e = absurd (none-some found e)
-  above-loaded caller m (Some above) each found e = nearest-loaded above true m each.0 found e
+  above-loaded caller m None each member_found e = absurd (none-some member_found e)
+  above-loaded caller m (Some above) each member_found e = nearest-loaded above true m each.0 member_found e
 
-  taken-loaded : (caller : ℕ) (m : MemberPlace) → IsLoaded s.loaded caller → InLoaded m → IsFoundLoaded s.loaded (taken p caller m)
+  taken-loaded : (caller : ℕ) (m : MemberPlace) → IsLoaded s.loaded caller → InLoaded m → IsFoundLoaded s.loaded (method_taken p caller m)
   taken-loaded caller m current there = by (is_inherited p caller m && not (is_initializer p m))
     where
       by : (b : Bool) → IsFoundLoaded s.loaded (if b then nearest_above p caller m else Some m)
@@ -561,7 +561,7 @@ module _ (w : World) (fit : IsFit w.program) (s : Shared) (is : IsSoundShared w.
   special-loaded : (o : Option ℕ) (m : MemberPlace) → ((class : ℕ) → o ≡ Some class → IsLoaded s.loaded class) → InLoaded m
       → IsFoundLoaded s.loaded (option_and_then (λ current. invoked_special p current m) o)
   special-loaded None m current there m1 e = absurd (none-some m1 e)
-  special-loaded (Some class) m current there m1 e = unless-abstract (taken p class m) (taken-loaded class m (current class refl) there) m1 e
+  special-loaded (Some class) m current there m1 e = unless-abstract (method_taken p class m) (taken-loaded class m (current class refl) there) m1 e
 
   -- the class in which the instruction stands is loaded, where it is asked for
   abbrev HasCaller : Selecting → Type 0

@@ -10,12 +10,12 @@ use Rattle.jvm_model.specs.Basis.Data.{Operands, Frame, Entry, Active, Initializ
 use Rattle.jvm_model.specs.Instructions.Does.{does, loads}
 use Rattle.jvm_model.specs.Classes.Kinds.{meaning_of}
 use Rattle.jvm_model.specs.Classes.Load.{Fault, NoClass, Circular, Incompatible, error_of, load_of}
-use Rattle.jvm_model.specs.Running.Moves.{move, moves, settled, then_turn}
+use Rattle.jvm_model.specs.Running.Moves.{move, moves, turn_settled, then_turn}
 use Rattle.jvm_model.specs.Instructions.SymbolicReference.{New, message_of, newly_loaded, resolved_name, resolves}
 use Rattle.jvm_model.specs.Codes.Originals.{original}
 use Rattle.jvm_model.specs.Basis.Programs.{name_at}
-use Rattle.jvm_model.specs.Running.Run.{arguments_made, attempt, before, main_class, main_classes, main_loading, main_loads, opened, start, starts, starts_if, starts_unless, starts_with, step, steps_at, steps_by, steps_on, tries, with_loaded}
-use Rattle.jvm_model.specs.Basis.SharedState.{arguments_fit, class_of, null, raised, shared_before, with_arguments}
+use Rattle.jvm_model.specs.Running.Run.{arguments_made, attempt, before, main_class, main_classes, main_loading, main_loads, run_opened, start, starts, starts_if, starts_unless, starts_with, step, steps_at, steps_by, steps_on, tries, with_loaded}
+use Rattle.jvm_model.specs.Basis.SharedState.{arguments_fit, class_of, null, exception_raised, shared_before, with_arguments}
 use Rattle.jvm_model.specs.Soundness.Sound.{CanAttempt, HasClass, HasSupertypes, IsBuiltInName, IsFit, IsLoaded, IsSoundOutcome, IsSoundShared}
 use Rattle.jvm_model.proofs.Running.Attempts.{again-by, loaded-after, with_loaded-shared}
 use Rattle.jvm_model.proofs.Loading.LoadsAgain.{newly-again, newly-loaded}

@@ -11,33 +11,33 @@ use Rattle.jvm_model.specs.declared.state.State.{State}
 use Rattle.jvm_model.specs.Basis.Data.{Change, Turn, Instruction, Outcome, Listing, World}
 use Rattle.jvm_model.specs.Running.Applies.{breaks, still, live_in}
 use Rattle.jvm_model.specs.Instructions.Does.{does}
-use Rattle.jvm_model.specs.Running.Moves.{settled}
+use Rattle.jvm_model.specs.Running.Moves.{turn_settled}
 use Rattle.jvm_model.specs.Running.Run.{starts, is_ready, goes_on}
 use Rattle.jvm_model.specs.Basis.SharedState.{phase_of}
 use Rattle.jvm_model.specs.Turns.Told.{Held, held_by, helds, mark_now}
-use Rattle.jvm_model.specs.Turns.Pauses.{Pause, changes_due, passed_by, paused}
-use Rattle.jvm_model.specs.Turns.StepPauses.{again_pause, attempted, frame_pause, is_nothing, leave_due, line_pause, pause_behind, stack_pause, step_pause, turn_pause}
+use Rattle.jvm_model.specs.Turns.Pauses.{Pause, changes_due, passed_by, step_paused}
+use Rattle.jvm_model.specs.Turns.StepPauses.{again_pause, instruction_attempted, frame_pause, is_nothing, leave_due, line_pause, pause_behind, stack_pause, step_pause, turn_pause}
 use Rattle.jvm_model.proofs.Turns.Pausing.{paused-is}
 use Rattle.jvm_model.proofs.Turns.Rests.{nothing-left}
-use Rattle.jvm_model.specs.Running.Between.{changes_between, followed}
+use Rattle.jvm_model.specs.Running.Between.{changes_between, attempt_followed}
 use Rattle.jvm_model.proofs.Running.ChangesBetween.{attempted-pause}
 
 -- ---- where nothing is due behind it
 
 -- all moves were made
 pub settled-there : (w : World) (t : Listing) (v : ℕ → Mark) (n : ℕ) (changes : List Change) (s : State)
-    → (followed w t v n changes s).due ≡ Nothing → (followed w t v n changes s).state ≡ (settled w t (still s)).after
+    → (attempt_followed w t v n changes s).due ≡ Nothing → (attempt_followed w t v n changes s).state ≡ (turn_settled w t (still s)).after
 settled-there w t v n changes s nothing = by (changes_due (mark_now v t) [] changes) nothing where
   later : Pause
-  later = paused w t v (passed_by n changes) s
+  later = step_paused w t v (passed_by n changes) s
 
-  all : later.due ≡ Nothing → later.state ≡ (settled w t (still s)).after
+  all : later.due ≡ Nothing → later.state ≡ (turn_settled w t (still s)).after
   all e =
       let is = paused-is w t v (passed_by n changes) s in
       sym (is.part.same ∙ ap (λ (a : Turn). a.after) (nothing-left w t later.state (is.ends e)))
 
   by : (d : Due) → (pause_behind d (record { state = s; passed = passed_by n changes; due = Begins }) later).due ≡ Nothing
-      → (pause_behind d (record { state = s; passed = passed_by n changes; due = Begins }) later).state ≡ (settled w t (still s)).after
+      → (pause_behind d (record { state = s; passed = passed_by n changes; due = Begins }) later).state ≡ (turn_settled w t (still s)).after
   by Begins e = absurd (let h : Begins ≡ Nothing = e in cc)
   by Nothing e = all e
   by (Ends k) e = all e
@@ -74,31 +74,31 @@ module _ (w : World) (t : Listing) (v : ℕ → Mark) (told : Bool) (n : ℕ) (s
     leaves due =
         line-at
         ∙ (ap (λ b. if b then record { state = record under { stack = Active f ∷ below }; passed = n; due = Ends kind.Leave }
-        else again_pause w t v n live i under f (starts outcome) (turn_pause w t v n live (attempted w t i under f))) due
+        else again_pause w t v n live i under f (starts outcome) (turn_pause w t v n live (instruction_attempted w t i under f))) due
         ∙ ap (λ (stack : List Entry). record { state = record s { stack = stack }; passed = n; due = Ends kind.Leave }) (sym top))
 
     -- the state behind it
     abbrev pub mid : State
-    mid = (attempted w t i under f).after
+    mid = (instruction_attempted w t i under f).after
 
     abbrev pub first : Pause
-    first = followed w t v n (changes_between (live_in s.stack) mid.stack) mid
+    first = attempt_followed w t v n (changes_between (live_in s.stack) mid.stack) mid
 
     module _ (none_due : leave_due told (v f.version) i.operation ≡ false) where
       goes-pause : step_pause w t v told n s ≡ again_pause w t v n live i under f (starts outcome) first
       goes-pause =
           line-at
           ∙ (ap (λ b. if b then record { state = record under { stack = Active f ∷ below }; passed = n; due = Ends kind.Leave }
-          else again_pause w t v n live i under f (starts outcome) (turn_pause w t v n live (attempted w t i under f))) none_due
+          else again_pause w t v n live i under f (starts outcome) (turn_pause w t v n live (instruction_attempted w t i under f))) none_due
           ∙ ap (again_pause w t v n live i under f (starts outcome))
-          (attempted-pause w t v n live i under f ∙ ap (λ (stack : List Entry). followed w t v n (changes_between (live_in stack) mid.stack) mid) (sym top)))
+          (attempted-pause w t v n live i under f ∙ ap (λ (stack : List Entry). attempt_followed w t v n (changes_between (live_in stack) mid.stack) mid) (sym top)))
 
       pub goes-once : starts outcome ≡ None → step_pause w t v told n s ≡ first
       goes-once none = goes-pause ∙ ap (λ o. again_pause w t v n live i under f o first) none
 
       module _ (c : ℕ) (awaits : starts outcome ≡ Some c) where
         chosen : Bool → Pause
-        chosen b = if b then turn_pause w t v n live (attempted w t i (record first.state { stack = below }) f) else first
+        chosen b = if b then turn_pause w t v n live (instruction_attempted w t i (record first.state { stack = below }) f) else first
 
         by-test : (b : Bool) → goes_twice n c first ≡ b → step_pause w t v told n s ≡ chosen b
         unfolding chosen
@@ -110,11 +110,11 @@ module _ (w : World) (t : Listing) (v : ℕ → Mark) (told : Bool) (n : ℕ) (s
 
         -- the state behind the second attempt
         abbrev pub mid_again : State
-        mid_again = (attempted w t i (record first.state { stack = below }) f).after
+        mid_again = (instruction_attempted w t i (record first.state { stack = below }) f).after
 
-        pub goes-again : goes_twice n c first ≡ true → step_pause w t v told n s ≡ followed w t v n (changes_between (live_in s.stack) mid_again.stack) mid_again
+        pub goes-again : goes_twice n c first ≡ true → step_pause w t v told n s ≡ attempt_followed w t v n (changes_between (live_in s.stack) mid_again.stack) mid_again
         unfolding chosen
         goes-again is =
             by-test true is
             ∙ (attempted-pause w t v n live i (record first.state { stack = below }) f
-            ∙ ap (λ (stack : List Entry). followed w t v n (changes_between (live_in stack) mid_again.stack) mid_again) (sym top))
+            ∙ ap (λ (stack : List Entry). attempt_followed w t v n (changes_between (live_in stack) mid_again.stack) mid_again) (sym top))

@@ -6,13 +6,13 @@ use Rattle.jvm_model.specs.Basis.Data.{Frame, Entry, Active, Initializing, Const
 use Rattle.jvm_model.specs.Basis.Programs.{initializer_of}
 use Rattle.jvm_model.specs.Basis.SharedState.{class_of}
 use Rattle.jvm_model.specs.Running.Applies.{has_room, live_in, most_live}
-use Rattle.jvm_model.specs.Running.Moves.{handler_for, caught, runs_initializer, argument_array, main_or_end, moves, move}
+use Rattle.jvm_model.specs.Running.Moves.{handler_for, throw_caught, runs_initializer, argument_array, main_or_end, moves, move}
 use Rattle.jvm_model.specs.Codes.Moved.{moved_turn, Agrees, self}
-use Rattle.jvm_model.specs.Rewriting.StandsForRun.{named, at_homes, norm_by, IsOfVersions}
+use Rattle.jvm_model.specs.Rewriting.StandsForRun.{listing_named, at_homes, norm_by, IsOfVersions}
 use Rattle.jvm_model.specs.Turns.Rest.{Todo, Attempt, Moves}
 use Rattle.jvm_model.specs.Turns.Told.{Held}
 use Rattle.jvm_model.specs.Turns.StepPauses.{EndsByReturn}
-use Rattle.jvm_model.specs.Turns.InHand.{Versioned, InHand, GoesOn, goes_from, popped}
+use Rattle.jvm_model.specs.Turns.InHand.{Versioned, InHand, GoesOn, goes_from, frame_popped}
 use Rattle.jvm_model.proofs.Relocated.MovesMove.{move-moves}
 use Rattle.jvm_model.proofs.Relocated.StepMoves.{placed-places}
 use Rattle.jvm_model.proofs.Turns.GoesOn.{attempt-goes, moves-go, unwound-goes, unwinds-here}
@@ -21,7 +21,7 @@ use Rattle.jvm_model.proofs.Turns.GoesOn.{attempt-goes, moves-go, unwound-goes, 
 
 -- where its one change is that
 abbrev Pops : State → Turn → Type 0
-Pops s next = next.changes ≡ Unwound ∷ [] → next.after ≡ popped s
+Pops s next = next.changes ≡ Unwound ∷ [] → next.after ≡ frame_popped s
 
 chosen-pops : (s : State) (b : Bool) (x y : Turn) → Pops s x → Pops s y → Pops s (if b then x else y)
 chosen-pops s true x y p q = p
@@ -34,7 +34,7 @@ began-unwound : (m : ℕ) → Began m ∷ [] ≡ Unwound ∷ [] → ⊥
 began-unwound m e = cc
 
 module _ (w : World) (t : Listing) (s : State) where
-  caught-pops : (below : List Entry) (r : ℕ) (f : Frame) (h : Option ℕ) → s.stack ≡ Active f ∷ below → Pops s (caught w t (record s { stack = below }) r f h)
+  caught-pops : (below : List Entry) (r : ℕ) (f : Frame) (h : Option ℕ) → s.stack ≡ Active f ∷ below → Pops s (throw_caught w t (record s { stack = below }) r f h)
   caught-pops below r f None top e = ap (λ stack. record s { stack = drop 1 stack }) (sym top)
   caught-pops below r f (Some target) top e = absurd (no-change Unwound [] e)
 
@@ -59,16 +59,16 @@ module _ (w : World) (t : Listing) (s : State) where
   pops-by None None (Initializing c Initializer ∷ below) top next e = subst (Pops s) (same_Some _ _ e) (runs-pops (record s { stack = below }) c (initializer_of w.program c))
   pops-by None None (Initializing c Finish ∷ below) top next e = subst (Pops s) (same_Some _ _ e) (λ h. absurd (no-change Unwound [] h))
 
-  pub unwinds-pops : (next : Turn) → move w t s ≡ Some next → next.changes ≡ Unwound ∷ [] → next.after ≡ popped s
+  pub unwinds-pops : (next : Turn) → move w t s ≡ Some next → next.changes ≡ Unwound ∷ [] → next.after ≡ frame_popped s
   unwinds-pops next e = pops-by s.ending s.thrown s.stack refl next e
 
 -- ---- all three
 
 module _ (w : World) (t : Listing) (x : Versioned) (own : Agrees x.norm (self x.norm) t t) (current : ℕ → ℕ) (u : Listing) (is : IsOfVersions x.norm x.method_of current x.homes t u)
     (only : EndsByReturn w) (turn : Turn) (passed : ℕ) (live : List Held) where
-  unwinds-here-too : (s : State) (hand : InHand w t x turn passed true live Moves s) → move w u s ≡ Some (record { after = popped s; changes = Unwound ∷ [] })
+  unwinds-here-too : (s : State) (hand : InHand w t x turn passed true live Moves s) → move w u s ≡ Some (record { after = frame_popped s; changes = Unwound ∷ [] })
   unwinds-here-too s hand =
-      let mid : Listing = named x.method_of current t in
+      let mid : Listing = listing_named x.method_of current t in
       let b : State = hand.between in
       let next = unwinds-here w t x own current is.begins b hand.placed (hand.awaits refl) in
       let there : move w u s ≡ Some (moved_turn (at_homes x.homes) (record { after = next.after; changes = Unwound ∷ [] })) =
@@ -79,7 +79,7 @@ module _ (w : World) (t : Listing) (x : Versioned) (own : Agrees x.norm (self x.
       (unwinds-pops w u s (moved_turn (at_homes x.homes) (record { after = next.after; changes = Unwound ∷ [] })) there refl)
 
   -- The step goes on as far as the next change that is told.
-  pub all-goes : (told : Bool) (todo : Todo) (s : State) → InHand w t x turn passed told live todo s → GoesOn w t x current turn passed told live (goes_from w u x told passed todo s (popped s))
+  pub all-goes : (told : Bool) (todo : Todo) (s : State) → InHand w t x turn passed told live todo s → GoesOn w t x current turn passed told live (goes_from w u x told passed todo s (frame_popped s))
   all-goes told Attempt s hand = attempt-goes w t x own current u is only turn passed told live s hand
   all-goes false Moves s hand = moves-go w t x own current u is only turn passed live s hand
-  all-goes true Moves s hand = unwound-goes w t x own current u is only turn passed live s (popped s) hand (unwinds-here-too s hand)
+  all-goes true Moves s hand = unwound-goes w t x own current u is only turn passed live s (frame_popped s) hand (unwinds-here-too s hand)

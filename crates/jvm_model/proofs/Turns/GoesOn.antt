@@ -7,11 +7,11 @@ use Rattle.jvm_model.specs.declared.event.Mark.{Mark}
 use Rattle.jvm_model.specs.Basis.Data.{Entry, Active, Initializing, Ending, State, Change, Unwound, Turn, Listing, World}
 use Rattle.jvm_model.specs.Running.Applies.{still}
 use Rattle.jvm_model.specs.Running.Moves.{move}
-use Rattle.jvm_model.specs.Codes.Moved.{Moving, moved, moved_turn, moved_stack, Agrees, self, IsPlaced}
-use Rattle.jvm_model.specs.Rewriting.StandsForRun.{named, forgotten, at_homes, norm_by, IsOfVersions}
+use Rattle.jvm_model.specs.Codes.Moved.{Moving, state_moved, moved_turn, moved_stack, Agrees, self, IsPlaced}
+use Rattle.jvm_model.specs.Rewriting.StandsForRun.{listing_named, versions_forgotten, at_homes, norm_by, IsOfVersions}
 use Rattle.jvm_model.specs.Turns.Rest.{Todo, Attempt, Moves, rest}
 use Rattle.jvm_model.specs.Turns.Told.{Held, helds, mark_now}
-use Rattle.jvm_model.specs.Turns.Pauses.{later_of, Nothing, is_end, stop_from, Pause, paused, passed_by, stop_of, Unwinds}
+use Rattle.jvm_model.specs.Turns.Pauses.{later_of, Nothing, is_end, stop_from, Pause, step_paused, passed_by, stop_of, Unwinds}
 use Rattle.jvm_model.specs.Turns.StepPauses.{step_pause, EndsByReturn, is_at_return, Awaits, IsLoaded}
 use Rattle.jvm_model.specs.Turns.InHand.{Versioned, original_of, versioned_of, InHand, GoesOn}
 use Rattle.jvm_model.proofs.Relocated.MovesMove.{move-moves}
@@ -38,7 +38,7 @@ drop-passed n (c ∷ a) b xs e = drop-passed (suc n) a b xs (drop-next n c (a ++
 -- ---- what is left of a state elsewhere
 
 rest-moves : (norm : ℕ → ℕ → ℕ) (w : World) (m : Moving) (t u : Listing) → Agrees norm (self norm) t t → Agrees norm m t u → (todo : Todo) (s : State) → IsPlaced norm s
-    → rest w u todo (moved m s) ≡ moved_turn m (rest w t todo s)
+    → rest w u todo (state_moved m s) ≡ moved_turn m (rest w t todo s)
 rest-moves norm w m t u own agrees Attempt s placed = step-moves norm w m t u own agrees s placed
 rest-moves norm w m t u own agrees Moves s placed = settled-moves norm w t own m u agrees (still s) placed
 
@@ -63,7 +63,7 @@ pub record IsGoneOn (w : World) (t : Listing) (v : ℕ → Mark) (told : Bool) (
 
 module _ (w : World) (t : Listing) (x : Versioned) (own : Agrees x.norm (self x.norm) t t) (current : ℕ → ℕ) (begins : (k : ℕ) → t.current k ≡ x.method_of (current k)) where
   abbrev pub mid : Listing
-  mid = named x.method_of current t
+  mid = listing_named x.method_of current t
 
   abbrev pub norm : ℕ → ℕ → ℕ
   norm = norm_by x.method_of x.norm
@@ -74,12 +74,12 @@ module _ (w : World) (t : Listing) (x : Versioned) (own : Agrees x.norm (self x.
   mid-own : Agrees norm (self norm) mid mid
   mid-own = named-own x.norm w t own x.method_of current
 
-  mid-original : Agrees norm (forgotten x.method_of) mid t
+  mid-original : Agrees norm (versions_forgotten x.method_of) mid t
   mid-original = named-original x.norm w t own x.method_of current begins
 
   -- ---- between the original code and versions
 
-  return-same : (ending : Option Ending) (stack : List Entry) → is_at_return t ending (moved_stack (forgotten x.method_of) stack) ≡ is_at_return mid ending stack
+  return-same : (ending : Option Ending) (stack : List Entry) → is_at_return t ending (moved_stack (versions_forgotten x.method_of) stack) ≡ is_at_return mid ending stack
   return-same None (Active f ∷ below) = refl
   return-same None [] = refl
   return-same None (Initializing c part ∷ below) = refl
@@ -88,19 +88,19 @@ module _ (w : World) (t : Listing) (x : Versioned) (own : Agrees x.norm (self x.
   unwinds-there : (s : State) → IsPlaced norm s → Unwinds w mid s → Unwinds w t (original_of x s)
   unwinds-there s placed u = record {
     after = original_of x u.after;
-    next = move-moves w (forgotten x.method_of) norm mid t mid-original s (placed-places norm s.stack placed) ∙ ap (option_map (moved_turn (forgotten x.method_of))) u.next;
+    next = move-moves w (versions_forgotten x.method_of) norm mid t mid-original s (placed-places norm s.stack placed) ∙ ap (option_map (moved_turn (versions_forgotten x.method_of))) u.next;
   }
 
   pub unwinds-here : (s : State) → IsPlaced norm s → Unwinds w t (original_of x s) → Unwinds w mid s
   unwinds-here s placed u = by (move w mid s) refl where
-    law : option_map (moved_turn (forgotten x.method_of)) (move w mid s) ≡ Some (record { after = u.after; changes = Unwound ∷ [] })
-    law = sym (move-moves w (forgotten x.method_of) norm mid t mid-original s (placed-places norm s.stack placed)) ∙ u.next
+    law : option_map (moved_turn (versions_forgotten x.method_of)) (move w mid s) ≡ Some (record { after = u.after; changes = Unwound ∷ [] })
+    law = sym (move-moves w (versions_forgotten x.method_of) norm mid t mid-original s (placed-places norm s.stack placed)) ∙ u.next
 
     by : (o : Option Turn) → move w mid s ≡ o → Unwinds w mid s
-    by None e = absurd (let h : None ≡ Some (record { after = u.after; changes = Unwound ∷ [] }) = sym (ap (option_map (moved_turn (forgotten x.method_of))) e) ∙ law in cc)
+    by None e = absurd (let h : None ≡ Some (record { after = u.after; changes = Unwound ∷ [] }) = sym (ap (option_map (moved_turn (versions_forgotten x.method_of))) e) ∙ law in cc)
     by (Some next) e =
-        let same : moved_turn (forgotten x.method_of) next ≡ record { after = u.after; changes = Unwound ∷ [] } =
-        same_Some _ _ (sym (ap (option_map (moved_turn (forgotten x.method_of))) e) ∙ law) in
+        let same : moved_turn (versions_forgotten x.method_of) next ≡ record { after = u.after; changes = Unwound ∷ [] } =
+        same_Some _ _ (sym (ap (option_map (moved_turn (versions_forgotten x.method_of))) e) ∙ law) in
         record { after = next.after; next = e ∙ ap (λ changes. Some (record { after = next.after; changes = changes })) (ap (λ (a : Turn). a.changes) same) }
 
   awaits-there : (todo : Todo) (s : State) → IsPlaced norm s → Awaits w mid todo s → Awaits w t todo (original_of x s)
@@ -108,15 +108,15 @@ module _ (w : World) (t : Listing) (x : Versioned) (own : Agrees x.norm (self x.
   awaits-there Moves s placed a = unwinds-there s placed a
 
   loaded-there : (todo : Todo) (s : State) → IsPlaced norm s → IsLoaded w mid todo s → IsLoaded w t todo (original_of x s)
-  loaded-there Attempt s placed a = loads-same norm w (forgotten x.method_of) mid t mid-original s placed ∙ a
+  loaded-there Attempt s placed a = loads-same norm w (versions_forgotten x.method_of) mid t mid-original s placed ∙ a
   loaded-there Moves s placed a = tt
 
   loaded-here : (todo : Todo) (s : State) → IsPlaced norm s → IsLoaded w t todo (original_of x s) → IsLoaded w mid todo s
-  loaded-here Attempt s placed a = sym (loads-same norm w (forgotten x.method_of) mid t mid-original s placed) ∙ a
+  loaded-here Attempt s placed a = sym (loads-same norm w (versions_forgotten x.method_of) mid t mid-original s placed) ∙ a
   loaded-here Moves s placed a = tt
 
-  original-rest : (todo : Todo) (s : State) → IsPlaced norm s → rest w t todo (original_of x s) ≡ moved_turn (forgotten x.method_of) (rest w mid todo s)
-  original-rest todo s placed = rest-moves norm w (forgotten x.method_of) mid t mid-own mid-original todo s placed
+  original-rest : (todo : Todo) (s : State) → IsPlaced norm s → rest w t todo (original_of x s) ≡ moved_turn (versions_forgotten x.method_of) (rest w mid todo s)
+  original-rest todo s placed = rest-moves norm w (versions_forgotten x.method_of) mid t mid-own mid-original todo s placed
 
   -- ---- a pause between, as one of the machine
 
@@ -129,7 +129,7 @@ module _ (w : World) (t : Listing) (x : Versioned) (own : Agrees x.norm (self x.
       left-same : (rest w mid todo b).changes ≡ drop passed turn.changes
       left-same = sym (ap (λ (a : Turn). a.changes) (original-rest todo b inhand.placed)) ∙ inhand.tells
 
-      later-rest : rest w t is.later (original_of x p.state) ≡ moved_turn (forgotten x.method_of) (rest w mid is.later p.state)
+      later-rest : rest w t is.later (original_of x p.state) ≡ moved_turn (versions_forgotten x.method_of) (rest w mid is.later p.state)
       later-rest = original-rest is.later p.state placed
 
       -- The same step is in hand.
@@ -165,7 +165,7 @@ module _ (w : World) (t : Listing) (x : Versioned) (own : Agrees x.norm (self x.
 module _ (w : World) (t : Listing) (x : Versioned) (own : Agrees x.norm (self x.norm) t t) (current : ℕ → ℕ) (u : Listing) (is : IsOfVersions x.norm x.method_of current x.homes t u)
     (only : EndsByReturn w) (turn : Turn) (passed : ℕ) (told : Bool) (live : List Held) where
   abbrev of_versions : Listing
-  of_versions = named x.method_of current t
+  of_versions = listing_named x.method_of current t
 
   abbrev placing : ℕ → ℕ → ℕ
   placing = norm_by x.method_of x.norm
@@ -215,15 +215,15 @@ module _ (w : World) (t : Listing) (x : Versioned) (own : Agrees x.norm (self x.
 -- the same where moves alone are left
 module _ (w : World) (t : Listing) (x : Versioned) (own : Agrees x.norm (self x.norm) t t) (current : ℕ → ℕ) (u : Listing) (is : IsOfVersions x.norm x.method_of current x.homes t u)
     (only : EndsByReturn w) (turn : Turn) (passed : ℕ) (live : List Held) where
-  pub moves-go : (s : State) → InHand w t x turn passed false live Moves s → GoesOn w t x current turn passed false live (paused w u x.mark_of passed s)
+  pub moves-go : (s : State) → InHand w t x turn passed false live Moves s → GoesOn w t x current turn passed false live (step_paused w u x.mark_of passed s)
   moves-go s inhand =
       let b : State = inhand.between in
-      let mid : Listing = named x.method_of current t in
+      let mid : Listing = listing_named x.method_of current t in
       let places : ℕ → ℕ → ℕ = norm_by x.method_of x.norm in
       let mid_own = named-own x.norm w t own x.method_of current in
       let paused_there = paused-is w mid x.mark_of passed b in
-      as-gone w t x own current u is only turn passed false live Moves s inhand (paused w mid x.mark_of passed b) (paused w u x.mark_of passed s)
-      (ap (paused w u x.mark_of passed) inhand.versioned
+      as-gone w t x own current u is only turn passed false live Moves s inhand (step_paused w mid x.mark_of passed b) (step_paused w u x.mark_of passed s)
+      (ap (step_paused w u x.mark_of passed) inhand.versioned
       ∙ paused-moves places w mid mid_own x.mark_of (at_homes x.homes) u is.agrees (λ version. refl) passed b inhand.placed)
       (paused-placed places w mid mid_own x.mark_of passed b inhand.placed)
       (record {
@@ -233,7 +233,7 @@ module _ (w : World) (t : Listing) (x : Versioned) (own : Agrees x.norm (self x.
         tells = paused_there.part.tells;
         count = paused_there.count;
         stops = paused_there.stops;
-        ends = λ nothing. nothing-left w mid (paused w mid x.mark_of passed b).state (paused_there.ends nothing);
+        ends = λ nothing. nothing-left w mid (step_paused w mid x.mark_of passed b).state (paused_there.ends nothing);
         awaits = paused_there.unwinds;
         loaded = tt;
         later_is = λ other. sym paused_there.later;
@@ -241,10 +241,10 @@ module _ (w : World) (t : Listing) (x : Versioned) (own : Agrees x.norm (self x.
 
   -- behind the event of an unwinding: `unwound` is the state without the frame
   pub unwound-goes : (s unwound : State) → InHand w t x turn passed true live Moves s → move w u s ≡ Some (record { after = unwound; changes = Unwound ∷ [] })
-      → GoesOn w t x current turn passed true live (paused w u x.mark_of (suc passed) unwound)
+      → GoesOn w t x current turn passed true live (step_paused w u x.mark_of (suc passed) unwound)
   unwound-goes s unwound inhand e =
       let b : State = inhand.between in
-      let mid : Listing = named x.method_of current t in
+      let mid : Listing = listing_named x.method_of current t in
       let places : ℕ → ℕ → ℕ = norm_by x.method_of x.norm in
       let mid_own = named-own x.norm w t own x.method_of current in
       let next = unwinds-here w t x own current is.begins b inhand.placed (inhand.awaits refl) in
@@ -256,8 +256,8 @@ module _ (w : World) (t : Listing) (x : Versioned) (own : Agrees x.norm (self x.
       ∙ (move-moves w (at_homes x.homes) places mid u is.agrees b (placed-places places b.stack inhand.placed)
       ∙ ap (option_map (moved_turn (at_homes x.homes))) next.next)))) in
       let paused_there = unwound-paused w mid x.mark_of passed b there next.next in
-      as-gone w t x own current u is only turn passed true live Moves s inhand (paused w mid x.mark_of (suc passed) there) (paused w u x.mark_of (suc passed) unwound)
-      (ap (paused w u x.mark_of (suc passed)) same
+      as-gone w t x own current u is only turn passed true live Moves s inhand (step_paused w mid x.mark_of (suc passed) there) (step_paused w u x.mark_of (suc passed) unwound)
+      (ap (step_paused w u x.mark_of (suc passed)) same
       ∙ paused-moves places w mid mid_own x.mark_of (at_homes x.homes) u is.agrees (λ version. refl) (suc passed) there placed)
       (paused-placed places w mid mid_own x.mark_of (suc passed) there placed)
       (record {
@@ -267,7 +267,7 @@ module _ (w : World) (t : Listing) (x : Versioned) (own : Agrees x.norm (self x.
         tells = paused_there.tells;
         count = paused_there.count;
         stops = paused_there.stops;
-        ends = λ nothing. nothing-left w mid (paused w mid x.mark_of (suc passed) there).state (paused_there.ends nothing);
+        ends = λ nothing. nothing-left w mid (step_paused w mid x.mark_of (suc passed) there).state (paused_there.ends nothing);
         awaits = paused_there.unwinds;
         loaded = tt;
         later_is = λ other. sym paused_there.later;

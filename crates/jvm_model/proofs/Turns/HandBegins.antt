@@ -2,10 +2,10 @@
 use Rattle.std.proofs.Common.{◌≡◌, ℕ, Bool, true, false, List, [], ◌∷◌, drop, refl, sym, ap, subst, ◌∙◌}
 use Rattle.jvm_model.specs.Basis.Data.{Entry, Active, Initializing, State, Turn, Listing, World}
 use Rattle.jvm_model.specs.Running.Applies.{still}
-use Rattle.jvm_model.specs.Running.Moves.{settled}
+use Rattle.jvm_model.specs.Running.Moves.{turn_settled}
 use Rattle.jvm_model.specs.Running.Run.{step, start, with_loaded, loaded_turn, main_loads, starts_with}
 use Rattle.jvm_model.specs.Codes.Moved.{moved_stack, Agrees, self, IsPlaced}
-use Rattle.jvm_model.specs.Rewriting.StandsForRun.{forgotten, at_homes, norm_by, StandsFor, IsOfVersions, KeepVersions}
+use Rattle.jvm_model.specs.Rewriting.StandsForRun.{versions_forgotten, at_homes, norm_by, StandsFor, IsOfVersions, KeepVersions}
 use Rattle.jvm_model.specs.Turns.Rest.{step_loads, Todo, Attempt, Moves, rest}
 use Rattle.jvm_model.specs.Turns.Told.{Held, helds}
 use Rattle.jvm_model.specs.Turns.StepPauses.{Awaits, IsLoaded}
@@ -89,13 +89,13 @@ module _ (w : World) (t : Listing) (x : Versioned) (own : Agrees x.norm (self x.
 -- It has no frame, so it is the same in all versions.
 pub hand-starts : (w : World) (t : Listing) (x : Versioned) → InHand w t x (start w t) (behind_load (main_loads w)) false (helds x.mark_of (starts_with w).stack) Moves (starts_with w)
 hand-starts w t x =
-    let there : Turn = settled w t (still (starts_with w)) in
+    let there : Turn = turn_settled w t (still (starts_with w)) in
     record {
       between = starts_with w;
       versioned = sym (starts-still (at_homes x.homes) w);
       placed = ap (λ (s : State). s.stack) (starts-still (self (norm_by x.method_of x.norm)) w);
-      same = ap (λ z. (settled w t (still z)).after) (starts-still (forgotten x.method_of) w) ∙ sym (load-after (main_loads w) there);
-      tells = ap (λ z. (settled w t (still z)).changes) (starts-still (forgotten x.method_of) w) ∙ sym (drop-load (main_loads w) there);
+      same = ap (λ z. (turn_settled w t (still z)).after) (starts-still (versions_forgotten x.method_of) w) ∙ sym (load-after (main_loads w) there);
+      tells = ap (λ z. (turn_settled w t (still z)).changes) (starts-still (versions_forgotten x.method_of) w) ∙ sym (drop-load (main_loads w) there);
       lives = refl;
       awaits = λ yes. absurd (let e : false ≡ true = yes in cc);
       loaded = tt;

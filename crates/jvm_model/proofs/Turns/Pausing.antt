@@ -9,10 +9,10 @@ use Rattle.jvm_model.specs.Basis.Data.{Constants, Superclass, Initializer, Finis
 use Rattle.jvm_model.specs.Basis.Programs.{initializer_of}
 use Rattle.jvm_model.specs.Basis.SharedState.{class_of}
 use Rattle.jvm_model.specs.Running.Applies.{has_room, live_in, most_live}
-use Rattle.jvm_model.specs.Running.Moves.{handler_for, caught, runs_initializer, argument_array, main_or_end, moves, move, left}
+use Rattle.jvm_model.specs.Running.Moves.{handler_for, throw_caught, runs_initializer, argument_array, main_or_end, moves, move, moves_left}
 use Rattle.jvm_model.specs.Turns.Told.{Held, held_after, all_held, helds, mark_now}
 use Rattle.jvm_model.specs.Turns.Rest.{Moves, rest}
-use Rattle.jvm_model.specs.Turns.Pauses.{end_due, later_of, unless_off, Due, Nothing, Ends, Begins, change_due, changes_due, stop_by, stop_in, Pause, pause_by, pauses, paused, passed_by, IsPaused}
+use Rattle.jvm_model.specs.Turns.Pauses.{end_due, later_of, unless_off, Due, Nothing, Ends, Begins, change_due, changes_due, stop_by, stop_in, Pause, pause_by, pauses, step_paused, passed_by, IsPaused}
 use Rattle.jvm_model.proofs.Running.Settles.{move-less}
 use Rattle.jvm_model.proofs.Events.Helds.{moves-tell}
 use Rattle.jvm_model.proofs.Turns.Rests.{move-part, no-part, then-part, nothing-left}
@@ -34,7 +34,7 @@ chosen-one : (b : Bool) (x y : Turn) → OneAtMost x.changes → OneAtMost y.cha
 chosen-one true x y p q = p
 chosen-one false x y p q = q
 
-caught-one : (w : World) (t : Listing) (s : State) (r : ℕ) (f : Frame) (h : Option ℕ) → OneAtMost (caught w t s r f h).changes
+caught-one : (w : World) (t : Listing) (s : State) (r : ℕ) (f : Frame) (h : Option ℕ) → OneAtMost (throw_caught w t s r f h).changes
 caught-one w t s r f None = one Unwound tt
 caught-one w t s r f (Some target) = none
 
@@ -64,7 +64,7 @@ move-one w t s = moves-one w t s s.ending s.thrown s.stack
 
 -- ---- the pause
 
-none-more : (w : World) (t : Listing) (s : State) (o : Option Turn) → IfSome o (λ next. left next.after < left s) → left s ≤ 0 → o ≡ None
+none-more : (w : World) (t : Listing) (s : State) (o : Option Turn) → IfSome o (λ next. moves_left next.after < moves_left s) → moves_left s ≤ 0 → o ≡ None
 none-more w t s None less le = refl
 none-more w t s (Some next) less le = absurd (omega arith)
 
@@ -171,20 +171,20 @@ module _ (w : World) (t : Listing) (v : ℕ → Mark) where
       paused-on n s (record { after = after; changes = [] }) later e (ap (λ live. stop_in marks n live (rest w t Moves after).changes) (sym held)) (λ changes. refl) is
   paused-move n s after _ later (one c other) e held is = paused-by n s after c later other e held is (change_due marks (helds v s.stack) c) refl
 
-  pauses-by : (k n : ℕ) (s : State) → ((next : Turn) → left next.after ≤ k → IsPaused w t v (passed_by n next.changes) next.after (pauses w t v k (passed_by n next.changes) next.after))
-      → (o : Option Turn) → move w t s ≡ o → IfSome o (λ next. left next.after < left s) → IfSome o (λ (next : Turn). OneAtMost next.changes)
-      → IfSome o (λ next. helds v next.after.stack ≡ all_held marks (helds v s.stack) next.changes) → left s ≤ suc k
+  pauses-by : (k n : ℕ) (s : State) → ((next : Turn) → moves_left next.after ≤ k → IsPaused w t v (passed_by n next.changes) next.after (pauses w t v k (passed_by n next.changes) next.after))
+      → (o : Option Turn) → move w t s ≡ o → IfSome o (λ next. moves_left next.after < moves_left s) → IfSome o (λ (next : Turn). OneAtMost next.changes)
+      → IfSome o (λ next. helds v next.after.stack ≡ all_held marks (helds v s.stack) next.changes) → moves_left s ≤ suc k
       → IsPaused w t v n s (option_map_or (λ (next : Turn). pause_by s next.after n next.changes (changes_due marks (helds v s.stack) next.changes)
       (pauses w t v k (passed_by n next.changes) next.after)) o (record { state = s; passed = n; due = Nothing }))
   pauses-by k n s later None e less single held le = paused-none n s e
   pauses-by k n s later (Some next) e less single held le =
       paused-move n s next.after next.changes (pauses w t v k (passed_by n next.changes) next.after) single e held (later next (omega arith))
 
-  pub pauses-is : (k n : ℕ) (s : State) → left s ≤ k → IsPaused w t v n s (pauses w t v k n s)
+  pub pauses-is : (k n : ℕ) (s : State) → moves_left s ≤ k → IsPaused w t v n s (pauses w t v k n s)
   pauses-is zero n s le = paused-none n s (none-more w t s (move w t s) (move-less w t s) le)
   pauses-is (suc k) n s le =
       pauses-by k n s (λ next less. pauses-is k (passed_by n next.changes) next.after less) (move w t s) refl (move-less w t s) (move-one w t s)
       (moves-tell v w t s s.ending s.thrown s.stack refl) le
 
-  pub paused-is : (n : ℕ) (s : State) → IsPaused w t v n s (paused w t v n s)
-  paused-is n s = pauses-is (left s) n s (omega arith)
+  pub paused-is : (n : ℕ) (s : State) → IsPaused w t v n s (step_paused w t v n s)
+  paused-is n s = pauses-is (moves_left s) n s (omega arith)

@@ -5,8 +5,8 @@ use Rattle.std.specs.Option.{option_map}
 use Rattle.jvm_model.specs.Basis.Data.{Frame, Entry, Active, Initializing, Ending, State, Instruction, Listing, World}
 use Rattle.jvm_model.specs.Running.Run.{with_loaded}
 use Rattle.jvm_model.specs.Turns.Rest.{loads_at, loads_on, step_loads, Todo, Attempt, Moves, rest}
-use Rattle.jvm_model.specs.Codes.Moved.{Moving, moved, moved_frame, moved_stack, moved_instruction, ArePlaces, Agrees, self, IsPlaced}
-use Rattle.jvm_model.specs.Rewriting.StandsForRun.{named, forgotten, at_homes, norm_by, StandsFor, IsOfVersions}
+use Rattle.jvm_model.specs.Codes.Moved.{Moving, state_moved, moved_frame, moved_stack, moved_instruction, ArePlaces, Agrees, self, IsPlaced}
+use Rattle.jvm_model.specs.Rewriting.StandsForRun.{listing_named, versions_forgotten, at_homes, norm_by, StandsFor, IsOfVersions}
 use Rattle.jvm_model.proofs.Running.Operations.{loads-moves}
 use Rattle.jvm_model.proofs.Relocated.StepMoves.{placed-places}
 use Rattle.jvm_model.proofs.Relocated.StandsForRun.{named-original, step-stands_for, step-same_changes, moves-stand_for, moves-same_changes}
@@ -14,20 +14,20 @@ use Rattle.jvm_model.proofs.Relocated.StandsForRun.{named-original, step-stands_
 -- ---- loads
 
 module _ (norm : ℕ → ℕ → ℕ) (w : World) (m : Moving) (t u : Listing) (agrees : Agrees norm m t u) where
-  at-moves : (s : State) (f : Frame) (i : Option Instruction) → loads_at w (moved m s) (moved_frame m f) (option_map (moved_instruction (m.home f.version)) i) ≡ loads_at w s f i
+  at-moves : (s : State) (f : Frame) (i : Option Instruction) → loads_at w (state_moved m s) (moved_frame m f) (option_map (moved_instruction (m.home f.version)) i) ≡ loads_at w s f i
   at-moves s f None = refl
   at-moves s f (Some i) = loads-moves (m.home f.version) w i.operation s.shared f.operands
 
-  on-moves : (s : State) (ending : Option Ending) (stack : List Entry) → ArePlaces norm stack → loads_on w u (moved m s) ending (moved_stack m stack) ≡ loads_on w t s ending stack
-  on-moves s None (Active f ∷ below) are = ap (loads_at w (moved m s) (moved_frame m f)) (agrees.lines f.version f.place are.0) ∙ at-moves s f (t.at f.version f.place)
+  on-moves : (s : State) (ending : Option Ending) (stack : List Entry) → ArePlaces norm stack → loads_on w u (state_moved m s) ending (moved_stack m stack) ≡ loads_on w t s ending stack
+  on-moves s None (Active f ∷ below) are = ap (loads_at w (state_moved m s) (moved_frame m f)) (agrees.lines f.version f.place are.0) ∙ at-moves s f (t.at f.version f.place)
   on-moves s None [] are = refl
   on-moves s None (Initializing c part ∷ below) are = refl
   on-moves s (Some e) stack are = refl
 
-  pub loads-same : (s : State) → IsPlaced norm s → step_loads w u (moved m s) ≡ step_loads w t s
+  pub loads-same : (s : State) → IsPlaced norm s → step_loads w u (state_moved m s) ≡ step_loads w t s
   loads-same s placed = on-moves s s.ending s.stack (placed-places norm s.stack placed)
 
-  loaded-elsewhere : (classes : List ℕ) (s : State) → with_loaded classes (moved m s) ≡ moved m (with_loaded classes s)
+  loaded-elsewhere : (classes : List ℕ) (s : State) → with_loaded classes (state_moved m s) ≡ state_moved m (with_loaded classes s)
   loaded-elsewhere [] s = refl
   loaded-elsewhere (c ∷ more) s = refl
 
@@ -60,8 +60,8 @@ module _ (norm : ℕ → ℕ → ℕ) (w : World) (t : Listing) (own : Agrees no
   pub step_loads-same : step_loads w u versioned ≡ step_loads w t original
   step_loads-same =
       let s : State = stands.between in
-      let mid : Listing = named method_of current t in
+      let mid : Listing = listing_named method_of current t in
       ap (step_loads w u) stands.versioned_is
       ∙ (loads-same (norm_by method_of norm) w (at_homes homes) mid u is.agrees s stands.at_places
-      ∙ (sym (loads-same (norm_by method_of norm) w (forgotten method_of) mid t (named-original norm w t own method_of current is.begins) s stands.at_places)
+      ∙ (sym (loads-same (norm_by method_of norm) w (versions_forgotten method_of) mid t (named-original norm w t own method_of current is.begins) s stands.at_places)
       ∙ ap (step_loads w t) (sym stands.original_is)))

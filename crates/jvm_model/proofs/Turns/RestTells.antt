@@ -4,7 +4,7 @@ use Rattle.std.proofs.lemmas.Option.{IfSome_then}
 use Rattle.jvm_model.specs.Basis.Data.{Frame, Entry, Active, Initializing, Ending, State, Change, Loads, Began, Left, Unwound, Turn, Instruction, Outcome, GoesOn, Subroutine, Invokes, Returns, Throws, Raises, Initializes, Exits, Breaks, Done, Listing, World}
 use Rattle.jvm_model.specs.Instructions.Does.{does}
 use Rattle.jvm_model.specs.Running.Applies.{still, applies, has_room, live_in, most_live}
-use Rattle.jvm_model.specs.Running.Moves.{move, then_turn, settled}
+use Rattle.jvm_model.specs.Running.Moves.{move, then_turn, turn_settled}
 use Rattle.jvm_model.specs.Running.Run.{attempt, starts, with_loaded, loaded_turn, steps_by, steps_at, steps_on}
 use Rattle.jvm_model.specs.Turns.Rest.{loads_at, loads_first, loads_on, Todo, Attempt, Moves, rest}
 use Rattle.jvm_model.specs.Turns.StepPauses.{IsLoaded}
@@ -40,7 +40,7 @@ of-one _ (one (Began m) is) = tt
 of-one _ (one Left is) = tt
 of-one _ (one Unwound is) = tt
 
-settled-no : (w : World) (t : Listing) (a : Turn) → NoLoads a.changes → NoLoads (settled w t a).changes
+settled-no : (w : World) (t : Listing) (a : Turn) → NoLoads a.changes → NoLoads (turn_settled w t a).changes
 settled-no w t a p =
     settled-keeps w t (λ b. NoLoads b.changes)
     (λ b q. IfSome_then (move w t b.after) {P = λ (next : Turn). OneAtMost next.changes} {Q = λ next. NoLoads (then_turn b next).changes} (move-one w t b.after)

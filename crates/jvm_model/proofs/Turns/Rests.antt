@@ -5,7 +5,7 @@ use Rattle.jvm_model.specs.Basis.Data.{Operands, Frame, Entry, Active, Initializ
 use Rattle.jvm_model.specs.Instructions.Does.{does, loads}
 use Rattle.jvm_model.specs.Instructions.SymbolicReference.{newly_loaded}
 use Rattle.jvm_model.specs.Running.Applies.{still}
-use Rattle.jvm_model.specs.Running.Moves.{move, left, then_turn, settles, settled}
+use Rattle.jvm_model.specs.Running.Moves.{move, moves_left, then_turn, settles, turn_settled}
 use Rattle.jvm_model.specs.Running.Run.{with_loaded, loaded_turn, steps_by, steps_at, steps_on, step}
 use Rattle.jvm_model.specs.Turns.Rest.{loads_at, loads_on, step_loads, Todo, Moves, rest, IsPart}
 use Rattle.jvm_model.proofs.Loading.LoadsAgain.{newly-again}
@@ -103,13 +103,13 @@ settles-then w t (suc n) a b = by (move w t b.after) (λ next. settles-then w t 
   by (Some next) later = ap (settles w t n) (append-changes a b next) ∙ later next
 
 -- the moves from a turn on are those from its state on
-pub settled-still : (w : World) (t : Listing) (a : Turn) → settled w t a ≡ then_turn a (settled w t (still a.after))
-settled-still w t a = ap (λ changes. settles w t (left a.after) (record { after = a.after; changes = changes })) (sym (append-nil a.changes)) ∙ settles-then w t (left a.after) a (still a.after)
+pub settled-still : (w : World) (t : Listing) (a : Turn) → turn_settled w t a ≡ then_turn a (turn_settled w t (still a.after))
+settled-still w t a = ap (λ changes. settles w t (moves_left a.after) (record { after = a.after; changes = changes })) (sym (append-nil a.changes)) ∙ settles-then w t (moves_left a.after) a (still a.after)
 
 -- A move, or several: what is left of a turn's moves is what is left of its state's, behind its changes.
 pub move-part : (w : World) (t : Listing) (s : State) (next : Turn) → move w t s ≡ Some next → IsPart w t Moves s next.changes Moves next.after
 move-part w t s next e =
-    let all : settled w t (still s) ≡ then_turn next (settled w t (still next.after)) = sym (moved-same w t (still s) next e) ∙ settled-still w t next in
+    let all : turn_settled w t (still s) ≡ then_turn next (turn_settled w t (still next.after)) = sym (moved-same w t (still s) next e) ∙ settled-still w t next in
     record { same = ap (λ (a : Turn). a.after) all; tells = ap (λ (a : Turn). a.changes) all }
 
 pub no-part : (w : World) (t : Listing) (l : Todo) (s : State) → IsPart w t l s [] l s

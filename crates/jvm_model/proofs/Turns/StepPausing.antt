@@ -15,11 +15,11 @@ use Rattle.jvm_model.specs.Instructions.Does.{does, loads}
 use Rattle.jvm_model.specs.Running.Applies.{breaks, still, applies, has_room, live_in, most_live}
 use Rattle.jvm_model.specs.Running.Run.{starts, steps_on, steps_by, steps_at, with_loaded, loaded_turn, attempt, is_quiet, is_ready, goes_on, goes_again}
 use Rattle.jvm_model.specs.Basis.SharedState.{phase_of}
-use Rattle.jvm_model.specs.Running.Moves.{move, then_turn, settled}
+use Rattle.jvm_model.specs.Running.Moves.{move, then_turn, turn_settled}
 use Rattle.jvm_model.specs.Turns.Told.{Held, held_by, held_after, all_held, helds, mark_now}
 use Rattle.jvm_model.specs.Turns.Rest.{loads_at, loads_on, step_loads, Attempt, Moves, rest, IsPart}
-use Rattle.jvm_model.specs.Turns.Pauses.{later_of, end_due, Due, Nothing, Ends, Begins, unless_off, change_due, Stop, stop_by, stop_in, stop_from, Pause, paused, passed_by, stop_of, IsPaused, is_end, Unwinds}
-use Rattle.jvm_model.specs.Turns.StepPauses.{ends_by, is_at_return, frame_pause, stack_pause, step_pause, is_return, leave_due, IsStepPaused, is_nothing, again_pause, pause_behind, turn_pause, attempted}
+use Rattle.jvm_model.specs.Turns.Pauses.{later_of, end_due, Due, Nothing, Ends, Begins, unless_off, change_due, Stop, stop_by, stop_in, stop_from, Pause, step_paused, passed_by, stop_of, IsPaused, is_end, Unwinds}
+use Rattle.jvm_model.specs.Turns.StepPauses.{ends_by, is_at_return, frame_pause, stack_pause, step_pause, is_return, leave_due, IsStepPaused, is_nothing, again_pause, pause_behind, turn_pause, instruction_attempted}
 use Rattle.jvm_model.proofs.Events.Helds.{applies-tells, moves-tell}
 use Rattle.jvm_model.proofs.Turns.Rests.{settled-still, nothing-left, no-part, move-part}
 use Rattle.jvm_model.proofs.Turns.Pausing.{paused-is}
@@ -79,14 +79,14 @@ module _ (w : World) (t : Listing) (v : ℕ → Mark) where
   abbrev marks : ℕ → Mark
   marks = mark_now v t
 
-  all-changes : (a : Turn) → (settled w t a).changes ≡ a.changes ++ (rest w t Moves a.after).changes
+  all-changes : (a : Turn) → (turn_settled w t a).changes ≡ a.changes ++ (rest w t Moves a.after).changes
   all-changes a = ap (λ (b : Turn). b.changes) (settled-still w t a)
 
   -- behind the changes of the instruction, and with what the pause of the moves behind it comes to
   turn-on : (told : Bool) (n : ℕ) (live : List Held) (after : State) (changes : List Change) (p : Pause)
       → stop_from marks told n live (changes ++ (rest w t Moves after).changes) ≡ stop_in marks (passed_by n changes) (helds v after.stack) (rest w t Moves after).changes
       → ((more : List Change) → passed_by (passed_by n changes) more ≡ passed_by n (changes ++ more))
-      → IsPaused w t v (passed_by n changes) after p → IsTurnPaused w t v told n live (settled w t (record { after = after; changes = changes })) p
+      → IsPaused w t v (passed_by n changes) after p → IsTurnPaused w t v told n live (turn_settled w t (record { after = after; changes = changes })) p
   turn-on told n live after changes p goes counts is =
       let a : Turn = record { after = after; changes = changes } in
       record {
@@ -102,21 +102,21 @@ module _ (w : World) (t : Listing) (v : ℕ → Mark) where
 
   turn-by : (told : Bool) (n : ℕ) (live : List Held) (after : State) (changes : List Change) → MayTell marks live told changes
       → helds v after.stack ≡ all_held marks live changes
-      → IsTurnPaused w t v told n live (settled w t (record { after = after; changes = changes })) (turn_pause w t v n live (record { after = after; changes = changes }))
+      → IsTurnPaused w t v told n live (turn_settled w t (record { after = after; changes = changes })) (turn_pause w t v n live (record { after = after; changes = changes }))
   turn-by _ n live after _ told_before held =
-      subst (IsTurnPaused w t v true n live (settled w t (record { after = after; changes = Left ∷ [] }))) (sym (end-goes_on kind.Leave live (record { state = after; passed = suc n; due = Begins }) (paused w t v (suc n) after)))
-      (turn-on true n live after (Left ∷ []) (paused w t v (suc n) after) (ap (λ l. stop_in marks (suc n) l (rest w t Moves after).changes) (sym held)) (λ more. refl) (paused-is w t v (suc n) after))
+      subst (IsTurnPaused w t v true n live (turn_settled w t (record { after = after; changes = Left ∷ [] }))) (sym (end-goes_on kind.Leave live (record { state = after; passed = suc n; due = Begins }) (step_paused w t v (suc n) after)))
+      (turn-on true n live after (Left ∷ []) (step_paused w t v (suc n) after) (ap (λ l. stop_in marks (suc n) l (rest w t Moves after).changes) (sym held)) (λ more. refl) (paused-is w t v (suc n) after))
   turn-by _ n live after _ silent held =
-      turn-on false n live after [] (paused w t v n after) (ap (λ l. stop_in marks n l (rest w t Moves after).changes) (sym held)) (λ more. refl) (paused-is w t v n after)
+      turn-on false n live after [] (step_paused w t v n after) (ap (λ l. stop_in marks n l (rest w t Moves after).changes) (sym held)) (λ more. refl) (paused-is w t v n after)
   turn-by _ n live after _ (quiet c due) held =
       let later : Stop = stop_in marks (suc n) (held_after marks live c) (rest w t Moves after).changes in
-      subst (λ d. IsTurnPaused w t v false n live (settled w t (record { after = after; changes = c ∷ [] })) (pause_behind d (record { state = after; passed = suc n; due = Begins }) (paused w t v (suc n) after))) (sym due)
-      (turn-on false n live after (c ∷ []) (paused w t v (suc n) after)
+      subst (λ d. IsTurnPaused w t v false n live (turn_settled w t (record { after = after; changes = c ∷ [] })) (pause_behind d (record { state = after; passed = suc n; due = Begins }) (step_paused w t v (suc n) after))) (sym due)
+      (turn-on false n live after (c ∷ []) (step_paused w t v (suc n) after)
       (ap (λ d. stop_by live (held_after marks live c) n d later) due ∙ ap (λ l. stop_in marks (suc n) l (rest w t Moves after).changes) (sym held)) (λ more. refl) (paused-is w t v (suc n) after))
   turn-by _ n live after _ (begins c due) held =
       let a : Turn = record { after = after; changes = c ∷ [] } in
       let later : Stop = stop_in marks (suc n) (held_after marks live c) (rest w t Moves after).changes in
-      subst (λ d. IsTurnPaused w t v false n live (settled w t a) (pause_behind d (record { state = after; passed = suc n; due = Begins }) (paused w t v (suc n) after))) (sym due)
+      subst (λ d. IsTurnPaused w t v false n live (turn_settled w t a) (pause_behind d (record { state = after; passed = suc n; due = Begins }) (step_paused w t v (suc n) after))) (sym due)
       (record {
         changes = c ∷ [];
         same = ap (λ (b : Turn). b.after) (settled-still w t a);
@@ -172,14 +172,14 @@ module _ (w : World) (t : Listing) (v : ℕ → Mark) where
   has-told i (Initializes c) s f e = absurd (let h : false ≡ true = e in cc)
   has-told i (Exits n) s f e = absurd (let h : false ≡ true = e in cc)
 
-  attempted-held : (i : Instruction) (s : State) (f : Frame) → helds v (attempted w t i s f).after.stack ≡ all_held marks (held_by v f ∷ helds v s.stack) (attempted w t i s f).changes
+  attempted-held : (i : Instruction) (s : State) (f : Frame) → helds v (instruction_attempted w t i s f).after.stack ≡ all_held marks (held_by v f ∷ helds v s.stack) (instruction_attempted w t i s f).changes
   attempted-held i s f =
       let d : Done = does w i.operation s.shared f.locals f.operands in
       applies-tells v w t i d.outcome (record s { shared = d.shared; output = s.output ++ d.wrote }) f
 
-  attempt-paused : (told : Bool) (n : ℕ) (i : Instruction) (s : State) (f : Frame) → MayTell marks (held_by v f ∷ helds v s.stack) told (attempted w t i s f).changes
-      → IsTurnPaused w t v told n (held_by v f ∷ helds v s.stack) (attempt w t i s f) (turn_pause w t v n (held_by v f ∷ helds v s.stack) (attempted w t i s f))
-  attempt-paused told n i s f may = turn-by told n (held_by v f ∷ helds v s.stack) (attempted w t i s f).after (attempted w t i s f).changes may (attempted-held i s f)
+  attempt-paused : (told : Bool) (n : ℕ) (i : Instruction) (s : State) (f : Frame) → MayTell marks (held_by v f ∷ helds v s.stack) told (instruction_attempted w t i s f).changes
+      → IsTurnPaused w t v told n (held_by v f ∷ helds v s.stack) (attempt w t i s f) (turn_pause w t v n (held_by v f ∷ helds v s.stack) (instruction_attempted w t i s f))
+  attempt-paused told n i s f may = turn-by told n (held_by v f ∷ helds v s.stack) (instruction_attempted w t i s f).after (instruction_attempted w t i s f).changes may (attempted-held i s f)
 
   -- ---- once more
 
@@ -230,14 +230,14 @@ module _ (w : World) (t : Listing) (v : ℕ → Mark) where
   second-paused n live i s f x p q e is = subst (λ (y : Turn). IsTurnPaused w t v false n live (then_turn y (attempt w t i (record y.after { stack = s.stack }) f)) q) (sym e) is
 
   again-paused : (n : ℕ) (i : Instruction) (s : State) (f : Frame) (c : Option ℕ) (x : Turn) (p : Pause)
-      → ((s' : State) → s'.stack ≡ s.stack → MayTell marks (held_by v f ∷ helds v s'.stack) false (attempted w t i s' f).changes)
+      → ((s' : State) → s'.stack ≡ s.stack → MayTell marks (held_by v f ∷ helds v s'.stack) false (instruction_attempted w t i s' f).changes)
       → IsTurnPaused w t v false n (held_by v f ∷ helds v s.stack) x p
       → IsTurnPaused w t v false n (held_by v f ∷ helds v s.stack) (goes_again w t i s f c x) (again_pause w t v n (held_by v f ∷ helds v s.stack) i s f c p)
   again-paused n i s f None x p may is = is
   again-paused n i s f (Some c) x p may is =
       let live : List Held = held_by v f ∷ helds v s.stack in
       let s' : State = record p.state { stack = s.stack } in
-      let q : Pause = turn_pause w t v n live (attempted w t i s' f) in
+      let q : Pause = turn_pause w t v n live (instruction_attempted w t i s' f) in
       let quiet : Bool = is_nothing p.due && p.passed == n in
       let ready : Bool = is_ready (phase_of p.state.shared c) in
       let on : Bool = goes_on p.state.ending p.state.thrown in
@@ -290,19 +290,19 @@ module _ (w : World) (t : Listing) (v : ℕ → Mark) where
     line-paused : (told : Bool) (n : ℕ) (s : State) (f : Frame) (i : Instruction) → (told ≡ true → is_return i.operation ≡ true) → leave_due told (v f.version) i.operation ≡ false
         → IsTurnPaused w t v told n (held_by v f ∷ helds v s.stack) (steps_by w t i s f (does w i.operation s.shared f.locals f.operands))
         (again_pause w t v n (held_by v f ∷ helds v s.stack) i s f (starts (does w i.operation s.shared f.locals f.operands).outcome)
-        (turn_pause w t v n (held_by v f ∷ helds v s.stack) (attempted w t i s f)))
+        (turn_pause w t v n (held_by v f ∷ helds v s.stack) (instruction_attempted w t i s f)))
     line-paused true n s f i is none_due =
         let d : Done = does w i.operation s.shared f.locals f.operands in
         let live : List Held = held_by v f ∷ helds v s.stack in
         let ends : ends_by d.outcome ≡ true = return-ends i.operation s.shared f.locals f.operands (is refl) in
-        subst (λ c. IsTurnPaused w t v true n live (goes_again w t i s f c (attempt w t i s f)) (again_pause w t v n live i s f c (turn_pause w t v n live (attempted w t i s f)))) (sym (ends-start d.outcome ends))
+        subst (λ c. IsTurnPaused w t v true n live (goes_again w t i s f c (attempt w t i s f)) (again_pause w t v n live i s f c (turn_pause w t v n live (instruction_attempted w t i s f)))) (sym (ends-start d.outcome ends))
         (attempt-paused true n i s f (has-told i d.outcome (record s { shared = d.shared; output = s.output ++ d.wrote }) f ends))
     line-paused false n s f i is none_due =
         let d : Done = does w i.operation s.shared f.locals f.operands in
-        again-paused n i s f (starts d.outcome) (attempt w t i s f) (turn_pause w t v n (held_by v f ∷ helds v s.stack) (attempted w t i s f))
+        again-paused n i s f (starts d.outcome) (attempt w t i s f) (turn_pause w t v n (held_by v f ∷ helds v s.stack) (instruction_attempted w t i s f))
         (λ s' same. may s') (attempt-paused false n i s f (may s))
       where
-        may : (s' : State) → MayTell marks (held_by v f ∷ helds v s'.stack) false (attempted w t i s' f).changes
+        may : (s' : State) → MayTell marks (held_by v f ∷ helds v s'.stack) false (instruction_attempted w t i s' f).changes
         may s' =
             let d : Done = does w i.operation s'.shared f.locals f.operands in
             may-tell i d.outcome (record s' { shared = d.shared; output = s'.output ++ d.wrote }) f
@@ -342,7 +342,7 @@ module _ (w : World) (t : Listing) (v : ℕ → Mark) where
         let live : List Held = held_by v f ∷ helds v s.stack in
         let parts = leave-parts (v f.version) i.operation e in
         let ends : ends_by d.outcome ≡ true = return-ends i.operation s.shared f.locals f.operands parts.0 in
-        let a : Turn = attempted w t i s f in
+        let a : Turn = instruction_attempted w t i s f in
         let later : List Change = (rest w t Moves a.after).changes in
         ap (λ c. stop_in marks n live (goes_again w t i s f c (attempt w t i s f)).changes) (ends-start d.outcome ends)
         ∙ (ap (stop_in marks n live) (all-changes a)
@@ -381,7 +381,7 @@ module _ (w : World) (t : Listing) (v : ℕ → Mark) where
       by : (b : Bool) → leave_due told (v f.version) i.operation ≡ b
           → IsStepPaused w t v told n whole (if b then record { state = whole; passed = n; due = Ends kind.Leave }
           else again_pause w t v n (held_by v f ∷ helds v s.stack) i s f (starts (does w i.operation s.shared f.locals f.operands).outcome)
-          (turn_pause w t v n (held_by v f ∷ helds v s.stack) (attempted w t i s f)))
+          (turn_pause w t v n (held_by v f ∷ helds v s.stack) (instruction_attempted w t i s f)))
       by true e = left told e
       by false e = from-turn told n whole (steps_by w t i s f (does w i.operation s.shared f.locals f.operands)) _ (same ∙ at-rest s f i loaded) (line-paused told n s f i is e)
 
@@ -421,11 +421,11 @@ module _ (w : World) (t : Listing) (v : ℕ → Mark) where
 
 -- The current activation is unwound next; what is left is what is left of the state without it.
 pub unwound-paused : (w : World) (t : Listing) (v : ℕ → Mark) (n : ℕ) (s after : State) → move w t s ≡ Some (record { after = after; changes = Unwound ∷ [] })
-    → IsTurnPaused w t v true n (helds v s.stack) (rest w t Moves s) (paused w t v (suc n) after)
+    → IsTurnPaused w t v true n (helds v s.stack) (rest w t Moves s) (step_paused w t v (suc n) after)
 unwound-paused w t v n s after e =
     let x : Turn = record { after = after; changes = Unwound ∷ [] } in
     let part : IsPart w t Moves s (Unwound ∷ []) Moves after = move-part w t s x e in
-    let later : IsPaused w t v (suc n) after (paused w t v (suc n) after) = paused-is w t v (suc n) after in
+    let later : IsPaused w t v (suc n) after (step_paused w t v (suc n) after) = paused-is w t v (suc n) after in
     let held : helds v after.stack ≡ held_after (mark_now v t) (helds v s.stack) Unwound =
     subst (λ o. IfSome o (λ (next : Turn). helds v next.after.stack ≡ all_held (mark_now v t) (helds v s.stack) next.changes)) e (moves-tell v w t s s.ending s.thrown s.stack refl) in
     record {

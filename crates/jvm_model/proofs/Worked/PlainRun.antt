@@ -23,7 +23,7 @@ use Rattle.base_classes.specs.Natives.{native_methods}
 use Rattle.native_ops.specs.KindsViews.{is_among}
 use Rattle.native_ops.specs.Rows.{rows as native_rows}
 use Rattle.jvm_model.specs.Basis.Data.{World, Returned, Unverifiable}
-use Rattle.jvm_model.specs.Basis.Programs.{numbered}
+use Rattle.jvm_model.specs.Basis.Programs.{methods_numbered}
 use Rattle.jvm_model.specs.Basis.Families.{rows, family_of}
 use Rattle.jvm_model.specs.Running.Run.{turn_in, output_of, ending_of}
 use Rattle.jvm_model.proofs.Worked.WorkedLibrary.{library_files}
@@ -65,7 +65,7 @@ p1 = class_with (method_with 11 12 (26 ∷ 4 ∷ 96 ∷ 172 ∷ []) ∷ method_w
 -- it stands before the built-in classes, and reads nothing
 abbrev pub world_with : ClassFile → ℕ → World
 world_with c main = record {
-  program = record { classes = c ∷ library_files; methods = numbered (c ∷ library_files); main = main; acts = []; args = []; heap = 4194304 };
+  program = record { classes = c ∷ library_files; methods = methods_numbered (c ∷ library_files); main = main; acts = []; args = []; heap = 4194304 };
   input = [];
 }
 

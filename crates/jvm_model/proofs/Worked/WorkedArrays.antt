@@ -26,7 +26,7 @@ use Rattle.jvm_model.specs.Basis.Families.{family_of, rows}
 use Rattle.jvm_model.specs.Codes.Lines.{operation_by}
 use Rattle.jvm_model.specs.Instructions.LocalRules.{arithmetic_exception}
 use Rattle.jvm_model.specs.Basis.Programs.{no_class}
-use Rattle.jvm_model.specs.Running.Moves.{runs_initializer, settled}
+use Rattle.jvm_model.specs.Running.Moves.{runs_initializer, turn_settled}
 use Rattle.jvm_model.specs.Running.Run.{turn_in}
 use Rattle.jvm_model.specs.Basis.SharedState.{array_store, index_outside, negative_array_size, null_pointer, out_of_memory, stack_overflow}
 use Rattle.jvm_model.proofs.Worked.WorkedPrograms.{Sketches, after, aload_0, alone, at, call, get_out, getstatic, int, main_routine, null, operands_of, places_of, pop, println, returns, listing_by, uncaught_of, world_by}
@@ -445,7 +445,7 @@ pub beside_1024-places : places_of (beside 1024).after.stack ≡ 0 ∷ []
 beside_1024-places = refl
 
 abbrev pub overflown : Turn
-overflown = settled (world_by calls) (listing_by calls) (beside 1024)
+overflown = turn_settled (world_by calls) (listing_by calls) (beside 1024)
 
 pub overflown-changes : overflown.changes ≡ Unwound ∷ []
 unfolding turn_in

@@ -16,7 +16,7 @@ use Rattle.jvm_model.specs.Instructions.ObjectRules.{array_kind}
 use Rattle.jvm_model.specs.Classes.Lookup.{incompatible_change}
 use Rattle.jvm_model.specs.Instructions.SymbolicReference.{SymbolicReference, New, Getfield, Putfield, Getstatic, Putstatic, Checkcast, Instanceof, Anewarray, Multianewarray, newly_loaded}
 use Rattle.jvm_model.specs.Instructions.ReferenceRules.{does_named}
-use Rattle.jvm_model.specs.Basis.Programs.{numbered}
+use Rattle.jvm_model.specs.Basis.Programs.{methods_numbered}
 use Rattle.jvm_model.specs.Basis.SharedState.{Field, kind_for, negative_array_size, no_class_definition, no_such_field, null_pointer, shared_before, static_at, string, with_phase}
 use Rattle.jvm_model.proofs.Worked.WorkedLibrary.{Shape, class, file_of, interface, item, library_files, object_name, with_fields}
 use Rattle.jvm_model.proofs.Worked.WorkedPrograms.{reference}
@@ -25,7 +25,7 @@ use Rattle.jvm_model.proofs.Worked.WorkedPrograms.{reference}
 
 abbrev pub program_of : List Shape → Program
 program_of shapes = let classes = map file_of shapes ++ library_files in
-    record { classes = classes; methods = numbered classes; main = 0; acts = []; args = []; heap = 40 }
+    record { classes = classes; methods = methods_numbered classes; main = 0; acts = []; args = []; heap = 40 }
 
 -- nothing of these classes was initialized, and those at these positions are loaded
 abbrev pub fresh : Program → List ℕ → Shared

@@ -9,7 +9,7 @@ use Rattle.const_pool.specs.declared.class.Attribute.TheVariants.{Code}
 use Rattle.const_pool.specs.References.{NameAndType, Reference}
 use Rattle.jvm_model.specs.Basis.Data.{Pop, Ending, Uncaught, Entry, Active, Initializing, Constant, Load, ManageStack, Return, Operation, Within, Named, New, Getstatic, Putstatic, Invokestatic, Invokevirtual, Invokespecial, Operands, Instruction, Catcher, Listing, World, Change, State, Turn}
 use Rattle.jvm_model.specs.Codes.Lines.{next_of}
-use Rattle.jvm_model.specs.Basis.Programs.{numbered, class_named}
+use Rattle.jvm_model.specs.Basis.Programs.{methods_numbered, class_named}
 use Rattle.jvm_model.specs.Running.Run.{turn_in}
 use Rattle.jvm_model.specs.declared.event.Act.{Act}
 use Rattle.jvm_model.specs.Profiling.Activations.{Trace, current, trace_in}
@@ -58,7 +58,7 @@ class_files s = map class_file s.classes ++ library_files
 
 abbrev pub world_by : Sketches → World
 world_by s = record {
-  program = record { classes = class_files s; methods = numbered (class_files s); main = s.main; acts = []; args = []; heap = 4194304 };
+  program = record { classes = class_files s; methods = methods_numbered (class_files s); main = s.main; acts = []; args = []; heap = 4194304 };
   input = [];
 }
 

@@ -20,7 +20,7 @@ use Rattle.jvm_model.specs.Basis.Data.{Entry, Active, Listing, Isub, Store, Bina
 use Rattle.jvm_model.specs.declared.event.Act.{Act}
 use Rattle.jvm_model.specs.Running.Run.{turn_in}
 use Rattle.jvm_model.specs.Profiling.Activations.{trace_in}
-use Rattle.jvm_model.specs.Codes.Moved.{moved}
+use Rattle.jvm_model.specs.Codes.Moved.{state_moved}
 use Rattle.jvm_model.specs.Codes.Closed.{laid_out}
 use Rattle.jvm_model.specs.Rewriting.StandsFor.{home_at, by_homes}
 use Rattle.jvm_model.proofs.Worked.WorkedPrograms.{Sketches, world_by, listing_by, after, trace_by, contexts_by, member, routine, main_routine, alone, at, at_to, int, iload, ireturn, returns, call, prints_result}
@@ -92,7 +92,7 @@ pub p3-laid_stack : (turn_in (world_by p3) p3_laid 5).after.stack ≡ p3_stack
 unfolding turn_in int_wrap
 p3-laid_stack = refl
 
-pub p3-moved_stack : (moved (by_homes p3_homes) (after p3 5)).stack ≡ p3_stack
+pub p3-moved_stack : (state_moved (by_homes p3_homes) (after p3 5)).stack ≡ p3_stack
 unfolding turn_in int_wrap
 p3-moved_stack = refl
 

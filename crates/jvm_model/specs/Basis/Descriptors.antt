@@ -26,12 +26,12 @@ pub record Typed : Type 0 where
   pub kind : Kind
   pub rest : List ℕ
 
-abbrev pub typed : Kind → List ℕ → Typed
-typed kind rest = record { kind = kind; rest = rest }
+abbrev pub type_parsed : Kind → List ℕ → Typed
+type_parsed kind rest = record { kind = kind; rest = rest }
 
 -- an array is held by reference
 abbrev pub array_of : Typed → Typed
-array_of t = typed Ref t.rest
+array_of t = type_parsed Ref t.rest
 
 -- behind the next `;`
 abbrev pub name_rest : List ℕ → Option (List ℕ)
@@ -46,8 +46,8 @@ class_rest (unit ∷ rest) = if unit == 59 then None else name_rest rest
 -- `L` and a class, or the letter of a primitive type
 abbrev pub base_front : ℕ → List ℕ → Option Typed
 base_front unit rest =
-    if unit == 76 then option_map (typed Ref) (class_rest rest)
-    else option_map (λ kind. typed kind rest) (letter_kind unit)
+    if unit == 76 then option_map (type_parsed Ref) (class_rest rest)
+    else option_map (λ kind. type_parsed kind rest) (letter_kind unit)
 
 -- with at most so many `[` before it
 abbrev pub type_front : ℕ → List ℕ → Option Typed
@@ -69,18 +69,18 @@ pub record Params : Type 0 where
 abbrev pub with_param : Kind → Params → Params
 with_param kind p = record { kinds = kind ∷ p.kinds; rest = p.rest }
 
-abbrev pub closed : List ℕ → Option Params
-closed [] = None
-closed (unit ∷ rest) = if unit == 41 then Some (record { kinds = []; rest = rest }) else None
+abbrev pub parameters_closed : List ℕ → Option Params
+parameters_closed [] = None
+parameters_closed (unit ∷ rest) = if unit == 41 then Some (record { kinds = []; rest = rest }) else None
 
 -- where a type stands in front, it is one parameter more; else the list is closed
 abbrev pub params_by : (List ℕ → Option Params) → List ℕ → Option Typed → Option Params
-params_by others text None = closed text
+params_by others text None = parameters_closed text
 params_by others text (Some t) = option_map (with_param t.kind) (others t.rest)
 
 -- at most so many
 abbrev pub params_front : ℕ → List ℕ → Option Params
-params_front zero text = closed text
+params_front zero text = parameters_closed text
 params_front (suc n) text = params_by (params_front n) text (first_type text)
 
 -- a type with nothing behind it, or `V`

@@ -73,8 +73,8 @@ abbrev pub numbered_from : ℕ → List ClassFile → List MethodPlace
 numbered_from class [] = []
 numbered_from class (c ∷ rest) = coded_from class 0 c.methods ++ numbered_from (class + 1) rest
 
-abbrev pub numbered : List ClassFile → List MethodPlace
-numbered classes = numbered_from 0 classes
+abbrev pub methods_numbered : List ClassFile → List MethodPlace
+methods_numbered classes = numbered_from 0 classes
 
 -- where the method with this number stands
 abbrev pub place_of_method : Program → ℕ → Option MethodPlace
@@ -133,7 +133,7 @@ initializer_of p class = declared_method p initializer_name class
 
 -- its methods that have Code, without arguments and actions, and with the usual heap
 abbrev pub alone : ClassFile → ℕ → Program
-alone c main = record { classes = c ∷ []; methods = numbered (c ∷ []); main = main; acts = []; args = []; heap = 4194304 }
+alone c main = record { classes = c ∷ []; methods = methods_numbered (c ∷ []); main = main; acts = []; args = []; heap = 4194304 }
 
 abbrev pub world_of : ClassFile → ℕ → List ℕ → World
 world_of c main input = record { program = alone c main; input = input }

@@ -98,8 +98,8 @@ made_with w s name message cause =
     }
     else record { shared = s; reference = 1 }
 
-abbrev pub raised : World → Shared → List ℕ → Option (List ℕ) → Allocated
-raised w s name message = made_with w s name message null
+abbrev pub exception_raised : World → Shared → List ℕ → Option (List ℕ) → Allocated
+exception_raised w s name message = made_with w s name message null
 
 -- ---- names of classes that the rules speak of
 

@@ -65,9 +65,9 @@ refs_of _ = None
 -- ---- locals
 
 -- the value in a local, where it is of this kind
-abbrev pub loaded : Kind → Option (Option Value) → Option Value
-loaded k (Some (Some v)) = if has_kind k v then Some v else None
-loaded k _ = None
+abbrev pub local_loaded : Kind → Option (Option Value) → Option Value
+local_loaded k (Some (Some v)) = if has_kind k v then Some v else None
+local_loaded k _ = None
 
 -- astore also takes a return address, which aload does not give back
 abbrev pub is_storable : Kind → Value → Bool
@@ -83,19 +83,19 @@ abbrev pub has_slots : Locals → ℕ → Value → Bool
 has_slots l slot v = nat_le (slot + width v) (length l)
 
 -- A long takes the next slot too. A long whose second slot is written can no longer be read.
-abbrev pub stored : Locals → ℕ → Value → Locals
-stored l slot v = with_slot slot v (without_long_before slot l)
+abbrev pub local_stored : Locals → ℕ → Value → Locals
+local_stored l slot v = with_slot slot v (without_long_before slot l)
 
 -- arguments from slot 0 on, a long in two
-abbrev pub spread : List Datum → Locals
-spread [] = []
-spread (datum.Long n ∷ args) = Some (Long n) ∷ None ∷ spread args
-spread (datum.Int n ∷ args) = Some (Int n) ∷ spread args
-spread (datum.Ref r ∷ args) = Some (Ref r) ∷ spread args
+abbrev pub arguments_spread : List Datum → Locals
+arguments_spread [] = []
+arguments_spread (datum.Long n ∷ args) = Some (Long n) ∷ None ∷ arguments_spread args
+arguments_spread (datum.Int n ∷ args) = Some (Int n) ∷ arguments_spread args
+arguments_spread (datum.Ref r ∷ args) = Some (Ref r) ∷ arguments_spread args
 
 -- and the others unwritten
 abbrev pub locals_with : List Datum → ℕ → Locals
-locals_with args most = spread args ++ replicate (most - length (spread args)) None
+locals_with args most = arguments_spread args ++ replicate (most - length (arguments_spread args)) None
 
 -- ---- arguments and stack instructions
 

@@ -36,15 +36,15 @@ pub record Loading : Type 0 where
   pub loaded : List ℕ
   pub fault : Option Fault
 
-abbrev pub done : List ℕ → Loading
-done loaded = record { loaded = loaded; fault = None }
+abbrev pub loading_done : List ℕ → Loading
+loading_done loaded = record { loaded = loaded; fault = None }
 
-abbrev pub failed : List ℕ → Fault → Loading
-failed loaded fault = record { loaded = loaded; fault = Some fault }
+abbrev pub loading_failed : List ℕ → Fault → Loading
+loading_failed loaded fault = record { loaded = loaded; fault = Some fault }
 
 abbrev pub unless : Option Fault → List ℕ → (List ℕ → Loading) → Loading
 unless None loaded next = next loaded
-unless (Some fault) loaded next = failed loaded fault
+unless (Some fault) loaded next = loading_failed loaded fault
 
 -- without a fault it goes on
 abbrev pub go_on : Loading → (List ℕ → Loading) → Loading
@@ -78,7 +78,7 @@ need_fault p n = if is_met p n then None else Some Incompatible
 
 -- one need after the other, each looked at as soon as it is loaded
 abbrev pub load_needs : Program → (List ℕ → List ℕ → Loading) → List Need → List ℕ → Loading
-load_needs p load [] loaded = done loaded
+load_needs p load [] loaded = loading_done loaded
 load_needs p load (n ∷ rest) loaded =
     go_on (load n.name loaded) (λ after. unless (need_fault p n) after (load_needs p load rest))
 
@@ -97,22 +97,22 @@ standing_of path loaded None = Missing
 standing_of path loaded (Some class) = if is_among class loaded then There else if is_among class path then Begun else Fresh class
 
 abbrev pub by_standing : Standing → List ℕ → List ℕ → (ℕ → Loading) → Loading
-by_standing Missing name loaded load = failed loaded (NoClass name)
-by_standing There name loaded load = done loaded
-by_standing Begun name loaded load = failed loaded Circular
+by_standing Missing name loaded load = loading_failed loaded (NoClass name)
+by_standing There name loaded load = loading_done loaded
+by_standing Begun name loaded load = loading_failed loaded Circular
 by_standing (Fresh class) name loaded load = load class
 
 abbrev pub behind_needs : ℕ → Loading → Loading
-behind_needs class l = go_on l (λ loaded. done (loaded ++ class ∷ []))
+behind_needs class l = go_on l (λ loaded. loading_done (loaded ++ class ∷ []))
 
 -- an array's name loads its element's class; a primitive element none
 abbrev pub load_element : Element → List ℕ → (List ℕ → Loading) → Loading
-load_element (Primitive code) loaded load = done loaded
+load_element (Primitive code) loaded load = loading_done loaded
 load_element (Named name) loaded load = load name
 
 -- The path has the classes that are being loaded. Each is another one, so the depth, one more than there are classes, suffices.
 abbrev pub load_named : Program → ℕ → List ℕ → List ℕ → List ℕ → Loading
-load_named p zero path name loaded = failed loaded Circular
+load_named p zero path name loaded = loading_failed loaded Circular
 load_named p (suc depth) path name loaded =
     load_element (meaning_of name).element loaded (λ class_name.
     by_standing (standing_of path loaded (class_named p class_name)) class_name loaded (λ class.

@@ -8,7 +8,7 @@ use Rattle.jvm_model.specs.declared.operation.Resolved.{Resolved}
 use Rattle.jvm_model.specs.declared.operation.Resolved.TheVariants as resolved
 use Rattle.jvm_model.specs.Rewriting.Attempts.{asks, writes}
 use Rattle.jvm_model.specs.Basis.Data.{Locals, Operands, SymbolicReference, Program, Shared, World, Done}
-use Rattle.jvm_model.specs.Classes.Load.{done}
+use Rattle.jvm_model.specs.Classes.Load.{loading_done}
 use Rattle.jvm_model.specs.Instructions.SymbolicReference.{newly_loaded}
 use Rattle.jvm_model.specs.Instructions.ReferenceRules.{does_named}
 use Rattle.jvm_model.specs.Small.Resolved.{resolved_name}
@@ -38,7 +38,7 @@ HasCallee c _ = Unit {0}
 -- A program that begins with the class: the names that the class gives load nothing, and come to what they are resolved to; and nothing
 -- but the class is loaded in the start.
 pub record IsMeant (c : ClassFile) (p : Program) : Type 0 where
-  pub alone : (input : List ℕ) → main_loading (record { program = p; input = input }) ≡ done ((shared_before p).loaded ++ 0 ∷ [])
+  pub alone : (input : List ℕ) → main_loading (record { program = p; input = input }) ≡ loading_done ((shared_before p).loaded ++ 0 ∷ [])
   pub loads : (n : SymbolicReference) (q : Resolved) (o : Operands) → resolved_name c n ≡ Some q → newly_loaded p (shared_ready p).loaded n o ≡ []
   pub does : (w : World) → w.program ≡ p → (n : SymbolicReference) (q : Resolved) (l : Locals) (o : Operands) → resolved_name c n ≡ Some q → HasCallee c q → AreStreams o
       → does_named w n (shared_ready p) l o ≡ done_by p q (shared_ready p) l o

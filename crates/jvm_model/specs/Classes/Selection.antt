@@ -111,6 +111,6 @@ nearest p receiver interface m = first_in (candidate p interface m) (superclasse
 
 -- What is invoked: none where none is found and where the nearest is abstract, which raises AbstractMethodError. With
 -- `interface` it is also what invokespecial finds from the direct superclass of the current class.
-abbrev pub selected : Program → ℕ → Bool → MemberPlace → Option MemberPlace
-selected p receiver interface m =
+abbrev pub method_selected : Program → ℕ → Bool → MemberPlace → Option MemberPlace
+method_selected p receiver interface m =
     option_and_then (λ found. if is_abstract p found then None else Some found) (nearest p receiver interface m)

@@ -5,9 +5,9 @@ use Rattle.jvm_model.specs.Basis.Data.{Active, Phase, Running, Ready, Uncaught, 
 use Rattle.jvm_model.specs.Running.Applies.{still, new_frame, has_room}
 use Rattle.jvm_model.specs.Running.Moves.{argument_array, fresh}
 use Rattle.jvm_model.specs.Basis.Programs.{super_of, initializer_of}
-use Rattle.jvm_model.specs.Running.Constants.{set, sets_constants}
-use Rattle.jvm_model.specs.Classes.Load.{done}
-use Rattle.jvm_model.specs.Running.Run.{before, arguments_made, exhausted, main_loading, with_loaded, main_class}
+use Rattle.jvm_model.specs.Running.Constants.{constant_set, sets_constants}
+use Rattle.jvm_model.specs.Classes.Load.{loading_done}
+use Rattle.jvm_model.specs.Running.Run.{before, arguments_made, heap_exhausted, main_loading, with_loaded, main_class}
 use Rattle.jvm_model.specs.Basis.SharedState.{with_phase, phase_before, phase_of, class_of, shared_before, arguments_fit}
 
 -- the phases once the first class is initialized
@@ -25,8 +25,8 @@ pub record StartsReady (p : Program) : Type 0 where
   pub none : initializer_of p 0 ≡ None
   pub others : fresh (phases_ready p) ≡ 0
   -- nothing else is loaded for it, and it has no constants
-  pub alone : (input : List ℕ) → main_loading (record { program = p; input = input }) ≡ done ((shared_before p).loaded ++ 0 ∷ [])
-  pub constants : (s : Shared) → sets_constants p 0 s ≡ set s
+  pub alone : (input : List ℕ) → main_loading (record { program = p; input = input }) ≡ loading_done ((shared_before p).loaded ++ 0 ∷ [])
+  pub constants : (s : Shared) → sets_constants p 0 s ≡ constant_set s
   -- the heap has room for the objects that are there before the start
   pub room : 1024 ≤ p.heap
 
@@ -49,7 +49,7 @@ unbegun_in w = record { after = record (ready_in w) { ending = Some (Unverifiabl
 
 -- or there is no room for the arguments: object 1 was thrown, and nothing was loaded
 abbrev pub unmade_in : World → Turn
-unmade_in w = still (record (exhausted w) { ending = Some (Uncaught (class_of w.program (shared_before w.program) 1)) })
+unmade_in w = still (record (heap_exhausted w) { ending = Some (Uncaught (class_of w.program (shared_before w.program) 1)) })
 
 abbrev pub begins_or_ends : World → Listing → Turn
 begins_or_ends w t =

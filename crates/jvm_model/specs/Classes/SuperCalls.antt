@@ -24,9 +24,9 @@ nearest_above p caller m = option_and_then (λ above. nearest p above true m) (s
 
 -- A search is made for what is inherited and initializes nothing; else the resolved method is taken, be it private, an interface's, or one
 -- of a class that is no superclass.
-abbrev pub taken : Program → ℕ → MemberPlace → Option MemberPlace
-taken p caller m = if is_inherited p caller m && not (is_initializer p m) then nearest_above p caller m else Some m
+abbrev pub method_taken : Program → ℕ → MemberPlace → Option MemberPlace
+method_taken p caller m = if is_inherited p caller m && not (is_initializer p m) then nearest_above p caller m else Some m
 
 -- What a caller invokes for the resolved method: none where none is found and where it is abstract, which raises AbstractMethodError.
 abbrev pub invoked_special : Program → ℕ → MemberPlace → Option MemberPlace
-invoked_special p caller m = option_and_then (λ found. if is_abstract p found then None else Some found) (taken p caller m)
+invoked_special p caller m = option_and_then (λ found. if is_abstract p found then None else Some found) (method_taken p caller m)

@@ -59,11 +59,11 @@ moved_entry m (Initializing c part) = Initializing c part
 abbrev pub moved_stack : Moving → List Entry → List Entry
 moved_stack m stack = map (moved_entry m) stack
 
-abbrev pub moved : Moving → State → State
-moved m s = record s { stack = moved_stack m s.stack }
+abbrev pub state_moved : Moving → State → State
+state_moved m s = record s { stack = moved_stack m s.stack }
 
 abbrev pub moved_turn : Moving → Turn → Turn
-moved_turn m a = record a { after = moved m a.after }
+moved_turn m a = record a { after = state_moved m a.after }
 
 abbrev pub moved_instruction : (ℕ → ℕ) → Instruction → Instruction
 moved_instruction h i = record i { next = option_map h i.next; targets = map h i.targets }

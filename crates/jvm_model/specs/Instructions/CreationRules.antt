@@ -19,7 +19,7 @@ use Rattle.jvm_model.specs.Basis.Methods.{has_flag}
 use Rattle.jvm_model.specs.Instructions.SymbolicReference.{is_instance, is_null, resolved_kind, unless_refused}
 use Rattle.jvm_model.specs.Instructions.ObjectRules.{done, makes}
 use Rattle.jvm_model.specs.Basis.Programs.{class_at, name_at}
-use Rattle.jvm_model.specs.Instructions.Rules.{initialized}
+use Rattle.jvm_model.specs.Instructions.Rules.{class_initialized}
 use Rattle.jvm_model.specs.Basis.SharedState.{class_of_kind, negative_array_size, null, string}
 use Rattle.jvm_model.specs.Basis.Values.{int_of, ref_of}
 
@@ -76,7 +76,7 @@ makes_instance p kind class s l o =
 abbrev pub makes_new : Program → List ℕ → Shared → Locals → Operands → Done
 makes_new p name s l o =
     unless_refused s (resolved_kind p s.loaded name) (λ kind.
-    initialized p (class_of_kind p kind) s (makes_instance p kind (class_of_kind p kind) s l o))
+    class_initialized p (class_of_kind p kind) s (makes_instance p kind (class_of_kind p kind) s l o))
 
 -- ---- anewarray
 

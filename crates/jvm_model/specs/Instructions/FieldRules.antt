@@ -7,7 +7,7 @@ use Rattle.heap_objects.specs.declared.element.Element.{Element}
 use Rattle.heap_objects.specs.declared.element.Element.TheVariants as element
 use Rattle.heap_objects.specs.declared.Value.TheVariants.{Ref}
 use Rattle.heap_objects.specs.Heaps.{slot_at, with_slot_at}
-use Rattle.heap_objects.specs.Kept.{kept}
+use Rattle.heap_objects.specs.Kept.{element_kept}
 use Rattle.const_pool.specs.declared.class.ClassFile.{ClassFile}
 use Rattle.const_pool.specs.declared.class.Member.{Member}
 use Rattle.const_pool.specs.declared.descriptor.Kind.{Kind}
@@ -18,10 +18,10 @@ use Rattle.jvm_model.specs.Classes.Layouts.{held_by, layout}
 use Rattle.jvm_model.specs.Instructions.LocalRules.{pushes, replaces}
 use Rattle.jvm_model.specs.Classes.Lookup.{MemberPlace, resolved_field, superclass_of}
 use Rattle.jvm_model.specs.Basis.Methods.{has_flag}
-use Rattle.jvm_model.specs.Instructions.SymbolicReference.{◌>>=◌, extends, found, is_instance, receiver, resolved_kind, unless_refused, where_fitting}
+use Rattle.jvm_model.specs.Instructions.SymbolicReference.{◌>>=◌, extends, member_found, is_instance, receiver, resolved_kind, unless_refused, where_fitting}
 use Rattle.jvm_model.specs.Instructions.ObjectRules.{done}
 use Rattle.jvm_model.specs.Basis.Programs.{class_at}
-use Rattle.jvm_model.specs.Instructions.Rules.{initialized}
+use Rattle.jvm_model.specs.Instructions.Rules.{class_initialized}
 use Rattle.jvm_model.specs.Basis.SharedState.{Field, class_of, class_of_kind, static_at, with_static}
 use Rattle.jvm_model.specs.Basis.Values.{as_value, datum_of, ref_of}
 
@@ -35,7 +35,7 @@ is_static_field p m =
 -- the field, static or not, that a reference names
 abbrev pub named_field : Program → List ℕ → Bool → Reference → Result MemberPlace Outcome
 named_field p loaded static r =
-    resolved_kind p loaded r.class >>= λ kind. found (resolved_field p (class_of_kind p kind) r.member)
+    resolved_kind p loaded r.class >>= λ kind. member_found (resolved_field p (class_of_kind p kind) r.member)
     >>= λ m. where_fitting (beq (is_static_field p m) static) m
 
 -- ---- what a field holds (4.3.2)
@@ -52,13 +52,13 @@ element_for kind.Short = element.Short
 element_for _ = element.Any
 
 -- of a boolean the lowest bit is stored, of a byte, a char and a short the low bits, of others all
-abbrev pub narrowed : Kind → Datum → Datum
-narrowed k d = kept (element_for k) d
+abbrev pub field_narrowed : Kind → Datum → Datum
+field_narrowed k d = element_kept (element_for k) d
 
 -- the topmost operand as a field of this kind holds it
 abbrev pub held_of : Kind → Operands → Option Datum
 held_of k [] = None
-held_of k (v ∷ below) = option_map (narrowed k) (datum_of k v)
+held_of k (v ∷ below) = option_map (field_narrowed k) (datum_of k v)
 
 -- ---- static fields
 
@@ -67,7 +67,7 @@ static_field m = record { class = m.class; position = m.position }
 
 abbrev pub pushes_static : Program → MemberPlace → Shared → Locals → Operands → Done
 pushes_static p m s l o =
-    initialized p m.class s (done s (pushes (option_map as_value (static_at s (static_field m))) l o))
+    class_initialized p m.class s (done s (pushes (option_map as_value (static_at s (static_field m))) l o))
 
 abbrev pub gets_static : Program → Reference → Shared → Locals → Operands → Done
 gets_static p r s l o = unless_refused s (named_field p s.loaded true r) (λ m. pushes_static p m s l o)
@@ -79,7 +79,7 @@ sets_static m (Some d) s l o = done (with_static s (static_field m) d) (GoesOn l
 abbrev pub puts_static : Program → Reference → Shared → Locals → Operands → Done
 puts_static p r s l o =
     unless_refused s (named_field p s.loaded true r) (λ m.
-    initialized p m.class s (sets_static m (held_of (kind_by r) o) s l o))
+    class_initialized p m.class s (sets_static m (held_of (kind_by r) o) s l o))
 
 -- ---- where an instance field stands
 
@@ -117,7 +117,7 @@ pub record Putting : Type 0 where
 
 -- the value is above the object
 abbrev pub putting_of : Kind → Operands → Option Putting
-putting_of k (v ∷ Ref r ∷ below) = option_map (λ d. record { object = r; datum = narrowed k d }) (datum_of k v)
+putting_of k (v ∷ Ref r ∷ below) = option_map (λ d. record { object = r; datum = field_narrowed k d }) (datum_of k v)
 putting_of k _ = None
 
 abbrev pub puts_into : Program → Reference → MemberPlace → Option Putting → Shared → Locals → Operands → Done

@@ -13,12 +13,12 @@ use Rattle.jvm_model.specs.Basis.Data.{Datum, Locals, Operands, Program, Shared,
 use Rattle.jvm_model.specs.Basis.Descriptors.{shape_of}
 use Rattle.jvm_model.specs.Basis.KindNumbers.{user_count}
 use Rattle.jvm_model.specs.Classes.Lookup.{MemberPlace, incompatible_change, resolved_method}
-use Rattle.jvm_model.specs.Instructions.SymbolicReference.{◌>>=◌, found, is_instance, receiver, resolved_kind, unless_refused, where_fitting}
+use Rattle.jvm_model.specs.Instructions.SymbolicReference.{◌>>=◌, member_found, is_instance, receiver, resolved_kind, unless_refused, where_fitting}
 use Rattle.jvm_model.specs.Instructions.NativeRules.{runs_native}
 use Rattle.jvm_model.specs.Instructions.ObjectRules.{done}
 use Rattle.jvm_model.specs.Basis.Programs.{class_named, name_at, number_of_method}
-use Rattle.jvm_model.specs.Instructions.Rules.{initialized}
-use Rattle.jvm_model.specs.Classes.Selection.{is_abstract, is_static, selected, signature_of}
+use Rattle.jvm_model.specs.Instructions.Rules.{class_initialized}
+use Rattle.jvm_model.specs.Classes.Selection.{is_abstract, is_static, method_selected, signature_of}
 use Rattle.jvm_model.specs.Basis.SharedState.{class_of, class_of_kind}
 use Rattle.jvm_model.specs.Classes.SuperCalls.{invoked_special}
 use Rattle.jvm_model.specs.Basis.Values.{arguments}
@@ -28,7 +28,7 @@ use Rattle.jvm_model.specs.Basis.Values.{arguments}
 -- the method, static or not, that a Methodref or an InterfaceMethodref names; of an array type java/lang/Object's
 abbrev pub named_method : Program → List ℕ → Bool → Bool → Reference → Result MemberPlace Outcome
 named_method p loaded interface static r =
-    resolved_kind p loaded r.class >>= λ kind. found (resolved_method p (class_of_kind p kind) interface r.member)
+    resolved_kind p loaded r.class >>= λ kind. member_found (resolved_method p (class_of_kind p kind) interface r.member)
     >>= λ m. where_fitting (beq (is_static p m) static) m
 
 -- ---- arguments (4.3.3)
@@ -85,7 +85,7 @@ invokes_with_static w m (Some args) s l o = invokes_selected w (Some m) args s l
 abbrev pub invokes_static_method : World → Reference → Shared → Locals → Operands → Done
 invokes_static_method w r s l o =
     unless_refused s (named_method w.program s.loaded false true r) (λ m.
-    initialized w.program m.class s (invokes_with_static w m (arguments_by false r.member o) s l o))
+    class_initialized w.program m.class s (invokes_with_static w m (arguments_by false r.member o) s l o))
 
 -- ---- invokevirtual, invokeinterface, invokespecial
 
@@ -108,8 +108,8 @@ not_of_class (Special caller interface) = Breaks false
 
 -- what the receiver's class has for the resolved method, or what the caller's class takes
 abbrev pub selected_by : Program → Selecting → MemberPlace → ℕ → Option MemberPlace
-selected_by p Virtual m class = selected p class false m
-selected_by p OfInterface m class = selected p class true m
+selected_by p Virtual m class = method_selected p class false m
+selected_by p OfInterface m class = method_selected p class true m
 selected_by p (Special caller interface) m class =
     option_and_then (λ current. invoked_special p current m) (class_named p caller)
 

@@ -7,7 +7,7 @@ use Rattle.heap_objects.specs.declared.Value.TheVariants.{Int, Long, Addr}
 use Rattle.const_pool.specs.declared.descriptor.Kind.{Kind}
 use Rattle.int_ops.specs.Arithmetic.{wrapped_sum, wrapped_difference, wrapped_product, wrapped_negation, wrapped_quotient, shifted_left, shifted_right, shifted_right_unsigned, comparison, zero_extended}
 use Rattle.jvm_model.specs.Basis.Data.{Datum, Value, Locals, Operands, IntOperator, Iadd, Isub, Imul, Ishl, Ishr, Iushr, Iand, Ior, Ixor, LongOperator, Ladd, Lsub, Lmul, Land, Lor, Lxor, Division, Quotient, Remainder, LongShift, Lshl, Lshr, Lushr, OfInt, Ineg, I2l, I2b, I2c, I2s, OfLong, Lneg, L2i, Comparison, Equal, NotEqual, Less, AtLeast, Greater, AtMost, Test, WithZero, OfInts, OfReferences, IsNull, Keys, Consecutive, Listed, Local, Nop, Constant, Load, Store, ManageStack, BinaryOfInts, BinaryOfLongs, DivisionOfInts, DivisionOfLongs, ShiftOfLong, UnaryOfInt, UnaryOfLong, Lcmp, Iinc, Branch, Goto, Switch, Jsr, Ret, Return, Where, Next, Target, Back, Outcome, GoesOn, Subroutine, Returns, Raises, Breaks}
-use Rattle.jvm_model.specs.Basis.Values.{as_value, datum_of, loaded, is_storable, local_in, has_slots, stored, int_of, long_of, ref_of, ints_of, longs_of, long_and_int_of, refs_of, managed_stack}
+use Rattle.jvm_model.specs.Basis.Values.{as_value, datum_of, local_loaded, is_storable, local_in, has_slots, local_stored, int_of, long_of, ref_of, ints_of, longs_of, long_and_int_of, refs_of, managed_stack}
 use Rattle.jvm_model.specs.Basis.StackForms.{forms_of}
 
 -- ---- the operand stack
@@ -31,25 +31,25 @@ leaves (Some o) l = GoesOn l o Next
 abbrev pub stores : Kind → ℕ → Locals → Operands → Outcome
 stores k slot l [] = Breaks false
 stores k slot l (v ∷ below) =
-    if is_storable k v && has_slots l slot v then GoesOn (stored l slot v) below Next else Breaks false
+    if is_storable k v && has_slots l slot v then GoesOn (local_stored l slot v) below Next else Breaks false
 
 -- written as by a store
 abbrev pub increments : ℕ → ℤ → Option Value → Locals → Operands → Outcome
-increments slot d (Some (Int n)) l o = GoesOn (stored l slot (Int (wrapped_sum w32 n d))) o Next
+increments slot d (Some (Int n)) l o = GoesOn (local_stored l slot (Int (wrapped_sum w32 n d))) o Next
 increments slot d _ l o = Breaks false
 
 -- ---- arithmetic (2.11.3, 2.11.4); the topmost operand is the second one
 
-abbrev pub calculated : IntOperator → ℤ → ℤ → ℤ
-calculated Iadd a b = wrapped_sum w32 a b
-calculated Isub a b = wrapped_difference w32 a b
-calculated Imul a b = wrapped_product w32 a b
-calculated Ishl a b = shifted_left w32 a b
-calculated Ishr a b = shifted_right w32 a b
-calculated Iushr a b = shifted_right_unsigned w32 a b
-calculated Iand a b = int_bit_and w32 a b
-calculated Ior a b = int_bit_or w32 a b
-calculated Ixor a b = int_bit_xor w32 a b
+abbrev pub int_calculated : IntOperator → ℤ → ℤ → ℤ
+int_calculated Iadd a b = wrapped_sum w32 a b
+int_calculated Isub a b = wrapped_difference w32 a b
+int_calculated Imul a b = wrapped_product w32 a b
+int_calculated Ishl a b = shifted_left w32 a b
+int_calculated Ishr a b = shifted_right w32 a b
+int_calculated Iushr a b = shifted_right_unsigned w32 a b
+int_calculated Iand a b = int_bit_and w32 a b
+int_calculated Ior a b = int_bit_or w32 a b
+int_calculated Ixor a b = int_bit_xor w32 a b
 
 abbrev pub calculated_long : LongOperator → ℤ → ℤ → ℤ
 calculated_long Ladd a b = wrapped_sum w64 a b
@@ -59,18 +59,18 @@ calculated_long Land a b = int_bit_and w64 a b
 calculated_long Lor a b = int_bit_or w64 a b
 calculated_long Lxor a b = int_bit_xor w64 a b
 
-abbrev pub shifted : LongShift → ℤ → ℤ → ℤ
-shifted Lshl a n = shifted_left w64 a n
-shifted Lshr a n = shifted_right w64 a n
-shifted Lushr a n = shifted_right_unsigned w64 a n
+abbrev pub long_shifted : LongShift → ℤ → ℤ → ℤ
+long_shifted Lshl a n = shifted_left w64 a n
+long_shifted Lshr a n = shifted_right w64 a n
+long_shifted Lushr a n = shifted_right_unsigned w64 a n
 
 abbrev pub divided_by : Division → Width → ℤ → ℤ → ℤ
 divided_by Quotient w a b = wrapped_quotient w a b
 divided_by Remainder w a b = int_rem a b
 
 -- none where the divisor is 0
-abbrev pub divided : Division → Width → ℤ → ℤ → Option ℤ
-divided op w a b = if int_eq b (pos 0) then None else Some (divided_by op w a b)
+abbrev pub number_divided : Division → Width → ℤ → ℤ → Option ℤ
+number_divided op w a b = if int_eq b (pos 0) then None else Some (divided_by op w a b)
 
 abbrev pub of_int : OfInt → ℤ → Value
 of_int Ineg n = Int (wrapped_negation w32 n)
@@ -84,13 +84,13 @@ of_long Lneg n = Long (wrapped_negation w64 n)
 of_long L2i n = Int (int_wrap w32 n)
 
 abbrev pub calculates : IntOperator → Locals → Operands → Outcome
-calculates op l o = replaces 2 (option_map (λ p. Int (calculated op p.0 p.1)) (ints_of o)) l o
+calculates op l o = replaces 2 (option_map (λ p. Int (int_calculated op p.0 p.1)) (ints_of o)) l o
 
 abbrev pub calculates_long : LongOperator → Locals → Operands → Outcome
 calculates_long op l o = replaces 2 (option_map (λ p. Long (calculated_long op p.0 p.1)) (longs_of o)) l o
 
 abbrev pub shifts : LongShift → Locals → Operands → Outcome
-shifts op l o = replaces 2 (option_map (λ p. Long (shifted op p.0 p.1)) (long_and_int_of o)) l o
+shifts op l o = replaces 2 (option_map (λ p. Long (long_shifted op p.0 p.1)) (long_and_int_of o)) l o
 
 abbrev pub compares_longs : Locals → Operands → Outcome
 compares_longs l o = replaces 2 (option_map (λ p. Int (comparison p.0 p.1)) (longs_of o)) l o
@@ -108,10 +108,10 @@ divides_these (Some None) l o = Raises arithmetic_exception (Some by_zero)
 divides_these (Some (Some v)) l o = GoesOn l (v ∷ drop 2 o) Next
 
 abbrev pub divides_ints : Division → Locals → Operands → Outcome
-divides_ints op l o = divides_these (option_map (λ p. option_map Int (divided op w32 p.0 p.1)) (ints_of o)) l o
+divides_ints op l o = divides_these (option_map (λ p. option_map Int (number_divided op w32 p.0 p.1)) (ints_of o)) l o
 
 abbrev pub divides_longs : Division → Locals → Operands → Outcome
-divides_longs op l o = divides_these (option_map (λ p. option_map Long (divided op w64 p.0 p.1)) (longs_of o)) l o
+divides_longs op l o = divides_these (option_map (λ p. option_map Long (number_divided op w64 p.0 p.1)) (longs_of o)) l o
 
 abbrev pub converts_int : OfInt → Locals → Operands → Outcome
 converts_int op l o = replaces 1 (option_map (of_int op) (int_of o)) l o
@@ -202,7 +202,7 @@ returns (Some k) (v ∷ below) = returns_datum (datum_of k v)
 abbrev pub within : Local → Locals → Operands → Outcome
 within Nop l o = GoesOn l o Next
 within (Constant d) l o = GoesOn l (as_value d ∷ o) Next
-within (Load k slot) l o = pushes (loaded k (slice_get l slot)) l o
+within (Load k slot) l o = pushes (local_loaded k (slice_get l slot)) l o
 within (Store k slot) l o = stores k slot l o
 within (ManageStack op) l o = leaves (managed_stack (forms_of op) o) l
 within (BinaryOfInts op) l o = calculates op l o

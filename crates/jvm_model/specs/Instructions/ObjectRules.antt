@@ -95,15 +95,15 @@ access_to k r i h =
     else ToAnother
 
 -- what is asked where it leads to no element; the exception tells the index in decimal
-abbrev pub refused : Access → ℤ → Outcome
-refused ToNull i = Raises null_pointer None
-refused ToAnother i = Breaks false
-refused Outside i = Raises index_outside (Some (signed_decimal i))
-refused (Inside slot) i = Breaks false
+abbrev pub access_refused : Access → ℤ → Outcome
+access_refused ToNull i = Raises null_pointer None
+access_refused ToAnother i = Breaks false
+access_refused Outside i = Raises index_outside (Some (signed_decimal i))
+access_refused (Inside slot) i = Breaks false
 
 abbrev pub loads_at : Access → ℕ → ℤ → Shared → Locals → Operands → Outcome
 loads_at (Inside slot) r i s l o = replaces 2 (option_map as_value (slot_at r slot s.heap)) l o
-loads_at access r i s l o = refused access i
+loads_at access r i s l o = access_refused access i
 
 -- an array and an index
 abbrev pub place_of : Operands → Option (ℕ × ℤ)
@@ -129,7 +129,7 @@ stores_at p (Inside slot) r i d s l o =
     if fits_array p d r s.heap
     then record { shared = record s { heap = with_slot_at r slot d s.heap }; wrote = []; outcome = GoesOn l (drop 3 o) Next }
     else done s (Raises array_store None)
-stores_at p access r i d s l o = done s (refused access i)
+stores_at p access r i d s l o = done s (access_refused access i)
 
 -- an array, an index and a value that elements of this kind may have
 pub record Storing : Type 0 where

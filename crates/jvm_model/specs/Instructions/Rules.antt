@@ -21,8 +21,8 @@ when_ready p (Some Fresh) class s d = done s (Initializes class)
 when_ready p (Some Erroneous) class s d = done s (Raises no_class_definition (name_at p class))
 when_ready p None class s d = done s (Raises no_class_definition (name_at p class))
 
-abbrev pub initialized : Program → ℕ → Shared → Done → Done
-initialized p class s d = when_ready p (phase_of s class) class s d
+abbrev pub class_initialized : Program → ℕ → Shared → Done → Done
+class_initialized p class s d = when_ready p (phase_of s class) class s d
 
 -- ---- members that the rules know by name
 

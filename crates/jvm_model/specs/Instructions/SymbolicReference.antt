@@ -79,9 +79,9 @@ resolved_kind p loaded name = kind_unless (load_of p loaded name).fault (kind_na
 
 -- ---- a member (5.4.3.2 to 5.4.3.4)
 
-abbrev pub found : Resolution → Result MemberPlace Outcome
-found (Found m) = Ok m
-found (Fails error) = Err (Raises error None)
+abbrev pub member_found : Resolution → Result MemberPlace Outcome
+member_found (Found m) = Ok m
+member_found (Fails error) = Err (Raises error None)
 
 -- a static member where one is asked for, and else none (6.5)
 abbrev pub where_fitting : Bool → MemberPlace → Result MemberPlace Outcome

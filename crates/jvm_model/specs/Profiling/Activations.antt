@@ -47,15 +47,15 @@ with_end step t = without_current step t.live t
 
 -- ---- what a step does to them
 
-abbrev pub changed : ℕ → Trace → Change → Trace
-changed step t (Loads classes) = t
-changed step t (Began method) = with_begin step method t
-changed step t Left = with_end step t
-changed step t Unwound = with_end step t
+abbrev pub trace_changed : ℕ → Trace → Change → Trace
+trace_changed step t (Loads classes) = t
+trace_changed step t (Began method) = with_begin step method t
+trace_changed step t Left = with_end step t
+trace_changed step t Unwound = with_end step t
 
 abbrev pub all_changed : ℕ → Trace → List Change → Trace
 all_changed step t [] = t
-all_changed step t (c ∷ more) = all_changed step (changed step t c) more
+all_changed step t (c ∷ more) = all_changed step (trace_changed step t c) more
 
 -- the activations after so many steps over a listing; the start is step 0
 unfoldable pub trace_in : World → Listing → ℕ → Trace

@@ -9,7 +9,7 @@ use Rattle.jvm_model.specs.declared.event.Mark.{Mark}
 use Rattle.jvm_model.specs.declared.event.Mark.TheVariants.{Off, Plain, Root}
 use Rattle.jvm_model.specs.Basis.Data.{Change, Loads, Began, Left, Unwound, World}
 use Rattle.jvm_model.specs.Running.Run.{turn}
-use Rattle.jvm_model.specs.Profiling.Activations.{Activation, Trace, current, changed, trace_before}
+use Rattle.jvm_model.specs.Profiling.Activations.{Activation, Trace, current, trace_changed, trace_before}
 use Rattle.jvm_model.specs.Profiling.Projection.{is_selected}
 
 -- the mark of the version in which a method begins in a step
@@ -45,7 +45,7 @@ events_told marking step t Unwound = end_of marking kind.Unwind step t
 
 abbrev pub all_told : Marking → ℕ → Trace → List Change → List Event
 all_told marking step t [] = []
-all_told marking step t (c ∷ more) = events_told marking step t c ++ all_told marking step (changed step t c) more
+all_told marking step t (c ∷ more) = events_told marking step t c ++ all_told marking step (trace_changed step t c) more
 
 -- the events of a step: those of its changes, in order
 abbrev pub step_events : Marking → World → ℕ → List Event

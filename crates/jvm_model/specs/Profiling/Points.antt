@@ -7,7 +7,7 @@ use Rattle.jvm_model.specs.declared.event.Act.{Act}
 use Rattle.jvm_model.specs.declared.event.Mark.{Mark}
 use Rattle.jvm_model.specs.declared.event.Mark.TheVariants.{Off, Plain, Root}
 use Rattle.jvm_model.specs.Basis.Data.{MethodPlace, Program, Change, Loads, Began, Left, Unwound, Operation, Listing, World}
-use Rattle.jvm_model.specs.Profiling.Activations.{Activation, Trace, no_trace, current, changed}
+use Rattle.jvm_model.specs.Profiling.Activations.{Activation, Trace, no_trace, current, trace_changed}
 use Rattle.jvm_model.specs.Profiling.EventLists.{Marking}
 use Rattle.jvm_model.specs.Classes.Load.{is_among}
 use Rattle.jvm_model.specs.Codes.Originals.{original}
@@ -43,18 +43,18 @@ abbrev pub is_quiet : List Act → Standing → Bool
 is_quiet acts s = is_empty s.selected && not (has_root acts s.trace.activations s.trace.live)
 
 -- At the end of a step, and behind an action, entered is emptied where it is quiet.
-abbrev pub settled : List Act → Standing → Standing
-settled acts s = if is_quiet acts s then record s { entered = [] } else s
+abbrev pub standing_settled : List Act → Standing → Standing
+standing_settled acts s = if is_quiet acts s then record s { entered = [] } else s
 
 -- ---- actions
 
-abbrev pub chosen : Act → List ℕ → List ℕ
-chosen act selected =
+abbrev pub methods_selected : Act → List ℕ → List ℕ
+methods_selected act selected =
     let others = filter (λ m. not (m == act.method)) selected in
     if act.select then act.method ∷ others else others
 
 abbrev pub after_act : List Act → Standing → Act → Standing
-after_act acts s act = settled acts (record s { selected = chosen act s.selected })
+after_act acts s act = standing_settled acts (record s { selected = methods_selected act s.selected })
 
 abbrev pub after_acts : List Act → Standing → List Act → Standing
 after_acts acts s [] = s
@@ -85,9 +85,9 @@ entered_by acts t method entered = if is_profiled acts t then with_entered metho
 abbrev pub after_change : List Act → ℕ → Standing → Change → Standing
 after_change acts step s (Loads classes) = record s { loaded = s.loaded ++ classes }
 after_change acts step s (Began method) =
-    let t = changed step s.trace (Began method) in record s { entered = entered_by acts t method s.entered; trace = t }
-after_change acts step s Left = record s { trace = changed step s.trace Left }
-after_change acts step s Unwound = record s { trace = changed step s.trace Unwound }
+    let t = trace_changed step s.trace (Began method) in record s { entered = entered_by acts t method s.entered; trace = t }
+after_change acts step s Left = record s { trace = trace_changed step s.trace Left }
+after_change acts step s Unwound = record s { trace = trace_changed step s.trace Unwound }
 
 abbrev pub after_changes : List Act → ℕ → Standing → List Change → Standing
 after_changes acts step s [] = s
@@ -95,7 +95,7 @@ after_changes acts step s (c ∷ more) = after_changes acts step (after_change a
 
 -- a step's changes, its end, and the actions behind it
 abbrev pub after_step : List Act → ℕ → Standing → List Change → Standing
-after_step acts step s changes = after_acts acts (settled acts (after_changes acts step s changes)) (acts_behind step acts)
+after_step acts step s changes = after_acts acts (standing_settled acts (after_changes acts step s changes)) (acts_behind step acts)
 
 -- what stands before a step over a listing: the start is step 0
 unfoldable pub standing_in : List Act → World → Listing → ℕ → Standing

@@ -11,12 +11,12 @@ use Rattle.jvm_model.specs.Profiling.Activations.{Activation, current, trace}
 -- ---- selections
 
 -- what one action makes of a method's selection, where it came before step k; those of moment 0 come before the start
-abbrev pub acted : ℕ → ℕ → Bool → Act → Bool
-acted k method now act = if act.method == method && nat_le act.moment (k - 1) then act.select else now
+abbrev pub selection_acted : ℕ → ℕ → Bool → Act → Bool
+selection_acted k method now act = if act.method == method && nat_le act.moment (k - 1) then act.select else now
 
 -- whether the method is selected in step k, after all actions before it, in order
 abbrev pub is_selected : List Act → ℕ → ℕ → Bool
-is_selected acts k method = fold (acted k method) false acts
+is_selected acts k method = fold (selection_acted k method) false acts
 
 -- a root activation is one whose method is selected when it begins
 abbrev pub is_root : List Act → Activation → Bool

@@ -11,7 +11,7 @@ use Rattle.jvm_model.specs.Instructions.SymbolicReference.{resolved_name}
 use Rattle.jvm_model.specs.Basis.Programs.{class_named}
 use Rattle.jvm_model.specs.Classes.Selection.{is_static}
 use Rattle.jvm_model.specs.Soundness.Sound.{HasSupertypes}
-use Rattle.jvm_model.specs.Profiling.Targets.{begun_by, coded, found_where, loaded_class_named}
+use Rattle.jvm_model.specs.Profiling.Targets.{begun_by, method_coded, found_where, loaded_class_named}
 
 -- ---- the order in which classes are loaded
 
@@ -31,7 +31,7 @@ is_named p class name = option_map_or (λ found. found == class) (class_named p 
 abbrev pub gained_on : Program → ℕ → ℕ → Selecting → Reference → List ℕ
 gained_on p new class by r =
     if is_subtype p new class then
-    option_map_or (λ m. coded p (selected_by p by m new)) (found_where (is_static p) false (resolved_method p class (names_interface by) r.member)) []
+    option_map_or (λ m. method_coded p (selected_by p by m new)) (found_where (is_static p) false (resolved_method p class (names_interface by) r.member)) []
     else []
 
 abbrev pub gained_call : Program → List ℕ → ℕ → Selecting → Reference → List ℕ
@@ -101,7 +101,7 @@ abbrev pub named_gain : Program → List ℕ → ℕ → SymbolicReference → L
 named_gain p loaded new n = gained_named p loaded new n (resolved_name n)
 
 abbrev pub call_gain : Program → ℕ → Call → List ℕ
-call_gain p new c = if is_subtype p new c.class then coded p (selected_by p c.by c.method new) else []
+call_gain p new c = if is_subtype p new c.class then method_coded p (selected_by p c.by c.method new) else []
 
 abbrev pub gained_from : Program → List ℕ → ℕ → List SymbolicReference → List Call → List ℕ
 gained_from p loaded new namings calls = flat_map (named_gain p loaded new) namings ++ flat_map (call_gain p new) calls

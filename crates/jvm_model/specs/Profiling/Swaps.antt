@@ -13,7 +13,7 @@ use Rattle.jvm_model.specs.Basis.Data.{MethodPlace, Program, Change, Loads, Bega
 use Rattle.jvm_model.specs.Rewriting.Images.{IsImage}
 use Rattle.jvm_model.specs.Basis.Programs.{class_at, no_class, number_of_method}
 use Rattle.jvm_model.specs.Running.Run.{turn_in}
-use Rattle.jvm_model.specs.Profiling.Points.{Standing, nothing, settled, acts_at, acts_behind, after_act, after_change, after_changes, is_profiled, mark_in, standing_in}
+use Rattle.jvm_model.specs.Profiling.Points.{Standing, nothing, standing_settled, acts_at, acts_behind, after_act, after_change, after_changes, is_profiled, mark_in, standing_in}
 
 -- a point of a step, with what stands there
 pub record Point : Type 0 where
@@ -43,7 +43,7 @@ act_points acts step s (act ∷ more) = let next = after_act acts s act in point
 -- of a step: those of its changes, its end, and those of the actions behind it
 abbrev pub step_points : List Act → ℕ → Standing → List Change → List Point
 step_points acts step s changes =
-    let «end» = settled acts (after_changes acts step s changes) in
+    let «end» = standing_settled acts (after_changes acts step s changes) in
     change_points acts step s changes ++ point step «end» ∷ act_points acts step «end» (acts_behind step acts)
 
 -- of the start and so many steps over a listing
@@ -75,11 +75,11 @@ pub record Swapped : Type 0 where
   pub class : ℕ
   pub marks : List Mark
 
-abbrev pub swapped : Program → (ℕ → List Operation) → Point → ℕ → Swapped
-swapped p code now class = record { clock = now.clock; class = class; marks = marks_of_class p code now.standing class }
+abbrev pub class_swapped : Program → (ℕ → List Operation) → Point → ℕ → Swapped
+class_swapped p code now class = record { clock = now.clock; class = class; marks = marks_of_class p code now.standing class }
 
 abbrev pub swapped_at : Program → (ℕ → List Operation) → Standing → Point → List Swapped
-swapped_at p code before now = map (swapped p code now) (filter (differs p code before now.standing) now.standing.loaded)
+swapped_at p code before now = map (class_swapped p code now) (filter (differs p code before now.standing) now.standing.loaded)
 
 -- in the order of the points, and at each in load order
 abbrev pub swaps_from : Program → (ℕ → List Operation) → Standing → List Point → List Swapped

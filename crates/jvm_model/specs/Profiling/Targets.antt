@@ -41,8 +41,8 @@ found_where test static (Found m) = if beq (test m) static then Some m else None
 abbrev pub coded_at : Program → MemberPlace → List ℕ
 coded_at p m = option_to_list (number_of_method p m.class m.position)
 
-abbrev pub coded : Program → Option MemberPlace → List ℕ
-coded p found = option_map_or (coded_at p) found []
+abbrev pub method_coded : Program → Option MemberPlace → List ℕ
+method_coded p found = option_map_or (coded_at p) found []
 
 -- the static initializers of a class and of all its loaded supertypes
 abbrev pub initializers : Program → List ℕ → ℕ → List ℕ
@@ -50,11 +50,11 @@ initializers p loaded class = filter_map (initializer_of p) (filter (is_subtype 
 
 -- what is selected for a method from each loaded subtype of a class
 abbrev pub selections : Program → List ℕ → ℕ → Selecting → MemberPlace → List ℕ
-selections p loaded class by m = flat_map (λ receiver. coded p (selected_by p by m receiver)) (filter (λ lower. is_subtype p lower class) loaded)
+selections p loaded class by m = flat_map (λ receiver. method_coded p (selected_by p by m receiver)) (filter (λ lower. is_subtype p lower class) loaded)
 
 -- what invokespecial takes, whatever the receiver's class is
 abbrev pub invoked_by : Program → List ℕ → ℕ → Selecting → MemberPlace → List ℕ
-invoked_by p loaded class (Special caller interface) m = coded p (selected_by p (Special caller interface) m class)
+invoked_by p loaded class (Special caller interface) m = method_coded p (selected_by p (Special caller interface) m class)
 invoked_by p loaded class Virtual m = selections p loaded class Virtual m
 invoked_by p loaded class OfInterface m = selections p loaded class OfInterface m
 

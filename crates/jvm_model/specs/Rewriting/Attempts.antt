@@ -13,14 +13,14 @@ use Rattle.jvm_model.specs.declared.state.Entry.TheVariants.{Active, Initializin
 use Rattle.jvm_model.specs.declared.ending.Ending.TheVariants.{Returned, Unverifiable}
 use Rattle.jvm_model.specs.Basis.Data.{Locals, Operands, Change, Loads, Began, Left, Unwound, Turn, Next, Outcome, GoesOn, Returns, Breaks}
 use Rattle.jvm_model.specs.Basis.Programs.{params_of_method}
-use Rattle.jvm_model.specs.Basis.Values.{loaded}
+use Rattle.jvm_model.specs.Basis.Values.{local_loaded}
 use Rattle.jvm_model.specs.Instructions.LocalRules.{pushes, calculates, returns}
 use Rattle.jvm_model.specs.Instructions.Rules.{is_print_stream, line_text, invokes_with}
 use Rattle.jvm_model.specs.Running.Applies.{still, breaks, applies, new_frame, has_room}
 use Rattle.jvm_model.specs.Running.Moves.{argument_array}
 use Rattle.jvm_model.specs.Classes.Starting.{ready_in, unmade_in}
 use Rattle.jvm_model.specs.Basis.SharedState.{arguments_fit}
-use Rattle.jvm_model.specs.Rewriting.Installed.{Installed, world_in, line_in, placed, tabled}
+use Rattle.jvm_model.specs.Rewriting.Installed.{Installed, world_in, line_in, line_placed, versions_listed}
 
 -- ---- what an operation asks for, and what it writes
 
@@ -31,7 +31,7 @@ asks_println l _ = Breaks false
 abbrev pub asks : Program → Resolved → Locals → Operands → Outcome
 asks p resolved.Nop l o = GoesOn l o Next
 asks p (resolved.Constant n) l o = GoesOn l (Int n ∷ o) Next
-asks p (resolved.Iload slot) l o = pushes (loaded kind.Int (slice_get l slot)) l o
+asks p (resolved.Iload slot) l o = pushes (local_loaded kind.Int (slice_get l slot)) l o
 asks p (resolved.Binary op) l o = calculates op l o
 asks p resolved.Ireturn l o = returns (Some kind.Int) o
 asks p resolved.Return l o = Returns None
@@ -39,12 +39,12 @@ asks p resolved.Out l o = GoesOn l (Ref 3 ∷ o) Next
 asks p resolved.Println l o = asks_println l o
 asks p (resolved.Invokestatic method) l o = invokes_with method (params_of_method p method) o
 
-abbrev pub printed : Operands → List ℕ
-printed (Int n ∷ Ref r ∷ below) = if is_print_stream r then line_text n else []
-printed _ = []
+abbrev pub line_printed : Operands → List ℕ
+line_printed (Int n ∷ Ref r ∷ below) = if is_print_stream r then line_text n else []
+line_printed _ = []
 
 abbrev pub writes : Resolved → Operands → List ℕ
-writes resolved.Println o = printed o
+writes resolved.Println o = line_printed o
 writes _ o = []
 
 -- ---- an attempt
@@ -53,7 +53,7 @@ writes _ o = []
 abbrev pub does_line : Installed → State → Frame → Option Line → Turn
 does_line t s f None = still (breaks s f 0)
 does_line t s f (Some line) =
-    applies (world_in t) (tabled t) (placed line) (asks t.program line.operation f.locals f.operands) (record s { output = s.output ++ writes line.operation f.operands }) f
+    applies (world_in t) (versions_listed t) (line_placed line) (asks t.program line.operation f.locals f.operands) (record s { output = s.output ++ writes line.operation f.operands }) f
 
 abbrev pub attempts : Installed → State → List Entry → Turn
 attempts t s [] = still s
@@ -68,11 +68,11 @@ is_empty (e ∷ below) = false
 abbrev pub closed_state : State → State
 closed_state s = if is_empty s.stack && is_none s.ending then record s { ending = Some Returned } else s
 
-abbrev pub closed : Turn → Turn
-closed turn = record turn { after = closed_state turn.after }
+abbrev pub turn_closed : Turn → Turn
+turn_closed turn = record turn { after = closed_state turn.after }
 
 abbrev pub attempt_placed : Installed → State → Turn
-attempt_placed t s = closed (attempts t s s.stack)
+attempt_placed t s = turn_closed (attempts t s s.stack)
 
 -- ---- the start
 
@@ -85,7 +85,7 @@ abbrev pub made_placed : Installed → Turn
 made_placed t =
     if has_room (world_in t) t.program.main argument_array
     then record {
-      after = record (ready t) { begun = true; stack = Active (new_frame (world_in t) (tabled t) t.program.main argument_array) ∷ [] };
+      after = record (ready t) { begun = true; stack = Active (new_frame (world_in t) (versions_listed t) t.program.main argument_array) ∷ [] };
       changes = Loads (0 ∷ []) ∷ Began t.program.main ∷ [];
     }
     else record { after = record (ready t) { ending = Some (Unverifiable t.program.main 0) }; changes = Loads (0 ∷ []) ∷ [] }

@@ -40,14 +40,14 @@ abbrev pub line_in : Installed → ℕ → ℕ → Option Line
 line_in t method place = line_behind t.image t.homes method place
 
 -- A line as an instruction, as far as its places go: what it does is said beside it.
-abbrev pub placed : Line → Instruction
-placed line = record { operation = Within Nop; own = line.own; next = line.next; targets = [] }
+abbrev pub line_placed : Line → Instruction
+line_placed line = record { operation = Within Nop; own = line.own; next = line.next; targets = [] }
 
 -- the versions as a listing of places
-abbrev pub tabled : Installed → Listing
-tabled t = record {
+abbrev pub versions_listed : Installed → Listing
+versions_listed t = record {
   current = λ method. method;
   first = λ method. first_place t.image method;
-  at = λ method place. option_map placed (line_in t method place);
+  at = λ method place. option_map line_placed (line_in t method place);
   handlers = λ method. [];
 }

@@ -4,9 +4,9 @@ use Rattle.std.specs.Option.{option_map}
 use Rattle.heap_objects.specs.declared.Value.TheVariants.{Addr}
 use Rattle.frame_stack.specs.Widths.{height_of}
 use Rattle.jvm_model.specs.Basis.Data.{Datum, Locals, Operands, Frame, Entry, Active, Initializing, Constants, Running, Exited, Unverifiable, State, Began, Left, Turn, Instruction, Listing, Where, Next, Target, Back, Outcome, GoesOn, Subroutine, Invokes, Returns, Throws, Raises, Initializes, Exits, Breaks, World}
-use Rattle.jvm_model.specs.Basis.Values.{as_value, spread, locals_with, with_value}
+use Rattle.jvm_model.specs.Basis.Values.{as_value, arguments_spread, locals_with, with_value}
 use Rattle.jvm_model.specs.Basis.Programs.{max_stack_of, max_locals_of}
-use Rattle.jvm_model.specs.Basis.SharedState.{with_phase, Allocated, raised, stack_overflow}
+use Rattle.jvm_model.specs.Basis.SharedState.{with_phase, Allocated, exception_raised, stack_overflow}
 
 abbrev pub still : State → Turn
 still s = record { after = s; changes = [] }
@@ -52,7 +52,7 @@ abbrev pub throws_at : State → Frame → Allocated → State
 throws_at s f a = record s { stack = Active f ∷ s.stack; shared = a.shared; thrown = Some a.reference }
 
 abbrev pub has_room : World → ℕ → List Datum → Bool
-has_room w m args = nat_le (length (spread args)) (max_locals_of w m)
+has_room w m args = nat_le (length (arguments_spread args)) (max_locals_of w m)
 
 -- the caller stays at its instruction without the arguments
 abbrev pub begins : World → Listing → State → Frame → ℕ → List Datum → Operands → Turn
@@ -72,7 +72,7 @@ most_live = 1024
 abbrev pub begins_beside : World → Listing → State → Frame → ℕ → List Datum → Operands → ℕ → Turn
 begins_beside w t s f m args below live =
     if nat_lt live most_live then begins w t s f m args below
-    else still (throws_at s f (raised w s.shared stack_overflow None))
+    else still (throws_at s f (exception_raised w s.shared stack_overflow None))
 
 abbrev pub invokes : World → Listing → Instruction → State → Frame → ℕ → List Datum → Operands → Turn
 invokes w t i s f m args below =
@@ -103,7 +103,7 @@ applies w t i Subroutine s f = still (enters_subroutine s f i i.next)
 applies w t i (Invokes m args below) s f = invokes w t i s f m args below
 applies w t i (Returns d) s f = record { after = gives_back t s d s.stack; changes = Left ∷ [] }
 applies w t i (Throws r) s f = still (throws_at s f (record { shared = s.shared; reference = r }))
-applies w t i (Raises c message) s f = still (throws_at s f (raised w s.shared c message))
+applies w t i (Raises c message) s f = still (throws_at s f (exception_raised w s.shared c message))
 applies w t i (Initializes c) s f = still (record s { stack = Initializing c Constants ∷ Active f ∷ s.stack; shared = with_phase s.shared c Running })
 applies w t i (Exits n) s f = still (record s { stack = Active f ∷ s.stack; ending = Some (Exited n) })
 applies w t i (Breaks ends) s f = breaks_or_ends ends s f i.own

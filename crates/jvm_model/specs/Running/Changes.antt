@@ -24,12 +24,12 @@ after_changes ms [] = ms
 after_changes ms (c ∷ more) = after_changes (after_change ms c) more
 
 -- how many activations begin
-abbrev pub begun : List Change → ℕ
-begun [] = 0
-begun (Loads classes ∷ more) = begun more
-begun (Began m ∷ more) = suc (begun more)
-begun (Left ∷ more) = begun more
-begun (Unwound ∷ more) = begun more
+abbrev pub begun_count : List Change → ℕ
+begun_count [] = 0
+begun_count (Loads classes ∷ more) = begun_count more
+begun_count (Began m ∷ more) = suc (begun_count more)
+begun_count (Left ∷ more) = begun_count more
+begun_count (Unwound ∷ more) = begun_count more
 
 -- activations end first, and behind them one begins at most
 abbrev pub EndThenBegin : List Change → Type 0

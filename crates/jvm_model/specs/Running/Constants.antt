@@ -15,7 +15,7 @@ use Rattle.const_pool.specs.declared.pool.Const.TheVariants as const
 use Rattle.const_pool.specs.Pool.{entry_at}
 use Rattle.const_pool.specs.References.{named_text}
 use Rattle.jvm_model.specs.Basis.Data.{Datum, Program, Shared}
-use Rattle.jvm_model.specs.Instructions.FieldRules.{narrowed}
+use Rattle.jvm_model.specs.Instructions.FieldRules.{field_narrowed}
 use Rattle.jvm_model.specs.Classes.Layouts.{field_kind}
 use Rattle.jvm_model.specs.Basis.Methods.{has_flag}
 use Rattle.jvm_model.specs.Basis.Programs.{class_at}
@@ -36,7 +36,7 @@ constant_among (_ ∷ rest) = constant_among rest
 
 -- of an int as much as a field of this kind holds
 abbrev pub constant_of : List Const → Kind → Const → Option FieldConstant
-constant_of pool k (const.Integer n) = Some (Number (narrowed k (datum.Int n)))
+constant_of pool k (const.Integer n) = Some (Number (field_narrowed k (datum.Int n)))
 constant_of pool k (const.Long n) = Some (Number (datum.Long n))
 constant_of pool k (const.Text i) = option_map Units (named_text pool i)
 constant_of pool k _ = None
@@ -55,8 +55,8 @@ pub record Setting : Type 0 where
   pub shared : Shared
   pub thrown : Option ℕ
 
-abbrev pub set : Shared → Setting
-set s = record { shared = s; thrown = None }
+abbrev pub constant_set : Shared → Setting
+constant_set s = record { shared = s; thrown = None }
 
 -- the text is there, or there is room for it
 abbrev pub can_intern : List ℕ → HeapView → Bool
@@ -66,12 +66,12 @@ can_intern units h = is_some (number_of units h.interned) || nat_le (h.used + (1
 abbrev pub sets_string : Program → Field → List ℕ → Shared → Setting
 sets_string p f units s =
     if can_intern units s.heap
-    then set (with_static (record s { heap = with_interned (kind_for p string) units s.heap }) f (datum.Ref (interned_number units s.heap)))
+    then constant_set (with_static (record s { heap = with_interned (kind_for p string) units s.heap }) f (datum.Ref (interned_number units s.heap)))
     else record { shared = s; thrown = Some 1 }
 
 abbrev pub sets_field : Program → Field → Option FieldConstant → Shared → Setting
-sets_field p f None s = set s
-sets_field p f (Some (Number d)) s = set (with_static s f d)
+sets_field p f None s = constant_set s
+sets_field p f (Some (Number d)) s = constant_set (with_static s f d)
 sets_field p f (Some (Units units)) s = sets_string p f units s
 
 -- unless something was thrown, the next one is set; what was set before stays
@@ -84,10 +84,10 @@ then_sets before next = goes_on before.thrown before.shared next
 
 -- the fields from a position on
 abbrev pub sets_fields : Program → ClassFile → ℕ → ℕ → List Member → Shared → Setting
-sets_fields p c class position [] s = set s
+sets_fields p c class position [] s = constant_set s
 sets_fields p c class position (f ∷ rest) s =
     then_sets (sets_field p (record { class = class; position = position }) (constant_for c f) s)
     (sets_fields p c class (position + 1) rest)
 
 abbrev pub sets_constants : Program → ℕ → Shared → Setting
-sets_constants p class s = option_map_or (λ (c : ClassFile). sets_fields p c class 0 c.fields s) (class_at p class) (set s)
+sets_constants p class s = option_map_or (λ (c : ClassFile). sets_fields p c class 0 c.fields s) (class_at p class) (constant_set s)

@@ -7,7 +7,7 @@ use Rattle.jvm_model.specs.Basis.Data.{Datum, Frame, Entry, Active, Initializing
 use Rattle.jvm_model.specs.Running.Constants.{Setting, sets_constants}
 use Rattle.jvm_model.specs.Classes.Lookup.{is_below}
 use Rattle.jvm_model.specs.Basis.Programs.{name_at, super_of, initializer_of}
-use Rattle.jvm_model.specs.Basis.SharedState.{error, no_class_definition, in_initializer, stack_overflow, phase_of, with_phase, class_of, Allocated, made_with, raised}
+use Rattle.jvm_model.specs.Basis.SharedState.{error, no_class_definition, in_initializer, stack_overflow, phase_of, with_phase, class_of, Allocated, made_with, exception_raised}
 use Rattle.jvm_model.specs.Running.Applies.{still, with_frame, goes, new_frame, has_room, live_in, most_live}
 
 -- ---- a throw meets a frame
@@ -24,20 +24,20 @@ handler_for w class place (h ∷ more) = if covers w class place h then Some h.t
 abbrev pub own_at : Listing → Frame → ℕ
 own_at t f = option_map_or (λ (i : Instruction). i.own) (t.at f.version f.place) 0
 
-abbrev pub caught : World → Listing → State → ℕ → Frame → Option ℕ → Turn
-caught w t s r f None = record { after = s; changes = Unwound ∷ [] }
-caught w t s r f (Some target) = still (goes (record s { thrown = None }) f (own_at t f) f.locals (Ref r ∷ []) (Some target))
+abbrev pub throw_caught : World → Listing → State → ℕ → Frame → Option ℕ → Turn
+throw_caught w t s r f None = record { after = s; changes = Unwound ∷ [] }
+throw_caught w t s r f (Some target) = still (goes (record s { thrown = None }) f (own_at t f) f.locals (Ref r ∷ []) (Some target))
 
 -- ---- a throw meets an initialization
 
 -- what is no Error becomes the cause of one
-abbrev pub wrapped : World → Shared → ℕ → Allocated
-wrapped w s r =
+abbrev pub throw_wrapped : World → Shared → ℕ → Allocated
+throw_wrapped w s r =
     if is_below w.program (class_of w.program s r) error then record { shared = s; reference = r }
     else made_with w s in_initializer None (datum.Ref r)
 
 abbrev pub fails : World → State → ℕ → ℕ → State
-fails w s c r = let a = wrapped w s.shared r in record s { shared = with_phase a.shared c Erroneous; thrown = Some a.reference }
+fails w s c r = let a = throw_wrapped w s.shared r in record s { shared = with_phase a.shared c Erroneous; thrown = Some a.reference }
 
 -- ---- an initialization goes on
 
@@ -46,7 +46,7 @@ at_part s c part = record s { stack = Initializing c part ∷ s.stack }
 
 -- an exception that the machine makes is thrown
 abbrev pub raises : World → State → List ℕ → Option (List ℕ) → State
-raises w s name message = let a = raised w s.shared name message in record s { shared = a.shared; thrown = Some a.reference }
+raises w s name message = let a = exception_raised w s.shared name message in record s { shared = a.shared; thrown = Some a.reference }
 
 abbrev pub after_super : World → State → ℕ → ℕ → Option Phase → State
 after_super w s c d (Some Fresh) = record s { stack = Initializing d Constants ∷ Initializing c Initializer ∷ s.stack; shared = with_phase s.shared d Running }
@@ -94,7 +94,7 @@ main_or_end w t s false =
 abbrev pub moves : World → Listing → State → Option Ending → Option ℕ → List Entry → Option Turn
 moves w t s (Some e) thrown stack = None
 moves w t s None (Some r) [] = Some (still (record s { ending = Some (Uncaught (class_of w.program s.shared r)) }))
-moves w t s None (Some r) (Active f ∷ below) = Some (caught w t (record s { stack = below }) r f (handler_for w (class_of w.program s.shared r) f.place (t.handlers f.version)))
+moves w t s None (Some r) (Active f ∷ below) = Some (throw_caught w t (record s { stack = below }) r f (handler_for w (class_of w.program s.shared r) f.place (t.handlers f.version)))
 moves w t s None (Some r) (Initializing c part ∷ below) = Some (still (fails w (record s { stack = below }) c r))
 moves w t s None None [] = Some (main_or_end w t s s.begun)
 moves w t s None None (Active f ∷ below) = None
@@ -131,8 +131,8 @@ unless true = 0
 unless false = 1
 
 -- each move makes it less
-abbrev pub left : State → ℕ
-left s = 8 * fresh s.shared.phases + weights s.stack + unit (is_some s.thrown) + 2 * unless s.begun + unless (is_some s.ending)
+abbrev pub moves_left : State → ℕ
+moves_left s = 8 * fresh s.shared.phases + weights s.stack + unit (is_some s.thrown) + 2 * unless s.begun + unless (is_some s.ending)
 
 abbrev pub then_turn : Turn → Turn → Turn
 then_turn a b = record { after = b.after; changes = a.changes ++ b.changes }
@@ -143,5 +143,5 @@ settles w t zero turn = turn
 settles w t (suc n) turn = option_map_or (λ next. settles w t n (then_turn turn next)) (move w t turn.after) turn
 
 -- all moves: none applies to what it gives
-abbrev pub settled : World → Listing → Turn → Turn
-settled w t turn = settles w t (left turn.after) turn
+abbrev pub turn_settled : World → Listing → Turn → Turn
+turn_settled w t turn = settles w t (moves_left turn.after) turn

@@ -9,14 +9,14 @@ use Rattle.jvm_model.specs.Instructions.Does.{does, loads}
 use Rattle.jvm_model.specs.Classes.Load.{Fault, Loading, error_of, load_of}
 use Rattle.jvm_model.specs.Instructions.SymbolicReference.{message_of}
 use Rattle.jvm_model.specs.Running.Applies.{still, breaks, applies}
-use Rattle.jvm_model.specs.Running.Moves.{raises, then_turn, settled}
+use Rattle.jvm_model.specs.Running.Moves.{raises, then_turn, turn_settled}
 use Rattle.jvm_model.specs.Codes.Originals.{original}
 
 -- ---- a step
 
 -- the instruction is attempted, with all that follows; from the state without the current frame
 abbrev pub tries : World → Listing → Instruction → State → Frame → Done → Turn
-tries w t i s f done = settled w t (applies w t i done.outcome (record s { shared = done.shared; output = s.output ++ done.wrote }) f)
+tries w t i s f done = turn_settled w t (applies w t i done.outcome (record s { shared = done.shared; output = s.output ++ done.wrote }) f)
 
 abbrev pub attempt : World → Listing → Instruction → State → Frame → Turn
 attempt w t i s f = tries w t i s f (does w i.operation s.shared f.locals f.operands)
@@ -111,23 +111,23 @@ starts_unless w None s =
     record s { stack = Initializing class Constants ∷ []; shared = with_phase s.shared class Running }
 
 -- the arguments are made and the main class is loaded
-abbrev pub opened : World → State
-opened w = with_loaded (main_classes w) (arguments_made w (before w))
+abbrev pub run_opened : World → State
+run_opened w = with_loaded (main_classes w) (arguments_made w (before w))
 
 -- where there is no room for the arguments, object 1 is thrown: nothing is made or loaded
-abbrev pub exhausted : World → State
-exhausted w = record (before w) { thrown = Some 1 }
+abbrev pub heap_exhausted : World → State
+heap_exhausted w = record (before w) { thrown = Some 1 }
 
 abbrev pub starts_if : World → Bool → State
-starts_if w true = starts_unless w (main_loading w).fault (opened w)
-starts_if w false = exhausted w
+starts_if w true = starts_unless w (main_loading w).fault (run_opened w)
+starts_if w false = heap_exhausted w
 
 abbrev pub starts_with : World → State
 starts_with w = starts_if w (arguments_fit w.program)
 
 -- the arguments are made, the main class is loaded, and then initialized
 abbrev pub start : World → Listing → Turn
-start w t = loaded_turn (main_loads w) (settled w t (still (starts_with w)))
+start w t = loaded_turn (main_loads w) (turn_settled w t (still (starts_with w)))
 
 -- ---- the run
 

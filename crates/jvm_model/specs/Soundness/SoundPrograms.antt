@@ -12,7 +12,7 @@ use Rattle.jvm_model.specs.declared.event.Act.{Act}
 use Rattle.jvm_model.specs.Basis.Data.{MethodPlace, Program}
 use Rattle.jvm_model.specs.Codes.Lines.{operation_of}
 use Rattle.jvm_model.specs.Basis.Methods.{method_code, method_named}
-use Rattle.jvm_model.specs.Basis.Programs.{class_at, class_named, has_built_in_name, number_of_method, numbered, place_of_method}
+use Rattle.jvm_model.specs.Basis.Programs.{class_at, class_named, has_built_in_name, number_of_method, methods_numbered, place_of_method}
 use Rattle.jvm_model.specs.Small.SmallClass.{main_member, public_static}
 use Rattle.jvm_model.specs.Soundness.Sound.{IsFit}
 use Rattle.jvm_model.specs.Soundness.Whole.{HasSoundCodes, instrs_of}
@@ -59,7 +59,7 @@ pub record IsSoundProgram (own : List ClassFile) (name : List ℕ) (p : Program)
   pub classes_are : p.classes ≡ own ++ built_in_files
   pub formed : AllByRecursion IsClassFile p.classes
   pub free : AllByRecursion (λ c. has_built_in_name c ≡ false) own
-  pub methods : p.methods ≡ numbered p.classes
+  pub methods : p.methods ≡ methods_numbered p.classes
   pub few : length p.methods ≤ 32768
   pub main_is : main_in p (length own) name ≡ Some p.main
   pub main : p.main < length p.methods

@@ -4,7 +4,7 @@ use Rattle.std.specs.Prelude.{◌≡◌, ◌≢◌, ℕ, Bool, true, List, [], �
 use Rattle.jvm_model.specs.declared.event.Act.{Act}
 use Rattle.jvm_model.specs.declared.event.Mark.{Mark}
 use Rattle.jvm_model.specs.declared.event.Mark.TheVariants.{Off, Root}
-use Rattle.jvm_model.specs.Profiling.Activations.{Activation, Trace, changed}
+use Rattle.jvm_model.specs.Profiling.Activations.{Activation, Trace, trace_changed}
 use Rattle.jvm_model.specs.Basis.Data.{Change}
 use Rattle.jvm_model.specs.Profiling.EventLists.{Marking}
 use Rattle.jvm_model.specs.Profiling.Paths.{is_inside}
@@ -24,4 +24,4 @@ AreSuited acts marking activations = (number : ℕ) (a : Activation) → slice_g
 -- behind each of these changes of a step
 abbrev pub StaySuited : List Act → Marking → ℕ → Trace → List Change → Type 0
 StaySuited acts marking step t [] = AreSuited acts marking t.activations
-StaySuited acts marking step t (c ∷ more) = AreSuited acts marking t.activations × StaySuited acts marking step (changed step t c) more
+StaySuited acts marking step t (c ∷ more) = AreSuited acts marking t.activations × StaySuited acts marking step (trace_changed step t c) more

@@ -11,7 +11,7 @@ use Rattle.jvm_model.specs.Basis.Data.{MethodPlace, Program}
 use Rattle.jvm_model.specs.Codes.Lines.{targets_of}
 use Rattle.jvm_model.specs.Basis.Methods.{method_code}
 use Rattle.jvm_model.specs.Codes.Places.{is_start_in, read_from}
-use Rattle.jvm_model.specs.Basis.Programs.{class_at, has_built_in_name, numbered, place_of_method}
+use Rattle.jvm_model.specs.Basis.Programs.{class_at, has_built_in_name, methods_numbered, place_of_method}
 use Rattle.jvm_model.specs.Soundness.Sound.{IsFit}
 
 -- ---- a code (JVM Specification 4.9.1)
@@ -47,7 +47,7 @@ pub record IsWhole (p : Program) : Type 0 where
   pub fit : IsFit p
   pub own : List ClassFile
   pub classes : p.classes ≡ own ++ built_in_files
-  pub methods : p.methods ≡ numbered p.classes
+  pub methods : p.methods ≡ methods_numbered p.classes
   pub free : AllByRecursion (λ c. has_built_in_name c ≡ false) own
   pub main : is_some (place_of_method p p.main) ≡ true
   pub codes : HasSoundCodes p

@@ -3,11 +3,11 @@
 use Rattle.std.specs.Prelude.{◌≡◌, ℕ, suc, Bool, true, false, List, [], ◌∷◌, drop, nat_lt}
 use Rattle.jvm_model.specs.declared.event.Mark.{Mark}
 use Rattle.jvm_model.specs.Basis.Data.{Entry, Active, Initializing, State, Turn, Listing, World}
-use Rattle.jvm_model.specs.Codes.Moved.{moved, IsPlaced}
-use Rattle.jvm_model.specs.Rewriting.StandsForRun.{StandsFor, forgotten, at_homes, norm_by}
+use Rattle.jvm_model.specs.Codes.Moved.{state_moved, IsPlaced}
+use Rattle.jvm_model.specs.Rewriting.StandsForRun.{StandsFor, versions_forgotten, at_homes, norm_by}
 use Rattle.jvm_model.specs.Turns.Rest.{Todo, Attempt, Moves, rest}
 use Rattle.jvm_model.specs.Turns.Told.{Held, helds}
-use Rattle.jvm_model.specs.Turns.Pauses.{later_of, Nothing, Pause, paused, is_end, stop_from, stop_of}
+use Rattle.jvm_model.specs.Turns.Pauses.{later_of, Nothing, Pause, step_paused, is_end, stop_from, stop_of}
 use Rattle.jvm_model.specs.Turns.StepPauses.{step_pause, Awaits, IsLoaded}
 
 -- The versions: of which method each is, where its places stand, and its mark. They are the same for a version as long as a frame runs it.
@@ -19,10 +19,10 @@ pub record Versioned : Type 0 where
 
 -- the state of the original code that a state with versions is
 abbrev pub original_of : Versioned → State → State
-original_of x s = moved (forgotten x.method_of) s
+original_of x s = state_moved (versions_forgotten x.method_of) s
 
 abbrev pub versioned_of : Versioned → State → State
-versioned_of x s = moved (at_homes x.homes) s
+versioned_of x s = state_moved (at_homes x.homes) s
 
 -- `t` is the original code, `turn` the whole step, `s` the machine's state.
 pub record InHand (w : World) (t : Listing) (x : Versioned) (turn : Turn) (passed : ℕ) (told : Bool) (live : List Held) (todo : Todo) (s : State) : Type 0 where
@@ -40,8 +40,8 @@ pub record InHand (w : World) (t : Listing) (x : Versioned) (turn : Turn) (passe
 -- without the frame that is unwound
 abbrev pub goes_from : World → Listing → Versioned → Bool → ℕ → Todo → State → State → Pause
 goes_from w u x told n Attempt s unwound = step_pause w u x.mark_of told n s
-goes_from w u x false n Moves s unwound = paused w u x.mark_of n s
-goes_from w u x true n Moves s unwound = paused w u x.mark_of (suc n) unwound
+goes_from w u x false n Moves s unwound = step_paused w u x.mark_of n s
+goes_from w u x true n Moves s unwound = step_paused w u x.mark_of (suc n) unwound
 
 -- What the machine comes to by that: where the step's changes say, with the rest of the same step in hand; and where nothing is told more, it stands for
 -- the state after the step.
@@ -60,8 +60,8 @@ behind_load [] = 0
 behind_load (c ∷ more) = 1
 
 -- without the current frame
-abbrev pub popped : State → State
-popped s = record s { stack = drop 1 s.stack }
+abbrev pub frame_popped : State → State
+frame_popped s = record s { stack = drop 1 s.stack }
 
 -- every frame runs one of the versions with numbers below this
 abbrev pub AreHeld : ℕ → List Entry → Type 0

@@ -8,7 +8,7 @@ use Rattle.jvm_model.specs.declared.event.Mark.{Mark}
 use Rattle.jvm_model.specs.declared.event.Mark.TheVariants.{Off, Plain, Root}
 use Rattle.jvm_model.specs.Rewriting.Images.{is_off}
 use Rattle.jvm_model.specs.Basis.Data.{State, Change, Loads, Began, Left, Unwound, Turn, Listing, World}
-use Rattle.jvm_model.specs.Running.Moves.{move, left}
+use Rattle.jvm_model.specs.Running.Moves.{move, moves_left}
 use Rattle.jvm_model.specs.Turns.Rest.{Todo, Attempt, Moves, rest, IsPart}
 use Rattle.jvm_model.specs.Turns.Told.{Held, held_after, helds, mark_now, changes_told, all_held}
 -- ---- the first change of several that is told
@@ -81,8 +81,8 @@ pauses w t v (suc k) n s =
     (pauses w t v k (passed_by n next.changes) next.after)) (move w t s) (record { state = s; passed = n; due = Nothing })
 
 -- behind so many changes of the step
-abbrev pub paused : World → Listing → (ℕ → Mark) → ℕ → State → Pause
-paused w t v n s = pauses w t v (left s) n s
+abbrev pub step_paused : World → Listing → (ℕ → Mark) → ℕ → State → Pause
+step_paused w t v n s = pauses w t v (moves_left s) n s
 
 abbrev pub stop_of : (ℕ → Mark) → Pause → Stop
 stop_of v p = record { live = helds v p.state.stack; passed = p.passed; due = p.due }

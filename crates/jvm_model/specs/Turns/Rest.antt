@@ -4,7 +4,7 @@ use Rattle.std.specs.Prelude.{◌≡◌, ℕ, List, [], ◌∷◌, ◌++◌, Opt
 use Rattle.jvm_model.specs.Basis.Data.{Frame, Entry, Active, Ending, State, Change, Loads, Turn, Instruction, Listing, World}
 use Rattle.jvm_model.specs.Instructions.Does.{loads}
 use Rattle.jvm_model.specs.Running.Applies.{still}
-use Rattle.jvm_model.specs.Running.Moves.{settled}
+use Rattle.jvm_model.specs.Running.Moves.{turn_settled}
 use Rattle.jvm_model.specs.Running.Run.{step}
 
 -- ---- the classes that a step loads first
@@ -35,7 +35,7 @@ pub data Todo : Type 0 where
 
 abbrev pub rest : World → Listing → Todo → State → Turn
 rest w t Attempt s = step w t s
-rest w t Moves s = settled w t (still s)
+rest w t Moves s = turn_settled w t (still s)
 
 -- A part of what is left: with these changes it comes to a state from which so much is left.
 pub record IsPart (w : World) (t : Listing) (l : Todo) (s : State) (changes : List Change) (m : Todo) (after : State) : Type 0 where

@@ -11,11 +11,11 @@ use Rattle.jvm_model.specs.Running.Applies.{still, breaks, applies}
 use Rattle.jvm_model.specs.Running.Run.{starts, is_ready, goes_on}
 use Rattle.jvm_model.specs.Turns.Rest.{step_loads, Todo, Attempt, Moves, rest, IsPart}
 use Rattle.jvm_model.specs.Turns.Told.{Held, held_by, helds, mark_now}
-use Rattle.jvm_model.specs.Turns.Pauses.{later_of, Due, Nothing, Ends, Begins, changes_due, stop_from, stop_of, passed_by, Pause, paused, is_end, Unwinds}
+use Rattle.jvm_model.specs.Turns.Pauses.{later_of, Due, Nothing, Ends, Begins, changes_due, stop_from, stop_of, passed_by, Pause, step_paused, is_end, Unwinds}
 
 -- the instruction alone, from the state without the current frame
-abbrev pub attempted : World → Listing → Instruction → State → Frame → Turn
-attempted w t i s f =
+abbrev pub instruction_attempted : World → Listing → Instruction → State → Frame → Turn
+instruction_attempted w t i s f =
     let d = does w i.operation s.shared f.locals f.operands in
     applies w t i d.outcome (record s { shared = d.shared; output = s.output ++ d.wrote }) f
 
@@ -29,7 +29,7 @@ pause_behind (Ends k) begun later = later
 abbrev pub turn_pause : World → Listing → (ℕ → Mark) → ℕ → List Held → Turn → Pause
 turn_pause w t v n live a =
     pause_behind (changes_due (mark_now v t) live a.changes) (record { state = a.after; passed = passed_by n a.changes; due = Begins })
-    (paused w t v (passed_by n a.changes) a.after)
+    (step_paused w t v (passed_by n a.changes) a.after)
 
 abbrev pub is_nothing : Due → Bool
 is_nothing Nothing = true
@@ -41,7 +41,7 @@ abbrev pub again_pause : World → Listing → (ℕ → Mark) → ℕ → List H
 again_pause w t v n live i s f None p = p
 again_pause w t v n live i s f (Some c) p =
     if is_nothing p.due && p.passed == n && is_ready (phase_of p.state.shared c) && goes_on p.state.ending p.state.thrown
-    then turn_pause w t v n live (attempted w t i (record p.state { stack = s.stack }) f)
+    then turn_pause w t v n live (instruction_attempted w t i (record p.state { stack = s.stack }) f)
     else p
 
 abbrev pub is_return : Operation → Bool
@@ -67,7 +67,7 @@ line_pause w t v told n s f i =
     if leave_due told (v f.version) i.operation
     then record { state = record s { stack = Active f ∷ s.stack }; passed = n; due = Ends kind.Leave }
     else again_pause w t v n (held_by v f ∷ helds v s.stack) i s f (starts (does w i.operation s.shared f.locals f.operands).outcome)
-    (turn_pause w t v n (held_by v f ∷ helds v s.stack) (attempted w t i s f))
+    (turn_pause w t v n (held_by v f ∷ helds v s.stack) (instruction_attempted w t i s f))
 
 abbrev pub frame_pause : World → Listing → (ℕ → Mark) → Bool → ℕ → State → Frame → Option Instruction → Pause
 frame_pause w t v told n s f None = record { state = breaks s f 0; passed = n; due = Nothing }

@@ -5,7 +5,7 @@ use Rattle.std.proofs.lemmas.Bool.{false≢true}
 use Rattle.frame_stack.specs.FrameLists.{has_frame}
 use Rattle.jvm_model.specs.declared.state.State.{State}
 use Rattle.jvm_model.specs.Running.Applies.{still}
-use Rattle.jvm_model.specs.Running.Moves.{settled}
+use Rattle.jvm_model.specs.Running.Moves.{turn_settled}
 use Rattle.jvm_model.specs.Running.Run.{is_ready, step}
 use Rattle.jvm_model.specs.Basis.SharedState.{phase_of}
 use Rattle.jvm_model.proofs.Soundness.SoundListingRuns.{sound-step}
@@ -35,7 +35,7 @@ none-there ms p goes =
 
 -- ---- the world stays
 
-pub settled-in : (w v : Setup) (x y : State) → v ≡ w → x ≡ (settled v.world (listing_of v.versions) (still y)).after → x ≡ behind w y
+pub settled-in : (w v : Setup) (x y : State) → v ≡ w → x ≡ (turn_settled v.world (listing_of v.versions) (still y)).after → x ≡ behind w y
 settled-in w v x y same settles = subst (λ u. x ≡ behind u y) same settles
 
 pub attempted-in : (w v : Setup) (s x : State) → v ≡ w → x ≡ attempts_on v s s.stack → x ≡ attempts_on w s s.stack

@@ -15,7 +15,7 @@ use Rattle.prepared_code.specs.declared.line.Line.{Line}
 use Rattle.prepared_code.specs.declared.initializations.Initialization.{Initialization}
 use Rattle.prepared_code.specs.declared.parts.Here.{Here}
 use Rattle.prepared_code.specs.declared.parts.Parts.{Parts}
-use Rattle.jvm_steps.specs.Instructions.Acts.{BecomesBeneath, IsTop, acts, acts_by, acts_end, attempts_line, attempts_on, awaited, awaited_by, awaited_in, awaited_on, becomes_beneath, ended, is_named, named_in, on_top}
+use Rattle.jvm_steps.specs.Instructions.Acts.{BecomesBeneath, IsTop, acts, acts_by, acts_end, attempts_line, attempts_on, class_awaited, awaited_by, awaited_in, awaited_on, becomes_beneath, run_ended, is_named, named_in, on_top}
 use Rattle.prepared_code.specs.Initializations.{initializing_entry, initialization_on, stack_of, state_of, with_initializations}
 use Rattle.prepared_code.specs.States.{active, frame_in, here_of, state_in, state_with}
 use Rattle.jvm_steps.proofs.Loads.ActsLoad.{attempts-keep}
@@ -84,7 +84,7 @@ module _ (w : Setup) (ms : List Initialization) (p : Parts) where
   unnamed-by : (lo : Option Line) → named_in lo ≡ false → (x : State) (f : Frame) → awaited_by w x f lo ≡ None
   unnamed-by None is x f = refl
   unnamed-by (Some line) is x f = by line.action is where
-    by : (a : Action) → is_named a ≡ false → awaited w x f a ≡ None
+    by : (a : Action) → is_named a ≡ false → class_awaited w x f a ≡ None
     by (action.Named n) is = absurd (false≢true (sym is))
     by action.Local is = refl
     by (action.Return k) is = refl
@@ -139,7 +139,7 @@ module _ (w : Setup) (ms : List Initialization) (p : Parts) where
       ∙ ap (attempts_line w (record s { stack = stack_of (map active fs) ms }) (frame_in f)) at))
 
   pub breaks-there : (here : Here) → here_of p.frames.frames ≡ Some here → initialization_on (length p.frames.frames) ms ≡ None → line_at w.versions here.version here.place ≡ None
-      → state_of ms (ended here.method 0 p) ≡ attempts_on w s (stack_of (map active p.frames.frames) ms)
+      → state_of ms (run_ended here.method 0 p) ≡ attempts_on w s (stack_of (map active p.frames.frames) ms)
   breaks-there here is none found = breaks-by p.frames.frames here is none found
 
   does-by : (line : Line) (fs : List PlacedFrame) (here : Here) → here_of fs ≡ Some here → initialization_on (length fs) ms ≡ None → line_at w.versions here.version here.place ≡ Some line

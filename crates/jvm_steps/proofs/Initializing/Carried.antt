@@ -19,9 +19,9 @@ use Rattle.jvm_model.specs.Running.Applies.{still, with_frame, breaks, goes, pla
 use Rattle.jvm_model.specs.Instructions.ConstantRules.{pushes_string}
 use Rattle.jvm_model.specs.Basis.Data.{Locals, Operands, Listing, Instruction, Outcome, GoesOn, Subroutine, Invokes, Returns, Throws, Raises, Initializes, Exits, Breaks, Began, Turn}
 use Rattle.jvm_model.specs.Instructions.LocalRules.{arithmetic_exception, by_zero, returns}
-use Rattle.jvm_model.specs.Running.Moves.{argument_array, caught, handler_for, main_or_end, move, moves, own_at}
+use Rattle.jvm_model.specs.Running.Moves.{argument_array, throw_caught, handler_for, main_or_end, move, moves, own_at}
 use Rattle.jvm_model.specs.Instructions.ObjectRules.{loads_element, makes, measures, place_of as element_of, stores_element, storing_of, throws, watches}
-use Rattle.jvm_model.specs.Basis.SharedState.{Allocated, class_of, raised, stack_overflow}
+use Rattle.jvm_model.specs.Basis.SharedState.{Allocated, class_of, exception_raised, stack_overflow}
 use Rattle.jvm_model.specs.Basis.Values.{as_value, int_of, ref_of, with_value}
 use Rattle.jvm_basic.specs.Outcomes.{Outcome as Comes, GoesOn as Goes, Raises as Divides, Breaks as Fails, Leaves}
 use Rattle.jvm_basic.specs.Rules.{rule_of}
@@ -92,14 +92,14 @@ module _ (ms : List Initialization) where
       ∙ ap (λ n. (delivered (has_room w.world m args) (nat_lt (suc n) most_live)).after) (sym (live-stack s.stack ms))
     where
       over : State → Turn
-      over x = still (throws_at x f (raised w.world x.shared stack_overflow None))
+      over x = still (throws_at x f (exception_raised w.world x.shared stack_overflow None))
 
       delivered : Bool → Bool → Turn
       delivered b few = cond b (cond few (begins w.world t (with_initializations ms s) f m args rest) (over (with_initializations ms s))) (still (breaks (with_initializations ms s) f i.own))
 
       by : (b few : Bool) → with_initializations ms (cond b (cond few (begins w.world t s f m args rest) (over s)) (still (breaks s f i.own))).after ≡ (delivered b few).after
       by true true = begins-carried w t s f m args rest free
-      by true false = throws-carried s f (raised w.world s.shared stack_overflow None) free
+      by true false = throws-carried s f (exception_raised w.world s.shared stack_overflow None) free
       by false few = breaks-carried s f i.own free
 
   pub applies-carried : (w : Setup) (t : Listing) (i : Instruction) (q : Outcome) → stays q ≡ true → (s : State) (f : Frame) → IsFree ms s
@@ -108,7 +108,7 @@ module _ (ms : List Initialization) where
   applies-carried w t i Subroutine kept s f free = subroutine-carried i s f i.next free
   applies-carried w t i (Invokes m args rest) kept s f free = invokes-carried w t i s f m args rest free
   applies-carried w t i (Throws r) kept s f free = throws-carried s f (record { shared = s.shared; reference = r }) free
-  applies-carried w t i (Raises name message) kept s f free = throws-carried s f (raised w.world s.shared name message) free
+  applies-carried w t i (Raises name message) kept s f free = throws-carried s f (exception_raised w.world s.shared name message) free
   applies-carried w t i (Exits n) kept s f free = ap (λ es. record s { stack = es; ending = Some (Exited n) }) (framed s f free)
   applies-carried w t i (Breaks false) kept s f free = breaks-carried s f i.own free
   applies-carried w t i (Breaks true) kept s f free = absurd (false≢true kept)
@@ -119,7 +119,7 @@ module _ (ms : List Initialization) where
 
   pub comes-carried : (w : Setup) (line : Line) (s : State) (f : Frame) (x : Comes) → IsFree ms s → with_initializations ms (comes_to w line s f x) ≡ comes_to w line (with_initializations ms s) f x
   comes-carried w line s f (Goes l o place) free = goes-carried s f line.instr.at l o (Some place) free
-  comes-carried w line s f (Divides class) free = throws-carried s f (raised w.world s.shared arithmetic_exception (Some by_zero)) free
+  comes-carried w line s f (Divides class) free = throws-carried s f (exception_raised w.world s.shared arithmetic_exception (Some by_zero)) free
   comes-carried w line s f Fails free = breaks-carried s f line.instr.at free
   comes-carried w line s f Leaves free = breaks-carried s f line.instr.at free
 
@@ -245,7 +245,7 @@ module _ (ms : List Initialization) where
         × (is_some (moves w.world t (at es thrown ending) ending thrown es) ≡ is_some (moves w.world t (at all thrown ending) ending thrown all))
 
     caught-carried : (es : List Entry) (r : ℕ) (f : Frame) (h : Option ℕ) → initialization_on (suc (length es)) ms ≡ None
-        → with_initializations ms (caught w.world t (at es (Some r) None) r f h).after ≡ (caught w.world t (at (stack_of es ms) (Some r) None) r f h).after
+        → with_initializations ms (throw_caught w.world t (at es (Some r) None) r f h).after ≡ (throw_caught w.world t (at (stack_of es ms) (Some r) None) r f h).after
     caught-carried es r f None none = refl
     caught-carried es r f (Some target) none = goes-carried (at es None None) f (own_at t f) f.locals (Ref r ∷ []) (Some target) none
 

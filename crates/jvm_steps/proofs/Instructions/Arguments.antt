@@ -16,7 +16,7 @@ use Rattle.frame_stack.specs.Widths.{width, height_of, slots_of_all}
 use Rattle.frame_stack.specs.FrameLists.{PlacedFrame, top_operands, can_enter}
 use Rattle.frame_stack.proofs.Passing.{get-none}
 use Rattle.jvm_model.specs.Basis.Data.{Operands}
-use Rattle.jvm_model.specs.Basis.Values.{as_value, datum_of, data_of, spread}
+use Rattle.jvm_model.specs.Basis.Values.{as_value, datum_of, data_of, arguments_spread}
 use Rattle.jvm_steps.specs.Instructions.Arguments.{is_long_kind, slots_for}
 
 -- ---- values of their parameters' kinds
@@ -32,23 +32,23 @@ as_value-datum kind.Long (Long n) d e = ap as_value (same_Some (datum.Long n) d 
 as_value-datum kind.Ref (Ref r) d e = ap as_value (same_Some (datum.Ref r) d e)
 as_value-datum _ _ d e = absurd (none-some d e)
 
-spread-one : (d : Datum) (ds : List Datum) (vs : List Value) → spread ds ≡ slots_of_all vs → spread (d ∷ ds) ≡ slots_of_all (as_value d ∷ vs)
+spread-one : (d : Datum) (ds : List Datum) (vs : List Value) → arguments_spread ds ≡ slots_of_all vs → arguments_spread (d ∷ ds) ≡ slots_of_all (as_value d ∷ vs)
 spread-one (datum.Int n) ds vs e = ap (λ l. Some (Int n) ∷ l) e
 spread-one (datum.Long n) ds vs e = ap (λ l. Some (Long n) ∷ None ∷ l) e
 spread-one (datum.Ref r) ds vs e = ap (λ l. Some (Ref r) ∷ l) e
 
 -- so the data take the locals that the values take
-pub spread-data : (ks : List Kind) (vs : List Value) (ds : List Datum) → data_of ks vs ≡ Some ds → spread ds ≡ slots_of_all vs
-spread-data [] [] ds e = ap spread (sym (same_Some [] ds e))
+pub spread-data : (ks : List Kind) (vs : List Value) (ds : List Datum) → data_of ks vs ≡ Some ds → arguments_spread ds ≡ slots_of_all vs
+spread-data [] [] ds e = ap arguments_spread (sym (same_Some [] ds e))
 spread-data [] (v ∷ vs) ds e = absurd (none-some ds e)
 spread-data (k ∷ ks) [] ds e = absurd (none-some ds e)
 spread-data (k ∷ ks) (v ∷ vs) ds e = by_first (datum_of k v) (data_of ks vs) refl (spread-data ks vs) e where
-  by_first : (first : Option Datum) (rest : Option (List Datum)) → datum_of k v ≡ first → ((xs : List Datum) → rest ≡ Some xs → spread xs ≡ slots_of_all vs)
-      → option_and_then (λ d. option_map (λ xs. d ∷ xs) rest) first ≡ Some ds → spread ds ≡ slots_of_all (v ∷ vs)
+  by_first : (first : Option Datum) (rest : Option (List Datum)) → datum_of k v ≡ first → ((xs : List Datum) → rest ≡ Some xs → arguments_spread xs ≡ slots_of_all vs)
+      → option_and_then (λ d. option_map (λ xs. d ∷ xs) rest) first ≡ Some ds → arguments_spread ds ≡ slots_of_all (v ∷ vs)
   by_first None rest f r e = absurd (none-some ds e)
   by_first (Some d) None f r e = absurd (none-some ds e)
   by_first (Some d) (Some xs) f r e =
-      ap spread (sym (same_Some (d ∷ xs) ds e)) ∙ (spread-one d xs vs (r xs refl) ∙ ap (λ x. slots_of_all (x ∷ vs)) (sym (as_value-datum k v d f)))
+      ap arguments_spread (sym (same_Some (d ∷ xs) ds e)) ∙ (spread-one d xs vs (r xs refl) ∙ ap (λ x. slots_of_all (x ∷ vs)) (sym (as_value-datum k v d f)))
 
 -- a value of a kind is as wide as the kind
 width-kind : (k : Kind) (v : Value) (d : Datum) → datum_of k v ≡ Some d → width v ≡ 1 + cond (is_long_kind k) 1 0

@@ -14,15 +14,15 @@ use Rattle.frame_stack.specs.FrameLists.{PlacedFrame, top_operands}
 use Rattle.jvm_model.specs.declared.state.State.{State}
 use Rattle.jvm_model.specs.Basis.Data.{Locals, Operands, Invokes, Turn}
 use Rattle.jvm_model.specs.Basis.Programs.{max_locals_of, max_stack_of, params_of_method}
-use Rattle.jvm_model.specs.Basis.Values.{data_of, datum_of, spread}
+use Rattle.jvm_model.specs.Basis.Values.{data_of, datum_of, arguments_spread}
 use Rattle.jvm_model.specs.Instructions.Rules.{invokes as invokes_outcome}
 use Rattle.jvm_model.specs.Running.Applies.{still, breaks, begins, live_in, most_live, with_frame, applies}
 use Rattle.prepared_code.specs.declared.parts.Parts.{Parts}
 use Rattle.prepared_code.specs.declared.line.Line.{Line}
 use Rattle.prepared_code.specs.declared.originals.Exception.TheVariants.{StackOverflow}
 use Rattle.prepared_code.specs.declared.parts.Here.{Here}
-use Rattle.jvm_steps.specs.Instructions.Acts.{ended, placed_line, raising}
-use Rattle.jvm_steps.specs.Instructions.Invoking.{called, may_begin}
+use Rattle.jvm_steps.specs.Instructions.Acts.{run_ended, placed_line, raising}
+use Rattle.jvm_steps.specs.Instructions.Invoking.{method_called, may_begin}
 use Rattle.jvm_steps.specs.Moves.Settling.{own_of}
 use Rattle.prepared_code.specs.States.{active, frame_in, state_with, state_in}
 use Rattle.jvm_steps.specs.Instructions.Arguments.{arguments_of, can_begin, fits_with, fits_params, slots_for, with_begun}
@@ -79,7 +79,7 @@ module _ (w : Setup) (line : Line) (callee : ℕ) (p : Parts) (f : PlacedFrame) 
   abbrev begun_by : Bool → ℕ → State
   begun_by b count =
       cond b (cond few_live (state_with (with_begun true w callee count (f ∷ fs)) p) thrown)
-      (state_with (f ∷ fs) (ended f.method line.instr.at p))
+      (state_with (f ∷ fs) (run_ended f.method line.instr.at p))
 
   abbrev begins_here : ℕ → List Datum → Turn
   begins_here count args = begins w.world (listing_of w.versions) (state_with fs p) (frame_in f) callee args (drop count f.operands)
@@ -90,10 +90,10 @@ module _ (w : Setup) (line : Line) (callee : ℕ) (p : Parts) (f : PlacedFrame) 
   by_data ks None e = refl
   by_data ks (Some args) e =
       let values : List Value = reverse (taken (length ks)) in
-      let same : spread args ≡ slots_of_all values = spread-data ks values args e in
-      let long : length (spread args) ≡ height_of (taken (length ks)) = ap length same ∙ (length-slots values ∙ height-reverse (taken (length ks))) in
-      split (nat_le (length (spread args)) most) few_live
-      ∙ (ap (state_by (length ks) (length (spread args))) same
+      let same : arguments_spread args ≡ slots_of_all values = spread-data ks values args e in
+      let long : length (arguments_spread args) ≡ height_of (taken (length ks)) = ap length same ∙ (length-slots values ∙ height-reverse (taken (length ks))) in
+      split (nat_le (length (arguments_spread args)) most) few_live
+      ∙ (ap (state_by (length ks) (length (arguments_spread args))) same
       ∙ (ap (λ n. state_by (length ks) n (slots_of_all values)) long
       ∙ ap (λ b. begun_by (b && nat_le (height_of (taken (length ks))) most) (length ks)) (sym (enough-data ks f.operands args e))))
     where
@@ -108,7 +108,7 @@ module _ (w : Setup) (line : Line) (callee : ℕ) (p : Parts) (f : PlacedFrame) 
   -- as a method that was named takes them
   pub calls-is : (here : Here) (args : List Datum) (below : Operands) → here.method ≡ f.method → own_of w here ≡ line.instr.at → Takes f.operands args below
       → (applies w.world (listing_of w.versions) (placed_line line) (Invokes callee args below) (state_with fs p) (frame_in f)).after
-      ≡ called w here callee (length args) (f ∷ fs) p (may_begin (f ∷ fs)) (can_begin w callee (length args) (f ∷ fs))
+      ≡ method_called w here callee (length args) (f ∷ fs) p (may_begin (f ∷ fs)) (can_begin w callee (length args) (f ∷ fs))
   calls-is here args below method own takes =
       let ks : List Kind = takes.kinds in
       let many : length ks ≡ length args = sym (same-length ks (reverse (taken (length ks))) args takes.are) in
@@ -125,16 +125,16 @@ module _ (w : Setup) (line : Line) (callee : ℕ) (p : Parts) (f : PlacedFrame) 
       with_few : Bool → State
       with_few few =
           cond (can_begin w callee (length args) (f ∷ fs)) (cond few (state_with (with_begun true w callee (length args) (f ∷ fs)) p) thrown)
-          (state_with (f ∷ fs) (ended f.method line.instr.at p))
+          (state_with (f ∷ fs) (run_ended f.method line.instr.at p))
 
       with_end : ℕ → ℕ → State
       with_end method own =
           cond (can_begin w callee (length args) (f ∷ fs)) (cond (may_begin (f ∷ fs)) (state_with (with_begun true w callee (length args) (f ∷ fs)) p) thrown)
-          (state_with (f ∷ fs) (ended method own p))
+          (state_with (f ∷ fs) (run_ended method own p))
 
       either : (b : Bool)
-          → cond b (cond (may_begin (f ∷ fs)) (state_with (with_begun true w callee (length args) (f ∷ fs)) p) thrown) (state_with (f ∷ fs) (ended here.method (own_of w here) p))
-          ≡ called w here callee (length args) (f ∷ fs) p (may_begin (f ∷ fs)) b
+          → cond b (cond (may_begin (f ∷ fs)) (state_with (with_begun true w callee (length args) (f ∷ fs)) p) thrown) (state_with (f ∷ fs) (run_ended here.method (own_of w here) p))
+          ≡ method_called w here callee (length args) (f ∷ fs) p (may_begin (f ∷ fs)) b
       either true = refl
       either false = refl
 

@@ -18,8 +18,8 @@ use Rattle.prepared_code.specs.declared.line.Line.{Line}
 use Rattle.prepared_code.specs.declared.initializations.Initialization.{Initialization}
 use Rattle.prepared_code.specs.declared.parts.Here.{Here}
 use Rattle.prepared_code.specs.declared.parts.Parts.{Parts}
-use Rattle.jvm_steps.specs.Instructions.Acts.{acts_asked, acts_named, ended, placed_line}
-use Rattle.jvm_steps.specs.Instructions.Asked.{concluded, done_top, starts_in}
+use Rattle.jvm_steps.specs.Instructions.Acts.{acts_asked, acts_named, run_ended, placed_line}
+use Rattle.jvm_steps.specs.Instructions.Asked.{answer_concluded, done_top, starts_in}
 use Rattle.jvm_steps.specs.Instructions.Initializing.{begins_class}
 use Rattle.prepared_code.specs.Initializations.{initialization_on, state_of, with_initializations}
 use Rattle.jvm_steps.specs.Moves.Settling.{own_of}
@@ -74,16 +74,16 @@ module _ (w : Setup) (line : Line) (here : Here) (own : own_of w here ≡ line.i
   asked_there q = acts_asked w line (state_with fs p) (frame_in f) q
 
   abbrev concluded_there : Outcome → State
-  concluded_there q = concluded w here (answer_in q (f ∷ fs)) (record p { frames = record p.frames { frames = frames_in q line.next (f ∷ fs) } })
+  concluded_there q = answer_concluded w here (answer_in q (f ∷ fs)) (record p { frames = record p.frames { frames = frames_in q line.next (f ∷ fs) } })
 
-  ends-there : state_with (f ∷ fs) (ended here.method (own_of w here) p) ≡ breaks (state_with fs p) (frame_in f) line.instr.at
+  ends-there : state_with (f ∷ fs) (run_ended here.method (own_of w here) p) ≡ breaks (state_with fs p) (frame_in f) line.instr.at
   ends-there =
-      ap (λ m. state_with (f ∷ fs) (ended m (own_of w here) p)) method ∙ ap (λ at. state_with (f ∷ fs) (ended f.method at p)) own
+      ap (λ m. state_with (f ∷ fs) (run_ended m (own_of w here) p)) method ∙ ap (λ at. state_with (f ∷ fs) (run_ended f.method at p)) own
 
   goes-there : (l : Locals) (o : Operands) → concluded_there (GoesOn l o Next) ≡ asked_there (GoesOn l o Next)
   goes-there l o = by (nat_le (height_of o) f.max_stack) where
     by : (b : Bool)
-        → concluded w here (cond b Continues Exceeds) (record p { frames = record p.frames { frames = cond b (with_top l o line.next (f ∷ fs)) (f ∷ fs) } })
+        → answer_concluded w here (cond b Continues Exceeds) (record p { frames = record p.frames { frames = cond b (with_top l o line.next (f ∷ fs)) (f ∷ fs) } })
         ≡ cond b (with_frame (state_with fs p) (record (frame_in f) { place = line.next; locals = l; operands = o })) (breaks (state_with fs p) (frame_in f) line.instr.at)
     by true = refl
     by false = ends-there
@@ -155,7 +155,7 @@ module _ (w : Setup) (line : Line) (n : SymbolicReference) (ms : List Initializa
   answer_there all = answer_in (done_top w n p.shared all).outcome all
 
   pub concludes-by : (all : List PlacedFrame) → here_of all ≡ Some here → initialization_on (length all) ms ≡ None → CanAnswer (answer_there all)
-      → starts_in (answer_there all) ≡ None → with_initializations ms (concluded w here (answer_there all) (reached all)) ≡ named_beneath w line n ms p all
+      → starts_in (answer_there all) ≡ None → with_initializations ms (answer_concluded w here (answer_there all) (reached all)) ≡ named_beneath w line n ms p all
   concludes-by [] is none can quiet = absurd (none-some here is)
   concludes-by (f ∷ fs) is none can quiet =
       let d : Done = done_top w n p.shared (f ∷ fs) in
@@ -169,12 +169,12 @@ module _ (w : Setup) (line : Line) (n : SymbolicReference) (ms : List Initializa
 
   pub begins-by : (c : ℕ) (all : List PlacedFrame) → here_of all ≡ Some here → initialization_on (length all) ms ≡ None → CanAnswer (answer_there all)
       → starts_in (answer_there all) ≡ Some c
-      → begins_class c (with_initializations ms (concluded w here (answer_there all) (reached all))) ≡ named_beneath w line n ms p all
+      → begins_class c (with_initializations ms (answer_concluded w here (answer_there all) (reached all))) ≡ named_beneath w line n ms p all
   begins-by c [] is none can some = absurd (none-some here is)
   begins-by c (f ∷ fs) is none can some =
       let d : Done = done_top w n p.shared (f ∷ fs) in
       let asks : d.outcome ≡ Initializes c = starts-some d.outcome c (sym (starts-same d.outcome f fs can) ∙ some) in
       let mid : Parts = record p { shared = d.shared; output = p.output ++ d.wrote } in
-      ap (λ q. begins_class c (with_initializations ms (concluded w here (answer_in q (f ∷ fs)) (record mid { frames = record p.frames { frames = frames_in q line.next (f ∷ fs) } })))) asks
+      ap (λ q. begins_class c (with_initializations ms (answer_concluded w here (answer_in q (f ∷ fs)) (record mid { frames = record p.frames { frames = frames_in q line.next (f ∷ fs) } })))) asks
       ∙ (ap (λ es. begins_class c (record (state_in mid) { stack = es })) (top-frame ms f fs none)
       ∙ sym (ap (acts_asked w line (with_initializations ms (state_with fs mid)) (frame_in f)) asks))

@@ -19,7 +19,7 @@ use Rattle.jvm_model.specs.Instructions.LocalRules.{replaces as gives_way}
 use Rattle.jvm_model.specs.Basis.SharedState.{array_store, null_pointer}
 use Rattle.jvm_model.specs.Basis.Values.{as_value, ref_of}
 use Rattle.jvm_basic.specs.declared.effect.Effect.TheVariants.{Next}
-use Rattle.jvm_basic.specs.Outcomes.{GoesOn as Goes, Rule, after, asked, effect_of, frames_in}
+use Rattle.jvm_basic.specs.Outcomes.{GoesOn as Goes, Rule, after, outcome_asked, effect_of, frames_in}
 use Rattle.jvm_basic.specs.Rules.{replaces, rule_of}
 use Rattle.prepared_code.specs.declared.line.Action.TheVariants as action
 use Rattle.prepared_code.specs.declared.line.Line.{Line}
@@ -118,7 +118,7 @@ module _ (w : Setup) (run : CanRun w) (line : Line) where
 
     load-done : (fs : List PlacedFrame) → StandsAt w fs line → place_of (top_operands fs) ≡ Some (is.array, is.index)
         → effect_of rule (record { frames = fs; room = old.frames.room }) ≡ Next
-        → state_with (frames_in (asked rule fs) fs) old ≡ on_top (acts w line) old fs
+        → state_with (frames_in (outcome_asked rule fs) fs) old ≡ on_top (acts w line) old fs
     load-done [] stands at goes = absurd stands
     load-done (f ∷ fs) stands at goes =
         next-is w line old (Goes f.locals (as_value is.datum ∷ drop 2 f.operands) line.next) f fs goes
@@ -147,7 +147,7 @@ module _ (w : Setup) (run : CanRun w) (line : Line) where
 
     length-done : (fs : List PlacedFrame) → StandsAt w fs line → ref_of (top_operands fs) ≡ Some is.array
         → effect_of own_rule (record { frames = fs; room = old.frames.room }) ≡ Next
-        → state_with (frames_in (asked own_rule fs) fs) old ≡ on_top (acts w line) old fs
+        → state_with (frames_in (outcome_asked own_rule fs) fs) old ≡ on_top (acts w line) old fs
     length-done [] stands at goes = absurd stands
     length-done (f ∷ fs) stands at goes =
         next-is w line old (Goes f.locals (Int (pos is.count) ∷ drop 1 f.operands) line.next) f fs goes
@@ -190,7 +190,7 @@ module _ (w : Setup) (run : CanRun w) (line : Line) where
 
     store-done : (fs : List PlacedFrame) → StandsAt w fs line → storing_of k (top_operands fs) ≡ Some x
         → effect_of (drops_three line.next) (record { frames = fs; room = old.frames.room }) ≡ Next
-        → state_with (frames_in (asked (drops_three line.next) fs) fs) (record old { shared = stored }) ≡ on_top (acts w line) old fs
+        → state_with (frames_in (outcome_asked (drops_three line.next) fs) fs) (record old { shared = stored }) ≡ on_top (acts w line) old fs
     store-done [] stands at goes = absurd stands
     store-done (f ∷ fs) stands at goes =
         next-is w line (record old { shared = stored }) (Goes f.locals (drop 3 f.operands) line.next) f fs goes
@@ -232,7 +232,7 @@ has-there w [] line stands = absurd stands
 has-there w (f ∷ fs) line stands = refl
 
 -- the frames that a rule leaves
-still-has : (r : Rule) (fs : List PlacedFrame) → has_frame fs ≡ true → has_frame (frames_in (asked r fs) fs) ≡ true
+still-has : (r : Rule) (fs : List PlacedFrame) → has_frame fs ≡ true → has_frame (frames_in (outcome_asked r fs) fs) ≡ true
 still-has r [] has = absurd (false≢true has)
 still-has r (f ∷ fs) has = still-framed (r f.locals f.operands) f fs
 
@@ -243,7 +243,7 @@ module _ (w : Setup) (run : CanRun w) (line : Line) (k : Kind) (old new : Parts)
       → ((ms : List Initialization) → IsAtInstruction (length old.frames.frames) ms old → (step w.world (listing_of w.versions) (state_of ms old)).changes ≡ [])
       → LeadsAlone w old 1 new
   alone-by rule shared changed kept unnamed within does quiet =
-      let many = ap (λ (p : Parts). length p.frames.frames) changed ∙ still-many (asked rule old.frames.frames) old.frames.frames in
+      let many = ap (λ (p : Parts). length p.frames.frames) changed ∙ still-many (outcome_asked rule old.frames.frames) old.frames.frames in
       let has = ap (λ (p : Parts). has_frame p.frames.frames) changed ∙ still-has rule old.frames.frames (has-there w old.frames.frames line stands) in
       let ending = ap (λ (p : Parts). p.ending) changed in
       let thrown = ap (λ (p : Parts). p.thrown) changed in
@@ -291,7 +291,7 @@ module _ (line : Line) (k : Kind) (old new : Parts) (b : Bool) (kept : b ≡ fal
   unmoved off = ap (λ (p : Parts). top_version p.frames.frames) (kept off)
 
   after-rule : (rule : Rule) → new.frames ≡ after rule old.frames → top_version new.frames.frames ≡ top_version old.frames.frames
-  after-rule rule is = ap (λ (s : FramesView). top_version s.frames) is ∙ same-version (asked rule old.frames.frames) old.frames.frames
+  after-rule rule is = ap (λ (s : FramesView). top_version s.frames) is ∙ same-version (outcome_asked rule old.frames.frames) old.frames.frames
 
   pub load-stays : (b ≡ true → IsLoaded line k old new) → top_version new.frames.frames ≡ top_version old.frames.frames
   load-stays gone = either b

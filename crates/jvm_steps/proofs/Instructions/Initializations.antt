@@ -18,13 +18,13 @@ use Rattle.jvm_model.specs.Basis.Data.{Began, Change, Unwound, Turn, Listing}
 use Rattle.jvm_model.specs.Running.Constants.{Setting, sets_constants}
 use Rattle.jvm_model.specs.Classes.Lookup.{is_below}
 use Rattle.jvm_model.specs.Basis.Programs.{name_at, super_of, initializer_of}
-use Rattle.jvm_model.specs.Basis.SharedState.{error, no_class_definition, in_initializer, stack_overflow, phase_of, with_phase, class_of, message_cost, with_message, with_exception, Allocated, made_with, raised, null}
+use Rattle.jvm_model.specs.Basis.SharedState.{error, no_class_definition, in_initializer, stack_overflow, phase_of, with_phase, class_of, message_cost, with_message, with_exception, Allocated, made_with, exception_raised, null}
 use Rattle.heap_objects.specs.declared.Value.{Value}
 use Rattle.heap_objects.specs.declared.Value.TheVariants.{Ref}
 use Rattle.frame_stack.specs.Widths.{height_of}
 use Rattle.heap_objects.specs.Heaps.{next_number}
 use Rattle.jvm_model.specs.Running.Applies.{still, with_frame, goes, breaks, new_frame, live_in, most_live}
-use Rattle.jvm_model.specs.Running.Moves.{handler_for, own_at, caught, wrapped, fails, at_part, raises, with_constants, after_super, with_super, runs_initializer, initializes, move, then_turn, settled}
+use Rattle.jvm_model.specs.Running.Moves.{handler_for, own_at, throw_caught, throw_wrapped, fails, at_part, raises, with_constants, after_super, with_super, runs_initializer, initializes, move, then_turn, turn_settled}
 use Rattle.jvm_model.proofs.Running.Settles.{constants-phases, settled-keeps, settled-stops}
 use Rattle.prepared_code.specs.Versions.{Setup}
 
@@ -54,7 +54,7 @@ made-phases w s name message cause = by (nat_le (s.heap.used + (message_cost mes
   by true = refl
   by false = refl
 
-wrapped-phases : (w : Setup) (s : Shared) (r : ℕ) → (wrapped w.world s r).shared.phases ≡ s.phases
+wrapped-phases : (w : Setup) (s : Shared) (r : ℕ) → (throw_wrapped w.world s r).shared.phases ≡ s.phases
 wrapped-phases w s r = by (is_below w.world.program (class_of w.world.program s r) error) where
   by : (b : Bool) → (cond b (record { shared = s; reference = r }) (made_with w.world s in_initializer None (datum.Ref r))).shared.phases ≡ s.phases
   by true = refl
@@ -123,7 +123,7 @@ module _ (w : Setup) (t : Listing) (c : ℕ) (f : Frame) (below : List Entry) wh
     raised-at : (part : Part) (name : List ℕ) (message : Option (List ℕ))
         → Reached (raises w.world (state (Initializing d part ∷ rest) None begun output shared None) name message)
     raised-at part name message =
-        let a : Allocated = raised w.world shared name message in
+        let a : Allocated = exception_raised w.world shared name message in
         waits (Initializing d part ∷ rest) (Some a.reference) begun output a.shared at
         (ap (λ ps. slice_get ps c) (made-phases w shared name message null) ∙ running) refl
 
@@ -162,7 +162,7 @@ module _ (w : Setup) (t : Listing) (c : ℕ) (f : Frame) (below : List Entry) wh
 
     fails-at : (r : ℕ) → Reached (fails w.world (state rest (Some r) begun output shared None) d r)
     fails-at r =
-        let a : Allocated = wrapped w.world shared r in
+        let a : Allocated = throw_wrapped w.world shared r in
         let still_running : phase_of a.shared c ≡ Some Running = ap (λ ps. slice_get ps c) (wrapped-phases w shared r) ∙ running in
         elim at [
           | own same is ↦ failed rest a.reference begun output (with_phase a.shared d Erroneous) []
@@ -214,7 +214,7 @@ module _ (w : Setup) (t : Listing) (c : ℕ) (f : Frame) (below : List Entry) wh
 
   caught-on : (g : Frame) (es : List Entry) (r : ℕ) (begun : Bool) (output : List ℕ) (shared : Shared) (changes : List Change) (h : Option ℕ)
       → phase_of shared c ≡ Some Erroneous
-      → Stage (then_turn (delivered (state (Active g ∷ es) (Some r) begun output shared None) changes) (caught w.world t (state es (Some r) begun output shared None) r g h))
+      → Stage (then_turn (delivered (state (Active g ∷ es) (Some r) begun output shared None) changes) (throw_caught w.world t (state es (Some r) begun output shared None) r g h))
   caught-on g es r begun output shared changes None is = failed es r begun output shared (changes ++ Unwound ∷ []) is refl
   caught-on g es r begun output shared changes (Some target) is = goes-on g es begun output shared (own_at t g) target (Ref r ∷ []) (changes ++ []) is
 
@@ -224,7 +224,7 @@ module _ (w : Setup) (t : Listing) (c : ℕ) (f : Frame) (below : List Entry) wh
   failed-on (Active g ∷ es) r begun output shared changes is =
       caught-on g es r begun output shared changes (handler_for w.world (class_of w.world.program shared r) g.place (t.handlers g.version)) is
   failed-on (Initializing d part ∷ es) r begun output shared changes is =
-      let a : Allocated = wrapped w.world shared r in
+      let a : Allocated = throw_wrapped w.world shared r in
       failed es a.reference begun output (with_phase a.shared d Erroneous) (changes ++ [])
       (kept-phase a.shared.phases d (ap (λ ps. slice_get ps c) (wrapped-phases w shared r) ∙ is)) refl
 
@@ -262,9 +262,9 @@ module _ (w : Setup) (t : Listing) (c : ℕ) (f : Frame) (below : List Entry) wh
 
   -- where the class is ready behind all moves
   pub ready-again : (thrown : Option ℕ) (begun : Bool) (output : List ℕ) (shared : Shared) → phase_of shared c ≡ Some Running
-      → phase_of (settled w.world t (delivered (state (Initializing c Constants ∷ base) thrown begun output shared None) [])).after.shared c ≡ Some Ready
-      → IsReadyAgain (settled w.world t (delivered (state (Initializing c Constants ∷ base) thrown begun output shared None) []))
+      → phase_of (turn_settled w.world t (delivered (state (Initializing c Constants ∷ base) thrown begun output shared None) [])).after.shared c ≡ Some Ready
+      → IsReadyAgain (turn_settled w.world t (delivered (state (Initializing c Constants ∷ base) thrown begun output shared None) []))
   ready-again thrown begun output shared running is =
       let first : Turn = delivered (state (Initializing c Constants ∷ base) thrown begun output shared None) [] in
-      some-none (settled w.world t first) (settled-stops w.world t first)
+      some-none (turn_settled w.world t first) (settled-stops w.world t first)
       (settled-keeps w.world t Stage each-keeps first (waits (Initializing c Constants ∷ base) thrown begun output shared (own refl refl) running refl)) is

@@ -22,7 +22,7 @@ use Rattle.jvm_steps.specs.Moves.Turning.{begun_in}
 use Rattle.jvm_steps.proofs.Instructions.Callees.{live-is}
 use Rattle.prepared_code.proofs.InitializingStacks.{length-active}
 use Rattle.prepared_code.proofs.InitializingStacks.{live-stack, stack-frame}
-use Rattle.jvm_steps.specs.Instructions.Arguments.{begun as placed, with_version_frame}
+use Rattle.jvm_steps.specs.Instructions.Arguments.{frame_begun as placed, with_version_frame}
 use Rattle.prepared_code.specs.Versions.{Setup, listing_of}
 
 -- a frame that takes nothing

@@ -29,13 +29,13 @@ use Rattle.jvm_model.specs.Instructions.ReferenceRules.{does_named}
 use Rattle.jvm_model.specs.Running.Run.{starts, with_loaded}
 use Rattle.jvm_model.specs.Basis.SharedState.{class_of, null_pointer, throwable}
 use Rattle.jvm_model.specs.Basis.StackForms.{forms_of}
-use Rattle.jvm_model.specs.Basis.Values.{datum_of, loaded, local_in, int_of, ref_of, managed_stack}
-use Rattle.jvm_basic.specs.Rules.{goes_at, placed}
+use Rattle.jvm_model.specs.Basis.Values.{datum_of, local_loaded, local_in, int_of, ref_of, managed_stack}
+use Rattle.jvm_basic.specs.Rules.{goes_at, outcome_placed}
 use Rattle.jvm_basic.proofs.Asked.{is_simple, pushes-simple, replaces-simple, leaves-simple, stores-simple, increments-simple}
 use Rattle.prepared_code.specs.declared.line.Action.{Action}
 use Rattle.prepared_code.specs.declared.line.Action.TheVariants as action
 use Rattle.prepared_code.specs.declared.line.Line.{Line}
-use Rattle.jvm_steps.specs.Instructions.Acts.{placed_line, comes_to, acts_alone, acts_asked, acts_done, acts_named, resumes_line, gives_back_line, returns_or_ends, acts_return, acts_by, acts, awaited, named_done, ready_for, with_done}
+use Rattle.jvm_steps.specs.Instructions.Acts.{placed_line, comes_to, acts_alone, acts_asked, acts_done, acts_named, resumes_line, gives_back_line, returns_or_ends, acts_return, acts_by, acts, class_awaited, named_done, ready_for, with_done}
 use Rattle.jvm_named.specs.Names.{symbolic_view}
 use Rattle.prepared_code.specs.Lines.{action_of, local_action, named_as}
 use Rattle.prepared_code.specs.Ready.{IsRuleOf, IsTied}
@@ -99,7 +99,7 @@ own_kind _ = None
 within-own : (l : Local) (m : Locals) (o : Operands) → own_kind l ≡ None → IsOwn (is_last l) (within l m o)
 within-own Nop m o h = refl
 within-own (Constant d) m o h = refl
-within-own (Load k slot) m o h = simple-own _ (pushes-simple (loaded k (slice_get m slot)) m o)
+within-own (Load k slot) m o h = simple-own _ (pushes-simple (local_loaded k (slice_get m slot)) m o)
 within-own (Store k slot) m o h = simple-own _ (stores-simple k slot m o)
 within-own (ManageStack op) m o h = simple-own _ (leaves-simple (managed_stack (forms_of op) o) m)
 within-own (BinaryOfInts op) m o h = simple-own _ (replaces-simple 2 _ m o)
@@ -171,7 +171,7 @@ module _ (w : Setup) (t : Listing) (line : Line) (s : State) (f : Frame) where
 
   -- with the offset behind it, where it has one
   own-same : (op : Operation) (last : Bool) (q : Outcome) → IsOwn last q
-      → (applies w.world t (by_next op (cond last None (Some line.next))) q s f).after ≡ comes_to w line s f (placed line.next (targets_of line.instr.arg) f.locals f.operands q)
+      → (applies w.world t (by_next op (cond last None (Some line.next))) q s f).after ≡ comes_to w line s f (outcome_placed line.next (targets_of line.instr.arg) f.locals f.operands q)
   own-same op last (GoesOn m o Next) h = ap (λ b. goes s f line.instr.at m o (cond b None (Some line.next))) h
   own-same op last (GoesOn m o (Target k)) h = at-same m o (slice_get (targets_of line.instr.arg) k)
   own-same op last (GoesOn m o (Back place)) h = refl
@@ -438,11 +438,11 @@ op-acts w line s f (LdcString units) none tied =
     (done-acts w line (LdcString units) s f (pushes_string w.world.program units s.shared f.locals f.operands) refl
     (string-silent w.world.program units s.shared f.locals f.operands))
 
-local-awaits : (w : Setup) (s : State) (f : Frame) (l : Local) → awaited w s f (local_action l) ≡ None
+local-awaits : (w : Setup) (s : State) (f : Frame) (l : Local) → class_awaited w s f (local_action l) ≡ None
 local-awaits w s f (Return k) = refl
 local-awaits w s f l = refl
 
-op-awaits : (w : Setup) (s : State) (f : Frame) (op : Operation) → names op ≡ false → awaited w s f (action_of op) ≡ None
+op-awaits : (w : Setup) (s : State) (f : Frame) (op : Operation) → names op ≡ false → class_awaited w s f (action_of op) ≡ None
 op-awaits w s f (Named n) none = absurd (false≢true (sym none))
 op-awaits w s f (Within l) none = local-awaits w s f l
 op-awaits w s f Athrow none = refl
@@ -473,7 +473,7 @@ viewed (Multianewarray name dimensions) = refl
 viewed (LdcClass name) = refl
 
 pub with-loaded : (classes : List ℕ) (s : State) → with_loaded classes s ≡ record s { shared = record s.shared { loaded = s.shared.loaded ++ classes } }
-with-loaded [] s = ap (λ loaded. record s { shared = record s.shared { loaded = loaded } }) (sym (append-nil s.shared.loaded))
+with-loaded [] s = ap (λ local_loaded. record s { shared = record s.shared { loaded = local_loaded } }) (sym (append-nil s.shared.loaded))
 with-loaded (c ∷ more) s = refl
 
 -- ---- every operation, over the classes that it loads
@@ -487,7 +487,7 @@ module _ (w : Setup) (line : Line) (op : Operation) (s : State) (f : Frame) wher
 
   -- what applies is what the line comes to, and the same class is initialized before
   pub record StepsAs : Type 0 where
-    pub starts_same : starts done_there.outcome ≡ awaited w s f line.action
+    pub starts_same : starts done_there.outcome ≡ class_awaited w s f line.action
     pub applied : (applies w.world (listing_of w.versions) (instruction_by op line) done_there.outcome (with_done done_there readied) f).after ≡ acts w line s f
 
 named-steps : (w : Setup) (line : Line) (n : SymbolicReference) (s : State) (f : Frame) → IsTied line (Named n) → StepsAs w line (Named n) s f
@@ -499,7 +499,7 @@ named-steps w line n s f tied =
     record {
       starts_same =
           ap (λ (x : State). starts (does_named w.world n x.shared f.locals f.operands).outcome) same
-          ∙ (ap (λ m. starts (named_done w m s f).outcome) (sym kept) ∙ ap (awaited w s f) tied.action);
+          ∙ (ap (λ m. starts (named_done w m s f).outcome) (sym kept) ∙ ap (class_awaited w s f) tied.action);
       applied =
           placed-same w line (Named n) (with_done there ready) f there.outcome refl
           ∙ (ap (λ (x : State). let d = does_named w.world n x.shared f.locals f.operands in acts_asked w line (with_done d x) f d.outcome) same
@@ -510,37 +510,37 @@ pub steps-as : (w : Setup) (line : Line) (op : Operation) (s : State) (f : Frame
 steps-as w line (Named n) s f tied = named-steps w line n s f tied
 steps-as w line (Within l) s f tied =
     let acts_so = op-acts w line s f (Within l) refl tied in
-    record { starts_same = acts_so.starts_none ∙ (sym (op-awaits w s f (Within l) refl) ∙ ap (awaited w s f) tied.action); applied = acts_so.applied }
+    record { starts_same = acts_so.starts_none ∙ (sym (op-awaits w s f (Within l) refl) ∙ ap (class_awaited w s f) tied.action); applied = acts_so.applied }
 steps-as w line Athrow s f tied =
     let acts_so = op-acts w line s f Athrow refl tied in
-    record { starts_same = acts_so.starts_none ∙ ap (awaited w s f) tied.action; applied = acts_so.applied }
+    record { starts_same = acts_so.starts_none ∙ ap (class_awaited w s f) tied.action; applied = acts_so.applied }
 steps-as w line Monitor s f tied =
     let acts_so = op-acts w line s f Monitor refl tied in
-    record { starts_same = acts_so.starts_none ∙ ap (awaited w s f) tied.action; applied = acts_so.applied }
+    record { starts_same = acts_so.starts_none ∙ ap (class_awaited w s f) tied.action; applied = acts_so.applied }
 steps-as w line Arraylength s f tied =
     let acts_so = op-acts w line s f Arraylength refl tied in
-    record { starts_same = acts_so.starts_none ∙ ap (awaited w s f) tied.action; applied = acts_so.applied }
+    record { starts_same = acts_so.starts_none ∙ ap (class_awaited w s f) tied.action; applied = acts_so.applied }
 steps-as w line (Newarray code) s f tied =
     let acts_so = op-acts w line s f (Newarray code) refl tied in
-    record { starts_same = acts_so.starts_none ∙ ap (awaited w s f) tied.action; applied = acts_so.applied }
+    record { starts_same = acts_so.starts_none ∙ ap (class_awaited w s f) tied.action; applied = acts_so.applied }
 steps-as w line (LoadElement k) s f tied =
     let acts_so = op-acts w line s f (LoadElement k) refl tied in
-    record { starts_same = acts_so.starts_none ∙ ap (awaited w s f) tied.action; applied = acts_so.applied }
+    record { starts_same = acts_so.starts_none ∙ ap (class_awaited w s f) tied.action; applied = acts_so.applied }
 steps-as w line (StoreElement k) s f tied =
     let acts_so = op-acts w line s f (StoreElement k) refl tied in
-    record { starts_same = acts_so.starts_none ∙ ap (awaited w s f) tied.action; applied = acts_so.applied }
+    record { starts_same = acts_so.starts_none ∙ ap (class_awaited w s f) tied.action; applied = acts_so.applied }
 steps-as w line (LdcString units) s f tied =
     let acts_so = op-acts w line s f (LdcString units) refl tied in
-    record { starts_same = acts_so.starts_none ∙ ap (awaited w s f) tied.action; applied = acts_so.applied }
+    record { starts_same = acts_so.starts_none ∙ ap (class_awaited w s f) tied.action; applied = acts_so.applied }
 
 -- a line that awaits a class names something
-pub awaits-named : (w : Setup) (line : Line) (op : Operation) (s : State) (f : Frame) (c : ℕ) → IsTied line op → awaited w s f line.action ≡ Some c
+pub awaits-named : (w : Setup) (line : Line) (op : Operation) (s : State) (f : Frame) (c : ℕ) → IsTied line op → class_awaited w s f line.action ≡ Some c
     → (n : SymbolicReference) × (op ≡ Named n)
-awaits-named w line op s f c tied is = by op (ap (awaited w s f) tied.action ∙ is) where
+awaits-named w line op s f c tied is = by op (ap (class_awaited w s f) tied.action ∙ is) where
   never : (x : Option ℕ) → x ≡ None → x ≡ Some c → ⊥
   never x none some = none-some c (sym none ∙ some)
 
-  by : (o : Operation) → awaited w s f (action_of o) ≡ Some c → (n : SymbolicReference) × (o ≡ Named n)
+  by : (o : Operation) → class_awaited w s f (action_of o) ≡ Some c → (n : SymbolicReference) × (o ≡ Named n)
   by (Named n) e = (n, refl)
   by (Within l) e = absurd (never _ (local-awaits w s f l) e)
   by Athrow e = absurd (none-some c e)

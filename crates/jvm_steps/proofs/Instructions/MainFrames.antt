@@ -13,7 +13,7 @@ use Rattle.jvm_model.specs.Running.Applies.{new_frame}
 use Rattle.jvm_model.specs.Running.Moves.{argument_array}
 use Rattle.jvm_model.specs.Basis.Programs.{max_locals_of, max_stack_of}
 use Rattle.prepared_code.specs.States.{active}
-use Rattle.jvm_steps.specs.Instructions.Arguments.{begun as placed, with_version_frame}
+use Rattle.jvm_steps.specs.Instructions.Arguments.{frame_begun as placed, with_version_frame}
 use Rattle.prepared_code.specs.Versions.{Setup, current_of, first_of, listing_of}
 
 first_local : (v : Value) (n : ℕ) → (n ≡ 0 → ⊥) → slice_set (replicate (n - 0) None) 0 (Some v) ≡ Some v ∷ replicate (n - 1) None

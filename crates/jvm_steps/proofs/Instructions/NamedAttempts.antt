@@ -18,8 +18,8 @@ use Rattle.prepared_code.specs.declared.line.Line.{Line}
 use Rattle.prepared_code.specs.declared.initializations.Initialization.{Initialization}
 use Rattle.prepared_code.specs.declared.parts.Here.{Here}
 use Rattle.prepared_code.specs.declared.parts.Parts.{Parts}
-use Rattle.jvm_steps.specs.Instructions.Acts.{acts, acts_by, attempts_on, awaited, awaited_by, awaited_in, awaited_on, becomes_beneath, is_named, named_in}
-use Rattle.jvm_steps.specs.Instructions.Asked.{concluded, done_top, starts_in}
+use Rattle.jvm_steps.specs.Instructions.Acts.{acts, acts_by, attempts_on, class_awaited, awaited_by, awaited_in, awaited_on, becomes_beneath, is_named, named_in}
+use Rattle.jvm_steps.specs.Instructions.Asked.{answer_concluded, done_top, starts_in}
 use Rattle.jvm_steps.specs.Instructions.Initializing.{begins_class}
 use Rattle.prepared_code.specs.Lines.{IfNamed, IfNamedBy}
 use Rattle.prepared_code.specs.Initializations.{initialization_on, stack_of, state_of, with_initializations}
@@ -32,9 +32,9 @@ use Rattle.prepared_code.specs.Versions.{Setup, line_at}
 
 -- ---- the world stays
 
-pub concluded-in : (w v : Setup) (here : Here) (a : Asked) (mid after : Parts) → v ≡ w → state_in after ≡ concluded v here (answer_view a) mid
-    → state_in after ≡ concluded w here (answer_view a) mid
-concluded-in w v here a mid after same made = subst (λ u. state_in after ≡ concluded u here (answer_view a) mid) same made
+pub concluded-in : (w v : Setup) (here : Here) (a : Asked) (mid after : Parts) → v ≡ w → state_in after ≡ answer_concluded v here (answer_view a) mid
+    → state_in after ≡ answer_concluded w here (answer_view a) mid
+concluded-in w v here a mid after same made = subst (λ u. state_in after ≡ answer_concluded u here (answer_view a) mid) same made
 
 -- ---- a line that names something
 
@@ -118,17 +118,17 @@ module _ (w : Setup) (ms : List Initialization) (here : Here) (p : Parts) (is_na
     by (f ∷ fs) =
         sym (ap (acts_by w names.line (with_initializations ms (state_with fs p)) (frame_in f)) names.named)
 
-  pub goes-on : (o : Option ℕ) (after : Parts) → o ≡ starts_in (answer_view a) → o ≡ None → state_in after ≡ concluded w here (answer_view a) mid
+  pub goes-on : (o : Option ℕ) (after : Parts) → o ≡ starts_in (answer_view a) → o ≡ None → state_in after ≡ answer_concluded w here (answer_view a) mid
       → state_of ms after ≡ attempts_on w s s.stack
   goes-on o after delivered quiet concludes =
-      ap (with_initializations ms) (concludes ∙ (ap (λ x. concluded w here x mid) answer-is ∙ ap (concluded w here _) mid-is))
+      ap (with_initializations ms) (concludes ∙ (ap (λ x. answer_concluded w here x mid) answer-is ∙ ap (answer_concluded w here _) mid-is))
       ∙ (concludes-by w names.line n ms here p names.there p.frames.frames at none can (sym (sym quiet ∙ (delivered ∙ ap starts_in answer-is)))
       ∙ attempted)
 
-  pub begins-on : (o : Option ℕ) (c : ℕ) (after : Parts) → o ≡ starts_in (answer_view a) → o ≡ Some c → state_in after ≡ concluded w here (answer_view a) mid
+  pub begins-on : (o : Option ℕ) (c : ℕ) (after : Parts) → o ≡ starts_in (answer_view a) → o ≡ Some c → state_in after ≡ answer_concluded w here (answer_view a) mid
       → begins_class c (state_of ms after) ≡ attempts_on w s s.stack
   begins-on o c after delivered some concludes =
-      ap (λ x. begins_class c (with_initializations ms x)) (concludes ∙ (ap (λ x. concluded w here x mid) answer-is ∙ ap (concluded w here _) mid-is))
+      ap (λ x. begins_class c (with_initializations ms x)) (concludes ∙ (ap (λ x. answer_concluded w here x mid) answer-is ∙ ap (answer_concluded w here _) mid-is))
       ∙ (begins-by w names.line n ms here p names.there c p.frames.frames at none can (sym (sym some ∙ (delivered ∙ ap starts_in answer-is)))
       ∙ attempted)
 
@@ -143,7 +143,7 @@ module _ (w : Setup) (ms : List Initialization) (here : Here) (p : Parts) (is_na
       ap (awaited_on w s) (top-frame ms f fs free)
       ∙ (ap (λ (h : Here). awaited_by w under (frame_in f) (line_at w.versions h.version h.place)) same
       ∙ (ap (awaited_by w under (frame_in f)) names.there
-      ∙ (ap (awaited w under (frame_in f)) names.named
+      ∙ (ap (class_awaited w under (frame_in f)) names.named
       ∙ sym (starts-same (done_top w n p.shared (f ∷ fs)).outcome f fs can_there))))
 
   pub awaits-told : (o : Option ℕ) → o ≡ starts_in (answer_view a) → o ≡ awaited_in w s

@@ -33,12 +33,12 @@ use Rattle.jvm_model.specs.Classes.Layouts.{layout}
 use Rattle.jvm_model.specs.Classes.Load.{Fault}
 use Rattle.jvm_model.specs.Instructions.LocalRules.{pushes, replaces}
 use Rattle.jvm_model.specs.Classes.Lookup.{MemberPlace, Resolution, Found, Fails, resolved_field, resolved_method}
-use Rattle.jvm_model.specs.Instructions.SymbolicReference.{◌>>=◌, found, is_instance, is_null, kind_unless, receiver, resolved_kind, unless_refused, where_fitting}
+use Rattle.jvm_model.specs.Instructions.SymbolicReference.{◌>>=◌, member_found, is_instance, is_null, kind_unless, receiver, resolved_kind, unless_refused, where_fitting}
 use Rattle.jvm_model.specs.Instructions.ReferenceRules.{does_named}
 use Rattle.jvm_model.specs.Instructions.NativeRules.{kinds_in, outcome_of, runs_native, runs_number, seen_by_natives, thrown_by}
 use Rattle.jvm_model.specs.Instructions.ObjectRules.{done, makes}
 use Rattle.jvm_model.specs.Basis.Programs.{number_of_method}
-use Rattle.jvm_model.specs.Instructions.Rules.{initialized, when_ready}
+use Rattle.jvm_model.specs.Instructions.Rules.{class_initialized, when_ready}
 use Rattle.jvm_model.specs.Classes.Selection.{is_abstract, is_static}
 use Rattle.jvm_model.specs.Basis.SharedState.{class_of, class_of_kind, null_pointer, phase_of}
 use Rattle.jvm_model.specs.Basis.Values.{arguments, data_of, int_of, ref_of}
@@ -106,7 +106,7 @@ kind-plain p loaded name = by _ _ where
   by None None = refl
   by None (Some kind) = tt
 
-found-plain : (r : Resolution) → IsPlain (found r)
+found-plain : (r : Resolution) → IsPlain (member_found r)
 found-plain (Found m) = tt
 found-plain (Fails error) = refl
 
@@ -117,13 +117,13 @@ fitting-plain false m = refl
 field-plain : (p : Program) (loaded : List ℕ) (static : Bool) (r : Reference) → IsPlain (named_field p loaded static r)
 field-plain p loaded static r =
     then-plain (resolved_kind p loaded r.class) _ (kind-plain p loaded r.class)
-    (λ kind. then-plain (found (resolved_field p (class_of_kind p kind) r.member)) _ (found-plain (resolved_field p (class_of_kind p kind) r.member))
+    (λ kind. then-plain (member_found (resolved_field p (class_of_kind p kind) r.member)) _ (found-plain (resolved_field p (class_of_kind p kind) r.member))
     (λ m. fitting-plain (beq (is_static_field p m) static) m))
 
 method-plain : (p : Program) (loaded : List ℕ) (interface static : Bool) (r : Reference) → IsPlain (named_method p loaded interface static r)
 method-plain p loaded interface static r =
     then-plain (resolved_kind p loaded r.class) _ (kind-plain p loaded r.class)
-    (λ kind. then-plain (found (resolved_method p (class_of_kind p kind) interface r.member)) _ (found-plain (resolved_method p (class_of_kind p kind) interface r.member))
+    (λ kind. then-plain (member_found (resolved_method p (class_of_kind p kind) interface r.member)) _ (found-plain (resolved_method p (class_of_kind p kind) interface r.member))
     (λ m. fitting-plain (beq (is_static p m) static) m))
 
 receiver-plain : (object : ℕ) (of_class : Bool) (otherwise : Outcome) → is_plain otherwise ≡ true → IsPlain (receiver object of_class otherwise)
@@ -140,7 +140,7 @@ module _ (s : Shared) (o : Operands) where
   unless-named (Ok x) rule plain each = each x
   unless-named (Err q) rule plain each = refuses s o q plain
 
-  ready-named : (p : Program) (class : ℕ) (d : Done) → IsNamed s o d → IsNamed s o (initialized p class s d)
+  ready-named : (p : Program) (class : ℕ) (d : Done) → IsNamed s o d → IsNamed s o (class_initialized p class s d)
   ready-named p class d goes = by (phase_of s class) refl where
     by : (x : Option Phase) → phase_of s class ≡ x → IsNamed s o (when_ready p x class s d)
     by (Some Ready) is = goes

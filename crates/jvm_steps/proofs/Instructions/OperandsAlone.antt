@@ -6,7 +6,7 @@ use Rattle.heap_objects.specs.declared.Value.TheVariants.{Int, Long, Ref, Addr}
 use Rattle.heap_objects.specs.Changes.{changed_if}
 use Rattle.frame_stack.specs.Widths.{height_of, width}
 use Rattle.frame_stack.specs.FrameLists.{PlacedFrame, FramesView, AreSound, can_push, with_operand, with_pushed}
-use Rattle.jvm_steps.specs.Moves.Settling.{emptied, with_alone}
+use Rattle.jvm_steps.specs.Moves.Settling.{frame_emptied, with_alone}
 
 no_operands : (o : List Value) (n : ℕ) → height_of o ≤ n → n < 1 → o ≡ []
 no_operands [] n within small = refl
@@ -24,7 +24,7 @@ pushed_frames : (b : Bool) (v : Value) (s : FramesView) → (changed_if b (with_
 pushed_frames true v s = refl
 pushed_frames false v s = refl
 
-put_empty : (r : ℕ) (fs : List PlacedFrame) → AreSound fs → put_if (can_push (Ref r) (emptied fs)) (Ref r) (emptied fs) ≡ with_alone r fs
+put_empty : (r : ℕ) (fs : List PlacedFrame) → AreSound fs → put_if (can_push (Ref r) (frame_emptied fs)) (Ref r) (frame_emptied fs) ≡ with_alone r fs
 put_empty r [] sound = refl
 put_empty r (f ∷ fs) sound = by (nat_le 1 f.max_stack) refl where
   by : (b : Bool) → nat_le 1 f.max_stack ≡ b
@@ -34,7 +34,7 @@ put_empty r (f ∷ fs) sound = by (nat_le 1 f.max_stack) refl where
       ap (λ o. let all : List PlacedFrame = record f { operands = o } ∷ fs in all)
       (sym (no_operands f.operands f.max_stack sound.0.operands (leb-false 1 f.max_stack e)))
 
-pub put_alone_frames : (r : ℕ) (fs : List PlacedFrame) (empty new : FramesView) (b : Bool) → AreSound fs → empty.frames ≡ emptied fs
+pub put_alone_frames : (r : ℕ) (fs : List PlacedFrame) (empty new : FramesView) (b : Bool) → AreSound fs → empty.frames ≡ frame_emptied fs
     → b ≡ can_push (Ref r) empty.frames → new ≡ changed_if b (with_pushed (Ref r)) empty → new.frames ≡ with_alone r fs
 put_alone_frames r fs empty new b sound none answer put =
     ap (λ (s : FramesView). s.frames) put ∙ pushed_frames b (Ref r) empty ∙ ap (λ x. put_if x (Ref r) empty.frames) answer

@@ -18,7 +18,7 @@ use Rattle.jvm_model.specs.Basis.Data.{Locals, Operands, SymbolicReference, List
 use Rattle.jvm_model.specs.Instructions.LocalRules.{arithmetic_exception, by_zero, returns}
 use Rattle.jvm_model.specs.Instructions.SymbolicReference.{newly_loaded}
 use Rattle.jvm_model.specs.Instructions.ObjectRules.{Access, ToNull, ToAnother, Outside, Inside, Storing, access_to, fits_array, loads_element, makes, measures, place_of as element_of, stores_at, stores_element, storing_of, throws, watches}
-use Rattle.jvm_model.specs.Basis.SharedState.{null, raised, stack_overflow}
+use Rattle.jvm_model.specs.Basis.SharedState.{null, exception_raised, stack_overflow}
 use Rattle.jvm_model.specs.Basis.Values.{as_value, int_of, ref_of, with_value}
 use Rattle.jvm_basic.specs.Outcomes.{Outcome as Comes, GoesOn as Goes, Raises as Divides, Breaks as Fails, Leaves}
 use Rattle.jvm_basic.specs.Rules.{rule_of}
@@ -49,7 +49,7 @@ module _ (s : State) (f : Frame) where
   invokes-keeps : (w : Setup) (t : Listing) (i : Instruction) (m : ℕ) (args : List Datum) (below : Operands) → Keeps s (invokes w.world t i s f m args below).after
   invokes-keeps w t i m args below = by (has_room w.world m args) (nat_lt (suc (live_in s.stack)) most_live) where
     by : (room few : Bool)
-        → Keeps s (cond room (cond few (begins w.world t s f m args below) (still (throws_at s f (raised w.world s.shared stack_overflow None)))) (still (breaks s f i.own))).after
+        → Keeps s (cond room (cond few (begins w.world t s f m args below) (still (throws_at s f (exception_raised w.world s.shared stack_overflow None)))) (still (breaks s f i.own))).after
     by true true = refl
     by true false = made-loaded w s.shared stack_overflow None null
     by false few = refl

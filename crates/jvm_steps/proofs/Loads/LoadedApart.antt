@@ -23,7 +23,7 @@ use Rattle.prepared_code.specs.declared.initializations.Initialization.{Initiali
 use Rattle.prepared_code.specs.declared.parts.Here.{Here}
 use Rattle.prepared_code.specs.declared.parts.Parts.{Parts}
 use Rattle.jvm_steps.specs.Instructions.Acts.{attempts_on, awaited_in, is_named, named_in}
-use Rattle.jvm_steps.specs.Instructions.Asked.{concluded, starts_in}
+use Rattle.jvm_steps.specs.Instructions.Asked.{answer_concluded, starts_in}
 use Rattle.jvm_steps.specs.Instructions.Initializing.{begins_class}
 use Rattle.prepared_code.specs.Lines.{IfNamed}
 use Rattle.prepared_code.specs.Initializations.{initialization_on, stack_of, state_of}
@@ -159,13 +159,13 @@ module _ (w : Setup) (ms : List Initialization) (here : Here) (p : Parts) (is_na
   abbrev before : State
   before = state_of ms p
 
-  pub goes-apart : (e : Option ℕ) (v : Setup) (after : Parts) → v ≡ w → e ≡ starts_in (answer_view a) → e ≡ None → state_in after ≡ concluded v here (answer_view a) mid
+  pub goes-apart : (e : Option ℕ) (v : Setup) (after : Parts) → v ≡ w → e ≡ starts_in (answer_view a) → e ≡ None → state_in after ≡ answer_concluded v here (answer_view a) mid
       → state_of ms after ≡ attempts_on w before before.stack
   goes-apart e v after same delivered quiet concludes =
       goes-on w ms here p is_named_there at none frames shared output loaded a told_answers told_moves told_shares told_writes loads e after delivered quiet
       (concluded-in w v here a mid after same concludes)
 
-  pub begins-apart : (e : Option ℕ) (c : ℕ) (v : Setup) (after : Parts) → v ≡ w → e ≡ starts_in (answer_view a) → e ≡ Some c → state_in after ≡ concluded v here (answer_view a) mid
+  pub begins-apart : (e : Option ℕ) (c : ℕ) (v : Setup) (after : Parts) → v ≡ w → e ≡ starts_in (answer_view a) → e ≡ Some c → state_in after ≡ answer_concluded v here (answer_view a) mid
       → begins_class c (state_of ms after) ≡ attempts_on w before before.stack
   begins-apart e c v after same delivered some concludes =
       begins-on w ms here p is_named_there at none frames shared output loaded a told_answers told_moves told_shares told_writes loads e c after delivered some

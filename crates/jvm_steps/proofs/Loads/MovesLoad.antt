@@ -21,10 +21,10 @@ use Rattle.jvm_model.specs.declared.state.Phase.TheVariants.{Fresh, Running, Rea
 use Rattle.jvm_model.specs.declared.state.Shared.{Shared}
 use Rattle.jvm_model.specs.declared.state.State.{State}
 use Rattle.jvm_model.specs.Running.Applies.{has_room, live_in, most_live, new_frame, still, with_frame}
-use Rattle.jvm_model.specs.Running.Constants.{FieldConstant, Number, Units, Setting, can_intern, constant_for, set, sets_constants, sets_field, sets_fields, then_sets}
+use Rattle.jvm_model.specs.Running.Constants.{FieldConstant, Number, Units, Setting, can_intern, constant_for, constant_set, sets_constants, sets_field, sets_fields, then_sets}
 use Rattle.jvm_model.specs.Basis.Data.{Began, Listing, Turn}
 use Rattle.jvm_model.specs.Classes.Lookup.{is_below}
-use Rattle.jvm_model.specs.Running.Moves.{after_super, argument_array, at_part, caught, handler_for, initializes, main_or_end, move, moves, raises, runs_initializer, settled, then_turn, with_super, wrapped}
+use Rattle.jvm_model.specs.Running.Moves.{after_super, argument_array, at_part, throw_caught, handler_for, initializes, main_or_end, move, moves, raises, runs_initializer, turn_settled, then_turn, with_super, throw_wrapped}
 use Rattle.jvm_model.specs.Basis.Programs.{class_at, initializer_of, name_at, super_of}
 use Rattle.jvm_model.specs.Basis.SharedState.{Allocated, Field, class_of, error, in_initializer, made_with, message_cost, no_class_definition, null, phase_of, stack_overflow, with_exception, with_message}
 use Rattle.jvm_model.proofs.Running.Settles.{settled-keeps}
@@ -44,7 +44,7 @@ made-loaded w s name message cause = by (nat_le (s.heap.used + (message_cost mes
   by true = refl
   by false = refl
 
-wrapped-loaded : (w : Setup) (s : Shared) (r : ℕ) → (wrapped w.world s r).shared.loaded ≡ s.loaded
+wrapped-loaded : (w : Setup) (s : Shared) (r : ℕ) → (throw_wrapped w.world s r).shared.loaded ≡ s.loaded
 wrapped-loaded w s r = by (is_below w.world.program (class_of w.world.program s r) error) where
   by : (b : Bool) → (cond b (record { shared = s; reference = r }) (made_with w.world s in_initializer None (datum.Ref r))).shared.loaded ≡ s.loaded
   by true = refl
@@ -77,7 +77,7 @@ fields-loaded p c class position (f ∷ rest) s =
 
 constants-loaded : (p : Program) (class : ℕ) (s : Shared) → (sets_constants p class s).shared.loaded ≡ s.loaded
 constants-loaded p class s = by (class_at p class) where
-  by : (found : Option ClassFile) → (option_map_or (λ (c : ClassFile). sets_fields p c class 0 c.fields s) found (set s)).shared.loaded ≡ s.loaded
+  by : (found : Option ClassFile) → (option_map_or (λ (c : ClassFile). sets_fields p c class 0 c.fields s) found (constant_set s)).shared.loaded ≡ s.loaded
   by None = refl
   by (Some c) = fields-loaded p c class 0 c.fields s
 
@@ -116,7 +116,7 @@ module _ (w : Setup) (t : Listing) (s : State) where
   part-keeps c Initializer = runs-keeps c (initializer_of w.world.program c)
   part-keeps c Finish = refl
 
-  caught-keeps : (r : ℕ) (f : Frame) (h : Option ℕ) → Keeps (caught w.world t s r f h).after
+  caught-keeps : (r : ℕ) (f : Frame) (h : Option ℕ) → Keeps (throw_caught w.world t s r f h).after
   caught-keeps r f None = refl
   caught-keeps r f (Some target) = chosen-keeps (nat_le (height_of (Ref r ∷ [])) f.max_stack) _ _ refl refl
 
@@ -144,7 +144,7 @@ next-keeps turn None loaded same kept = tt
 next-keeps turn (Some next) loaded same kept = kept ∙ same
 
 -- all moves
-pub settled-loaded : (w : Setup) (t : Listing) (turn : Turn) → (settled w.world t turn).after.shared.loaded ≡ turn.after.shared.loaded
+pub settled-loaded : (w : Setup) (t : Listing) (turn : Turn) → (turn_settled w.world t turn).after.shared.loaded ≡ turn.after.shared.loaded
 settled-loaded w t turn =
     settled-keeps w.world t (λ x. x.after.shared.loaded ≡ turn.after.shared.loaded)
     (λ x same. next-keeps x (move w.world t x.after) turn.after.shared.loaded same (moves-keep w t x.after x.after.ending x.after.thrown x.after.stack)) turn refl

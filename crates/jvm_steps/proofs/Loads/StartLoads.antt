@@ -4,7 +4,7 @@ use Rattle.std.proofs.lemmas.List.{append-nil}
 use Rattle.jvm_model.specs.declared.state.State.{State}
 use Rattle.jvm_model.specs.Classes.Load.{Fault, error_of}
 use Rattle.jvm_model.specs.Instructions.SymbolicReference.{message_of}
-use Rattle.jvm_model.specs.Running.Run.{arguments_made, before, loads_if, main_classes, main_loading, main_loads, opened, starts_if, starts_unless}
+use Rattle.jvm_model.specs.Running.Run.{arguments_made, before, loads_if, main_classes, main_loading, main_loads, run_opened, starts_if, starts_unless}
 use Rattle.jvm_model.specs.Basis.SharedState.{arguments_fit, null}
 use Rattle.prepared_code.specs.declared.initializations.Initialization.{Initialization}
 use Rattle.prepared_code.specs.declared.parts.Parts.{Parts}
@@ -21,7 +21,7 @@ module _ (w : Setup) where
 
   if-loaded : (fit : Bool) → (starts_if w.world fit).shared.loaded ≡ (before w.world).shared.loaded ++ loads_if w.world fit
   if-loaded true =
-      unless-loaded (opened w.world) (main_loading w.world).fault
+      unless-loaded (run_opened w.world) (main_loading w.world).fault
       ∙ ap (λ (x : State). x.shared.loaded) (with-loaded (main_classes w.world) (arguments_made w.world (before w.world)))
   if-loaded false = sym (append-nil (before w.world).shared.loaded)
 

@@ -13,10 +13,10 @@ use Rattle.jvm_model.specs.Classes.Kinds.{meaning_of}
 use Rattle.jvm_model.specs.Classes.Load.{Fault, NoClass, Circular, Incompatible, error_of}
 use Rattle.jvm_model.specs.Running.Moves.{move, moves}
 use Rattle.jvm_model.specs.Instructions.SymbolicReference.{New, message_of}
-use Rattle.jvm_model.specs.Turns.Pauses.{Pause, changes_due, passed_by, pause_by, paused}
+use Rattle.jvm_model.specs.Turns.Pauses.{Pause, changes_due, passed_by, pause_by, step_paused}
 use Rattle.jvm_model.specs.Basis.Programs.{name_at}
-use Rattle.jvm_model.specs.Running.Run.{arguments_made, before, main_class, main_classes, main_loading, opened, starts_if, starts_unless, starts_with}
-use Rattle.jvm_model.specs.Basis.SharedState.{arguments_fit, class_of, null, raised, shared_before, with_arguments}
+use Rattle.jvm_model.specs.Running.Run.{arguments_made, before, main_class, main_classes, main_loading, run_opened, starts_if, starts_unless, starts_with}
+use Rattle.jvm_model.specs.Basis.SharedState.{arguments_fit, class_of, null, exception_raised, shared_before, with_arguments}
 use Rattle.jvm_model.specs.Soundness.Sound.{HasSupertypes, IsBuiltInName, IsFit, IsLoaded, IsSoundShared}
 use Rattle.jvm_model.specs.Soundness.SoundListings.{IsSound, IsSoundEntry}
 use Rattle.jvm_model.specs.Turns.Told.{helds, mark_now}
@@ -44,7 +44,7 @@ module _ (Runs : ℕ → ℕ → Type 0) (w : World) (fit : IsFit w.program) whe
   given = arguments_made w (before w)
 
   abbrev loaded_state : State
-  loaded_state = opened w
+  loaded_state = run_opened w
 
   main-loaded : loaded_state.shared.loaded ≡ (main_loading w).loaded
   main-loaded = with-loaded-is (main_classes w) given ∙ newly-loaded w.program (before w).shared.loaded (New (unwrap_or (name_at w.program (main_class w.program)) [])) [] refl
@@ -81,7 +81,7 @@ module _ (Runs : ℕ → ℕ → Type 0) (w : World) (fit : IsFit w.program) whe
     main = λ on. main-there none;
   })
   begins (Some fault) is = inr (record {
-    object = (raised w loaded_state.shared (error_of fault) (message_of fault)).reference;
+    object = (exception_raised w loaded_state.shared (error_of fault) (message_of fault)).reference;
     shared = (exception-sound w fit loaded_state.shared loaded-sound (error_of fault) (message_of fault) null (fault-named fault)).shared;
     stack = ap (λ (s : State). s.stack) (with_loaded-shared (main_classes w) given);
     ending = ap (λ (s : State). s.ending) (with_loaded-shared (main_classes w) given);
@@ -101,13 +101,13 @@ module _ (w : World) (t : Listing) (v : ℕ → Mark) (n : ℕ) (s : State) (obj
   abbrev one : State → Option Turn → Pause
   one x found =
       option_map_or (λ (next : Turn). pause_by x next.after n next.changes (changes_due (mark_now v t) (helds v x.stack) next.changes)
-      (paused w t v (passed_by n next.changes) next.after)) found (record { state = x; passed = n; due = Nothing })
+      (step_paused w t v (passed_by n next.changes) next.after)) found (record { state = x; passed = n; due = Nothing })
 
   moves-over : s.ending ≡ None → s.thrown ≡ Some object → s.stack ≡ [] → move w t s ≡ Some (still over)
   moves-over on threw none =
       ap (λ e. moves w t s e s.thrown s.stack) on ∙ (ap (λ o. moves w t s None o s.stack) threw ∙ ap (moves w t s None (Some object)) none)
 
-  pub refused-over : s.ending ≡ None → s.thrown ≡ Some object → s.stack ≡ [] → (paused w t v n s).state ≡ over
+  pub refused-over : s.ending ≡ None → s.thrown ≡ Some object → s.stack ≡ [] → (step_paused w t v n s).state ≡ over
   refused-over on threw none =
       ap (λ (p : Pause). p.state)
       (paused-move w t v n s ∙ (ap (one s) (moves-over on threw none) ∙ paused-move w t v n over))

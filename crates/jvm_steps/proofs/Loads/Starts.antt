@@ -11,9 +11,9 @@ use Rattle.jvm_model.specs.Running.Applies.{still}
 use Rattle.jvm_model.specs.Basis.Data.{New, Outcome}
 use Rattle.jvm_model.specs.Basis.KindNumbers.{user_count}
 use Rattle.jvm_model.specs.Classes.Load.{Fault, is_among, load_of}
-use Rattle.jvm_model.specs.Running.Moves.{settled}
+use Rattle.jvm_model.specs.Running.Moves.{turn_settled}
 use Rattle.jvm_model.specs.Instructions.SymbolicReference.{kind_unless, resolved_kind}
-use Rattle.jvm_model.specs.Running.Run.{arguments_made, before, main_class, main_classes, main_loading, main_loads, opened, start, starts_if, starts_unless, starts_with}
+use Rattle.jvm_model.specs.Running.Run.{arguments_made, before, main_class, main_classes, main_loading, main_loads, run_opened, start, starts_if, starts_unless, starts_with}
 use Rattle.jvm_model.specs.Basis.SharedState.{arguments_cost, arguments_fit, shared_before, with_arguments}
 use Rattle.jvm_model.specs.Soundness.Sound.{IsFit}
 use Rattle.jvm_model.proofs.Running.Attempts.{loaded-after}
@@ -40,7 +40,7 @@ shared_opened w s = record s {
   loaded = (load_of w.world.program s.loaded (main_name w.world.program)).loaded;
 }
 
-opens : (w : Setup) → record (before w.world) { shared = shared_opened w (before w.world).shared } ≡ opened w.world
+opens : (w : Setup) → record (before w.world) { shared = shared_opened w (before w.world).shared } ≡ run_opened w.world
 opens w =
     ap (λ loaded. record (before w.world) { shared = record (before w.world).shared { heap = with_arguments w.world.program (before w.world).shared.heap; loaded = loaded } })
     (sym (newly-loaded w.world.program (before w.world).shared.loaded (New (main_name w.world.program)) [] refl))
@@ -90,4 +90,4 @@ root-before w s loaded fit is linked =
 
 pub start-is : (w v : Setup) (mid after : State) → v ≡ w → mid ≡ starts_with w.world → after ≡ behind v mid → after ≡ (start w.world (listing_of w.versions)).after
 start-is w v mid after same begins settles =
-    settles ∙ (ap (λ u. behind u mid) same ∙ (ap (behind w) begins ∙ sym (loaded-after (main_loads w.world) (settled w.world (listing_of w.versions) (still (starts_with w.world))))))
+    settles ∙ (ap (λ u. behind u mid) same ∙ (ap (behind w) begins ∙ sym (loaded-after (main_loads w.world) (turn_settled w.world (listing_of w.versions) (still (starts_with w.world))))))

@@ -12,11 +12,11 @@ use Rattle.jvm_model.specs.declared.event.Mark.TheVariants.{Off, Plain, Root}
 use Rattle.jvm_model.specs.declared.state.Entry.{Entry}
 use Rattle.jvm_model.specs.declared.state.State.{State}
 use Rattle.jvm_model.specs.Running.Applies.{still}
-use Rattle.jvm_model.specs.Running.Between.{changes_between, compared, followed, top_method}
+use Rattle.jvm_model.specs.Running.Between.{changes_between, depths_compared, attempt_followed, top_method}
 use Rattle.jvm_model.specs.Basis.Data.{Change, Listing}
 use Rattle.jvm_model.specs.Rewriting.Images.{is_off}
 use Rattle.jvm_model.specs.Turns.Told.{mark_now}
-use Rattle.jvm_model.specs.Turns.Pauses.{Pause, changes_due, passed_by, paused, unless_off}
+use Rattle.jvm_model.specs.Turns.Pauses.{Pause, changes_due, passed_by, step_paused, unless_off}
 use Rattle.jvm_model.specs.Turns.StepPauses.{pause_behind}
 use Rattle.jvm_model.proofs.Turns.Pausing.{paused-is}
 use Rattle.prepared_code.specs.declared.initializations.Initialization.{Initialization}
@@ -47,8 +47,8 @@ top-of (f ∷ fs) ms = top-behind (above (suc (length (map active fs))) ms) (act
 -- the initializations are none of them
 pub since-between : (live : ℕ) (ms : List Initialization) (p : Parts) → changes_since live p.frames.frames ≡ changes_between live (state_of ms p).stack
 since-between live ms p =
-    ap (λ m. compared (nat_lt (length p.frames.frames) live) (nat_lt live (length p.frames.frames)) m) (sym (top-of p.frames.frames ms))
-    ∙ ap (λ n. compared (nat_lt n live) (nat_lt live n) (top_method (state_of ms p).stack)) (sym (live-of ms p))
+    ap (λ m. depths_compared (nat_lt (length p.frames.frames) live) (nat_lt live (length p.frames.frames)) m) (sym (top-of p.frames.frames ms))
+    ∙ ap (λ n. depths_compared (nat_lt n live) (nat_lt live n) (top_method (state_of ms p).stack)) (sym (live-of ms p))
 
 -- ---- whether what has begun is told
 
@@ -59,8 +59,8 @@ begins-unless Root = refl
 
 -- no activation more
 pub enters_none : (w : Setup) (live : ℕ) (fs : List PlacedFrame) → length fs ≤ live → false ≡ enters_by w (changes_since live fs)
-enters_none w live fs few = by (nat_lt (length fs) live) ∙ ap (λ b. enters_by w (compared (nat_lt (length fs) live) b (top_frame_method fs))) (sym (le-ltb live (length fs) few)) where
-  by : (b : Bool) → false ≡ enters_by w (compared b false (top_frame_method fs))
+enters_none w live fs few = by (nat_lt (length fs) live) ∙ ap (λ b. enters_by w (depths_compared (nat_lt (length fs) live) b (top_frame_method fs))) (sym (le-ltb live (length fs) few)) where
+  by : (b : Bool) → false ≡ enters_by w (depths_compared b false (top_frame_method fs))
   by true = refl
   by false = refl
 
@@ -69,8 +69,8 @@ enters-one : (w : Setup) (live : ℕ) (f : PlacedFrame) (fs : List PlacedFrame) 
     → not (is_off (mark_of w.versions (current_of w.versions f.method))) ≡ enters_by w (changes_since live (f ∷ fs))
 enters-one w live f fs more =
     begins-unless (mark_of w.versions (current_of w.versions f.method))
-    ∙ (ap (λ b. enters_by w (compared false b f.method)) (sym (lt-ltb live (length (f ∷ fs)) more))
-    ∙ ap (λ b. enters_by w (compared b (nat_lt live (length (f ∷ fs))) f.method)) (sym (le-ltb (length (f ∷ fs)) live (omega arith))))
+    ∙ (ap (λ b. enters_by w (depths_compared false b f.method)) (sym (lt-ltb live (length (f ∷ fs)) more))
+    ∙ ap (λ b. enters_by w (depths_compared b (nat_lt live (length (f ∷ fs))) f.method)) (sym (le-ltb (length (f ∷ fs)) live (omega arith))))
 
 pub enters_top : (w : Setup) (live : ℕ) (fs : List PlacedFrame) (version method : ℕ) → top_of fs ≡ Some (version, method) → live < length fs
     → not (is_off (mark_of w.versions (current_of w.versions method))) ≡ enters_by w (changes_since live fs)
@@ -88,7 +88,7 @@ enters_nothing w live (f ∷ fs) top more = absurd cc
 -- as many frames
 pub counts_none : (n live : ℕ) (fs : List PlacedFrame) → length fs ≡ live → n ≡ passed_by n (changes_since live fs)
 counts_none n live fs is = by (nat_lt (length fs) live) (nat_lt live (length fs)) (le-ltb (length fs) live (omega arith)) (le-ltb live (length fs) (omega arith)) where
-  by : (a b : Bool) → a ≡ false → b ≡ false → n ≡ passed_by n (compared a b (top_frame_method fs))
+  by : (a b : Bool) → a ≡ false → b ≡ false → n ≡ passed_by n (depths_compared a b (top_frame_method fs))
   by false false ea eb = refl
   by true b ea eb = absurd (false≢true (sym ea))
   by false true ea eb = absurd (false≢true (sym eb))
@@ -96,7 +96,7 @@ counts_none n live fs is = by (nat_lt (length fs) live) (nat_lt live (length fs)
 -- more or fewer
 pub counts_one : (n live : ℕ) (fs : List PlacedFrame) → (length fs ≡ live → ⊥) → suc n ≡ passed_by n (changes_since live fs)
 counts_one n live fs isnt = by (nat_lt (length fs) live) (nat_lt live (length fs)) refl refl where
-  by : (a b : Bool) → nat_lt (length fs) live ≡ a → nat_lt live (length fs) ≡ b → suc n ≡ passed_by n (compared a b (top_frame_method fs))
+  by : (a b : Bool) → nat_lt (length fs) live ≡ a → nat_lt live (length fs) ≡ b → suc n ≡ passed_by n (depths_compared a b (top_frame_method fs))
   by true b ea eb = refl
   by false true ea eb = refl
   by false false ea eb =
@@ -124,7 +124,7 @@ module _ (w : Setup) (live n : ℕ) (ms : List Initialization) (p : Parts) where
   cs = changes_since live p.frames.frames
 
   abbrev followed_by : List Change → Pause
-  followed_by changes = followed w.world (listing_of w.versions) (mark_of w.versions) n changes s
+  followed_by changes = attempt_followed w.world (listing_of w.versions) (mark_of w.versions) n changes s
 
   same-followed : followed_by cs ≡ pause_behind_attempt w live n s
   same-followed = ap followed_by (since-between live ms p)
@@ -134,7 +134,7 @@ module _ (w : Setup) (live n : ℕ) (ms : List Initialization) (p : Parts) where
   follows-told passed counted is =
       ap (λ k. pause_at s k Begins) counted
       ∙ (sym (begins-pause (changes_due (mark_now (mark_of w.versions) (listing_of w.versions)) [] cs) (record { state = s; passed = passed_by n cs; due = Begins })
-      (paused w.world (listing_of w.versions) (mark_of w.versions) (passed_by n cs) s) is)
+      (step_paused w.world (listing_of w.versions) (mark_of w.versions) (passed_by n cs) s) is)
       ∙ same-followed)
 
   -- the moves follow
@@ -142,15 +142,15 @@ module _ (w : Setup) (live n : ℕ) (ms : List Initialization) (p : Parts) where
   follows-on passed counted isnt =
       ap (λ k. paused_in w k s) counted
       ∙ (sym (goes-pause (changes_due (mark_now (mark_of w.versions) (listing_of w.versions)) [] cs) (record { state = s; passed = passed_by n cs; due = Begins })
-      (paused w.world (listing_of w.versions) (mark_of w.versions) (passed_by n cs) s) isnt)
+      (step_paused w.world (listing_of w.versions) (mark_of w.versions) (passed_by n cs) s) isnt)
       ∙ same-followed)
 
 -- ---- moves load nothing
 
 module _ (w : Setup) (t : Listing) (v : ℕ → Mark) (n : ℕ) (s : State) where
-  pub paused-loaded : (paused w.world t v n s).state.shared.loaded ≡ s.shared.loaded
+  pub paused-loaded : (step_paused w.world t v n s).state.shared.loaded ≡ s.shared.loaded
   paused-loaded =
-      let p : Pause = paused w.world t v n s in
+      let p : Pause = step_paused w.world t v n s in
       let same = (paused-is w.world t v n s).part.same in
       sym (settled-loaded w t (still p.state)) ∙ (ap (λ (x : State). x.shared.loaded) (sym same) ∙ settled-loaded w t (still s))
 
@@ -160,10 +160,10 @@ module _ (w : Setup) (t : Listing) (v : ℕ → Mark) (n : ℕ) (s : State) wher
   behind-loaded Nothing begun later one other = other
   behind-loaded (Ends k) begun later one other = other
 
-pub followed-loaded : (w : Setup) (t : Listing) (v : ℕ → Mark) (n : ℕ) (changes : List Change) (s : State) → (followed w.world t v n changes s).state.shared.loaded ≡ s.shared.loaded
+pub followed-loaded : (w : Setup) (t : Listing) (v : ℕ → Mark) (n : ℕ) (changes : List Change) (s : State) → (attempt_followed w.world t v n changes s).state.shared.loaded ≡ s.shared.loaded
 followed-loaded w t v n changes s =
     behind-loaded w t v n s (changes_due (mark_now v t) [] changes) (record { state = s; passed = passed_by n changes; due = Begins })
-    (paused w.world t v (passed_by n changes) s) refl (paused-loaded w t v (passed_by n changes) s)
+    (step_paused w.world t v (passed_by n changes) s) refl (paused-loaded w t v (passed_by n changes) s)
 
 -- of a state that is left where it is paused
 pub left-loaded : {E : Type 0} (r : Result Due E) (new : State) (passed : ℕ) (p : Pause) (classes : List ℕ) → IfOk r (λ due. pause_at new passed due ≡ p)

@@ -5,7 +5,7 @@ use Rattle.std.specs.Option.{IfSome}
 use Rattle.jvm_model.specs.declared.due.Due.{Due}
 use Rattle.jvm_model.specs.declared.state.State.{State}
 use Rattle.jvm_model.specs.Basis.Data.{Turn}
-use Rattle.jvm_model.specs.Turns.InHand.{GoesOn, goes_from, popped}
+use Rattle.jvm_model.specs.Turns.InHand.{GoesOn, goes_from, frame_popped}
 use Rattle.jvm_model.specs.Codes.Originals.{original}
 use Rattle.jvm_model.specs.Turns.Pauses.{Pause}
 use Rattle.jvm_model.specs.Running.Run.{starts_with, with_loaded}
@@ -30,7 +30,7 @@ use Rattle.prepared_code.proofs.VersionsAgree.{versions-agree}
 -- ---- the rest of the same step is in hand
 
 module _ (w : Setup) (homes : ℕ → ℕ → ℕ) (has : HasVersions w homes) where
-  goes-same : (moves delivered : Bool) (n : ℕ) (s : State) → goes_from w.world (listing_of w.versions) (versioned_in w homes) delivered n (todo_of moves) s (popped s) ≡ goes_as w moves delivered n s
+  goes-same : (moves delivered : Bool) (n : ℕ) (s : State) → goes_from w.world (listing_of w.versions) (versioned_in w homes) delivered n (todo_of moves) s (frame_popped s) ≡ goes_as w moves delivered n s
   goes-same true true n s = refl
   goes-same true false n s = refl
   goes-same false delivered n s = refl
@@ -66,7 +66,7 @@ module _ (w : Setup) (run : CanRun w) (s new : State) where
   pub moves-linked : (delivered : Bool) (n passed : ℕ) (due : Due) → pause_at new passed due ≡ goes_by_moves w delivered n s → s.shared.loaded ≡ new.shared.loaded
   moves-linked delivered n passed due reaches = sym (ap (λ (p : Pause). p.state.shared.loaded) reaches ∙ by delivered) where
     by : (b : Bool) → (goes_by_moves w b n s).state.shared.loaded ≡ s.shared.loaded
-    by true = paused-loaded w (listing_of w.versions) (mark_of w.versions) (suc n) (popped s)
+    by true = paused-loaded w (listing_of w.versions) (mark_of w.versions) (suc n) (frame_popped s)
     by false = paused-loaded w (listing_of w.versions) (mark_of w.versions) n s
 
 -- ---- where it has stopped

@@ -15,7 +15,7 @@ use Rattle.jvm_model.specs.declared.state.Phase.TheVariants.{Fresh, Running, Rea
 use Rattle.jvm_model.specs.declared.state.State.{State}
 use Rattle.jvm_model.specs.Running.Applies.{still, breaks, applies}
 use Rattle.jvm_model.specs.Basis.Data.{Listing, SymbolicReference, Instruction, Operation, Named, Initializes, Done, Turn}
-use Rattle.jvm_model.specs.Running.Moves.{move, moves, left, settles, settled, then_turn}
+use Rattle.jvm_model.specs.Running.Moves.{move, moves, moves_left, settles, turn_settled, then_turn}
 use Rattle.jvm_model.specs.Instructions.Does.{loads}
 use Rattle.jvm_model.specs.Instructions.SymbolicReference.{newly_loaded}
 use Rattle.jvm_model.specs.Instructions.ReferenceRules.{does_named}
@@ -27,7 +27,7 @@ use Rattle.jvm_model.proofs.Running.QuietSettles.{stops}
 use Rattle.prepared_code.specs.declared.line.Line.{Line}
 use Rattle.prepared_code.specs.declared.initializations.Initialization.{Initialization}
 use Rattle.prepared_code.specs.declared.parts.Parts.{Parts}
-use Rattle.jvm_steps.specs.Instructions.Acts.{acts, acts_asked, acts_by, acts_named, attempts_line, attempts_on, awaited, awaited_by, awaited_in, awaited_on, is_at_rest, goes_on_in, named_done, ready_for, with_done}
+use Rattle.jvm_steps.specs.Instructions.Acts.{acts, acts_asked, acts_by, acts_named, attempts_line, attempts_on, class_awaited, awaited_by, awaited_in, awaited_on, is_at_rest, goes_on_in, named_done, ready_for, with_done}
 use Rattle.prepared_code.specs.Initializations.{initializing_entry, initialization_on, stack_of, state_of}
 use Rattle.prepared_code.specs.States.{active, frame_in}
 use Rattle.prepared_code.proofs.InitializingStacks.{length-active}
@@ -66,11 +66,11 @@ module _ (w : Setup) (t : Listing) where
       either before None = same
       either before (Some next) = before (then_turn a next) (then_turn b next) refl
 
-  settled-after : (a b : Turn) → a.after ≡ b.after → (settled w.world t a).after ≡ (settled w.world t b).after
-  settled-after a b same = ap (λ (s : State). (settles w.world t (left s) a).after) same ∙ settles-after (left b.after) a b same
+  settled-after : (a b : Turn) → a.after ≡ b.after → (turn_settled w.world t a).after ≡ (turn_settled w.world t b).after
+  settled-after a b same = ap (λ (s : State). (settles w.world t (moves_left s) a).after) same ∙ settles-after (moves_left b.after) a b same
 
-  settled-still : (s : State) → move w.world t s ≡ None → (settled w.world t (still s)).after ≡ s
-  settled-still s none = ap (λ (a : Turn). a.after) (stops w.world t (left s) (still s) none)
+  settled-still : (s : State) → move w.world t s ≡ None → (turn_settled w.world t (still s)).after ≡ s
+  settled-still s none = ap (λ (a : Turn). a.after) (stops w.world t (moves_left s) (still s) none)
 
   -- nothing follows where it is at rest
   pub rest-moves : (ms : List Initialization) (p : Parts) → is_at_rest ms p ≡ true → move w.world t (state_of ms p) ≡ None
@@ -86,7 +86,7 @@ module _ (w : Setup) (t : Listing) where
     by None None [] is = absurd (false≢true is)
     by None None (f ∷ fs) is = by_top f fs is
 
-  pub rests : (ms : List Initialization) (p : Parts) → is_at_rest ms p ≡ true → state_of ms p ≡ (settled w.world t (still (state_of ms p))).after
+  pub rests : (ms : List Initialization) (p : Parts) → is_at_rest ms p ≡ true → state_of ms p ≡ (turn_settled w.world t (still (state_of ms p))).after
   rests ms p is = sym (settled-still (state_of ms p) (rest-moves ms p is))
 
 -- ---- a step
@@ -97,7 +97,7 @@ module _ (w : Setup) where
 
   -- the state after a line, with all that follows
   abbrev pub behind : State → State
-  behind x = (settled w.world t (still x)).after
+  behind x = (turn_settled w.world t (still x)).after
 
   module _ (s : State) (f : Frame) (line : Line) (op : Operation) (tied : IsTied line op) where
     abbrev first : Turn
@@ -110,7 +110,7 @@ module _ (w : Setup) where
         (steps-as w line op s f tied).applied
 
     -- the classes are loaded, and a class may be initialized before
-    steps-by : (o : Option ℕ) → awaited w s f line.action ≡ o
+    steps-by : (o : Option ℕ) → class_awaited w s f line.action ≡ o
         → (steps_at w.world t s f (Some (instruction_by op line))).after ≡ (goes_again w.world t (instruction_by op line) (readied w line op s f) f o first).after
     steps-by o is =
         loaded-after (loads w.world op s.shared f.operands) (steps_by w.world t (instruction_by op line) (readied w line op s f) f (done_there w line op s f))
@@ -155,7 +155,7 @@ module _ (w : Setup) where
   ready-of None h = absurd (false≢true h)
 
   -- by an instruction that names something
-  module _ (s : State) (f : Frame) (line : Line) (n : SymbolicReference) (c : ℕ) (tied : IsTied line (Named n)) (is : awaited w s f line.action ≡ Some c) where
+  module _ (s : State) (f : Frame) (line : Line) (n : SymbolicReference) (c : ℕ) (tied : IsTied line (Named n)) (is : class_awaited w s f line.action ≡ Some c) where
     abbrev i : Instruction
     i = instruction_by (Named n) line
 
@@ -168,7 +168,7 @@ module _ (w : Setup) where
     asks-for : there.outcome ≡ Initializes c
     asks-for =
         starts-some there.outcome c
-        (ap (λ m. starts (named_done w m s f).outcome) (sym (viewed n)) ∙ (ap (awaited w s f) tied.action ∙ is))
+        (ap (λ m. starts (named_done w m s f).outcome) (sym (viewed n)) ∙ (ap (class_awaited w s f) tied.action ∙ is))
 
     law : IsNamed (ready_for w n s f).shared f.operands there
     law = is-named (ready_for w n s f).shared f.operands w n f.locals
@@ -184,12 +184,12 @@ module _ (w : Setup) where
     acts-begun = named-action ∙ ap (acts_asked w line (with_done there s) f) asks-for
 
     abbrev turn : Turn
-    turn = settled w.world t (still begun)
+    turn = turn_settled w.world t (still begun)
 
     first-is : first s f line (Named n) tied ≡ turn
     first-is =
         ap (λ (x : State). tries w.world t i x f (does_named w.world n x.shared f.locals f.operands)) (with-loaded (newly_loaded w.world.program s.shared.loaded n f.operands) s)
-        ∙ ap (λ q. settled w.world t (applies w.world t i q (with_done there s) f)) asks-for
+        ∙ ap (λ q. turn_settled w.world t (applies w.world t i q (with_done there s) f)) asks-for
 
     awaits-by : (steps_at w.world t s f (Some i)).after ≡ (goes_again w.world t i (ready_for w n s f) f (Some c) turn).after
     awaits-by =
@@ -215,9 +215,9 @@ module _ (w : Setup) where
       pub restored : IsReadyAgain w t c f s.stack turn
       restored =
           let same : record begun { ending = None } ≡ begun = sym (ap (λ e. record begun { ending = e }) ending) in
-          subst (λ (x : State). IsReadyAgain w t c f s.stack (settled w.world t (still x))) same
+          subst (λ (x : State). IsReadyAgain w t c f s.stack (turn_settled w.world t (still x))) same
           (ready-again w t c f s.stack s.thrown s.begun (s.output ++ there.wrote) (with_phase there.shared c Running) running
-          (ap (λ (x : State). phase_of (settled w.world t (still x)).after.shared c) same ∙ ready-of (phase_of turn.after.shared c) ready))
+          (ap (λ (x : State). phase_of (turn_settled w.world t (still x)).after.shared c) same ∙ ready-of (phase_of turn.after.shared c) ready))
 
       abbrev from : State
       from = record turn.after { stack = s.stack }
@@ -246,7 +246,7 @@ module _ (w : Setup) where
     there : lo ≡ Some line
     instruction : io ≡ Some (instruction_by (Named named) line)
     tied : IsTied line (Named named)
-    awaits : awaited w s f line.action ≡ Some c
+    awaits : class_awaited w s f line.action ≡ Some c
 
   is-awaiting : (s : State) (f : Frame) (c : ℕ) (lo : Option Line) (io : Option Instruction) → awaited_by w s f lo ≡ Some c → Tie lo io → IsAwaiting s f c lo io
   is-awaiting s f c None io is tie = absurd (none-some c is)

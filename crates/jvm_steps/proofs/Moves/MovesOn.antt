@@ -5,7 +5,7 @@ use Rattle.std.specs.Option.{option_map_or}
 use Rattle.jvm_model.specs.declared.state.State.{State}
 use Rattle.jvm_model.specs.Basis.Data.{Change, Listing, Turn}
 use Rattle.jvm_model.specs.Running.Applies.{still}
-use Rattle.jvm_model.specs.Running.Moves.{left, move, settled, settles, then_turn}
+use Rattle.jvm_model.specs.Running.Moves.{moves_left, move, turn_settled, settles, then_turn}
 use Rattle.jvm_model.proofs.Running.LoopOfMoves.{moved-less, moved-same, moved-end}
 use Rattle.jvm_steps.specs.Moves.Settling.{after_move}
 use Rattle.prepared_code.specs.Versions.{Setup, listing_of}
@@ -26,21 +26,21 @@ settles-after w t (suc n) s c d = by (move w.world t s) (λ next. settles-after 
 abbrev by_text : Setup → Listing
 by_text w = listing_of w.versions
 
-pub moved_on : (w : Setup) (s : State) → (settled w.world (by_text w) (still (after_move w s))).after ≡ (settled w.world (by_text w) (still s)).after
+pub moved_on : (w : Setup) (s : State) → (turn_settled w.world (by_text w) (still (after_move w s))).after ≡ (turn_settled w.world (by_text w) (still s)).after
 moved_on w s = by (move w.world (by_text w) s) refl where
   by : (found : Option Turn) → move w.world (by_text w) s ≡ found
-      → (settled w.world (by_text w) (still (option_map_or (λ (turn : Turn). turn.after) found s))).after ≡ (settled w.world (by_text w) (still s)).after
+      → (turn_settled w.world (by_text w) (still (option_map_or (λ (turn : Turn). turn.after) found s))).after ≡ (turn_settled w.world (by_text w) (still s)).after
   by None e = refl
-  by (Some next) e = settles-after w (by_text w) (left next.after) next.after [] next.changes ∙ ap (λ (turn : Turn). turn.after) (moved-same w.world (by_text w) (still s) next e)
+  by (Some next) e = settles-after w (by_text w) (moves_left next.after) next.after [] next.changes ∙ ap (λ (turn : Turn). turn.after) (moved-same w.world (by_text w) (still s) next e)
 
-pub fewer_left : (w : Setup) (s : State) → is_some (move w.world (by_text w) s) ≡ true → left (after_move w s) < left s
+pub fewer_left : (w : Setup) (s : State) → is_some (move w.world (by_text w) s) ≡ true → moves_left (after_move w s) < moves_left s
 fewer_left w s moved = by (move w.world (by_text w) s) refl moved where
-  by : (found : Option Turn) → move w.world (by_text w) s ≡ found → is_some found ≡ true → left (option_map_or (λ (turn : Turn). turn.after) found s) < left s
+  by : (found : Option Turn) → move w.world (by_text w) s ≡ found → is_some found ≡ true → moves_left (option_map_or (λ (turn : Turn). turn.after) found s) < moves_left s
   by None e m = absurd cc
   by (Some next) e m = moved-less w.world (by_text w) (still s) next e
 
-pub none_left : (w : Setup) (s : State) → is_some (move w.world (by_text w) s) ≡ false → (settled w.world (by_text w) (still s)).after ≡ after_move w s
+pub none_left : (w : Setup) (s : State) → is_some (move w.world (by_text w) s) ≡ false → (turn_settled w.world (by_text w) (still s)).after ≡ after_move w s
 none_left w s none = by (move w.world (by_text w) s) refl none where
-  by : (found : Option Turn) → move w.world (by_text w) s ≡ found → is_some found ≡ false → (settled w.world (by_text w) (still s)).after ≡ option_map_or (λ (turn : Turn). turn.after) found s
+  by : (found : Option Turn) → move w.world (by_text w) s ≡ found → is_some found ≡ false → (turn_settled w.world (by_text w) (still s)).after ≡ option_map_or (λ (turn : Turn). turn.after) found s
   by None e m = ap (λ (turn : Turn). turn.after) (moved-end w.world (by_text w) (still s) e)
   by (Some next) e m = absurd cc

@@ -8,7 +8,7 @@ use Rattle.jvm_model.specs.declared.event.Mark.{Mark}
 use Rattle.jvm_model.specs.declared.event.Mark.TheVariants.{Off, Plain, Root}
 use Rattle.jvm_model.specs.declared.state.State.{State}
 use Rattle.jvm_model.specs.Basis.Data.{Change, Loads, Began, Left, Unwound, Turn}
-use Rattle.jvm_model.specs.Running.Moves.{move, left}
+use Rattle.jvm_model.specs.Running.Moves.{move, moves_left}
 use Rattle.jvm_model.specs.Turns.Told.{Held, helds, mark_now}
 use Rattle.jvm_model.specs.Turns.Pauses.{unless_off, end_due, pause_by, passed_by}
 use Rattle.jvm_model.proofs.Running.Settles.{move-less}
@@ -21,8 +21,8 @@ use Rattle.jvm_steps.specs.Moves.Turning.{changes_of, due_by, moved_by, moved_if
 
 abbrev pub Means : Setup → ℕ → State → State → Moved → Type 0
 Means w n s after moved.Nothing = paused_in w n s ≡ record { state = after; passed = n; due = Nothing }
-Means w n s after moved.On = (paused_in w n after ≡ paused_in w n s) × (left after < left s)
-Means w n s after moved.Unwound = (paused_in w (suc n) after ≡ paused_in w n s) × (left after < left s)
+Means w n s after moved.On = (paused_in w n after ≡ paused_in w n s) × (moves_left after < moves_left s)
+Means w n s after moved.Unwound = (paused_in w (suc n) after ≡ paused_in w n s) × (moves_left after < moves_left s)
 Means w n s after moved.Unwinds = (paused_in w n s ≡ record { state = s; passed = n; due = Ends kind.Unwind }) × (after ≡ state_by s s (Ends kind.Unwind))
 Means w n s after moved.Began = paused_in w n s ≡ record { state = after; passed = suc n; due = Nothing }
 Means w n s after moved.Enters = paused_in w n s ≡ record { state = after; passed = suc n; due = Begins }
@@ -49,7 +49,7 @@ module _ (w : Setup) (n : ℕ) (s : State) where
       (record { state = s; passed = n; due = Nothing })) at_rest
 
   -- by the one change, and what is due by it
-  unwound-means : (after : State) (d : Due) → end_due kind.Unwind live ≡ d → move w.world (listing_of w.versions) s ≡ Some (record { after = after; changes = Unwound ∷ [] }) → left after < left s
+  unwound-means : (after : State) (d : Due) → end_due kind.Unwind live ≡ d → move w.world (listing_of w.versions) s ≡ Some (record { after = after; changes = Unwound ∷ [] }) → moves_left after < moves_left s
       → Means w n s (state_by s after d) (moved_by (Unwound ∷ []) d)
   unwound-means after d due e less = by d due (ends live due) where
     there : paused_in w n s ≡ pause_by s after n (Unwound ∷ []) (end_due kind.Unwind live) (paused_in w (suc n) after)
@@ -88,7 +88,7 @@ module _ (w : Setup) (n : ℕ) (s : State) where
     by Plain is = there Begins (ap (λ k. unless_off k Begins) is)
     by Root is = there Begins (ap (λ k. unless_off k Begins) is)
 
-  change-means : (after : State) (changes : List Change) → OneAtMost changes → move w.world (listing_of w.versions) s ≡ Some (record { after = after; changes = changes }) → left after < left s
+  change-means : (after : State) (changes : List Change) → OneAtMost changes → move w.world (listing_of w.versions) s ≡ Some (record { after = after; changes = changes }) → moves_left after < moves_left s
       → Means w n s (state_by s after (due_by w s changes)) (moved_by changes (due_by w s changes))
   change-means after _ none e less = (sym (by-move (record { after = after; changes = [] }) e), less)
   change-means after _ (one (Loads classes) other) e less = absurd other
@@ -102,7 +102,7 @@ module _ (w : Setup) (n : ℕ) (s : State) where
       ∙ ap (λ found. option_map_or (λ (next : Turn). pause_by s next.after n next.changes (due_by w s next.changes) (paused_in w (passed_by n next.changes) next.after)) found
       (record { state = s; passed = n; due = Nothing })) e
 
-  move-means : (found : Option Turn) → move w.world (listing_of w.versions) s ≡ found → IfSome found (λ next. left next.after < left s) → IfSome found (λ (next : Turn). OneAtMost next.changes)
+  move-means : (found : Option Turn) → move w.world (listing_of w.versions) s ≡ found → IfSome found (λ next. moves_left next.after < moves_left s) → IfSome found (λ (next : Turn). OneAtMost next.changes)
       → Means w n s (state_by s (option_map_or (λ (turn : Turn). turn.after) found s) (due_by w s (changes_of found))) (moved_if (is_some found) (changes_of found) (due_by w s (changes_of found)))
   move-means None e less single = nothing-means e
   move-means (Some next) e less single = change-means next.after next.changes single e less

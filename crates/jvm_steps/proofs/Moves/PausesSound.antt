@@ -14,9 +14,9 @@ use Rattle.jvm_model.specs.declared.state.State.{State}
 use Rattle.jvm_model.specs.Basis.Data.{Change, Instruction, Listing, Turn}
 use Rattle.jvm_model.specs.Running.Applies.{live_in}
 use Rattle.jvm_model.specs.Running.Between.{changes_between}
-use Rattle.jvm_model.specs.Turns.InHand.{popped}
-use Rattle.jvm_model.specs.Running.Moves.{left, move}
-use Rattle.jvm_model.specs.Turns.Pauses.{Pause, changes_due, passed_by, pause_by, paused, pauses}
+use Rattle.jvm_model.specs.Turns.InHand.{frame_popped}
+use Rattle.jvm_model.specs.Running.Moves.{moves_left, move}
+use Rattle.jvm_model.specs.Turns.Pauses.{Pause, changes_due, passed_by, pause_by, step_paused, pauses}
 use Rattle.jvm_model.specs.Turns.Rest.{loads_at, loads_on}
 use Rattle.jvm_model.specs.Running.Run.{with_loaded}
 use Rattle.jvm_model.specs.Soundness.SoundListings.{IsSoundEntry}
@@ -65,14 +65,14 @@ module _ (w : Setup) (run : CanRun w) where
       (moves-go (RunsIn w.versions) w.world run.fit t run.listing s is s.ending s.thrown s.stack refl is.stack)
 
   pub paused-sound : (n : ℕ) (s : State) → Sound s → Sound (paused_in w n s).state
-  paused-sound n s is = pauses-sound (mark_of w.versions) (left s) n s is
+  paused-sound n s is = pauses-sound (mark_of w.versions) (moves_left s) n s is
 
   -- without the current frame
   all-below : (Holds : Entry → Type 0) (stack : List Entry) → AllByRecursion Holds stack → AllByRecursion Holds (drop 1 stack)
   all-below Holds [] each = tt
   all-below Holds (e ∷ below) each = each.1
 
-  popped-sound : (s : State) → Sound s → Sound (popped s)
+  popped-sound : (s : State) → Sound s → Sound (frame_popped s)
   popped-sound s is = record {
     shared = is.shared;
     stack = all-below (IsSoundEntry (RunsIn w.versions) w.world.program s.shared.loaded) s.stack is.stack;
@@ -80,7 +80,7 @@ module _ (w : Setup) (run : CanRun w) where
   }
 
   pub moved-sound : (delivered : Bool) (n : ℕ) (s : State) → Sound s → Sound (goes_by_moves w delivered n s).state
-  moved-sound true n s is = paused-sound (suc n) (popped s) (popped-sound s is)
+  moved-sound true n s is = paused-sound (suc n) (frame_popped s) (popped-sound s is)
   moved-sound false n s is = paused-sound n s is
 
   -- ---- behind an attempt
@@ -94,7 +94,7 @@ module _ (w : Setup) (run : CanRun w) where
   followed-sound live n s is =
       let changes : List Change = changes_between live s.stack in
       behind-sound (changes_due (mark_now (mark_of w.versions) t) [] changes) (record { state = s; passed = passed_by n changes; due = Begins })
-      (paused w.world t (mark_of w.versions) (passed_by n changes) s) is (paused-sound (passed_by n changes) s is)
+      (step_paused w.world t (mark_of w.versions) (passed_by n changes) s) is (paused-sound (passed_by n changes) s is)
 
   -- ---- behind the classes that it loads
 

@@ -17,7 +17,7 @@ use Rattle.jvm_model.specs.declared.state.Frame.{Frame}
 use Rattle.jvm_model.specs.declared.state.Shared.{Shared}
 use Rattle.jvm_model.specs.declared.state.State.{State}
 use Rattle.jvm_model.specs.Running.Applies.{breaks, live_in}
-use Rattle.jvm_model.specs.Running.Between.{changes_between, followed}
+use Rattle.jvm_model.specs.Running.Between.{changes_between, attempt_followed}
 use Rattle.jvm_model.specs.Basis.Data.{Breaks, Instruction, Local, SymbolicReference, Named, Nop, Operands, Operation, Return, Listing, Within}
 use Rattle.jvm_model.specs.Instructions.Does.{does, loads}
 use Rattle.jvm_model.specs.Rewriting.Images.{is_off}
@@ -26,7 +26,7 @@ use Rattle.jvm_model.specs.Running.Run.{goes_on, is_ready, starts, with_loaded}
 use Rattle.jvm_model.specs.Basis.SharedState.{phase_of}
 use Rattle.jvm_model.specs.Turns.Told.{held_by, helds}
 use Rattle.jvm_model.specs.Turns.Pauses.{Pause}
-use Rattle.jvm_model.specs.Turns.StepPauses.{again_pause, attempted, frame_pause, is_nothing, is_return, leave_due, stack_pause, turn_pause}
+use Rattle.jvm_model.specs.Turns.StepPauses.{again_pause, instruction_attempted, frame_pause, is_nothing, is_return, leave_due, stack_pause, turn_pause}
 use Rattle.jvm_model.proofs.Turns.AttemptPauses.{breaks-pause, goes-again, goes-once, leaves, settled-there, stays-once}
 use Rattle.jvm_model.proofs.Running.ChangesBetween.{applies-tell}
 use Rattle.jvm_model.proofs.Turns.LoopOfPauses.{paused-move}
@@ -34,7 +34,7 @@ use Rattle.prepared_code.specs.declared.line.Action.TheVariants as action
 use Rattle.prepared_code.specs.declared.line.Line.{Line}
 use Rattle.prepared_code.specs.declared.initializations.Initialization.{Initialization}
 use Rattle.prepared_code.specs.declared.parts.Parts.{Parts}
-use Rattle.jvm_steps.specs.Instructions.Acts.{acts, acts_by, acts_named, attempts_line, attempts_on, awaited, awaited_by, awaited_in, awaited_on, goes_on_in}
+use Rattle.jvm_steps.specs.Instructions.Acts.{acts, acts_by, acts_named, attempts_line, attempts_on, class_awaited, awaited_by, awaited_in, awaited_on, goes_on_in}
 use Rattle.prepared_code.specs.Lines.{action_of, local_action}
 use Rattle.prepared_code.specs.Initializations.{initializing_entry, initialization_on, stack_of, state_of}
 use Rattle.prepared_code.specs.Ready.{CanRun, IsSoundIn, IsTied}
@@ -143,7 +143,7 @@ module _ (w : Setup) (run : CanRun w) (n : ℕ) (s : State) (going : IsGoing s) 
   chosen i b =
       if b then record { state = record under { stack = Active f ∷ under.stack }; passed = n; due = Ends kind.Leave }
       else again_pause w.world t v n (held_by v f ∷ helds v going.rest) i under f (starts (does w.world i.operation under.shared f.locals f.operands).outcome)
-      (turn_pause w.world t v n (held_by v f ∷ helds v going.rest) (attempted w.world t i under f))
+      (turn_pause w.world t v n (held_by v f ∷ helds v going.rest) (instruction_attempted w.world t i under f))
 
   silent-by : (delivered : Bool) (lo : Option Line) (io : Option Instruction) → Tie lo io → (not delivered && (not (is_off (v f.version)) && is_return_line lo)) ≡ false
       → frame_pause w.world t v delivered n under f io ≡ frame_pause w.world t v true n under f io
@@ -162,26 +162,26 @@ module _ (w : Setup) (run : CanRun w) (n : ℕ) (s : State) (going : IsGoing s) 
     same-ready : readied w line op x f ≡ x
     same-ready = ap (λ classes. with_loaded classes x) none
 
-    starts-same : starts (does w.world op x.shared f.locals f.operands).outcome ≡ awaited w x f line.action
+    starts-same : starts (does w.world op x.shared f.locals f.operands).outcome ≡ class_awaited w x f line.action
     starts-same =
         sym (ap (λ (y : State). starts (does w.world op y.shared f.locals f.operands).outcome) same-ready) ∙ (steps-as w line op x f tied).starts_same
 
-    attempted-same : (attempted w.world t (instruction_by op line) x f).after ≡ acts w line x f
+    attempted-same : (instruction_attempted w.world t (instruction_by op line) x f).after ≡ acts w line x f
     attempted-same =
-        sym (ap (λ (y : State). (attempted w.world t (instruction_by op line) y f).after) same-ready) ∙ (steps-as w line op x f tied).applied
+        sym (ap (λ (y : State). (instruction_attempted w.world t (instruction_by op line) y f).after) same-ready) ∙ (steps-as w line op x f tied).applied
 
   -- the same of an instruction that a line is
   module _ (line : Line) (i : Instruction) (tie : Tie (Some line) (Some i)) (x : State) (none : loads w.world i.operation x.shared f.operands ≡ []) where
     none-by : loads w.world tie.op x.shared f.operands ≡ []
     none-by = sym (ap (λ (j : Instruction). loads w.world j.operation x.shared f.operands) tie.is) ∙ none
 
-    starts-is : starts (does w.world i.operation x.shared f.locals f.operands).outcome ≡ awaited w x f line.action
+    starts-is : starts (does w.world i.operation x.shared f.locals f.operands).outcome ≡ class_awaited w x f line.action
     starts-is =
         ap (λ (j : Instruction). starts (does w.world j.operation x.shared f.locals f.operands).outcome) tie.is ∙ starts-same line tie.op tie.tied x none-by
 
-    attempted-is : (attempted w.world t i x f).after ≡ acts w line x f
+    attempted-is : (instruction_attempted w.world t i x f).after ≡ acts w line x f
     attempted-is =
-        ap (λ (j : Instruction). (attempted w.world t j x f).after) tie.is ∙ attempted-same line tie.op tie.tied x none-by
+        ap (λ (j : Instruction). (instruction_attempted w.world t j x f).after) tie.is ∙ attempted-same line tie.op tie.tied x none-by
 
   -- ---- no class is awaited
 
@@ -192,7 +192,7 @@ module _ (w : Setup) (run : CanRun w) (n : ℕ) (s : State) (going : IsGoing s) 
   -- without a line the run ends, and nothing has changed
   broken-first : first (breaks under f 0) ≡ pause_at (breaks under f 0) n Nothing
   broken-first =
-      ap (λ changes. followed w.world t v n changes (breaks under f 0)) (ap (λ (es : List Entry). changes_between (live_in es) (breaks under f 0).stack) going.stack ∙ sym (applies-tell w.world t nowhere (Breaks false) under f))
+      ap (λ changes. attempt_followed w.world t v n changes (breaks under f 0)) (ap (λ (es : List Entry). changes_between (live_in es) (breaks under f 0).stack) going.stack ∙ sym (applies-tell w.world t nowhere (Breaks false) under f))
       ∙ paused-move w.world t v n (breaks under f 0)
 
   once-by : (lo : Option Line) (io : Option Instruction) → t.at f.version f.place ≡ io → Tie lo io → loads_at w.world s f io ≡ [] → awaited_by w under f lo ≡ None
@@ -225,11 +225,11 @@ module _ (w : Setup) (run : CanRun w) (n : ℕ) (s : State) (going : IsGoing s) 
       ∙ (named-loads w line m under f ∙ (ap (λ classes. s.shared.loaded ++ classes) none ∙ append-nil s.shared.loaded))
 
   module _ (c : ℕ) (line : Line) (i : Instruction) (at : t.at f.version f.place ≡ Some i) (there : here ≡ Some line) (tie : Tie (Some line) (Some i))
-      (none : loads w.world i.operation s.shared f.operands ≡ []) (awaits : awaited w under f line.action ≡ Some c) where
+      (none : loads w.world i.operation s.shared f.operands ≡ []) (awaits : class_awaited w under f line.action ≡ Some c) where
     abbrev mid : State
     mid = attempts_on w s s.stack
 
-    mid-is : (attempted w.world t i under f).after ≡ mid
+    mid-is : (instruction_attempted w.world t i under f).after ≡ mid
     mid-is = attempted-is line i tie under none ∙ sym (attempted-here ∙ ap (attempts_line w under f) there)
 
     starts-there : starts (does w.world i.operation under.shared f.locals f.operands).outcome ≡ Some c
@@ -259,7 +259,7 @@ module _ (w : Setup) (run : CanRun w) (n : ℕ) (s : State) (going : IsGoing s) 
     again-by : second.stack ≡ Active f ∷ going.rest → tries_again n c (first mid) ≡ true → tried_in w true n s ≡ first (attempts_on w second second.stack)
     again-by top is =
         goes-again w.world t v true n s f going.rest going.ending going.stack i at refl c starts-there (ap (λ x. tries_again n c (first x)) mid-is ∙ is)
-        ∙ (ap (λ x. first (attempted w.world t i (record (first x).state { stack = going.rest }) f).after) mid-is
+        ∙ (ap (λ x. first (instruction_attempted w.world t i (record (first x).state { stack = going.rest }) f).after) mid-is
         ∙ ap first (attempted-is line i tie (record second { stack = going.rest }) second-loads
         ∙ sym (ap (attempts_on w second) top ∙ ap (attempts_line w (record second { stack = going.rest }) f) there)))
 
@@ -270,7 +270,7 @@ module _ (w : Setup) (run : CanRun w) (n : ℕ) (s : State) (going : IsGoing s) 
     there : lo ≡ Some line
     at : io ≡ Some i
     tie : Tie (Some line) (Some i)
-    awaits : awaited w under f line.action ≡ Some c
+    awaits : class_awaited w under f line.action ≡ Some c
 
   is-there : (c : ℕ) (lo : Option Line) (io : Option Instruction) → Tie lo io → awaited_by w under f lo ≡ Some c → IsThere c lo io
   is-there c None io tie is = absurd (none-some c is)
@@ -328,7 +328,7 @@ no-classes (c ∷ more) is = let same : suc (length more) ≡ 0 = eqb-true (suc 
 
 module _ (w : Setup) (run : CanRun w) (ms : List Initialization) (p : Parts) (goes : goes_on_in ms p ≡ true) (n live : ℕ)
     (is_live : live ≡ length p.frames.frames) (none : loads_none w (state_of ms p) ≡ true) (o : Option ℕ) (answer : o ≡ awaited_in w (state_of ms p))
-    (mid : State) (attempted : mid ≡ attempts_on w (state_of ms p) (state_of ms p).stack) where
+    (mid : State) (instruction_attempted : mid ≡ attempts_on w (state_of ms p) (state_of ms p).stack) where
   abbrev s : State
   s = state_of ms p
 
@@ -340,7 +340,7 @@ module _ (w : Setup) (run : CanRun w) (ms : List Initialization) (p : Parts) (go
 
   stands : pause_behind_attempt w live n mid ≡ pause_behind_attempt w (live_in s.stack) n (attempts_on w s s.stack)
   stands =
-      ap (λ k. pause_behind_attempt w k n mid) (is_live ∙ sym (live-of ms p)) ∙ ap (pause_behind_attempt w (live_in s.stack) n) attempted
+      ap (λ k. pause_behind_attempt w k n mid) (is_live ∙ sym (live-of ms p)) ∙ ap (pause_behind_attempt w (live_in s.stack) n) instruction_attempted
 
   -- no class is awaited
   pub tries-once : (q : Pause) → q ≡ pause_behind_attempt w live n mid → o ≡ None → q ≡ tried_in w true n s
@@ -368,7 +368,7 @@ module _ (w : Setup) (run : CanRun w) (ms : List Initialization) (p : Parts) (go
           ∙ (ap (λ k. pause_behind_attempt w k n (attempts_on w q.state q.state.stack)) (is_live ∙ sym (live-of ms p))
           ∙ (ap (λ (x : Pause). pause_behind_attempt w (live_in s.stack) n (attempts_on w x.state x.state.stack)) same
           ∙ sym (tried-again w run n s going empty c (sym answer ∙ some)
-          (sym (ap (λ (x : Pause). x.state) same) ∙ (settles-before ∙ ap (behind w) attempted))
+          (sym (ap (λ (x : Pause). x.state) same) ∙ (settles-before ∙ ap (behind w) instruction_attempted))
           (sym (ap (λ (x : Pause). is_ready (phase_of x.state.shared c)) same) ∙ again-ready n c q again)
           (sym (ap (tries_again n c) same) ∙ again)))))
 

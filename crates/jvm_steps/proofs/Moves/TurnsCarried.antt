@@ -13,8 +13,8 @@ use Rattle.jvm_model.specs.declared.state.Frame.{Frame}
 use Rattle.jvm_model.specs.declared.state.Shared.{Shared}
 use Rattle.jvm_model.specs.declared.state.State.{State}
 use Rattle.jvm_model.specs.Basis.Data.{Listing}
-use Rattle.jvm_model.specs.Turns.InHand.{popped}
-use Rattle.jvm_model.specs.Running.Moves.{caught, handler_for, moves}
+use Rattle.jvm_model.specs.Turns.InHand.{frame_popped}
+use Rattle.jvm_model.specs.Running.Moves.{throw_caught, handler_for, moves}
 use Rattle.jvm_model.specs.Basis.SharedState.{class_of}
 use Rattle.jvm_model.specs.Turns.Told.{Held, held_by, helds, mark_now}
 use Rattle.jvm_model.specs.Turns.Pauses.{changes_due}
@@ -66,7 +66,7 @@ module _ (ms : List Initialization) (w : Setup) (begun : Bool) (shared : Shared)
   AreSame es all thrown ending =
       changes_of (moves w.world t (at es thrown ending) ending thrown es) ≡ changes_of (moves w.world t (at all thrown ending) ending thrown all)
 
-  caught-changes : (x y : State) (r : ℕ) (f : Frame) (h : Option ℕ) → (caught w.world t x r f h).changes ≡ (caught w.world t y r f h).changes
+  caught-changes : (x y : State) (r : ℕ) (f : Frame) (h : Option ℕ) → (throw_caught w.world t x r f h).changes ≡ (throw_caught w.world t y r f h).changes
   caught-changes x y r f None = refl
   caught-changes x y r f (Some target) = refl
 
@@ -128,7 +128,7 @@ module _ (ms : List Initialization) (p : Parts) (new : FramesView) where
   popped-by (f ∷ fs) room here some none = sym (ap (drop 1) (top-frame ms f fs none))
 
   pub popped-there : (here : Here) → here_of p.frames.frames ≡ Some here → initialization_on (length p.frames.frames) ms ≡ None → new ≡ without_frame p.frames
-      → state_of ms (record p { frames = new }) ≡ popped (state_of ms p)
+      → state_of ms (record p { frames = new }) ≡ frame_popped (state_of ms p)
   popped-there here some none left =
       ap (λ (x : FramesView). state_of ms (record p { frames = x })) left
       ∙ ap (λ es. record (state_of ms p) { stack = es }) (popped-by p.frames.frames p.frames.room here some none)

@@ -9,7 +9,7 @@ use Rattle.std.proofs.lemmas.Slice.Eq.{bytes_eq-Decides}
 use Rattle.std.proofs.lemmas.Option.{none-some, same_Some}
 use Rattle.const_pool.specs.declared.class.ClassFile.{ClassFile}
 use Rattle.heap_objects.specs.declared.Value.TheVariants.{Ref}
-use Rattle.frame_stack.specs.FrameLists.{AreSound, FramesView, PlacedFrame, can_give, caller_of, given, with_given}
+use Rattle.frame_stack.specs.FrameLists.{AreSound, FramesView, PlacedFrame, can_give, caller_of, result_given, with_given}
 use Rattle.frame_stack.specs.Widths.{height_of}
 use Rattle.heap_objects.specs.Changes.{changed_if}
 use Rattle.jvm_model.specs.declared.event.Mark.TheVariants.{Off}
@@ -72,7 +72,7 @@ fits-given r [] can = absurd (false≢true can)
 fits-given r (f ∷ []) can = absurd (false≢true can)
 fits-given r (f ∷ g ∷ fs) can = one-fits (height_of g.operands) g.max_stack can
 
-alone-given : (r target : ℕ) (fs : List PlacedFrame) → fits_caught fs ≡ true → with_alone r (given (Some (Ref r)) target fs) ≡ caught_back r target fs
+alone-given : (r target : ℕ) (fs : List PlacedFrame) → fits_caught fs ≡ true → with_alone r (result_given (Some (Ref r)) target fs) ≡ caught_back r target fs
 alone-given r target [] fits = absurd (false≢true fits)
 alone-given r target (f ∷ []) fits = absurd (false≢true fits)
 alone-given r target (f ∷ g ∷ fs) fits =

@@ -17,16 +17,16 @@ use Rattle.jvm_model.specs.declared.state.State.{State}
 use Rattle.jvm_model.specs.Running.Applies.{begins, begins_beside, breaks, has_room, invokes, live_in, most_live, new_frame, still, throws_at, with_frame}
 use Rattle.jvm_model.specs.Basis.Data.{Began, Datum, Done, SymbolicReference, Operands, Listing, Turn}
 use Rattle.jvm_model.specs.Instructions.Does.{loads}
-use Rattle.jvm_model.specs.Running.Moves.{left, settled}
+use Rattle.jvm_model.specs.Running.Moves.{moves_left, turn_settled}
 use Rattle.jvm_model.specs.Instructions.SymbolicReference.{newly_loaded}
 use Rattle.jvm_model.specs.Turns.Pauses.{stop_by, stop_in, unless_off}
 use Rattle.jvm_model.specs.Basis.Programs.{max_locals_of}
 use Rattle.jvm_model.specs.Turns.Rest.{loads_at, loads_on, step_loads}
 use Rattle.jvm_model.specs.Rewriting.Images.{is_off}
 use Rattle.jvm_model.specs.Running.Run.{starts, step}
-use Rattle.jvm_model.specs.Basis.SharedState.{raised, stack_overflow}
+use Rattle.jvm_model.specs.Basis.SharedState.{exception_raised, stack_overflow}
 use Rattle.jvm_model.specs.Turns.Told.{Held, helds, mark_now}
-use Rattle.jvm_model.specs.Basis.Values.{spread}
+use Rattle.jvm_model.specs.Basis.Values.{arguments_spread}
 use Rattle.jvm_model.proofs.Running.QuietSettles.{stops}
 use Rattle.jvm_named.specs.declared.asked.Asked.TheVariants as asked
 use Rattle.jvm_named.specs.declared.symbolic_reference.SymbolicReference.{SymbolicReference as Kept}
@@ -41,8 +41,8 @@ use Rattle.prepared_code.specs.declared.initializations.Initialization.{Initiali
 use Rattle.prepared_code.specs.declared.parts.Here.{Here}
 use Rattle.prepared_code.specs.declared.parts.Parts.{Parts}
 use Rattle.jvm_steps.specs.Instructions.Arguments.{begun_frame, can_begin, with_begun}
-use Rattle.jvm_steps.specs.Instructions.Asked.{concluded, done_top}
-use Rattle.jvm_steps.specs.Instructions.Invoking.{called, may_begin}
+use Rattle.jvm_steps.specs.Instructions.Asked.{answer_concluded, done_top}
+use Rattle.jvm_steps.specs.Instructions.Invoking.{method_called, may_begin}
 use Rattle.prepared_code.specs.Initializations.{initialization_on, stack_of, state_of, with_initializations}
 use Rattle.jvm_steps.specs.Instructions.Passing.{AreKeptBy, Passes, on_frames, runs, steps_if}
 use Rattle.prepared_code.specs.Ready.{CanRun}
@@ -76,7 +76,7 @@ module _ (w : Setup) (m : ℕ) (args : List Datum) (below : Operands) (f : Place
   kinds-many : length takes.kinds ≡ count
   kinds-many = sym (same-length takes.kinds values args takes.are) ∙ many
 
-  spread-long : length (spread args) ≡ height_of (take count f.operands)
+  spread-long : length (arguments_spread args) ≡ height_of (take count f.operands)
   spread-long =
       ap length (spread-data takes.kinds values args takes.are)
       ∙ (length-slots values ∙ (height-reverse (take (length takes.kinds) f.operands) ∙ ap (λ k. height_of (take k f.operands)) kinds-many))
@@ -128,11 +128,11 @@ module _ (w : Setup) (run : CanRun w) (ms : List Initialization) (here : Here) (
     invokes-begins room few =
         ap (λ b. cond b (begins_beside w.world t u (frame_in f) c.method args below (suc (live_in (stack_of (map active fs) ms)))) (still (breaks u (frame_in f) line.instr.at))) room
         ∙ (ap (λ k. begins_beside w.world t u (frame_in f) c.method args below (suc k)) (live-stack (map active fs) ms ∙ live-is fs)
-        ∙ ap (λ b. cond b begun (still (throws_at u (frame_in f) (raised w.world u.shared stack_overflow None)))) few)
+        ∙ ap (λ b. cond b begun (still (throws_at u (frame_in f) (exception_raised w.world u.shared stack_overflow None)))) few)
 
-    settles-begun : settled w.world t begun ≡ begun
+    settles-begun : turn_settled w.world t begun ≡ begun
     settles-begun =
-        stops w.world t (left begun.after) begun
+        stops w.world t (moves_left begun.after) begun
         (with-frame-rests w (with_frame u (record (frame_in f) { operands = below })) (new_frame w.world t c.method args) calm.ending calm.thrown)
 
   call-changes : (fs : List PlacedFrame) → here_of fs ≡ Some here → initialization_on (length fs) ms ≡ None → newly_loaded w.world.program old.shared.loaded n (top_operands fs) ≡ []
@@ -148,7 +148,7 @@ module _ (w : Setup) (run : CanRun w) (ms : List Initialization) (here : Here) (
       ap (λ (x : Turn). x.changes)
       (step-turn w run ms here line kept old stands found named calm nothing f fs is free none (ap (λ (d : Done). starts d.outcome) call.invokes)
       ∙ (ap (λ (d : Done). follows w run ms here line kept old stands found named calm nothing d f fs) call.invokes
-      ∙ (ap (settled w.world t) (invokes-begins f fs call.args call.below room may) ∙ settles-begun f fs call.args call.below)))
+      ∙ (ap (turn_settled w.world t) (invokes-begins f fs call.args call.below room may) ∙ settles-begun f fs call.args call.below)))
 
   -- ---- what runs goes on
 
@@ -188,12 +188,12 @@ module _ (w : Setup) (run : CanRun w) (ms : List Initialization) (here : Here) (
     answers : Calls c.method c.count ≡ answer_in (done_on (attempts w.world n old.shared old.frames) old.frames).outcome old.frames.frames
     answers = sym (ap (λ (d : Done). answer_in d.outcome old.frames.frames) call.invokes ∙ ap (Calls c.method) call.count)
 
-    concludes : state_in new ≡ concluded w here (Calls c.method c.count) there
+    concludes : state_in new ≡ answer_concluded w here (Calls c.method c.count) there
     concludes =
         ap (λ fs. state_with fs old) are
-        ∙ (sym (ap (λ b. called w here c.method c.count old.frames.frames old b (can_begin w c.method c.count old.frames.frames)) may
-        ∙ ap (λ b. called w here c.method c.count old.frames.frames old true b) can)
-        ∙ sym (ap (concluded w here (Calls c.method c.count)) reached-is))
+        ∙ (sym (ap (λ b. method_called w here c.method c.count old.frames.frames old b (can_begin w c.method c.count old.frames.frames)) may
+        ∙ ap (λ b. method_called w here c.method c.count old.frames.frames old true b) can)
+        ∙ sym (ap (answer_concluded w here (Calls c.method c.count)) reached-is))
 
     pub more : length frames.frames ≡ suc (length old.frames.frames)
     more = ap length are ∙ ap suc (length-without old.frames.frames)

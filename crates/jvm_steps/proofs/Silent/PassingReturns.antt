@@ -17,7 +17,7 @@ use Rattle.jvm_model.specs.declared.state.State.{State}
 use Rattle.jvm_model.specs.Running.Applies.{breaks, gives_back, goes, resumes, with_frame}
 use Rattle.jvm_model.specs.Basis.Data.{Instruction, Left, Returns, Listing, Turn}
 use Rattle.jvm_model.specs.Instructions.LocalRules.{returns}
-use Rattle.jvm_model.specs.Running.Moves.{left, move}
+use Rattle.jvm_model.specs.Running.Moves.{moves_left, move}
 use Rattle.jvm_model.specs.Instructions.ObjectRules.{done}
 use Rattle.jvm_model.specs.Turns.Pauses.{stop_by, stop_in, unless_off}
 use Rattle.jvm_model.specs.Turns.Rest.{loads_at, loads_on, step_loads}
@@ -141,7 +141,7 @@ module _ (w : Setup) (run : CanRun w) (ms : List Initialization) (here : Here) (
       ∙ (ap (λ x. steps_at w.world t u (frame_in f) (option_map instruction_in x)) at
       ∙ (ap (λ a. step_by w i (operation_as line a) u (frame_in f)) ends
       ∙ (ap (λ q. goes_again w.world t i u (frame_in f) (starts q) (tries w.world t i u (frame_in f) (done u.shared q))) is.result
-      ∙ stops w.world t (left gone.after) gone (gives-rests f g fs is))))))
+      ∙ stops w.world t (moves_left gone.after) gone (gives-rests f g fs is))))))
 
   -- no class is loaded
   loads-none : (fs : List PlacedFrame) → here_of fs ≡ Some here → initialization_on (length fs) ms ≡ None → step_loads w.world t (with_initializations ms (state_with fs old)) ≡ []

@@ -10,7 +10,7 @@ use Rattle.jvm_model.specs.declared.state.Shared.{Shared}
 use Rattle.jvm_model.specs.declared.state.State.{State}
 use Rattle.jvm_model.specs.Running.Applies.{applies}
 use Rattle.jvm_model.specs.Basis.Data.{Back, Breaks, Done, Exits, GoesOn, Initializes, Instruction, Invokes, Locals, Named, SymbolicReference, Next as Following, Operands, Outcome, Raises, Returns, Subroutine, Target, Listing, Throws, Turn}
-use Rattle.jvm_model.specs.Running.Moves.{settled}
+use Rattle.jvm_model.specs.Running.Moves.{turn_settled}
 use Rattle.jvm_model.specs.Instructions.SymbolicReference.{newly_loaded}
 use Rattle.jvm_model.specs.Instructions.ReferenceRules.{does_named}
 use Rattle.jvm_model.specs.Running.Run.{goes_again, loaded_turn, starts, step, steps_at, steps_by, steps_on, tries, with_loaded}
@@ -23,7 +23,7 @@ use Rattle.jvm_named.specs.declared.passing.NativeCall.{NativeCall}
 use Rattle.jvm_named.specs.Answers.{Continues, Exceeds, answer_by, answer_in, answer_view, done_on, frames_by, frames_in, wrote_by}
 use Rattle.jvm_named.specs.Attempts.{attempts, loaded_for, loads_nothing, shared_loaded}
 use Rattle.jvm_named.specs.Names.{symbolic_view}
-use Rattle.jvm_named.specs.Does.{Changed, IsDone, changed}
+use Rattle.jvm_named.specs.Does.{Changed, IsDone, parts_changed}
 use Rattle.jvm_named.specs.Passing.{HasPassed, IfPassed, IfRan}
 use Rattle.prepared_code.specs.declared.line.Action.TheVariants as action
 use Rattle.prepared_code.specs.declared.line.Line.{Line}
@@ -31,7 +31,7 @@ use Rattle.prepared_code.specs.declared.initializations.Initialization.{Initiali
 use Rattle.prepared_code.specs.declared.parts.Here.{Here}
 use Rattle.prepared_code.specs.declared.parts.Parts.{Parts}
 use Rattle.jvm_steps.specs.Instructions.Acts.{attempts_on, awaited_in, is_at_rest, is_named, named_in}
-use Rattle.jvm_steps.specs.Instructions.Asked.{concluded, done_top, starts_in}
+use Rattle.jvm_steps.specs.Instructions.Asked.{answer_concluded, done_top, starts_in}
 use Rattle.prepared_code.specs.Lines.{IfNamed, IfNamedBy}
 use Rattle.prepared_code.specs.Initializations.{initialization_on, stack_of, state_of, with_initializations}
 use Rattle.jvm_steps.specs.Instructions.Passing.{Passes, changed_in, steps_if, with_changed}
@@ -113,7 +113,7 @@ module _ (w : Setup) (run : CanRun w) (ms : List Initialization) (here : Here) (
   reached = record old { frames = frames_by (attempts w.world n old.shared old.frames) line.next old.frames; shared = d.shared; output = old.output ++ d.wrote }
 
   module _ (a : Asked) (answers : answer_view a ≡ answer_by (attempts w.world n old.shared old.frames) old.frames) (quiet : starts_in (answer_view a) ≡ None) where
-    pub is-attempt : (new : Parts) → state_in new ≡ concluded w here (answer_view a) reached
+    pub is-attempt : (new : Parts) → state_in new ≡ answer_concluded w here (answer_view a) reached
         → state_of ms new ≡ attempts_on w (state_of ms old) (state_of ms old).stack
     is-attempt new concludes =
         goes-on w ms here old named-there stands calm.executing reached.frames reached.shared reached.output (loaded_for w.world.program n old.shared old.frames) a
@@ -135,7 +135,7 @@ module _ (w : Setup) (run : CanRun w) (ms : List Initialization) (here : Here) (
         (there-by (λ n next. loaded_for w.world.program (symbolic_view kept) old.shared old.frames ≡ loaded_for w.world.program n old.shared old.frames) refl)
         None (sym quiet))
 
-    pub is-step : (new : Parts) → state_in new ≡ concluded w here (answer_view a) reached → is_at_rest ms new ≡ true
+    pub is-step : (new : Parts) → state_in new ≡ answer_concluded w here (answer_view a) reached → is_at_rest ms new ≡ true
         → state_of ms new ≡ (step w.world t (state_of ms old)).after
     is-step new concludes resting =
         step-attempts w run (state_of ms old) going is-awaited (state_of ms new) (state_of ms new) (is-attempt new concludes) (rests w t ms new resting)
@@ -150,7 +150,7 @@ module _ (w : Setup) (run : CanRun w) (ms : List Initialization) (here : Here) (
 
   -- its changes are those of what follows from what its rule says
   abbrev pub follows : Done → PlacedFrame → List PlacedFrame → Turn
-  follows d f fs = settled w.world t (applies w.world t i d.outcome (record (under fs) { shared = d.shared; output = old.output ++ d.wrote }) (frame_in f))
+  follows d f fs = turn_settled w.world t (applies w.world t i d.outcome (record (under fs) { shared = d.shared; output = old.output ++ d.wrote }) (frame_in f))
 
   named-turn : (f : PlacedFrame) (fs : List PlacedFrame) → newly_loaded w.world.program old.shared.loaded n f.operands ≡ []
       → starts (does_named w.world n old.shared f.locals f.operands).outcome ≡ None
@@ -226,7 +226,7 @@ module _ (w : Setup) (run : CanRun w) (ms : List Initialization) (here : Here) (
   pub field-passes : (frames : FramesView) (shared : Shared) → HasPassed d line.next old.frames frames shared → shared.loaded ≡ old.shared.loaded
       → Passes w ms old 1 (record old { frames = frames; shared = shared })
   field-passes frames shared passed loaded =
-      done-passes (changed frames shared old.output)
+      done-passes (parts_changed frames shared old.output)
       (record {
         answer = sym passed.answer;
         frames = passed.frames;

@@ -19,7 +19,7 @@ use Rattle.jvm_model.specs.declared.state.State.{State}
 use Rattle.jvm_model.specs.Running.Applies.{breaks, goes, still, throws_at, with_frame}
 use Rattle.jvm_model.specs.Basis.Data.{Instruction, Listing, Throws, Turn, Unwound}
 use Rattle.jvm_model.specs.Instructions.Does.{loads}
-use Rattle.jvm_model.specs.Running.Moves.{caught, handler_for, move, moves, own_at, settled, then_turn}
+use Rattle.jvm_model.specs.Running.Moves.{throw_caught, handler_for, move, moves, own_at, turn_settled, then_turn}
 use Rattle.jvm_model.specs.Instructions.ObjectRules.{done, throws}
 use Rattle.jvm_model.specs.Turns.Pauses.{stop_by, stop_in, unless_off}
 use Rattle.jvm_model.specs.Turns.Rest.{loads_at, loads_on, step_loads}
@@ -75,7 +75,7 @@ module _ (w : Setup) (s : State) (r target : ℕ) (f g : Frame) (rest : List Ent
       ap (λ e. moves w.world run_text s e s.thrown s.stack) ending
       ∙ (ap (λ o. moves w.world run_text s None o s.stack) thrown
       ∙ (ap (moves w.world run_text s None (Some r)) stack
-      ∙ ap (λ o. Some (caught w.world run_text left r f o)) own))
+      ∙ ap (λ o. Some (throw_caught w.world run_text left r f o)) own))
 
   second : move w.world run_text left ≡ Some (still back)
   second =
@@ -83,13 +83,13 @@ module _ (w : Setup) (s : State) (r target : ℕ) (f g : Frame) (rest : List Ent
       let free : State = record under { thrown = None } in
       ap (λ e. moves w.world run_text left e s.thrown (Active g ∷ rest)) ending
       ∙ (ap (λ o. moves w.world run_text left None o (Active g ∷ rest)) thrown
-      ∙ (ap (λ o. Some (caught w.world run_text under r g o)) below
+      ∙ (ap (λ o. Some (throw_caught w.world run_text under r g o)) below
       ∙ ap (λ b. Some (still (cond b (with_frame free (record g { place = target; operands = Ref r ∷ [] })) (breaks free g (own_at run_text g))))) fits))
 
   third : move w.world run_text back ≡ None
   third = ap (λ e. moves w.world run_text back e None back.stack) ending
 
-  pub settles-back : settled w.world run_text (still s) ≡ record { after = back; changes = Unwound ∷ [] }
+  pub settles-back : turn_settled w.world run_text (still s) ≡ record { after = back; changes = Unwound ∷ [] }
   settles-back =
       sym (moved-same w.world run_text (still s) unwinds first)
       ∙ (sym (moved-same w.world run_text (then_turn (still s) unwinds) (still back) second)
@@ -145,7 +145,7 @@ module _ (w : Setup) (run : CanRun w) (ms : List Initialization) (here : Here) (
     own-there = ap (λ (h : Here). handler_for w.world class h.place (t.handlers h.version)) (same_Some _ here here_is) ∙ is.own
 
     settles-by : (s : State) → s.ending ≡ None → s.thrown ≡ Some r → s.shared ≡ old.shared → s.stack ≡ active f ∷ active g ∷ rest
-        → settled w.world t (still s) ≡ record { after = record s { thrown = None; stack = active g2 ∷ rest }; changes = Unwound ∷ [] }
+        → turn_settled w.world t (still s) ≡ record { after = record s { thrown = None; stack = active g2 ∷ rest }; changes = Unwound ∷ [] }
     settles-by s ending thrown shared stack =
         settles-back w s r target (frame_in f) (frame_in g) rest ending thrown stack
         (ap (λ x. handler_for w.world (class_of w.world.program x r) f.place (t.handlers f.version)) shared ∙ own-there)

@@ -9,14 +9,14 @@ use Rattle.jvm_model.specs.declared.ending.Ending.{Ending}
 use Rattle.jvm_model.specs.declared.state.State.{State}
 use Rattle.jvm_model.specs.Running.Run.{step}
 use Rattle.jvm_basic.specs.declared.effect.Effect.TheVariants.{Next}
-use Rattle.jvm_basic.specs.Outcomes.{Outcome, GoesOn, Raises, Breaks, Leaves, frames_in, with_top, asked, effect_of, after}
+use Rattle.jvm_basic.specs.Outcomes.{Outcome, GoesOn, Raises, Breaks, Leaves, frames_in, with_top, outcome_asked, effect_of, after}
 use Rattle.jvm_basic.specs.Rules.{rule_of}
 use Rattle.prepared_code.specs.declared.line.Action.TheVariants as action
 use Rattle.prepared_code.specs.declared.line.Line.{Line}
 use Rattle.prepared_code.specs.declared.initializations.Initialization.{Initialization}
 use Rattle.prepared_code.specs.declared.parts.Here.{Here}
 use Rattle.prepared_code.specs.declared.parts.Parts.{Parts}
-use Rattle.jvm_steps.specs.Instructions.Acts.{acts_by, attempts_line, attempts_on, awaited, awaited_by, awaited_on}
+use Rattle.jvm_steps.specs.Instructions.Acts.{acts_by, attempts_line, attempts_on, class_awaited, awaited_by, awaited_on}
 use Rattle.prepared_code.specs.Initializations.{initialization_on, state_of, with_initializations}
 use Rattle.prepared_code.specs.Runs.{IsAtInstruction, IsLineIn, IsPlainLine, LeadsPlainly, RunsVersion, top_version}
 use Rattle.prepared_code.specs.Tables.{Version, version_at}
@@ -82,7 +82,7 @@ plain-at w run line ms p (f ∷ fs) room new calm stands e made =
     let old : FramesView = record { frames = f ∷ fs; room = room } in
     let q : Parts = record p { frames = old } in
     let r : Parts = record p { frames = new } in
-    let x : Outcome = asked (rule_of line.instr line.constant line.next) (f ∷ fs) in
+    let x : Outcome = outcome_asked (rule_of line.instr line.constant line.next) (f ∷ fs) in
     let has : has_frame new.frames ≡ true = ap (λ (s : FramesView). has_frame s.frames) made ∙ still-framed x f fs in
     let many : length new.frames ≡ length (f ∷ fs) = ap (λ (s : FramesView). length s.frames) made ∙ still-many x (f ∷ fs) in
     let free : initialization_on (suc (length (map active fs))) ms ≡ None = ap (λ n. initialization_on (suc n) ms) (length-active fs) ∙ calm.executing in
@@ -94,7 +94,7 @@ plain-at w run line ms p (f ∷ fs) room new calm stands e made =
     ∙ sym (ap (attempts_line w (with_initializations ms s) (frame_in f)) stands.0 ∙ ap (acts_by w line (with_initializations ms s) (frame_in f)) stands.1)) in
     step-attempts w run (state_of ms q) going
     (ap (awaited_on w (state_of ms q)) (top-frame ms f fs calm.executing)
-    ∙ (ap (awaited_by w (with_initializations ms s) (frame_in f)) stands.0 ∙ ap (awaited w (with_initializations ms s) (frame_in f)) stands.1))
+    ∙ (ap (awaited_by w (with_initializations ms s) (frame_in f)) stands.0 ∙ ap (class_awaited w (with_initializations ms s) (frame_in f)) stands.1))
     (with_initializations ms (state_with new.frames p)) (with_initializations ms (state_with new.frames p))
     (attempted ∙ sym (ap (attempts_on w (state_of ms q)) (top-frame ms f fs calm.executing)))
     (rests w (listing_of w.versions) ms r
@@ -130,7 +130,7 @@ same-version Leaves fs = refl
 
 pub stays-in : (line : Line) (old new : FramesView) → new ≡ after (rule_of line.instr line.constant line.next) old → top_version new.frames ≡ top_version old.frames
 stays-in line old new made =
-    ap (λ (s : FramesView). top_version s.frames) made ∙ same-version (asked (rule_of line.instr line.constant line.next) old.frames) old.frames
+    ap (λ (s : FramesView). top_version s.frames) made ∙ same-version (outcome_asked (rule_of line.instr line.constant line.next) old.frames) old.frames
 
 pub goes-on : (n : ℕ) (ms : List Initialization) (p : Parts) → IsAtInstruction n ms p → is_some p.ending ≡ false
 goes-on n ms p calm = ap is_some calm.ending
@@ -139,7 +139,7 @@ pub plain-one : (w : Setup) (run : CanRun w) (line : Line) (old new : FramesView
     → effect_of (rule_of line.instr line.constant line.next) old ≡ Next → new ≡ after (rule_of line.instr line.constant line.next) old
     → LeadsPlainly w old.frames 1 new.frames
 plain-one w run line old new stands e made = record {
-  many = ap (λ (s : FramesView). length s.frames) made ∙ still-many (asked (rule_of line.instr line.constant line.next) old.frames) old.frames;
+  many = ap (λ (s : FramesView). length s.frames) made ∙ still-many (outcome_asked (rule_of line.instr line.constant line.next) old.frames) old.frames;
   leads = λ ms p calm.
       leads-one w (with_initializations ms (state_with old.frames p)) (with_initializations ms (state_with new.frames p)) (goes-on (length old.frames) ms p calm)
       (plain-at w run line ms p old.frames old.room new calm stands e made);

@@ -16,13 +16,13 @@ use Rattle.jvm_model.specs.Instructions.Does.{does, loads}
 use Rattle.jvm_model.specs.Codes.Lines.{targets_of}
 use Rattle.jvm_model.specs.Basis.Values.{ref_of}
 use Rattle.jvm_model.specs.Instructions.LocalRules.{within}
-use Rattle.jvm_model.specs.Running.Moves.{left, move, moves, settled}
+use Rattle.jvm_model.specs.Running.Moves.{moves_left, move, moves, turn_settled}
 use Rattle.jvm_model.specs.Instructions.ObjectRules.{done, loads_element, measures, place_of as element_of, stores_element, storing_of}
 use Rattle.jvm_model.specs.Running.Run.{goes_again, loaded_turn, starts, step, steps_at, steps_by, steps_on, tries, with_loaded}
 use Rattle.jvm_model.proofs.Running.QuietSettles.{stops}
 use Rattle.jvm_basic.specs.declared.effect.Effect.TheVariants.{Next}
 use Rattle.jvm_basic.specs.Outcomes.{effect_in}
-use Rattle.jvm_basic.specs.Rules.{placed, rule_of}
+use Rattle.jvm_basic.specs.Rules.{outcome_placed, rule_of}
 use Rattle.prepared_code.specs.declared.line.Action.TheVariants as action
 use Rattle.prepared_code.specs.declared.line.Line.{Line}
 use Rattle.prepared_code.specs.declared.initializations.Initialization.{Initialization}
@@ -54,16 +54,16 @@ module _ (w : Setup) where
   enters-rests s f i None calm nothing = refl
   enters-rests s f i (Some next) calm nothing = goes-rests s f i.own f.locals (Addr next ∷ f.operands) (slice_get i.targets 0) calm nothing
 
-  settled-quiet : (s : State) → move w.world t s ≡ None → (settled w.world t (still s)).changes ≡ []
-  settled-quiet s none = ap (λ (a : Turn). a.changes) (stops w.world t (left s) (still s) none)
+  settled-quiet : (s : State) → move w.world t s ≡ None → (turn_settled w.world t (still s)).changes ≡ []
+  settled-quiet s none = ap (λ (a : Turn). a.changes) (stops w.world t (moves_left s) (still s) none)
 
   -- ---- the frame goes on
 
   pub record IsQuiet (i : Instruction) (q : Outcome) (s : State) (f : Frame) : Type 0 where
     pub alone : starts q ≡ None
-    pub quiet : (settled w.world t (applies w.world t i q s f)).changes ≡ []
+    pub quiet : (turn_settled w.world t (applies w.world t i q s f)).changes ≡ []
 
-  goes-quiet : (i : Instruction) (q : Outcome) (s : State) (f : Frame) (next : ℕ) (targets : List ℕ) (m : Locals) (o : Operands) (fs : List PlacedFrame) → effect_in (placed next targets m o q) fs ≡ Next
+  goes-quiet : (i : Instruction) (q : Outcome) (s : State) (f : Frame) (next : ℕ) (targets : List ℕ) (m : Locals) (o : Operands) (fs : List PlacedFrame) → effect_in (outcome_placed next targets m o q) fs ≡ Next
       → s.ending ≡ None → s.thrown ≡ None → IsQuiet i q s f
   goes-quiet i (GoesOn l o' to) s f next targets m o fs on calm nothing =
       record { alone = refl; quiet = settled-quiet (goes s f i.own l o' (place_of i to)) (goes-rests s f i.own l o' (place_of i to) calm nothing) }

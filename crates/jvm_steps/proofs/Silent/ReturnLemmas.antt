@@ -9,7 +9,7 @@ use Rattle.heap_objects.specs.declared.Value.{Value}
 use Rattle.heap_objects.specs.Changes.{changed_if}
 use Rattle.const_pool.specs.declared.descriptor.Kind.{Kind}
 use Rattle.frame_stack.specs.FrameLists.{AreSound, FramesView, PlacedFrame, top_operands}
-use Rattle.frame_stack.specs.FrameLists.{caller_of, can_give, given, with_given, with_result}
+use Rattle.frame_stack.specs.FrameLists.{caller_of, can_give, result_given, with_given, with_result}
 use Rattle.frame_stack.specs.Widths.{height_of, width}
 use Rattle.method_versions.specs.Tables.{is_superseded_in}
 use Rattle.jvm_model.specs.declared.due.Due.TheVariants.{Nothing}
@@ -75,7 +75,7 @@ same-result : (v : Option Value) (o : Operands) → with_result v o ≡ with_val
 same-result None o = refl
 same-result (Some x) o = refl
 
-same-back : (v : Option Value) (next : ℕ) (fs : List PlacedFrame) → fits_given v fs ≡ true → given v next fs ≡ gone_back v next fs
+same-back : (v : Option Value) (next : ℕ) (fs : List PlacedFrame) → fits_given v fs ≡ true → result_given v next fs ≡ gone_back v next fs
 same-back v next [] fits = absurd (false≢true fits)
 same-back v next (f ∷ []) fits = absurd (false≢true fits)
 same-back v next (f ∷ g ∷ fs) fits = ap (λ o. record g { place = next; operands = o } ∷ fs) (same-result v g.operands)

@@ -20,7 +20,7 @@ use Rattle.jvm_model.specs.Instructions.SymbolicReference.{newly_loaded}
 use Rattle.jvm_model.specs.Instructions.ReferenceRules.{does_named}
 use Rattle.jvm_model.specs.Instructions.ObjectRules.{loads_element, makes, measures, place_of, stores_element, storing_of, throws, watches}
 use Rattle.jvm_model.specs.Running.Run.{starts}
-use Rattle.jvm_model.specs.Basis.SharedState.{raised}
+use Rattle.jvm_model.specs.Basis.SharedState.{exception_raised}
 use Rattle.jvm_model.specs.Basis.Values.{as_value, int_of, ref_of, with_value}
 use Rattle.jvm_basic.specs.declared.effect.Effect.{Effect}
 use Rattle.jvm_basic.specs.declared.effect.Effect.TheVariants.{Next, Throws, Bad, Other}
@@ -49,7 +49,7 @@ placed_line line = record { operation = Within Nop; own = line.instr.at; next = 
 
 abbrev pub comes_to : Setup → Line → State → Frame → Comes → State
 comes_to w line s f (GoesOn l o place) = goes s f line.instr.at l o (Some place)
-comes_to w line s f (Raises class) = throws_at s f (raised w.world s.shared arithmetic_exception (Some by_zero))
+comes_to w line s f (Raises class) = throws_at s f (exception_raised w.world s.shared arithmetic_exception (Some by_zero))
 comes_to w line s f Breaks = breaks s f line.instr.at
 comes_to w line s f Leaves = breaks s f line.instr.at
 
@@ -180,19 +180,19 @@ IsTop method [] = ⊥
 IsTop method (f ∷ fs) = method ≡ f.method
 
 -- the run ends at this offset of this method
-abbrev pub ended : ℕ → ℕ → Parts → Parts
-ended method own p = record p { ending = Some (Unverifiable method own) }
+abbrev pub run_ended : ℕ → ℕ → Parts → Parts
+run_ended method own p = record p { ending = Some (Unverifiable method own) }
 
 -- it ends, unless the frame has gone on
 abbrev pub ended_unless : ℕ → ℕ → Effect → Parts → Parts
 ended_unless method own Next p = p
-ended_unless method own (Throws class) p = ended method own p
-ended_unless method own Bad p = ended method own p
-ended_unless method own Other p = ended method own p
+ended_unless method own (Throws class) p = run_ended method own p
+ended_unless method own Bad p = run_ended method own p
+ended_unless method own Other p = run_ended method own p
 
 -- an exception of the class with this name is thrown, with this message
 abbrev pub raised_in : Setup → List ℕ → Option (List ℕ) → Parts → Parts
-raised_in w name message p = let a = raised w.world p.shared name message in record p { shared = a.shared; thrown = Some a.reference }
+raised_in w name message p = let a = exception_raised w.world p.shared name message in record p { shared = a.shared; thrown = Some a.reference }
 
 -- one that the machine makes
 abbrev pub raising : Setup → Exception → Option (List ℕ) → Parts → Parts
@@ -216,13 +216,13 @@ abbrev pub named_in : Option Line → Bool
 named_in line = option_map_or (λ (l : Line). is_named l.action) line false
 
 -- by a line with this action (5.5)
-abbrev pub awaited : Setup → State → Frame → Action → Option ℕ
-awaited w s f (action.Named n) = starts (named_done w (symbolic_view n) s f).outcome
-awaited w s f _ = None
+abbrev pub class_awaited : Setup → State → Frame → Action → Option ℕ
+class_awaited w s f (action.Named n) = starts (named_done w (symbolic_view n) s f).outcome
+class_awaited w s f _ = None
 
 abbrev pub awaited_by : Setup → State → Frame → Option Line → Option ℕ
 awaited_by w s f None = None
-awaited_by w s f (Some line) = awaited w s f line.action
+awaited_by w s f (Some line) = class_awaited w s f line.action
 
 -- by the line of the current frame
 abbrev pub awaited_on : Setup → State → List Entry → Option ℕ

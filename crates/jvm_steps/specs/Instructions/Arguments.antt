@@ -19,19 +19,19 @@ abbrev pub can_begin : Setup → ℕ → ℕ → List PlacedFrame → Bool
 can_begin w method args fs = can_enter (max_locals_of w.world method) args fs
 
 -- a frame of the method's current version, at its first place
-abbrev pub begun : Versions → ℕ → ℕ → ℕ → List Value → PlacedFrame
-begun v method max_locals max_stack taken =
+abbrev pub frame_begun : Versions → ℕ → ℕ → ℕ → List Value → PlacedFrame
+frame_begun v method max_locals max_stack taken =
     record (new_frame (current_of v method) method max_locals max_stack taken) { place = first_of v (current_of v method) }
 
 abbrev pub with_version_frame : Versions → ℕ → ℕ → ℕ → ℕ → FramesView → FramesView
 with_version_frame v method max_locals max_stack args s = record {
-  frames = begun v method max_locals max_stack (arguments args s.frames) ∷ without_arguments args s.frames;
+  frames = frame_begun v method max_locals max_stack (arguments args s.frames) ∷ without_arguments args s.frames;
   room = None;
 }
 
 -- one which has taken its arguments from the caller
 abbrev pub begun_frame : Setup → ℕ → ℕ → List PlacedFrame → PlacedFrame
-begun_frame w method args fs = begun w.versions method (max_locals_of w.world method) (max_stack_of w.world method) (arguments args fs)
+begun_frame w method args fs = frame_begun w.versions method (max_locals_of w.world method) (max_stack_of w.world method) (arguments args fs)
 
 abbrev pub with_begun : Bool → Setup → ℕ → ℕ → List PlacedFrame → List PlacedFrame
 with_begun b w method args fs = if b then begun_frame w method args fs ∷ without_arguments args fs else fs

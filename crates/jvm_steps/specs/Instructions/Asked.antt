@@ -12,9 +12,9 @@ use Rattle.jvm_model.specs.Running.Run.{starts}
 use Rattle.jvm_named.specs.Answers.{Answer, Continues, Exceeds, Calls, Stops, frames_in}
 use Rattle.prepared_code.specs.declared.parts.Here.{Here}
 use Rattle.prepared_code.specs.declared.parts.Parts.{Parts}
-use Rattle.jvm_steps.specs.Instructions.Acts.{ended, raised_in}
+use Rattle.jvm_steps.specs.Instructions.Acts.{run_ended, raised_in}
 use Rattle.jvm_steps.specs.Instructions.Arguments.{can_begin}
-use Rattle.jvm_steps.specs.Instructions.Invoking.{called, may_begin}
+use Rattle.jvm_steps.specs.Instructions.Invoking.{method_called, may_begin}
 use Rattle.jvm_steps.specs.Moves.Settling.{own_of}
 use Rattle.prepared_code.specs.States.{state_in}
 use Rattle.prepared_code.specs.Versions.{Setup}
@@ -30,14 +30,14 @@ refused_in w here (Raises name message) p = state_in (raised_in w name message p
 refused_in w here (Throws r) p = state_in (record p { thrown = Some r })
 refused_in w here (Initializes c) p = state_in p
 refused_in w here (Exits status) p = state_in (record p { ending = Some (Exited status) })
-refused_in w here _ p = state_in (ended here.method (own_of w here) p)
+refused_in w here _ p = state_in (run_ended here.method (own_of w here) p)
 
-abbrev pub concluded : Setup → Here → Answer → Parts → State
-concluded w here Continues p = state_in p
-concluded w here Exceeds p = state_in (ended here.method (own_of w here) p)
-concluded w here (Calls callee count) p =
-    let fs = p.frames.frames in called w here callee count fs p (may_begin fs) (can_begin w callee count fs)
-concluded w here (Stops q) p = refused_in w here q p
+abbrev pub answer_concluded : Setup → Here → Answer → Parts → State
+answer_concluded w here Continues p = state_in p
+answer_concluded w here Exceeds p = state_in (run_ended here.method (own_of w here) p)
+answer_concluded w here (Calls callee count) p =
+    let fs = p.frames.frames in method_called w here callee count fs p (may_begin fs) (can_begin w callee count fs)
+answer_concluded w here (Stops q) p = refused_in w here q p
 
 -- ---- what the rule says of the current frame, over what it loads
 
@@ -47,8 +47,8 @@ done_top w n s fs =
     does_named w.world n ready (top_locals fs) (top_operands fs)
 
 -- the parts once it has answered, where a frame that goes on does so at this place
-abbrev pub answered : Done → ℕ → Parts → Parts
-answered d next p = record p {
+abbrev pub parts_answered : Done → ℕ → Parts → Parts
+parts_answered d next p = record p {
   frames = record p.frames { frames = frames_in d.outcome next p.frames.frames };
   shared = d.shared;
   output = p.output ++ d.wrote;

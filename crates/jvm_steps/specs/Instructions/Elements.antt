@@ -9,7 +9,7 @@ use Rattle.heap_objects.specs.Heaps.{HeapView, slot_at, with_slot_at}
 use Rattle.jvm_model.specs.declared.state.Frame.{Frame}
 use Rattle.jvm_model.specs.declared.state.State.{State}
 use Rattle.jvm_model.specs.Running.Applies.{goes}
-use Rattle.jvm_model.specs.Instructions.ObjectRules.{Access, ToNull, ToAnother, Outside, Inside, Storing, access_to, array_length, place_of, refused, storing_of}
+use Rattle.jvm_model.specs.Instructions.ObjectRules.{Access, ToNull, ToAnother, Outside, Inside, Storing, access_to, array_length, place_of, access_refused, storing_of}
 use Rattle.jvm_model.specs.Basis.Values.{as_value, ref_of}
 use Rattle.jvm_basic.specs.declared.effect.Effect.TheVariants.{Next}
 use Rattle.jvm_basic.specs.Outcomes.{GoesOn, Rule, after, effect_of}
@@ -44,7 +44,7 @@ element_at _ r h = None
 
 -- it leads to no element
 abbrev pub acts_refused : Setup → Line → Led → ℤ → State → Frame → State
-acts_refused w line l i s f = acts_asked w line s f (refused (access_of l) i)
+acts_refused w line l i s f = acts_asked w line s f (access_refused (access_of l) i)
 
 -- the element is loaded
 abbrev pub acts_loaded : Line → Datum → State → Frame → State

@@ -4,7 +4,7 @@ use Rattle.jvm_model.specs.declared.state.Part.{Part}
 use Rattle.jvm_model.specs.declared.state.Part.TheVariants.{Constants}
 use Rattle.jvm_model.specs.declared.state.Phase.TheVariants.{Erroneous, Running}
 use Rattle.jvm_model.specs.declared.state.State.{State}
-use Rattle.jvm_model.specs.Running.Moves.{at_part, fails, initializes, wrapped}
+use Rattle.jvm_model.specs.Running.Moves.{at_part, fails, initializes, throw_wrapped}
 use Rattle.jvm_model.specs.Basis.SharedState.{with_phase}
 use Rattle.prepared_code.specs.declared.parts.Parts.{Parts}
 use Rattle.jvm_steps.specs.Moves.Turning.{begun_in}
@@ -16,7 +16,7 @@ begins_class c s = record (at_part s c Constants) { shared = with_phase s.shared
 
 -- it fails with an object
 abbrev pub failing : Setup → ℕ → ℕ → Parts → Parts
-failing w c r p = let a = wrapped w.world p.shared r in record p { shared = with_phase a.shared c Erroneous; thrown = Some a.reference }
+failing w c r p = let a = throw_wrapped w.world p.shared r in record p { shared = with_phase a.shared c Erroneous; thrown = Some a.reference }
 
 -- a throw meets it, or it goes on; from the state without its initialization
 abbrev pub after_initialization : Setup → State → Option ℕ → ℕ → Part → State

@@ -6,7 +6,7 @@ use Rattle.jvm_model.specs.Running.Applies.{most_live}
 use Rattle.prepared_code.specs.declared.originals.Exception.TheVariants.{StackOverflow}
 use Rattle.prepared_code.specs.declared.parts.Here.{Here}
 use Rattle.prepared_code.specs.declared.parts.Parts.{Parts}
-use Rattle.jvm_steps.specs.Instructions.Acts.{ended, raising}
+use Rattle.jvm_steps.specs.Instructions.Acts.{run_ended, raising}
 use Rattle.jvm_steps.specs.Instructions.Arguments.{with_begun}
 use Rattle.jvm_steps.specs.Moves.Settling.{own_of}
 use Rattle.prepared_code.specs.States.{state_with}
@@ -18,8 +18,8 @@ may_begin fs = nat_lt (length fs) most_live
 
 -- A method is invoked on these frames with so many operands, by whether there may be one activation more, and whether they fit: it begins,
 -- or is one too many, or the run ends.
-abbrev pub called : Setup → Here → ℕ → ℕ → List PlacedFrame → Parts → Bool → Bool → State
-called w here callee count fs p few fits =
+abbrev pub method_called : Setup → Here → ℕ → ℕ → List PlacedFrame → Parts → Bool → Bool → State
+method_called w here callee count fs p few fits =
     if fits
     then if few then state_with (with_begun fits w callee count fs) p else state_with fs (raising w StackOverflow None p)
-    else state_with fs (ended here.method (own_of w here) p)
+    else state_with fs (run_ended here.method (own_of w here) p)

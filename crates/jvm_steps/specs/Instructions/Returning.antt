@@ -14,7 +14,7 @@ use Rattle.jvm_model.specs.declared.state.Frame.{Frame}
 use Rattle.jvm_model.specs.declared.state.State.{State}
 use Rattle.prepared_code.specs.declared.passage.Passage.{Passage}
 use Rattle.prepared_code.specs.declared.parts.Parts.{Parts}
-use Rattle.jvm_steps.specs.Instructions.Acts.{ended, gives_back_line}
+use Rattle.jvm_steps.specs.Instructions.Acts.{run_ended, gives_back_line}
 use Rattle.jvm_steps.specs.Instructions.Going.{top_datum}
 use Rattle.prepared_code.specs.States.{state_in}
 
@@ -34,7 +34,7 @@ left_by p = state_in (record p { frames = without_frame p.frames })
 
 -- with this operand, if it has one
 abbrev pub returns_found : Versions → ℕ → ℕ → Option Datum → Parts → State
-returns_found v method own None parts = left_by (ended method own parts)
+returns_found v method own None parts = left_by (run_ended method own parts)
 returns_found v method own (Some d) parts = let s = left_by parts in gives_back_line v s (Some d) s.stack
 
 abbrev pub returns_given : Versions → ℕ → ℕ → Kind → Parts → State

@@ -8,7 +8,7 @@ use Rattle.jvm_model.specs.declared.state.Entry.{Entry}
 use Rattle.jvm_model.specs.declared.state.Entry.TheVariants.{Active}
 use Rattle.jvm_model.specs.Basis.Data.{Instruction, Turn}
 use Rattle.jvm_model.specs.Running.Applies.{goes, new_frame}
-use Rattle.jvm_model.specs.Running.Moves.{argument_array, caught, handler_for, move, own_at}
+use Rattle.jvm_model.specs.Running.Moves.{argument_array, throw_caught, handler_for, move, own_at}
 use Rattle.jvm_model.specs.Basis.SharedState.{class_of}
 use Rattle.prepared_code.specs.declared.parts.Parts.{Parts}
 use Rattle.prepared_code.specs.declared.parts.Here.{Here}
@@ -17,9 +17,9 @@ use Rattle.prepared_code.specs.Versions.{Setup, listing_of}
 
 -- ---- the operands of the current frame
 
-abbrev pub emptied : List PlacedFrame → List PlacedFrame
-emptied [] = []
-emptied (f ∷ fs) = record f { operands = [] } ∷ fs
+abbrev pub frame_emptied : List PlacedFrame → List PlacedFrame
+frame_emptied [] = []
+frame_emptied (f ∷ fs) = record f { operands = [] } ∷ fs
 
 -- there is room for an object alone
 abbrev pub fits_alone : List PlacedFrame → Bool
@@ -48,7 +48,7 @@ abbrev pub caught_top : Setup → ℕ → List PlacedFrame → Parts → State
 caught_top w r [] p = state_in p
 caught_top w r (f ∷ fs) p =
     let t = listing_of w.versions in
-    (caught w.world t (state_with fs p) r (frame_in f) (handler_for w.world (class_of w.world.program p.shared r) f.place (t.handlers f.version))).after
+    (throw_caught w.world t (state_with fs p) r (frame_in f) (handler_for w.world (class_of w.world.program p.shared r) f.place (t.handlers f.version))).after
 
 -- ---- `main` begins
 

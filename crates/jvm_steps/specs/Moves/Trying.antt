@@ -9,7 +9,7 @@ use Rattle.jvm_model.specs.Rewriting.Images.{is_off}
 use Rattle.jvm_model.specs.Running.Run.{goes_on, is_ready}
 use Rattle.jvm_model.specs.Basis.SharedState.{phase_of}
 use Rattle.jvm_model.specs.Turns.Told.{mark_now}
-use Rattle.jvm_model.specs.Running.Between.{changes_between, compared, followed}
+use Rattle.jvm_model.specs.Running.Between.{changes_between, depths_compared, attempt_followed}
 use Rattle.jvm_model.specs.Turns.Pauses.{Pause, changes_due}
 use Rattle.jvm_model.specs.Turns.StepPauses.{is_nothing, step_pause}
 use Rattle.prepared_code.specs.declared.line.Action.{Action}
@@ -44,7 +44,7 @@ top_frame_method [] = 0
 top_frame_method (f ∷ fs) = f.method
 
 abbrev pub changes_since : ℕ → List PlacedFrame → List Change
-changes_since n fs = compared (nat_lt (length fs) n) (nat_lt n (length fs)) (top_frame_method fs)
+changes_since n fs = depths_compared (nat_lt (length fs) n) (nat_lt n (length fs)) (top_frame_method fs)
 
 abbrev pub is_begins : Due → Bool
 is_begins Begins = true
@@ -58,7 +58,7 @@ enters_by w changes = is_begins (changes_due (mark_now (mark_of w.versions) (lis
 -- where the step stops, where so many activations were live before
 abbrev pub pause_behind_attempt : Setup → ℕ → ℕ → State → Pause
 pause_behind_attempt w live n s =
-    followed w.world (listing_of w.versions) (mark_of w.versions) n (changes_between live s.stack) s
+    attempt_followed w.world (listing_of w.versions) (mark_of w.versions) n (changes_between live s.stack) s
 
 -- its class is ready, and nothing else has happened
 abbrev pub tries_again : ℕ → ℕ → Pause → Bool

@@ -6,12 +6,12 @@ use Rattle.jvm_model.specs.declared.state.State.{State}
 use Rattle.jvm_model.specs.Basis.Data.{Change, Began, Turn}
 use Rattle.jvm_model.specs.Running.Moves.{move}
 use Rattle.jvm_model.specs.Turns.Told.{Held, helds, mark_now}
-use Rattle.jvm_model.specs.Turns.InHand.{popped}
+use Rattle.jvm_model.specs.Turns.InHand.{frame_popped}
 use Rattle.jvm_model.specs.Turns.Rest.{step_loads}
 use Rattle.jvm_model.specs.declared.due.Due.{Due}
 use Rattle.jvm_model.specs.declared.due.Due.TheVariants.{Nothing, Ends, Begins}
 use Rattle.jvm_model.specs.declared.event.EventKind.TheVariants as kind
-use Rattle.jvm_model.specs.Turns.Pauses.{changes_due, end_due, unless_off, Pause, paused}
+use Rattle.jvm_model.specs.Turns.Pauses.{changes_due, end_due, unless_off, Pause, step_paused}
 use Rattle.jvm_steps.specs.declared.turns.turning.Moved.{Moved}
 use Rattle.jvm_steps.specs.declared.turns.turning.Moved.TheVariants as moved
 use Rattle.prepared_code.specs.States.{active}
@@ -82,12 +82,12 @@ abbrev pub pause_at : State → ℕ → Due → Pause
 pause_at s n due = record { state = s; passed = n; due = due }
 
 abbrev pub paused_in : Setup → ℕ → State → Pause
-paused_in w n s = paused w.world (listing_of w.versions) (mark_of w.versions) n s
+paused_in w n s = step_paused w.world (listing_of w.versions) (mark_of w.versions) n s
 
 -- behind the event of an unwinding, the frame is taken off
-abbrev pub resumed : Bool → State → State
-resumed true s = popped s
-resumed false s = s
+abbrev pub frame_resumed : Bool → State → State
+frame_resumed true s = frame_popped s
+frame_resumed false s = s
 
 abbrev pub resumed_count : Bool → ℕ → ℕ
 resumed_count true n = suc n
@@ -95,7 +95,7 @@ resumed_count false n = n
 
 -- where moves alone are left of a step
 abbrev pub goes_by_moves : Setup → Bool → ℕ → State → Pause
-goes_by_moves w delivered n s = paused_in w (resumed_count delivered n) (resumed delivered s)
+goes_by_moves w delivered n s = paused_in w (resumed_count delivered n) (frame_resumed delivered s)
 
 -- ---- an attempt in two parts
 

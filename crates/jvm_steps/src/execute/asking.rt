@@ -6,7 +6,7 @@ ghost use Rattle.std.specs.Option.{option_map};
 ghost use Rattle.jvm_model.specs.Running.Run.{starts};
 ghost use Rattle.jvm_named.specs.Answers.{answer_view, exception_name, abrupt_view};
 ghost use Rattle.jvm_steps.specs.Instructions.Acts.{raised_in};
-ghost use Rattle.jvm_steps.specs.Instructions.Asked.{concluded, refused_in, starts_in};
+ghost use Rattle.jvm_steps.specs.Instructions.Asked.{answer_concluded, refused_in, starts_in};
 ghost use Rattle.prepared_code.specs.States.{state_in};
 
 use crate::execute::invoking::call;
@@ -80,7 +80,7 @@ pub fn conclude(
 ) -> Result<Option<u32>, NoMemory>
     ensures answer { IfOk result (λ o. o ≡ starts_in (answer_view asked)) }
     ensures state { OnOk result (state_in parts.new
-        ≡ concluded originals.now.setup here (answer_view asked) parts.old) }
+        ≡ answer_concluded originals.now.setup here (answer_view asked) parts.old) }
 {
     match asked {
         Asked::Next => Ok(None),

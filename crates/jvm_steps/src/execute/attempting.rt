@@ -6,7 +6,7 @@ ghost use Rattle.std.specs.Option.{IfSome, option_map_or};
 ghost use Rattle.jvm_model.specs.Basis.Families.{family_of};
 ghost use Rattle.jvm_model.specs.Running.Run.{with_loaded};
 ghost use Rattle.jvm_named.specs.Objects.{AreLoaded};
-ghost use Rattle.jvm_steps.specs.Instructions.Acts.{IsTop, Becomes, ended};
+ghost use Rattle.jvm_steps.specs.Instructions.Acts.{IsTop, Becomes, run_ended};
 ghost use Rattle.jvm_steps.specs.Instructions.Acts.{acts, acts_alone, attempts_on};
 ghost use Rattle.jvm_steps.specs.Instructions.Acts.{BecomesBeneath, awaited_in, is_named, named_in};
 ghost use Rattle.prepared_code.specs.Linked.{IsReady, linker_in};
@@ -37,7 +37,7 @@ const BY_ZERO: &[u16] = &[47, 32, 98, 121, 32, 122, 101, 114, 111];
 
 /// Ends the run here.
 fn break_here(parts: &mut Parts, method: u32, own: u16) -> Result<(), NoMemory>
-    ensures { OnOk result (parts.new ≡ ended method own parts.old) }
+    ensures { OnOk result (parts.new ≡ run_ended method own parts.old) }
 {
     break_off(parts, method, own);
     Ok(())

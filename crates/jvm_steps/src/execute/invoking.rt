@@ -9,7 +9,7 @@ ghost use Rattle.prepared_code.specs.declared.originals.Exception.TheVariants.{N
 ghost use Rattle.jvm_steps.specs.Instructions.Acts.{raising};
 ghost use Rattle.jvm_steps.specs.Instructions.Arguments.{arguments_of, can_begin, with_begun};
 ghost use Rattle.jvm_steps.specs.Instructions.Arguments.{fits_params, is_long_kind, slots_for, taken_slots};
-ghost use Rattle.jvm_steps.specs.Instructions.Invoking.{called, may_begin};
+ghost use Rattle.jvm_steps.specs.Instructions.Invoking.{method_called, may_begin};
 ghost use Rattle.prepared_code.specs.States.{state_in};
 
 use crate::execute::entering::enter;
@@ -168,7 +168,8 @@ fn begin(
 ) -> Result<(), NoMemory>
     requires few { may_begin parts.old.frames.frames ≡ true }
     ensures { let fs = parts.old.frames.frames in
-        OnOk result (state_in parts.new ≡ called originals.now.setup here callee args fs parts.old
+        OnOk result (state_in parts.new
+        ≡ method_called originals.now.setup here callee args fs parts.old
         true (can_begin originals.now.setup callee args fs)) }
 {
     let begun = begin_frame(originals, &mut parts.frames, callee, args)?;
@@ -189,7 +190,8 @@ fn overflow(
     args: u16,
 ) -> Result<(), NoMemory>
     ensures { let fs = parts.old.frames.frames in
-        OnOk result (state_in parts.new ≡ called originals.now.setup here callee args fs parts.old
+        OnOk result (state_in parts.new
+        ≡ method_called originals.now.setup here callee args fs parts.old
         false (can_begin originals.now.setup callee args fs)) }
 {
     if can_begin(originals, &parts.frames, callee, args) {
@@ -208,7 +210,8 @@ pub fn call(
     args: u16,
 ) -> Result<(), NoMemory>
     ensures { let fs = parts.old.frames.frames in
-        OnOk result (state_in parts.new ≡ called originals.now.setup here callee args fs parts.old
+        OnOk result (state_in parts.new
+        ≡ method_called originals.now.setup here callee args fs parts.old
         (may_begin fs) (can_begin originals.now.setup callee args fs)) }
 {
     if may_begin(&parts.frames) {

@@ -5,7 +5,7 @@ ghost use Rattle.jvm_model.specs.Running.Applies.{new_frame, with_frame};
 ghost use Rattle.jvm_model.specs.Running.Constants.{sets_constants};
 ghost use Rattle.jvm_model.specs.Classes.Lookup.{is_below};
 ghost use Rattle.jvm_model.specs.Running.Moves.{after_super, initializes, runs_initializer};
-ghost use Rattle.jvm_model.specs.Running.Moves.{with_constants, with_super, wrapped};
+ghost use Rattle.jvm_model.specs.Running.Moves.{with_constants, with_super, throw_wrapped};
 ghost use Rattle.jvm_model.specs.Basis.Programs.{initializer_of, super_of};
 ghost use Rattle.jvm_model.specs.Basis.SharedState.{class_of, error, phase_of, with_phase};
 ghost use Rattle.jvm_steps.specs.Instructions.Initializing.{begins_class, failing};
@@ -64,9 +64,9 @@ fn is_error(originals: &Originals, shared: &Shared, object: u32) -> bool
 /// cause.
 fn wrap(originals: &Originals, shared: &mut Shared, object: u32) -> Result<u32, NoMemory>
     ensures shared { OnOk result
-        (shared.new ≡ (wrapped originals.now.setup.world shared.old object).shared) }
+        (shared.new ≡ (throw_wrapped originals.now.setup.world shared.old object).shared) }
     ensures object { IfOk result
-        (λ r. r ≡ (wrapped originals.now.setup.world shared.old object).reference) }
+        (λ r. r ≡ (throw_wrapped originals.now.setup.world shared.old object).reference) }
 {
     if is_error(originals, shared, object) {
         return Ok(object);

@@ -1,10 +1,10 @@
 //! All moves behind an instruction over versions with probes, up to the first of which a probe tells.
 
 ghost use Rattle.std.specs.Prelude.{◌≡◌, suc, OnOk, IfOk};
-ghost use Rattle.jvm_model.specs.Turns.InHand.{popped};
+ghost use Rattle.jvm_model.specs.Turns.InHand.{frame_popped};
 ghost use Rattle.prepared_code.specs.Initializations.{state_of};
 ghost use Rattle.jvm_steps.specs.Moves.Turning.{goes_by_moves, pause_at, paused_in};
-ghost use Rattle.jvm_steps.specs.Moves.Turning.{resumed, resumed_count};
+ghost use Rattle.jvm_steps.specs.Moves.Turning.{frame_resumed, resumed_count};
 
 use crate::turns::stepping::is_at_rest;
 use crate::turns::turning::{Moved, make_move};
@@ -78,7 +78,7 @@ pub fn pause(
 /// Takes the current frame off, behind its unwind probe. (There is one then, and no initialization stands on it.)
 fn take_off(parts: &mut Parts, initializing: &Stack<Initialization>) -> Result<(), NoMemory>
     ensures { OnOk result
-        (state_of initializing.now parts.new ≡ popped (state_of initializing.now parts.old)) }
+        (state_of initializing.now parts.new ≡ frame_popped (state_of initializing.now parts.old)) }
 {
     let Some(_) = where_now(&parts.frames) else {
         return Err(NoMemory);
@@ -99,7 +99,7 @@ fn resume(
 ) -> Result<(), NoMemory>
     ensures state { OnOk result
         (state_of initializing.now parts.new
-        ≡ resumed delivered (state_of initializing.now parts.old)) }
+        ≡ frame_resumed delivered (state_of initializing.now parts.old)) }
     ensures passed { OnOk result (passed.new ≡ resumed_count delivered passed.old) }
 {
     if !delivered {

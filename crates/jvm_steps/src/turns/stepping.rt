@@ -2,7 +2,7 @@
 
 ghost use Rattle.std.specs.Prelude.{ℕ, ◌+◌, ◌≡◌, ◌≤◌, ◌<◌, true, None, is_some, IfOk, OnOk};
 ghost use Rattle.jvm_model.specs.Running.Applies.{still};
-ghost use Rattle.jvm_model.specs.Running.Moves.{settled};
+ghost use Rattle.jvm_model.specs.Running.Moves.{turn_settled};
 ghost use Rattle.jvm_model.specs.Running.Run.{is_ready, step};
 ghost use Rattle.jvm_model.specs.Basis.SharedState.{phase_of};
 ghost use Rattle.jvm_steps.specs.Instructions.Acts.{is_at_rest, goes_on_in};
@@ -58,7 +58,7 @@ fn finish(
     ensures { let w = originals.now.setup in
         let turn = still (state_of initializing.old parts.old) in OnOk result
         (state_of initializing.new parts.new
-        ≡ (settled w.world (listing_of w.versions) turn).after) }
+        ≡ (turn_settled w.world (listing_of w.versions) turn).after) }
 {
     if is_at_rest(parts, initializing) {
         return Ok(());

@@ -48,7 +48,7 @@ pub fn is_marked(originals: &Originals, version: usize) -> bool
 }
 
 /// What a move has done by which a method begins, or none does.
-fn begun(originals: &Originals, method: Option<u32>) -> Moved
+fn method_begun(originals: &Originals, method: Option<u32>) -> Moved
     ensures { result ≡ begun_as originals.now.setup method }
 {
     let Some(method) = method else {
@@ -141,7 +141,7 @@ fn begin_or_end(originals: &Originals, parts: &mut Parts) -> Result<Moved, NoMem
         return Ok(Moved::On);
     }
     let method = begin_main(originals, parts)?;
-    Ok(begun(originals, method))
+    Ok(method_begun(originals, method))
 }
 
 /// A move of the frames, where no initialization stands on the current one.
@@ -184,5 +184,5 @@ pub fn make_move(
         return move_frame(alloc, originals, parts);
     };
     let method = move_initialization(alloc, originals, parts, initializing, initialization)?;
-    Ok(begun(originals, method))
+    Ok(method_begun(originals, method))
 }

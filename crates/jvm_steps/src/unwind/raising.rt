@@ -2,7 +2,7 @@
 
 ghost use Rattle.std.specs.Prelude.{◌≡◌, None, Some, IfOk, OnOk};
 ghost use Rattle.heap_objects.specs.Heaps.{next_number, with_text};
-ghost use Rattle.jvm_steps.specs.Instructions.Acts.{ended, ended_unless, raising};
+ghost use Rattle.jvm_steps.specs.Instructions.Acts.{run_ended, ended_unless, raising};
 ghost use Rattle.jvm_model.specs.Basis.SharedState.{kind_for, string};
 ghost use Rattle.jvm_steps.specs.Instructions.Raising.{heap_made, heap_with_both, reference_made};
 ghost use Rattle.jvm_steps.specs.Instructions.Raising.{reference_of_both, throwing, throwing_with, with_both};
@@ -20,7 +20,7 @@ pub const RESERVED: u32 = 1;
 
 /// Ends the run at this offset of the method; the frame stays as it was.
 pub fn break_off(parts: &mut Parts, method: u32, own: u16)
-    ensures { parts.new ≡ ended method own parts.old }
+    ensures { parts.new ≡ run_ended method own parts.old }
 {
     parts.ending = Some(Ending::Unverifiable(method, own));
 }
@@ -54,7 +54,7 @@ pub fn break_at(
     here: Here,
 ) -> Result<(), NoMemory>
     ensures { OnOk result
-        (parts.new ≡ ended here.method (own_of originals.now.setup here) parts.old) }
+        (parts.new ≡ run_ended here.method (own_of originals.now.setup here) parts.old) }
 {
     let own = own_of(alloc, originals, here)?;
     break_off(parts, here.method, own);

@@ -4,11 +4,11 @@
 
 ghost use Rattle.std.specs.Prelude.{◌≡◌, [], false, map, None, Some, is_some, IfOk, OnOk};
 ghost use Rattle.jvm_model.specs.Running.Applies.{has_room, still};
-ghost use Rattle.jvm_model.specs.Running.Moves.{argument_array, main_or_end, move, settled};
+ghost use Rattle.jvm_model.specs.Running.Moves.{argument_array, main_or_end, move, turn_settled};
 ghost use Rattle.jvm_steps.specs.Instructions.Initializing.{after_initialization, initialization_begins};
 ghost use Rattle.prepared_code.specs.Initializations.{state_of};
 ghost use Rattle.prepared_code.specs.States.{active, here_of, state_in};
-ghost use Rattle.jvm_steps.specs.Moves.Settling.{emptied, fits_alone, with_alone};
+ghost use Rattle.jvm_steps.specs.Moves.Settling.{frame_emptied, fits_alone, with_alone};
 ghost use Rattle.jvm_steps.specs.Moves.Settling.{after_move, caught_at, caught_top, main_entries};
 ghost use Rattle.jvm_steps.specs.Moves.Turning.{begun_in};
 ghost use Rattle.prepared_code.specs.Versions.{listing_of};
@@ -31,7 +31,7 @@ const ARGUMENTS: u32 = 5;
 
 /// Takes the operands off.
 fn empty(frames: &mut Frames)
-    ensures { frames.new.frames ≡ emptied frames.old.frames }
+    ensures { frames.new.frames ≡ frame_emptied frames.old.frames }
 {
     while frames.pop().is_some() {}
 }
@@ -252,7 +252,7 @@ pub fn settle(
     ensures { let w = originals.now.setup in
         let turn = still (state_of initializing.old parts.old) in OnOk result
         (state_of initializing.new parts.new
-        ≡ (settled w.world (listing_of w.versions) turn).after) }
+        ≡ (turn_settled w.world (listing_of w.versions) turn).after) }
 {
     while make_move(alloc, originals, parts, initializing)? {}
     Ok(())

@@ -1,6 +1,6 @@
 //! One class, and two, each spelled from its parts after the JVM Specification.
 
-use super::classes::{answer, put, shown};
+use super::classes::{answer, answer_shown, put};
 use jf_bytes::NoMemory;
 use std::alloc::Global;
 use std::test::Fail;
@@ -64,13 +64,18 @@ fn class_bytes(alloc: Global, parts: Parts) -> Result<Vec<u8>, NoMemory> {
 }
 
 /// What is answered for one class or two, of which A is the main class.
-fn told(alloc: Global, first: Parts, second: Option<Parts>, root: &str) -> Result<String, Fail> {
+fn answer_told(
+    alloc: Global,
+    first: Parts,
+    second: Option<Parts>,
+    root: &str,
+) -> Result<String, Fail> {
     let first = class_bytes(alloc, first)?;
     let second = match second {
         Some(second) => class_bytes(alloc, second)?,
         None => Vec::new(alloc),
     };
-    shown(
+    answer_shown(
         alloc,
         answer(alloc, first.as_slice(), second.as_slice(), root)?,
     )
@@ -128,7 +133,7 @@ const ONE: [(Parts, &str); 15] = [
 #[test]
 fn one_class(rt: HostRuntime) -> Result<(), Fail> {
     for (parts, wanted) in ONE {
-        let told = told(rt.alloc(), parts, None, "")?;
+        let told = answer_told(rt.alloc(), parts, None, "")?;
         assert_eq!(rt; told.as_str(), wanted);
     }
     Ok(())
@@ -170,7 +175,7 @@ const TWO: [(Parts, &str, &str); 8] = [
 fn two_classes(rt: HostRuntime) -> Result<(), Fail> {
     let first = ("A", "I", "main", MAIN, RETURN);
     for (second, root, wanted) in TWO {
-        let told = told(rt.alloc(), first, Some(second), root)?;
+        let told = answer_told(rt.alloc(), first, Some(second), root)?;
         assert_eq!(rt; told.as_str(), wanted);
     }
     Ok(())

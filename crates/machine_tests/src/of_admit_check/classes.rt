@@ -82,7 +82,10 @@ pub(super) fn answer_for(
 }
 
 /// What is answered, as a row shows it: the number of the main method and the acts, or the error.
-pub(super) fn shown(alloc: Global, answer: Result<Program, AdmitError>) -> Result<String, Fail> {
+pub(super) fn answer_shown(
+    alloc: Global,
+    answer: Result<Program, AdmitError>,
+) -> Result<String, Fail> {
     let shown = match answer {
         Ok(program) => format!(in alloc; "{} {:?}", program.main, program.acts.as_slice())?,
         Err(error) => format!(in alloc; "{error:?}")?,

@@ -44,7 +44,11 @@ fn class_bytes(alloc: Global, code: &[u8], handlers: &[u8]) -> Result<Vec<u8>, N
 }
 
 /// The offset and the cause that are told of a code; None where it is right, and so only the main class is missed.
-fn told(alloc: Global, code: &[u8], handlers: &[u8]) -> Result<Option<(u16, CodeCause)>, Fail> {
+fn fault_told(
+    alloc: Global,
+    code: &[u8],
+    handlers: &[u8],
+) -> Result<Option<(u16, CodeCause)>, Fail> {
     let bytes = class_bytes(alloc, code, handlers)?;
     match answer(alloc, B, bytes.as_slice(), "")? {
         Err(AdmitError::BadCode(1, 2, at, cause)) => Ok(Some((at, cause))),
@@ -117,7 +121,7 @@ const OPERANDS: [Row; 11] = rows![
 #[test]
 fn tells_ends(rt: HostRuntime) -> Result<(), Fail> {
     for row in &ENDS {
-        assert!(rt; told(rt.alloc(), row.code, &[])? == Some((row.at, row.cause)));
+        assert!(rt; fault_told(rt.alloc(), row.code, &[])? == Some((row.at, row.cause)));
     }
     Ok(())
 }
@@ -125,7 +129,7 @@ fn tells_ends(rt: HostRuntime) -> Result<(), Fail> {
 #[test]
 fn tells_indices(rt: HostRuntime) -> Result<(), Fail> {
     for row in &INDICES {
-        assert!(rt; told(rt.alloc(), row.code, &[])? == Some((row.at, row.cause)));
+        assert!(rt; fault_told(rt.alloc(), row.code, &[])? == Some((row.at, row.cause)));
     }
     Ok(())
 }
@@ -133,7 +137,7 @@ fn tells_indices(rt: HostRuntime) -> Result<(), Fail> {
 #[test]
 fn tells_operands(rt: HostRuntime) -> Result<(), Fail> {
     for row in &OPERANDS {
-        assert!(rt; told(rt.alloc(), row.code, &[])? == Some((row.at, row.cause)));
+        assert!(rt; fault_told(rt.alloc(), row.code, &[])? == Some((row.at, row.cause)));
     }
     Ok(())
 }
@@ -153,7 +157,7 @@ const RIGHT: [&'static [u8]; 7] = [
 #[test]
 fn tells_nothing_of_right_codes(rt: HostRuntime) -> Result<(), Fail> {
     for code in RIGHT {
-        assert!(rt; told(rt.alloc(), code, &[])?.is_none());
+        assert!(rt; fault_told(rt.alloc(), code, &[])?.is_none());
     }
     Ok(())
 }
@@ -191,7 +195,7 @@ const PUSH_RETURN: [u8; 3] = [0x10, 5, 0xB1];
 fn tells_handlers(rt: HostRuntime) -> Result<(), Fail> {
     for row in &HANDLERS {
         let handler = [0, row.start, 0, row.end, 0, row.handler, 0, 0];
-        let told = told(rt.alloc(), &PUSH_RETURN, &handler)?;
+        let told = fault_told(rt.alloc(), &PUSH_RETURN, &handler)?;
         if row.right {
             assert!(rt; told.is_none());
         } else {
@@ -210,11 +214,11 @@ const RIGHT_AND_WRONG: [u8; 16] = [0, 0, 0, 2, 0, 2, 0, 0, 0, 2, 0, 0, 0, 0, 0, 
 #[test]
 fn tells_the_first(rt: HostRuntime) -> Result<(), Fail> {
     let alloc = rt.alloc();
-    assert!(rt; told(alloc, &PUSH_RETURN, &RIGHT_HANDLER)?.is_none());
-    let second = told(alloc, &PUSH_RETURN, &RIGHT_AND_WRONG)?;
+    assert!(rt; fault_told(alloc, &PUSH_RETURN, &RIGHT_HANDLER)?.is_none());
+    let second = fault_told(alloc, &PUSH_RETURN, &RIGHT_AND_WRONG)?;
     assert!(rt; second == Some((2, CodeCause::Handler)));
     // Control falls off the code's end.
-    let falls = told(alloc, &[0x10, 5, 0], &WRONG_HANDLER)?;
+    let falls = fault_told(alloc, &[0x10, 5, 0], &WRONG_HANDLER)?;
     assert!(rt; falls == Some((2, CodeCause::Falls)));
     Ok(())
 }

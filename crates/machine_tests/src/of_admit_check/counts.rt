@@ -4,7 +4,7 @@ ghost use Rattle.std.specs.Prelude.{◌≡◌, IfSome};
 ghost use Rattle.std.specs.List.{AllByRecursion};
 ghost use Rattle.const_pool.specs.ClassFile.{IsClassFile};
 
-use super::classes::{answer, answer_for, class, put, shown};
+use super::classes::{answer, answer_for, answer_shown, class, put};
 use const_pool::ClassFile;
 use jf_bytes::{NoMemory, Seq};
 use std::alloc::Global;
@@ -66,7 +66,7 @@ fn too_many_methods(rt: HostRuntime) -> Result<(), Fail> {
     let alloc = rt.alloc();
     for (count, wanted) in [(32_761, "NoMain"), (32_762, "TooManyMethods(32769)")] {
         let bytes = class_bytes(alloc, count)?;
-        let told = shown(alloc, answer(alloc, bytes.as_slice(), &[], "")?)?;
+        let told = answer_shown(alloc, answer(alloc, bytes.as_slice(), &[], "")?)?;
         assert_eq!(rt; told.as_str(), wanted);
     }
     Ok(())
@@ -116,7 +116,7 @@ fn as_many_classes_as_there_may_be(rt: HostRuntime) -> Result<(), Fail> {
     let alloc = rt.alloc();
     let classes = named_classes(alloc, 4096).ok_or("classes")?;
     assert_eq!(rt; classes.len(), 4096);
-    let told = shown(alloc, answer_for(alloc, classes, "")?)?;
+    let told = answer_shown(alloc, answer_for(alloc, classes, "")?)?;
     assert_eq!(rt; told.as_str(), "NoMain");
     Ok(())
 }

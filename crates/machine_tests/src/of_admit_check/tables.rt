@@ -1,6 +1,6 @@
 //! The tables of a code, and methods that can't be rewritten: a class A with its main method alone.
 
-use super::classes::{answer, put, shown};
+use super::classes::{answer, answer_shown, put};
 use jf_bytes::NoMemory;
 use std::alloc::Global;
 use std::test::Fail;
@@ -73,9 +73,9 @@ fn class_bytes(alloc: Global, parts: &Parts) -> Result<Vec<u8>, NoMemory> {
     Ok(bytes)
 }
 
-fn told(alloc: Global, parts: &Parts) -> Result<String, Fail> {
+fn answer_told(alloc: Global, parts: &Parts) -> Result<String, Fail> {
     let bytes = class_bytes(alloc, parts)?;
-    shown(alloc, answer(alloc, bytes.as_slice(), &[], "")?)
+    answer_shown(alloc, answer(alloc, bytes.as_slice(), &[], "")?)
 }
 
 // ---- tables
@@ -123,7 +123,7 @@ fn with_table(major: u8, code: &'static [u8], name: u8, table: &'static [u8]) ->
 #[test]
 fn tells_tables(rt: HostRuntime) -> Result<(), Fail> {
     for (major, name, table, wanted) in TABLES {
-        let told = told(rt.alloc(), &with_table(major, PUSH, name, table))?;
+        let told = answer_told(rt.alloc(), &with_table(major, PUSH, name, table))?;
         assert_eq!(rt; told.as_str(), wanted);
     }
     Ok(())
@@ -160,7 +160,7 @@ const FLOATS: [(u8, &'static [u8], &'static [u8], &'static str); 7] = [
 #[test]
 fn tells_floating_frames(rt: HostRuntime) -> Result<(), Fail> {
     for (major, code, table, wanted) in FLOATS {
-        let told = told(rt.alloc(), &with_table(major, code, FRAMES, table))?;
+        let told = answer_told(rt.alloc(), &with_table(major, code, FRAMES, table))?;
         assert_eq!(rt; told.as_str(), wanted);
     }
     Ok(())
@@ -192,7 +192,7 @@ fn tells_what_cannot_be_rewritten(rt: HostRuntime) -> Result<(), Fail> {
             name: LINES,
             table: &[0, 0],
         };
-        let told = told(rt.alloc(), &parts)?;
+        let told = answer_told(rt.alloc(), &parts)?;
         assert_eq!(rt; told.as_str(), wanted);
     }
     Ok(())

@@ -1,6 +1,6 @@
 use Rattle.std.proofs.Common.{◌≡◌, ◌+◌, drop, get_or, ap, sym, subst, ◌∙◌}
 use Rattle.std.proofs.lemmas.List.{drop_more}
-use Rattle.call_revelation.specs.Lineages.{IsNoted, noted}
+use Rattle.call_revelation.specs.Lineages.{IsNoted, class_noted}
 use Rattle.call_revelation.specs.Tables.{with_item}
 use Rattle.call_revelation.proofs.LineageLemmas.{among-get, noted-more}
 use Rattle.call_revelation.proofs.lineage.note.Goals as goal
@@ -11,8 +11,8 @@ loop-above-preserved c =
     let i = c.loop-above.above-index in
     let x = get_or xs i 0 in
     let new : c.add_item.new.lists ≡ with_item x c.args.class c.loop-above.lists = c.in_ok-add_item.ensures in (
-      ap (λ l. noted c.args.class l (drop (i + 1) xs)) new
-          ∙ (sym (ap (noted c.args.class c.loop-above.lists) (drop_more xs i 0 c.loop-above-test.true)) ∙ c.loop-above.invariant.0),
+      ap (λ l. class_noted c.args.class l (drop (i + 1) xs)) new
+          ∙ (sym (ap (class_noted c.args.class c.loop-above.lists) (drop_more xs i 0 c.loop-above-test.true)) ∙ c.loop-above.invariant.0),
       subst (IsNoted c.args.class xs c.args.lists.now) (sym new)
           (noted-more c.args.class xs c.args.lists.now c.loop-above.lists x (among-get xs i c.loop-above-test.true) c.loop-above.invariant.1),
     )

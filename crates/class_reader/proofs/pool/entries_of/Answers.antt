@@ -1,7 +1,7 @@
 use Rattle.std.proofs.Common.{◌-◌, ◌+◌, ◌<◌, ◌≤◌, ◌∷◌, [], arith, length, length-append, ltb}
 use Rattle.std.proofs.lemmas.Result.{err_from_is_err_and}
 use Rattle.const_pool.specs.declared.pool.Const.TheVariants.{Gap}
-use Rattle.class_reader.specs.Reading.{with_front, entries_at, gapped}
+use Rattle.class_reader.specs.Reading.{with_front, entries_at, entry_gapped}
 use Rattle.class_reader.proofs.EntryLists.{goes_on, ends, is_done}
 use Rattle.class_reader.proofs.pool.entries_of.Goals as goal
 
@@ -17,7 +17,7 @@ loop-alloc-preserved c =
     let more = goes_on c.args.limit c.loop-alloc.entries.items c.args.count c.loop-alloc.rest.now c.in_ok-entry.entry c.in_ok-entry.after.now (with_front (Gap ∷ []) (entries_at (c.args.count - 1) c.args.limit c.args.bytes.now)) lt c.in_ok-entry.ensures c.loop-alloc.invariant.joined in
     let pushed = rw c.from-in-loop-alloc.ensures at c.in_ok-push_entry.ensures.pushed in
     record {
-      some = rw pushed (omega (arith, c.loop-alloc.invariant.some, length-append c.loop-alloc.entries.items (gapped c.in_ok-entry.entry (ltb (length c.loop-alloc.entries.items + 1) c.args.count))));
+      some = rw pushed (omega (arith, c.loop-alloc.invariant.some, length-append c.loop-alloc.entries.items (entry_gapped c.in_ok-entry.entry (ltb (length c.loop-alloc.entries.items + 1) c.args.count))));
       within = omega (arith, c.from-in-loop-alloc.ensures, c.in_ok-push_entry.ensures.within);
       joined = rw pushed more;
     }

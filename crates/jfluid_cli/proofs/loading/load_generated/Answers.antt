@@ -1,6 +1,6 @@
 use Rattle.std.proofs.Common.{refl, sym, subst, ◌∙◌}
 use Rattle.std.specs.Prelude.{◌≢◌}
-use Rattle.program_gen.specs.Generated.{generated}
+use Rattle.program_gen.specs.Generated.{classes_generated}
 use Rattle.generated_programs.specs.Admitted.{main_name}
 use Rattle.generated_programs.proofs.GeneratedAdmitted.{generated-admitted}
 use Rattle.command_line.specs.Chosen.{chosen_in}
@@ -54,7 +54,7 @@ returns-in-Ok-clause-small c =
 
 pub returns-in-Ok-clause-admitted : goal.returns-in-Ok-clause-admitted
 returns-in-Ok-clause-admitted c = record {
-  classes = generated c.args.generation.seed c.args.generation.size;
+  classes = classes_generated c.args.generation.seed c.args.generation.size;
   name = main_name;
   is = c.in-Ok.ensures.sound;
 }
@@ -66,9 +66,9 @@ returns-in-Ok-clause-acts c =
     let fits = generation-fits (read_in c.args.words.now) c.args.generation c.requires.sound c.requires.own in
     let admitted = generated-admitted seed size c.args.plan.now fits.some fits.most ∙ c.in-Ok.ensures.admitted in
     record {
-      in_order = acts-in-order (generated seed size) main_name c.args.plan.now c.in-Ok.made.program
+      in_order = acts-in-order (classes_generated seed size) main_name c.args.plan.now c.in-Ok.made.program
           c.requires.within.rising admitted;
-      alternate = acts-alternating (generated seed size) main_name c.args.plan.now c.in-Ok.made.program
+      alternate = acts-alternating (classes_generated seed size) main_name c.args.plan.now c.in-Ok.made.program
           c.requires.alternate admitted;
     }
 

@@ -4,7 +4,7 @@ use Rattle.frame_stack.specs.FrameLists.{top_operands}
 use Rattle.jvm_basic.specs.Outcomes.{top_locals}
 use Rattle.jvm_named.specs.Attempts.{world_over}
 use Rattle.jvm_named.specs.Callees.{IsCallee, chosen_place}
-use Rattle.jvm_named.specs.Does.{Does, changed}
+use Rattle.jvm_named.specs.Does.{Does, parts_changed}
 use Rattle.jvm_named.specs.Targets.{data_in}
 use Rattle.jvm_named.proofs.CalleeLemmas.{code-does, native-invoked}
 use Rattle.jvm_named.proofs.calls.invoke_chosen.Goals as goal
@@ -24,7 +24,7 @@ returns-in-Native-clause-done c =
     let w = world_over c.args.linker.now c.args.input.now in
     let s = c.args.shared.now in
     let o = top_operands c.args.frames.now.frames in
-    subst (λ d. Does c.run_numbered.result d c.args.next (changed c.args.frames.now s c.args.output.now) (changed c.run_numbered.new.frames c.run_numbered.new.shared c.run_numbered.new.output))
+    subst (λ d. Does c.run_numbered.result d c.args.next (parts_changed c.args.frames.now s c.args.output.now) (parts_changed c.run_numbered.new.frames c.run_numbered.new.shared c.run_numbered.new.output))
     (sym (native-invoked w (chosen_place c.args.m) (data_in c.args.count o) s (top_locals c.args.frames.now.frames) (drop c.args.count o) c.in-Native.number
     (subst (λ x. IsCallee x c.args.linker.now.program (chosen_place c.args.m)) c.in-Native.is c.requires.callee)))
     c.run_numbered.ensures.done

@@ -3,7 +3,7 @@ use Rattle.std.specs.Prelude.{IfOk}
 use Rattle.frame_stack.specs.FrameLists.{top_operands}
 use Rattle.jvm_basic.specs.Outcomes.{top_locals}
 use Rattle.jvm_named.specs.Attempts.{world_over}
-use Rattle.jvm_named.specs.Does.{Does, changed}
+use Rattle.jvm_named.specs.Does.{Does, parts_changed}
 use Rattle.jvm_named.specs.Targets.{found_as, static_target, target_in}
 use Rattle.jvm_named.proofs.TargetLemmas.{does-target, static-rule, refuses, refuses-target}
 use Rattle.jvm_named.proofs.calls.invoke_fixed.Goals as goal
@@ -14,7 +14,7 @@ returns-in-Ok-clause-done c =
     let s = c.args.shared.now in
     let l = top_locals c.args.frames.now.frames in
     let o = top_operands c.args.frames.now.frames in
-    subst (λ d. Does c.invoke_selected.result d c.args.next (changed c.args.frames.now s c.args.output.now) (changed c.invoke_selected.new.frames c.invoke_selected.new.shared c.invoke_selected.new.output))
+    subst (λ d. Does c.invoke_selected.result d c.args.next (parts_changed c.args.frames.now s c.args.output.now) (parts_changed c.invoke_selected.new.frames c.invoke_selected.new.shared c.invoke_selected.new.output))
     (does-target w (static_target w.program c.args.kind c.args.method.now s o) s l o c.in-Ok.target
     (sym (ap (found_as (target_in o)) c.in-Ok.is) ∙ c.in_ok-target.ensures.target)
     (subst (λ r. IfOk r (λ t. t.count ≤ length o)) c.in-Ok.is c.in_ok-target.ensures.within)

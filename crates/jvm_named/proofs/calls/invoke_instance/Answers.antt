@@ -2,7 +2,7 @@ use Rattle.std.proofs.Common.{sym, subst, ◌∙◌}
 use Rattle.frame_stack.specs.FrameLists.{top_operands}
 use Rattle.jvm_basic.specs.Outcomes.{top_locals}
 use Rattle.jvm_named.specs.Attempts.{world_over}
-use Rattle.jvm_named.specs.Does.{Does, changed}
+use Rattle.jvm_named.specs.Does.{Does, parts_changed}
 use Rattle.jvm_named.specs.Targets.{selecting_view, instance_target}
 use Rattle.jvm_named.proofs.TargetLemmas.{does-target, instance-rule, refuses, refuses-target}
 use Rattle.jvm_named.proofs.calls.invoke_instance.Goals as goal
@@ -13,7 +13,7 @@ returns-in-Ok-clause-done c =
     let s = c.args.shared.now in
     let l = top_locals c.args.frames.now.frames in
     let o = top_operands c.args.frames.now.frames in
-    subst (λ d. Does c.invoke_selected.result d c.args.next (changed c.args.frames.now s c.args.output.now) (changed c.invoke_selected.new.frames c.invoke_selected.new.shared c.invoke_selected.new.output))
+    subst (λ d. Does c.invoke_selected.result d c.args.next (parts_changed c.args.frames.now s c.args.output.now) (parts_changed c.invoke_selected.new.frames c.invoke_selected.new.shared c.invoke_selected.new.output))
     (does-target w (instance_target w.program c.args.kind (selecting_view c.args.by) c.args.method.now s.heap o) s l o c.in-Ok.target c.in-Ok.ensures.target c.in-Ok.ensures.within
     ∙ instance-rule w (selecting_view c.args.by) c.args.method.now s l o c.args.kind)
     c.invoke_selected.ensures.done

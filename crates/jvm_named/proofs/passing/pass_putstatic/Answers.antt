@@ -6,7 +6,7 @@ use Rattle.jvm_model.specs.Basis.Data.{Done, GoesOn, Next}
 use Rattle.jvm_model.specs.Instructions.FieldRules.{held_of, kind_by, sets_static}
 use Rattle.jvm_model.specs.Classes.Layouts.{held_by}
 use Rattle.jvm_model.specs.Instructions.SymbolicReference.{Putstatic, unless_refused}
-use Rattle.jvm_model.specs.Instructions.Rules.{initialized}
+use Rattle.jvm_model.specs.Instructions.Rules.{class_initialized}
 use Rattle.jvm_model.specs.Basis.SharedState.{phase_of}
 use Rattle.jvm_named.specs.Answers.{answer_view, done_on}
 use Rattle.jvm_named.specs.Known.{IsFoundAs}
@@ -40,8 +40,8 @@ returns c =
     sym (sym c.in-Some.is ∙ (c.held_of.ensures ∙ ap (λ k. held_of k o) (c.held_by.ensures ∙ ap held_by c.units.ensures))) in
     let same : set ≡ done_on (puts_static p c.args.kind r s) f =
     when-usable p (phase_of s m.class) m.class s set (sym c.is_usable.ensures ∙ c.if-not-is_usable.false)
-    ∙ (ap (λ d. initialized p m.class s (sets_static m d s l o)) (sym given)
-    ∙ ap (λ found. unless_refused s found (λ m. initialized p m.class s (sets_static m (held_of (kind_by r) o) s l o))) (sym there)) in
+    ∙ (ap (λ d. class_initialized p m.class s (sets_static m d s l o)) (sym given)
+    ∙ ap (λ found. unless_refused s found (λ m. class_initialized p m.class s (sets_static m (held_of (kind_by r) o) s l o))) (sym there)) in
     subst (λ d. IfPassed true d c.args.next f s c.drop_one-asked.new.frames after) same
     (passed-on set f c.drop_one-asked.new.frames c.args.next s after refl
     (sym c.drop_one-asked.ensures.answer ∙ next-is (answer_view c.drop_one-asked.result) (sym c.went_on.ensures ∙ c.if-not-went_on.false))

@@ -1,5 +1,5 @@
 use Rattle.std.proofs.Common.{◌≡◌, refl, sym, ap, ap₂, subst, ◌∙◌}
-use Rattle.jvm_machine.specs.View.{View, made}
+use Rattle.jvm_machine.specs.View.{View, machine_made}
 use Rattle.profile_session.specs.Beginning.{CanBeProfiled, IsFirst}
 use Rattle.profile_session.specs.Sessions.{Profiling, profiling_of}
 use Rattle.profile_session.proofs.FirstParts.{begun-stands}
@@ -16,7 +16,7 @@ reveal_first-requires-clause-profilable c = subst (λ (v : View). CanBeProfiled 
 
 pub returns-clause-stands : goal.returns-clause-stands
 returns-clause-stands c =
-    begun-stands _ (subst (λ (v : View). v ≡ made v.program v.input) (sym c.into_inner.ensures) c.requires.fresh)
+    begun-stands _ (subst (λ (v : View). v ≡ machine_made v.program v.input) (sym c.into_inner.ensures) c.requires.fresh)
     (subst (λ (v : View). CanBeProfiled v.program) (sym c.into_inner.ensures) c.requires.profilable)
     (subst (λ (v : View). IsFirst v c.in_ok-reveal.reveal) (c.deref.ensures ∙ sym c.into_inner.ensures) c.in_ok-reveal.ensures)
     c.new-2.ensures c.in_ok-buffer.ensures refl c.new-3.ensures c.new-4.ensures refl

@@ -1,6 +1,6 @@
 use Rattle.std.proofs.Common.{◌≡◌, ap, sym, subst, ◌∙◌, arith, length}
 use Rattle.std.specs.List.{AllByRecursion}
-use Rattle.jvm_model.specs.Basis.Programs.{numbered}
+use Rattle.jvm_model.specs.Basis.Programs.{methods_numbered}
 use Rattle.jvm_model.specs.Soundness.Sound.{IsFit}
 use Rattle.prepared_code.specs.Prepared.{HasShortCodes}
 use Rattle.call_revelation.specs.Reveals.{IsRevelation}
@@ -10,7 +10,7 @@ use Rattle.profile_session.proofs.Points.{linked}
 use Rattle.profile_session.proofs.beginning.reveal_first.Goals as goal
 
 pub new-requires-clause-numbered : goal.new-requires-clause-numbered
-new-requires-clause-numbered c = subst (λ (p : Program). p.methods ≡ numbered p.classes) (sym c.program.ensures) c.requires.profilable.imageable.numbered_are
+new-requires-clause-numbered c = subst (λ (p : Program). p.methods ≡ methods_numbered p.classes) (sym c.program.ensures) c.requires.profilable.imageable.numbered_are
 
 pub new-requires-clause-few : goal.new-requires-clause-few
 new-requires-clause-few c =

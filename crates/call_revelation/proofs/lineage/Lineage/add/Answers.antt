@@ -1,7 +1,7 @@
 use Rattle.std.proofs.Common.{◌≡◌, ◌∙◌, ap, sym, subst, arith}
 use Rattle.std.specs.Vec.{with_items}
 use Rattle.std.proofs.lemmas.List.{with_items_is}
-use Rattle.call_revelation.specs.Lineages.{IsNoted, noted}
+use Rattle.call_revelation.specs.Lineages.{IsNoted, class_noted}
 use Rattle.call_revelation.proofs.LineageLemmas.{lineage-more}
 use Rattle.call_revelation.proofs.lineage.Lineage.add.Goals as goal
 
@@ -13,5 +13,5 @@ returns-clause-lineage c = λ p lead is-lineage.
     let is : (with_items old new).items ≡ new = with_items_is old new (omega (arith, only.places, old.ok.0)) in
     lineage-more p c.args.class c.args.above.now c.args.self.now
     (record { loaded = c.add.new.self; below = with_items old new }) lead
-    (subst (IsNoted c.args.class c.args.above.now old.items) (sym is) only) (is ∙ (c.in_ok-note.ensures.noted ∙ ap (λ l. noted c.args.class l c.args.above.now) c.as_mut_slice.ensures.value)) c.in_ok-add.ensures
+    (subst (IsNoted c.args.class c.args.above.now old.items) (sym is) only) (is ∙ (c.in_ok-note.ensures.noted ∙ ap (λ l. class_noted c.args.class l c.args.above.now) c.as_mut_slice.ensures.value)) c.in_ok-add.ensures
     is-lineage

@@ -2,7 +2,7 @@ use Rattle.std.proofs.Common.{◌≡◌, ◌∙◌, ap, refl, sym, subst, arith}
 use Rattle.std.specs.Vec.{with_items}
 use Rattle.std.proofs.lemmas.List.{with_items_is}
 use Rattle.jvm_model.specs.Classes.Load.{is_among}
-use Rattle.call_revelation.specs.Lineages.{IsClosed, IsNoted, noted}
+use Rattle.call_revelation.specs.Lineages.{IsClosed, IsNoted, class_noted}
 use Rattle.call_revelation.proofs.CalledLemmas.{handed-kept, handed-noted}
 use Rattle.call_revelation.proofs.named.Named.add.Goals as goal
 
@@ -36,5 +36,5 @@ returns-clause-handed c = λ p lined handed.
     let is : (with_items old new).items ≡ new = with_items_is old new (omega (arith, only.places, old.ok.0)) in
     handed-noted p c.args.lineage.now c.args.self.now (record { classes = c.add.new.self; above = with_items old new }) c.args.class xs lined
     (ap (is_among c.args.class) c.as_slice.ensures ∙ c.in_ok-lower.ensures.own) (subst (IsClosed below) (sym c.as_slice.ensures) c.in_ok-lower.ensures.closed)
-    (subst (IsNoted c.args.class xs old.items) (sym is) only) (is ∙ (c.in_ok-note.ensures.noted ∙ ap (λ l. noted c.args.class l xs) c.as_mut_slice.ensures.value))
+    (subst (IsNoted c.args.class xs old.items) (sym is) only) (is ∙ (c.in_ok-note.ensures.noted ∙ ap (λ l. class_noted c.args.class l xs) c.as_mut_slice.ensures.value))
     c.in_ok-add.ensures handed

@@ -1,5 +1,5 @@
 use Rattle.std.proofs.Common.{◌≤◌, sym, ap, subst, ◌∙◌, arith}
-use Rattle.context_tree.specs.Profiles.{Profile, credited, calls_of, taken}
+use Rattle.context_tree.specs.Profiles.{Profile, steps_credited, calls_of, event_taken}
 use Rattle.context_tree.specs.TreeViews.{profile_in, IsTree}
 use Rattle.context_tree.proofs.TreeSteps.{tree-given, profile-given}
 use Rattle.context_tree.proofs.TreeCalls.{calls_of-given}
@@ -15,7 +15,7 @@ pub returns-clause-credited : goal.returns-clause-credited
 returns-clause-credited c =
     ap profile_in c.give.ensures
     ∙ profile-given c.self.inside.table c.self.invariant c.self.inside.table.open c.args.clock c.self.invariant.within
-    ∙ ap (credited c.args.clock) c.self.view_is
+    ∙ ap (steps_credited c.args.clock) c.self.view_is
 
 pub returns-clause-calls : goal.returns-clause-calls
 returns-clause-calls c =
@@ -23,14 +23,14 @@ returns-clause-calls c =
 
 pub returns-clause-adds : goal.returns-clause-adds
 returns-clause-adds c = λ later on.
-    ap (credited later)
+    ap (steps_credited later)
     (ap profile_in c.give.ensures ∙ profile-given c.self.inside.table c.self.invariant c.self.inside.table.open c.args.clock c.self.invariant.within)
     ∙ (credits-add c.args.clock later (profile_in c.self.inside.table) (omega (arith, ap (λ (p : Profile). p.clock) c.self.view_is, c.requires)) on
-    ∙ ap (credited later) c.self.view_is)
+    ∙ ap (steps_credited later) c.self.view_is)
 
 pub returns-clause-unseen : goal.returns-clause-unseen
 returns-clause-unseen c = λ e on.
-    ap (λ p. taken p e)
+    ap (λ p. event_taken p e)
     (ap profile_in c.give.ensures ∙ profile-given c.self.inside.table c.self.invariant c.self.inside.table.open c.args.clock c.self.invariant.within)
     ∙ (credit-unseen c.args.clock (profile_in c.self.inside.table) e (omega (arith, ap (λ (p : Profile). p.clock) c.self.view_is, c.requires)) on
-    ∙ ap (λ p. taken p e) c.self.view_is)
+    ∙ ap (λ p. event_taken p e) c.self.view_is)

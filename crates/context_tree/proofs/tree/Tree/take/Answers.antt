@@ -1,7 +1,7 @@
 use Rattle.std.proofs.Common.{◌≤◌, sym, ap, subst, ◌∙◌, arith}
-use Rattle.context_tree.specs.Profiles.{Profile, taken, calls_of}
+use Rattle.context_tree.specs.Profiles.{Profile, event_taken, calls_of}
 use Rattle.context_tree.specs.declared.table.NodeTable.{NodeTable}
-use Rattle.context_tree.specs.NodeTables.{own_in, given}
+use Rattle.context_tree.specs.NodeTables.{own_in, steps_given}
 use Rattle.context_tree.specs.TreeViews.{profile_in, IsTree}
 use Rattle.context_tree.proofs.TreeSteps.{follows_told, Taken, taken_is}
 use Rattle.context_tree.proofs.TreeCalls.{calls_is, calls_of-taken_in}
@@ -20,21 +20,21 @@ pub invariant_of-self-2 : goal.invariant_of-self-2
 invariant_of-self-2 c =
     let later : c.self.inside.table.clock ≤ c.args.event.now.clock = omega (arith, ap (λ (p : Profile). p.clock) c.self.view_is, c.requires.later) in
     let step : Taken c.self.inside.table c.args.event.now = taken_is c.self.inside.table c.self.invariant c.args.event.now later in
-    subst IsTree (sym (c.give.ensures ∙ ap (given c.self.inside.table.open c.args.event.now.clock) c.in_ok-tell.ensures)) step.tree
+    subst IsTree (sym (c.give.ensures ∙ ap (steps_given c.self.inside.table.open c.args.event.now.clock) c.in_ok-tell.ensures)) step.tree
 
 pub returns-clause-ok : goal.returns-clause-ok
 returns-clause-ok c =
     let later : c.self.inside.table.clock ≤ c.args.event.now.clock = omega (arith, ap (λ (p : Profile). p.clock) c.self.view_is, c.requires.later) in
     let step : Taken c.self.inside.table c.args.event.now = taken_is c.self.inside.table c.self.invariant c.args.event.now later in
-    ap profile_in (c.give.ensures ∙ ap (given c.self.inside.table.open c.args.event.now.clock) c.in_ok-tell.ensures)
-    ∙ step.profile ∙ ap (λ p. taken p c.args.event.now) c.self.view_is
+    ap profile_in (c.give.ensures ∙ ap (steps_given c.self.inside.table.open c.args.event.now.clock) c.in_ok-tell.ensures)
+    ∙ step.profile ∙ ap (λ p. event_taken p c.args.event.now) c.self.view_is
 
 pub returns-clause-calls : goal.returns-clause-calls
 returns-clause-calls c =
     let e = c.args.event.now in
     omega (
       arith,
-      ap (λ t. calls_of (profile_in t)) (c.give.ensures ∙ ap (given c.self.inside.table.open e.clock) c.in_ok-tell.ensures),
+      ap (λ t. calls_of (profile_in t)) (c.give.ensures ∙ ap (steps_given c.self.inside.table.open e.clock) c.in_ok-tell.ensures),
       calls_of-taken_in c.self.inside.table e,
       ap calls_of c.self.view_is,
     )

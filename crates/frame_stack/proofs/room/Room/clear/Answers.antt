@@ -2,13 +2,13 @@ use Rattle.std.proofs.Common.{length, take, ◌∙◌, ap, arith}
 use Rattle.std.specs.Prelude.{None, slice_set}
 use Rattle.std.proofs.lemmas.List.{length-map, length-take-le}
 use Rattle.frame_stack.specs.declared.room.Slot.TheVariants.{Empty}
-use Rattle.frame_stack.specs.Rooms.{RoomView, shown}
+use Rattle.frame_stack.specs.Rooms.{RoomView, slot_shown}
 use Rattle.frame_stack.proofs.Shown.{shown-set}
 use Rattle.frame_stack.proofs.room.Room.clear.Goals as goal
 
 pub returns-clause-items : goal.returns-clause-items
 returns-clause-items c =
     let r = c.self.inside in
-    shown-set shown r.end c.args.at Empty r.raw.items
-    (omega (arith, c.requires, ap (λ (s : RoomView). length s.items) c.self.view_is, length-map (take r.end r.raw.items) shown, length-take-le r.end r.raw.items c.self.invariant.within))
+    shown-set slot_shown r.end c.args.at Empty r.raw.items
+    (omega (arith, c.requires, ap (λ (s : RoomView). length s.items) c.self.view_is, length-map (take r.end r.raw.items) slot_shown, length-take-le r.end r.raw.items c.self.invariant.within))
     ∙ ap (λ (s : RoomView). slice_set s.items c.args.at None) c.self.view_is

@@ -7,7 +7,7 @@ use Rattle.prepared_code.specs.Tables.{Releases}
 use Rattle.prepared_code.proofs.StandingSteps.{parts-pinned}
 use Rattle.jvm_machine.specs.declared.advancing.Telling.TheVariants as telling
 use Rattle.jvm_machine.specs.Advances.{Stops, TellsClasses}
-use Rattle.jvm_machine.specs.Machine.{IsMachine, seen}
+use Rattle.jvm_machine.specs.Machine.{IsMachine, state_seen}
 use Rattle.jvm_machine.specs.Probes.{IfLeaves}
 use Rattle.jvm_machine.specs.View.{View}
 use Rattle.jvm_machine.proofs.BeforeReturns.{leaves-by, some-left}
@@ -111,7 +111,7 @@ returns-in_err-classes-clause-err c =
 pub invariant_of-self-in_default : goal.invariant_of-self-in_default
 invariant_of-self-in_default c = record {
   machine = subst (λ (x : Setup). IsMachine x c.go.new.originals.loaded (one_passed c.in_ok-taken.taken.hand)
-      (seen x (state_of c.go.new.initializing c.go.new.parts) true false c.clock_in-self-inside.result (one_passed c.in_ok-taken.taken.hand)) (state_of c.go.new.initializing c.go.new.parts))
+      (state_seen x (state_of c.go.new.initializing c.go.new.parts) true false c.clock_in-self-inside.result (one_passed c.in_ok-taken.taken.hand)) (state_of c.go.new.initializing c.go.new.parts))
       (sym c.go.ensures.world)
       (tells-step c.self.inside.originals.setup c.self.inside.hand c.self.inside.started c.self.inside.broken c.self.inside.clock (state_of c.self.inside.initializing c.self.inside.parts) c.self.inside.originals.loaded
       (ap (λ (v : View). v.broken) (seen-is c.self.invariant c.self.view_is) ∙ c.requires.whole) c.self.invariant.machine c.args.self.now (seen-is c.self.invariant c.self.view_is) c.is_resting-resting.result c.is_resting-resting.ensures
@@ -136,10 +136,10 @@ returns-in_default-clause-ok c =
     (tidy-taken c.self.inside.originals.setup c.take_up.new.originals.setup c.is_resting-resting.result c.self.inside.started
     (state_of c.self.inside.initializing c.self.inside.parts) (state_of c.take_up.new.initializing c.take_up.new.parts) c.take_up.ensures.world c.in_ok-taken.ensures.state
     (λ early. ap (λ (z : State). z.stack) ((c.self.invariant.machine.whole (ap (λ (v : View). v.broken) c.self.view_is ∙ c.requires.whole)).first early).before) (c.self.invariant.tidy (ap (λ (v : View). v.broken) c.self.view_is ∙ c.requires.whole))))
-    (subst (λ (x : Setup). TellsClasses c.args.self.now c.in_ok-classes.classes (seen x (state_of c.go.new.initializing c.go.new.parts) true false c.clock_in-self-inside.result (one_passed c.in_ok-taken.taken.hand)))
+    (subst (λ (x : Setup). TellsClasses c.args.self.now c.in_ok-classes.classes (state_seen x (state_of c.go.new.initializing c.go.new.parts) true false c.clock_in-self-inside.result (one_passed c.in_ok-taken.taken.hand)))
     (sym c.go.ensures.world)
     (subst (λ l. TellsClasses c.args.self.now l
-    (seen c.take_up.new.originals.setup (state_of c.go.new.initializing c.go.new.parts) true false c.clock_in-self-inside.result (one_passed c.in_ok-taken.taken.hand)))
+    (state_seen c.take_up.new.originals.setup (state_of c.go.new.initializing c.go.new.parts) true false c.clock_in-self-inside.result (one_passed c.in_ok-taken.taken.hand)))
     (sym (c.in_ok-classes.ensures ∙ ap (λ n. drop n c.go.new.parts.shared.loaded) c.len-count.ensures))
     (tells-step c.self.inside.originals.setup c.self.inside.hand c.self.inside.started c.self.inside.broken c.self.inside.clock (state_of c.self.inside.initializing c.self.inside.parts) c.self.inside.originals.loaded
     (ap (λ (v : View). v.broken) (seen-is c.self.invariant c.self.view_is) ∙ c.requires.whole) c.self.invariant.machine c.args.self.now (seen-is c.self.invariant c.self.view_is) c.is_resting-resting.result c.is_resting-resting.ensures
@@ -159,13 +159,13 @@ invariant_of-self-2 c = record {
       (sym c.if-not-is_empty.ensures) c.in_ok-gone.gone c.in-Some.gone c.in-Some.is c.in_ok-gone.ensures.some (state_of c.go.new.initializing c.go.new.parts)
       c.in_ok-gone.ensures.left c.in_ok-gone.ensures.sound c.in_ok-gone.ensures.starts c.in_ok-gone.ensures.hands c.release.new.self.loaded (c.release.ensures.loaded ∙ c.in_ok-gone.ensures.linked)
       c.go.new.parts.frames.frames (parts-pinned c.go.new.initializing c.go.new.parts) c.release.new.self.setup (c.release.ensures.world ∙ ap (λ (x : Setup). x.world) c.go.ensures.world)
-      (subst (λ (x : Setup). Releases c.go.new.parts.frames.frames x.versions c.release.new.self.setup.versions) c.go.ensures.world c.release.ensures.released) c.left-self-inside.result c.left-self-inside.ensures).1;
+      (subst (λ (x : Setup). Releases c.go.new.parts.frames.frames x.versions c.release.new.self.setup.versions) c.go.ensures.world c.release.ensures.released) c.hand_left-self-inside.result c.hand_left-self-inside.ensures).1;
   tidy = λ whole. tidy-released c.go.new.initializing c.go.new.parts c.go.new.originals.setup.versions c.release.new.self.setup.versions c.release.ensures.released;
 }
 
 pub returns-clause-ok : goal.returns-clause-ok
 returns-clause-ok c =
-    as-viewed c.release.new.self.setup c.release.new.self.loaded c.left-self-inside.result c.clock_in-self-inside.result (state_of c.go.new.initializing c.go.new.parts)
+    as-viewed c.release.new.self.setup c.release.new.self.loaded c.hand_left-self-inside.result c.clock_in-self-inside.result (state_of c.go.new.initializing c.go.new.parts)
     (Stops c.args.self.now c.in-Some.gone.due)
     (tidy-released c.go.new.initializing c.go.new.parts c.go.new.originals.setup.versions c.release.new.self.setup.versions c.release.ensures.released)
     ((goes-there c.self.inside.originals.setup c.self.inside.hand c.self.inside.started c.self.inside.broken c.self.inside.clock (state_of c.self.inside.initializing c.self.inside.parts) c.self.inside.originals.loaded
@@ -176,14 +176,14 @@ returns-clause-ok c =
     (sym c.if-not-is_empty.ensures) c.in_ok-gone.gone c.in-Some.gone c.in-Some.is c.in_ok-gone.ensures.some (state_of c.go.new.initializing c.go.new.parts)
     c.in_ok-gone.ensures.left c.in_ok-gone.ensures.sound c.in_ok-gone.ensures.starts c.in_ok-gone.ensures.hands c.release.new.self.loaded (c.release.ensures.loaded ∙ c.in_ok-gone.ensures.linked)
     c.go.new.parts.frames.frames (parts-pinned c.go.new.initializing c.go.new.parts) c.release.new.self.setup (c.release.ensures.world ∙ ap (λ (x : Setup). x.world) c.go.ensures.world)
-    (subst (λ (x : Setup). Releases c.go.new.parts.frames.frames x.versions c.release.new.self.setup.versions) c.go.ensures.world c.release.ensures.released) c.left-self-inside.result c.left-self-inside.ensures).0)
+    (subst (λ (x : Setup). Releases c.go.new.parts.frames.frames x.versions c.release.new.self.setup.versions) c.go.ensures.world c.release.ensures.released) c.hand_left-self-inside.result c.hand_left-self-inside.ensures).0)
 
 pub returns-clause-leaves : goal.returns-clause-leaves
 returns-clause-leaves c =
-    as-viewed c.release.new.self.setup c.release.new.self.loaded c.left-self-inside.result c.clock_in-self-inside.result (state_of c.go.new.initializing c.go.new.parts)
+    as-viewed c.release.new.self.setup c.release.new.self.loaded c.hand_left-self-inside.result c.clock_in-self-inside.result (state_of c.go.new.initializing c.go.new.parts)
     (IfLeaves (telling.Due c.in-Some.gone.due))
     (tidy-released c.go.new.initializing c.go.new.parts c.go.new.originals.setup.versions c.release.new.self.setup.versions c.release.ensures.released)
-    (leaves-by c.release.new.self.setup c.release.new.self.loaded c.left-self-inside.result c.clock_in-self-inside.result (state_of c.go.new.initializing c.go.new.parts) c.in-Some.gone c.left-self-inside.ensures
+    (leaves-by c.release.new.self.setup c.release.new.self.loaded c.hand_left-self-inside.result c.clock_in-self-inside.result (state_of c.go.new.initializing c.go.new.parts) c.in-Some.gone c.hand_left-self-inside.ensures
     (some-left c.in_ok-gone.gone c.in-Some.gone c.in-Some.is c.in_ok-gone.ensures.left)
     (goes-there c.self.inside.originals.setup c.self.inside.hand c.self.inside.started c.self.inside.broken c.self.inside.clock (state_of c.self.inside.initializing c.self.inside.parts) c.self.inside.originals.loaded
     (ap (λ (v : View). v.broken) (seen-is c.self.invariant c.self.view_is) ∙ c.requires.whole) c.self.invariant.machine c.args.self.now (seen-is c.self.invariant c.self.view_is) c.is_resting-resting.result c.is_resting-resting.ensures
@@ -193,7 +193,7 @@ returns-clause-leaves c =
     (sym c.if-not-is_empty.ensures) c.in_ok-gone.gone c.in-Some.gone c.in-Some.is c.in_ok-gone.ensures.some (state_of c.go.new.initializing c.go.new.parts)
     c.in_ok-gone.ensures.left c.in_ok-gone.ensures.sound c.in_ok-gone.ensures.starts c.in_ok-gone.ensures.hands c.release.new.self.loaded (c.release.ensures.loaded ∙ c.in_ok-gone.ensures.linked)
     c.go.new.parts.frames.frames (parts-pinned c.go.new.initializing c.go.new.parts) c.release.new.self.setup (c.release.ensures.world ∙ ap (λ (x : Setup). x.world) c.go.ensures.world)
-    (subst (λ (x : Setup). Releases c.go.new.parts.frames.frames x.versions c.release.new.self.setup.versions) c.go.ensures.world c.release.ensures.released) c.left-self-inside.result c.left-self-inside.ensures).1)
+    (subst (λ (x : Setup). Releases c.go.new.parts.frames.frames x.versions c.release.new.self.setup.versions) c.go.ensures.world c.release.ensures.released) c.hand_left-self-inside.result c.hand_left-self-inside.ensures).1)
 
 pub returns-then-not-is_empty-clause-held : goal.returns-then-not-is_empty-clause-held
 returns-then-not-is_empty-clause-held c =

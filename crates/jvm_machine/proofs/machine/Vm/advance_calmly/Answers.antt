@@ -54,7 +54,7 @@ invariant_of-self-2 c = record {
       (subst (λ o. IfSome o (λ gone. GoesOnFrom c.self.inside.originals.setup c.hand_now-hand.result (state_of c.self.inside.initializing c.self.inside.parts) gone (state_of c.self.inside.initializing c.go_calmly-gone.new.parts))) c.in-Some.is c.go_calmly-gone.ensures.hands)
       (subst (λ o. IfSome o (λ gone. IsSoundIn c.self.inside.originals.setup (state_of c.self.inside.initializing c.self.inside.parts) → IsSoundIn c.self.inside.originals.setup (state_of c.self.inside.initializing c.go_calmly-gone.new.parts))) c.in-Some.is c.go_calmly-gone.ensures.sound)
       (subst (λ o. IfSome o (λ gone. c.hand_now-hand.result.moves ≡ true → c.hand_now-hand.result.delivered ≡ false → state_of c.self.inside.initializing c.self.inside.parts ≡ starts_with c.self.inside.originals.setup.world → IsSoundIn c.self.inside.originals.setup (state_of c.self.inside.initializing c.go_calmly-gone.new.parts))) c.in-Some.is c.go_calmly-gone.ensures.starts)
-      c.clock_in-self-inside.result c.clock_in-self-inside.ensures c.left-self-inside.result c.left-self-inside.ensures;
+      c.clock_in-self-inside.result c.clock_in-self-inside.ensures c.hand_left-self-inside.result c.hand_left-self-inside.ensures;
   tidy = λ whole. calm-tidy c.self.inside.originals.setup c.self.inside.originals.loaded c.self.inside.hand c.self.inside.started c.self.inside.broken c.self.inside.clock
       c.self.inside.initializing c.self.inside.parts c.self.invariant.machine c.args.self.now (seen-is c.self.invariant c.self.view_is) c.if-not-self.false c.if-self.false
       c.is_resting-resting.result c.is_resting-resting.ensures
@@ -63,13 +63,13 @@ invariant_of-self-2 c = record {
       (subst (λ o. IfSome o (λ gone. GoesOnFrom c.self.inside.originals.setup c.hand_now-hand.result (state_of c.self.inside.initializing c.self.inside.parts) gone (state_of c.self.inside.initializing c.go_calmly-gone.new.parts))) c.in-Some.is c.go_calmly-gone.ensures.hands)
       (subst (λ o. IfSome o (λ gone. IsSoundIn c.self.inside.originals.setup (state_of c.self.inside.initializing c.self.inside.parts) → IsSoundIn c.self.inside.originals.setup (state_of c.self.inside.initializing c.go_calmly-gone.new.parts))) c.in-Some.is c.go_calmly-gone.ensures.sound)
       (subst (λ o. IfSome o (λ gone. c.hand_now-hand.result.moves ≡ true → c.hand_now-hand.result.delivered ≡ false → state_of c.self.inside.initializing c.self.inside.parts ≡ starts_with c.self.inside.originals.setup.world → IsSoundIn c.self.inside.originals.setup (state_of c.self.inside.initializing c.go_calmly-gone.new.parts))) c.in-Some.is c.go_calmly-gone.ensures.starts)
-      c.clock_in-self-inside.result c.clock_in-self-inside.ensures c.left-self-inside.result c.left-self-inside.ensures (c.self.invariant.tidy whole);
+      c.clock_in-self-inside.result c.clock_in-self-inside.ensures c.hand_left-self-inside.result c.hand_left-self-inside.ensures (c.self.invariant.tidy whole);
 }
 
 pub returns-clause-stops : goal.returns-clause-stops
 returns-clause-stops c =
     subst (Stops c.args.self.now c.in-Some.gone.due)
-    (sym (plain-view c.self.inside.originals.setup c.self.inside.originals.loaded c.left-self-inside.result c.self.inside.started c.self.inside.broken c.clock_in-self-inside.result
+    (sym (plain-view c.self.inside.originals.setup c.self.inside.originals.loaded c.hand_left-self-inside.result c.self.inside.started c.self.inside.broken c.clock_in-self-inside.result
     (state_of c.self.inside.initializing c.go_calmly-gone.new.parts) (λ whole. calm-tidy c.self.inside.originals.setup c.self.inside.originals.loaded c.self.inside.hand c.self.inside.started c.self.inside.broken c.self.inside.clock
     c.self.inside.initializing c.self.inside.parts c.self.invariant.machine c.args.self.now (seen-is c.self.invariant c.self.view_is) c.if-not-self.false c.if-self.false
     c.is_resting-resting.result c.is_resting-resting.ensures
@@ -78,7 +78,7 @@ returns-clause-stops c =
     (subst (λ o. IfSome o (λ gone. GoesOnFrom c.self.inside.originals.setup c.hand_now-hand.result (state_of c.self.inside.initializing c.self.inside.parts) gone (state_of c.self.inside.initializing c.go_calmly-gone.new.parts))) c.in-Some.is c.go_calmly-gone.ensures.hands)
     (subst (λ o. IfSome o (λ gone. IsSoundIn c.self.inside.originals.setup (state_of c.self.inside.initializing c.self.inside.parts) → IsSoundIn c.self.inside.originals.setup (state_of c.self.inside.initializing c.go_calmly-gone.new.parts))) c.in-Some.is c.go_calmly-gone.ensures.sound)
     (subst (λ o. IfSome o (λ gone. c.hand_now-hand.result.moves ≡ true → c.hand_now-hand.result.delivered ≡ false → state_of c.self.inside.initializing c.self.inside.parts ≡ starts_with c.self.inside.originals.setup.world → IsSoundIn c.self.inside.originals.setup (state_of c.self.inside.initializing c.go_calmly-gone.new.parts))) c.in-Some.is c.go_calmly-gone.ensures.starts)
-    c.clock_in-self-inside.result c.clock_in-self-inside.ensures c.left-self-inside.result c.left-self-inside.ensures (c.self.invariant.tidy whole))))
+    c.clock_in-self-inside.result c.clock_in-self-inside.ensures c.hand_left-self-inside.result c.hand_left-self-inside.ensures (c.self.invariant.tidy whole))))
     (calm-stops c.self.inside.originals.setup c.self.inside.originals.loaded c.self.inside.hand c.self.inside.started c.self.inside.broken c.self.inside.clock
     c.self.inside.initializing c.self.inside.parts c.self.invariant.machine c.args.self.now (seen-is c.self.invariant c.self.view_is) c.if-not-self.false c.if-self.false
     c.is_resting-resting.result c.is_resting-resting.ensures
@@ -87,12 +87,12 @@ returns-clause-stops c =
     (subst (λ o. IfSome o (λ gone. GoesOnFrom c.self.inside.originals.setup c.hand_now-hand.result (state_of c.self.inside.initializing c.self.inside.parts) gone (state_of c.self.inside.initializing c.go_calmly-gone.new.parts))) c.in-Some.is c.go_calmly-gone.ensures.hands)
     (subst (λ o. IfSome o (λ gone. IsSoundIn c.self.inside.originals.setup (state_of c.self.inside.initializing c.self.inside.parts) → IsSoundIn c.self.inside.originals.setup (state_of c.self.inside.initializing c.go_calmly-gone.new.parts))) c.in-Some.is c.go_calmly-gone.ensures.sound)
     (subst (λ o. IfSome o (λ gone. c.hand_now-hand.result.moves ≡ true → c.hand_now-hand.result.delivered ≡ false → state_of c.self.inside.initializing c.self.inside.parts ≡ starts_with c.self.inside.originals.setup.world → IsSoundIn c.self.inside.originals.setup (state_of c.self.inside.initializing c.go_calmly-gone.new.parts))) c.in-Some.is c.go_calmly-gone.ensures.starts)
-    c.clock_in-self-inside.result c.clock_in-self-inside.ensures c.left-self-inside.result c.left-self-inside.ensures)
+    c.clock_in-self-inside.result c.clock_in-self-inside.ensures c.hand_left-self-inside.result c.hand_left-self-inside.ensures)
 
 pub returns-clause-leaves : goal.returns-clause-leaves
 returns-clause-leaves c =
     subst (IfLeaves (telling.Due c.in-Some.gone.due))
-    (sym (plain-view c.self.inside.originals.setup c.self.inside.originals.loaded c.left-self-inside.result c.self.inside.started c.self.inside.broken c.clock_in-self-inside.result
+    (sym (plain-view c.self.inside.originals.setup c.self.inside.originals.loaded c.hand_left-self-inside.result c.self.inside.started c.self.inside.broken c.clock_in-self-inside.result
     (state_of c.self.inside.initializing c.go_calmly-gone.new.parts) (λ whole. calm-tidy c.self.inside.originals.setup c.self.inside.originals.loaded c.self.inside.hand c.self.inside.started c.self.inside.broken c.self.inside.clock
     c.self.inside.initializing c.self.inside.parts c.self.invariant.machine c.args.self.now (seen-is c.self.invariant c.self.view_is) c.if-not-self.false c.if-self.false
     c.is_resting-resting.result c.is_resting-resting.ensures
@@ -101,7 +101,7 @@ returns-clause-leaves c =
     (subst (λ o. IfSome o (λ gone. GoesOnFrom c.self.inside.originals.setup c.hand_now-hand.result (state_of c.self.inside.initializing c.self.inside.parts) gone (state_of c.self.inside.initializing c.go_calmly-gone.new.parts))) c.in-Some.is c.go_calmly-gone.ensures.hands)
     (subst (λ o. IfSome o (λ gone. IsSoundIn c.self.inside.originals.setup (state_of c.self.inside.initializing c.self.inside.parts) → IsSoundIn c.self.inside.originals.setup (state_of c.self.inside.initializing c.go_calmly-gone.new.parts))) c.in-Some.is c.go_calmly-gone.ensures.sound)
     (subst (λ o. IfSome o (λ gone. c.hand_now-hand.result.moves ≡ true → c.hand_now-hand.result.delivered ≡ false → state_of c.self.inside.initializing c.self.inside.parts ≡ starts_with c.self.inside.originals.setup.world → IsSoundIn c.self.inside.originals.setup (state_of c.self.inside.initializing c.go_calmly-gone.new.parts))) c.in-Some.is c.go_calmly-gone.ensures.starts)
-    c.clock_in-self-inside.result c.clock_in-self-inside.ensures c.left-self-inside.result c.left-self-inside.ensures (c.self.invariant.tidy whole))))
+    c.clock_in-self-inside.result c.clock_in-self-inside.ensures c.hand_left-self-inside.result c.hand_left-self-inside.ensures (c.self.invariant.tidy whole))))
     (calm-leaves c.self.inside.originals.setup c.self.inside.originals.loaded c.self.inside.hand c.self.inside.started c.self.inside.broken c.self.inside.clock
     c.self.inside.initializing c.self.inside.parts c.self.invariant.machine c.args.self.now (seen-is c.self.invariant c.self.view_is) c.if-not-self.false c.if-self.false
     c.is_resting-resting.result c.is_resting-resting.ensures
@@ -110,7 +110,7 @@ returns-clause-leaves c =
     (subst (λ o. IfSome o (λ gone. GoesOnFrom c.self.inside.originals.setup c.hand_now-hand.result (state_of c.self.inside.initializing c.self.inside.parts) gone (state_of c.self.inside.initializing c.go_calmly-gone.new.parts))) c.in-Some.is c.go_calmly-gone.ensures.hands)
     (subst (λ o. IfSome o (λ gone. IsSoundIn c.self.inside.originals.setup (state_of c.self.inside.initializing c.self.inside.parts) → IsSoundIn c.self.inside.originals.setup (state_of c.self.inside.initializing c.go_calmly-gone.new.parts))) c.in-Some.is c.go_calmly-gone.ensures.sound)
     (subst (λ o. IfSome o (λ gone. c.hand_now-hand.result.moves ≡ true → c.hand_now-hand.result.delivered ≡ false → state_of c.self.inside.initializing c.self.inside.parts ≡ starts_with c.self.inside.originals.setup.world → IsSoundIn c.self.inside.originals.setup (state_of c.self.inside.initializing c.go_calmly-gone.new.parts))) c.in-Some.is c.go_calmly-gone.ensures.starts)
-    c.clock_in-self-inside.result c.clock_in-self-inside.ensures c.left-self-inside.result c.left-self-inside.ensures)
+    c.clock_in-self-inside.result c.clock_in-self-inside.ensures c.hand_left-self-inside.result c.hand_left-self-inside.ensures)
 
 pub returns-clause-going : goal.returns-clause-going
 returns-clause-going c =

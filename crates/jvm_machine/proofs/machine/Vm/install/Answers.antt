@@ -6,7 +6,7 @@ use Rattle.prepared_code.specs.Versions.{Setup}
 use Rattle.prepared_code.proofs.ClassVersionLaws.{versions-below}
 use Rattle.prepared_code.proofs.StandingSteps.{parts-pinned}
 use Rattle.jvm_machine.specs.Installs.{IsFormed, IsImageOf, with_class}
-use Rattle.jvm_machine.specs.Machine.{IsMachine, IsTidy, seen, viewed}
+use Rattle.jvm_machine.specs.Machine.{IsMachine, IsTidy, state_seen, state_viewed}
 use Rattle.jvm_machine.specs.View.{View}
 use Rattle.jvm_machine.proofs.ImagedMethods.{class-fits}
 use Rattle.jvm_machine.proofs.Installed.{either-way, installed-machine, installed-seen, on-err-then, on-ok-then}
@@ -21,21 +21,21 @@ install-requires c =
 pub invariant_of-self : goal.invariant_of-self
 invariant_of-self c = record {
   machine = subst (λ l. IsMachine c.install.new.self.setup l c.self.inside.hand
-      (seen c.install.new.self.setup (state_of c.self.inside.initializing c.self.inside.parts) c.self.inside.started c.self.inside.broken c.self.inside.clock c.self.inside.hand) (state_of c.self.inside.initializing c.self.inside.parts)) (sym c.install.ensures.loaded)
+      (state_seen c.install.new.self.setup (state_of c.self.inside.initializing c.self.inside.parts) c.self.inside.started c.self.inside.broken c.self.inside.clock c.self.inside.hand) (state_of c.self.inside.initializing c.self.inside.parts)) (sym c.install.ensures.loaded)
       (either-way (IsMachine c.install.new.self.setup c.self.inside.originals.loaded c.self.inside.hand
-      (seen c.install.new.self.setup (state_of c.self.inside.initializing c.self.inside.parts) c.self.inside.started c.self.inside.broken c.self.inside.clock c.self.inside.hand) (state_of c.self.inside.initializing c.self.inside.parts)) c.install.result
+      (state_seen c.install.new.self.setup (state_of c.self.inside.initializing c.self.inside.parts) c.self.inside.started c.self.inside.broken c.self.inside.clock c.self.inside.hand) (state_of c.self.inside.initializing c.self.inside.parts)) c.install.result
       (on-ok-then (Adds c.self.inside.parts.frames.frames (class_versions c.self.inside.originals.setup.world.program c.args.class c.args.image c.args.homes.now)
       c.self.inside.originals.setup.versions c.install.new.self.setup.versions) (IsMachine c.install.new.self.setup c.self.inside.originals.loaded c.self.inside.hand
-      (seen c.install.new.self.setup (state_of c.self.inside.initializing c.self.inside.parts) c.self.inside.started c.self.inside.broken c.self.inside.clock c.self.inside.hand) (state_of c.self.inside.initializing c.self.inside.parts)) c.install.result
+      (state_seen c.install.new.self.setup (state_of c.self.inside.initializing c.self.inside.parts) c.self.inside.started c.self.inside.broken c.self.inside.clock c.self.inside.hand) (state_of c.self.inside.initializing c.self.inside.parts)) c.install.result
       (installed-machine c.self.inside.started c.self.inside.broken c.self.inside.clock c.self.inside.hand (state_of c.self.inside.initializing c.self.inside.parts) c.self.inside.originals.loaded
       (ap (λ (v : View). v.broken) (seen-is c.self.invariant c.self.view_is) ∙ c.requires.whole) c.self.inside.originals.setup c.self.inside.parts.frames.frames
       (parts-pinned c.self.inside.initializing c.self.inside.parts) c.self.invariant.machine (subst (λ (v : View). IsFormed v.program) (sym (seen-is c.self.invariant c.self.view_is)) c.requires.formed)
       c.args.class c.args.marks.now c.args.image c.args.homes.now (subst (λ (v : View). IsImageOf v.program c.args.class c.args.marks.now c.args.image c.args.homes.now) (sym (seen-is c.self.invariant c.self.view_is)) c.requires.image)
       c.requires.pool c.install.new.self.setup c.install.ensures.world) c.install.ensures.ok)
       (on-err-then (c.install.new.self.setup.versions ≡ c.self.inside.originals.setup.versions) (IsMachine c.install.new.self.setup c.self.inside.originals.loaded c.self.inside.hand
-      (seen c.install.new.self.setup (state_of c.self.inside.initializing c.self.inside.parts) c.self.inside.started c.self.inside.broken c.self.inside.clock c.self.inside.hand) (state_of c.self.inside.initializing c.self.inside.parts)) c.install.result
+      (state_seen c.install.new.self.setup (state_of c.self.inside.initializing c.self.inside.parts) c.self.inside.started c.self.inside.broken c.self.inside.clock c.self.inside.hand) (state_of c.self.inside.initializing c.self.inside.parts)) c.install.result
       (λ versions. subst (λ (w : Setup). IsMachine w c.self.inside.originals.loaded c.self.inside.hand
-      (seen w (state_of c.self.inside.initializing c.self.inside.parts) c.self.inside.started c.self.inside.broken c.self.inside.clock c.self.inside.hand) (state_of c.self.inside.initializing c.self.inside.parts))
+      (state_seen w (state_of c.self.inside.initializing c.self.inside.parts) c.self.inside.started c.self.inside.broken c.self.inside.clock c.self.inside.hand) (state_of c.self.inside.initializing c.self.inside.parts))
       (sym (ap₂ (λ world versions. let w : Setup = record { world = world; versions = versions } in w) c.install.ensures.world versions)) c.self.invariant.machine) c.install.ensures.err));
   tidy = λ whole. either-way (IsTidy c.install.new.self.setup.versions (state_of c.self.inside.initializing c.self.inside.parts).stack) c.install.result
       (on-ok-then (Adds c.self.inside.parts.frames.frames (class_versions c.self.inside.originals.setup.world.program c.args.class c.args.image c.args.homes.now)
@@ -54,7 +54,7 @@ invariant_of-self c = record {
 pub returns-clause-ok : goal.returns-clause-ok
 returns-clause-ok c =
     on-ok-then (Adds c.self.inside.parts.frames.frames (class_versions c.self.inside.originals.setup.world.program c.args.class c.args.image c.args.homes.now)
-    c.self.inside.originals.setup.versions c.install.new.self.setup.versions) ((viewed c.install.new.self.setup (state_of c.self.inside.initializing c.self.inside.parts) c.self.inside.started c.self.inside.broken c.self.inside.clock c.self.inside.hand) ≡ with_class c.args.class c.args.marks.now c.args.self.now) c.install.result
+    c.self.inside.originals.setup.versions c.install.new.self.setup.versions) ((state_viewed c.install.new.self.setup (state_of c.self.inside.initializing c.self.inside.parts) c.self.inside.started c.self.inside.broken c.self.inside.clock c.self.inside.hand) ≡ with_class c.args.class c.args.marks.now c.args.self.now) c.install.result
     (λ adds. plain-view c.install.new.self.setup c.self.inside.originals.loaded c.self.inside.hand c.self.inside.started c.self.inside.broken c.self.inside.clock
     (state_of c.self.inside.initializing c.self.inside.parts) (λ whole.
     tidy-added (state_of c.self.inside.initializing c.self.inside.parts).stack c.self.inside.parts.frames.frames (λ k. pinned-runs k c.self.inside.parts.frames.frames c.self.inside.initializing)
@@ -72,6 +72,6 @@ returns-clause-ok c =
 
 pub returns-clause-err : goal.returns-clause-err
 returns-clause-err c =
-    on-err-then (c.install.new.self.setup.versions ≡ c.self.inside.originals.setup.versions) ((viewed c.install.new.self.setup (state_of c.self.inside.initializing c.self.inside.parts) c.self.inside.started c.self.inside.broken c.self.inside.clock c.self.inside.hand) ≡ c.args.self.now) c.install.result
-    (λ versions. ap (λ (w : Setup). viewed w (state_of c.self.inside.initializing c.self.inside.parts) c.self.inside.started c.self.inside.broken c.self.inside.clock c.self.inside.hand) (ap₂ (λ world versions. let w : Setup = record { world = world; versions = versions } in w) c.install.ensures.world versions)
+    on-err-then (c.install.new.self.setup.versions ≡ c.self.inside.originals.setup.versions) ((state_viewed c.install.new.self.setup (state_of c.self.inside.initializing c.self.inside.parts) c.self.inside.started c.self.inside.broken c.self.inside.clock c.self.inside.hand) ≡ c.args.self.now) c.install.result
+    (λ versions. ap (λ (w : Setup). state_viewed w (state_of c.self.inside.initializing c.self.inside.parts) c.self.inside.started c.self.inside.broken c.self.inside.clock c.self.inside.hand) (ap₂ (λ world versions. let w : Setup = record { world = world; versions = versions } in w) c.install.ensures.world versions)
     ∙ c.self.view_is) c.install.ensures.err

@@ -1,7 +1,7 @@
 use Rattle.std.proofs.Common.{ℕ, List, ap, subst, ◌∙◌}
 use Rattle.class_linker.specs.Linkers.{LinkerView}
 use Rattle.jvm_named.specs.Attempts.{world_over}
-use Rattle.jvm_named.specs.Does.{changed}
+use Rattle.jvm_named.specs.Does.{parts_changed}
 use Rattle.jvm_named.specs.Passing.{IfRan, runs_native_call}
 use Rattle.prepared_code.specs.Linked.{linker_in}
 use Rattle.jvm_steps.proofs.execute.passing.do_native.Goals as goal
@@ -14,6 +14,6 @@ returns-clause-ran c =
     let p = c.args.parts.now in
     let new = c.pass_native.new in
     subst (λ (input : List ℕ). IfRan c.pass_native.result (runs_native_call (world_over (linker_in c.args.originals.now) input) c.args.native p.shared p.frames.frames) c.args.next
-    (changed p.frames p.shared p.output) (changed new.frames new.shared new.output)) c.input.ensures
+    (parts_changed p.frames p.shared p.output) (parts_changed new.frames new.shared new.output)) c.input.ensures
     (subst (λ (v : LinkerView). IfRan c.pass_native.result (runs_native_call (world_over v c.input.result.now) c.args.native p.shared p.frames.frames) c.args.next
-    (changed p.frames p.shared p.output) (changed new.frames new.shared new.output)) c.linker-linker.ensures c.pass_native.ensures)
+    (parts_changed p.frames p.shared p.output) (parts_changed new.frames new.shared new.output)) c.linker-linker.ensures c.pass_native.ensures)

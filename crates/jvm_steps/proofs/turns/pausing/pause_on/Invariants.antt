@@ -1,6 +1,6 @@
 -- the pause is that of the state at the start
 use Rattle.std.proofs.Common.{◌≡◌}
-use Rattle.jvm_model.specs.Running.Moves.{left}
+use Rattle.jvm_model.specs.Running.Moves.{moves_left}
 use Rattle.prepared_code.specs.Initializations.{state_of}
 use Rattle.jvm_steps.specs.Moves.Turning.{paused_in}
 use Rattle.jvm_steps.proofs.turns.pausing.pause_on.Given as goal
@@ -11,4 +11,4 @@ invariant-loop-passed l =
     ≡ paused_in l.fn.originals.setup l.fn.passed (state_of l.fn.initializing l.fn.parts)
 
 abbrev pub decreases-loop-passed : goal.decreases-loop-passed
-decreases-loop-passed l = left (state_of l.initializing l.parts)
+decreases-loop-passed l = moves_left (state_of l.initializing l.parts)

@@ -1,5 +1,5 @@
 use Rattle.std.proofs.Common.{◌≤◌, sym, subst, ap, ◌∙◌}
-use Rattle.context_tree.specs.Profiles.{credited}
+use Rattle.context_tree.specs.Profiles.{steps_credited}
 use Rattle.profile_session.proofs.Acts.{brought, credit-later}
 use Rattle.profile_session.proofs.parts.Parts.bring.Goals as goal
 
@@ -8,4 +8,4 @@ credit-requires c = subst (λ n. c.drain.new.self.tree.clock ≤ n) (sym c.clock
 
 pub returns : goal.returns
 returns c =
-    brought c.args.self.now c.drain.new.self c.credit.new.self c.in_ok-drain.ensures (c.credit.ensures.credited ∙ ap (λ n. credited n c.drain.new.self.tree) c.clock.ensures)
+    brought c.args.self.now c.drain.new.self c.credit.new.self c.in_ok-drain.ensures (c.credit.ensures.credited ∙ ap (λ n. steps_credited n c.drain.new.self.tree) c.clock.ensures)

@@ -2,11 +2,11 @@
 use Rattle.std.proofs.Common.{ap₂, ◌∙◌}
 use Rattle.std.proofs.lemmas.Result.{IfOk-weaker}
 use Rattle.clap.specs.Words.{with_rule}
-use Rattle.command_line.proofs.described.described.Goals as goal
+use Rattle.command_line.proofs.described.command_described.Goals as goal
 
 pub returns : goal.returns
 returns c =
-    let main = c.in_ok-command.ensures ∙ ap₂ with_rule c.named.ensures c.option-main.ensures.rule in
+    let main = c.in_ok-command.ensures ∙ ap₂ with_rule c.command_named.ensures c.option-main.ensures.rule in
     let root = c.in_ok-command-2.ensures ∙ ap₂ with_rule main c.option-root.ensures.rule in
     let budget = c.in_ok-command-3.ensures ∙ ap₂ with_rule root c.option-budget.ensures.rule in
     let plan = c.in_ok-command-4.ensures ∙ ap₂ with_rule budget c.option-plan.ensures.rule in

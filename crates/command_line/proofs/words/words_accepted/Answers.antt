@@ -3,7 +3,7 @@ use Rattle.command_line.specs.Words.{IsSound, Read, is_refused, read_in, read_of
 use Rattle.command_line.specs.Reading.{given_in}
 use Rattle.command_line.specs.declared.words.Words.{Words}
 use Rattle.command_line.proofs.Sound.{sound}
-use Rattle.command_line.proofs.words.accepted.Goals as goal
+use Rattle.command_line.proofs.words.words_accepted.Goals as goal
 
 pub returns-clause-sound : goal.returns-clause-sound
 returns-clause-sound c =

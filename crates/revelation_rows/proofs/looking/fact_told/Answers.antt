@@ -3,7 +3,7 @@ use Rattle.std.proofs.Common.{◌≡◌, subst}
 use Rattle.jvm_model.specs.Profiling.Revealed.{changed_of}
 use Rattle.call_revelation.specs.Reveals.{now_of}
 use Rattle.revelation_rows.proofs.ToldLemmas.{told-begins, told-changed, told-marks, told-selected, told-selects}
-use Rattle.revelation_rows.proofs.looking.told.Goals as goal
+use Rattle.revelation_rows.proofs.looking.fact_told.Goals as goal
 
 pub returns-in_ok-marks-in-Marks : goal.returns-in_ok-marks-in-Marks
 returns-in_ok-marks-in-Marks c =
@@ -16,10 +16,10 @@ returns-in_ok-changed-in-Changed c =
     (λ before shown. subst (λ found. IfOk found (λ cs. cs ≡ changed_of p before (now_of c.args.reveal.now))) c.in_ok-changed-in-Changed.was
     (c.changed.ensures p before c.requires.along.revelation shown))
 
-pub returns-in_ok-begun-in-Begins : goal.returns-in_ok-begun-in-Begins
-returns-in_ok-begun-in-Begins c =
-    told-begins c.args.linker.now c.args.reveal.now c.args.fact.now c.in-Begins.method c.in-Begins.field-1 c.in_ok-begun-in-Begins.field-0 c.in-Begins.is
-    c.in_ok-begun-in-Begins.ensures
+pub returns-in_ok-methods_begun-in-Begins : goal.returns-in_ok-methods_begun-in-Begins
+returns-in_ok-methods_begun-in-Begins c =
+    told-begins c.args.linker.now c.args.reveal.now c.args.fact.now c.in-Begins.method c.in-Begins.field-1 c.in_ok-methods_begun-in-Begins.field-0 c.in-Begins.is
+    c.in_ok-methods_begun-in-Begins.ensures
 
 pub returns-in-IsSelected : goal.returns-in-IsSelected
 returns-in-IsSelected c =

@@ -1,5 +1,5 @@
 use Rattle.program_fit.proofs.Runs.{runnable}
-use Rattle.machine_rows.proofs.making.placed.Goals as goal
+use Rattle.machine_rows.proofs.making.machine_placed.Goals as goal
 
 pub new-requires-2-clause-fits : goal.new-requires-2-clause-fits
 new-requires-2-clause-fits c = (runnable c.args.program c.requires).fits

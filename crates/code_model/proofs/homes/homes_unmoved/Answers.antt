@@ -1,5 +1,5 @@
 use Rattle.code_model.proofs.Carried.{made_rise, made_stay}
-use Rattle.code_model.proofs.homes.unmoved.Goals as goal
+use Rattle.code_model.proofs.homes.homes_unmoved.Goals as goal
 
 pub returns-clause-same : goal.returns-clause-same
 returns-clause-same c = made_stay c.args.code.now c.own_homes.result c.own_homes.ensures

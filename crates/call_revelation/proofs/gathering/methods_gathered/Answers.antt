@@ -11,7 +11,7 @@ use Rattle.call_revelation.specs.Tables.{Adds}
 use Rattle.call_revelation.proofs.Adding.{adds-all}
 use Rattle.call_revelation.proofs.CallerLemmas.{callers-loaded, viewed-fine}
 use Rattle.call_revelation.proofs.TargetLemmas.{gathered-are}
-use Rattle.call_revelation.proofs.gathering.gathered.Goals as goal
+use Rattle.call_revelation.proofs.gathering.methods_gathered.Goals as goal
 
 pub add_all_begun-requires-clause-known : goal.add_all_begun-requires-clause-known
 add_all_begun-requires-clause-known c =

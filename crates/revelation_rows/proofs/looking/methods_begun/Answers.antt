@@ -2,7 +2,7 @@ use Rattle.program_fit.proofs.Runs.{runnable}
 use Rattle.call_revelation.specs.Reveals.{now_of}
 use Rattle.revelation_rows.proofs.LookLemmas.{if-targets}
 use Rattle.revelation_rows.proofs.SceneLemmas.{class-loaded, few-methods}
-use Rattle.revelation_rows.proofs.looking.begun.Goals as goal
+use Rattle.revelation_rows.proofs.looking.methods_begun.Goals as goal
 
 pub targets-requires-clause-numbered : goal.targets-requires-clause-numbered
 targets-requires-clause-numbered c = (runnable c.args.linker.now.program c.requires.ready.along.admitted).fits.numbered

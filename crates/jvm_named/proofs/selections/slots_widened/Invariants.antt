@@ -2,7 +2,7 @@
 use Rattle.std.proofs.Common.{◌≡◌}
 use Rattle.jvm_model.specs.declared.program.Program.{Program}
 use Rattle.jvm_named.specs.Selections.{AreSelections}
-use Rattle.jvm_named.proofs.selections.widened.Given as goal
+use Rattle.jvm_named.proofs.selections.slots_widened.Given as goal
 
 abbrev pub invariant-loop-at : goal.invariant-loop-at
 invariant-loop-at l = (p : Program) → AreSelections p l.fn.slots → AreSelections p l.wider
