@@ -9,8 +9,8 @@ use Rattle.jvm_model.specs.Basis.Programs.{class_named, has_name}
 use Rattle.jvm_model.specs.Profiling.Revelation.{symbolic_references_of}
 use Rattle.jvm_model.specs.Profiling.Targets.{operations_of}
 use Rattle.jvm_model.proofs.Soundness.SoundKinds.{named-class}
-use Rattle.jvm_named.specs.declared.symbolic_reference.SymbolicReference.{SymbolicReference}
-use Rattle.jvm_named.specs.Names.{symbolic_view}
+use Rattle.symbolic_references.specs.declared.symbolic_reference.SymbolicReference.{SymbolicReference}
+use Rattle.symbolic_references.specs.Names.{symbolic_view}
 use Rattle.call_revelation.specs.declared.uses.Use.{Use}
 use Rattle.call_revelation.specs.Books.{Codes, HasMore, IsBook, IsListed, code_at, has_use, is_noted, is_use, use_of, with_noted, with_use, with_uses}
 use Rattle.call_revelation.specs.Tables.{list_at, with_item}

@@ -7,8 +7,8 @@ use Rattle.jvm_model.specs.Classes.Load.{is_among}
 use Rattle.jvm_model.specs.Profiling.Revelation.{symbolic_references_of}
 use Rattle.jvm_model.specs.Soundness.Sound.{HasClass, HasLoadedCaller, IsFit}
 use Rattle.jvm_model.specs.Profiling.Targets.{begun_by, operations_of}
-use Rattle.jvm_named.specs.declared.symbolic_reference.SymbolicReference.{SymbolicReference}
-use Rattle.jvm_named.specs.Names.{symbolic_view}
+use Rattle.symbolic_references.specs.declared.symbolic_reference.SymbolicReference.{SymbolicReference}
+use Rattle.symbolic_references.specs.Names.{symbolic_view}
 use Rattle.call_revelation.specs.declared.uses.Use.{Use}
 use Rattle.call_revelation.specs.Books.{Codes, IsBook, called_from, code_at, methods_gathered, symbolic_reference_at, of_entered}
 use Rattle.call_revelation.specs.Tables.{Adds, list_at}

@@ -7,7 +7,7 @@ use Rattle.const_pool.specs.declared.class.Member.{Member}
 use Rattle.jvm_model.specs.declared.program.Program.{Program}
 use Rattle.jvm_model.specs.Basis.Methods.{code_of}
 use Rattle.jvm_model.specs.Basis.Programs.{coded_from, methods_numbered, numbered_from}
-use Rattle.jvm_named.specs.Numbers.{all_coded, coded_count}
+use Rattle.symbolic_references.specs.Numbers.{all_coded, coded_count}
 
 coded-length : (class at : ℕ) (ms : List Member) → length (coded_from class at ms) ≡ coded_count ms
 coded-length class at [] = refl

@@ -14,8 +14,8 @@ use Rattle.jvm_model.specs.Soundness.Sound.{HasSupertypes}
 use Rattle.jvm_model.specs.Profiling.Targets.{begun_by, loaded_class_named, operations_of, targets_in}
 use Rattle.jvm_model.proofs.Revealing.Gained.{gained-targets}
 use Rattle.jvm_model.proofs.Revealing.Revealed.{is_gained, load-targets}
-use Rattle.jvm_named.specs.declared.symbolic_reference.SymbolicReference.{SymbolicReference}
-use Rattle.jvm_named.specs.Names.{symbolic_view}
+use Rattle.symbolic_references.specs.declared.symbolic_reference.SymbolicReference.{SymbolicReference}
+use Rattle.symbolic_references.specs.Names.{symbolic_view}
 use Rattle.call_revelation.specs.declared.uses.Use.{Use}
 use Rattle.call_revelation.specs.Books.{Codes, IsBook, called_by, called_from, called_on, code_at, methods_gathered, is_use, symbolic_reference_at, of_entered}
 use Rattle.call_revelation.specs.CalledClasses.{HasUppers, called_class}

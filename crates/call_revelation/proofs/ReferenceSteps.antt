@@ -11,8 +11,8 @@ use Rattle.jvm_model.specs.Codes.Lines.{operation_of}
 use Rattle.jvm_model.specs.Instructions.SymbolicReference as model
 use Rattle.jvm_model.specs.Codes.Places.{read_from}
 use Rattle.jvm_model.specs.Profiling.Revelation.{symbolic_reference_in}
-use Rattle.jvm_named.specs.declared.symbolic_reference.SymbolicReference.{SymbolicReference}
-use Rattle.jvm_named.specs.Names.{symbolic_view}
+use Rattle.symbolic_references.specs.declared.symbolic_reference.SymbolicReference.{SymbolicReference}
+use Rattle.symbolic_references.specs.Names.{symbolic_view}
 use Rattle.call_revelation.specs.CodeReferences.{symbolic_references_from}
 
 some-some : {A : Type 0} (x y : A) → Some x ≡ Some y → x ≡ y

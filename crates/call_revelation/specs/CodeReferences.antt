@@ -9,7 +9,7 @@ use Rattle.jvm_model.specs.Instructions.SymbolicReference.{SymbolicReference}
 use Rattle.jvm_model.specs.Codes.Lines.{operation_of}
 use Rattle.jvm_model.specs.Basis.Methods.{code_of}
 use Rattle.jvm_model.specs.Codes.Places.{read_from}
-use Rattle.jvm_named.specs.Names.{symbolic_view}
+use Rattle.symbolic_references.specs.Names.{symbolic_view}
 use Rattle.prepared_code.specs.declared.line.Action.{Action}
 use Rattle.prepared_code.specs.declared.line.Action.TheVariants as action
 use Rattle.jvm_model.specs.Profiling.Revelation.{symbolic_reference_in}

@@ -7,7 +7,7 @@ ghost use Rattle.jvm_model.specs.Instructions.SymbolicReference.{resolved_name};
 ghost use Rattle.jvm_model.specs.Basis.Programs.{class_named};
 ghost use Rattle.jvm_model.specs.Profiling.Revelation.{is_named, symbolic_references_of};
 ghost use Rattle.jvm_model.specs.Profiling.Targets.{operations_of};
-ghost use Rattle.jvm_named.specs.Names.{symbolic_view};
+ghost use Rattle.symbolic_references.specs.Names.{symbolic_view};
 ghost use Rattle.prepared_code.specs.Prepared.{HasShortCodes};
 ghost use Rattle.call_revelation.specs.Books.{HasMore, IsBookOf, code_at, is_noted, symbolic_reference_at};
 ghost use Rattle.call_revelation.specs.Books.{with_noted, with_use, with_uses};
@@ -18,8 +18,8 @@ use crate::tables::{add_item, no_lists};
 use crate::uses::Use;
 use class_linker::Linker;
 use jf_bytes::{NoMemory, Seq};
-use jvm_named::{SymbolicReference, resolved_name};
 use std::alloc::Global;
+use symbolic_references::{SymbolicReference, resolved_name};
 
 /// What was read of methods, by their numbers; and by the class that an instruction names all instructions that name it, and those
 /// that select by their receiver's class. Where memory ran out there are more of them than were read.

@@ -5,7 +5,7 @@ ghost use Rattle.std.specs.List.{AllByRecursion};
 ghost use Rattle.std.specs.Option.{option_and_then, option_map, option_to_list};
 ghost use Rattle.code_model.specs.Instructions.{end_of};
 ghost use Rattle.jvm_model.specs.Codes.Lines.{operation_of};
-ghost use Rattle.jvm_named.specs.Names.{symbolic_view};
+ghost use Rattle.symbolic_references.specs.Names.{symbolic_view};
 ghost use Rattle.prepared_code.specs.Prepared.{HasShortCode, HasShortCodes};
 ghost use Rattle.call_revelation.specs.CodeReferences.{begins_by, references_in_code, member_references};
 ghost use Rattle.jvm_model.specs.Profiling.Revelation.{symbolic_reference_in, symbolic_references_of};
@@ -16,9 +16,9 @@ use code_model::{Instr, instr_at};
 use const_pool::{ClassFile, Member};
 use jf_bytes::{NoMemory, Seq};
 use jvm_model::Program;
-use jvm_named::SymbolicReference;
 use prepared_code::{Action, Line, code_of, line_of};
 use std::alloc::Global;
+use symbolic_references::SymbolicReference;
 
 /// What names something and can begin a method.
 fn beginning(action: Action) -> Option<SymbolicReference>

@@ -3,9 +3,9 @@
 ghost use Rattle.std.specs.Prelude.{◌≡◌, true, OnOk};
 ghost use Rattle.class_linker.specs.Linkers.{IsLoaded};
 ghost use Rattle.jvm_model.specs.Profiling.Revelation.{gained_on};
-ghost use Rattle.jvm_named.specs.Members.{reference_of};
-ghost use Rattle.jvm_named.specs.Names.{symbolic_view};
-ghost use Rattle.jvm_named.specs.Numbers.{AreNumbers};
+ghost use Rattle.symbolic_references.specs.Members.{reference_of};
+ghost use Rattle.symbolic_references.specs.Names.{symbolic_view};
+ghost use Rattle.symbolic_references.specs.Numbers.{AreNumbers};
 ghost use Rattle.call_revelation.specs.Books.{called_by, called_on};
 ghost use Rattle.call_revelation.specs.Lineages.{selecting};
 ghost use Rattle.call_revelation.specs.Tables.{Adds};
@@ -16,7 +16,7 @@ use crate::lookup::{method_found, selected_number};
 use class_index::Order;
 use class_linker::Linker;
 use jf_bytes::NoMemory;
-use jvm_named::{MemberName, MethodNumbers, SymbolicReference};
+use symbolic_references::{MemberName, MethodNumbers, SymbolicReference};
 
 /// What a call that names a class begins on a new one.
 fn add_called_on(

@@ -10,7 +10,7 @@ ghost use Rattle.jvm_model.specs.Profiling.Revelation.{IsLoadOrder};
 ghost use Rattle.jvm_model.specs.Soundness.Sound.{HasSupertypes};
 ghost use Rattle.jvm_model.specs.Profiling.Targets.{begun_by};
 ghost use Rattle.class_linker.specs.Linkers.{IsLoaded};
-ghost use Rattle.jvm_named.specs.Names.{symbolic_view};
+ghost use Rattle.symbolic_references.specs.Names.{symbolic_view};
 ghost use Rattle.call_revelation.specs.Books.{Begins, called_by, called_from};
 ghost use Rattle.call_revelation.specs.Books.{methods_gathered, symbolic_reference_at, of_entered};
 ghost use Rattle.call_revelation.specs.CalledClasses.{AreHanded};
@@ -29,8 +29,8 @@ use crate::uses::Use;
 use class_index::Order;
 use class_linker::Linker;
 use jf_bytes::NoMemory;
-use jvm_named::SymbolicReference;
 use std::alloc::Global;
+use symbolic_references::SymbolicReference;
 
 /// The classes that a linker has loaded behind so many.
 fn loaded_behind(linker: &Linker, count: usize) -> &[u32]

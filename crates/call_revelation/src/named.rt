@@ -5,7 +5,7 @@ ghost use Rattle.std.specs.Option.{option_to_list};
 ghost use Rattle.jvm_model.specs.declared.program.Program.{Program};
 ghost use Rattle.jvm_model.specs.Classes.Load.{is_among};
 ghost use Rattle.class_index.specs.Orders.{with_class, with_classes};
-ghost use Rattle.jvm_named.specs.Names.{symbolic_view};
+ghost use Rattle.symbolic_references.specs.Names.{symbolic_view};
 ghost use Rattle.call_revelation.specs.Books.{IsBookOf, code_at, is_call};
 ghost use Rattle.call_revelation.specs.Lineages.{IsLineage};
 ghost use Rattle.call_revelation.specs.CalledClasses.{AreHanded, HasCalled, called_class, own_of, uppers_of};
@@ -17,8 +17,8 @@ use crate::tables::{no_lists, put_list};
 use class_index::Order;
 use class_linker::Linker;
 use jf_bytes::{NoMemory, Seq};
-use jvm_named::SymbolicReference;
 use std::alloc::Global;
+use symbolic_references::SymbolicReference;
 
 /// The classes that calls name, and for each loaded class those of them at or above it. Where memory ran out a list has more of them.
 #[derive(Drop)]

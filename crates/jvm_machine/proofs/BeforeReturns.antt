@@ -20,9 +20,9 @@ use Rattle.jvm_model.specs.Running.Run.{turn}
 use Rattle.jvm_model.specs.Rewriting.StandsForRun.{at_homes, versions_forgotten, norm_by}
 use Rattle.jvm_model.specs.Turns.StepPauses.{Awaits, is_at_return}
 use Rattle.jvm_model.specs.Turns.Told.{held_by, helds}
-use Rattle.jvm_steps.specs.declared.turns.hands.Gone.{Gone}
-use Rattle.jvm_steps.specs.declared.turns.hands.Hand.{Hand}
-use Rattle.jvm_steps.specs.Moves.Hands.{HasInHand, IsLeft, todo_of, versioned_in}
+use Rattle.interpreter.specs.declared.turns.hands.Gone.{Gone}
+use Rattle.interpreter.specs.declared.turns.hands.Hand.{Hand}
+use Rattle.interpreter.specs.Moves.Hands.{HasInHand, IsLeft, todo_of, versioned_in}
 use Rattle.prepared_code.specs.Ready.{IsSoundEntryIn, IsSoundIn}
 use Rattle.prepared_code.specs.Standing.{places_of}
 use Rattle.prepared_code.specs.Versions.{Setup, mark_of, method_of}

@@ -4,15 +4,15 @@ use Rattle.std.specs.Prelude.{is_some, ◌&&◌, ◌||◌}
 use Rattle.jvm_model.specs.declared.state.State.{State}
 use Rattle.jvm_model.specs.Running.Run.{starts_with}
 use Rattle.prepared_code.specs.declared.initializations.Initialization.{Initialization}
-use Rattle.jvm_steps.specs.declared.turns.hands.Gone.{Gone}
-use Rattle.jvm_steps.specs.declared.turns.hands.Hand.{Hand}
+use Rattle.interpreter.specs.declared.turns.hands.Gone.{Gone}
+use Rattle.interpreter.specs.declared.turns.hands.Hand.{Hand}
 use Rattle.prepared_code.specs.declared.parts.Parts.{Parts}
 use Rattle.prepared_code.specs.Versions.{Setup}
 use Rattle.prepared_code.specs.Initializations.{state_of}
 use Rattle.prepared_code.specs.Ready.{IsSoundIn}
-use Rattle.jvm_steps.specs.Moves.Calmly.{GoesCalmly}
-use Rattle.jvm_steps.specs.Moves.Hands.{IsLeft}
-use Rattle.jvm_steps.specs.Moves.Turning.{loads_none}
+use Rattle.interpreter.specs.Moves.Calmly.{GoesCalmly}
+use Rattle.interpreter.specs.Moves.Hands.{IsLeft}
+use Rattle.interpreter.specs.Moves.Turning.{loads_none}
 use Rattle.jvm_machine.specs.declared.advancing.Telling.TheVariants as telling
 use Rattle.jvm_machine.specs.Advances.{Stops, clock_in, left_in, taken_hand, taken_loads, taken_state}
 use Rattle.jvm_machine.specs.Machine.{IsMachine, IsSoundOnce, IsTidy, state_seen}

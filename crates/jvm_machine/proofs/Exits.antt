@@ -7,13 +7,13 @@ use Rattle.jvm_model.specs.declared.state.State.{State}
 use Rattle.jvm_model.specs.Basis.Data.{Turn, World}
 use Rattle.jvm_model.specs.Running.Run.{starts_with, with_loaded}
 use Rattle.jvm_model.specs.Turns.Told.{Held, helds}
-use Rattle.jvm_steps.specs.declared.turns.hands.Gone.{Gone}
-use Rattle.jvm_steps.specs.declared.turns.hands.Hand.{Hand}
-use Rattle.jvm_steps.specs.Moves.Hands.{HasGoneOn, HasInHand, IsLeft}
+use Rattle.interpreter.specs.declared.turns.hands.Gone.{Gone}
+use Rattle.interpreter.specs.declared.turns.hands.Hand.{Hand}
+use Rattle.interpreter.specs.Moves.Hands.{HasGoneOn, HasInHand, IsLeft}
 use Rattle.prepared_code.specs.Ready.{CanRun, IsSoundIn}
 use Rattle.prepared_code.specs.Standing.{HasVersions, IsPinned}
 use Rattle.prepared_code.specs.Tables.{Releases}
-use Rattle.jvm_steps.specs.Moves.Turning.{loads_in, loads_none}
+use Rattle.interpreter.specs.Moves.Turning.{loads_in, loads_none}
 use Rattle.prepared_code.specs.Versions.{Setup, mark_of}
 use Rattle.prepared_code.proofs.StandingSteps.{set-up-runs}
 use Rattle.jvm_machine.specs.Advances.{Stops, TellsClasses, broken_in, clock_in, left_in, taken_hand, taken_loads, taken_state}

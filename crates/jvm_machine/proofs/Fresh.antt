@@ -12,8 +12,8 @@ use Rattle.jvm_model.specs.declared.state.State.{State}
 use Rattle.jvm_model.specs.Basis.Programs.{class_at}
 use Rattle.jvm_model.specs.Running.Run.{before}
 use Rattle.jvm_model.specs.Turns.Told.{helds}
-use Rattle.jvm_steps.specs.declared.turns.hands.Hand.{Hand}
-use Rattle.jvm_steps.specs.Machine.Before.{IsAtStart}
+use Rattle.interpreter.specs.declared.turns.hands.Hand.{Hand}
+use Rattle.interpreter.specs.Machine.Before.{IsAtStart}
 use Rattle.prepared_code.specs.Entries.{no_version, original_slot, original_version, original_versions, version_entry, version_in, version_of}
 use Rattle.prepared_code.specs.Standing.{IsSetUp}
 use Rattle.prepared_code.specs.Tables.{Version, Versions}

@@ -26,12 +26,12 @@ use Rattle.jvm_model.proofs.Relocated.ClosedPrograms.{program-agrees}
 use Rattle.jvm_model.proofs.Turns.HandBegins.{begin-loads, hand-begins, hand-starts}
 use Rattle.jvm_model.proofs.Turns.RestStands.{step_loads-same}
 use Rattle.jvm_model.proofs.Turns.RestTells.{NoLoads, no-first, rest-no}
-use Rattle.jvm_steps.specs.declared.turns.hands.Gone.{Gone}
-use Rattle.jvm_steps.specs.declared.turns.hands.Hand.{Hand}
-use Rattle.jvm_steps.specs.Moves.Hands.{HasGoneOn, HasInHand, IsLeft, todo_of, versioned_in}
+use Rattle.interpreter.specs.declared.turns.hands.Gone.{Gone}
+use Rattle.interpreter.specs.declared.turns.hands.Hand.{Hand}
+use Rattle.interpreter.specs.Moves.Hands.{HasGoneOn, HasInHand, IsLeft, todo_of, versioned_in}
 use Rattle.prepared_code.specs.Standing.{HasVersions, places_of}
 use Rattle.prepared_code.specs.Tables.{Version}
-use Rattle.jvm_steps.specs.Moves.Turning.{loads_in, loads_none}
+use Rattle.interpreter.specs.Moves.Turning.{loads_in, loads_none}
 use Rattle.prepared_code.specs.Versions.{Setup, current_of, mark_of, method_of, listing_of}
 use Rattle.prepared_code.proofs.VersionsAgree.{versions-agree}
 use Rattle.jvm_machine.specs.Advances.{left_in, passed_then, told_in}

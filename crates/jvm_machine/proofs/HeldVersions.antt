@@ -17,11 +17,11 @@ use Rattle.prepared_code.specs.Initializations.{above, beneath, initializing_ent
 use Rattle.prepared_code.specs.States.{active}
 use Rattle.prepared_code.specs.Tables.{Adds, AreAllCurrent, AreOfMethods, IsAdded, Releases, Version, Versions, version_at}
 use Rattle.jvm_model.specs.Running.Run.{starts_with, with_loaded}
-use Rattle.jvm_steps.specs.declared.turns.hands.Hand.{Hand}
+use Rattle.interpreter.specs.declared.turns.hands.Hand.{Hand}
 use Rattle.prepared_code.specs.Versions.{Setup}
 use Rattle.jvm_machine.specs.Advances.{taken_state}
 use Rattle.jvm_machine.specs.Machine.{IsTidy, Keeps, holds_stale, is_stale, state_seen, state_viewed}
-use Rattle.jvm_steps.specs.Instructions.Passing.{runs}
+use Rattle.interpreter.specs.Instructions.Passing.{runs}
 use Rattle.jvm_machine.specs.View.{View}
 
 -- ---- what is seen then

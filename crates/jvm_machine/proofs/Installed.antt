@@ -12,9 +12,9 @@ use Rattle.jvm_model.specs.declared.state.State.{State}
 use Rattle.jvm_model.specs.Basis.Data.{World}
 use Rattle.jvm_model.specs.Running.Run.{turn}
 use Rattle.jvm_model.specs.Turns.Told.{helds}
-use Rattle.jvm_steps.specs.declared.turns.hands.Hand.{Hand}
+use Rattle.interpreter.specs.declared.turns.hands.Hand.{Hand}
 use Rattle.prepared_code.specs.ClassVersions.{class_versions}
-use Rattle.jvm_steps.specs.Moves.Hands.{HasInHand}
+use Rattle.interpreter.specs.Moves.Hands.{HasInHand}
 use Rattle.prepared_code.specs.Ready.{IsKept}
 use Rattle.prepared_code.specs.Standing.{IsOfProgram, IsPinned, places_of}
 use Rattle.prepared_code.specs.Tables.{Adds, IsAdded, Version, Versions, version_at}

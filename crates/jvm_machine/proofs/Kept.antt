@@ -17,8 +17,8 @@ use Rattle.jvm_model.specs.Soundness.SoundListings.{IsSoundEntry}
 use Rattle.jvm_model.specs.Rewriting.StandsForRun.{KeepVersions}
 use Rattle.jvm_model.specs.Turns.Told.{Held, helds}
 use Rattle.jvm_model.proofs.Turns.HandBegins.{hand-kept}
-use Rattle.jvm_steps.specs.declared.turns.hands.Hand.{Hand}
-use Rattle.jvm_steps.specs.Moves.Hands.{HasInHand, todo_of, versioned_in}
+use Rattle.interpreter.specs.declared.turns.hands.Hand.{Hand}
+use Rattle.interpreter.specs.Moves.Hands.{HasInHand, todo_of, versioned_in}
 use Rattle.prepared_code.specs.Ready.{IsKept, IsSoundIn, RunsIn}
 use Rattle.prepared_code.specs.Standing.{HasVersions, IsPinned, places_of}
 use Rattle.prepared_code.specs.Tables.{Version, Versions, version_at}

@@ -23,11 +23,11 @@ use Rattle.jvm_model.proofs.Relocated.ClosedPrograms.{program-agrees}
 use Rattle.jvm_model.proofs.Loading.LoadedMoves.{settled-loaded}
 use Rattle.jvm_model.proofs.Soundness.SoundRuns.{with-loaded-is}
 use Rattle.jvm_model.proofs.Soundness.SoundListingRuns.{at-goes}
-use Rattle.jvm_steps.specs.declared.turns.hands.Hand.{Hand}
-use Rattle.jvm_steps.specs.Moves.Hands.{HasInHand, todo_of, versioned_in}
+use Rattle.interpreter.specs.declared.turns.hands.Hand.{Hand}
+use Rattle.interpreter.specs.Moves.Hands.{HasInHand, todo_of, versioned_in}
 use Rattle.prepared_code.specs.Ready.{IsSoundIn, RunsIn}
 use Rattle.prepared_code.specs.Standing.{HasVersions, places_of}
-use Rattle.jvm_steps.specs.Moves.Turning.{loads_in}
+use Rattle.interpreter.specs.Moves.Turning.{loads_in}
 use Rattle.prepared_code.specs.Versions.{Setup, mark_of, listing_of}
 use Rattle.prepared_code.proofs.StandingSteps.{set-up-runs}
 use Rattle.prepared_code.proofs.VersionsRun.{step-stands}

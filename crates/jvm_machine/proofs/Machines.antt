@@ -12,13 +12,13 @@ use Rattle.jvm_model.specs.Turns.Pauses.{is_end}
 use Rattle.jvm_model.specs.Turns.Rest.{loads_first}
 use Rattle.jvm_model.specs.Running.Run.{before, main_loads, run, starts_with, turn, with_loaded}
 use Rattle.jvm_model.specs.Turns.Told.{Held, helds}
-use Rattle.jvm_steps.specs.declared.turns.hands.Gone.{Gone}
-use Rattle.jvm_steps.specs.declared.turns.hands.Hand.{Hand}
-use Rattle.jvm_steps.specs.Moves.Hands.{HasGoneOn, HasInHand, IsLeft}
+use Rattle.interpreter.specs.declared.turns.hands.Gone.{Gone}
+use Rattle.interpreter.specs.declared.turns.hands.Hand.{Hand}
+use Rattle.interpreter.specs.Moves.Hands.{HasGoneOn, HasInHand, IsLeft}
 use Rattle.prepared_code.specs.Ready.{IsSoundIn}
 use Rattle.prepared_code.specs.Standing.{HasVersions, IsPinned}
 use Rattle.prepared_code.specs.Tables.{Releases, Versions}
-use Rattle.jvm_steps.specs.Moves.Turning.{loads_in, loads_none}
+use Rattle.interpreter.specs.Moves.Turning.{loads_in, loads_none}
 use Rattle.prepared_code.specs.Versions.{Setup, mark_of}
 use Rattle.jvm_machine.specs.Advances.{Stops, TellsClasses, clock_in, left_in, passed_then, taken_hand, taken_loads, taken_state, told_in}
 use Rattle.jvm_machine.specs.Machine.{IsMachine, IsSoundOnce, IsWhole, Stands, state_seen}

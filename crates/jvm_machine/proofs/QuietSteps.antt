@@ -18,11 +18,11 @@ use Rattle.jvm_model.proofs.Running.OnlyReturns.{ends-by-return}
 use Rattle.jvm_model.proofs.Turns.RestStands.{rest-same_changes}
 use Rattle.jvm_model.proofs.Turns.RestTells.{no-first, rest-no}
 use Rattle.jvm_model.proofs.Turns.StepPausing.{step-paused}
-use Rattle.jvm_steps.specs.declared.turns.hands.Hand.{Hand}
+use Rattle.interpreter.specs.declared.turns.hands.Hand.{Hand}
 use Rattle.prepared_code.specs.declared.initializations.Initialization.{Initialization}
 use Rattle.prepared_code.specs.declared.parts.Parts.{Parts}
 use Rattle.prepared_code.specs.Initializations.{state_of}
-use Rattle.jvm_steps.specs.Instructions.Passing.{AreSilent, IsSilent, Passes as Silent, runs}
+use Rattle.interpreter.specs.Instructions.Passing.{AreSilent, IsSilent, Passes as Silent, runs}
 use Rattle.prepared_code.specs.Runs.{Leads, steps_from, steps_from-suc, steps_from-zero}
 use Rattle.prepared_code.specs.Standing.{IsRunOf, places_of}
 use Rattle.prepared_code.specs.Versions.{Setup, current_of, mark_of, method_of, listing_of}

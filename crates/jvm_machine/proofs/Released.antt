@@ -9,8 +9,8 @@ use Rattle.jvm_model.specs.declared.event.Mark.TheVariants.{Off}
 use Rattle.jvm_model.specs.declared.state.State.{State}
 use Rattle.jvm_model.specs.Basis.Data.{Turn}
 use Rattle.jvm_model.specs.Turns.Told.{Held, helds}
-use Rattle.jvm_steps.specs.declared.turns.hands.Hand.{Hand}
-use Rattle.jvm_steps.specs.Moves.Hands.{HasInHand}
+use Rattle.interpreter.specs.declared.turns.hands.Hand.{Hand}
+use Rattle.interpreter.specs.Moves.Hands.{HasInHand}
 use Rattle.prepared_code.specs.Ready.{IsKept, IsSoundIn}
 use Rattle.prepared_code.specs.Standing.{HasVersions, IsPinned, places_of}
 use Rattle.prepared_code.specs.Tables.{Releases, Version, Versions, version_at}

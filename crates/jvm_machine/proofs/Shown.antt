@@ -11,7 +11,7 @@ use Rattle.jvm_model.specs.Running.Run.{before, run}
 use Rattle.jvm_model.specs.Rewriting.StandsForRun.{at_homes, versions_forgotten}
 use Rattle.jvm_model.specs.Turns.Told.{helds}
 use Rattle.jvm_model.proofs.Relocated.AppliesMoves.{live-moves}
-use Rattle.jvm_steps.specs.declared.turns.hands.Hand.{Hand}
+use Rattle.interpreter.specs.declared.turns.hands.Hand.{Hand}
 use Rattle.prepared_code.specs.Versions.{Setup, mark_of, method_of}
 use Rattle.jvm_machine.specs.Machine.{IsMachine, Stands, state_seen}
 use Rattle.jvm_machine.specs.Turns.{Ends}

@@ -6,8 +6,8 @@ use Rattle.jvm_model.specs.declared.state.State.{State}
 use Rattle.jvm_model.specs.Basis.Data.{World}
 use Rattle.jvm_model.specs.Turns.InHand.{behind_load}
 use Rattle.jvm_model.specs.Running.Run.{main_loads, starts_with}
-use Rattle.jvm_steps.specs.declared.turns.hands.Gone.{Gone}
-use Rattle.jvm_steps.specs.declared.turns.hands.Hand.{Hand}
+use Rattle.interpreter.specs.declared.turns.hands.Gone.{Gone}
+use Rattle.interpreter.specs.declared.turns.hands.Hand.{Hand}
 use Rattle.jvm_machine.specs.declared.advancing.Telling.{Telling}
 use Rattle.jvm_machine.specs.declared.advancing.Telling.TheVariants as telling
 use Rattle.jvm_machine.specs.View.{View, step_begun, is_resting, loads_next, next_stop, step_rested, step_stopped}

@@ -8,10 +8,10 @@ use Rattle.jvm_model.specs.declared.state.State.{State}
 use Rattle.jvm_model.specs.Running.Run.{starts_with, turn}
 use Rattle.jvm_model.specs.Rewriting.StandsForRun.{StandsFor}
 use Rattle.jvm_model.specs.Turns.Told.{helds}
-use Rattle.jvm_steps.specs.declared.turns.hands.Hand.{Hand}
-use Rattle.jvm_steps.specs.Machine.Before.{IsAtStart}
-use Rattle.jvm_steps.specs.Moves.Hands.{HasInHand}
-use Rattle.jvm_steps.specs.Instructions.Passing.{runs}
+use Rattle.interpreter.specs.declared.turns.hands.Hand.{Hand}
+use Rattle.interpreter.specs.Machine.Before.{IsAtStart}
+use Rattle.interpreter.specs.Moves.Hands.{HasInHand}
+use Rattle.interpreter.specs.Instructions.Passing.{runs}
 use Rattle.prepared_code.specs.Ready.{IsSoundIn}
 use Rattle.prepared_code.specs.Standing.{HasVersions, places_of}
 use Rattle.prepared_code.specs.Tables.{Versions}

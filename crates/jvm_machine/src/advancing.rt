@@ -5,14 +5,14 @@ ghost use Rattle.jvm_model.specs.Basis.Data.{World};
 ghost use Rattle.jvm_model.specs.Turns.InHand.{behind_load};
 ghost use Rattle.jvm_model.specs.Running.Run.{main_loads, starts_with};
 ghost use Rattle.jvm_model.specs.Soundness.Sound.{IsFit};
-ghost use Rattle.jvm_steps.specs.Machine.Before.{IsAtStart};
+ghost use Rattle.interpreter.specs.Machine.Before.{IsAtStart};
 ghost use Rattle.prepared_code.specs.Initializations.{state_of};
 ghost use Rattle.jvm_machine.specs.Advances.{clock_in, left_in};
 ghost use Rattle.jvm_machine.specs.Advances.{taken_hand, taken_loads, taken_state};
 
+use interpreter::{Gone, Hand, begin_start};
 use jf_bytes::{NoMemory, Seq, Stack};
 use jvm_model::{Due, Shared};
-use jvm_steps::{Gone, Hand, begin_start};
 use prepared_code::{Initialization, Originals, Parts};
 use std::alloc::Global;
 

@@ -9,10 +9,10 @@ use Rattle.class_linker.specs.Linkers.{LinkerView}
 use Rattle.jvm_model.specs.Classes.Load.{load_of}
 use Rattle.jvm_model.specs.Instructions.SymbolicReference.{SymbolicReference, New, newly_loaded}
 use Rattle.jvm_model.proofs.Loading.LoadsAgain.{newly-loaded}
-use Rattle.jvm_named.specs.Attempts.{linker_loaded}
-use Rattle.jvm_named.specs.declared.known.Known.{Known}
-use Rattle.jvm_named.specs.Known.{IsKnown}
-use Rattle.jvm_named.proofs.Again.{known-more}
+use Rattle.symbolic_references.specs.Attempts.{linker_loaded}
+use Rattle.symbolic_references.specs.declared.known.Known.{Known}
+use Rattle.symbolic_references.specs.Known.{IsKnown}
+use Rattle.symbolic_references.proofs.Again.{known-more}
 use Rattle.prepared_code.specs.Cells.{Keeps, KeepsItem, Learns, Rows, cell_at, item_at}
 use Rattle.prepared_code.specs.Kept.{AreKnown, IsLater}
 use Rattle.prepared_code.specs.Lines.{IfNamed, IfNamedBy}

@@ -12,7 +12,7 @@ use Rattle.jvm_model.specs.declared.program.Program.{Program}
 use Rattle.jvm_model.specs.Basis.Methods.{code_of, method_code, method_params, member_shape}
 use Rattle.jvm_model.specs.Basis.Programs.{class_at}
 use Rattle.jvm_model.specs.Basis.SharedState.{kind_for, string}
-use Rattle.jvm_named.specs.Numbers.{AreNumbers, Row}
+use Rattle.symbolic_references.specs.Numbers.{AreNumbers, Row}
 use Rattle.prepared_code.specs.declared.originals.Exception.{Exception}
 use Rattle.prepared_code.specs.declared.originals.Exceptions.{Exceptions}
 use Rattle.prepared_code.specs.declared.originals.Method.{Method}

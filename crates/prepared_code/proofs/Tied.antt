@@ -31,7 +31,7 @@ use Rattle.prepared_code.specs.declared.line.Line.{Line}
 use Rattle.prepared_code.specs.Ready.{CanRun, HasLocal, IsOwnLine, IsRuleOf, IsTied}
 use Rattle.prepared_code.specs.Versions.{Setup, instruction_by, instruction_in, is_athrow, is_last_family, next_in, operation_as, operation_in, listing_of}
 use Rattle.prepared_code.specs.Versions as versions
-use Rattle.jvm_named.specs.Names.{symbolic_view}
+use Rattle.symbolic_references.specs.Names.{symbolic_view}
 use Rattle.prepared_code.specs.Lines.{local_action, action_of, line_with, line_of, line_at, named_as}
 
 -- ---- a line and what it does

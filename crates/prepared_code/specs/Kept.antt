@@ -2,10 +2,10 @@
 use Rattle.std.specs.Prelude.{◌≡◌, ℕ, List, Some}
 use Rattle.class_linker.specs.Linkers.{LinkerView}
 use Rattle.jvm_model.specs.Instructions.SymbolicReference.{SymbolicReference}
-use Rattle.jvm_named.specs.declared.known.Known.{Known}
-use Rattle.jvm_named.specs.Known.{IsKnown}
-use Rattle.jvm_named.specs.Numbers.{Row}
-use Rattle.jvm_named.specs.Selections.{AreSelections, Slots}
+use Rattle.symbolic_references.specs.declared.known.Known.{Known}
+use Rattle.symbolic_references.specs.Known.{IsKnown}
+use Rattle.symbolic_references.specs.Numbers.{Row}
+use Rattle.symbolic_references.specs.Selections.{AreSelections, Slots}
 use Rattle.prepared_code.specs.declared.originals.Method.{Method}
 use Rattle.prepared_code.specs.declared.originals.Exceptions.{Exceptions}
 use Rattle.prepared_code.specs.Cells.{Rows, cell_at}

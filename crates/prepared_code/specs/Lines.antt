@@ -19,10 +19,10 @@ use Rattle.jvm_model.specs.declared.family.Family.{Family}
 use Rattle.jvm_basic.specs.declared.hot.Hot.{Hot}
 use Rattle.jvm_basic.specs.declared.hot.Hot.TheVariants as hot
 use Rattle.jvm_basic.specs.Hot.{hot_by}
-use Rattle.jvm_named.specs.declared.symbolic_reference.MemberName.{MemberName}
-use Rattle.jvm_named.specs.declared.symbolic_reference.SymbolicReference.{SymbolicReference}
-use Rattle.jvm_named.specs.declared.symbolic_reference.SymbolicReference.TheVariants as naming
-use Rattle.jvm_named.specs.Names.{symbolic_view}
+use Rattle.symbolic_references.specs.declared.symbolic_reference.MemberName.{MemberName}
+use Rattle.symbolic_references.specs.declared.symbolic_reference.SymbolicReference.{SymbolicReference}
+use Rattle.symbolic_references.specs.declared.symbolic_reference.SymbolicReference.TheVariants as naming
+use Rattle.symbolic_references.specs.Names.{symbolic_view}
 use Rattle.prepared_code.specs.declared.line.Action.{Action}
 use Rattle.prepared_code.specs.declared.line.Action.TheVariants as action
 use Rattle.prepared_code.specs.declared.line.Line.{Line}

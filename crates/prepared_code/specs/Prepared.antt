@@ -18,7 +18,7 @@ use Rattle.jvm_model.specs.Basis.Methods.{code_of}
 use Rattle.jvm_model.specs.Basis.Programs.{class_at, has_built_in_name, name_at, name_of, methods_numbered, params_of_method, max_stack_of, max_locals_of}
 use Rattle.jvm_model.specs.Running.Run.{main_class}
 use Rattle.jvm_model.specs.Basis.SharedState.{built_in_from, kind_for, string, array_store, in_initializer, index_outside, negative_array_size, no_class_definition, no_such_field, no_such_method, null_pointer, stack_overflow}
-use Rattle.jvm_named.specs.Numbers.{AreNumbers, Row}
+use Rattle.symbolic_references.specs.Numbers.{AreNumbers, Row}
 use Rattle.prepared_code.specs.declared.originals.Method.{Method}
 use Rattle.prepared_code.specs.declared.originals.Exception.{Exception}
 use Rattle.prepared_code.specs.declared.originals.Exception.TheVariants.{AbstractMethod, Arithmetic, ArrayStore, ClassCast, ClassCircularity, IncompatibleClassChange, InInitializer, IndexOutside, Instantiation, NegativeArraySize, NoClassDefinition, NoSuchField, NoSuchMethod, NullPointer, StackOverflow, UnsatisfiedLink}

@@ -3,7 +3,7 @@
 ghost use Rattle.std.specs.Prelude.{◌≡◌, ◌<◌, ◌^◌, ◌++◌, length, slice_get, IfOk, OnOk};
 ghost use Rattle.std.specs.Option.{option_and_then, option_copied, option_flatten, IfSome};
 ghost use Rattle.jvm_model.specs.Basis.Methods.{code_of, method_code};
-ghost use Rattle.jvm_named.specs.Numbers.{AreNumbers};
+ghost use Rattle.symbolic_references.specs.Numbers.{AreNumbers};
 ghost use Rattle.prepared_code.specs.ClassVersions.{AreRising, FitsImage, class_version, class_versions};
 ghost use Rattle.prepared_code.specs.ClassVersions.{alone, homes_at, member_version};
 ghost use Rattle.prepared_code.specs.ClassVersions.{versions_from};
@@ -17,8 +17,8 @@ use code_model::Homes;
 use const_pool::{ClassFile, CodeAttribute, Member};
 use jf_bytes::{NoMemory, Seq};
 use jvm_model::Program;
-use jvm_named::MethodNumbers;
 use std::alloc::Global;
+use symbolic_references::MethodNumbers;
 
 // ---- one method
 

@@ -6,7 +6,7 @@ use heap_objects::Value;
 use jf_bytes::Text16;
 use jvm_basic::Hot;
 use jvm_model::Family;
-use jvm_named::SymbolicReference;
+use symbolic_references::SymbolicReference;
 
 /// What an instruction does (JVM Specification 6.5), with the names that it gives.
 #[derive(Drop)]

@@ -11,15 +11,15 @@ ghost use Rattle.jvm_model.specs.Classes.Load.{load_of};
 ghost use Rattle.jvm_model.specs.Instructions.SymbolicReference.{resolved_kind};
 ghost use Rattle.jvm_model.specs.Basis.Programs.{max_stack_of, max_locals_of, params_of_method};
 ghost use Rattle.jvm_model.specs.Basis.SharedState.{built_in_from, kind_for, string};
-ghost use Rattle.jvm_named.specs.Answers.{Answers, Moves, Shares, found_view, wrote_by};
-ghost use Rattle.jvm_named.specs.Answers.{answer_by, answer_view, frames_by, shared_by};
-ghost use Rattle.jvm_named.specs.Attempts.{attempts, is_loaded, loaded_for};
-ghost use Rattle.jvm_named.specs.Attempts.{shared_loaded, world_over};
-ghost use Rattle.jvm_named.specs.Known.{IsKnown};
-ghost use Rattle.jvm_named.specs.Natives.{HasBuiltIn};
-ghost use Rattle.jvm_named.specs.Numbers.{AreNumbers};
-ghost use Rattle.jvm_named.specs.Objects.{AreLoaded, HasDimensions, HasLoadedCaller};
-ghost use Rattle.jvm_named.specs.Selections.{AreSelections};
+ghost use Rattle.symbolic_references.specs.Answers.{Answers, Moves, Shares, found_view, wrote_by};
+ghost use Rattle.symbolic_references.specs.Answers.{answer_by, answer_view, frames_by, shared_by};
+ghost use Rattle.symbolic_references.specs.Attempts.{attempts, is_loaded, loaded_for};
+ghost use Rattle.symbolic_references.specs.Attempts.{shared_loaded, world_over};
+ghost use Rattle.symbolic_references.specs.Known.{IsKnown};
+ghost use Rattle.symbolic_references.specs.Natives.{HasBuiltIn};
+ghost use Rattle.symbolic_references.specs.Numbers.{AreNumbers};
+ghost use Rattle.symbolic_references.specs.Objects.{AreLoaded, HasDimensions, HasLoadedCaller};
+ghost use Rattle.symbolic_references.specs.Selections.{AreSelections};
 ghost use Rattle.prepared_code.specs.Tables.{Adds, AreAllCurrent, Releases, version_at};
 ghost use Rattle.method_versions.specs.Tables.{is_superseded_in};
 ghost use Rattle.prepared_code.specs.Kept.{IsLater};
@@ -57,13 +57,13 @@ use const_pool::{ClassFile, Kind};
 use frame_stack::Frames;
 use jf_bytes::{NoMemory, Seq};
 use jvm_model::{Mark, Program, Shared};
-use jvm_named::{
-    AbruptCompletion, Asked, Known, MethodNumbers, Selections, attempt, attempt_known,
-    attempt_loaded, known_code, resolve,
-};
 use std::alloc::Global;
 use std::marker::Model;
 use std::mem;
+use symbolic_references::{
+    AbruptCompletion, Asked, Known, MethodNumbers, Selections, attempt, attempt_known,
+    attempt_loaded, known_code, resolve,
+};
 
 /// What is kept of a method: what it takes, and its limits.
 #[derive(Drop)]

@@ -8,8 +8,8 @@ ghost use Rattle.jvm_model.specs.Basis.Data.{LdcClass, Named};
 ghost use Rattle.jvm_model.specs.Codes.Lines.{has_dimensions, interface_reference, array_reference};
 ghost use Rattle.jvm_model.specs.Codes.Lines.{named_interface_method, symbolic_reference_of, special_of};
 ghost use Rattle.jvm_model.specs.Basis.Programs.{name_of};
-ghost use Rattle.jvm_named.specs.Members.{params_by};
-ghost use Rattle.jvm_named.specs.Names.{symbolic_view};
+ghost use Rattle.symbolic_references.specs.Members.{params_by};
+ghost use Rattle.symbolic_references.specs.Names.{symbolic_view};
 ghost use Rattle.prepared_code.specs.Lines.{action_of, member_as, named_action, named_as};
 
 use crate::descriptor::shape_of;
@@ -18,8 +18,8 @@ use crate::members::{field_at, interface_method_at, method_at};
 use class_index::meaning_of;
 use const_pool::{ClassFile, Kind, MemberRef, Pool};
 use jf_bytes::{NoMemory, Seq, Text16};
-use jvm_named::{MemberName, MethodName, SymbolicReference};
 use std::alloc::Global;
+use symbolic_references::{MemberName, MethodName, SymbolicReference};
 
 // ---- names
 

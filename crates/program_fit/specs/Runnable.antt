@@ -4,7 +4,7 @@ use Rattle.const_pool.specs.declared.class.ClassFile.{ClassFile}
 use Rattle.jvm_model.specs.declared.program.Program.{Program}
 use Rattle.jvm_model.specs.Codes.ProgramPlaces.{HasClosedCodes}
 use Rattle.jvm_model.specs.Soundness.Sound.{IsFit}
-use Rattle.jvm_steps.specs.Machine.Before.{CanStart}
+use Rattle.interpreter.specs.Machine.Before.{CanStart}
 use Rattle.prepared_code.specs.Prepared.{FitsOriginals}
 use Rattle.jvm_machine.specs.Installs.{IsFormed}
 use Rattle.admit_check.specs.Admission.{IsAdmittedProgram}

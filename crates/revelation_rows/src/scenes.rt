@@ -15,9 +15,9 @@ use call_revelation::Reveal;
 use class_linker::{Linker, Loaded};
 use jf_bytes::{NoMemory, Text16, from_utf8};
 use jvm_model::Program;
-use jvm_named::user_count;
 use std::alloc::Global;
 use std::time::CpuClock;
+use symbolic_references::user_count;
 
 /// What is loaded, what is selected, entered and marked, and what was taken.
 #[derive(Drop)]

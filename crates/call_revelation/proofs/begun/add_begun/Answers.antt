@@ -2,7 +2,7 @@ use Rattle.std.proofs.Common.{◌≡◌, ◌∙◌, ap, false, rules, subst, sym
 use Rattle.std.specs.Prelude.{OnOk}
 use Rattle.jvm_model.specs.Instructions.SymbolicReference.{Invokespecial}
 use Rattle.jvm_model.specs.Profiling.Targets.{begun_by}
-use Rattle.jvm_named.specs.Names.{symbolic_view}
+use Rattle.symbolic_references.specs.Names.{symbolic_view}
 use Rattle.call_revelation.specs.Tables.{Adds}
 use Rattle.call_revelation.proofs.BegunLemmas.{begun-by-name, is_special}
 use Rattle.call_revelation.proofs.begun.add_begun.Goals as goal

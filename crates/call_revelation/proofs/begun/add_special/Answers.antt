@@ -3,7 +3,7 @@ use Rattle.std.specs.Prelude.{OnOk}
 use Rattle.std.specs.Option.{option_map_or}
 use Rattle.jvm_model.specs.Instructions.InvocationRules.{Special}
 use Rattle.jvm_model.specs.Profiling.Targets.{begun_on}
-use Rattle.jvm_named.specs.Members.{reference_of}
+use Rattle.symbolic_references.specs.Members.{reference_of}
 use Rattle.call_revelation.specs.Tables.{Adds}
 use Rattle.call_revelation.proofs.begun.add_special.Goals as goal
 

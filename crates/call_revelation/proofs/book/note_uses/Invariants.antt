@@ -1,6 +1,6 @@
 -- what is left is noted in what there is
 use Rattle.std.proofs.Common.{◌≡◌, drop, map}
-use Rattle.jvm_named.specs.Names.{symbolic_view}
+use Rattle.symbolic_references.specs.Names.{symbolic_view}
 use Rattle.call_revelation.specs.Books.{HasMore, with_uses}
 use Rattle.call_revelation.proofs.book.note_uses.Given as goal
 

@@ -1,6 +1,6 @@
 -- what was read, and what the instructions from here on name
 use Rattle.std.proofs.Common.{◌≡◌, ◌++◌, map}
-use Rattle.jvm_named.specs.Names.{symbolic_view}
+use Rattle.symbolic_references.specs.Names.{symbolic_view}
 use Rattle.call_revelation.specs.CodeReferences.{references_in_code, symbolic_references_from}
 use Rattle.call_revelation.proofs.code_references.references_in_code.Given as goal
 

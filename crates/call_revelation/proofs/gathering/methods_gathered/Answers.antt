@@ -5,8 +5,8 @@ use Rattle.jvm_model.specs.Classes.Load.{is_among}
 use Rattle.jvm_model.specs.Soundness.Sound.{HasLoadedCaller}
 use Rattle.jvm_model.specs.Profiling.Targets.{begun_by, operations_of}
 use Rattle.jvm_model.specs.Profiling.Revelation.{symbolic_references_of}
-use Rattle.jvm_named.specs.Names.{symbolic_view}
-use Rattle.jvm_named.specs.Numbers.{AreNumbers}
+use Rattle.symbolic_references.specs.Names.{symbolic_view}
+use Rattle.symbolic_references.specs.Numbers.{AreNumbers}
 use Rattle.call_revelation.specs.Tables.{Adds}
 use Rattle.call_revelation.proofs.Adding.{adds-all}
 use Rattle.call_revelation.proofs.CallerLemmas.{callers-loaded, viewed-fine}

@@ -2,7 +2,7 @@ use Rattle.std.proofs.Common.{ap, ◌∙◌}
 use Rattle.heap_objects.specs.declared.datum.Datum.TheVariants.{Ref}
 use Rattle.heap_objects.specs.Changes.{changed_if}
 use Rattle.heap_objects.specs.Heaps.{with_slot_at}
-use Rattle.jvm_named.proofs.Slots.{slot_put}
+use Rattle.symbolic_references.proofs.Slots.{slot_put}
 use Rattle.prepared_code.proofs.objects.put_text.Goals as goal
 
 pub returns-in-Ok : goal.returns-in-Ok

@@ -1,5 +1,5 @@
 use Rattle.std.proofs.Common.{subst}
-use Rattle.jvm_named.specs.Known.{IsKnown}
+use Rattle.symbolic_references.specs.Known.{IsKnown}
 use Rattle.prepared_code.specs.Lines.{IfNamedBy}
 use Rattle.prepared_code.proofs.originals.keep_selected.Goals as goal
 

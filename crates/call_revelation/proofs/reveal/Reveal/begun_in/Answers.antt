@@ -3,8 +3,8 @@ use Rattle.std.specs.Prelude.{flat_map}
 use Rattle.std.specs.List.{AllByRecursion}
 use Rattle.jvm_model.specs.Soundness.Sound.{HasLoadedCaller}
 use Rattle.jvm_model.specs.Profiling.Targets.{begun_by}
-use Rattle.jvm_named.specs.declared.symbolic_reference.SymbolicReference.{SymbolicReference}
-use Rattle.jvm_named.specs.Names.{symbolic_view}
+use Rattle.symbolic_references.specs.declared.symbolic_reference.SymbolicReference.{SymbolicReference}
+use Rattle.symbolic_references.specs.Names.{symbolic_view}
 use Rattle.call_revelation.specs.Tables.{Adds}
 use Rattle.call_revelation.proofs.Callers.{callers-there}
 use Rattle.call_revelation.proofs.TargetLemmas.{gathered-are}

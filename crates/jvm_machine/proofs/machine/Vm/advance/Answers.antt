@@ -1,7 +1,7 @@
 use Rattle.std.proofs.Common.{◌≡◌, true, false, drop, sym, ap, subst, ◌∙◌}
 use Rattle.jvm_model.specs.declared.state.State.{State}
 use Rattle.prepared_code.specs.Initializations.{state_of}
-use Rattle.jvm_steps.specs.Moves.Turning.{loads_in}
+use Rattle.interpreter.specs.Moves.Turning.{loads_in}
 use Rattle.prepared_code.specs.Versions.{Setup}
 use Rattle.prepared_code.specs.Tables.{Releases}
 use Rattle.prepared_code.proofs.StandingSteps.{parts-pinned}

@@ -4,7 +4,7 @@ use Rattle.std.specs.Option.{IfSome}
 use Rattle.jvm_model.specs.Running.Run.{starts_with}
 use Rattle.prepared_code.specs.Initializations.{state_of}
 use Rattle.prepared_code.specs.Ready.{IsSoundIn}
-use Rattle.jvm_steps.specs.Moves.Calmly.{GoesCalmly}
+use Rattle.interpreter.specs.Moves.Calmly.{GoesCalmly}
 use Rattle.prepared_code.proofs.StandingSteps.{set-up-runs}
 use Rattle.jvm_machine.specs.Advances.{Stops}
 use Rattle.jvm_machine.specs.declared.advancing.Telling.TheVariants as telling

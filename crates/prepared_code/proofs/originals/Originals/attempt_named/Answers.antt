@@ -1,7 +1,7 @@
 use Rattle.std.proofs.Common.{◌≡◌, Some, sym, subst, ap, ◌∙◌, rules}
 use Rattle.std.specs.Option.{option_copied}
-use Rattle.jvm_named.specs.Objects.{AreLoaded}
-use Rattle.jvm_named.specs.Selections.{AreSelections}
+use Rattle.symbolic_references.specs.Objects.{AreLoaded}
+use Rattle.symbolic_references.specs.Selections.{AreSelections}
 use Rattle.prepared_code.specs.Cells.{cell_at}
 use Rattle.prepared_code.specs.Kept.{AreKnown}
 use Rattle.prepared_code.specs.Linked.{IsReady, linker_in}

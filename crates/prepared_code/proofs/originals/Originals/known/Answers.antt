@@ -1,6 +1,6 @@
 use Rattle.std.proofs.Common.{sym, ap, subst, ◌∙◌}
 use Rattle.std.specs.Option.{option_copied}
-use Rattle.jvm_named.specs.Known.{IsKnown}
+use Rattle.symbolic_references.specs.Known.{IsKnown}
 use Rattle.prepared_code.specs.Lines.{IfNamed}
 use Rattle.prepared_code.specs.Linked.{Linked, linker_in}
 use Rattle.prepared_code.specs.Versions.{line_at}

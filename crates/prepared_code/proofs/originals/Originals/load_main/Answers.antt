@@ -1,5 +1,5 @@
 use Rattle.std.proofs.Common.{sym, subst, ◌∙◌}
-use Rattle.jvm_named.specs.Selections.{AreSelections}
+use Rattle.symbolic_references.specs.Selections.{AreSelections}
 use Rattle.prepared_code.specs.Kept.{AreKnown}
 use Rattle.prepared_code.specs.Making.{AreBare, with_lines}
 use Rattle.prepared_code.specs.Prepared.{IsPrepared}

@@ -1,6 +1,6 @@
 use Rattle.std.proofs.Common.{◌≡◌, ◌<◌, ◌≤◌, ◌^◌, length, subst, sym, ap, ◌∙◌, arith, rules}
-use Rattle.jvm_named.specs.Selections.{AreSelections}
-use Rattle.jvm_named.proofs.SelectionLemmas.{no_selections}
+use Rattle.symbolic_references.specs.Selections.{AreSelections}
+use Rattle.symbolic_references.proofs.SelectionLemmas.{no_selections}
 use Rattle.jvm_model.specs.declared.program.Program.{Program}
 use Rattle.prepared_code.specs.Entries.{original_versions}
 use Rattle.prepared_code.specs.Kept.{AreKnown}

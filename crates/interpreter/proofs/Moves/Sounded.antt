@@ -1,0 +1,157 @@
+-- A sound state is what an attempt of an instruction that names something asks for, and an attempt leaves one.
+use Rattle.std.proofs.Common.{◌≡◌, ℕ, refl, List, [], ◌∷◌, ◌++◌, length, map, false, Option, Some, None, sym, ap, subst, ◌∙◌}
+use Rattle.std.specs.List.{AllByRecursion}
+use Rattle.std.proofs.lemmas.Option.{none-some, same_Some}
+use Rattle.heap_objects.specs.declared.object.Object.{Object}
+use Rattle.frame_stack.specs.FrameLists.{PlacedFrame}
+use Rattle.jvm_model.specs.declared.program.Program.{Program}
+use Rattle.jvm_model.specs.declared.state.Entry.TheVariants.{Active}
+use Rattle.jvm_model.specs.declared.state.Frame.{Frame}
+use Rattle.jvm_model.specs.declared.state.Shared.{Shared}
+use Rattle.jvm_model.specs.declared.state.State.{State}
+use Rattle.jvm_model.specs.Basis.Data.{SymbolicReference, Invokespecial, Local, Return, Operation, Within, Named, Athrow, Monitor, Newarray, Arraylength, LoadElement, StoreElement, LdcString, Instruction, Breaks, Done}
+use Rattle.jvm_model.specs.Instructions.Does.{loads}
+use Rattle.jvm_model.specs.Running.Run.{main_class}
+use Rattle.jvm_model.specs.Soundness.Sound as sound
+use Rattle.jvm_model.specs.Soundness.Sound.{CanAttempt, IsFit, IsLoaded, IsSoundOutcome, IsSoundShared}
+use Rattle.jvm_model.proofs.Soundness.SoundAttempts.{sound-does}
+use Rattle.jvm_model.proofs.Soundness.SoundClasses.{among-front}
+use Rattle.jvm_model.proofs.Soundness.SoundKinds.{has-root}
+use Rattle.jvm_model.proofs.Soundness.SoundRuns.{loads-again}
+use Rattle.jvm_model.proofs.Soundness.SoundListingRuns.{sound-loaded}
+use Rattle.jvm_model.proofs.Soundness.SoundListingSteps.{entry-grows, sound-applied}
+use Rattle.prepared_code.specs.Ready.{CanRun, IsSoundEntryIn, IsSoundIn, IsTied, RunsIn}
+use Rattle.class_linker.specs.Linkers.{LinkerView}
+use Rattle.symbolic_references.specs.Natives.{HasBuiltIn}
+use Rattle.symbolic_references.specs.Objects.{AreLoaded, HasLoadedCaller, IsOfLoaded}
+use Rattle.prepared_code.specs.declared.line.Line.{Line}
+use Rattle.prepared_code.specs.declared.initializations.Initialization.{Initialization}
+use Rattle.prepared_code.specs.declared.parts.Here.{Here}
+use Rattle.prepared_code.specs.declared.parts.Parts.{Parts}
+use Rattle.interpreter.specs.Instructions.Acts.{acts, attempts_line, attempts_on, with_done}
+use Rattle.prepared_code.specs.Lines.{IfNamed, IfNamedBy, action_of, local_action}
+use Rattle.prepared_code.specs.Initializations.{initialization_on, stack_of, state_of}
+use Rattle.prepared_code.specs.States.{active, here_of}
+use Rattle.interpreter.proofs.Instructions.LineActs.{readied, done_there, steps-as, viewed, with-loaded}
+use Rattle.interpreter.proofs.Moves.LineSteps.{IsGoing, top-frame}
+use Rattle.prepared_code.proofs.Tied.{Tie, tied-there}
+use Rattle.prepared_code.specs.Versions.{Setup, listing_of, line_at, instruction_by}
+
+-- ---- what the linker asks for
+
+abbrev linker_of : Program → List ℕ → LinkerView
+linker_of p loaded = record { program = p; loaded = loaded }
+
+objects-loaded : (p : Program) (loaded : List ℕ) (os : List Object) → AllByRecursion (sound.IsOfLoaded p loaded) os → AllByRecursion (IsOfLoaded (linker_of p loaded)) os
+objects-loaded p loaded [] each = tt
+objects-loaded p loaded (o ∷ os) each = (record { known = each.0.known; of_class = each.0.of_class }, objects-loaded p loaded os each.1)
+
+-- over the classes that the linker has loaded
+pub built-in-linked : (p : Program) (s : Shared) (loaded : List ℕ) → IsSoundShared p s → loaded ≡ s.loaded → HasBuiltIn (linker_of p loaded)
+built-in-linked p s loaded is linked =
+    subst (λ l. HasBuiltIn (linker_of p l)) (sym linked) (record { whole = is.built_in.whole; each = is.built_in.each })
+
+pub objects-linked : (p : Program) (s : Shared) (loaded : List ℕ) → IsFit p → IsSoundShared p s → loaded ≡ s.loaded → AreLoaded (linker_of p loaded) s.heap
+objects-linked p s loaded fit is linked =
+    subst (λ l. AreLoaded (linker_of p l) s.heap) (sym linked) (record {
+      objects = objects-loaded p s.loaded s.heap.objects is.objects;
+      root = has-root p fit s.loaded is.built_in;
+    })
+
+-- ---- the line where a frame stands
+
+module _ (p : Program) (fit : IsFit p) (loaded : List ℕ) where
+  can-name : (n : SymbolicReference) → CanAttempt p loaded (Named n) → HasLoadedCaller (linker_of p loaded) n
+  can-name n can = by n can.0 where
+    by : (m : SymbolicReference) → sound.HasLoadedCaller p loaded m → HasLoadedCaller (linker_of p loaded) m
+    by (Invokespecial caller r interface) has = has
+    by m has = tt
+
+  within-by : (line : Line) (l : Local) → IfNamedBy (local_action l) line.next (λ n next. HasLoadedCaller (linker_of p loaded) n)
+  within-by line (Return k) = tt
+  within-by line l = tt
+
+  named-by : (line : Line) (op : Operation) → IsTied line op → CanAttempt p loaded op
+      → IfNamedBy line.action line.next (λ n next. HasLoadedCaller (linker_of p loaded) n)
+  named-by line op tied can = subst (λ a. IfNamedBy a line.next (λ n next. HasLoadedCaller (linker_of p loaded) n)) tied.action (by op can) where
+    by : (o : Operation) → CanAttempt p loaded o → IfNamedBy (action_of o) line.next (λ n next. HasLoadedCaller (linker_of p loaded) n)
+    by (Named n) can = subst (λ m. HasLoadedCaller (linker_of p loaded) m) (sym (viewed n)) (can-name n can)
+    by (Within l) can = within-by line l
+    by Athrow can = tt
+    by Monitor can = tt
+    by (Newarray code) can = tt
+    by Arraylength can = tt
+    by (LoadElement k) can = tt
+    by (StoreElement k) can = tt
+    by (LdcString units) can = tt
+
+  tie-named : (lo : Option Line) (io : Option Instruction) → ((i : Instruction) → io ≡ Some i → CanAttempt p loaded i.operation) → Tie lo io
+      → IfNamed lo (λ n next. HasLoadedCaller (linker_of p loaded) n)
+  tie-named None io can tie = tt
+  tie-named (Some line) None can tie = absurd tie
+  tie-named (Some line) (Some i) can tie =
+      named-by line tie.op tie.tied (subst (CanAttempt p loaded) (ap (λ (x : Instruction). x.operation) tie.is) (can i refl))
+
+-- the caller of an invokespecial that stands there
+caller-by : (w : Setup) (run : CanRun w) (loaded : List ℕ) (ms : List Initialization) (here : Here) (fs : List PlacedFrame) → here_of fs ≡ Some here → initialization_on (length fs) ms ≡ None
+    → AllByRecursion (IsSoundEntryIn w loaded) (stack_of (map active fs) ms)
+    → IfNamed (line_at w.versions here.version here.place) (λ n next. HasLoadedCaller (linker_of w.world.program loaded) n)
+caller-by w run loaded ms here [] is none each = absurd (none-some here is)
+caller-by w run loaded ms here (f ∷ fs) is none each =
+    let same : record { version = f.version; method = f.method; place = f.place } ≡ here = same_Some _ here is in
+    let top : IsSoundEntryIn w loaded (active f) = (subst (AllByRecursion (IsSoundEntryIn w loaded)) (top-frame ms f fs none) each).0 in
+    subst (λ (h : Here). IfNamed (line_at w.versions h.version h.place) (λ n next. HasLoadedCaller (linker_of w.world.program loaded) n)) same
+    (tie-named w.world.program run.fit loaded (line_at w.versions f.version f.place) ((listing_of w.versions).at f.version f.place)
+    (λ i at. run.listing.attempts loaded f.version f.method f.place i top.1 top.0 at)
+    (tied-there w run f.version f.place))
+
+pub caller-linked : (w : Setup) (ms : List Initialization) (parts : Parts) (loaded : List ℕ) (here : Here) → CanRun w → IsSoundIn w (state_of ms parts) → loaded ≡ parts.shared.loaded
+    → here_of parts.frames.frames ≡ Some here → initialization_on (length parts.frames.frames) ms ≡ None
+    → IfNamed (line_at w.versions here.version here.place) (λ n next. HasLoadedCaller (linker_of w.world.program loaded) n)
+caller-linked w ms parts loaded here run is linked at none =
+    subst (λ l. IfNamed (line_at w.versions here.version here.place) (λ n next. HasLoadedCaller (linker_of w.world.program l) n)) (sym linked)
+    (caller-by w run parts.shared.loaded ms here parts.frames.frames at none is.stack)
+
+-- ---- an attempt leaves a sound state
+
+module _ (w : Setup) (run : CanRun w) where
+  acts-sound : (s : State) (f : Frame) (line : Line) (op : Operation) → IsSoundIn w s → IsSoundEntryIn w s.shared.loaded (Active f) → IsTied line op
+      → (listing_of w.versions).at f.version f.place ≡ Some (instruction_by op line) → IsSoundIn w (acts w line s f)
+  acts-sound s f line op is entry tied at =
+      let classes : List ℕ = loads w.world op s.shared f.operands in
+      let ready : State = readied w line op s f in
+      let ready_sound : IsSoundIn w ready = sound-loaded (RunsIn w.versions) w.world op f.operands s is in
+      let there : IsSoundEntryIn w ready.shared.loaded (Active f) =
+      subst (λ loaded. IsSoundEntryIn w loaded (Active f)) (sym (ap (λ (x : State). x.shared.loaded) (with-loaded classes s)))
+      (entry-grows (RunsIn w.versions) w.world.program s.shared.loaded (s.shared.loaded ++ classes) (λ class h. among-front class s.shared.loaded classes h) (Active f) entry) in
+      let can : CanAttempt w.world.program ready.shared.loaded op =
+      run.listing.attempts ready.shared.loaded f.version f.method f.place (instruction_by op line) there.1 there.0 at in
+      let d : Done = done_there w line op s f in
+      let does_so = sound-does w.world run.fit ready.shared ready_sound.shared op f.locals f.operands can (loads-again w.world op s f.operands) in
+      let done_sound : IsSoundIn w (with_done d ready) = record {
+        shared = does_so.shared;
+        stack = subst (λ loaded. AllByRecursion (IsSoundEntryIn w loaded) ready.stack) (sym does_so.loaded_same) ready_sound.stack;
+        main = λ on. subst (λ loaded. IsLoaded loaded (main_class w.world.program)) (sym does_so.loaded_same) (ready_sound.main on);
+      } in
+      subst (IsSoundIn w) (steps-as w line op s f tied).applied
+      (sound-applied (RunsIn w.versions) w.world run.fit (listing_of w.versions) run.listing (instruction_by op line) d.outcome (with_done d ready) f done_sound
+      (subst (λ loaded. IsSoundEntryIn w loaded (Active f)) (sym does_so.loaded_same) there)
+      (subst (λ loaded. IsSoundOutcome w.world.program loaded d.outcome) (sym does_so.loaded_same) does_so.outcome))
+
+  line-sound : (s : State) (f : Frame) (lo : Option Line) (io : Option Instruction) → IsSoundIn w s → IsSoundEntryIn w s.shared.loaded (Active f)
+      → (listing_of w.versions).at f.version f.place ≡ io → Tie lo io → IsSoundIn w (attempts_line w s f lo)
+  line-sound s f None io is entry at tie =
+      sound-applied (RunsIn w.versions) w.world run.fit (listing_of w.versions) run.listing (record { operation = Athrow; own = 0; next = None; targets = [] }) (Breaks false) s f is entry tt
+  line-sound s f (Some line) None is entry at tie = absurd tie
+  line-sound s f (Some line) (Some i) is entry at tie =
+      acts-sound s f line tie.op is entry tie.tied (at ∙ ap Some tie.is)
+
+  -- of the frame that stands on top
+  pub attempted-sound : (s : State) → IsGoing s → IsSoundIn w s → IsSoundIn w (attempts_on w s s.stack)
+  attempted-sound s going is =
+      let f : Frame = going.frame in
+      let each = subst (AllByRecursion (IsSoundEntryIn w s.shared.loaded)) going.stack is.stack in
+      let under : State = record s { stack = going.rest } in
+      subst (IsSoundIn w) (sym (ap (attempts_on w s) going.stack))
+      (line-sound under f (line_at w.versions f.version f.place) ((listing_of w.versions).at f.version f.place)
+      (record { shared = is.shared; stack = each.1; main = is.main }) each.0 refl (tied-there w run f.version f.place))

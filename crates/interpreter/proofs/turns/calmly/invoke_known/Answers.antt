@@ -1,0 +1,52 @@
+use Rattle.std.proofs.Common.{◌≡◌, true, refl, sym, ap, subst, ◌∙◌}
+use Rattle.std.specs.Prelude.{IfSome}
+use Rattle.frame_stack.specs.FrameLists.{top_operands}
+use Rattle.class_linker.specs.Linkers.{LinkerView}
+use Rattle.symbolic_references.specs.Answers.{done_on}
+use Rattle.symbolic_references.specs.Attempts.{attempts, loads_nothing, world_over}
+use Rattle.symbolic_references.specs.Known.{IsKnown}
+use Rattle.symbolic_references.specs.Names.{symbolic_view}
+use Rattle.symbolic_references.specs.Objects.{AreLoaded}
+use Rattle.symbolic_references.specs.Selections.{AreSelections}
+use Rattle.symbolic_references.specs.Passing.{IsCall, IsInvoked}
+use Rattle.interpreter.proofs.Silent.PassingCalls.{called-tries}
+use Rattle.interpreter.proofs.Silent.PassingSteps.{nothing-new}
+use Rattle.interpreter.proofs.Moves.Sounded.{objects-linked}
+use Rattle.interpreter.proofs.turns.calmly.invoke_known.Goals as goal
+
+pub known_call-requires-clause-linked : goal.known_call-requires-clause-linked
+known_call-requires-clause-linked c = ap (λ (v : LinkerView). v.loaded) c.linker-linker.ensures ∙ c.requires.linked
+
+pub known_call-requires-clause-known : goal.known_call-requires-clause-known
+known_call-requires-clause-known c = subst (λ v. IsKnown v (symbolic_view c.args.naming.now) c.args.known.now) (sym c.linker-linker.ensures) c.requires.known
+
+pub known_call-requires-clause-objects : goal.known_call-requires-clause-objects
+known_call-requires-clause-objects c =
+    subst (λ v. AreLoaded v c.args.parts.now.shared.heap) (sym c.linker-linker.ensures)
+    (objects-linked c.args.originals.now.setup.world.program c.args.parts.now.shared c.args.originals.now.loaded c.requires.run.fit c.requires.sound.shared c.requires.linked)
+
+pub known_call-requires-clause-selections : goal.known_call-requires-clause-selections
+known_call-requires-clause-selections c =
+    subst (λ (v : LinkerView). AreSelections v.program c.selections-selections.result.now) (sym c.linker-linker.ensures) c.selections-selections.ensures
+
+pub returns-in-Code : goal.returns-in-Code
+returns-in-Code c =
+    let w = c.args.originals.now.setup in
+    let p = c.args.parts.now in
+    let n = symbolic_view c.args.naming.now in
+    let said = subst (λ o. IfSome o (λ x. IsInvoked (world_over c.linker-linker.result.now w.world.input) x (done_on (attempts (world_over c.linker-linker.result.now w.world.input) n p.shared p.frames) p.frames) p.shared
+    p.frames.frames)) c.in-Some.is (c.known_call.ensures.called w.world.input) in
+    let code = subst (λ x. IsInvoked (world_over c.linker-linker.result.now w.world.input) x (done_on (attempts (world_over c.linker-linker.result.now w.world.input) n p.shared p.frames) p.frames) p.shared
+    p.frames.frames) c.in-Code.is said in
+    let call = subst (λ v. IsCall c.in-Code.call (done_on (attempts (world_over v w.world.input) n p.shared p.frames) p.frames) p.shared) c.linker-linker.ensures code in
+    let silent = subst (λ (v : LinkerView). loads_nothing v.program p.shared.loaded n (top_operands p.frames.frames) ≡ true) c.linker-linker.ensures c.known_call.ensures.loads in
+    let nothing = nothing-new w c.requires.run c.args.initializing.now c.args.here c.args.line.now c.args.naming.now p c.requires.here c.requires.line c.requires.named c.requires.at_instruction silent in
+    called-tries w c.requires.run c.args.initializing.now c.args.here c.args.line.now c.args.naming.now p c.requires.here c.requires.line c.requires.named c.requires.at_instruction nothing
+    c.in-Code.call c.begin_marked.result c.begin_marked.new.parts call c.begin_marked.ensures.few c.begin_marked.ensures.fits c.begin_marked.ensures.marked c.begin_marked.ensures.frames
+    c.begin_marked.ensures.same
+
+pub returns-in-Native : goal.returns-in-Native
+returns-in-Native c = λ delivered. refl
+
+pub returns-in_default : goal.returns-in_default
+returns-in_default c = λ delivered. refl

@@ -1,0 +1,158 @@
+-- Several steps of the run that tell nothing, in one activation or in several: what begins or ends in them has no probes.
+use Rattle.std.specs.Prelude.{◌≡◌, ℕ, ◌<◌, ◌-◌, Bool, true, false, not, List, [], ◌∷◌, length, nat_le, Option, Some, None, ◌==◌, ◌||◌}
+use Rattle.heap_objects.specs.declared.Value.{Value}
+use Rattle.heap_objects.specs.declared.Value.TheVariants.{Ref}
+use Rattle.frame_stack.specs.FrameLists.{FramesView, PlacedFrame}
+use Rattle.frame_stack.specs.Widths.{height_of}
+use Rattle.method_versions.specs.Tables.{is_superseded_in}
+use Rattle.jvm_model.specs.declared.due.Due.{Due}
+use Rattle.jvm_model.specs.declared.due.Due.TheVariants.{Nothing}
+use Rattle.jvm_model.specs.declared.state.Entry.{Entry}
+use Rattle.jvm_model.specs.declared.state.Entry.TheVariants.{Active, Initializing}
+use Rattle.jvm_model.specs.declared.state.State.{State}
+use Rattle.jvm_model.specs.Rewriting.Images.{is_off}
+use Rattle.jvm_model.specs.Running.Moves.{handler_for}
+use Rattle.jvm_model.specs.Turns.Pauses.{stop_in}
+use Rattle.jvm_model.specs.Turns.Rest.{step_loads}
+use Rattle.jvm_model.specs.Running.Run.{step}
+use Rattle.jvm_model.specs.Turns.Told.{helds, mark_now}
+use Rattle.jvm_model.specs.Basis.Values.{with_value}
+use Rattle.symbolic_references.specs.declared.known.Callee.{Callee}
+use Rattle.symbolic_references.specs.declared.known.Callee.TheVariants as callee
+use Rattle.symbolic_references.specs.declared.known.Found.{Found}
+use Rattle.symbolic_references.specs.declared.known.Found.TheVariants as found
+use Rattle.symbolic_references.specs.Does.{Changed}
+use Rattle.prepared_code.specs.declared.initializations.Initialization.{Initialization}
+use Rattle.prepared_code.specs.declared.parts.Parts.{Parts}
+use Rattle.jvm_model.specs.declared.event.Mark.TheVariants.{Off}
+use Rattle.prepared_code.specs.declared.parts.Here.{Here}
+use Rattle.prepared_code.specs.Initializations.{initialization_on, state_of}
+use Rattle.prepared_code.specs.Runs.{IsAtInstruction, Leads, steps_from}
+use Rattle.prepared_code.specs.declared.line.Line.{Line}
+use Rattle.prepared_code.specs.Tables.{Versions}
+use Rattle.prepared_code.specs.Versions.{Setup, current_of, line_at, mark_of, next_in, listing_of}
+
+-- ---- live activations
+
+-- one of them runs this version
+abbrev pub runs : ℕ → List Entry → Bool
+runs k [] = false
+runs k (Active f ∷ below) = f.version == k || runs k below
+runs k (Initializing class part ∷ below) = runs k below
+
+-- each superseded version that these run is run by those
+abbrev pub AreKeptBy : Setup → List Entry → List Entry → Type 0
+AreKeptBy w old new = (k : ℕ) → is_superseded_in w.versions.slots w.versions.current k ≡ true → runs k old ≡ true → runs k new ≡ true
+
+-- ---- a step that tells nothing
+
+-- the first of its changes of which a probe tells
+abbrev pub step_due : Setup → State → Due
+step_due w s =
+    let v = mark_of w.versions in let t = listing_of w.versions in
+    (stop_in (mark_now v t) 0 (helds v s.stack) (step w.world t s).changes).due
+
+-- it loads no class, no probe tells of it, and no version that is held is left behind by it
+pub record IsSilent (w : Setup) (s : State) : Type 0 where
+  pub loads : step_loads w.world (listing_of w.versions) s ≡ []
+  pub undelivered : step_due w s ≡ Nothing
+  pub keeps : AreKeptBy w s.stack (step w.world (listing_of w.versions) s).after.stack
+
+abbrev pub AreSilent : Setup → State → ℕ → Type 0
+AreSilent w s n = (k : ℕ) → k < n → IsSilent w (steps_from w k s)
+
+-- So many steps lead from parts beneath these initializations to others beneath the same; they tell nothing, and the
+-- run goes on.
+pub record Passes (w : Setup) (ms : List Initialization) (old : Parts) (n : ℕ) (new : Parts) : Type 0 where
+  pub at_instruction : IsAtInstruction (length new.frames.frames) ms new
+  pub loaded : new.shared.loaded ≡ old.shared.loaded
+  pub leads : Leads w (state_of ms old) n (state_of ms new)
+  pub silent : AreSilent w (state_of ms old) n
+
+-- a step was made, or none
+abbrev pub steps_if : Bool → ℕ
+steps_if true = 1
+steps_if false = 0
+
+-- with other frames
+abbrev pub on_frames : FramesView → Parts → Parts
+on_frames frames p = record p { frames = frames }
+
+-- what an instruction that names something changes
+abbrev pub changed_in : Parts → Changed
+changed_in p = record { frames = p.frames; shared = p.shared; output = p.output }
+
+abbrev pub with_changed : Changed → Parts → Parts
+with_changed x p = record p { frames = x.frames; shared = x.shared; output = x.output }
+
+-- what a member's name came to is a method
+abbrev pub is_method : Found → Bool
+is_method (found.Fixed m) = true
+is_method (found.Selected site) = true
+is_method _ = false
+
+-- a method begins there in a version with probes
+abbrev pub is_probed : Versions → Callee → Bool
+is_probed v (callee.Code method) = not (is_off (mark_of v (current_of v method)))
+is_probed v (callee.Native number) = false
+is_probed v callee.Other = false
+
+-- a method that is the same for each receiver begins so
+abbrev pub is_told : Versions → Found → Bool
+is_told v (found.Fixed m) = is_probed v m.callee
+is_told v _ = false
+
+-- ---- returns
+
+-- the frames where the top one is off, and its caller goes on at a place, with a value on top if there is one
+abbrev pub gone_back : Option Value → ℕ → List PlacedFrame → List PlacedFrame
+gone_back v place (f ∷ g ∷ fs) = record g { place = place; operands = with_value v g.operands } ∷ fs
+gone_back v place fs = fs
+
+-- there is a caller, and its operands are within its limit then
+abbrev pub fits_given : Option Value → List PlacedFrame → Bool
+fits_given v (f ∷ g ∷ fs) = nat_le (height_of (with_value v g.operands)) g.max_stack
+fits_given v fs = false
+
+-- what stands where the caller does
+abbrev pub caller_line : Versions → List PlacedFrame → Option Line
+caller_line v (f ∷ g ∷ fs) = line_at v g.version g.place
+caller_line v fs = None
+
+-- where the caller of a frame in this place goes on by a return of which nothing is told
+pub record ReturnsTo (w : Setup) (ms : List Initialization) (here : Here) (fs : List PlacedFrame) (next : ℕ) : Type 0 where
+  pub caller : Line
+  pub stands : caller_line w.versions fs ≡ Some caller
+  pub goes_on : next_in caller ≡ Some next
+  pub executing : initialization_on (length fs - 1) ms ≡ None
+  pub off : mark_of w.versions here.version ≡ Off
+  pub current : is_superseded_in w.versions.slots w.versions.current here.version ≡ false
+
+-- ---- throws
+
+-- the frames where the top one is off, and its caller goes on at a handler, with the object alone on its operands
+abbrev pub caught_back : ℕ → ℕ → List PlacedFrame → List PlacedFrame
+caught_back r target (f ∷ g ∷ fs) = record g { place = target; operands = Ref r ∷ [] } ∷ fs
+caught_back r target fs = fs
+
+-- there is a caller, and it has room for an object
+abbrev pub fits_caught : List PlacedFrame → Bool
+fits_caught (f ∷ g ∷ fs) = nat_le 1 g.max_stack
+fits_caught fs = false
+
+-- where the caller goes on when an object of this class is thrown by what it invoked
+abbrev pub caller_target : Setup → ℕ → List PlacedFrame → Option ℕ
+caller_target w class (f ∷ g ∷ fs) = handler_for w.world class g.place ((listing_of w.versions).handlers g.version)
+caller_target w class fs = None
+
+-- the caller of a frame in this place, and not that frame itself, catches objects of this class, of which nothing is told
+pub record CatchesBelow (w : Setup) (ms : List Initialization) (here : Here) (fs : List PlacedFrame) (class target : ℕ) : Type 0 where
+  pub own : handler_for w.world class here.place ((listing_of w.versions).handlers here.version) ≡ None
+  pub caller : caller_target w class fs ≡ Some target
+  pub executing : initialization_on (length fs - 1) ms ≡ None
+  pub off : mark_of w.versions here.version ≡ Off
+  pub current : is_superseded_in w.versions.slots w.versions.current here.version ≡ false
+
+abbrev pub caught_if : Bool → ℕ → ℕ → List PlacedFrame → List PlacedFrame
+caught_if true r target fs = caught_back r target fs
+caught_if false r target fs = fs

@@ -1,0 +1,128 @@
+//! All moves behind an instruction over versions with probes, up to the first of which a probe tells.
+
+ghost use Rattle.std.specs.Prelude.{◌≡◌, suc, OnOk, IfOk};
+ghost use Rattle.jvm_model.specs.Turns.InHand.{frame_popped};
+ghost use Rattle.prepared_code.specs.Initializations.{state_of};
+ghost use Rattle.interpreter.specs.Moves.Turning.{goes_by_moves, pause_at, paused_in};
+ghost use Rattle.interpreter.specs.Moves.Turning.{frame_resumed, resumed_count};
+
+use crate::turns::stepping::is_at_rest;
+use crate::turns::turning::{Moved, make_move};
+use jf_bytes::{NoMemory, Stack};
+use jvm_model::{Due, EventKind};
+use prepared_code::{Initialization, Originals, Parts, initialization_on, where_now};
+use std::alloc::Global;
+
+/// One change more. (More changes than fit do not come.)
+pub fn one_more(passed: u64) -> Result<u64, NoMemory>
+    ensures { IfOk result (λ n. n ≡ suc passed) }
+{
+    match passed.checked_add(1) {
+        Some(passed) => Ok(passed),
+        None => Err(NoMemory),
+    }
+}
+
+/// Makes moves up to where none applies, or to the first of which a probe tells: what is due then. It counts the changes of
+/// the step that are behind it.
+fn pause_on(
+    alloc: Global,
+    originals: &Originals,
+    parts: &mut Parts,
+    initializing: &mut Stack<Initialization>,
+    passed: &mut u64,
+) -> Result<Due, NoMemory>
+    ensures { let s = state_of initializing.old parts.old in
+        IfOk result (λ due. pause_at (state_of initializing.new parts.new) passed.new due
+        ≡ paused_in originals.now.setup passed.old s) }
+{
+    loop {
+        match make_move(alloc, originals, parts, initializing)? {
+            Moved::Nothing => return Ok(Due::Nothing),
+            Moved::On => {}
+            Moved::Unwound => *passed = one_more(*passed)?,
+            Moved::Unwinds => return Ok(Due::Ends(EventKind::Unwind)),
+            Moved::Began => {
+                *passed = one_more(*passed)?;
+                return Ok(Due::Nothing);
+            }
+            Moved::Enters => {
+                *passed = one_more(*passed)?;
+                return Ok(Due::Begins);
+            }
+        }
+    }
+}
+
+/// The same; where nothing follows, as mostly, it is one test.
+#[inline(always)]
+pub fn pause(
+    alloc: Global,
+    originals: &Originals,
+    parts: &mut Parts,
+    initializing: &mut Stack<Initialization>,
+    passed: &mut u64,
+) -> Result<Due, NoMemory>
+    ensures { let s = state_of initializing.old parts.old in
+        IfOk result (λ due. pause_at (state_of initializing.new parts.new) passed.new due
+        ≡ paused_in originals.now.setup passed.old s) }
+{
+    if is_at_rest(parts, initializing) {
+        return Ok(Due::Nothing);
+    }
+    pause_on(alloc, originals, parts, initializing, passed)
+}
+
+// ---- where moves alone are left of a step
+
+/// Takes the current frame off, behind its unwind probe. (There is one then, and no initialization stands on it.)
+fn take_off(parts: &mut Parts, initializing: &Stack<Initialization>) -> Result<(), NoMemory>
+    ensures { OnOk result
+        (state_of initializing.now parts.new ≡ frame_popped (state_of initializing.now parts.old)) }
+{
+    let Some(_) = where_now(&parts.frames) else {
+        return Err(NoMemory);
+    };
+    if initialization_on(initializing, parts.frames.depth()).is_some() {
+        return Err(NoMemory);
+    }
+    parts.frames.leave();
+    Ok(())
+}
+
+/// Behind an unwind probe that has told, the current frame is taken off, which is one change more.
+fn resume(
+    parts: &mut Parts,
+    initializing: &Stack<Initialization>,
+    delivered: bool,
+    passed: &mut u64,
+) -> Result<(), NoMemory>
+    ensures state { OnOk result
+        (state_of initializing.now parts.new
+        ≡ frame_resumed delivered (state_of initializing.now parts.old)) }
+    ensures passed { OnOk result (passed.new ≡ resumed_count delivered passed.old) }
+{
+    if !delivered {
+        return Ok(());
+    }
+    take_off(parts, initializing)?;
+    *passed = one_more(*passed)?;
+    Ok(())
+}
+
+/// Goes on with the moves that are left of a step; where the unwind probe of the current frame has told, it is taken off first.
+pub fn go_by_moves(
+    alloc: Global,
+    originals: &Originals,
+    parts: &mut Parts,
+    initializing: &mut Stack<Initialization>,
+    delivered: bool,
+    passed: &mut u64,
+) -> Result<Due, NoMemory>
+    ensures { let s = state_of initializing.old parts.old in
+        IfOk result (λ due. pause_at (state_of initializing.new parts.new) passed.new due
+        ≡ goes_by_moves originals.now.setup delivered passed.old s) }
+{
+    resume(parts, initializing, delivered, passed)?;
+    pause(alloc, originals, parts, initializing, passed)
+}

@@ -1,0 +1,259 @@
+//! What follows from an instruction by itself (JVM Specification 2.10, 5.5): a throw goes to a
+//! handler or ends activations, an initialization goes on, and a run with nothing left ends, or
+//! begins `main`.
+
+ghost use Rattle.std.specs.Prelude.{◌≡◌, [], false, map, None, Some, is_some, IfOk, OnOk};
+ghost use Rattle.jvm_model.specs.Running.Applies.{has_room, still};
+ghost use Rattle.jvm_model.specs.Running.Moves.{argument_array, main_or_end, move, turn_settled};
+ghost use Rattle.interpreter.specs.Instructions.Initializing.{after_initialization, initialization_begins};
+ghost use Rattle.prepared_code.specs.Initializations.{state_of};
+ghost use Rattle.prepared_code.specs.States.{active, here_of, state_in};
+ghost use Rattle.interpreter.specs.Moves.Settling.{frame_emptied, fits_alone, with_alone};
+ghost use Rattle.interpreter.specs.Moves.Settling.{after_move, caught_at, caught_top, main_entries};
+ghost use Rattle.interpreter.specs.Moves.Turning.{begun_in};
+ghost use Rattle.prepared_code.specs.Versions.{listing_of};
+
+use crate::execute::entering::enter;
+use crate::initialize::initializing::{fail, go_on};
+use crate::unwind::handlers::{class_of, handler_for};
+use crate::unwind::raising::break_at;
+use frame_stack::Frames;
+use heap_objects::Value;
+use jf_bytes::{NoMemory, Stack};
+use jvm_model::Ending;
+use prepared_code::{Here, Initialization, Originals, Parts, take_initialization, where_now};
+use std::alloc::Global;
+
+/// The argument array's object.
+const ARGUMENTS: u32 = 5;
+
+// ---- a throw meets a frame
+
+/// Takes the operands off.
+fn empty(frames: &mut Frames)
+    ensures { frames.new.frames ≡ frame_emptied frames.old.frames }
+{
+    while frames.pop().is_some() {}
+}
+
+/// Puts an object in the place of the operands. False, with nothing changed, where they have no room
+/// for it.
+pub fn put_alone(frames: &mut Frames, object: u32) -> bool
+    ensures answer { result ≡ fits_alone frames.old.frames }
+    ensures frames { frames.new.frames ≡ with_alone object frames.old.frames }
+{
+    frames.peek(0);
+    empty(frames);
+    frames.push(Value::Ref(object))
+}
+
+/// The current frame goes on at a handler, with the object that was thrown alone on its operands.
+pub fn go_to_handler(
+    alloc: Global,
+    originals: &Originals,
+    parts: &mut Parts,
+    object: u32,
+    here: Here,
+    target: u16,
+) -> Result<(), NoMemory>
+    requires { here_of parts.old.frames.frames ≡ Some here }
+    ensures state { OnOk result (state_in parts.new ≡
+        caught_at originals.now.setup object target parts.old.frames.frames parts.old) }
+{
+    parts.thrown = None;
+    if !put_alone(&mut parts.frames, object) {
+        return break_at(alloc, originals, parts, here);
+    }
+    parts.frames.go(target);
+    Ok(())
+}
+
+/// A throw meets the current frame: it goes on at a handler, or its activation ends.
+fn meet_frame(
+    alloc: Global,
+    originals: &Originals,
+    parts: &mut Parts,
+    object: u32,
+    here: Here,
+) -> Result<(), NoMemory>
+    requires { here_of parts.old.frames.frames ≡ Some here }
+    ensures state { OnOk result (state_in parts.new ≡
+        caught_top originals.now.setup object parts.old.frames.frames parts.old) }
+{
+    let class = class_of(originals.program(), &parts.shared.heap, object) as usize;
+    match handler_for(originals, here.version, class, here.place) {
+        Some(target) => go_to_handler(alloc, originals, parts, object, here, target),
+        None => {
+            parts.frames.leave();
+            Ok(())
+        }
+    }
+}
+
+/// A throw goes to a handler of the current frame or ends its activation, and with no frame left it
+/// ends the run.
+fn meet_throw(
+    alloc: Global,
+    originals: &Originals,
+    parts: &mut Parts,
+    object: u32,
+) -> Result<(), NoMemory>
+    requires ending { parts.old.ending ≡ None }
+    requires thrown { parts.old.thrown ≡ Some object }
+    ensures state { OnOk result
+        (state_in parts.new ≡ after_move originals.now.setup (state_in parts.old)) }
+{
+    let Some(here) = where_now(&parts.frames) else {
+        let class = class_of(originals.program(), &parts.shared.heap, object);
+        parts.ending = Some(Ending::Uncaught(class));
+        return Ok(());
+    };
+    meet_frame(alloc, originals, parts, object, here)
+}
+
+// ---- nothing is left
+
+/// The frame of `main`, which has its argument array, if it has a local for it.
+fn begin_frame(originals: &Originals, frames: &mut Frames, main: u32) -> Result<bool, NoMemory>
+    requires none { frames.old.frames ≡ [] }
+    requires main { main ≡ originals.now.setup.world.program.main }
+    ensures answer { IfOk result (λ b. b ≡ has_room originals.now.setup.world main argument_array) }
+    ensures frames { IfOk result (λ b.
+        map active frames.new.frames ≡ main_entries b originals.now.setup) }
+{
+    let max_locals = originals.max_locals(main);
+    let max_stack = originals.max_stack(main);
+    if max_locals == 0 {
+        return Ok(false);
+    }
+    frames.reserve(max_locals, max_stack)?;
+    enter(originals, frames, main, max_locals, max_stack, 0);
+    frames.set_local(0, Value::Ref(ARGUMENTS));
+    Ok(true)
+}
+
+/// `main` begins, or the run ends where it has no local for its argument. The answer is the method that has begun.
+pub fn begin_main(originals: &Originals, parts: &mut Parts) -> Result<Option<u32>, NoMemory>
+    requires { parts.old.frames.frames ≡ [] }
+    ensures begun { let w = originals.now.setup in IfOk result (λ o. o ≡ begun_in
+        (main_or_end w.world (listing_of w.versions) (state_in parts.old) false).changes) }
+    ensures state { let w = originals.now.setup in OnOk result (state_in parts.new ≡
+        (main_or_end w.world (listing_of w.versions) (state_in parts.old) false).after) }
+{
+    let main = originals.program().main;
+    if begin_frame(originals, &mut parts.frames, main)? {
+        parts.begun = true;
+        return Ok(Some(main));
+    }
+    parts.ending = Some(Ending::Unverifiable(main, 0));
+    Ok(None)
+}
+
+/// With nothing thrown and no frame left the run has returned, or `main` begins.
+fn begin_or_end(originals: &Originals, parts: &mut Parts) -> Result<(), NoMemory>
+    requires { parts.old.frames.frames ≡ [] }
+    ensures state { let w = originals.now.setup in OnOk result (state_in parts.new ≡
+        (main_or_end w.world (listing_of w.versions) (state_in parts.old) parts.old.begun).after) }
+{
+    if !parts.begun {
+        begin_main(originals, parts)?;
+        return Ok(());
+    }
+    parts.ending = Some(Ending::Returned);
+    Ok(())
+}
+
+// ---- every move
+
+/// A move of the frames, where no initialization stands on the current one. False, with nothing changed,
+/// where none applies.
+fn move_frame(alloc: Global, originals: &Originals, parts: &mut Parts) -> Result<bool, NoMemory>
+    ensures answer { let w = originals.now.setup in
+        IfOk result (λ b. b ≡ is_some (move w.world (listing_of w.versions) (state_in parts.old))) }
+    ensures state { OnOk result
+        (state_in parts.new ≡ after_move originals.now.setup (state_in parts.old)) }
+{
+    if parts.ending.is_some() {
+        return Ok(false);
+    }
+    if let Some(object) = parts.thrown {
+        meet_throw(alloc, originals, parts, object)?;
+        return Ok(true);
+    }
+    if where_now(&parts.frames).is_some() {
+        return Ok(false);
+    }
+    begin_or_end(originals, parts)?;
+    Ok(true)
+}
+
+/// A throw meets the initialization of a class, or it goes on, after its initialization was taken off. The answer is
+/// the method that has begun.
+pub fn move_initialization(
+    alloc: Global,
+    originals: &Originals,
+    parts: &mut Parts,
+    initializing: &mut Stack<Initialization>,
+    initialization: Initialization,
+) -> Result<Option<u32>, NoMemory>
+    ensures begun { IfOk result (λ o. o ≡ initialization_begins originals.now.setup
+        (state_of initializing.old parts.old) parts.old.thrown initialization.class
+        initialization.part) }
+    ensures state { OnOk result (state_of initializing.new parts.new
+        ≡ after_initialization originals.now.setup
+        (state_of initializing.old parts.old) parts.old.thrown
+        initialization.class initialization.part) }
+{
+    match parts.thrown {
+        Some(object) => {
+            fail(originals, parts, initialization.class, object)?;
+            Ok(None)
+        }
+        None => go_on(
+            alloc,
+            originals,
+            parts,
+            initializing,
+            initialization.class,
+            initialization.part,
+        ),
+    }
+}
+
+/// Makes a move. False, with nothing changed, where none applies.
+fn make_move(
+    alloc: Global,
+    originals: &Originals,
+    parts: &mut Parts,
+    initializing: &mut Stack<Initialization>,
+) -> Result<bool, NoMemory>
+    ensures answer { let w = originals.now.setup in IfOk result (λ b.
+        b ≡ is_some (move w.world (listing_of w.versions) (state_of initializing.old parts.old))) }
+    ensures state { OnOk result (state_of initializing.new parts.new
+        ≡ after_move originals.now.setup (state_of initializing.old parts.old)) }
+{
+    if parts.ending.is_some() {
+        return Ok(false);
+    }
+    let Some(initialization) = take_initialization(parts, initializing) else {
+        return move_frame(alloc, originals, parts);
+    };
+    move_initialization(alloc, originals, parts, initializing, initialization)?;
+    Ok(true)
+}
+
+/// Makes all moves, up to where none applies.
+pub fn settle(
+    alloc: Global,
+    originals: &Originals,
+    parts: &mut Parts,
+    initializing: &mut Stack<Initialization>,
+) -> Result<(), NoMemory>
+    ensures { let w = originals.now.setup in
+        let turn = still (state_of initializing.old parts.old) in OnOk result
+        (state_of initializing.new parts.new
+        ≡ (turn_settled w.world (listing_of w.versions) turn).after) }
+{
+    while make_move(alloc, originals, parts, initializing)? {}
+    Ok(())
+}

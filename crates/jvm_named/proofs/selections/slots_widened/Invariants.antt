@@ -1,8 +1,0 @@
--- what is kept stays right
-use Rattle.std.proofs.Common.{◌≡◌}
-use Rattle.jvm_model.specs.declared.program.Program.{Program}
-use Rattle.jvm_named.specs.Selections.{AreSelections}
-use Rattle.jvm_named.proofs.selections.slots_widened.Given as goal
-
-abbrev pub invariant-loop-at : goal.invariant-loop-at
-invariant-loop-at l = (p : Program) → AreSelections p l.fn.slots → AreSelections p l.wider

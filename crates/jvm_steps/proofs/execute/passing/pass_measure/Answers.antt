@@ -1,7 +1,0 @@
-use Rattle.jvm_steps.proofs.Silent.PassingLengths.{length-passes}
-use Rattle.jvm_steps.proofs.execute.passing.pass_measure.Goals as goal
-
-pub returns : goal.returns
-returns c =
-    length-passes c.args.originals.now.setup c.requires.run c.args.initializing.now c.args.here c.args.line.now c.args.parts.now c.pass_length.new.parts c.pass_length.result
-    c.requires.here c.requires.line c.requires.measures c.requires.at_instruction c.pass_length.ensures.gone c.pass_length.ensures.kept

@@ -1,0 +1,126 @@
+-- Where a frame has not gone on by a rule, it is as it was.
+use Rattle.std.proofs.Common.{◌≡◌, ◌≤◌, ℕ, Bool, true, false, cond, List, [], length, Option, Some, None, drop, refl, sym, ap, subst, ◌∙◌}
+use Rattle.std.proofs.lemmas.Bool.{false≢true}
+use Rattle.frame_stack.specs.FrameLists.{FramesView, PlacedFrame, top_operands, with_frames}
+use Rattle.jvm_basic.specs.Outcomes.{can_hold, top_locals, with_top}
+use Rattle.std.specs.Prelude.{Ok, IfSome}
+use Rattle.std.specs.Option.{option_map}
+use Rattle.const_pool.specs.References.{Reference}
+use Rattle.heap_objects.specs.Heaps.{with_slot_at}
+use Rattle.jvm_model.specs.Instructions.FieldRules.{Putting, field_owner, kind_by, puts_into, putting_of, slot_of}
+use Rattle.jvm_model.specs.Classes.Lookup.{MemberPlace}
+use Rattle.jvm_model.specs.Instructions.SymbolicReference.{unless_refused}
+use Rattle.jvm_model.specs.Instructions.ObjectRules.{done}
+use Rattle.jvm_model.specs.declared.program.Program.{Program}
+use Rattle.jvm_model.specs.declared.state.Phase.{Phase}
+use Rattle.jvm_model.specs.declared.state.Phase.TheVariants.{Erroneous, Fresh, Ready, Running}
+use Rattle.jvm_model.specs.declared.state.Shared.{Shared}
+use Rattle.jvm_model.specs.Basis.Data.{Back, Breaks, Done, Exits, GoesOn, Initializes, Invokes, Locals, Next, Operands, Outcome, Raises, Returns, Subroutine, Target, Throws, World}
+use Rattle.jvm_model.specs.Instructions.Rules.{when_ready}
+use Rattle.symbolic_references.specs.Answers.{Answer, Calls, Continues, Exceeds, Stops, answer_in, frames_in}
+use Rattle.symbolic_references.specs.Fields.{writes}
+use Rattle.jvm_model.specs.Instructions.InvocationRules.{invokes_selected}
+use Rattle.symbolic_references.specs.declared.known.Callee.TheVariants as callee
+use Rattle.symbolic_references.specs.declared.known.Chosen.{Chosen}
+use Rattle.symbolic_references.specs.declared.targets.Target.{Target as TheTarget}
+use Rattle.symbolic_references.specs.Callees.{HasCallee, IsCallee, IsCode, IsNative, chosen_place}
+use Rattle.symbolic_references.specs.Passing.{IfPassed, IsCall, IsNativeCall, is_next, is_usable}
+use Rattle.symbolic_references.specs.Resolved.{field_found, puts_instance}
+use Rattle.symbolic_references.specs.Targets.{data_in}
+use Rattle.symbolic_references.proofs.CalleeLemmas.{code-invoked, native-invoked}
+use Rattle.symbolic_references.proofs.TargetLemmas.{length-data}
+
+pub next-is : (a : Answer) → is_next a ≡ true → a ≡ Continues
+next-is Continues is = refl
+next-is Exceeds is = absurd (false≢true is)
+next-is (Calls m n) is = absurd (false≢true is)
+next-is (Stops q) is = absurd (false≢true is)
+
+stays : (q : Outcome) (next : ℕ) (fs : List PlacedFrame) → is_next (answer_in q fs) ≡ false → frames_in q next fs ≡ fs
+stays (GoesOn l o Next) next fs off = by (can_hold o fs) off where
+  by : (b : Bool) → is_next (cond b Continues Exceeds) ≡ false → cond b (with_top l o next fs) fs ≡ fs
+  by true off = absurd (false≢true (sym off))
+  by false off = refl
+stays (GoesOn l o (Target k)) next fs off = refl
+stays (GoesOn l o (Back k)) next fs off = refl
+stays Subroutine next fs off = refl
+stays (Invokes m args below) next fs off = refl
+stays (Returns d) next fs off = refl
+stays (Throws r) next fs off = refl
+stays (Raises name message) next fs off = refl
+stays (Initializes c) next fs off = refl
+stays (Exits n) next fs off = refl
+stays (Breaks b) next fs off = refl
+
+either : {A : Type 0} (b : Bool) → (b ≡ true → A) → (b ≡ false → A) → A
+either true on off = on refl
+either false on off = off refl
+
+module _ (d : Done) (old new : FramesView) (next : ℕ) (s after : Shared) (wrote : d.wrote ≡ []) where
+  -- it has gone on
+  pub passed-on : answer_in d.outcome old.frames ≡ Continues → new ≡ with_frames (frames_in d.outcome next old.frames) old → after ≡ d.shared
+      → IfPassed true d next old s new after
+  passed-on answer moved same = record { answer = answer; frames = moved; shared = same; wrote = wrote }
+
+  -- by what it answers, where nothing that is shared changes
+  pub passed-by : (a : Answer) → a ≡ answer_in d.outcome old.frames → new ≡ with_frames (frames_in d.outcome next old.frames) old → d.shared ≡ s → after ≡ s
+      → IfPassed (is_next a) d next old s new after
+  passed-by a told moved same kept = either (is_next a)
+      (λ on. subst (λ b. IfPassed b d next old s new after) (sym on) (passed-on (sym told ∙ next-is a on) moved (kept ∙ sym same)))
+      (λ off.
+      subst (λ b. IfPassed b d next old s new after) (sym off)
+      (moved ∙ ap (λ fs. with_frames fs old) (stays d.outcome next old.frames (sym (ap is_next told) ∙ off)), kept))
+
+-- where a frame has not gone on without the operands
+pub not-moved : (a : Answer) (q : Outcome) (next : ℕ) (old new : FramesView) → a ≡ answer_in q old.frames → is_next a ≡ false
+    → new ≡ with_frames (frames_in q next old.frames) old → new ≡ old
+not-moved a q next old new told off moved = moved ∙ ap (λ fs. with_frames fs old) (stays q next old.frames (sym (ap is_next told) ∙ off))
+
+-- a class that is usable is not initialized before
+pub when-usable : (p : Program) (o : Option Phase) (class : ℕ) (s : Shared) (d : Done) → is_usable o ≡ true → d ≡ when_ready p o class s d
+when-usable p (Some Ready) class s d is = refl
+when-usable p (Some Running) class s d is = refl
+when-usable p (Some Fresh) class s d is = absurd (false≢true is)
+when-usable p (Some Erroneous) class s d is = absurd (false≢true is)
+when-usable p None class s d is = absurd (false≢true is)
+
+-- a value that goes into the slot of the field
+pub puts-written : (p : Program) (kind : ℕ) (r : Reference) (m : MemberPlace) (s : Shared) (l : Locals) (o : Operands) (x : Putting) (object slot : ℕ)
+    → putting_of (kind_by r) o ≡ Some x → Ok object ≡ field_owner p s r m x.object → slot ≡ slot_of p m → field_found p kind false r ≡ Ok m
+    → writes object slot x.datum s l o ≡ puts_instance p kind r s l o
+puts-written p kind r m s l o x object slot is owned at named =
+    sym (ap (λ found. unless_refused s found (λ m. puts_into p r m (putting_of (kind_by r) o) s l o)) named
+    ∙ (ap (λ given. puts_into p r m given s l o) is
+    ∙ (ap (λ owner. unless_refused s owner (λ owner. done (record s { heap = with_slot_at owner (slot_of p m) x.datum s.heap }) (GoesOn l (drop 2 o) Next))) (sym owned)
+    ∙ ap (λ k. writes object k x.datum s l o) (sym at))))
+
+-- ---- a call of code
+
+pub call-of : (w : World) (s : Shared) (l : Locals) (o : Operands) (t : TheTarget) (m : Chosen) (n : ℕ) → t.selected ≡ Some m → m.callee ≡ callee.Code n → t.count ≤ length o
+    → IfSome t.selected (HasCallee w.program)
+    → IsCall (record { method = n; count = t.count }) (invokes_selected w (option_map chosen_place t.selected) (data_in t.count o) s l (drop t.count o)) s
+call-of w s l o t m n selected code within has =
+    let is : IsCode w.program (chosen_place m) n =
+    subst (λ x. IsCallee x w.program (chosen_place m)) code (subst (λ x. IfSome x (HasCallee w.program)) selected has) in
+    record {
+      args = data_in t.count o;
+      below = drop t.count o;
+      invokes = ap (λ x. invokes_selected w (option_map chosen_place x) (data_in t.count o) s l (drop t.count o)) selected
+          ∙ code-invoked w (chosen_place m) (data_in t.count o) s l (drop t.count o) n is;
+      count = length-data t.count o within;
+    }
+
+-- a call of a native method
+pub native-of : (w : World) (s : Shared) (fs : List PlacedFrame) (t : TheTarget) (m : Chosen) (n : ℕ) → t.selected ≡ Some m → m.callee ≡ callee.Native n
+    → t.count ≤ length (top_operands fs) → IfSome t.selected (HasCallee w.program)
+    → IsNativeCall w (record { number = n; count = t.count })
+    (invokes_selected w (option_map chosen_place t.selected) (data_in t.count (top_operands fs)) s (top_locals fs) (drop t.count (top_operands fs))) s fs
+native-of w s fs t m n selected native within has =
+    let is : IsNative w.program (chosen_place m) n =
+    subst (λ x. IsCallee x w.program (chosen_place m)) native (subst (λ x. IfSome x (HasCallee w.program)) selected has) in
+    record {
+      stands = is.stands;
+      within = within;
+      runs = ap (λ x. invokes_selected w (option_map chosen_place x) (data_in t.count (top_operands fs)) s (top_locals fs) (drop t.count (top_operands fs))) selected
+          ∙ native-invoked w (chosen_place m) (data_in t.count (top_operands fs)) s (top_locals fs) (drop t.count (top_operands fs)) n is;
+    }

@@ -1,0 +1,149 @@
+-- A native method that raises nothing is done, and of one that does nothing is changed (JVM Specification 2.11.8, 6.5).
+use Rattle.std.proofs.Common.{◌≡◌, ◌≤◌, ◌<◌, ℕ, zero, suc, Bool, true, false, cond, List, [], ◌∷◌, ◌++◌, length, drop, Option, Some, None, inl, inr, refl, sym, ap, subst, ◌∙◌, arith}
+use Rattle.std.specs.Prelude.{◌==◌}
+use Rattle.std.specs.Option.{option_map}
+use Rattle.std.proofs.lemmas.Bool.{false≢true}
+use Rattle.std.proofs.lemmas.List.{append-nil}
+use Rattle.heap_objects.specs.Changes.{changed_if}
+use Rattle.heap_objects.specs.Heaps.{HeapView}
+use Rattle.heap_objects.specs.declared.datum.Datum.{Datum}
+use Rattle.heap_objects.specs.declared.datum.Datum.TheVariants as datum
+use Rattle.frame_stack.specs.FrameLists.{AreSound, FramesView, PlacedFrame, top_operands}
+use Rattle.frame_stack.specs.Widths.{height_of, width}
+use Rattle.jvm_basic.specs.Outcomes.{can_hold, top_locals}
+use Rattle.native_ops.specs.declared.answer.Answer.{Answer}
+use Rattle.native_ops.specs.declared.answer.Answer.TheVariants as answer
+use Rattle.native_ops.specs.declared.answer.Native.{Native}
+use Rattle.native_ops.specs.declared.answer.Native.TheVariants as native
+use Rattle.native_ops.specs.Calls.{IsAnswer, answer_by, is_done, left_by, native_of_answer, world_by}
+use Rattle.native_ops.specs.KindsViews.{KindsView}
+use Rattle.native_ops.specs.MadeViews.{MadeView}
+use Rattle.native_ops.specs.Worlds as natives
+use Rattle.jvm_model.specs.declared.state.Shared.{Shared}
+use Rattle.jvm_model.specs.Basis.Data.{Locals, Operands, Outcome, Done, World}
+use Rattle.jvm_model.specs.Instructions.NativeRules.{kinds_in, runs_number, seen_by_natives}
+use Rattle.jvm_model.specs.Basis.Values.{as_value, with_value}
+use Rattle.symbolic_references.specs.declared.asked.Asked.TheVariants as asked
+use Rattle.symbolic_references.specs.Answers.{Continues, Exceeds, answer_in, answer_of, frames_of}
+use Rattle.symbolic_references.specs.Does.{Changed, parts_changed}
+use Rattle.symbolic_references.specs.Natives.{outcome_by}
+use Rattle.symbolic_references.specs.Passing.{IfRan, is_next}
+use Rattle.symbolic_references.proofs.Going.{height-dropped, least-width, within-limit}
+use Rattle.symbolic_references.proofs.NativeLemmas.{IsCalled, by-number, shared_with}
+use Rattle.symbolic_references.proofs.NativesKept.{IsNarrow, IsNarrowValue, call-keeps}
+use Rattle.symbolic_references.proofs.PassingLemmas.{next-is, not-moved}
+
+-- ---- what is answered has room in place of an argument
+
+narrow-width : (d : Datum) → IsNarrowValue (Some d) → width (as_value d) ≡ 1
+narrow-width (datum.Int n) is = refl
+narrow-width (datum.Ref r) is = refl
+narrow-width (datum.Long n) is = absurd is
+
+lower-value : (v : Option Datum) (n : ℕ) (o : Operands) → IsNarrowValue v → 0 < n → n ≤ length o → height_of (with_value (option_map as_value v) (drop n o)) ≤ height_of o
+lower-value None n o is some within = height-dropped n o
+lower-value (Some d) zero o is some within = absurd (omega (arith, some))
+lower-value (Some d) (suc n) [] is some within = absurd (omega (arith, within))
+lower-value (Some d) (suc n) (a ∷ below) is some within =
+    let rest : height_of (drop n below) ≤ height_of below = height-dropped n below in
+    omega (arith, rest, least-width a, narrow-width d is)
+
+fits-value : (v : Option Datum) (n : ℕ) (fs : List PlacedFrame) → AreSound fs → IsNarrowValue v → 0 < n → n ≤ length (top_operands fs)
+    → can_hold (with_value (option_map as_value v) (drop n (top_operands fs))) fs ≡ true
+fits-value v n [] sound is some within = absurd (let no : 0 < n → n ≤ 0 → ⊥ = λ a b. omega arith in no some within)
+fits-value v n (f ∷ fs) sound is some within =
+    within-limit (height_of (with_value (option_map as_value v) (drop n f.operands))) f.max_stack
+    (let lower : height_of (with_value (option_map as_value v) (drop n f.operands)) ≤ height_of f.operands = lower-value v n f.operands is some within in
+    let all : height_of f.operands ≤ f.max_stack = sound.0.operands in omega arith)
+
+-- so the frame goes on
+goes-narrow : (a : Answer) (l : Locals) (n : ℕ) (fs : List PlacedFrame) → AreSound fs → IsNarrow a → 0 < n → n ≤ length (top_operands fs)
+    → is_next (answer_in (outcome_by (native_of_answer a) l (drop n (top_operands fs))) fs) ≡ true
+goes-narrow (answer.Value v) l n fs sound is some within = ap (λ b. is_next (cond b Continues Exceeds)) (fits-value v n fs sound is some within)
+goes-narrow (answer.Throws class) l n fs sound is some within = absurd is
+goes-narrow (answer.Exit status) l n fs sound is some within = absurd is
+goes-narrow answer.Bad l n fs sound is some within = absurd is
+
+-- ---- only a call that is done goes on
+
+not-done : (x : Native) (l : Locals) (o : Operands) (fs : List PlacedFrame) → is_done x ≡ false → is_next (answer_in (outcome_by x l o) fs) ≡ false
+not-done (native.Value v) l o fs is = absurd (false≢true (sym is))
+not-done (native.Throws class) l o fs is = absurd (false≢true (sym is))
+not-done (native.Exit status) l o fs is = absurd (false≢true (sym is))
+not-done native.Bad l o fs is = absurd (false≢true (sym is))
+not-done native.NoMemory l o fs is = refl
+
+either : {A : Type 0} (b : Bool) → (b ≡ true → A) → (b ≡ false → A) → A
+either true on off = on refl
+either false on off = off refl
+
+-- ---- a call
+
+module _ (w : World) (number : ℕ) (s : Shared) (f : FramesView) (old : List ℕ) (count next : ℕ) (args : List Datum) where
+  abbrev kinds : KindsView
+  kinds = kinds_in w.program s.loaded
+
+  abbrev seen : natives.World
+  seen = seen_by_natives w s
+
+  abbrev comes_to : Done
+  comes_to = runs_number w number args s (top_locals f.frames) (drop count (top_operands f.frames))
+
+  abbrev goes_by : Native → Locals → Operands → Outcome
+  goes_by x l o = outcome_by x l (drop count o)
+
+  abbrev before : Changed
+  before = parts_changed f s old
+
+  -- what a call leaves
+  abbrev behind : FramesView → natives.World → Changed
+  behind moved left = parts_changed moved (shared_with left s) (old ++ left.wrote)
+
+  none-changed : (moved : FramesView) (left : natives.World) → moved ≡ f → left ≡ seen → behind moved left ≡ before
+  none-changed moved left same kept =
+      ap (λ (x : FramesView). behind x left) same
+      ∙ (ap (λ (x : natives.World). behind f x) kept ∙ ap (λ o. parts_changed f s o) (append-nil old))
+
+  module _ (x : Native) (moved : FramesView) (sound : AreSound f.frames) (other : (number == 79) ≡ false) (some : 0 < count) (within : count ≤ length (top_operands f.frames))
+      (is : IsAnswer x (answer_by number kinds args seen)) (goes : moved ≡ frames_of (goes_by x) next f) where
+    abbrev left_in : natives.World
+    left_in = left_by (is_done x) number kinds args seen
+
+    stays : is_next (answer_of (goes_by x) f) ≡ false → left_in ≡ seen → behind moved left_in ≡ before
+    stays off kept =
+        none-changed moved left_in (not-moved (answer_of (goes_by x) f) (outcome_by x (top_locals f.frames) (drop count (top_operands f.frames))) next f moved refl off goes) kept
+
+    -- where the frame has not gone on nothing is changed
+    kept-off : is_next (answer_of (goes_by x) f) ≡ false → left_in ≡ seen
+    kept-off off = either (is_done x) done
+        (λ undone. ap (λ b. changed_if b (world_by number kinds args) seen) undone)
+      where
+        done : is_done x ≡ true → left_in ≡ seen
+        done enough = elim (call-keeps number kinds args seen other) [
+          | inl same ↦ ap (λ b. changed_if b (world_by number kinds args) seen) enough ∙ same
+          | inr narrow ↦
+              absurd (false≢true (sym off
+              ∙ (ap (λ y. is_next (answer_in (outcome_by y (top_locals f.frames) (drop count (top_operands f.frames))) f.frames)) (is enough)
+              ∙ goes-narrow (answer_by number kinds args seen) (top_locals f.frames) count f.frames sound narrow some within)))
+        ]
+
+    ran : (b : Bool) → b ≡ is_next (answer_of (goes_by x) f) → IfRan b comes_to next before (behind moved left_in)
+    ran true told =
+        by-number w number args s f old count next x moved asked.Next
+        (either (is_done x) (λ enough. enough) (λ undone. absurd (false≢true (sym (not-done x (top_locals f.frames) (drop count (top_operands f.frames)) f.frames undone) ∙ sym told))))
+        is (sym (next-is (answer_of (goes_by x) f) (sym told))) goes
+    ran false told = stays (sym told) (kept-off (sym told))
+
+  pub native-ran : (x : Native) (b : Bool) (moved : FramesView) (heap : HeapView) (made : MadeView) (read : ℕ) (out : List ℕ) → AreSound f.frames → (number == 79) ≡ false
+      → 0 < count → count ≤ length (top_operands f.frames) → IsCalled w number s old x heap made read out s.loaded args
+      → b ≡ is_next (answer_of (goes_by x) f) → moved ≡ frames_of (goes_by x) next f
+      → IfRan b comes_to next before (parts_changed moved (record s { heap = heap; made = made; read = read }) out)
+  native-ran x b moved heap made read out sound other some within is told goes =
+      subst (λ (y : HeapView). IfRan b comes_to next before (parts_changed moved (record s { heap = y; made = made; read = read }) out)) (sym is.heaped)
+      (subst (λ (y : MadeView). IfRan b comes_to next before (parts_changed moved (record s { heap = left.heap; made = y; read = read }) out)) (sym is.kept)
+      (subst (λ (y : ℕ). IfRan b comes_to next before (parts_changed moved (record s { heap = left.heap; made = left.made; read = y }) out)) (sym is.taken)
+      (subst (λ (y : List ℕ). IfRan b comes_to next before (parts_changed moved (shared_with left s) y)) (sym is.written)
+      (ran x moved sound other some within is.answer goes b told))))
+    where
+      left : natives.World
+      left = left_by (is_done x) number kinds args seen

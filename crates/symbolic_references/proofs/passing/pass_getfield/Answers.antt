@@ -1,0 +1,32 @@
+use Rattle.std.proofs.Common.{[], sym, ap, subst, refl, ◌∙◌}
+use Rattle.frame_stack.specs.FrameLists.{top_operands, with_frames}
+use Rattle.jvm_basic.specs.Outcomes.{top_locals}
+use Rattle.jvm_model.specs.Basis.Data.{Done}
+use Rattle.jvm_model.specs.Instructions.FieldRules.{gets_of}
+use Rattle.jvm_model.specs.Instructions.SymbolicReference.{Getfield, unless_refused}
+use Rattle.jvm_model.specs.Basis.Values.{ref_of}
+use Rattle.symbolic_references.specs.Answers.{answer_in, answer_view, done_on, frames_in}
+use Rattle.symbolic_references.specs.Known.{IsField, IsFoundAs}
+use Rattle.symbolic_references.specs.Members.{reference_of}
+use Rattle.symbolic_references.specs.Passing.{IfPassed}
+use Rattle.symbolic_references.specs.Resolved.{gets_instance}
+use Rattle.symbolic_references.proofs.PassingLemmas.{passed-by}
+use Rattle.symbolic_references.proofs.Quiet.{shared_getfield, writes_getfield}
+use Rattle.symbolic_references.proofs.passing.pass_getfield.Goals as goal
+
+pub returns : goal.returns
+returns c =
+    let p = c.args.linker.now.program in
+    let r = reference_of c.args.member.now in
+    let s = c.args.shared.now in
+    let f = c.args.frames.now in
+    let l = top_locals f.frames in
+    let o = top_operands f.frames in
+    let d : Done = done_on (gets_instance p c.args.kind r s) f in
+    let there : IsField p c.args.kind r c.in-Field.field c.in-Field.slot c.in-Field.last = subst (λ x. IsFoundAs x p c.args.kind (Getfield r)) c.in-Field.is c.requires.found in
+    let same = ap (λ found. unless_refused s found (λ m. gets_of p r m (ref_of o) s l o)) (sym there.named) in
+    subst (λ b. IfPassed b d c.args.next f s c.read_known-asked.new.frames s) (sym c.went_on.ensures)
+    (passed-by d f c.read_known-asked.new.frames c.args.next s s (sym (writes_getfield p c.args.kind r s l o [])) (answer_view c.read_known-asked.result)
+    (c.read_known-asked.ensures.answer ∙ ap (λ (d : Done). answer_in d.outcome f.frames) same)
+    (c.read_known-asked.ensures.frames ∙ ap (λ (d : Done). with_frames (frames_in d.outcome c.args.next f.frames) f) same)
+    (sym (shared_getfield p c.args.kind r s l o [])) refl)

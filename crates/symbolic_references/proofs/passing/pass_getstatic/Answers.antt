@@ -1,0 +1,40 @@
+use Rattle.std.proofs.Common.{◌≡◌, [], sym, ap, subst, refl, ◌∙◌}
+use Rattle.std.specs.Option.{option_map}
+use Rattle.frame_stack.specs.FrameLists.{top_operands, with_frames}
+use Rattle.jvm_basic.specs.Outcomes.{top_locals}
+use Rattle.jvm_model.specs.Basis.Data.{Done}
+use Rattle.jvm_model.specs.Instructions.FieldRules.{pushes_static, static_field}
+use Rattle.jvm_model.specs.Instructions.LocalRules.{pushes}
+use Rattle.jvm_model.specs.Instructions.SymbolicReference.{Getstatic, unless_refused}
+use Rattle.jvm_model.specs.Instructions.ObjectRules.{done}
+use Rattle.jvm_model.specs.Basis.SharedState.{phase_of, static_at}
+use Rattle.jvm_model.specs.Basis.Values.{as_value}
+use Rattle.symbolic_references.specs.Answers.{answer_in, answer_view, done_on, frames_in}
+use Rattle.symbolic_references.specs.Known.{IsFoundAs}
+use Rattle.symbolic_references.specs.Members.{at_place, reference_of}
+use Rattle.symbolic_references.specs.Passing.{IfPassed}
+use Rattle.symbolic_references.specs.Resolved.{gets_static}
+use Rattle.symbolic_references.proofs.PassingLemmas.{passed-by, when-usable}
+use Rattle.symbolic_references.proofs.Quiet.{shared_getstatic, writes_getstatic}
+use Rattle.symbolic_references.proofs.passing.pass_getstatic.Goals as goal
+
+pub returns : goal.returns
+returns c =
+    let p = c.args.linker.now.program in
+    let r = reference_of c.args.member.now in
+    let s = c.args.shared.now in
+    let f = c.args.frames.now in
+    let l = top_locals f.frames in
+    let o = top_operands f.frames in
+    let m = at_place c.in-Static.field in
+    let d : Done = done_on (gets_static p c.args.kind r s) f in
+    let pushed : Done = done s (pushes (option_map as_value (static_at s (static_field m))) l o) in
+    let there = subst (λ x. IsFoundAs x p c.args.kind (Getstatic r)) c.in-Static.is c.requires.found in
+    let same : pushed ≡ d =
+    when-usable p (phase_of s m.class) m.class s pushed (sym c.is_usable.ensures ∙ c.if-not-is_usable.false)
+    ∙ ap (λ found. unless_refused s found (λ m. pushes_static p m s l o)) (sym there) in
+    subst (λ b. IfPassed b d c.args.next f s c.push_field-asked.new.frames s) (sym c.went_on.ensures)
+    (passed-by d f c.push_field-asked.new.frames c.args.next s s (sym (writes_getstatic p c.args.kind r s l o [])) (answer_view c.push_field-asked.result)
+    (c.push_field-asked.ensures.answer ∙ ap (λ (d : Done). answer_in d.outcome f.frames) same)
+    (c.push_field-asked.ensures.frames ∙ ap (λ (d : Done). with_frames (frames_in d.outcome c.args.next f.frames) f) same)
+    (sym (shared_getstatic p c.args.kind r s l o [])) refl)

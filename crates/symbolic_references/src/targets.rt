@@ -1,0 +1,557 @@
+//! Which method an invocation comes to (JVM Specification 5.4.3.3, 5.4.3.4, 6.5), before anything is changed.
+
+ghost use Rattle.std.specs.Prelude.{◌≡◌, ◌≤◌, ℕ, false, true, length, IfOk, IfSome, Ok, Some};
+ghost use Rattle.std.specs.Bool.{beq};
+ghost use Rattle.std.specs.Option.{option_and_then, option_map};
+ghost use Rattle.const_pool.specs.References.{name_type_of};
+ghost use Rattle.frame_stack.specs.FrameLists.{top_operands};
+ghost use Rattle.jvm_model.specs.Instructions.InvocationRules.{names_interface, not_of_class, selected_by};
+ghost use Rattle.jvm_model.specs.Classes.Lookup.{resolved_method};
+ghost use Rattle.jvm_model.specs.Instructions.SymbolicReference.{Invokestatic, member_found, is_below_kind, where_fitting};
+ghost use Rattle.jvm_model.specs.Basis.Data.{Raises};
+ghost use Rattle.jvm_model.specs.Basis.Programs.{class_named, name_at};
+ghost use Rattle.jvm_model.specs.Classes.Selection.{access_of, is_abstract, is_static};
+ghost use Rattle.jvm_model.specs.Basis.SharedState.{class_of_kind, no_class_definition};
+ghost use Rattle.jvm_model.specs.Classes.SuperCalls.{invoked_special};
+ghost use Rattle.class_index.specs.Members.{place_view};
+ghost use Rattle.class_linker.specs.Linkers.{IsLoaded};
+ghost use Rattle.symbolic_references.specs.Answers.{place_found, abrupt_view};
+ghost use Rattle.symbolic_references.specs.Callees.{HasCallee, chosen_place};
+ghost use Rattle.symbolic_references.specs.Known.{IsFoundAs, IsSite, symbolic_reference_by};
+ghost use Rattle.symbolic_references.specs.Members.{at_place};
+ghost use Rattle.symbolic_references.specs.Numbers.{AreNumbers};
+ghost use Rattle.symbolic_references.specs.Objects.{AreLoaded, IsResolved, IsUsable};
+ghost use Rattle.symbolic_references.specs.Resolved.{method_found};
+ghost use Rattle.symbolic_references.specs.Targets.{HasCaller, selecting_view, found_as, instance_target};
+ghost use Rattle.symbolic_references.specs.Targets.{receiver_class, static_target, target_in, unready_by};
+
+use crate::asked::{AbruptCompletion, Exception};
+use crate::callees::callee_of;
+use crate::classes::name_at;
+use crate::declared_member::DeclaredMember;
+use crate::instances::{class_of_kind, kind_of_object};
+use crate::known::{Chosen, Found, Site};
+use crate::numbers::MethodNumbers;
+use crate::receivers::{argument_count, receiver_below};
+use crate::resolution::exception_numbered;
+use crate::symbolic_reference::{MemberName, MethodName};
+use class_index::{ABSTRACT, STATIC, has_flag};
+use class_linker::{Linker, Resolved};
+use frame_stack::Frames;
+use heap_objects::Heap;
+use jf_bytes::{NoMemory, Text16};
+use jvm_model::{Phase, Program, Shared};
+use std::alloc::Global;
+
+/// Which invocation it is: invokespecial with the name of the class in which it stands, and whether it names an interface's method.
+#[derive(Clone, Copy)]
+pub enum Selecting<'a> {
+    Virtual,
+    OfInterface,
+    Special(&'a Text16, bool),
+}
+
+/// The method that was selected, if one was, and how many operands are its arguments.
+#[derive(Clone, Copy)]
+pub struct Target {
+    pub selected: Option<Chosen>,
+    pub count: u16,
+}
+
+// ---- methods
+
+/// The flags of a method.
+fn access_of(program: &Program, m: DeclaredMember) -> u16
+    ensures { result ≡ access_of program.now (at_place m) }
+{
+    match program.classes.get(m.class as usize) {
+        Some(file) => match file.methods.get(m.position as usize) {
+            Some(method) => method.access,
+            None => 0,
+        },
+        None => 0,
+    }
+}
+
+/// Whether a method is static (JVM Specification 4.6).
+pub fn is_static(program: &Program, m: DeclaredMember) -> bool
+    ensures { result ≡ is_static program.now (at_place m) }
+{
+    has_flag(access_of(program, m), STATIC)
+}
+
+pub fn is_abstract(program: &Program, m: DeclaredMember) -> bool
+    ensures { result ≡ is_abstract program.now (at_place m) }
+{
+    has_flag(access_of(program, m), ABSTRACT)
+}
+
+// ---- resolution
+
+/// The method that a name stands for in a class.
+fn found_in(
+    linker: &Linker,
+    class: u32,
+    interface: bool,
+    member: &MemberName,
+) -> Result<DeclaredMember, AbruptCompletion>
+    requires { IsLoaded linker.now class }
+    ensures { place_found result ≡ member_found (resolved_method linker.now.program class interface
+        (name_type_of member.now.name member.now.descriptor)) }
+{
+    match linker.resolve_method(class, interface, &member.name, &member.descriptor) {
+        Resolved::Found(class, position) => Ok(DeclaredMember { class, position }),
+        Resolved::Throws(number) => Err(AbruptCompletion::Raises(exception_numbered(number), None)),
+    }
+}
+
+/// The method, where it is static as it is asked for, or is not.
+fn fitting(
+    program: &Program,
+    m: DeclaredMember,
+    fixed: bool,
+) -> Result<DeclaredMember, AbruptCompletion>
+    ensures { place_found result
+        ≡ where_fitting (beq (is_static program.now (at_place m)) fixed) (at_place m) }
+{
+    if is_static(program, m) == fixed {
+        Ok(m)
+    } else {
+        Err(AbruptCompletion::Raises(Exception::IncompatibleClassChange, None))
+    }
+}
+
+/// The method, static or not, that a name stands for whose class was resolved to this kind.
+fn method_found(
+    linker: &Linker,
+    kind: u32,
+    interface: bool,
+    fixed: bool,
+    method: &MethodName,
+) -> Result<DeclaredMember, AbruptCompletion>
+    requires { IsUsable linker.now kind }
+    ensures { place_found result
+        ≡ method_found linker.now.program kind interface fixed method.now }
+{
+    let class = class_of_kind(linker, kind);
+    match found_in(linker, class, interface, method.member()) {
+        Ok(m) => fitting(linker.program(), m, fixed),
+        Err(refusal) => Err(refusal),
+    }
+}
+
+// ---- receivers
+
+/// What a receiver asks for that is not of the named class.
+fn not_of_class(by: Selecting<'_>) -> AbruptCompletion
+    ensures { abrupt_view result ≡ not_of_class (selecting_view by.entry) }
+{
+    match by {
+        Selecting::Virtual => AbruptCompletion::Breaks,
+        Selecting::OfInterface => AbruptCompletion::Raises(
+            Exception::IncompatibleClassChange,
+            None,
+        ),
+        Selecting::Special(_, _) => AbruptCompletion::Breaks,
+    }
+}
+
+fn names_interface(by: Selecting<'_>) -> bool
+    ensures { result ≡ names_interface (selecting_view by.entry) }
+{
+    match by {
+        Selecting::Virtual => false,
+        Selecting::OfInterface => true,
+        Selecting::Special(_, interface) => interface,
+    }
+}
+
+/// Whether objects of a kind are of the named one; those of the last kind are.
+#[inline(always)]
+fn is_of_named(linker: &Linker, lower: u32, kind: u32, last: Option<u32>) -> bool
+    requires usable { IsUsable linker.now lower }
+    requires below { IfSome last
+        (λ last. is_below_kind linker.now.program (Some last) (Some kind) ≡ true) }
+    ensures { result ≡ is_below_kind linker.now.program (Some lower) (Some kind) }
+{
+    if let Some(last) = last
+        && last == lower
+    {
+        return true;
+    }
+    linker.subtype(lower, kind)
+}
+
+/// The kind of a receiver, where it is one that the instruction can take: the name's class was resolved to this kind, and objects
+/// of the last kind are of it.
+#[inline(always)]
+fn receiver_kind(
+    linker: &Linker,
+    heap: &Heap,
+    by: Selecting<'_>,
+    method: &MethodName,
+    kind: u32,
+    last: Option<u32>,
+    object: u32,
+) -> Result<u32, AbruptCompletion>
+    requires objects { AreLoaded linker.now heap.now }
+    requires resolved { IsResolved linker.now method.now.class kind }
+    requires last { IfSome last
+        (λ last. is_below_kind linker.now.program (Some last) (Some kind) ≡ true) }
+    ensures class { found_as (class_of_kind linker.now.program) result
+        ≡ receiver_class linker.now.program (selecting_view by.entry) method.now heap.now object }
+    ensures usable { IfOk result (λ lower. IsUsable linker.now lower) }
+    ensures below { IfOk result
+        (λ lower. is_below_kind linker.now.program (Some lower) (Some kind) ≡ true) }
+{
+    if object == 0 {
+        return Err(AbruptCompletion::Raises(Exception::NullPointer, None));
+    }
+    let Some(lower) = kind_of_object(linker, heap, object) else {
+        return Err(not_of_class(by));
+    };
+    if !is_of_named(linker, lower, kind, last) {
+        return Err(not_of_class(by));
+    }
+    Ok(lower)
+}
+
+// ---- selection
+
+/// A place as the linker gives it.
+fn member_placed(found: Option<(u32, u16)>) -> Option<DeclaredMember>
+    ensures { option_map at_place result ≡ option_map place_view found }
+{
+    let (class, position) = found?;
+    Some(DeclaredMember { class, position })
+}
+
+/// What invokespecial takes in the class of this name.
+fn selected_special(linker: &Linker, caller: &Text16, m: DeclaredMember) -> Option<DeclaredMember>
+    requires { (class : ℕ) → class_named linker.now.program caller.now ≡ Some class →
+        IsLoaded linker.now class }
+    ensures { option_map at_place result ≡ option_and_then
+        (λ current. invoked_special linker.now.program current (at_place m))
+        (class_named linker.now.program caller.now) }
+{
+    let current = linker.index().class_named(caller.units())?;
+    member_placed(linker.special(current, m.class, m.position))
+}
+
+/// What the receiver's class has for the resolved method, or what the caller's class takes.
+fn selected_by(
+    linker: &Linker,
+    by: Selecting<'_>,
+    m: DeclaredMember,
+    class: u32,
+) -> Option<DeclaredMember>
+    requires loaded { IsLoaded linker.now class }
+    requires caller { HasCaller linker.now (selecting_view by) }
+    ensures { option_map at_place result
+        ≡ selected_by linker.now.program (selecting_view by.entry) (at_place m) class }
+{
+    match by {
+        Selecting::Virtual => member_placed(linker.select(class, m.class, m.position, false)),
+        Selecting::OfInterface => member_placed(linker.select(class, m.class, m.position, true)),
+        Selecting::Special(caller, _) => selected_special(linker, caller, m),
+    }
+}
+
+// ---- an instance method
+
+/// What is selected for objects of a kind, which is kept.
+#[inline(never)]
+#[tactic(auto, using(crate::proofs::KnownLemmas::site_of))]
+fn select_anew(
+    linker: &Linker,
+    numbers: &MethodNumbers,
+    by: Selecting<'_>,
+    method: &MethodName,
+    kind: u32,
+    m: DeclaredMember,
+    lower: u32,
+    found: &mut Found,
+) -> Option<Chosen>
+    requires named { method_found linker.now.program kind (names_interface (selecting_view by))
+        false method.now ≡ Ok (at_place m) }
+    requires below { is_below_kind linker.now.program (Some lower) (Some kind) ≡ true }
+    requires usable { IsUsable linker.now lower }
+    requires numbers { AreNumbers linker.now.program numbers.now }
+    requires caller { HasCaller linker.now (selecting_view by) }
+    requires found { IsFoundAs found.old linker.now.program kind
+        (symbolic_reference_by (selecting_view by) method.now) }
+    ensures chosen { let p = linker.now.program in option_map chosen_place result
+        ≡ selected_by p (selecting_view by.entry) (at_place m) (class_of_kind p lower) }
+    ensures callee { IfSome result (HasCallee linker.now.program) }
+    ensures found { IsFoundAs found.new linker.now.program kind
+        (symbolic_reference_by (selecting_view by.entry) method.now) }
+{
+    let place = selected_by(linker, by, m, class_of_kind(linker, lower))?;
+    let callee = callee_of(linker, numbers, place);
+    let chosen = Chosen { place, callee };
+    *found = Found::Selected(Site {
+        method: m,
+        last: lower,
+        chosen,
+    });
+    Some(chosen)
+}
+
+/// The same where it is known for the objects of the last kind. invokespecial selects the same for those of every kind.
+#[inline(always)]
+fn select_again(
+    linker: &Linker,
+    numbers: &MethodNumbers,
+    by: Selecting<'_>,
+    method: &MethodName,
+    kind: u32,
+    site: Site,
+    lower: u32,
+    found: &mut Found,
+) -> Option<Chosen>
+    requires site { IsSite linker.now.program kind (selecting_view by) method.now site }
+    requires below { is_below_kind linker.now.program (Some lower) (Some kind) ≡ true }
+    requires usable { IsUsable linker.now lower }
+    requires numbers { AreNumbers linker.now.program numbers.now }
+    requires caller { HasCaller linker.now (selecting_view by) }
+    requires found { IsFoundAs found.old linker.now.program kind
+        (symbolic_reference_by (selecting_view by) method.now) }
+    ensures chosen { let p = linker.now.program in option_map chosen_place result
+        ≡ selected_by p (selecting_view by.entry) (at_place site.method) (class_of_kind p lower) }
+    ensures callee { IfSome result (HasCallee linker.now.program) }
+    ensures found { IsFoundAs found.new linker.now.program kind
+        (symbolic_reference_by (selecting_view by.entry) method.now) }
+{
+    if lower == site.last {
+        return Some(site.chosen);
+    }
+    if let Selecting::Special(_, _) = by {
+        return Some(site.chosen);
+    }
+    select_anew(linker, numbers, by, method, kind, site.method, lower, found)
+}
+
+/// What an instruction other than invokestatic comes to, where the method and a selection are known.
+#[inline(always)]
+fn known_target(
+    linker: &Linker,
+    numbers: &MethodNumbers,
+    heap: &Heap,
+    frames: &Frames,
+    by: Selecting<'_>,
+    method: &MethodName,
+    kind: u32,
+    site: Site,
+    found: &mut Found,
+) -> Result<Target, AbruptCompletion>
+    requires objects { AreLoaded linker.now heap.now }
+    requires resolved { IsResolved linker.now method.now.class kind }
+    requires caller { HasCaller linker.now (selecting_view by) }
+    requires numbers { AreNumbers linker.now.program numbers.now }
+    requires site { IsSite linker.now.program kind (selecting_view by) method.now site }
+    requires found { IsFoundAs found.old linker.now.program kind
+        (symbolic_reference_by (selecting_view by) method.now) }
+    ensures target { let o = top_operands frames.now.frames in found_as (target_in o) result
+        ≡ instance_target linker.now.program kind (selecting_view by.entry) method.now heap.now o }
+    ensures within { IfOk result (λ t. t.count ≤ length (top_operands frames.now.frames)) }
+    ensures callee { IfOk result (λ t. IfSome t.selected (HasCallee linker.now.program)) }
+    ensures found { IsFoundAs found.new linker.now.program kind
+        (symbolic_reference_by (selecting_view by.entry) method.now) }
+{
+    let Some(count) = argument_count(true, method, frames) else {
+        return Err(AbruptCompletion::Breaks);
+    };
+    let object = receiver_below(frames, count);
+    let last = Some(site.last);
+    match receiver_kind(linker, heap, by, method, kind, last, object) {
+        Ok(lower) => Ok(Target {
+            selected: select_again(linker, numbers, by, method, kind, site, lower, found),
+            count,
+        }),
+        Err(refusal) => Err(refusal),
+    }
+}
+
+/// The same where the method is looked up.
+#[inline(never)]
+fn target_by_name(
+    linker: &Linker,
+    numbers: &MethodNumbers,
+    heap: &Heap,
+    frames: &Frames,
+    by: Selecting<'_>,
+    method: &MethodName,
+    kind: u32,
+    found: &mut Found,
+) -> Result<Target, AbruptCompletion>
+    requires objects { AreLoaded linker.now heap.now }
+    requires resolved { IsResolved linker.now method.now.class kind }
+    requires caller { HasCaller linker.now (selecting_view by) }
+    requires numbers { AreNumbers linker.now.program numbers.now }
+    requires found { IsFoundAs found.old linker.now.program kind
+        (symbolic_reference_by (selecting_view by) method.now) }
+    ensures target { let o = top_operands frames.now.frames in found_as (target_in o) result
+        ≡ instance_target linker.now.program kind (selecting_view by.entry) method.now heap.now o }
+    ensures within { IfOk result (λ t. t.count ≤ length (top_operands frames.now.frames)) }
+    ensures callee { IfOk result (λ t. IfSome t.selected (HasCallee linker.now.program)) }
+    ensures found { IsFoundAs found.new linker.now.program kind
+        (symbolic_reference_by (selecting_view by.entry) method.now) }
+{
+    let m = match method_found(linker, kind, names_interface(by), false, method) {
+        Ok(m) => m,
+        Err(refusal) => return Err(refusal),
+    };
+    let Some(count) = argument_count(true, method, frames) else {
+        return Err(AbruptCompletion::Breaks);
+    };
+    let object = receiver_below(frames, count);
+    match receiver_kind(linker, heap, by, method, kind, None, object) {
+        Ok(lower) => Ok(Target {
+            selected: select_anew(linker, numbers, by, method, kind, m, lower, found),
+            count,
+        }),
+        Err(refusal) => Err(refusal),
+    }
+}
+
+/// What an instruction other than invokestatic comes to, where the class of the method's name was resolved to this kind. The
+/// method that is found is kept, with what is selected for the receiver's kind.
+#[tactic(auto, using(crate::proofs::KnownLemmas::of_site))]
+pub fn instance_target(
+    linker: &Linker,
+    numbers: &MethodNumbers,
+    heap: &Heap,
+    frames: &Frames,
+    by: Selecting<'_>,
+    method: &MethodName,
+    kind: u32,
+    found: &mut Found,
+) -> Result<Target, AbruptCompletion>
+    requires objects { AreLoaded linker.now heap.now }
+    requires resolved { IsResolved linker.now method.now.class kind }
+    requires caller { HasCaller linker.now (selecting_view by) }
+    requires numbers { AreNumbers linker.now.program numbers.now }
+    requires found { IsFoundAs found.old linker.now.program kind
+        (symbolic_reference_by (selecting_view by) method.now) }
+    ensures target { let o = top_operands frames.now.frames in found_as (target_in o) result
+        ≡ instance_target linker.now.program kind (selecting_view by.entry) method.now heap.now o }
+    ensures within { IfOk result (λ t. t.count ≤ length (top_operands frames.now.frames)) }
+    ensures callee { IfOk result (λ t. IfSome t.selected (HasCallee linker.now.program)) }
+    ensures found { IsFoundAs found.new linker.now.program kind
+        (symbolic_reference_by (selecting_view by.entry) method.now) }
+{
+    if let Found::Selected(site) = *found {
+        return known_target(linker, numbers, heap, frames, by, method, kind, site, found);
+    }
+    target_by_name(linker, numbers, heap, frames, by, method, kind, found)
+}
+
+// ---- a static method
+
+/// A text with the same units.
+fn text_copied(alloc: Global, text: &Text16) -> Result<Text16, NoMemory>
+    ensures { IfOk result (λ copy. copy ≡ text.now) }
+{
+    Ok(Text16::new(Vec::from_slice(alloc, text.units())?))
+}
+
+/// NoClassDefFoundError, with the name of the class that can not be used.
+fn unusable(alloc: Global, linker: &Linker, class: u32) -> Result<AbruptCompletion, NoMemory>
+    ensures { IfOk result (λ refusal. abrupt_view refusal
+        ≡ Raises no_class_definition (name_at linker.now.program class)) }
+{
+    let message = match name_at(linker, class) {
+        Some(name) => Some(text_copied(alloc, name)?),
+        None => None,
+    };
+    Ok(AbruptCompletion::Raises(Exception::NoClassDefinition, message))
+}
+
+/// What is asked for where a class has to be initialized before, or can not be used (5.5).
+fn unready(
+    alloc: Global,
+    linker: &Linker,
+    class: u32,
+    phase: Option<Phase>,
+) -> Result<Option<AbruptCompletion>, NoMemory>
+    ensures { IfOk result (λ refusal. option_map abrupt_view refusal
+        ≡ unready_by linker.now.program class phase) }
+{
+    match phase {
+        Some(Phase::Ready) => Ok(None),
+        Some(Phase::Running) => Ok(None),
+        Some(Phase::Fresh) => Ok(Some(AbruptCompletion::Initializes(class))),
+        Some(Phase::Erroneous) => Ok(Some(unusable(alloc, linker, class)?)),
+        None => Ok(Some(unusable(alloc, linker, class)?)),
+    }
+}
+
+/// The method that invokestatic names, as it is known or looked up.
+fn static_found(
+    linker: &Linker,
+    numbers: &MethodNumbers,
+    method: &MethodName,
+    kind: u32,
+    found: &mut Found,
+) -> Result<Chosen, AbruptCompletion>
+    requires usable { IsUsable linker.now kind }
+    requires numbers { AreNumbers linker.now.program numbers.now }
+    requires found { IsFoundAs found.old linker.now.program kind (Invokestatic method.now) }
+    ensures method { found_as chosen_place result
+        ≡ method_found linker.now.program kind false true method.now }
+    ensures callee { IfOk result (HasCallee linker.now.program) }
+    ensures found { IsFoundAs found.new linker.now.program kind (Invokestatic method.now) }
+{
+    if let Found::Fixed(m) = *found {
+        return Ok(m);
+    }
+    match method_found(linker, kind, false, true, method) {
+        Ok(place) => {
+            let callee = callee_of(linker, numbers, place);
+            let m = Chosen { place, callee };
+            *found = Found::Fixed(m);
+            Ok(m)
+        }
+        Err(refusal) => Err(refusal),
+    }
+}
+
+/// What invokestatic comes to, where the class of the method's name was resolved to this kind. The method that is found is kept.
+pub fn static_target(
+    alloc: Global,
+    linker: &Linker,
+    numbers: &MethodNumbers,
+    shared: &Shared,
+    frames: &Frames,
+    method: &MethodName,
+    kind: u32,
+    found: &mut Found,
+) -> Result<Result<Target, AbruptCompletion>, NoMemory>
+    requires usable { IsUsable linker.now kind }
+    requires numbers { AreNumbers linker.now.program numbers.now }
+    requires found { IsFoundAs found.old linker.now.program kind (Invokestatic method.now) }
+    ensures target { let o = top_operands frames.now.frames in
+        IfOk result (λ t. found_as (target_in o) t
+        ≡ static_target linker.now.program kind method.now shared.now o) }
+    ensures within { IfOk result (λ t.
+        IfOk t (λ t. t.count ≤ length (top_operands frames.now.frames))) }
+    ensures callee { IfOk result (λ t.
+        IfOk t (λ t. IfSome t.selected (HasCallee linker.now.program))) }
+    ensures found { IsFoundAs found.new linker.now.program kind (Invokestatic method.now) }
+{
+    let m = match static_found(linker, numbers, method, kind, found) {
+        Ok(m) => m,
+        Err(refusal) => return Ok(Err(refusal)),
+    };
+    let phase = shared.phases.at(m.place.class as usize);
+    if let Some(refusal) = unready(alloc, linker, m.place.class, phase)? {
+        return Ok(Err(refusal));
+    }
+    match argument_count(false, method, frames) {
+        Some(count) => Ok(Ok(Target {
+            selected: Some(m),
+            count,
+        })),
+        None => Ok(Err(AbruptCompletion::Breaks)),
+    }
+}
