@@ -1,7 +1,7 @@
 -- A class whose codes are short can be rewritten: a version of such a code passes no limit.
-use Rattle.std.proofs.Common.{◌≡◌, ℕ, suc, ◌+◌, ◌*◌, ◌<◌, ◌≤◌, Bool, true, false, cond, ltb, eqb, List, [], ◌∷◌, ◌++◌, length, Option, Some, None, refl, sym, ap, subst, ◌∙◌, arith}
-use Rattle.std.specs.Prelude.{ℤ, pos, negsuc, ◌-ℤ◌, FitsSigned, map, is_some, IfSome, nat_le, ◌==◌, ◌&&◌, ◌||◌}
-use Rattle.std.specs.Int.{Width, w16, byte_len}
+use Rattle.std.proofs.Common.{◌≡◌, ℕ, suc, ◌+◌, ◌<◌, ◌≤◌, Bool, true, false, cond, ltb, eqb, List, [], ◌∷◌, length, Option, Some, None, refl, sym, ap, subst, ◌∙◌, arith}
+use Rattle.std.specs.Prelude.{ℤ, pos, negsuc, ◌-ℤ◌, map, is_some, IfSome, nat_le, ◌==◌, ◌&&◌, ◌||◌}
+use Rattle.std.specs.Int.{Width, byte_len}
 use Rattle.std.specs.List.{flat_map, list_all}
 use Rattle.std.specs.Option.{option_or, option_map_or}
 use Rattle.std.proofs.lemmas.Bool.{and_parts, ltb-true, leb-true, le-ltb, ne_eqb}
@@ -19,10 +19,10 @@ use Rattle.code_model.specs.declared.instr.Code.{Code}
 use Rattle.code_model.specs.declared.laying.Group.{Group}
 use Rattle.code_model.specs.declared.laying.Homes.{Homes}
 use Rattle.code_model.specs.declared.laying.Laid.{Laid}
-use Rattle.code_model.specs.Layout.{distance, width_of, place_of, group_end, end_from, homes_of, home_of, laid_of, is_near, fits_branch, first_far_from, first_far}
+use Rattle.code_model.specs.Layout.{width_of, place_of, group_end, end_from, homes_of, home_of, laid_of, is_near, fits_branch, first_far_from, first_far}
 use Rattle.code_model.proofs.Walks.{le-end_from, length-laid_of}
 use Rattle.jvm_model.specs.declared.event.Mark.{Mark}
-use Rattle.jvm_model.specs.declared.event.Mark.TheVariants.{Off, Plain, Root}
+use Rattle.jvm_model.specs.declared.event.Mark.TheVariants.{Off, Plain}
 use Rattle.jvm_model.specs.Basis.Methods.{code_of}
 use Rattle.jvm_model.specs.Rewriting.Images.{all_off, next_number}
 use Rattle.jvm_model.specs.Rewriting.Versions.{group_of, moved_handler, catch_all}
@@ -34,9 +34,9 @@ use Rattle.inject_events.specs.declared.settings.Setting.{Setting}
 use Rattle.inject_events.specs.Answers.{IsReadableCode, IsReadableBody, HasReadableBody, HaveReadableBodies, IsReadableClass, IsProfilable}
 use Rattle.inject_events.specs.Settings.{setting_of, probes_in}
 use Rattle.inject_events.specs.Probing.{laid_with, first_marked}
-use Rattle.inject_events.specs.Rewriting.{Refused, instrs_in, code_around, laid_version_of, version_of, room_cause, far_cause, layout_cause, is_too_large, size_cause, code_cause, version_cause, cause_of_coded, cause_of_method, refused_here, refused_from, is_full_pool, refused_of_marked, refused_of, plain_mark, all_plain}
+use Rattle.inject_events.specs.Rewriting.{Refused, instrs_in, code_around, laid_version_of, version_of, room_cause, far_cause, layout_cause, size_cause, version_cause, cause_of_coded, cause_of_method, refused_here, refused_from, is_full_pool, refused_of_marked, plain_mark, all_plain}
 use Rattle.inject_events.specs.SmallCodes.{is_small_code, has_small_body, has_room, has_small_codes}
-use Rattle.inject_events.specs.Tables.{are_frames_full, version_tables}
+use Rattle.inject_events.specs.Tables.{are_frames_full}
 use Rattle.inject_events.proofs.InstrsIn.{instrs_in-is}
 use Rattle.inject_events.proofs.LaidBytes.{home-le}
 use Rattle.inject_events.proofs.SmallTables.{tables-le, frames-room}

@@ -1,7 +1,7 @@
 -- How many bytes the tables of a version have, and that tables of few bytes are not full.
 use Rattle.std.proofs.Common.{◌≡◌, ℕ, ◌+◌, ◌*◌, ◌≤◌, Bool, true, false, cond, eqb, List, [], ◌∷◌, ◌++◌, length, Option, Some, None, refl, ap, ◌∙◌, arith}
 use Rattle.std.specs.Prelude.{Result, Ok, Err, map, nat_le, ◌&&◌, ◌||◌}
-use Rattle.std.specs.List.{flat_map, list_any}
+use Rattle.std.specs.List.{flat_map}
 use Rattle.std.proofs.lemmas.Bool.{ne_eqb}
 use Rattle.std.proofs.lemmas.Grind.{flat_map-append}
 use Rattle.std.proofs.lemmas.List.{length-append, length-map}
@@ -16,9 +16,9 @@ use Rattle.stackmap_shift.specs.declared.frames.FrameKind.TheVariants.{Same, One
 use Rattle.stackmap_shift.specs.DebugTables.{shifted_lines, shifted_variables}
 use Rattle.stackmap_shift.specs.Frames.{frames_of}
 use Rattle.stackmap_shift.specs.Moves.{moved_frames, moved_frame}
-use Rattle.stackmap_shift.specs.Spelling.{u1, u2, type_bytes, types_bytes, counted_bytes, short_or_long, kind_bytes, frame_bytes, delta_of, frames_bytes, table_bytes}
+use Rattle.stackmap_shift.specs.Spelling.{u1, u2, type_bytes, short_or_long, kind_bytes, frame_bytes, delta_of, frames_bytes, table_bytes}
 use Rattle.stackmap_shift.proofs.Sizes.{length-table, length-moved_frames, length-shifted_lines, length-shifted_variables}
-use Rattle.jvm_model.specs.Rewriting.ImageTables.{moved_or_kept, moved_lines, moved_variables, last_frame, is_writable, frames_with_last, framed_by}
+use Rattle.jvm_model.specs.Rewriting.ImageTables.{moved_or_kept, last_frame, is_writable, frames_with_last, framed_by}
 use Rattle.inject_events.specs.declared.settings.Setting.{Setting}
 use Rattle.inject_events.specs.declared.settings.Table.{Table}
 use Rattle.inject_events.specs.declared.settings.Table.TheVariants as table

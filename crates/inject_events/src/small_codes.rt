@@ -1,6 +1,7 @@
 //! Classes whose methods are so short that no version of theirs passes a limit, which is known without making one.
 
 ghost use Rattle.std.specs.Prelude.{◌≡◌, true};
+ghost use Rattle.std.specs.List.{list_all};
 ghost use Rattle.inject_events.specs.Answers.{IsProfilable, IsReadableClass};
 ghost use Rattle.inject_events.specs.SmallCodes.{has_room, has_small_body, has_small_codes, is_small_code};
 
@@ -44,17 +45,26 @@ fn has_room(pool: &Pool) -> bool
     usize::from(pool.count()) + TAIL_ENTRIES <= 65535
 }
 
-/// Whether each Code of the class is so short that it can be rewritten whatever is in it. Nearly all classes are; of another one
-/// `instrument` tells whether it can.
+/// Whether the Code of each of these methods is.
+fn have_small_bodies(methods: &[Member]) -> bool
+    ensures { result ≡ list_all has_small_body methods.now }
+{
+    methods.iter().all(|method| has_small_body(method))
+}
+
+/// Whether that of each method of the class is, and the pool has room.
+fn has_small_codes(class: &ClassFile) -> bool
+    ensures { result ≡ has_small_codes class.now }
+{
+    has_room(&class.pool) && have_small_bodies(class.methods.as_slice())
+}
+
+/// Whether each Code of the class is so short that it can be rewritten whatever is in it. Nearly all classes are such; of another one
+/// `instrument` tells whether it can be rewritten.
 pub fn is_surely_profilable(class: &ClassFile) -> bool
-    requires { IsReadableClass class.now }
+    requires class { IsReadableClass class.now }
     ensures small { result ≡ has_small_codes class.now }
     ensures profilable { result ≡ true → IsProfilable class.now }
 {
-    has_room(&class.pool)
-        && class
-            .methods
-            .as_slice()
-            .iter()
-            .all(|method| has_small_body(method))
+    has_small_codes(class)
 }
