@@ -43,3 +43,8 @@ returns-clause-sound c =
 
 pub returns-clause-starts : goal.returns-clause-starts
 returns-clause-starts c = λ moves undelivered start. absurd (false≢true (sym c.if-hand.false ∙ moves))
+
+-- nothing was done
+pub returns-then-not-end_told-clause-none : goal.returns-then-not-end_told-clause-none
+returns-then-not-end_told-clause-none c =
+    subst (λ b. TriesIf b c.args.originals.now.setup c.args.initializing.now true c.args.parts.now Nothing c.end_told.new.parts) c.if-not-end_told.true c.end_told.ensures
