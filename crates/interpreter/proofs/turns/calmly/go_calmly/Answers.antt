@@ -3,6 +3,7 @@ use Rattle.std.proofs.lemmas.Bool.{false≢true}
 use Rattle.jvm_model.specs.declared.due.Due.TheVariants.{Nothing}
 use Rattle.interpreter.specs.Moves.Calmly.{TriesCalmly, TriesIf}
 use Rattle.interpreter.proofs.Moves.CalmHands.{calm-moves, calm-tries, hands-calmly, sound-calmly, start-calmly}
+use Rattle.interpreter.proofs.Silent.GoingOnward.{not-marked}
 use Rattle.interpreter.proofs.turns.calmly.go_calmly.Goals as goal
 
 -- by moves
@@ -30,7 +31,7 @@ returns-clause-goes c =
     let ms = c.args.initializing.now in
     let none = c.if-hand-gt0.false in
     calm-tries w ms c.args.hand c.args.parts.now c.gone_to-2.result c.gone_to-2.ensures.left c.end_told.new.parts Nothing c.if-hand.false (omega (arith, none))
-    (subst (λ b. TriesCalmly w ms b c.args.parts.now Nothing c.end_told.new.parts) (sym c.if-not-hand.false)
+    (subst (λ b. TriesCalmly w ms b c.args.parts.now Nothing c.end_told.new.parts) (sym (not-marked c.args.hand.delivered c.if-not-hand.false))
     (subst (λ b. TriesIf b w ms true c.args.parts.now Nothing c.end_told.new.parts) c.if-not-end_told.false c.end_told.ensures))
     c.gone_to-2.ensures.due c.gone_to-2.ensures.passed
 
