@@ -1,5 +1,5 @@
 -- A step that is settled by one turn is one more of several.
-use Rattle.std.proofs.Common.{◌≡◌, ℕ, suc, ◌+◌, ◌≤◌, Bool, true, false, if◌then◌else◌, refl, sym, ap, subst, arith}
+use Rattle.std.proofs.Common.{◌≡◌, ℕ, suc, ◌+◌, ◌-◌, ◌≤◌, Bool, true, false, if◌then◌else◌, refl, sym, ap, subst, arith}
 use Rattle.jvm_machine.specs.View.{View, step_begun, is_resting}
 use Rattle.jvm_machine.specs.declared.turn.Turn.{Turn}
 use Rattle.jvm_machine.specs.declared.turn.Turn.TheVariants.{Settled, Loaded, Probe, Ended, Broken, NoMemory}
@@ -23,6 +23,13 @@ begun-clock v = by (is_resting v) v.started where
 
 pub settles-clock : (old new : View) → Settles old new → new.clock ≤ old.clock + 1
 settles-clock old new is = subst (λ (v : View). v.clock ≤ old.clock + 1) (sym is.stepped) (begun-clock old)
+
+pub passes-clock : (old new : View) (n : ℕ) → Passes old n new → new.clock ≤ old.clock + n
+passes-clock old _ _ none = omega arith
+passes-clock old _ _ (more n mid new before last) =
+    let up = settles-clock mid new last in
+    let rest = passes-clock old mid n before in
+    omega (arith, up, rest)
 
 pub one-more : (first old new : View) (n : ℕ) (t : Turn) → Passes first n old → Turns old t new → is_settled t ≡ true → Passes first (suc n) new × Settles old new
 one-more first old new n t passes turns e = let s = subst (λ t. Turns old t new) (settled-is t e) turns in (more n old new passes s, s)
@@ -50,3 +57,29 @@ runs-on first mid between new n m most t before passes turns within all = record
   within = omega (arith, within);
   all = λ settled. let last = all (ap is_settled settled) in omega (arith, last);
 }
+
+-- ---- from a step in hand
+
+-- one turn answers
+pub one-turn : (old new : View) (most : ℕ) (t : Turn) → Turns old t new → 1 ≤ most → (is_settled t ≡ true → 1 ≡ most) → RunsOn old most t new
+one-turn old new most t turns some all = record {
+  steps = 0;
+  between = old;
+  passes = none;
+  last = turns;
+  within = omega (arith, some);
+  all = λ settled. all (ap is_settled settled);
+}
+
+-- the step in hand is settled by one turn, and then it goes on
+pub first-more : (old mid new : View) (most : ℕ) (t : Turn) → Settles old mid → RunsOn mid (most - 1) t new → 1 ≤ most → RunsOn old most t new
+first-more old mid new most t first runs some =
+    let within = runs.within in
+    record {
+      steps = 1 + runs.steps;
+      between = runs.between;
+      passes = passes-more old mid runs.between 1 runs.steps (more 0 old mid none first) runs.passes;
+      last = runs.last;
+      within = omega (arith, within);
+      all = λ settled. let last = runs.all settled in omega (arith, last, some);
+    }
