@@ -40,15 +40,15 @@ module _ (w : Setup) (ms : List Initialization) (old new : Parts) where
   silent-onward Begins silent is = absurd (false≢true (sym silent))
 
   -- a probe tells of it
-  told-onward : (due : Due) → is_telling due ≡ true → GoesOnward w ms old (Some due) new → TriesCalmly w ms false old due new
+  pub told-onward : (due : Due) → is_telling due ≡ true → GoesOnward w ms old (Some due) new → TriesCalmly w ms false old due new
   told-onward Nothing tells is = absurd (false≢true tells)
   told-onward (Ends k) tells is = is
   told-onward Begins tells is = is
 
-  pub stops-onward : CanRun w → (due : Due) (gone : Gone) → is_telling due ≡ true → GoesOnward w ms old (Some due) new → IsLeft gone → gone.due ≡ due
-      → gone.hand.passed ≡ passed_there due → StopsCalmly w ms old gone new
-  stops-onward run due gone tells is left is_due counts =
-      let goes : GoesCalmly w ms empty_hand old gone new = calm-tries w ms empty_hand old gone left new due refl refl (told-onward due tells is) is_due counts in
+  pub stops-onward : CanRun w → (due : Due) (gone : Gone) → TriesCalmly w ms false old due new → IsLeft gone → gone.due ≡ due → gone.hand.passed ≡ passed_there due
+      → StopsCalmly w ms old gone new
+  stops-onward run due gone tries left is_due counts =
+      let goes : GoesCalmly w ms empty_hand old gone new = calm-tries w ms empty_hand old gone left new due refl refl tries is_due counts in
       record {
         goes = goes;
         hands = hands-calmly w ms empty_hand old gone new goes;

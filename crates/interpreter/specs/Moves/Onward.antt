@@ -65,3 +65,15 @@ pub record PassesOnward (w : Setup) (ms : List Initialization) (old : Parts) (pa
   pub between : Parts
   pub passes : Passes w ms old passed.made between
   pub stops : StopsIf w ms between passed.gone new
+
+-- ---- the same by what is due
+
+-- this is due of the next step, or nothing more was done
+abbrev pub ComesIf : Setup → List Initialization → Parts → Option Due → Parts → Type 0
+ComesIf w ms old None new = new ≡ old
+ComesIf w ms old (Some due) new = TriesCalmly w ms false old due new
+
+pub record ComesTo (w : Setup) (ms : List Initialization) (old : Parts) (made : ℕ) (due : Option Due) (new : Parts) : Type 0 where
+  pub between : Parts
+  pub passes : Passes w ms old made between
+  pub comes : ComesIf w ms between due new

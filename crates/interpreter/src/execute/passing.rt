@@ -25,7 +25,7 @@ ghost use Rattle.prepared_code.specs.Ready.{CanRun, IsSoundIn};
 ghost use Rattle.prepared_code.specs.Runs.{IsAtInstruction};
 ghost use Rattle.prepared_code.specs.States.{here_of};
 ghost use Rattle.interpreter.specs.Moves.Calmly.{GoesBack, TriesIf, passed_there};
-ghost use Rattle.interpreter.specs.Moves.Onward.{GoesOnward, PassesOnward};
+ghost use Rattle.interpreter.specs.Moves.Onward.{ComesTo, GoesOnward, PassesOnward};
 ghost use Rattle.interpreter.specs.Moves.Onward.{begun_due, is_telling, made_if};
 ghost use Rattle.prepared_code.specs.Versions.{current_of, line_at, mark_of};
 
@@ -476,8 +476,50 @@ fn passed_there(due: Due) -> u64
     }
 }
 
+/// Steps from which nothing follows, and of which nothing is told, at most so many, and up to what a probe tells of the next one: what
+/// is due there, if it does. How many were made is put beside it, since a record would be copied with its gaps.
+fn pass_to(
+    alloc: Global,
+    originals: &Originals,
+    parts: &mut Parts,
+    initializing: &Stack<Initialization>,
+    most: u64,
+    count: &mut u64,
+) -> Option<Due>
+    requires run { CanRun originals.now.setup }
+    requires linked { originals.now.loaded ≡ parts.old.shared.loaded }
+    requires sound { IsSoundIn originals.now.setup (state_of initializing.now parts.old) }
+    requires at_instruction { IsAtInstruction
+        (length parts.old.frames.frames) initializing.now parts.old }
+    ensures within { count.new ≤ most }
+    ensures below { IfSome result (λ due. count.new < most) }
+    ensures made { let w = originals.now.setup in
+        ComesTo w initializing.now parts.old count.new result parts.new }
+{
+    let mut made = 0;
+    while made < most {
+        made += plain_steps(originals, parts, most - made);
+        if made == most {
+            *count = made;
+            return None;
+        }
+        let Some(due) = pass_line(alloc, originals, parts, initializing) else {
+            *count = made;
+            return None;
+        };
+        if is_telling(due) {
+            *count = made;
+            return Some(due);
+        }
+        made += 1;
+    }
+    *count = made;
+    None
+}
+
 /// Steps from which nothing follows, and of which nothing is told, at most so many: how many it has made. Where the next one is within
 /// them, and a probe tells of it, it goes on to there.
+#[inline(always)]
 pub fn pass_steps(
     alloc: Global,
     originals: &Originals,
@@ -495,21 +537,11 @@ pub fn pass_steps(
     ensures made { PassesOnward originals.now.setup initializing.now parts.old result parts.new }
 {
     let mut made = 0;
-    while made < most {
-        made += plain_steps(originals, parts, most - made);
-        if made == most {
-            return Passed { made, gone: None };
-        }
-        let Some(due) = pass_line(alloc, originals, parts, initializing) else {
-            return Passed { made, gone: None };
-        };
-        if is_telling(due) {
-            return Passed {
-                made,
-                gone: Some(gone_to(due, passed_there(due))),
-            };
-        }
-        made += 1;
+    match pass_to(alloc, originals, parts, initializing, most, &mut made) {
+        Some(due) => Passed {
+            made,
+            gone: Some(gone_to(due, passed_there(due))),
+        },
+        None => Passed { made, gone: None },
     }
-    Passed { made, gone: None }
 }

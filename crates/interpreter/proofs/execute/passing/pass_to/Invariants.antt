@@ -1,7 +1,7 @@
 -- so many steps lead to the parts and tell nothing
 use Rattle.std.proofs.Common.{◌≤◌, ◌-◌}
 use Rattle.interpreter.specs.Instructions.Passing.{Passes}
-use Rattle.interpreter.proofs.execute.passing.pass_steps.Given as goal
+use Rattle.interpreter.proofs.execute.passing.pass_to.Given as goal
 
 abbrev pub invariant-loop-made : goal.invariant-loop-made
 invariant-loop-made l = (l.made ≤ l.most) × Passes l.originals.setup l.initializing l.fn.parts l.made l.parts
