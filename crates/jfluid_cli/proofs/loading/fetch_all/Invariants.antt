@@ -9,7 +9,7 @@ abbrev pub invariant-loop-at : goal.invariant-loop-at
 invariant-loop-at g l = record {
   fetched : AreFetched (g.F.Files.contents l.fn.files) (take l.at (texts l.names)) l.all;
   stay : g.F.Files.contents l.files ≡ g.F.Files.contents l.fn.files;
-  calm :
+  without_fault :
       files_view (g.F.Files.faults l.files) (g.F.Files.last_failed l.files)
       ≡ files_view (g.F.Files.faults l.fn.files) (g.F.Files.last_failed l.fn.files);
 }
