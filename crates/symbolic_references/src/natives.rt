@@ -28,6 +28,7 @@ use crate::declared_member::DeclaredMember;
 use crate::moving::{drop_operands, replace_operands};
 use crate::passing::{NativeCall, went_on};
 use base_classes::native_of;
+use class_index::BUILT_IN;
 use class_linker::Linker;
 use const_pool::MemberRef;
 use frame_stack::Frames;
@@ -38,9 +39,6 @@ use jvm_model::{Program, Shared};
 use jvm_natives::LinkedKinds;
 use native_ops::{Native, call};
 use std::alloc::Global;
-
-/// How many built-in classes there are.
-const BUILT_IN: u16 = 53;
 
 /// The place of java/lang/OutOfMemoryError among them.
 const OUT_OF_MEMORY: u16 = 51;
