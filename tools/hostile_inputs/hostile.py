@@ -66,33 +66,29 @@ def one_attribute_of_zeros():
     return Case({"Main.class": main_of()})
 
 
-def empty_texts():
-    """Each entry of the pool is a text without units, up to the greatest number that leaves room for an image's."""
+def with_full_pool(entry, entries=65_516, **told):
+    """A class whose pool has so many entries, of which all that it does not need are this one. The greatest number that leaves
+    room for an image's is 65,516."""
     pool = Pool()
     methods = [main_method(pool)]
     class_file(pool, "Main", methods)
-    while len(pool.entries) < 65_516:
-        pool.entries.append(u1(1) + u2(0))
-    return Case({"Main.class": class_file(pool, "Main", methods)})
+    while len(pool.entries) < entries:
+        pool.entries.append(entry)
+    return Case({"Main.class": class_file(pool, "Main", methods)}, **told)
+
+
+def empty_texts():
+    """Each entry of the pool is a text without units."""
+    return with_full_pool(u1(1) + u2(0))
 
 
 def texts_of_zeros():
-    """The pool is full, and its texts fill the file: a zero in a text is two bytes."""
-    pool = Pool()
-    methods = [main_method(pool)]
-    class_file(pool, "Main", methods)
-    while len(pool.entries) < 65_516:
-        pool.entries.append(u1(1) + u2(60) + b"\xc0\x80" * 30)
-    return Case({"Main.class": class_file(pool, "Main", methods)})
+    """The texts fill the file: a zero in a text is two bytes."""
+    return with_full_pool(u1(1) + u2(60) + b"\xc0\x80" * 30)
 
 
 def pool_one_too_full():
-    pool = Pool()
-    methods = [main_method(pool)]
-    class_file(pool, "Main", methods)
-    while len(pool.entries) < 65_517:
-        pool.entries.append(u1(1) + u2(0))
-    return Case({"Main.class": class_file(pool, "Main", methods)}, status=3, line="jfluid: Main.class: NotProfilable 0 Pool")
+    return with_full_pool(u1(1) + u2(0), 65_517, status=3, line="jfluid: Main.class: NotProfilable 0 Pool")
 
 
 def names(pool, count):

@@ -23,4 +23,3 @@ pub mod Shown
 pub mod First
 pub mod Callers
 pub mod InTurn
-pub mod CodedMethods

@@ -19,9 +19,7 @@ use class_index::{Wanted, meaning_of, method_at};
 use class_linker::{Linker, Resolved};
 use jf_bytes::Text16;
 use jvm_model::Program;
-use symbolic_references::{
-    DeclaredMember, MemberName, MethodNumbers, is_static, is_static_field, user_count,
-};
+use symbolic_references::{DeclaredMember, MemberName, MethodNumbers, is_static, is_static_field};
 
 // ---- classes
 
@@ -42,7 +40,7 @@ pub fn class_with_methods(linker: &Linker, lineage: &Lineage, name: &Text16) -> 
     ensures { result ≡ class_with_methods linker.now.program lineage.now.loaded name.now }
 {
     if meaning_of(name.units()).dimensions > 0 {
-        Some(user_count(linker))
+        Some(linker.index().user_count())
     } else {
         loaded_class(linker, lineage, name)
     }

@@ -1,4 +1,3 @@
-mod NameLemmas
 mod IndexLemmas
 pub mod OrderLemmas
 pub mod MemberTexts

@@ -1,8 +1,8 @@
 //! Kinds of classes and arrays.
 
-ghost use Rattle.std.specs.Prelude.{◌≡◌, ◌<◌, ◌≤◌, ℕ, IfSome, Some, length, true};
+ghost use Rattle.std.specs.Prelude.{◌≡◌, ◌<◌, ℕ, IfSome, Some, true};
 ghost use Rattle.std.specs.Prelude.{◌*◌, ◌+◌, unwrap_or};
-ghost use Rattle.jvm_model.specs.Basis.KindNumbers.{base_of_class, class_of_base, user_count};
+ghost use Rattle.jvm_model.specs.Basis.KindNumbers.{class_of_base};
 ghost use Rattle.jvm_model.specs.Classes.Kinds.{base_of_element, is_above_arrays, kind_named};
 ghost use Rattle.jvm_model.specs.Classes.Kinds.{is_subbase, is_subkind};
 ghost use Rattle.class_linker.specs.Linkers.{parts_of};
@@ -11,50 +11,7 @@ ghost use Rattle.class_linker.specs.LoadedClasses.{AreLoadedClasses, holds_class
 
 use crate::loaded_classes::LoadedClass;
 use crate::walks::is_subtype;
-use class_index::{Element, Index, meaning_of};
-
-/// How many built-in classes there are.
-const BUILT_IN: usize = 53;
-
-/// One dimension in a kind.
-pub const DIMENSION: u32 = 16_777_216;
-
-/// How many classes stand before the built-in ones.
-fn user_count(index: &Index) -> u32
-    ensures count { result ≡ user_count index.now }
-    ensures most { result ≤ 4096 }
-{
-    index.program().classes.len().saturating_sub(BUILT_IN) as u32
-}
-
-/// The base of a class in kinds.
-pub fn base_of_class(index: &Index, class: u32) -> u32
-    requires { class < length index.now.classes }
-    ensures base { result ≡ base_of_class index.now class }
-    ensures most { result < 16777216 }
-{
-    let users = user_count(index);
-    if class < users {
-        256 + class
-    } else {
-        16 + (class - users)
-    }
-}
-
-/// The position of the class of a base.
-fn class_of_base(index: &Index, base: u32) -> Option<u32>
-    requires { base < 16777216 }
-    ensures { result ≡ class_of_base index.now base }
-{
-    if base < 16 {
-        return None;
-    }
-    if base < 256 {
-        Some(user_count(index) + (base - 16))
-    } else {
-        Some(base - 256)
-    }
-}
+use class_index::{Element, FIRST_ARRAY, Index, meaning_of};
 
 /// The base of what is no array.
 fn base_of_element(index: &Index, element: Element<'_>) -> Option<u32>
@@ -65,7 +22,7 @@ fn base_of_element(index: &Index, element: Element<'_>) -> Option<u32>
         Element::Primitive(code) => Some(u32::from(code)),
         Element::Named(name) => {
             let class = index.class_named(name)?;
-            Some(base_of_class(index, class))
+            Some(index.base_of_class(class))
         }
     }
 }
@@ -75,7 +32,7 @@ fn kind_number(dimensions: u8, base: u32) -> u32
     requires { base < 16777216 }
     ensures { result ≡ dimensions * 16777216 + base }
 {
-    u32::from(dimensions) * DIMENSION + base
+    u32::from(dimensions) * FIRST_ARRAY + base
 }
 
 /// The kind that a name stands for; 0 where it stands for none.
@@ -105,12 +62,12 @@ fn is_subbase(index: &Index, rows: &[Option<LoadedClass>], lower: u32, upper: u3
     requires upper { upper < 16777216 }
     ensures { result ≡ is_subbase index.now lower upper }
 {
-    match class_of_base(index, lower) {
-        Some(a) => match class_of_base(index, upper) {
+    match index.class_of_base(lower) {
+        Some(a) => match index.class_of_base(upper) {
             Some(b) => is_subtype(index, rows, a, b),
             None => false,
         },
-        None => match class_of_base(index, upper) {
+        None => match index.class_of_base(upper) {
             Some(_) => false,
             None => lower == upper,
         },
@@ -124,11 +81,11 @@ pub fn is_subkind(index: &Index, rows: &[Option<LoadedClass>], lower: u32, upper
         → holds_class rows.now class ≡ true }
     ensures { result ≡ is_subkind index.now (parts_of lower) (parts_of upper) }
 {
-    let deep = lower / DIMENSION;
-    let flat = upper / DIMENSION;
+    let deep = lower / FIRST_ARRAY;
+    let flat = upper / FIRST_ARRAY;
     if deep == flat {
-        is_subbase(index, rows, lower % DIMENSION, upper % DIMENSION)
+        is_subbase(index, rows, lower % FIRST_ARRAY, upper % FIRST_ARRAY)
     } else {
-        flat < deep && is_above_arrays(upper % DIMENSION)
+        flat < deep && is_above_arrays(upper % FIRST_ARRAY)
     }
 }

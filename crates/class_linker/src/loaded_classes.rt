@@ -2,7 +2,7 @@
 
 ghost use Rattle.std.specs.Prelude.{◌≡◌, ◌++◌, [], flat_map, length, map, OnOk, IfOk};
 ghost use Rattle.std.specs.Option.{option_copied, option_map_or};
-ghost use Rattle.jvm_model.specs.Classes.Layouts.{field_kind, held_by, own_kinds};
+ghost use Rattle.jvm_model.specs.Classes.Layouts.{own_kinds};
 ghost use Rattle.jvm_model.specs.Classes.Load.{is_among};
 ghost use Rattle.jvm_model.specs.Classes.Lookup.{superclass_of};
 ghost use Rattle.jvm_model.specs.Basis.Programs.{class_at};
@@ -13,8 +13,8 @@ ghost use Rattle.class_linker.specs.LoadedClasses.{supertypes_in, superclasses_i
 ghost use Rattle.class_linker.specs.LoadedClasses.{supertypes_made, with_interface, with_interfaces};
 ghost use Rattle.class_linker.specs.LoadedClasses.{with_supertypes};
 
-use class_index::{Index, Order, STATIC, has_flag};
-use const_pool::{ClassFile, Kind, Member};
+use class_index::{Index, Order, STATIC, field_kind, has_flag};
+use const_pool::{ClassFile, Kind};
 use jf_bytes::{NoMemory, Seq};
 use std::alloc::Global;
 
@@ -216,32 +216,6 @@ fn supertypes_made(
 }
 
 // ---- instance fields
-
-/// What a field of this descriptor holds, which its first unit tells.
-fn held_by(descriptor: &[u16]) -> Kind
-    ensures { result ≡ held_by descriptor.now }
-{
-    match descriptor.first() {
-        Some(66) => Kind::Byte,
-        Some(67) => Kind::Char,
-        Some(68) => Kind::Double,
-        Some(70) => Kind::Float,
-        Some(73) => Kind::Int,
-        Some(74) => Kind::Long,
-        Some(83) => Kind::Short,
-        Some(90) => Kind::Bool,
-        _ => Kind::Ref,
-    }
-}
-
-fn field_kind(file: &ClassFile, field: &Member) -> Kind
-    ensures { result ≡ field_kind file.now field.now }
-{
-    match file.pool.text(field.descriptor) {
-        Ok(descriptor) => held_by(descriptor.units()),
-        Err(_) => held_by(&[]),
-    }
-}
 
 /// Adds the kinds of a class's own instance fields.
 fn add_own(kinds: &mut Seq<Kind>, file: &ClassFile) -> Result<(), NoMemory>

@@ -1,4 +1,3 @@
-pub mod MovesLoad
 pub mod ActsLoad
 pub mod Starts
 pub mod Above

@@ -6,6 +6,7 @@ pub mod SoundAttempts
 pub mod SoundLines
 pub mod SoundRuns
 pub mod SoundListingSteps
+pub mod SoundStart
 pub mod SoundListingRuns
 pub mod Ranked
 pub mod PoolTexts

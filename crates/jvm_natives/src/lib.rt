@@ -3,4 +3,4 @@
 
 mod kinds;
 
-pub use kinds::{LinkedKinds, base_of_class, class_of_base, name_at, user_count};
+pub use kinds::LinkedKinds;

@@ -3,7 +3,6 @@ pub mod LineFamilies
 pub mod Actions
 pub mod ImageVersions
 pub mod LaidRewritten
-pub mod Halves
 pub mod VersionsRun
 pub mod OriginalListings
 pub mod Tabled

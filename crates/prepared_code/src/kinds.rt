@@ -6,7 +6,7 @@ ghost use Rattle.heap_objects.specs.Heaps.{kind_at};
 ghost use Rattle.jvm_model.specs.Instructions.ObjectRules.{fits_array, is_element};
 ghost use Rattle.symbolic_references.specs.Objects.{AreLoaded};
 
-use crate::objects::ARRAY;
+use class_index::FIRST_ARRAY;
 use class_linker::Linker;
 use heap_objects::{Datum, Heap};
 use symbolic_references::is_instance;
@@ -18,7 +18,7 @@ fn is_element(linker: &Linker, heap: &Heap, object: u32, array: u32) -> bool
         (kind_at object heap.now) (kind_at array heap.now) }
 {
     match heap.kind(array) {
-        Some(kind) => is_instance(linker, heap, object, kind.saturating_sub(ARRAY)),
+        Some(kind) => is_instance(linker, heap, object, kind.saturating_sub(FIRST_ARRAY)),
         None => false,
     }
 }

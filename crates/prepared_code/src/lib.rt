@@ -29,14 +29,12 @@ pub use initializations::{
 pub use kinds::fits_array;
 pub use line::{Action, Line};
 pub use loading::has_built_in_name;
-pub use lookup::{
-    has_bytes, initializer_of, main_class, name_at, position_of, position_of_bytes, super_of,
-};
+pub use lookup::{has_bytes, initializer_of, main_class, position_of, position_of_bytes};
 pub use members::{
     code_of, field_at, initializer_in, is_initializer, is_out, is_println, is_reference, method_at,
     method_named,
 };
-pub use objects::{ARRAY, arguments_fit, class_of_kind, heap_before, make_arguments};
+pub use objects::{arguments_fit, heap_before, make_arguments};
 pub use originals::{Exception, Originals};
 pub use parts::{Here, Parts, where_now};
 pub use passage::{Passage, next_in};

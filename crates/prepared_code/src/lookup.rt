@@ -1,11 +1,10 @@
 //! Classes and methods of a program by their names (JVM Specification 5.4.3).
 
 ghost use Rattle.std.specs.Prelude.{◌≡◌, ◌<◌, ◌^◌, length, position, IfSome};
-ghost use Rattle.std.specs.Option.{option_copied};
 ghost use Rattle.const_pool.specs.Members.{reference_view};
-ghost use Rattle.jvm_model.specs.Basis.Programs.{class_named, has_name, name_at};
+ghost use Rattle.jvm_model.specs.Basis.Programs.{class_named, has_name};
 ghost use Rattle.jvm_model.specs.Running.Run.{main_class};
-ghost use Rattle.jvm_model.specs.Basis.Programs.{declared_method, initializer_of, number_from, same_place, super_of};
+ghost use Rattle.jvm_model.specs.Basis.Programs.{declared_method, initializer_of, number_from, same_place};
 
 use crate::members::{initializer_in, method_named};
 use const_pool::{ClassFile, MemberRef};
@@ -32,17 +31,6 @@ pub fn has_bytes(name: &[u8], class: &ClassFile) -> bool
     }
 }
 
-/// The name of the class at a position, where there is one.
-pub fn name_at(program: &Program, class: u32) -> Option<&Text16>
-    ensures { option_copied result ≡ name_at program.now class }
-{
-    let found = program.classes.get(class as usize)?;
-    match found.pool.class_name(found.this_class) {
-        Ok(name) => Some(name),
-        Err(_) => None,
-    }
-}
-
 /// Where the class with this name stands.
 pub fn position_of(classes: &[ClassFile], name: &Text16) -> Option<usize>
     ensures { result ≡ position (has_name name.now) classes.now }
@@ -55,16 +43,6 @@ pub fn position_of_bytes(classes: &[ClassFile], name: &[u8]) -> Option<usize>
     ensures { result ≡ position (has_name name.now) classes.now }
 {
     classes.iter().position(|class| has_bytes(name, class))
-}
-
-/// The position of the class with this name.
-#[tactic(auto, using(crate::proofs::Positions::position_within))]
-pub fn class_named(program: &Program, name: &Text16) -> Option<u32>
-    requires { length program.now.classes < 2 ^ 32 }
-    ensures { result ≡ class_named program.now name.now }
-{
-    let at = position_of(program.classes.as_slice(), name)?;
-    Some(at as u32)
 }
 
 /// The position of the class whose name is these bytes.
@@ -116,18 +94,6 @@ pub fn initializer_of(program: &Program, class: u32) -> Option<u32>
     let found = program.classes.get(class as usize)?;
     let at = initializer_in(found)?;
     number_of(program.methods.as_slice(), class as usize, at)
-}
-
-/// The superclass of the class at a position, where it is a class of the program.
-pub fn super_of(program: &Program, class: u32) -> Option<u32>
-    requires { length program.now.classes < 2 ^ 32 }
-    ensures { result ≡ super_of program.now class }
-{
-    let found = program.classes.get(class as usize)?;
-    match found.pool.class_name(found.super_class) {
-        Ok(name) => class_named(program, name),
-        Err(_) => None,
-    }
 }
 
 /// The position of the main class: that of the method `main`.

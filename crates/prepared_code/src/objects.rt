@@ -3,77 +3,17 @@
 ghost use Rattle.std.specs.Prelude.{◌≡◌, ◌<◌, ◌≤◌, ◌+◌, ◌^◌, ◌==◌, false, length, nat_le};
 ghost use Rattle.std.specs.Prelude.{IfOk, OnOk, unwrap_or};
 ghost use Rattle.heap_objects.specs.Heaps.{with_instance};
-ghost use Rattle.jvm_model.specs.Basis.KindNumbers.{base_of_class, class_of_base, user_count};
 ghost use Rattle.jvm_model.specs.Basis.Programs.{class_named};
 ghost use Rattle.jvm_model.specs.Basis.SharedState.{arguments_cost, arguments_fit, texts_cost};
-ghost use Rattle.jvm_model.specs.Basis.SharedState.{class_of_kind, heap_before, kind_for};
+ghost use Rattle.jvm_model.specs.Basis.SharedState.{heap_before, kind_for};
 ghost use Rattle.jvm_model.specs.Basis.SharedState.{with_arguments, with_text_in, with_texts};
 
 use crate::lookup::class_of_bytes;
-use class_index::Index;
+use class_index::{FIRST_ARRAY, Index, base_of_class};
 use heap_objects::{Datum, Heap};
 use jf_bytes::{NoMemory, Text16};
 use jvm_model::Program;
 use std::alloc::Global;
-
-/// How many built-in classes there are.
-const BUILT_IN: usize = 53;
-
-/// The number from which on kinds are arrays'.
-pub const ARRAY: u32 = 16_777_216;
-
-/// How many classes stand before the built-in ones.
-fn user_count(program: &Program) -> u32
-    requires { length program.now.classes < 2 ^ 24 }
-    ensures count { result ≡ user_count program.now }
-    ensures most { result < 2 ^ 24 }
-{
-    program.classes.len().saturating_sub(BUILT_IN) as u32
-}
-
-/// The kind of the instances of a class.
-fn kind_of_class(program: &Program, class: u32) -> u32
-    requires few { length program.now.classes < 2 ^ 24 }
-    requires class { class < 2 ^ 24 }
-    ensures kind { result ≡ base_of_class program.now class }
-    ensures most { result < 2 ^ 25 }
-{
-    let users = user_count(program);
-    if class < users {
-        256 + class
-    } else {
-        16 + (class - users)
-    }
-}
-
-/// The position of the class of a base of kinds; a primitive element has none.
-pub fn class_of_base(program: &Program, base: u32) -> Option<u32>
-    requires { length program.now.classes < 2 ^ 24 }
-    ensures { result ≡ class_of_base program.now base }
-{
-    if base < 16 {
-        return None;
-    }
-    if base < 256 {
-        Some(user_count(program) + (base - 16))
-    } else {
-        Some(base - 256)
-    }
-}
-
-/// The position of the class of objects of a kind: java/lang/Object's for arrays.
-pub fn class_of_kind(program: &Program, kind: u32) -> u32
-    requires { length program.now.classes < 2 ^ 24 }
-    ensures { result ≡ class_of_kind program.now kind }
-{
-    if kind >= ARRAY {
-        return user_count(program);
-    }
-    match class_of_base(program, kind) {
-        Some(class) => class,
-        None => 0,
-    }
-}
 
 /// The position of the class whose name is these bytes; 0 where there is none.
 fn class_named(program: &Program, name: &[u8]) -> u32
@@ -93,7 +33,7 @@ pub fn kind_for(program: &Program, name: &[u8]) -> u32
     ensures kind { result ≡ kind_for program.now name.now }
     ensures most { result < 2 ^ 25 }
 {
-    kind_of_class(program, class_named(program, name))
+    base_of_class(program, class_named(program, name))
 }
 
 /// The position of the class of this name, found by hashing; 0 where there is none.
@@ -114,7 +54,7 @@ pub fn kind_named(index: &Index, name: &[u16]) -> u32
     requires { length index.now.classes < 2 ^ 24 }
     ensures { result ≡ kind_for index.now name.now }
 {
-    kind_of_class(index.program(), position_named(index, name))
+    base_of_class(index.program(), position_named(index, name))
 }
 
 /// Makes an object that there is room for.
@@ -185,7 +125,7 @@ pub fn make_arguments(program: &Program, heap: &mut Heap) -> Result<(), NoMemory
     ensures { OnOk result (heap.new ≡ with_arguments program.now heap.old) }
 {
     let _limit = program.heap;
-    let kind = ARRAY + kind_for(program, b"java/lang/String");
+    let kind = FIRST_ARRAY + kind_for(program, b"java/lang/String");
     match heap.array(kind, Datum::Ref(0), program.args.len() as u32) {
         Ok(array) => put_texts(program, array, heap),
         Err(_) => Err(NoMemory),

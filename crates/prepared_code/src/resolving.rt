@@ -19,6 +19,7 @@ use crate::symbolic_reference::{
     array_reference, class_action, interface_reference, named_action, symbolic_reference_of,
     text_in,
 };
+use class_index::FIRST_ARRAY;
 use code_model::{Arg, Instr};
 use const_pool::{ClassFile, Const, Kind, Pool};
 use heap_objects::{Datum, Value};
@@ -26,9 +27,6 @@ use jf_bytes::NoMemory;
 use jvm_basic::{Hot, hot_by, value_of};
 use jvm_model::{Family, family_of};
 use std::alloc::Global;
-
-/// The kind of an array of one dimension, to which the code of its elements is added.
-const ARRAY: u32 = 16777216;
 
 /// The number that an entry of the pool is.
 fn number_of(entry: &Const) -> Option<Datum>
@@ -144,7 +142,7 @@ fn newarray(op: u8, code: u8) -> Option<Action>
     ensures { result ≡ option_map action_of (newarray_of op code) }
 {
     if op == 188 && is_primitive(code) {
-        Some(Action::Newarray(ARRAY + code as u32))
+        Some(Action::Newarray(FIRST_ARRAY + code as u32))
     } else {
         None
     }

@@ -17,7 +17,6 @@ use jf_bytes::{NoMemory, Text16, from_utf8};
 use jvm_model::Program;
 use std::alloc::Global;
 use std::time::CpuClock;
-use symbolic_references::user_count;
 
 /// What is loaded, what is selected, entered and marked, and what was taken.
 #[derive(Drop)]
@@ -114,7 +113,7 @@ pub fn begin(alloc: Global, scene: &mut Scene) -> Result<bool, NoMemory>
 {
     let name = from_utf8(alloc, "java/lang/Object")?;
     link(&mut scene.linker, &name)?;
-    if !scene.linker.is_loaded(user_count(&scene.linker)) {
+    if !scene.linker.is_loaded(scene.linker.index().user_count()) {
         return Ok(false);
     }
     follow(alloc, &scene.linker, &mut scene.reveal)?;

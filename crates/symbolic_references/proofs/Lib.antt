@@ -4,7 +4,7 @@ mod Loads
 mod Behind
 mod ObjectLemmas
 mod Resolutions
-mod Arguments
+pub mod Arguments
 mod Going
 mod NativeLemmas
 mod NativesKept

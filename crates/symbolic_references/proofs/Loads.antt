@@ -1,17 +1,15 @@
 -- A load without a fault (JVM Specification 5.3): the name stands for a kind, whose class is loaded then.
-use Rattle.std.proofs.Common.{◌≡◌, ℕ, zero, suc, ◌+◌, ◌*◌, ◌<◌, ◌≤◌, Bool, true, false, List, [], ◌∷◌, ◌++◌, ap, subst, refl, lit<, arith}
-use Rattle.std.proofs.lemmas.Nat.{div-mul-add}
-use Rattle.std.specs.Prelude.{◌/◌, length, Option, Some, None, position, nat_le, nat_lt, unwrap_or, not, ◌==◌, ◌||◌, ◌&&◌, if◌then◌else◌}
-use Rattle.std.specs.List.{position_or_len}
+use Rattle.std.proofs.Common.{◌≡◌, ℕ, zero, suc, ◌+◌, ◌*◌, ◌≤◌, Bool, true, false, List, [], ◌∷◌, ◌++◌, ap, subst, refl, arith}
+use Rattle.std.specs.Prelude.{◌/◌, length, Option, Some, None, ◌==◌, ◌||◌, if◌then◌else◌}
 use Rattle.std.specs.Option.{option_map}
 use Rattle.jvm_model.specs.declared.program.Program.{Program}
 use Rattle.jvm_model.specs.Basis.KindNumbers.{base_of_class, kind_number, user_count}
-use Rattle.jvm_model.specs.Classes.Kinds.{Element, Primitive, Named, Meaning, array_from, array_of, before_semicolon, element_of, kind_named, meaning_of, parts_named, primitive_code}
+use Rattle.jvm_model.specs.Classes.Kinds.{Element, Primitive, Named, kind_named, meaning_of, parts_named}
 use Rattle.jvm_model.specs.Classes.Load.{Fault, NoClass, Circular, Loading, There, Begun, Fresh, behind_needs, by_standing, loading_done, is_among, load_element, load_named, load_needs, load_of, needs_of, standing_of, unless}
-use Rattle.jvm_model.specs.Basis.Programs.{class_named, has_name}
-use Rattle.class_linker.specs.Linkers.{IsLoaded, LinkerView}
+use Rattle.jvm_model.specs.Basis.Programs.{class_named}
 use Rattle.symbolic_references.specs.Objects.{IsUsable}
-use Rattle.symbolic_references.proofs.KindLemmas.{base-below, class-back, none-some, of-class, of-primitive, some-some}
+use Rattle.jvm_model.proofs.Soundness.SoundKinds.{name-usable}
+use Rattle.symbolic_references.proofs.KindLemmas.{of-sound}
 
 some-none : {A : Type 0} (x : A) → Some x ≡ None → ⊥
 some-none x e = cc
@@ -94,123 +92,19 @@ by-depth p (suc n) path name loaded none = by-element p n path loaded (meaning_o
 pub loads : (p : Program) (name loaded : List ℕ) → (load_of p loaded name).fault ≡ None → Loads p (meaning_of name).element (load_of p loaded name)
 loads p name loaded none = by-depth p _ [] name loaded none
 
--- ---- what a name means
-
--- an element that is no class is one of an array
-pub record IsMeaning (m : Meaning) : Type 0 where
-  pub deep : (code : ℕ) → m.element ≡ Primitive code → 1 ≤ m.dimensions
-  pub small : (code : ℕ) → m.element ≡ Primitive code → code < 16
-
-pub record IsElement (e : Element) : Type 0 where
-  pub small : (code : ℕ) → e ≡ Primitive code → code < 16
-
-no-primitive : (name : List ℕ) (code : ℕ) → Named name ≡ Primitive code → ⊥
-no-primitive name code e = cc
-
-named-element : (name : List ℕ) → IsElement (Named name)
-named-element name = record { small = λ code e. absurd (no-primitive name code e) }
-
-primitive-element : (own : ℕ) → own < 16 → IsElement (Primitive own)
-primitive-element own small = record { small = λ code e. subst (λ n. n < 16) (same own code e) small }
-  where
-    same : (a b : ℕ) → Primitive a ≡ Primitive b → a ≡ b
-    same a b e = cc
-
-abbrev Each : Option Element → Type 0
-Each None = Unit {0}
-Each (Some e) = IsElement e
-
-if-code : (b : Bool) (code : ℕ) (o : Option ℕ) → code < 16 → Each (option_map Primitive o) → Each (option_map Primitive (if b then Some code else o))
-if-code true code o small rest = primitive-element code small
-if-code false code o small rest = rest
-
-code-element : (unit : ℕ) → Each (option_map Primitive (primitive_code unit))
-code-element unit =
-    if-code (unit == 90) 4 _ (lit< tt) (if-code (unit == 67) 5 _ (lit< tt) (if-code (unit == 70) 6 _ (lit< tt) (if-code (unit == 68) 7 _ (lit< tt)
-    (if-code (unit == 66) 8 _ (lit< tt) (if-code (unit == 83) 9 _ (lit< tt) (if-code (unit == 73) 10 _ (lit< tt) (if-code (unit == 74) 11 None (lit< tt) tt)))))))
-
-class-element : (o : Option (List ℕ)) → Each (option_map Named o)
-class-element None = tt
-class-element (Some name) = named-element name
-
-long-element : (b : Bool) (o : Option (List ℕ)) → Each (if b then option_map Named o else None)
-long-element true o = class-element o
-long-element false o = tt
-
-each-element : (units : List ℕ) → Each (element_of units)
-each-element [] = tt
-each-element (unit ∷ []) = code-element unit
-each-element (unit ∷ next ∷ rest) = long-element (unit == 76 && not (next == 59)) (before_semicolon (next ∷ rest))
-
-abbrev EachMeaning : ℕ → Option Meaning → Type 0
-EachMeaning least None = Unit {0}
-EachMeaning least (Some m) = (least ≤ m.dimensions) × IsElement m.element
-
-mapped : (d : ℕ) (o : Option Element) → Each o → EachMeaning d (option_map (array_of d) o)
-mapped d None each = tt
-mapped d (Some e) each = (omega arith, each)
-
-lower : (a b : ℕ) (o : Option Meaning) → a ≤ b → EachMeaning b o → EachMeaning a o
-lower a b None h each = tt
-lower a b (Some m) h each = (let deep : b ≤ m.dimensions = each.0 in omega arith, each.1)
-
-from-each : (d : ℕ) (units : List ℕ) → EachMeaning d (array_from d units)
-from-each d [] = tt
-from-each d (unit ∷ rest) = by (from-each (d + 1) rest) (unit == 91) (nat_le d 255)
-  where
-    by : EachMeaning (d + 1) (array_from (d + 1) rest) → (a b : Bool) → EachMeaning d (if a then array_from (d + 1) rest else if b then option_map (array_of d) (element_of (unit ∷ rest)) else None)
-    by deeper true b = lower d (d + 1) (array_from (d + 1) rest) (omega arith) deeper
-    by deeper false true = mapped d (element_of (unit ∷ rest)) (each-element (unit ∷ rest))
-    by deeper false false = tt
-
-plain : (name : List ℕ) → IsMeaning (array_of 0 (Named name))
-plain name = record { deep = λ code e. absurd (no-primitive name code e); small = λ code e. absurd (no-primitive name code e) }
-
-or-plain : (name : List ℕ) (o : Option Meaning) → EachMeaning 1 o → IsMeaning (unwrap_or o (array_of 0 (Named name)))
-or-plain name None each = plain name
-or-plain name (Some m) each = record { deep = λ code e. each.0; small = each.1.small }
-
-pub means : (name : List ℕ) → IsMeaning (meaning_of name)
-means [] = plain []
-means (unit ∷ rest) = by (unit == 91) refl
-  where
-    by : (b : Bool) → (unit == 91) ≡ b
-        → IsMeaning (if b then unwrap_or (if b then array_from 1 rest else if nat_le 0 255 then option_map (array_of 0) (element_of (unit ∷ rest)) else None) (array_of 0 (Named (unit ∷ rest))) else array_of 0 (Named (unit ∷ rest)))
-    by true is = or-plain (unit ∷ rest) (array_from 1 rest) (from-each 1 rest)
-    by false is = plain (unit ∷ rest)
-
 -- ---- the kind
 
-named-class : {X : Type 0} (test : X → Bool) (xs : List X) (at : ℕ) → position test xs ≡ Some at → at < length xs
-named-class test xs at e = by (nat_lt (position_or_len test xs) (length xs)) refl e
-  where
-    by : (b : Bool) → nat_lt (position_or_len test xs) (length xs) ≡ b → (if b then Some (position_or_len test xs) else None) ≡ Some at → at < length xs
-    by true is e = subst (λ n. n < length xs) (some-some (position_or_len test xs) at e) (grind (arith))
-    by false is e = absurd (none-some at e)
-
-module _ (l : LinkerView) (few : length l.program.classes ≤ 4149) (root : IsLoaded l (user_count l.program)) where
-  of-named : (dimensions : ℕ) (own : List ℕ) → (class : ℕ) × (class_named l.program own ≡ Some class) × (is_among class l.loaded ≡ true)
-      → (kind : ℕ) × (option_map kind_number (parts_named l.program (record { dimensions = dimensions; element = Named own })) ≡ Some kind) × IsUsable l kind
-      × (kind / 16777216 ≡ dimensions)
-  of-named dimensions own (class, found, there) =
-      let within : class < length l.program.classes = named-class (has_name own) l.program.classes class found in (
-        dimensions * 16777216 + base_of_class l.program class,
-        ap (λ o. option_map kind_number (option_map (λ base. record { dimensions = dimensions; base = base }) (option_map (base_of_class l.program) o))) found,
-        of-class l root dimensions (base_of_class l.program class) class (base-below l.program class within few) (class-back l.program class within few) there,
-        div-mul-add dimensions 16777216 (base_of_class l.program class) (base-below l.program class within few),
-      )
-
-  by-meaning : (dimensions : ℕ) (e : Element) (fault : Option Fault)
-      → IsMeaning (record { dimensions = dimensions; element = e }) → Loads l.program e (record { loaded = l.loaded; fault = fault })
-      → (kind : ℕ) × (option_map kind_number (parts_named l.program (record { dimensions = dimensions; element = e })) ≡ Some kind) × IsUsable l kind
-      × (kind / 16777216 ≡ dimensions)
-  by-meaning dimensions (Primitive code) fault is loads = (
-    dimensions * 16777216 + code,
-    refl,
-    of-primitive l root dimensions code (is.deep code refl) (is.small code refl),
-    div-mul-add dimensions 16777216 code (let small : code < 16 = is.small code refl in omega arith),
+module _ (p : Program) (dimensions : ℕ) (l : Loading) where
+  of-named : (own : List ℕ) → (class : ℕ) × (class_named p own ≡ Some class) × (is_among class l.loaded ≡ true)
+      → (kind : ℕ) × (option_map kind_number (parts_named p (record { dimensions = dimensions; element = Named own })) ≡ Some kind)
+  of-named own (class, found, there) = (
+    dimensions * 16777216 + base_of_class p class,
+    ap (λ o. option_map kind_number (option_map (λ base. record { dimensions = dimensions; base = base }) (option_map (base_of_class p) o))) found,
   )
-  by-meaning dimensions (Named own) fault is loads = of-named dimensions own (loads.class own refl)
+
+  of-element : (e : Element) → Loads p e l → (kind : ℕ) × (option_map kind_number (parts_named p (record { dimensions = dimensions; element = e })) ≡ Some kind)
+  of-element (Primitive code) loads = (dimensions * 16777216 + code, refl)
+  of-element (Named own) loads = of-named own (loads.class own refl)
 
 -- the name of a load without a fault stands for a kind, whose class is loaded then
 pub resolves : (p : Program) (name loaded : List ℕ) → (load_of p loaded name).fault ≡ None → length p.classes ≤ 4149
@@ -218,5 +112,11 @@ pub resolves : (p : Program) (name loaded : List ℕ) → (load_of p loaded name
     → (kind : ℕ) × (kind_named p name ≡ Some kind) × IsUsable (record { program = p; loaded = (load_of p loaded name).loaded }) kind
     × (kind / 16777216 ≡ (meaning_of name).dimensions)
 resolves p name loaded none few root =
-    by-meaning (record { program = p; loaded = (load_of p loaded name).loaded }) few root (meaning_of name).dimensions (meaning_of name).element
-    (load_of p loaded name).fault (means name) (loads p name loaded none)
+    by (of-element p (meaning_of name).dimensions (load_of p loaded name) (meaning_of name).element (loads p name loaded none))
+  where
+    by : (kind : ℕ) × (kind_named p name ≡ Some kind)
+        → (kind : ℕ) × (kind_named p name ≡ Some kind) × IsUsable (record { program = p; loaded = (load_of p loaded name).loaded }) kind
+        × (kind / 16777216 ≡ (meaning_of name).dimensions)
+    by (kind, named) =
+        let usable = name-usable p name loaded kind few root none named in
+        (kind, named, of-sound (record { program = p; loaded = (load_of p loaded name).loaded }) kind usable.0, usable.1)

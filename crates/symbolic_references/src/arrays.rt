@@ -9,8 +9,8 @@ ghost use Rattle.symbolic_references.specs.Objects.{AreLoaded, IsUsable};
 
 use crate::asked::{AbruptCompletion, Asked, Exception};
 use crate::creation::RESERVED;
-use crate::instances::ARRAY;
 use crate::moving::replace;
+use class_index::FIRST_ARRAY;
 use class_linker::Linker;
 use frame_stack::Frames;
 use heap_objects::{Datum, HeapError, Value};
@@ -91,5 +91,5 @@ pub fn make_array_of(
         (λ l o. makes (array_over kind) (int_of o) shared.old l o) frames.old }
     ensures objects { OnOk result (AreLoaded linker.now shared.new.heap) }
 {
-    make_counted(linker, shared, frames, ARRAY + kind, next)
+    make_counted(linker, shared, frames, FIRST_ARRAY + kind, next)
 }

@@ -8,7 +8,6 @@ ghost use Rattle.symbolic_references.specs.Members.{at_place};
 ghost use Rattle.symbolic_references.specs.Numbers.{AreNumbers};
 
 use crate::declared_member::DeclaredMember;
-use crate::instances::user_count;
 use crate::known::Callee;
 use crate::natives::native_at;
 use crate::numbers::MethodNumbers;
@@ -21,7 +20,7 @@ fn native_callee(linker: &Linker, m: DeclaredMember) -> Callee
     requires codeless { number_of_method linker.now.program m.class m.position ≡ None }
     ensures { IsCallee result linker.now.program (at_place m) }
 {
-    if m.class < user_count(linker) {
+    if m.class < linker.index().user_count() {
         return Callee::Other;
     }
     match native_at(linker.program(), m) {

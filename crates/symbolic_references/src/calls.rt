@@ -24,7 +24,6 @@ ghost use Rattle.symbolic_references.specs.Targets.{HasCaller, selecting_view, d
 
 use crate::asked::{AbruptCompletion, Asked, Exception};
 use crate::declared_member::DeclaredMember;
-use crate::instances::user_count;
 use crate::known::{Callee, Chosen, Found};
 use crate::natives::{run_native, run_numbered};
 use crate::numbers::MethodNumbers;
@@ -61,7 +60,7 @@ fn invoke_native(
         (parts_changed frames.new shared.new output.new) }
     ensures objects { OnOk result (AreLoaded linker.now shared.new.heap) }
 {
-    if m.class < user_count(linker) {
+    if m.class < linker.index().user_count() {
         return Ok(Asked::Refused(AbruptCompletion::Raises(Exception::UnsatisfiedLink, None)));
     }
     run_native(alloc, linker, shared, frames, input, output, m, count, next)

@@ -9,9 +9,9 @@ ghost use Rattle.jvm_model.specs.Running.Constants.{sets_constants, sets_field, 
 ghost use Rattle.jvm_model.specs.Basis.SharedState.{kind_for, string};
 ghost use Rattle.symbolic_references.specs.Held.{IsSetting, constant_view, field_of};
 
-use crate::held::{field_kind, field_narrowed};
+use crate::held::field_narrowed;
 use crate::static_fields::set_static;
-use class_index::{STATIC, has_flag};
+use class_index::{STATIC, field_kind, has_flag};
 use const_pool::{Attribute, ClassFile, Const, Kind, Member, Pool};
 use heap_objects::{Datum, HeapError};
 use jf_bytes::{NoMemory, Text16};

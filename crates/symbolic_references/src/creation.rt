@@ -15,7 +15,6 @@ ghost use Rattle.symbolic_references.specs.Resolved.{makes_new};
 
 use crate::asked::{AbruptCompletion, Asked, Exception};
 use crate::classes::{has_no_instances, is_text_class};
-use crate::instances::class_of_kind;
 use crate::known::Found;
 use crate::moving::put;
 use crate::statics::raise_unusable;
@@ -247,6 +246,6 @@ pub fn make_new(
     ensures objects { OnOk result (AreLoaded linker.now shared.new.heap) }
     ensures found { IsClassFound found.new linker.now.program kind }
 {
-    let class = class_of_kind(linker, kind);
+    let class = linker.index().class_of_kind(kind);
     make_initialized(alloc, linker, shared, frames, kind, class, found, next)
 }

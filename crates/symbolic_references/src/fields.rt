@@ -23,14 +23,14 @@ ghost use Rattle.symbolic_references.specs.Resolved.{field_found, gets_instance,
 
 use crate::asked::{AbruptCompletion, Asked, Exception};
 use crate::declared_member::DeclaredMember;
-use crate::held::{field_narrowed, held_by};
-use crate::instances::{class_of_kind, kind_of_object};
+use crate::held::field_narrowed;
+use crate::instances::kind_of_object;
 use crate::known::Found;
 use crate::members::field_found;
 use crate::moving::{drop_two, replace};
 use crate::symbolic_reference::MemberName;
 use crate::values::datum_of;
-use class_index::{STATIC, has_flag};
+use class_index::{STATIC, has_flag, held_by};
 use class_linker::Linker;
 use const_pool::{ClassFile, Kind, Member};
 use frame_stack::Frames;
@@ -128,7 +128,7 @@ fn owner_of(
     if !linker.subtype(lower, kind) {
         return None;
     }
-    let class = class_of_kind(linker, lower);
+    let class = linker.index().class_of_kind(lower);
     if linker.extends(class, field.class) {
         Some(Owner {
             object,
@@ -190,7 +190,7 @@ fn has_field(
     if lower == last {
         return true;
     }
-    linker.subtype(lower, kind) && linker.extends(class_of_kind(linker, lower), field.class)
+    linker.subtype(lower, kind) && linker.extends(linker.index().class_of_kind(lower), field.class)
 }
 
 /// The object, unless it is null, or has not the field; objects of the last kind have it.

@@ -13,7 +13,6 @@ ghost use Rattle.symbolic_references.specs.Resolved.{field_found};
 
 use crate::asked::{AbruptCompletion, Exception};
 use crate::declared_member::DeclaredMember;
-use crate::instances::class_of_kind;
 use crate::resolution::exception_numbered;
 use crate::symbolic_reference::MemberName;
 use class_index::{STATIC, has_flag};
@@ -59,7 +58,7 @@ pub fn field_found(
     ensures { place_found result
         ≡ field_found linker.now.program kind is_static (reference_of member.now) }
 {
-    let m = match resolved_field(linker, class_of_kind(linker, kind), member) {
+    let m = match resolved_field(linker, linker.index().class_of_kind(kind), member) {
         Ok(m) => m,
         Err(refusal) => return Err(refusal),
     };

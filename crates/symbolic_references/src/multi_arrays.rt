@@ -16,8 +16,8 @@ ghost use Rattle.symbolic_references.specs.Objects.{AreLoaded, IsUsable};
 use crate::asked::{AbruptCompletion, Asked, Exception};
 use crate::creation::RESERVED;
 use crate::fields::put_slot;
-use crate::instances::ARRAY;
 use crate::moving::replace_many;
+use class_index::FIRST_ARRAY;
 use class_linker::Linker;
 use frame_stack::Frames;
 use heap_objects::{Datum, Heap, HeapError, Value};
@@ -170,7 +170,7 @@ fn make_all(heap: &mut Heap, kind: u32, lengths: &[u32]) -> Result<Made, NoMemor
     let mut next = made.next;
     for at in 0..count {
         put_slot(heap, made.array, at, Datum::Ref(next));
-        let part = make_all(heap, kind.saturating_sub(ARRAY), rest)?;
+        let part = make_all(heap, kind.saturating_sub(FIRST_ARRAY), rest)?;
         next = part.next;
     }
     Ok(Made {

@@ -27,7 +27,7 @@ use crate::creation::RESERVED;
 use crate::declared_member::DeclaredMember;
 use crate::moving::{drop_operands, replace_operands};
 use crate::passing::{NativeCall, went_on};
-use base_classes::native_of;
+use base_classes::{BUILT_IN_CLASSES, OUT_OF_MEMORY_ERROR, native_of};
 use class_linker::Linker;
 use const_pool::MemberRef;
 use frame_stack::Frames;
@@ -38,12 +38,6 @@ use jvm_model::{Program, Shared};
 use jvm_natives::LinkedKinds;
 use native_ops::{Native, call};
 use std::alloc::Global;
-
-/// How many built-in classes there are.
-const BUILT_IN: u16 = 53;
-
-/// The place of java/lang/OutOfMemoryError among them.
-const OUT_OF_MEMORY: u16 = 51;
 
 // ---- which method it is
 
@@ -108,10 +102,10 @@ fn arguments(alloc: Global, frames: &Frames, count: u16) -> Result<Seq<Datum>, N
 fn thrown_by(place: u16) -> AbruptCompletion
     ensures { abrupt_view result ≡ thrown_by place }
 {
-    if place == OUT_OF_MEMORY {
+    if place == OUT_OF_MEMORY_ERROR {
         return AbruptCompletion::Throws(RESERVED);
     }
-    if place < BUILT_IN {
+    if place < BUILT_IN_CLASSES {
         AbruptCompletion::Raises(Exception::BuiltIn(place), None)
     } else {
         AbruptCompletion::Breaks

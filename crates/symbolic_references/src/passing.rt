@@ -27,7 +27,6 @@ ghost use Rattle.symbolic_references.specs.Targets.{selecting_view, target_in};
 
 use crate::asked::Asked;
 use crate::fields::{known_owner, put_slot, putting_of, read_known};
-use crate::held::held_by;
 use crate::instances::kind_of_object;
 use crate::known::{Callee, Chosen, Found, Known, Site};
 use crate::moving::{drop_one, drop_two};
@@ -37,6 +36,7 @@ use crate::static_fields::set_static;
 use crate::statics::{held_of, push_field};
 use crate::symbolic_reference::{MemberName, MethodName, SymbolicReference};
 use crate::targets::{Selecting, Target};
+use class_index::held_by;
 use class_linker::Linker;
 use frame_stack::Frames;
 use heap_objects::Heap;

@@ -20,15 +20,15 @@ ghost use Rattle.symbolic_references.specs.Objects.{IsUsable};
 ghost use Rattle.symbolic_references.specs.Resolved.{gets_static, puts_static};
 
 use crate::asked::{AbruptCompletion, Asked, Exception};
-use crate::classes::name_at;
 use crate::declared_member::DeclaredMember;
-use crate::held::{field_narrowed, held_by};
+use crate::held::field_narrowed;
 use crate::known::Found;
 use crate::members::field_found;
 use crate::moving::{drop_one, put};
 use crate::static_fields::set_static;
 use crate::symbolic_reference::MemberName;
 use crate::values::datum_of;
+use class_index::held_by;
 use class_linker::Linker;
 use const_pool::Kind;
 use frame_stack::Frames;
@@ -45,7 +45,7 @@ pub fn raise_unusable(alloc: Global, linker: &Linker, class: u32) -> Result<Aske
     ensures { IfOk result (λ a. answer_view a
         ≡ Stops (Raises no_class_definition (name_at linker.now.program class))) }
 {
-    let Some(name) = name_at(linker, class) else {
+    let Some(name) = linker.index().name_at(class) else {
         return Ok(Asked::Refused(AbruptCompletion::Raises(Exception::NoClassDefinition, None)));
     };
     let units = Vec::from_slice(alloc, name.units())?;

@@ -27,9 +27,8 @@ ghost use Rattle.symbolic_references.specs.Targets.{receiver_class, static_targe
 
 use crate::asked::{AbruptCompletion, Exception};
 use crate::callees::callee_of;
-use crate::classes::name_at;
 use crate::declared_member::DeclaredMember;
-use crate::instances::{class_of_kind, kind_of_object};
+use crate::instances::kind_of_object;
 use crate::known::{Chosen, Found, Site};
 use crate::numbers::MethodNumbers;
 use crate::receivers::{argument_count, receiver_below};
@@ -133,7 +132,7 @@ fn method_found(
     ensures { place_found result
         ≡ method_found linker.now.program kind interface fixed method.now }
 {
-    let class = class_of_kind(linker, kind);
+    let class = linker.index().class_of_kind(kind);
     match found_in(linker, class, interface, method.member()) {
         Ok(m) => fitting(linker.program(), m, fixed),
         Err(refusal) => Err(refusal),
@@ -286,7 +285,7 @@ fn select_anew(
     ensures found { IsFoundAs found.new linker.now.program kind
         (symbolic_reference_by (selecting_view by.entry) method.now) }
 {
-    let place = selected_by(linker, by, m, class_of_kind(linker, lower))?;
+    let place = selected_by(linker, by, m, linker.index().class_of_kind(lower))?;
     let callee = callee_of(linker, numbers, place);
     let chosen = Chosen { place, callee };
     *found = Found::Selected(Site {
@@ -460,7 +459,7 @@ fn unusable(alloc: Global, linker: &Linker, class: u32) -> Result<AbruptCompleti
     ensures { IfOk result (λ refusal. abrupt_view refusal
         ≡ Raises no_class_definition (name_at linker.now.program class)) }
 {
-    let message = match name_at(linker, class) {
+    let message = match linker.index().name_at(class) {
         Some(name) => Some(text_copied(alloc, name)?),
         None => None,
     };

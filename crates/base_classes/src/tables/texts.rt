@@ -4,7 +4,7 @@ ghost use Rattle.std.specs.Prelude.{◌≡◌, map};
 ghost use Rattle.base_classes.specs.RowViews.{class_view};
 ghost use Rattle.base_classes.specs.TextClasses.{text_classes};
 
-use crate::opcode::{ALOAD_0, ALOAD_1, ARETURN, IFNONNULL, INVOKESTATIC, INVOKEVIRTUAL};
+use op_table::{ALOAD_0, ALOAD_1, ARETURN, IFNONNULL, INVOKESTATIC, INVOKEVIRTUAL};
 use crate::rows::InstructionRow::{Jump, LoadText, OnMember, Plain};
 use crate::rows::{ClassRow, CodeRow, MemberName, MemberRow};
 use crate::tables::FINAL_CLASS;

@@ -4,7 +4,7 @@ ghost use Rattle.std.specs.Prelude.{◌≡◌, map};
 ghost use Rattle.base_classes.specs.RowViews.{class_view};
 ghost use Rattle.base_classes.specs.ThrowableClasses.{throwable_classes};
 
-use crate::opcode::{
+use op_table::{
     ALOAD_0, ALOAD_1, ALOAD_2, ARETURN, ASTORE_1, ASTORE_2, GETSTATIC, IFNONNULL, INVOKEVIRTUAL,
     RETURN,
 };

@@ -6,6 +6,7 @@ ghost use Rattle.class_linker.specs.Linkers.{IsKnown};
 use super::classes::{
     CLASS, INTERFACE, OBJECT, Shape, class_named, is_loaded, is_named, linker_of, text,
 };
+use class_index::FIRST_ARRAY;
 use class_linker::{Linker, Loaded};
 use std::alloc::Global;
 use std::test::Fail;
@@ -251,15 +252,10 @@ fn kind_of(alloc: Global, linker: &mut Linker, name: &str) -> Option<u32> {
 fn is_known(linker: &Linker, kind: u32) -> bool
     ensures { IsTrue result → IsKnown linker.now kind }
 {
-    let base = kind % 16_777_216;
-    if base < 16 {
-        return true;
+    match linker.index().class_of_base(kind % FIRST_ARRAY) {
+        Some(class) => is_loaded(linker, class),
+        None => true,
     }
-    if base >= 256 {
-        return is_loaded(linker, base - 256);
-    }
-    let users = linker.program().classes.len().saturating_sub(53);
-    users <= 4096 && is_loaded(linker, users as u32 + (base - 16))
 }
 
 /// Whether what has the one name's kind also has the other's; None where that is not known.

@@ -16,7 +16,7 @@ use Rattle.interpreter.specs.Instructions.Acts.{attempts_on, awaited_in, goes_on
 use Rattle.prepared_code.specs.Initializations.{is_executing, initialization_on, state_of}
 use Rattle.prepared_code.specs.Runs.{Leads, steps_from, steps_from-zero, steps_from-suc}
 use Rattle.interpreter.proofs.Moves.LineSteps.{IsGoing, behind, going-again, going-on, none-of, step-again, step-attempts, step-awaits, executing}
-use Rattle.interpreter.proofs.Loads.MovesLoad.{settled-loaded}
+use Rattle.jvm_model.proofs.Loading.LoadedMoves.{settled-loaded}
 use Rattle.interpreter.proofs.Moves.Sounded.{attempted-sound}
 use Rattle.prepared_code.specs.Versions.{Setup, listing_of}
 use Rattle.prepared_code.specs.Ready.{CanRun, IsSoundIn, RunsIn}
@@ -45,7 +45,7 @@ attempted-in w v s x same attempted = subst (λ u. x ≡ attempts_on u s s.stack
 
 pub loaded-behind : (w : Setup) (old new : State) (loaded : List ℕ) → new ≡ behind w old → loaded ≡ old.shared.loaded → loaded ≡ new.shared.loaded
 loaded-behind w old new loaded settles same =
-    same ∙ (sym (settled-loaded w (listing_of w.versions) (still old)) ∙ ap (λ (x : State). x.shared.loaded) (sym settles))
+    same ∙ (sym (settled-loaded w.world (listing_of w.versions) (still old)) ∙ ap (λ (x : State). x.shared.loaded) (sym settles))
 
 -- ---- a step whose instruction awaits a class
 

@@ -1,11 +1,11 @@
 -- Values on top of a caller as the arguments of a method: their kinds, and the locals that they take.
 use Rattle.std.proofs.lemmas.List.Sums.{sum_by-cons}
-use Rattle.std.proofs.Common.{drop-cons, ◌≡◌, ◌≢◌, ℕ, zero, suc, ◌+◌, ◌-◌, ◌<◌, ◌≤◌, Bool, true, false, List, [], ◌∷◌, ◌++◌, length, drop, take, get_or, min, cond, Option, Some, None, refl, sym, ap, ◌∙◌, ⊎_elim, add-one, arith}
-use Rattle.std.specs.Prelude.{count_by, is_some, nat_le, slice_get, reverse, ◌&&◌}
+use Rattle.std.proofs.Common.{◌≡◌, ℕ, zero, suc, ◌+◌, ◌-◌, ◌<◌, ◌≤◌, Bool, true, false, List, [], ◌∷◌, ◌++◌, length, take, min, cond, Option, Some, None, refl, sym, ap, ◌∙◌, ⊎_elim, arith}
+use Rattle.std.specs.Prelude.{count_by, nat_le, slice_get, reverse, ◌&&◌}
 use Rattle.std.specs.Option.{option_and_then, option_map}
 use Rattle.std.proofs.lemmas.Bool.{cases_lt, lt-leb, le-leb}
-use Rattle.std.proofs.lemmas.List.{length-reverse, length-take, reverse-append, get_or-reverse, get_or-take}
-use Rattle.std.proofs.lemmas.Option.{same_Some, none-some, get_or_from_slice_get, slice_get-get_or, slice_get_within}
+use Rattle.std.proofs.lemmas.List.{length-reverse, length-take, reverse-append}
+use Rattle.std.proofs.lemmas.Option.{same_Some, none-some}
 use Rattle.heap_objects.specs.declared.datum.Datum.{Datum}
 use Rattle.heap_objects.specs.declared.datum.Datum.TheVariants as datum
 use Rattle.heap_objects.specs.declared.Value.{Value}
@@ -14,9 +14,9 @@ use Rattle.const_pool.specs.declared.descriptor.Kind.{Kind}
 use Rattle.const_pool.specs.declared.descriptor.Kind.TheVariants as kind
 use Rattle.frame_stack.specs.Widths.{width, height_of, slots_of_all}
 use Rattle.frame_stack.specs.FrameLists.{PlacedFrame, top_operands, can_enter}
-use Rattle.frame_stack.proofs.Passing.{get-none}
 use Rattle.jvm_model.specs.Basis.Data.{Operands}
 use Rattle.jvm_model.specs.Basis.Values.{as_value, datum_of, data_of, arguments_spread}
+use Rattle.symbolic_references.proofs.Arguments.{data_of-unequal}
 use Rattle.interpreter.specs.Instructions.Arguments.{is_long_kind, slots_for}
 
 -- ---- values of their parameters' kinds
@@ -77,18 +77,6 @@ height-kinds (k ∷ ks) (v ∷ vs) ds e = by_first (datum_of k v) (data_of ks vs
       let count : count_by is_long_kind (k ∷ ks) ≡ cond (is_long_kind k) 1 0 + count_by is_long_kind ks = sum_by-cons (λ x. cond (is_long_kind x) 1 0) k ks in
       omega (arith, one, others, count)
 
--- as many values as parameters, or there are no such data
-pub data_of-unequal : (ks : List Kind) (vs : List Value) → length ks ≢ length vs → data_of ks vs ≡ None
-data_of-unequal [] [] ne = absurd (ne refl)
-data_of-unequal [] (v ∷ vs) ne = refl
-data_of-unequal (k ∷ ks) [] ne = refl
-data_of-unequal (k ∷ ks) (v ∷ vs) ne =
-    ap (λ rest. option_and_then (λ d. option_map (λ ds. d ∷ ds) rest) (datum_of k v)) (data_of-unequal ks vs (λ e. ne (ap suc e))) ∙ no_more (datum_of k v)
-  where
-    no_more : (o : Option Datum) → option_and_then (λ d. option_map (λ ds. d ∷ ds) (let rest : Option (List Datum) = None in rest)) o ≡ None
-    no_more None = refl
-    no_more (Some d) = refl
-
 -- ---- slots and heights
 
 height-first : (v : Value) (vs : List Value) → length (slots_of_all (v ∷ vs)) ≡ width v + length (slots_of_all vs)
@@ -130,63 +118,6 @@ too-many most count fs over =
     let len : length (take count (top_operands fs)) ≡ min count (length (top_operands fs)) = length-take count (top_operands fs) in
     ap (λ b. b && nat_le (height_of (take count (top_operands fs))) most) (le-leb _ _ enough) ∙ lt-leb _ _ (omega arith))
     (cases_lt (length (top_operands fs)) count)
-
--- ---- the test of the values
-
--- all are of their kinds from here on, or from the next one on and here
-is_some-first : (o : Option Datum) (rest : Option (List Datum)) → is_some (option_and_then (λ d. option_map (λ ds. d ∷ ds) rest) o) ≡ cond (is_some o) (is_some rest) false
-is_some-first None rest = refl
-is_some-first (Some d) None = refl
-is_some-first (Some d) (Some ds) = refl
-
-pub data_of-next : (ks : List Kind) (vs : List Value) (i : ℕ) (k : Kind) (v : Value) → i < length ks → length ks ≡ length vs → k ≡ get_or ks i k → v ≡ get_or vs i v
-    → is_some (data_of (drop i ks) (drop i vs)) ≡ cond (is_some (datum_of k v)) (is_some (data_of (drop (i + 1) ks) (drop (i + 1) vs))) false
-data_of-next ks vs i k v lt same kis vis =
-    let ksplit : drop i ks ≡ k ∷ drop (i + 1) ks = drop-cons ks i k lt ∙ (ap (λ x. x ∷ drop (suc i) ks) (sym kis) ∙ ap (λ n. k ∷ drop n ks) (sym (add-one i))) in
-    let vsplit : drop i vs ≡ v ∷ drop (i + 1) vs = drop-cons vs i v (omega arith) ∙ (ap (λ x. x ∷ drop (suc i) vs) (sym vis) ∙ ap (λ n. v ∷ drop n vs) (sym (add-one i))) in
-    ap (λ x. is_some (data_of x (drop i vs))) ksplit
-    ∙ (ap (λ y. is_some (data_of (k ∷ drop (i + 1) ks) y)) vsplit
-    ∙ is_some-first (datum_of k v) (data_of (drop (i + 1) ks) (drop (i + 1) vs)))
-
--- the i-th argument, by how many operands are above it
-argument-at : (o : Operands) (n i : ℕ) (v : Value) → slice_get o (n - 1 - i) ≡ Some v → i < n → n ≤ length o → v ≡ get_or (reverse (take n o)) i v
-argument-at o n i v e lt enough =
-    let len : length (take n o) ≡ n = length-take n o ∙ (let m : min n (length o) ≡ n = omega arith in m) in
-    sym
-    (get_or-reverse (take n o) i v (omega arith)
-    ∙ (ap (λ m. get_or (take n o) (m - 1 - i) v) len
-    ∙ (get_or-take n o (n - 1 - i) v (omega arith)
-    ∙ get_or_from_slice_get o (n - 1 - i) v v e)))
-
--- an operand that was found among so many; a deeper one was found before it
-pub enough-found : (o : Operands) (n i : ℕ) (v : Value) → slice_get o (n - 1 - i) ≡ Some v → i < n → (0 < i → n ≤ length o) → n ≤ length o
-enough-found o n zero v e lt before = let within = slice_get_within o (n - 1 - 0) v e in omega arith
-enough-found o n (suc i) v e lt before = before (omega arith)
-
--- the test of one more parameter; a list has it at its place
-kinds-next : (ks : List Kind) (o : Operands) (i : ℕ) (d : Kind) (v : Value) → i < length ks → (0 < i → length ks ≤ length o) → slice_get o (length ks - 1 - i) ≡ Some v
-    → is_some (data_of (drop i ks) (drop i (reverse (take (length ks) o))))
-    ≡ cond (is_some (datum_of (get_or ks i d) v)) (is_some (data_of (drop (i + 1) ks) (drop (i + 1) (reverse (take (length ks) o))))) false
-kinds-next ks o i d v lt before e =
-    let enough = enough-found o (length ks) i v e lt before in
-    let len : length ks ≡ length (reverse (take (length ks) o)) =
-    sym (length-reverse (take (length ks) o) ∙ (length-take (length ks) o ∙ (let m : min (length ks) (length o) ≡ length ks = omega arith in m))) in
-    data_of-next ks (reverse (take (length ks) o)) i (get_or ks i d) v lt len
-    (sym (get_or_from_slice_get ks i (get_or ks i d) (get_or ks i d) (slice_get-get_or ks i d lt)))
-    (argument-at o (length ks) i v e lt enough)
-
-pub kinds-by : (ks : List Kind) (o : Operands) (i : ℕ) (d : Kind) (v : Value) (b : Bool) → i < length ks → (0 < i → length ks ≤ length o) → slice_get o (length ks - 1 - i) ≡ Some v
-    → is_some (datum_of (get_or ks i d) v) ≡ b
-    → is_some (data_of (drop i ks) (drop i (reverse (take (length ks) o)))) ≡ cond b (is_some (data_of (drop (i + 1) ks) (drop (i + 1) (reverse (take (length ks) o))))) false
-kinds-by ks o i d v b lt before e is =
-    kinds-next ks o i d v lt before e ∙ ap (λ x. cond x (is_some (data_of (drop (i + 1) ks) (drop (i + 1) (reverse (take (length ks) o))))) false) is
-
--- one is missing
-pub kinds-missing : (ks : List Kind) (o : Operands) (i : ℕ) → i < length ks → slice_get o (length ks - 1 - i) ≡ None → is_some (data_of ks (reverse (take (length ks) o))) ≡ false
-kinds-missing ks o i lt e =
-    let few = get-none o (length ks - 1 - i) e in
-    let len : length (reverse (take (length ks) o)) ≡ min (length ks) (length o) = length-reverse (take (length ks) o) ∙ length-take (length ks) o in
-    ap is_some (data_of-unequal ks (reverse (take (length ks) o)) (λ same. absurd (omega arith)))
 
 -- ---- the callee
 

@@ -26,7 +26,7 @@ use Rattle.prepared_code.specs.declared.line.Action.{Action}
 use Rattle.prepared_code.specs.declared.line.Action.TheVariants as action
 use Rattle.prepared_code.specs.declared.line.Line.{Line}
 use Rattle.interpreter.specs.Instructions.Acts.{acts_by, acts_named, attempts_line, comes_to, gives_back_line, is_named, named_done, placed_line, ready_for, resumes_line, returns_or_ends, with_done}
-use Rattle.interpreter.proofs.Loads.MovesLoad.{made-loaded}
+use Rattle.jvm_model.proofs.Loading.LoadedMoves.{made-loaded}
 use Rattle.interpreter.proofs.Instructions.NamedLaws.{is-named}
 use Rattle.prepared_code.specs.Versions.{Setup, listing_of, line_at, next_in}
 
@@ -51,7 +51,7 @@ module _ (s : State) (f : Frame) where
     by : (room few : Bool)
         → Keeps s (cond room (cond few (begins w.world t s f m args below) (still (throws_at s f (exception_raised w.world s.shared stack_overflow None)))) (still (breaks s f i.own))).after
     by true true = refl
-    by true false = made-loaded w s.shared stack_overflow None null
+    by true false = made-loaded w.world s.shared stack_overflow None null
     by false few = refl
 
 resumes-keeps : (s : State) (caller : Frame) (d : Option Datum) (found : Option Instruction) → Keeps s (resumes s caller d found)
@@ -70,7 +70,7 @@ applies-loaded w t i Subroutine s f = enters-keeps s f i i.next
 applies-loaded w t i (Invokes m args below) s f = invokes-keeps s f w t i m args below
 applies-loaded w t i (Returns d) s f = back-keeps t s d s.stack
 applies-loaded w t i (Throws r) s f = refl
-applies-loaded w t i (Raises name message) s f = made-loaded w s.shared name message null
+applies-loaded w t i (Raises name message) s f = made-loaded w.world s.shared name message null
 applies-loaded w t i (Initializes c) s f = refl
 applies-loaded w t i (Exits n) s f = refl
 applies-loaded w t i (Breaks true) s f = refl
@@ -81,7 +81,7 @@ applies-loaded w t i (Breaks false) s f = refl
 module _ (w : Setup) (line : Line) (s : State) (f : Frame) where
   comes-keeps : (x : Comes) → Keeps s (comes_to w line s f x)
   comes-keeps (Goes l o place) = goes-keeps s f line.instr.at l o (Some place)
-  comes-keeps (Divides class) = made-loaded w s.shared arithmetic_exception (Some by_zero) null
+  comes-keeps (Divides class) = made-loaded w.world s.shared arithmetic_exception (Some by_zero) null
   comes-keeps Fails = refl
   comes-keeps Leaves = refl
 

@@ -11,13 +11,13 @@ use Rattle.prepared_code.specs.declared.parts.Parts.{Parts}
 use Rattle.prepared_code.specs.Initializations.{state_of}
 use Rattle.prepared_code.specs.Versions.{Setup}
 use Rattle.interpreter.proofs.Instructions.LineActs.{with-loaded}
-use Rattle.interpreter.proofs.Loads.MovesLoad.{made-loaded}
+use Rattle.jvm_model.proofs.Loading.LoadedMoves.{made-loaded}
 
 module _ (w : Setup) where
   -- what stops its loading loads nothing
   unless-loaded : (s : State) (fault : Option Fault) → (starts_unless w.world fault s).shared.loaded ≡ s.shared.loaded
   unless-loaded s None = refl
-  unless-loaded s (Some fault) = made-loaded w s.shared (error_of fault) (message_of fault) null
+  unless-loaded s (Some fault) = made-loaded w.world s.shared (error_of fault) (message_of fault) null
 
   if-loaded : (fit : Bool) → (starts_if w.world fit).shared.loaded ≡ (before w.world).shared.loaded ++ loads_if w.world fit
   if-loaded true =

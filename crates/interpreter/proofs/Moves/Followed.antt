@@ -27,7 +27,7 @@ use Rattle.interpreter.specs.Moves.Turning.{pause_at, paused_in}
 use Rattle.interpreter.specs.Moves.Trying.{changes_since, enters_by, is_begins, pause_behind_attempt, top_frame_method}
 use Rattle.prepared_code.specs.Versions.{Setup, current_of, listing_of, mark_of}
 use Rattle.interpreter.proofs.Instructions.InitializerFrames.{live-of}
-use Rattle.interpreter.proofs.Loads.MovesLoad.{settled-loaded}
+use Rattle.jvm_model.proofs.Loading.LoadedMoves.{settled-loaded}
 
 -- ---- by the frames
 
@@ -152,7 +152,7 @@ module _ (w : Setup) (t : Listing) (v : ℕ → Mark) (n : ℕ) (s : State) wher
   paused-loaded =
       let p : Pause = step_paused w.world t v n s in
       let same = (paused-is w.world t v n s).part.same in
-      sym (settled-loaded w t (still p.state)) ∙ (ap (λ (x : State). x.shared.loaded) (sym same) ∙ settled-loaded w t (still s))
+      sym (settled-loaded w.world t (still p.state)) ∙ (ap (λ (x : State). x.shared.loaded) (sym same) ∙ settled-loaded w.world t (still s))
 
   behind-loaded : (d : Due) (begun later : Pause) → begun.state.shared.loaded ≡ s.shared.loaded → later.state.shared.loaded ≡ s.shared.loaded
       → (pause_behind d begun later).state.shared.loaded ≡ s.shared.loaded

@@ -34,7 +34,7 @@ use Rattle.prepared_code.proofs.InitializingStacks.{length-active}
 use Rattle.interpreter.proofs.Instructions.Initializations.{IsReadyAgain, ready-again, set-there}
 use Rattle.interpreter.proofs.Instructions.LineActs.{awaits-named, done_there, readied, starts-some, steps-as, viewed, with-loaded}
 use Rattle.prepared_code.proofs.InitializingStacks.{stack-empty, stack-frame, stack-on}
-use Rattle.interpreter.proofs.Loads.MovesLoad.{settled-loaded}
+use Rattle.jvm_model.proofs.Loading.LoadedMoves.{settled-loaded}
 use Rattle.interpreter.proofs.Instructions.NamedLaws.{Asks, IsNamed, is-named}
 use Rattle.prepared_code.proofs.Tied.{Tie, tied-there}
 use Rattle.prepared_code.specs.Ready.{CanRun, IsTied}
@@ -206,7 +206,7 @@ module _ (w : Setup) where
 
     -- nothing is loaded behind
     same-loaded : turn.after.shared.loaded ≡ s.shared.loaded ++ newly_loaded w.world.program s.shared.loaded n f.operands
-    same-loaded = settled-loaded w t (still begun) ∙ law.loaded
+    same-loaded = settled-loaded w.world t (still begun) ∙ law.loaded
 
     module _ (ending : s.ending ≡ None) (ready : is_ready (phase_of turn.after.shared c) ≡ true) where
       running : phase_of (with_phase there.shared c Running) c ≡ Some Running

@@ -6,10 +6,11 @@ ghost use Rattle.interpreter.specs.Instructions.Elements.{IsMeasured};
 ghost use Rattle.interpreter.specs.Instructions.Acts.{IsTop, Becomes, acts_arraylength, acts_newarray};
 
 use crate::unwind::raising::{RESERVED, break_off, end_unless, raise};
+use class_index::FIRST_ARRAY;
 use heap_objects::{Datum, Heap, HeapError, Value};
 use jf_bytes::NoMemory;
 use jvm_basic::{Effect, int_of, ref_of, replace};
-use prepared_code::{ARRAY, Exception, Line, Originals, Parts};
+use prepared_code::{Exception, Line, Originals, Parts};
 
 /// The greatest int.
 const GREATEST: u32 = 2_147_483_647;
@@ -19,7 +20,7 @@ fn array_length(heap: &Heap, object: u32) -> Option<u32>
     ensures { result ≡ array_length object heap.now }
 {
     let kind = heap.kind(object)?;
-    if kind < ARRAY {
+    if kind < FIRST_ARRAY {
         return None;
     }
     heap.len(object)

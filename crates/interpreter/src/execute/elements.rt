@@ -20,7 +20,6 @@ ghost use Rattle.prepared_code.specs.Linked.{linker_in};
 ghost use Rattle.prepared_code.specs.States.{state_in};
 ghost use Rattle.prepared_code.specs.Versions.{listing_of};
 
-use crate::execute::going::datum_of;
 use crate::unwind::raising::{break_off, end_unless, raise, raise_with};
 use const_pool::Kind;
 use frame_stack::Frames;
@@ -29,6 +28,7 @@ use jf_bytes::{NoMemory, Seq};
 use jvm_basic::{Effect, drop_narrow, drop_three, exchange_two, recall, replace_two, value_of};
 use prepared_code::{Exception, Line, Originals, Parts, fits_array, units_of};
 use std::alloc::Global;
+use symbolic_references::datum_of;
 
 /// Where an array and an index lead: the array is null, or the object none that the instruction
 /// serves, or the index is outside, or it is that of an element.

@@ -4,14 +4,15 @@ ghost use Rattle.std.specs.Prelude.{◌≡◌, slice_get};
 ghost use Rattle.const_pool.specs.declared.descriptor.Kind.TheVariants.{Int, Ref};
 ghost use Rattle.frame_stack.specs.FrameLists.{top_operands};
 ghost use Rattle.jvm_basic.specs.Outcomes.{GoesOn, effect_of, after};
-ghost use Rattle.jvm_model.specs.Basis.Values.{as_value, datum_of};
 ghost use Rattle.interpreter.specs.Instructions.Going.{takes_result, resume_effect, resume_frames, top_datum};
 
 use const_pool::Kind;
 use frame_stack::Frames;
 use heap_objects::{Datum, Value};
+pub use jvm_basic::value_of;
 use jvm_basic::{Effect, go_on, put, recall};
 use prepared_code::{Action, Line};
+use symbolic_references::datum_of;
 
 /// Goes on as it is.
 fn keep(frames: &mut Frames, next: u16) -> Effect
@@ -20,32 +21,6 @@ fn keep(frames: &mut Frames, next: u16) -> Effect
 {
     recall(frames);
     go_on(frames, next)
-}
-
-/// The value that a datum is.
-pub fn value_of(datum: Datum) -> Value
-    ensures { result ≡ as_value datum }
-{
-    match datum {
-        Datum::Int(n) => Value::Int(n),
-        Datum::Long(n) => Value::Long(n),
-        Datum::Ref(r) => Value::Ref(r),
-    }
-}
-
-/// The datum that a value is, where a descriptor of this kind may have it: boolean, byte, char and
-/// short are ints.
-pub fn datum_of(kind: Kind, value: Value) -> Option<Datum>
-    ensures { result ≡ datum_of kind value }
-{
-    match (kind, value) {
-        (Kind::Int | Kind::Bool | Kind::Byte | Kind::Char | Kind::Short, Value::Int(n)) => {
-            Some(Datum::Int(n))
-        }
-        (Kind::Long, Value::Long(n)) => Some(Datum::Long(n)),
-        (Kind::Ref, Value::Ref(r)) => Some(Datum::Ref(r)),
-        _ => None,
-    }
 }
 
 /// The topmost operand, where it is an int.

@@ -13,14 +13,14 @@ ghost use Rattle.interpreter.specs.Instructions.Invoking.{method_called, may_beg
 ghost use Rattle.prepared_code.specs.States.{state_in};
 
 use crate::execute::entering::enter;
-use crate::execute::going::datum_of;
 use crate::unwind::raising::{break_at, raise, raise_with};
 use const_pool::Kind;
 use frame_stack::Frames;
 use heap_objects::Value;
 use jf_bytes::NoMemory;
-use prepared_code::{Exception, Here, Originals, Parts, name_at};
+use prepared_code::{Exception, Here, Originals, Parts};
 use std::alloc::Global;
+use symbolic_references::datum_of;
 
 /// How many activations are live at most.
 const MOST_LIVE: u32 = 1024;
@@ -228,7 +228,7 @@ pub fn raise_unusable(originals: &Originals, parts: &mut Parts, class: u32) -> R
     ensures { let w = originals.now.setup in OnOk result
         (parts.new ≡ raising w NoClassDefinition (name_at w.world.program class) parts.old) }
 {
-    match name_at(originals.program(), class) {
+    match originals.linker().index().name_at(class) {
         Some(name) => raise_with(originals, parts, Exception::NoClassDefinition, name.units()),
         None => raise(originals, parts, Exception::NoClassDefinition),
     }

@@ -22,7 +22,7 @@ use crate::unwind::supertypes::is_below_bytes;
 use jf_bytes::{NoMemory, Stack};
 use jvm_model::{Part, Phase, Shared};
 use prepared_code::{
-    Exception, Initialization, Originals, Parts, initializer_of, put_initialization, super_of,
+    Exception, Initialization, Originals, Parts, initializer_of, put_initialization,
 };
 use std::alloc::Global;
 use symbolic_references::set_constants;
@@ -126,7 +126,7 @@ fn initialize_super(
         ≡ with_super originals.now.setup.world (state_of initializing.old parts.old) class
         (super_of originals.now.setup.world.program class)) }
 {
-    match super_of(originals.program(), class) {
+    match originals.linker().index().super_of(class) {
         Some(above) => initialize_above(originals, parts, initializing, class, above),
         None => put_initialization(parts, initializing, class, Part::Initializer),
     }

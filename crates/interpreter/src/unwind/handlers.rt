@@ -9,10 +9,11 @@ ghost use Rattle.jvm_model.specs.Basis.SharedState.{class_of_kind};
 ghost use Rattle.prepared_code.specs.Versions.{catcher_in, listing_of};
 
 use crate::unwind::supertypes::is_below;
+use class_index::class_of_kind;
 use class_linker::Linker;
 use heap_objects::Heap;
 use jvm_model::Program;
-use prepared_code::{Catching, Originals, class_of_kind};
+use prepared_code::{Catching, Originals};
 
 // ---- handlers
 

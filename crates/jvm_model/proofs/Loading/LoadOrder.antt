@@ -37,7 +37,7 @@ module _ (p : Program) (P : List ℕ → Type 0) (first : List ℕ)
   unless_kept None loaded next h k = k loaded h
   unless_kept (Some fault) loaded next h k = h
 
-  needs_kept : (load : List ℕ → List ℕ → Loading) → ((name loaded : List ℕ) → P loaded → P (load name loaded).loaded)
+  pub needs_kept : (load : List ℕ → List ℕ → Loading) → ((name loaded : List ℕ) → P loaded → P (load name loaded).loaded)
       → (needs : List Need) (loaded : List ℕ) → P loaded → P (load_needs p load needs loaded).loaded
   needs_kept load k [] loaded h = h
   needs_kept load k (n ∷ rest) loaded h =
@@ -76,7 +76,7 @@ module _ (p : Program) (P : List ℕ → Type 0) (first : List ℕ)
       by false e = e
       by true e = absurd (false_true (sym out ∙ among-front c path (class ∷ []) e))
 
-  named_kept : (depth : ℕ) (path : List ℕ) → ((c : ℕ) → is_among c path ≡ false → is_among c first ≡ false)
+  pub named_kept : (depth : ℕ) (path : List ℕ) → ((c : ℕ) → is_among c path ≡ false → is_among c first ≡ false)
       → (name loaded : List ℕ) → P loaded → P (load_named p depth path name loaded).loaded
   named_kept zero path begins name loaded h = h
   named_kept (suc n) path begins name loaded h =
@@ -105,7 +105,7 @@ module _ (p : Program) (c : ℕ) where
       by true e = absurd (false_true (sym out ∙ (ap (λ k. is_among k path) (eqb-true class c e) ∙ has)))
       by false e = refl
 
-  not_loaded : (depth : ℕ) (path : List ℕ) (needs : List Need) (loaded : List ℕ) → is_among c path ≡ true → is_among c loaded ≡ false
+  pub not_loaded : (depth : ℕ) (path : List ℕ) (needs : List Need) (loaded : List ℕ) → is_among c path ≡ true → is_among c loaded ≡ false
       → is_among c (load_needs p (load_named p depth path) needs loaded).loaded ≡ false
   not_loaded depth path needs loaded has h =
       needs_kept p (λ l. is_among c l ≡ false) (c ∷ []) not_more (load_named p depth path)

@@ -1,30 +1,26 @@
 -- Every state of a run over a sound text is sound: the start gives one, and a step of one gives one (JVM Specification 5.2, 5.3, 5.5).
-use Rattle.std.proofs.Common.{◌≡◌, ℕ, Bool, true, false, List, [], ◌∷◌, ◌++◌, ap, sym, subst, refl, ◌∙◌, ◌⊎◌, inl, inr}
+use Rattle.std.proofs.Common.{◌≡◌, ℕ, false, List, [], ◌∷◌, ◌++◌, sym, subst, refl, ◌∙◌, ◌⊎◌, inl, inr}
 use Rattle.std.proofs.lemmas.Option.{IfSome_then}
-use Rattle.std.specs.Prelude.{Option, Some, None, unwrap_or}
+use Rattle.std.specs.Prelude.{Option, Some, None}
 use Rattle.std.specs.List.{AllByRecursion}
 use Rattle.std.specs.Option.{IfSome}
 use Rattle.jvm_model.specs.Running.Applies.{applies, still}
 use Rattle.jvm_model.specs.Basis.Data.{Listing, Operands, Frame, Entry, Active, Initializing, Ending, Uncaught, Breaks, State, Turn, Instruction, Done, Operation, Athrow, Program, World}
 use Rattle.jvm_model.specs.Instructions.Does.{does, loads}
-use Rattle.jvm_model.specs.Classes.Kinds.{meaning_of}
-use Rattle.jvm_model.specs.Classes.Load.{Fault, NoClass, Circular, Incompatible, error_of}
 use Rattle.jvm_model.specs.Running.Moves.{move, moves, turn_settled, then_turn}
-use Rattle.jvm_model.specs.Instructions.SymbolicReference.{New, message_of}
 use Rattle.jvm_model.specs.Codes.Originals.{original}
-use Rattle.jvm_model.specs.Basis.Programs.{name_at}
-use Rattle.jvm_model.specs.Running.Run.{arguments_made, attempt, before, main_class, main_classes, main_loading, main_loads, run_opened, start, starts, starts_if, starts_unless, starts_with, step, steps_at, steps_by, steps_on, tries, with_loaded}
-use Rattle.jvm_model.specs.Basis.SharedState.{arguments_fit, class_of, null, exception_raised, shared_before, with_arguments}
-use Rattle.jvm_model.specs.Soundness.Sound.{CanAttempt, HasClass, HasSupertypes, IsBuiltInName, IsFit, IsLoaded, IsSoundOutcome, IsSoundShared}
+use Rattle.jvm_model.specs.Running.Run.{attempt, main_class, main_loads, start, starts, starts_with, step, steps_at, steps_by, steps_on, tries, with_loaded}
+use Rattle.jvm_model.specs.Basis.SharedState.{arguments_fit, class_of}
+use Rattle.jvm_model.specs.Soundness.Sound.{CanAttempt, HasClass, HasSupertypes, IsFit, IsLoaded, IsSoundOutcome, IsSoundShared}
 use Rattle.jvm_model.specs.Soundness.SoundListings.{IsSound, IsSoundEntry, IsSoundListing, RunsOriginal}
-use Rattle.jvm_model.proofs.Running.Attempts.{again-by, loaded-after, with_loaded-shared}
-use Rattle.jvm_model.proofs.Loading.LoadsAgain.{newly-loaded}
+use Rattle.jvm_model.proofs.Running.Attempts.{again-by, loaded-after}
 use Rattle.jvm_model.proofs.Running.Settles.{settled-keeps, settled-stops}
 use Rattle.jvm_model.proofs.Soundness.SoundAttempts.{sound-does}
-use Rattle.jvm_model.proofs.Soundness.SoundClasses.{all-then, among-front, load-supertypes, load-there, plain-element}
+use Rattle.jvm_model.proofs.Soundness.SoundClasses.{all-then, among-front}
 use Rattle.jvm_model.proofs.Soundness.SoundLines.{can-attempt}
-use Rattle.jvm_model.proofs.Soundness.SoundObjects.{KeepsShared, arguments-sound, before-sound, exception-sound, with-heap}
+use Rattle.jvm_model.proofs.Soundness.SoundObjects.{KeepsShared}
 use Rattle.jvm_model.proofs.Soundness.SoundRuns.{loads-again, loads-same, loads-supertypes, shared-more, with-loaded-is}
+use Rattle.jvm_model.proofs.Soundness.SoundStart.{IsRefused, begins-if}
 use Rattle.jvm_model.proofs.Soundness.SoundListingSteps.{GoesTo, applied-goes, entry-grows, moves-go, settled-goes}
 
 some-none : {A : Type 0} (x : A) → Some x ≡ None → ⊥
@@ -146,67 +142,6 @@ module _ (Runs : ℕ → ℕ → Type 0) where
 
     -- ---- the start
 
-    -- the arguments do not fit, or loading the main class was refused
-    record IsRefused (s : State) : Type 0 where
-      object : ℕ
-      shared : IsSoundShared w.program s.shared
-      stack : s.stack ≡ []
-      ending : s.ending ≡ None
-      thrown : s.thrown ≡ Some object
-
-    abbrev given : State
-    given = arguments_made w (before w)
-
-    abbrev loaded_state : State
-    loaded_state = run_opened w
-
-    main-loaded : loaded_state.shared.loaded ≡ (main_loading w).loaded
-    main-loaded = with-loaded-is (main_classes w) given ∙ newly-loaded w.program (before w).shared.loaded (New (unwrap_or (name_at w.program (main_class w.program)) [])) [] refl
-
-    given-sound : IsSoundShared w.program given.shared
-    given-sound =
-        with-heap w.program (shared_before w.program) (with_arguments w.program (shared_before w.program).heap) (before-sound w.program fit)
-        (arguments-sound w.program fit (shared_before w.program).loaded fit.before (shared_before w.program).heap (before-sound w.program fit).objects)
-
-    loaded-sound : IsSoundShared w.program loaded_state.shared
-    loaded-sound =
-        shared-more w.program (main_classes w) given
-        (subst (HasSupertypes w.program) (sym (sym (with-loaded-is (main_classes w) given) ∙ main-loaded))
-        (load-supertypes w.program (before w).shared.loaded (unwrap_or (name_at w.program (main_class w.program)) []) fit.above))
-        given-sound
-
-    main-there : (main_loading w).fault ≡ None → IsLoaded loaded_state.shared.loaded (main_class w.program)
-    main-there none =
-        let named : unwrap_or (name_at w.program (main_class w.program)) [] ≡ fit.main.name = ap (λ o. unwrap_or o []) fit.main.named in
-        subst (λ loaded. IsLoaded loaded (main_class w.program)) (sym main-loaded)
-        (load-there w.program (before w).shared.loaded (unwrap_or (name_at w.program (main_class w.program)) []) none fit.main.name
-        (ap (λ name. (meaning_of name).element) named ∙ plain-element fit.main.name fit.main.plain)
-        (main_class w.program) (fit.names (main_class w.program) fit.main.name fit.main.named))
-
-    fault-named : (fault : Fault) → IsBuiltInName (error_of fault)
-    fault-named (NoClass name) = refl
-    fault-named Circular = refl
-    fault-named Incompatible = refl
-
-    begins : (o : Option Fault) → (main_loading w).fault ≡ o → IsSound Runs w.program (starts_unless w o loaded_state) ⊎ IsRefused (starts_unless w o loaded_state)
-    begins None none = inl (record {
-      shared = record { built_in = loaded-sound.built_in; above = loaded-sound.above; objects = loaded-sound.objects };
-      stack = (main-there none, tt);
-      main = λ on. main-there none;
-    })
-    begins (Some fault) is = inr (record {
-      object = (exception_raised w loaded_state.shared (error_of fault) (message_of fault)).reference;
-      shared = (exception-sound w fit loaded_state.shared loaded-sound (error_of fault) (message_of fault) null (fault-named fault)).shared;
-      stack = ap (λ (s : State). s.stack) (with_loaded-shared (main_classes w) given);
-      ending = ap (λ (s : State). s.ending) (with_loaded-shared (main_classes w) given);
-      thrown = refl;
-    })
-
-    -- or there is no room for the arguments
-    begins-if : (fits : Bool) → IsSound Runs w.program (starts_if w fits) ⊎ IsRefused (starts_if w fits)
-    begins-if true = begins (main_loading w).fault refl
-    begins-if false = inr (record { object = 1; shared = before-sound w.program fit; stack = refl; ending = refl; thrown = refl })
-
     refused-moves : (s : State) (object : ℕ) (ending : Option Ending) (thrown : Option ℕ) (stack : List Entry) → IsSoundShared w.program s.shared → s.stack ≡ []
         → ending ≡ None → thrown ≡ Some object → stack ≡ []
         → IfSome (moves w t s ending thrown stack) (λ next. IsSound Runs w.program next.after)
@@ -228,7 +163,7 @@ module _ (Runs : ℕ → ℕ → Type 0) where
         some-none (still (record s { ending = Some (Uncaught (class_of w.program s.shared r)) })) stops
 
     abbrev Either : Turn → Type 0
-    Either a = IsSound Runs w.program a.after ⊎ IsRefused a.after
+    Either a = IsSound Runs w.program a.after ⊎ IsRefused Runs w fit a.after
 
     either-moves : (b : Turn) → Either b → IfSome (move w t b.after) (λ next. Either (then_turn b next))
     either-moves b (inl is) =
@@ -238,7 +173,7 @@ module _ (Runs : ℕ → ℕ → Type 0) where
         IfSome_then (move w t b.after) {P = λ next. IsSound Runs w.program next.after} {Q = λ next. Either (then_turn b next)}
         (refused-moves b.after is.object b.after.ending b.after.thrown b.after.stack is.shared is.stack is.ending is.thrown is.stack) (λ next sound. inl sound)
 
-    at-end : (s : State) → IsSound Runs w.program s ⊎ IsRefused s → move w t s ≡ None → IsSound Runs w.program s
+    at-end : (s : State) → IsSound Runs w.program s ⊎ IsRefused Runs w fit s → move w t s ≡ None → IsSound Runs w.program s
     at-end s (inl is) stops = is
     at-end s (inr is) stops = absurd (refused-goes-on s is.object s.ending s.thrown s.stack is.ending is.thrown is.stack stops)
 
@@ -247,7 +182,7 @@ module _ (Runs : ℕ → ℕ → Type 0) where
         let first : Turn = still (starts_with w) in
         subst (λ (s : State). IsSound Runs w.program s) (sym (loaded-after (main_loads w) (turn_settled w t first)))
         (at-end (turn_settled w t first).after
-        (settled-keeps w t Either either-moves first (begins-if (arguments_fit w.program)))
+        (settled-keeps w t Either either-moves first (begins-if Runs w fit (arguments_fit w.program)))
         (settled-stops w t first))
 
 -- original code is such a text

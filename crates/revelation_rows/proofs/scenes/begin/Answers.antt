@@ -1,4 +1,5 @@
 use Rattle.std.proofs.Common.{ap, sym, ◌∙◌}
+use Rattle.jvm_model.specs.Basis.KindNumbers.{user_count}
 use Rattle.jvm_model.specs.Classes.Load.{is_among}
 use Rattle.revelation_rows.proofs.HappeningLemmas.{fresh}
 use Rattle.revelation_rows.proofs.SceneLemmas.{along-linked}
@@ -10,7 +11,7 @@ follow-requires-clause-along c =
 
 pub follow-requires-clause-root : goal.follow-requires-clause-root
 follow-requires-clause-root c =
-    ap (λ class. is_among class c.link.new.linker.loaded) (sym c.user_count.ensures.count) ∙ (sym c.is_loaded.ensures ∙ c.if-not-is_loaded.false)
+    ap (λ class. is_among class c.link.new.linker.loaded) (sym (c.user_count.ensures.count ∙ ap user_count c.index.ensures)) ∙ (sym c.is_loaded.ensures ∙ c.if-not-is_loaded.false)
 
 pub returns : goal.returns
 returns c = λ e.

@@ -3,7 +3,7 @@ use Rattle.std.specs.Prelude.{None, replicate}
 use Rattle.jvm_model.specs.declared.event.Mark.TheVariants.{Off}
 use Rattle.jvm_model.specs.declared.program.MethodPlace.{MethodPlace}
 use Rattle.call_revelation.specs.Reveals.{owned_from}
-use Rattle.call_revelation.proofs.CodedMethods.{few-coded}
+use Rattle.prepared_code.proofs.BuiltInLoads.{few-coded}
 use Rattle.call_revelation.proofs.BookLemmas.{nothing-read}
 use Rattle.call_revelation.proofs.CalledLemmas.{nothing-named}
 use Rattle.call_revelation.proofs.First.{first-revelation}

@@ -1,7 +1,7 @@
 use Rattle.std.proofs.Common.{sym, ap, ◌∙◌}
 use Rattle.std.specs.Str.{bytes_eq}
 use Rattle.class_index.specs.Names.{position_of}
-use Rattle.class_index.proofs.NameLemmas.{lookup-map_keys}
+use Rattle.heap_objects.proofs.InternLemmas.{lookup-map_keys}
 use Rattle.class_index.proofs.names.Names.find.Goals as goal
 
 pub returns : goal.returns

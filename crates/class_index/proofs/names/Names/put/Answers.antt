@@ -1,7 +1,7 @@
 use Rattle.std.proofs.Common.{ap, ◌∙◌}
 use Rattle.std.specs.Prelude.{map}
 use Rattle.std.specs.Str.{bytes_eq}
-use Rattle.class_index.proofs.NameLemmas.{map_keys-insert_entry}
+use Rattle.heap_objects.proofs.InternLemmas.{map_keys-insert_entry}
 use Rattle.class_index.proofs.names.Names.put.Goals as goal
 
 pub returns : goal.returns

@@ -1,7 +1,7 @@
 use Rattle.std.proofs.Common.{sym, ◌∙◌}
 use Rattle.const_pool.specs.declared.descriptor.Kind.TheVariants.{Int}
 use Rattle.frame_stack.specs.FrameLists.{top_operands}
-use Rattle.interpreter.proofs.Instructions.Arguments.{kinds-by, kinds-missing, enough-found}
+use Rattle.symbolic_references.proofs.Arguments.{kinds-by, kinds-missing, enough-found}
 use Rattle.interpreter.proofs.execute.invoking.are_of_kinds.Goals as goal
 
 pub returns-in_default : goal.returns-in_default
