@@ -30,11 +30,10 @@ mod resolution;
 mod selections;
 mod static_fields;
 mod statics;
-mod symbolic_reference;
 mod targets;
 mod values;
 
-pub use asked::{AbruptCompletion, Asked, Exception};
+pub use asked::{AbruptCompletion, Asked};
 pub use attempting::{attempt, attempt_known, attempt_loaded, resolved_name};
 pub use constants::set_constants;
 pub use declared_member::DeclaredMember;
@@ -46,5 +45,4 @@ pub use numbers::MethodNumbers;
 pub use passing::{Call, Invoked, NativeCall, known_call, known_code, pass_field};
 pub use resolution::resolve;
 pub use selections::{Selection, Selections};
-pub use symbolic_reference::{MemberName, MethodName, SymbolicReference};
 pub use targets::is_static;

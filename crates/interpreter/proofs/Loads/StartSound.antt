@@ -12,7 +12,8 @@ use Rattle.jvm_model.specs.Running.Applies.{still}
 use Rattle.jvm_model.specs.Classes.Kinds.{meaning_of}
 use Rattle.jvm_model.specs.Classes.Load.{Fault, NoClass, Circular, Incompatible, error_of}
 use Rattle.jvm_model.specs.Running.Moves.{move, moves}
-use Rattle.jvm_model.specs.Instructions.SymbolicReference.{New, message_of}
+use Rattle.jvm_model.specs.Instructions.SymbolicReference.{message_of}
+use Rattle.jvm_model.specs.declared.instruction.SymbolicReference.TheVariants.{New}
 use Rattle.jvm_model.specs.Turns.Pauses.{Pause, changes_due, passed_by, pause_by, step_paused}
 use Rattle.jvm_model.specs.Basis.Programs.{name_at}
 use Rattle.jvm_model.specs.Running.Run.{arguments_made, before, main_class, main_classes, main_loading, run_opened, starts_if, starts_unless, starts_with}

@@ -9,7 +9,8 @@ use crate::unwind::raising::{RESERVED, break_off, end_unless, raise};
 use heap_objects::{Datum, Heap, HeapError, Value};
 use jf_bytes::NoMemory;
 use jvm_basic::{Effect, int_of, ref_of, replace};
-use prepared_code::{ARRAY, Exception, Line, Originals, Parts};
+use jvm_model::Exception;
+use prepared_code::{ARRAY, Line, Originals, Parts};
 
 /// The greatest int.
 const GREATEST: u32 = 2_147_483_647;
