@@ -24,7 +24,12 @@ use Rattle.code_model.proofs.Readings.{known_at}
 use Rattle.code_model.proofs.Spelled.{HasShape}
 use Rattle.jvm_model.specs.declared.family.Family.{Family}
 use Rattle.jvm_model.specs.declared.family.Family.TheVariants as family
-use Rattle.jvm_model.specs.Basis.Data.{Anewarray, Checkcast, Constant, Getfield, Getstatic, Instanceof, Invokeinterface, Invokestatic, Invokevirtual, Local, Multianewarray, Named, SymbolicReference, New, Newarray, Operation, Putfield, Putstatic, Within}
+use Rattle.jvm_model.specs.declared.instruction.SymbolicReference.TheVariants.{Anewarray, Checkcast, Getfield, Getstatic, Instanceof, Invokeinterface, Invokestatic, Invokevirtual, Multianewarray, New, Putfield, Putstatic}
+use Rattle.jvm_model.specs.declared.instruction.Local.TheVariants.{Constant}
+use Rattle.jvm_model.specs.declared.instruction.Local.{Local}
+use Rattle.jvm_model.specs.declared.instruction.Operation.TheVariants.{Named, Newarray, Within}
+use Rattle.jvm_model.specs.declared.instruction.SymbolicReference.{SymbolicReference}
+use Rattle.jvm_model.specs.declared.instruction.Operation.{Operation}
 use Rattle.jvm_model.specs.Basis.Families.{family_of, rows}
 use Rattle.jvm_model.specs.Classes.Kinds.{meaning_of}
 use Rattle.jvm_model.specs.Codes.Lines.{pool_constant_operation, has_dimensions, interface_reference, array_reference, multi_of, named_by, named_interface_method, symbolic_reference_of, newarray_of, number_of, object_among, object_constant, object_rows, operation_by, operation_of, other_operation, special_of}

@@ -11,7 +11,8 @@ use Rattle.const_pool.specs.References.{NameAndType}
 use Rattle.jvm_model.specs.Basis.Methods.{is_member, method_from, method_named}
 use Rattle.jvm_model.specs.Basis.Programs.{initializer_name, initializer_of}
 use Rattle.jvm_model.specs.Classes.Selection.{method_selected}
-use Rattle.jvm_model.specs.Instructions.SymbolicReference as model
+use Rattle.jvm_model.specs.declared.instruction.SymbolicReference.{SymbolicReference}
+use Rattle.jvm_model.specs.declared.instruction.SymbolicReference.TheVariants as model
 use Rattle.jvm_model.specs.Profiling.Targets.{begun_by, method_coded, initializers, loaded_class_named, selections}
 use Rattle.jvm_model.specs.Instructions.InvocationRules.{selected_by}
 use Rattle.call_revelation.specs.declared.lineage.Lineage.{Lineage}
@@ -67,7 +68,7 @@ method_within c at e = let less : at < 0 + length c.methods = found-within c ini
 
 -- ---- by the class that an instruction names
 
-abbrev pub is_special : model.SymbolicReference → Bool
+abbrev pub is_special : SymbolicReference → Bool
 is_special (model.Invokespecial caller r interface) = true
 is_special _ = false
 
@@ -78,7 +79,7 @@ begins-nothing : (o : Option ℕ) → [] ≡ option_map_or nothing o []
 begins-nothing None = refl
 begins-nothing (Some class) = refl
 
-pub begun-by-name : (p : Program) (loaded : List ℕ) (n : model.SymbolicReference) → is_special n ≡ false → begun_by p loaded n ≡ begun_named p loaded n
+pub begun-by-name : (p : Program) (loaded : List ℕ) (n : SymbolicReference) → is_special n ≡ false → begun_by p loaded n ≡ begun_named p loaded n
 begun-by-name p loaded (model.New name) e = refl
 begun-by-name p loaded (model.Getfield r) e = begins-nothing (loaded_class_named p loaded r.class)
 begun-by-name p loaded (model.Putfield r) e = begins-nothing (loaded_class_named p loaded r.class)

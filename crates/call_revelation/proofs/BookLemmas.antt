@@ -4,19 +4,17 @@ use Rattle.std.specs.Prelude.{Option, Some, None, ◌⊎◌, is_some, replicate,
 use Rattle.std.specs.List.{list_any}
 use Rattle.std.specs.Option.{option_flatten, option_map_or}
 use Rattle.jvm_model.specs.declared.program.Program.{Program}
-use Rattle.jvm_model.specs.Instructions.SymbolicReference as model
+use Rattle.jvm_model.specs.Instructions.SymbolicReference.{resolved_name}
 use Rattle.jvm_model.specs.Basis.Programs.{class_named, has_name}
 use Rattle.jvm_model.specs.Profiling.Revelation.{symbolic_references_of}
 use Rattle.jvm_model.specs.Profiling.Targets.{operations_of}
 use Rattle.jvm_model.proofs.Soundness.SoundKinds.{named-class}
-use Rattle.symbolic_references.specs.declared.symbolic_reference.SymbolicReference.{SymbolicReference}
-use Rattle.symbolic_references.specs.Names.{symbolic_view}
+use Rattle.jvm_model.specs.declared.instruction.SymbolicReference.{SymbolicReference}
 use Rattle.call_revelation.specs.declared.uses.Use.{Use}
 use Rattle.call_revelation.specs.Books.{Codes, HasMore, IsBook, IsListed, code_at, has_use, is_noted, is_use, use_of, with_noted, with_use, with_uses}
 use Rattle.call_revelation.specs.Tables.{list_at, with_item}
 use Rattle.call_revelation.proofs.Adding.{both, equal, itself, or-assoc, or-first, or-later}
 use Rattle.call_revelation.proofs.LineageLemmas.{below-or-past}
-use Rattle.call_revelation.proofs.LoadStep.{map-get}
 use Rattle.call_revelation.proofs.TableLemmas.{at-other, at-same, length-with, nothing_past, set-length, set-other, set-same}
 
 false_true : false ≡ true → ⊥
@@ -68,48 +66,48 @@ more-then a b c first second = record {
 -- ---- an instruction, by the class that it names
 
 module _ (p : Program) where
-  use-more : (u : Use) (n : model.SymbolicReference) (lists : List (List Use)) → HasMore lists (with_use p u n lists)
-  use-more u n lists = by (class_named p (model.resolved_name n))
+  use-more : (u : Use) (n : SymbolicReference) (lists : List (List Use)) → HasMore lists (with_use p u n lists)
+  use-more u n lists = by (class_named p (resolved_name n))
     where
       by : (o : Option ℕ) → HasMore lists (option_map_or (λ class. with_item class u lists) o lists)
       by None = more-same lists
       by (Some class) = record { places = length-with u class lists; kept = λ caller at k h. use-kept caller at k class u lists h }
 
-  pub noted-more : (calls : Bool) (u : Use) (n : model.SymbolicReference) (lists : List (List Use)) → HasMore lists (with_noted p calls u n lists)
+  pub noted-more : (calls : Bool) (u : Use) (n : SymbolicReference) (lists : List (List Use)) → HasMore lists (with_noted p calls u n lists)
   noted-more calls u n lists = by (is_noted calls n)
     where
       by : (b : Bool) → HasMore lists (if b then with_use p u n lists else lists)
       by true = use-more u n lists
       by false = more-same lists
 
-  uses-more : (calls : Bool) (caller at : ℕ) (ns : List model.SymbolicReference) (lists : List (List Use)) → HasMore lists (with_uses p calls caller at ns lists)
+  uses-more : (calls : Bool) (caller at : ℕ) (ns : List SymbolicReference) (lists : List (List Use)) → HasMore lists (with_uses p calls caller at ns lists)
   uses-more calls caller at [] lists = more-same lists
   uses-more calls caller at (n ∷ rest) lists =
       let one = with_noted p calls (use_of caller at) n lists in
       more-then lists one (with_uses p calls caller (at + 1) rest one) (noted-more calls (use_of caller at) n lists) (uses-more calls caller (at + 1) rest one)
 
-  use-listed : (caller at : ℕ) (n : model.SymbolicReference) (lists : List (List Use)) → length lists ≡ length p.classes
+  use-listed : (caller at : ℕ) (n : SymbolicReference) (lists : List (List Use)) → length lists ≡ length p.classes
       → IsListed p (with_use p (use_of caller at) n lists) caller at n
   use-listed caller at n lists places class e =
       ap (λ o. has_use caller at (list_at (option_map_or (λ k. with_item k (use_of caller at) lists) o lists) class)) e
-      ∙ use-there caller at class lists (subst (λ k. class < k) (sym places) (named-class (has_name (model.resolved_name n)) p.classes class e))
+      ∙ use-there caller at class lists (subst (λ k. class < k) (sym places) (named-class (has_name (resolved_name n)) p.classes class e))
 
-  noted-listed : (calls : Bool) (caller at : ℕ) (n : model.SymbolicReference) (lists : List (List Use)) → length lists ≡ length p.classes → is_noted calls n ≡ true
+  noted-listed : (calls : Bool) (caller at : ℕ) (n : SymbolicReference) (lists : List (List Use)) → length lists ≡ length p.classes → is_noted calls n ≡ true
       → IsListed p (with_noted p calls (use_of caller at) n lists) caller at n
   noted-listed calls caller at n lists places noted class e =
       ap (λ b. has_use caller at (list_at (if b then with_use p (use_of caller at) n lists else lists) class)) noted
       ∙ use-listed caller at n lists places class e
 
   -- each of a method's instructions that is noted
-  uses-listed : (calls : Bool) (caller at : ℕ) (ns : List model.SymbolicReference) (lists : List (List Use)) → length lists ≡ length p.classes
-      → (i k : ℕ) (n : model.SymbolicReference) → slice_get ns i ≡ Some n → is_noted calls n ≡ true → k ≡ at + i → IsListed p (with_uses p calls caller at ns lists) caller k n
+  uses-listed : (calls : Bool) (caller at : ℕ) (ns : List SymbolicReference) (lists : List (List Use)) → length lists ≡ length p.classes
+      → (i k : ℕ) (n : SymbolicReference) → slice_get ns i ≡ Some n → is_noted calls n ≡ true → k ≡ at + i → IsListed p (with_uses p calls caller at ns lists) caller k n
   uses-listed calls caller at [] lists places i k n e noted is = absurd (none-some n e)
   uses-listed calls caller at (x ∷ rest) lists places zero k n e noted is = λ class named.
       let one = with_noted p calls (use_of caller at) x lists in
       (uses-more calls caller (at + 1) rest one).kept caller k class
       (ap (λ j. has_use caller j (list_at one class)) (let same : k ≡ at = omega (arith, is) in same)
       ∙ noted-listed calls caller at x lists places (ap (is_noted calls) (some-some x n e) ∙ noted) class
-      (ap (λ y. class_named p (model.resolved_name y)) (some-some x n e) ∙ named))
+      (ap (λ y. class_named p (resolved_name y)) (some-some x n e) ∙ named))
   uses-listed calls caller at (x ∷ rest) lists places (suc i) k n e noted is = λ class named.
       let one = with_noted p calls (use_of caller at) x lists in
       uses-listed calls caller (at + 1) rest one ((noted-more calls (use_of caller at) x lists).places ∙ places) i k n e noted (omega (arith, is)) class named
@@ -131,15 +129,15 @@ module _ (p : Program) where
 -- ---- what was read of a method
 
 module _ (p : Program) (codes : Codes) (waiting calls : List (List Use)) (book : IsBook p codes waiting calls) (method : ℕ) (ns : List SymbolicReference)
-    (within : method < length codes) (read : map symbolic_view ns ≡ symbolic_references_of (operations_of p method)) where
+    (within : method < length codes) (read : ns ≡ symbolic_references_of (operations_of p method)) where
   abbrev more : Codes
   more = slice_set codes method (Some ns)
 
   abbrev waiting_more : List (List Use)
-  waiting_more = with_uses p false method 0 (map symbolic_view ns) waiting
+  waiting_more = with_uses p false method 0 ns waiting
 
   abbrev calls_more : List (List Use)
-  calls_more = with_uses p true method 0 (map symbolic_view ns) calls
+  calls_more = with_uses p true method 0 ns calls
 
   here : code_at more method ≡ Some ns
   here = ap option_flatten (set-same codes method (Some ns) within)
@@ -155,25 +153,25 @@ module _ (p : Program) (codes : Codes) (waiting calls : List (List Use)) (book :
   pub book-read : IsBook p more waiting_more calls_more
   book-read = record {
     methods = set-length codes method (Some ns) ∙ book.methods;
-    places = (uses-more p false method 0 (map symbolic_view ns) waiting).places ∙ book.places;
-    call_places = (uses-more p true method 0 (map symbolic_view ns) calls).places ∙ book.call_places;
+    places = (uses-more p false method 0 ns waiting).places ∙ book.places;
+    call_places = (uses-more p true method 0 ns calls).places ∙ book.call_places;
     read = λ k xs e. elim (which k xs e) [
-      | inl h ↦ ap (map symbolic_view) h.1 ∙ (read ∙ ap (λ j. symbolic_references_of (operations_of p j)) (sym h.0))
+      | inl h ↦ h.1 ∙ (read ∙ ap (λ j. symbolic_references_of (operations_of p j)) (sym h.0))
       | inr h ↦ book.read k xs h
     ];
     waits = λ k at xs n e there class named. elim (which k xs e) [
       | inl h ↦
           ap (λ j. has_use j at (list_at waiting_more class)) h.0
-          ∙ uses-listed p false method 0 (map symbolic_view ns) waiting book.places at at (symbolic_view n)
-          (map-get symbolic_view ns at n (ap (λ l. slice_get l at) (sym h.1) ∙ there)) refl (omega arith) class named
-      | inr h ↦ (uses-more p false method 0 (map symbolic_view ns) waiting).kept k at class (book.waits k at xs n h there class named)
+          ∙ uses-listed p false method 0 ns waiting book.places at at n
+          ((ap (λ l. slice_get l at) (sym h.1) ∙ there)) refl (omega arith) class named
+      | inr h ↦ (uses-more p false method 0 ns waiting).kept k at class (book.waits k at xs n h there class named)
     ];
     called = λ k at xs n e there call class named. elim (which k xs e) [
       | inl h ↦
           ap (λ j. has_use j at (list_at calls_more class)) h.0
-          ∙ uses-listed p true method 0 (map symbolic_view ns) calls book.call_places at at (symbolic_view n)
-          (map-get symbolic_view ns at n (ap (λ l. slice_get l at) (sym h.1) ∙ there)) call (omega arith) class named
-      | inr h ↦ (uses-more p true method 0 (map symbolic_view ns) calls).kept k at class (book.called k at xs n h there call class named)
+          ∙ uses-listed p true method 0 ns calls book.call_places at at n
+          ((ap (λ l. slice_get l at) (sym h.1) ∙ there)) call (omega arith) class named
+      | inr h ↦ (uses-more p true method 0 ns calls).kept k at class (book.called k at xs n h there call class named)
     ];
   }
 

@@ -5,7 +5,8 @@ use Rattle.std.specs.Option.{option_to_list}
 use Rattle.jvm_model.specs.declared.program.Program.{Program}
 use Rattle.jvm_model.specs.Classes.Load.{is_among}
 use Rattle.jvm_model.specs.Classes.Lookup.{is_subtype}
-use Rattle.jvm_model.specs.Instructions.SymbolicReference as model
+use Rattle.jvm_model.specs.declared.instruction.SymbolicReference.{SymbolicReference}
+use Rattle.jvm_model.specs.Instructions.SymbolicReference.{resolved_name}
 use Rattle.jvm_model.specs.Basis.Programs.{class_named}
 use Rattle.jvm_model.specs.Profiling.Revelation.{symbolic_references_of}
 use Rattle.jvm_model.specs.Soundness.Sound.{HasSupertypes}
@@ -167,8 +168,8 @@ pub called-within : (p : Program) (method class : ℕ) → is_among class (class
 called-within p method class h =
     let one = some-of (called_class p) (symbolic_references_of (operations_of p method)) class h in by one.item (is_call one.item) one.within
   where
-    by : (n : model.SymbolicReference) (b : Bool) → is_among class (if b then option_to_list (class_named p (model.resolved_name n)) else []) ≡ true → class < length p.classes
-    by n true k = one-within p (class_named p (model.resolved_name n)) class (λ d e. named-within p (model.resolved_name n) d e) k
+    by : (n : SymbolicReference) (b : Bool) → is_among class (if b then option_to_list (class_named p (resolved_name n)) else []) ≡ true → class < length p.classes
+    by n true k = one-within p (class_named p (resolved_name n)) class (λ d e. named-within p (resolved_name n) d e) k
     by n false k = absurd (false_true k)
 
 pub uppers-known : (p : Program) (loaded : List ℕ) (v : Named) (entered : List ℕ) (class : ℕ) → AreHanded p (loaded ++ class ∷ []) v

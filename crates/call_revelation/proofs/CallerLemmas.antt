@@ -9,10 +9,13 @@ use Rattle.code_model.specs.declared.instr.Instr.{Instr}
 use Rattle.code_model.specs.Instructions.{end_of, instruction_at}
 use Rattle.jvm_model.specs.declared.program.MethodPlace.{MethodPlace}
 use Rattle.jvm_model.specs.declared.program.Program.{Program}
-use Rattle.jvm_model.specs.Basis.Data.{Instruction, Operation, Within, Named, Athrow, Monitor, Newarray, Arraylength, LoadElement, StoreElement, LdcString}
+use Rattle.jvm_model.specs.Basis.Data.{Instruction}
+use Rattle.jvm_model.specs.declared.instruction.Operation.{Operation}
+use Rattle.jvm_model.specs.declared.instruction.Operation.TheVariants.{Within, Named, Athrow, Monitor, Newarray, Arraylength, LoadElement, StoreElement, LdcString}
 use Rattle.jvm_model.specs.Codes.Lines.{code_instruction, instruction_of, method_instruction, next_of, operation_of, targets_of}
 use Rattle.jvm_model.specs.Basis.Methods.{method_code}
-use Rattle.jvm_model.specs.Instructions.SymbolicReference.{SymbolicReference, New, Getfield, Putfield, Getstatic, Putstatic, Invokevirtual, Invokespecial, Invokestatic, Invokeinterface, Checkcast, Instanceof, Anewarray, Multianewarray, LdcClass}
+use Rattle.jvm_model.specs.declared.instruction.SymbolicReference.{SymbolicReference}
+use Rattle.jvm_model.specs.declared.instruction.SymbolicReference.TheVariants.{New, Getfield, Putfield, Getstatic, Putstatic, Invokevirtual, Invokespecial, Invokestatic, Invokeinterface, Checkcast, Instanceof, Anewarray, Multianewarray, LdcClass}
 use Rattle.jvm_model.specs.Codes.Originals.{original}
 use Rattle.jvm_model.specs.Codes.Places.{read_from}
 use Rattle.jvm_model.specs.Basis.Programs.{class_at, place_of_method}
@@ -103,12 +106,3 @@ module _ (p : Program) (loaded : List ℕ) where
             → AreFine (symbolic_references_of (unwrap_or (option_and_then (λ (place : MethodPlace). option_and_then (λ c. operations_in c place.position) (class_at p place.class)) o) []))
         by None e = tt
         by (Some place) e = class-fine place (class_at p place.class) e refl
-
--- the same of what is seen as them
-pub viewed-fine : {A : Type 0} (P : SymbolicReference → Type 0) (view : A → SymbolicReference) (xs : List A) (ns : List SymbolicReference) → map view xs ≡ ns → AllByRecursion P ns
-    → AllByRecursion (λ x. P (view x)) xs
-viewed-fine {A = A} P view xs ns e all = by xs (subst (AllByRecursion P) (sym e) all)
-  where
-    by : (xs : List A) → AllByRecursion P (map view xs) → AllByRecursion (λ x. P (view x)) xs
-    by [] all = tt
-    by (x ∷ rest) all = (all.0, by rest all.1)

@@ -1,5 +1,5 @@
 -- The class of an invokespecial of a method that was read is loaded where the method's is.
-use Rattle.std.proofs.Common.{◌≡◌, ℕ, List, [], ◌++◌, ◌∷◌, ap, refl, ◌∙◌}
+use Rattle.std.proofs.Common.{◌≡◌, ℕ, List, [], ◌++◌, ◌∷◌, ap, refl, subst, sym, ◌∙◌}
 use Rattle.std.specs.Prelude.{Some, flat_map, ◌||◌}
 use Rattle.std.specs.List.{AllByRecursion}
 use Rattle.jvm_model.specs.declared.program.Program.{Program}
@@ -7,26 +7,25 @@ use Rattle.jvm_model.specs.Classes.Load.{is_among}
 use Rattle.jvm_model.specs.Profiling.Revelation.{symbolic_references_of}
 use Rattle.jvm_model.specs.Soundness.Sound.{HasClass, HasLoadedCaller, IsFit}
 use Rattle.jvm_model.specs.Profiling.Targets.{begun_by, operations_of}
-use Rattle.symbolic_references.specs.declared.symbolic_reference.SymbolicReference.{SymbolicReference}
-use Rattle.symbolic_references.specs.Names.{symbolic_view}
+use Rattle.jvm_model.specs.declared.instruction.SymbolicReference.{SymbolicReference}
 use Rattle.call_revelation.specs.declared.uses.Use.{Use}
 use Rattle.call_revelation.specs.Books.{Codes, IsBook, called_from, code_at, methods_gathered, symbolic_reference_at, of_entered}
 use Rattle.call_revelation.specs.Tables.{Adds, list_at}
 use Rattle.call_revelation.proofs.Adding.{adds-then}
-use Rattle.call_revelation.proofs.CallerLemmas.{callers-loaded, viewed-fine}
+use Rattle.call_revelation.proofs.CallerLemmas.{callers-loaded}
 use Rattle.call_revelation.proofs.First.{all-get}
 use Rattle.call_revelation.proofs.LoadStep.{read-at}
 
 module _ (p : Program) (loaded : List ℕ) (codes : Codes) (waiting calls : List (List Use)) (book : IsBook p codes waiting calls) (fit : IsFit p) where
-  pub caller-there : (u : Use) (n : SymbolicReference) → symbolic_reference_at codes u ≡ Some n → HasClass p loaded u.caller → HasLoadedCaller p loaded (symbolic_view n)
+  pub caller-there : (u : Use) (n : SymbolicReference) → symbolic_reference_at codes u ≡ Some n → HasClass p loaded u.caller → HasLoadedCaller p loaded n
   caller-there u n e has =
-      all-get (HasLoadedCaller p loaded) (symbolic_references_of (operations_of p u.caller)) u.at (symbolic_view n) (callers-loaded p loaded fit u.caller has)
+      all-get (HasLoadedCaller p loaded) (symbolic_references_of (operations_of p u.caller)) u.at n (callers-loaded p loaded fit u.caller has)
       (read-at p codes waiting calls book [] u (code_at codes u.caller) n refl e)
 
   pub callers-there : (method : ℕ) (ns : List SymbolicReference) → code_at codes method ≡ Some ns → HasClass p loaded method
-      → AllByRecursion (λ (n : SymbolicReference). HasLoadedCaller p loaded (symbolic_view n)) ns
+      → AllByRecursion (HasLoadedCaller p loaded) ns
   callers-there method ns e has =
-      viewed-fine (HasLoadedCaller p loaded) symbolic_view ns (symbolic_references_of (operations_of p method)) (book.read method ns e) (callers-loaded p loaded fit method has)
+      subst (AllByRecursion (HasLoadedCaller p loaded)) (sym (book.read method ns e)) (callers-loaded p loaded fit method has)
 
 -- what was gathered of calls and of what waits
 pub gathered-both : (p : Program) (loaded : List ℕ) (new : ℕ) (entered : List ℕ) (codes : Codes) (waiting calls : List (List Use)) (supertypes all none called found : List ℕ)

@@ -6,8 +6,11 @@ use Rattle.const_pool.specs.declared.class.ClassFile.{ClassFile}
 use Rattle.code_model.specs.declared.instr.Instr.{Instr}
 use Rattle.jvm_model.specs.Codes.Lines.{operation_of}
 use Rattle.prepared_code.specs.declared.line.Line.{Line}
-use Rattle.jvm_model.specs.Basis.Data.{Operation, Within, Named, Athrow, Monitor, Newarray, Arraylength, LoadElement, StoreElement, LdcString, Local, Return}
-use Rattle.jvm_model.specs.Instructions.SymbolicReference.{New, Getfield, Putfield, Getstatic, Putstatic, Invokevirtual, Invokespecial, Invokestatic, Invokeinterface, Checkcast, Instanceof, Anewarray, Multianewarray, LdcClass}
+use Rattle.jvm_model.specs.declared.instruction.Operation.{Operation}
+use Rattle.jvm_model.specs.declared.instruction.Operation.TheVariants.{Within, Named, Athrow, Monitor, Newarray, Arraylength, LoadElement, StoreElement, LdcString}
+use Rattle.jvm_model.specs.declared.instruction.Local.{Local}
+use Rattle.jvm_model.specs.declared.instruction.Local.TheVariants.{Return}
+use Rattle.jvm_model.specs.declared.instruction.SymbolicReference.TheVariants.{New, Getfield, Putfield, Getstatic, Putstatic, Invokevirtual, Invokespecial, Invokestatic, Invokeinterface, Checkcast, Instanceof, Anewarray, Multianewarray, LdcClass}
 use Rattle.jvm_model.specs.Profiling.Revelation.{symbolic_reference_in}
 use Rattle.prepared_code.specs.Lines.{action_of, line_of, line_with, local_action}
 use Rattle.call_revelation.specs.CodeReferences.{begins_by}

@@ -6,7 +6,8 @@ use Rattle.std.specs.Option.{option_and_then, option_map_or, option_to_list}
 use Rattle.jvm_model.specs.declared.program.Program.{Program}
 use Rattle.jvm_model.specs.Classes.Load.{is_among}
 use Rattle.jvm_model.specs.Classes.Lookup.{is_subtype}
-use Rattle.jvm_model.specs.Instructions.SymbolicReference as model
+use Rattle.jvm_model.specs.Instructions.SymbolicReference.{resolved_name}
+use Rattle.jvm_model.specs.declared.instruction.SymbolicReference.TheVariants as model
 use Rattle.jvm_model.specs.Profiling.Points.{is_target}
 use Rattle.jvm_model.specs.Basis.Programs.{class_named}
 use Rattle.jvm_model.specs.Profiling.Revelation.{gained_by, gained_in, is_named, symbolic_references_of}
@@ -14,8 +15,7 @@ use Rattle.jvm_model.specs.Soundness.Sound.{HasSupertypes}
 use Rattle.jvm_model.specs.Profiling.Targets.{begun_by, loaded_class_named, operations_of, targets_in}
 use Rattle.jvm_model.proofs.Revealing.Gained.{gained-targets}
 use Rattle.jvm_model.proofs.Revealing.Revealed.{is_gained, load-targets}
-use Rattle.symbolic_references.specs.declared.symbolic_reference.SymbolicReference.{SymbolicReference}
-use Rattle.symbolic_references.specs.Names.{symbolic_view}
+use Rattle.jvm_model.specs.declared.instruction.SymbolicReference.{SymbolicReference}
 use Rattle.call_revelation.specs.declared.uses.Use.{Use}
 use Rattle.call_revelation.specs.Books.{Codes, IsBook, called_by, called_from, called_on, code_at, methods_gathered, is_use, symbolic_reference_at, of_entered}
 use Rattle.call_revelation.specs.CalledClasses.{HasUppers, called_class}
@@ -76,11 +76,6 @@ from-any f (x ∷ xs) h =
       | inr b ↦ let i = from-any f xs b in record { item = i.item; there = or-later (i.item == x) (is_among i.item xs) i.there; holds = i.holds }
     ]
 
-pub map-get : {A B : Type 0} (f : A → B) (xs : List A) (i : ℕ) (x : A) → slice_get xs i ≡ Some x → slice_get (map f xs) i ≡ Some (f x)
-map-get f [] i x e = absurd (none-some x e)
-map-get f (y ∷ xs) zero x e = ap (λ z. Some (f z)) (some-some y x e)
-map-get f (y ∷ xs) (suc i) x e = map-get f xs i x e
-
 pub flat-at : {A : Type 0} (f : A → List ℕ) (xs : List A) (i : ℕ) (x : A) (m : ℕ) → slice_get xs i ≡ Some x → is_among m (f x) ≡ true
     → is_among m (flat_map f xs) ≡ true
 flat-at f [] i x m e h = absurd (none-some x e)
@@ -89,53 +84,43 @@ flat-at f (y ∷ xs) zero x m e h =
 flat-at f (y ∷ xs) (suc i) x m e h =
     among-append m (f y) (flat_map f xs) ∙ or-later (is_among m (f y)) (is_among m (flat_map f xs)) (flat-at f xs i x m e h)
 
-pub record IsMapped (A B : Type 0) (f : A → B) (xs : List A) (i : ℕ) (y : B) : Type 0 where
-  pub item : A
-  pub there : slice_get xs i ≡ Some item
-  pub is : f item ≡ y
-
-pub map-from : {A B : Type 0} (f : A → B) (xs : List A) (i : ℕ) (y : B) → slice_get (map f xs) i ≡ Some y → IsMapped A B f xs i y
-map-from f [] i y e = absurd (none-some y e)
-map-from f (x ∷ xs) zero y e = record { item = x; there = refl; is = some-some (f x) y e }
-map-from f (x ∷ xs) (suc i) y e = let r = map-from f xs i y e in record { item = r.item; there = r.there; is = r.is }
-
 -- ---- what is kept
 
 module _ (p : Program) (codes : Codes) (waiting calls : List (List Use)) (book : IsBook p codes waiting calls) (entered : List ℕ) where
   -- an instruction of an entered method, and what it gives
-  pub record IsEntered (f : model.SymbolicReference → List ℕ) (u : Use) (m : ℕ) : Type 0 where
+  pub record IsEntered (f : SymbolicReference → List ℕ) (u : Use) (m : ℕ) : Type 0 where
     pub caller : is_among u.caller entered ≡ true
-    pub naming : model.SymbolicReference
+    pub naming : SymbolicReference
     pub there : slice_get (symbolic_references_of (operations_of p u.caller)) u.at ≡ Some naming
     pub within : is_among m (f naming) ≡ true
 
   pub read-at : (u : Use) (o : Option (List SymbolicReference)) (n : SymbolicReference) → code_at codes u.caller ≡ o → option_and_then (λ (ns : List SymbolicReference). slice_get ns u.at) o ≡ Some n
-      → slice_get (symbolic_references_of (operations_of p u.caller)) u.at ≡ Some (symbolic_view n)
+      → slice_get (symbolic_references_of (operations_of p u.caller)) u.at ≡ Some n
   read-at u None n c e = absurd (none-some n e)
-  read-at u (Some ns) n c e = subst (λ l. slice_get l u.at ≡ Some (symbolic_view n)) (book.read u.caller ns c) (map-get symbolic_view ns u.at n e)
+  read-at u (Some ns) n c e = subst (λ l. slice_get l u.at ≡ Some n) (book.read u.caller ns c) (e)
 
-  pub entered-at : (f : model.SymbolicReference → List ℕ) (u : Use) (m : ℕ) → is_among m (of_entered entered codes f u) ≡ true → IsEntered f u m
+  pub entered-at : (f : SymbolicReference → List ℕ) (u : Use) (m : ℕ) → is_among m (of_entered entered codes f u) ≡ true → IsEntered f u m
   entered-at f u m h = by (is_among u.caller entered) refl h
     where
       at : (o : Option SymbolicReference) → symbolic_reference_at codes u ≡ o → is_among u.caller entered ≡ true
-          → is_among m (option_map_or (λ (n : SymbolicReference). f (symbolic_view n)) o []) ≡ true → IsEntered f u m
+          → is_among m (option_map_or (λ (n : SymbolicReference). f n) o []) ≡ true → IsEntered f u m
       at None e c h = absurd (false_true h)
-      at (Some n) e c h = record { caller = c; naming = symbolic_view n; there = read-at u (code_at codes u.caller) n refl e; within = h }
+      at (Some n) e c h = record { caller = c; naming = n; there = read-at u (code_at codes u.caller) n refl e; within = h }
 
       by : (b : Bool) → is_among u.caller entered ≡ b
-          → is_among m (if b then option_map_or (λ (n : SymbolicReference). f (symbolic_view n)) (symbolic_reference_at codes u) [] else []) ≡ true → IsEntered f u m
+          → is_among m (if b then option_map_or (λ (n : SymbolicReference). f n) (symbolic_reference_at codes u) [] else []) ≡ true → IsEntered f u m
       by true c h = at (symbolic_reference_at codes u) refl c h
       by false c h = absurd (false_true h)
 
   -- what an instruction of an entered method gives, by its place
-  pub at-entered : (f : model.SymbolicReference → List ℕ) (caller i : ℕ) (ns : List SymbolicReference) (n : SymbolicReference) (m : ℕ) → is_among caller entered ≡ true
-      → code_at codes caller ≡ Some ns → slice_get ns i ≡ Some n → is_among m (f (symbolic_view n)) ≡ true
+  pub at-entered : (f : SymbolicReference → List ℕ) (caller i : ℕ) (ns : List SymbolicReference) (n : SymbolicReference) (m : ℕ) → is_among caller entered ≡ true
+      → code_at codes caller ≡ Some ns → slice_get ns i ≡ Some n → is_among m (f n) ≡ true
       → (u : Use) → is_use caller i u ≡ true → is_among m (of_entered entered codes f u) ≡ true
   at-entered f caller i ns n m there c e h u is =
       let same : u.caller ≡ caller = equal u.caller caller (first-of (u.caller == caller) (u.at == i) is) in
       let place : u.at ≡ i = equal u.at i (second-of (u.caller == caller) (u.at == i) is) in
-      ap (λ b. is_among m (if b then option_map_or (λ (n : SymbolicReference). f (symbolic_view n)) (symbolic_reference_at codes u) [] else [])) (ap (λ x. is_among x entered) same ∙ there)
-      ∙ (ap (λ o. is_among m (option_map_or (λ (n : SymbolicReference). f (symbolic_view n)) o []))
+      ap (λ b. is_among m (if b then option_map_or (λ (n : SymbolicReference). f n) (symbolic_reference_at codes u) [] else [])) (ap (λ x. is_among x entered) same ∙ there)
+      ∙ (ap (λ o. is_among m (option_map_or (λ (n : SymbolicReference). f n) o []))
       (ap (λ x. option_and_then (λ (ns : List SymbolicReference). slice_get ns u.at) (code_at codes x)) same
       ∙ (ap (option_and_then (λ (ns : List SymbolicReference). slice_get ns u.at)) c ∙ (ap (slice_get ns) place ∙ e)))
       ∙ h)
@@ -168,9 +153,9 @@ module _ (p : Program) (codes : Codes) (waiting calls : List (List Use)) (book :
         is-targeted one.item.caller e.caller (target-of p all (operations_of p one.item.caller) m one.item.at e.naming e.there e.within)
 
     -- a call that names this class, which is loaded
-    named-loaded : (n : model.SymbolicReference) (class : ℕ) → is_among class loaded ≡ true → is_named p class (model.resolved_name n) ≡ true
-        → loaded_class_named p loaded (model.resolved_name n) ≡ Some class
-    named-loaded n class there named = by (class_named p (model.resolved_name n)) named
+    named-loaded : (n : SymbolicReference) (class : ℕ) → is_among class loaded ≡ true → is_named p class (resolved_name n) ≡ true
+        → loaded_class_named p loaded (resolved_name n) ≡ Some class
+    named-loaded n class there named = by (class_named p (resolved_name n)) named
       where
         by : (o : Option ℕ) → option_map_or (λ found. found == class) o false ≡ true
             → option_and_then (λ (class : ℕ). if is_among class loaded then Some class else None) o ≡ Some class
@@ -181,9 +166,9 @@ module _ (p : Program) (codes : Codes) (waiting calls : List (List Use)) (book :
 
     called-there : (class : ℕ) (u : Use) → is_among class loaded ≡ true → IsEntered (called_by p new class) u m
         → is_target p (operations_of p) all entered m ≡ true
-    called-there class u there e = by (is_named p class (model.resolved_name e.naming)) refl e.within
+    called-there class u there e = by (is_named p class (resolved_name e.naming)) refl e.within
       where
-        by : (b : Bool) → is_named p class (model.resolved_name e.naming) ≡ b → is_among m (if b then called_on p new class e.naming else []) ≡ true
+        by : (b : Bool) → is_named p class (resolved_name e.naming) ≡ b → is_among m (if b then called_on p new class e.naming else []) ≡ true
             → is_target p (operations_of p) all entered m ≡ true
         by false k h = absurd (false_true h)
         by true k h =
@@ -208,19 +193,19 @@ module _ (p : Program) (codes : Codes) (waiting calls : List (List Use)) (book :
     -- ---- whatever is gained is gathered
 
     -- the class of this name, and that it is loaded
-    record IsKnown (n : model.SymbolicReference) (class : ℕ) : Type 0 where
-      named : class_named p (model.resolved_name n) ≡ Some class
+    record IsKnown (n : SymbolicReference) (class : ℕ) : Type 0 where
+      named : class_named p (resolved_name n) ≡ Some class
       there : is_among class loaded ≡ true
 
-    known : (n : model.SymbolicReference) (class : ℕ) → loaded_class_named p loaded (model.resolved_name n) ≡ Some class → IsKnown n class
-    known n class e = by (class_named p (model.resolved_name n)) refl e
+    known : (n : SymbolicReference) (class : ℕ) → loaded_class_named p loaded (resolved_name n) ≡ Some class → IsKnown n class
+    known n class e = by (class_named p (resolved_name n)) refl e
       where
-        test : (found : ℕ) (b : Bool) → class_named p (model.resolved_name n) ≡ Some found → is_among found loaded ≡ b
+        test : (found : ℕ) (b : Bool) → class_named p (resolved_name n) ≡ Some found → is_among found loaded ≡ b
             → (if b then Some found else None) ≡ Some class → IsKnown n class
         test found true o k e = let same = some-some found class e in record { named = o ∙ ap (λ x. Some x) same; there = ap (λ x. is_among x loaded) (sym same) ∙ k }
         test found false o k e = absurd (none-some class e)
 
-        by : (o : Option ℕ) → class_named p (model.resolved_name n) ≡ o
+        by : (o : Option ℕ) → class_named p (resolved_name n) ≡ o
             → option_and_then (λ (class : ℕ). if is_among class loaded then Some class else None) o ≡ Some class → IsKnown n class
         by None o e = absurd (none-some class e)
         by (Some found) o e = test found (is_among found loaded) o refl e
@@ -230,7 +215,7 @@ module _ (p : Program) (codes : Codes) (waiting calls : List (List Use)) (book :
     if-true true xs h = refl
     if-true false xs h = absurd (false_true h)
 
-    is-above : (n : model.SymbolicReference) (class : ℕ) → is_among m (called_on p new class n) ≡ true → is_subtype p new class ≡ true
+    is-above : (n : SymbolicReference) (class : ℕ) → is_among m (called_on p new class n) ≡ true → is_subtype p new class ≡ true
     is-above (model.Invokevirtual r) class h = if-true (is_subtype p new class) _ h
     is-above (model.Invokeinterface r) class h = if-true (is_subtype p new class) _ h
     is-above (model.New name) class h = absurd (false_true h)
@@ -246,42 +231,42 @@ module _ (p : Program) (codes : Codes) (waiting calls : List (List Use)) (book :
     is-above (model.Multianewarray name dimensions) class h = absurd (false_true h)
     is-above (model.LdcClass name) class h = absurd (false_true h)
 
-    named-by : (n : model.SymbolicReference) (class : ℕ) → is_named p class (model.resolved_name n) ≡ true → class_named p (model.resolved_name n) ≡ Some class
-    named-by n class k = by (class_named p (model.resolved_name n)) refl k
+    named-by : (n : SymbolicReference) (class : ℕ) → is_named p class (resolved_name n) ≡ true → class_named p (resolved_name n) ≡ Some class
+    named-by n class k = by (class_named p (resolved_name n)) refl k
       where
-        by : (o : Option ℕ) → class_named p (model.resolved_name n) ≡ o → option_map_or (λ found. found == class) o false ≡ true
-            → class_named p (model.resolved_name n) ≡ Some class
+        by : (o : Option ℕ) → class_named p (resolved_name n) ≡ o → option_map_or (λ found. found == class) o false ≡ true
+            → class_named p (resolved_name n) ≡ Some class
         by None o k = absurd (false_true k)
         by (Some found) o k = o ∙ ap (λ x. Some x) (equal found class k)
 
-    is-named : (n : model.SymbolicReference) (class : ℕ) → class_named p (model.resolved_name n) ≡ Some class → is_named p class (model.resolved_name n) ≡ true
+    is-named : (n : SymbolicReference) (class : ℕ) → class_named p (resolved_name n) ≡ Some class → is_named p class (resolved_name n) ≡ true
     is-named n class e = ap (λ o. option_map_or (λ found. found == class) o false) e ∙ itself class
 
     read-there : (caller i : ℕ) (ns : List SymbolicReference) (n : SymbolicReference) → code_at codes caller ≡ Some ns → slice_get ns i ≡ Some n
-        → slice_get (symbolic_references_of (operations_of p caller)) i ≡ Some (symbolic_view n)
-    read-there caller i ns n c e = subst (λ l. slice_get l i ≡ Some (symbolic_view n)) (book.read caller ns c) (map-get symbolic_view ns i n e)
+        → slice_get (symbolic_references_of (operations_of p caller)) i ≡ Some n
+    read-there caller i ns n c e = subst (λ l. slice_get l i ≡ Some n) (book.read caller ns c) (e)
 
     is-gathered : (caller i : ℕ) (ns : List SymbolicReference) (n : SymbolicReference) → is_among caller entered ≡ true → code_at codes caller ≡ Some ns → slice_get ns i ≡ Some n
-        → NamesIt p loaded new (symbolic_view n) m ⊎ CallsIt p loaded new (symbolic_view n) m → (is_among m called || is_among m waited) ≡ true
+        → NamesIt p loaded new n m ⊎ CallsIt p loaded new n m → (is_among m called || is_among m waited) ≡ true
     is-gathered caller i ns n there c e (inl it) =
         or-later (is_among m called) (is_among m waited)
         (any-flat (of_entered entered codes (begun_by p all)) (is_use caller i) (list_at waiting new) m
-        (book.waits caller i ns n c e new (named-by (symbolic_view n) new it.named))
+        (book.waits caller i ns n c e new (named-by n new it.named))
         (at-entered (begun_by p all) caller i ns n m there c e it.begun))
     is-gathered caller i ns n there c e (inr it) =
-        let k = known (symbolic_view n) it.class it.named in
+        let k = known n it.class it.named in
         or-first (is_among m called) (is_among m waited)
         (to_flat (called_from p loaded new entered codes calls) uppers it.class m
         (whole caller it.class there
-        (flat-at (called_class p) (symbolic_references_of (operations_of p caller)) i (symbolic_view n) it.class (read-there caller i ns n c e)
-        (ap (λ b. is_among it.class (if b then option_to_list (class_named p (model.resolved_name (symbolic_view n))) else [])) it.call
+        (flat-at (called_class p) (symbolic_references_of (operations_of p caller)) i n it.class (read-there caller i ns n c e)
+        (ap (λ b. is_among it.class (if b then option_to_list (class_named p (resolved_name n)) else [])) it.call
         ∙ (ap (λ o. is_among it.class (option_to_list o)) k.named ∙ or-first (it.class == it.class) false (itself it.class))))
-        (is-above (symbolic_view n) it.class it.called))
+        (is-above n it.class it.called))
         (ap (λ b. is_among m (if b then flat_map (of_entered entered codes (called_by p new it.class)) (list_at calls it.class) else [])) k.there
         ∙ any-flat (of_entered entered codes (called_by p new it.class)) (is_use caller i) (list_at calls it.class) m
         (book.called caller i ns n c e it.call it.class k.named)
         (at-entered (called_by p new it.class) caller i ns n m there c e
-        (ap (λ b. is_among m (if b then called_on p new it.class (symbolic_view n) else [])) (is-named (symbolic_view n) it.class k.named) ∙ it.called))))
+        (ap (λ b. is_among m (if b then called_on p new it.class n else [])) (is-named n it.class k.named) ∙ it.called))))
 
     record HasCode (caller : ℕ) : Type 0 where
       namings : List SymbolicReference
@@ -296,9 +281,9 @@ module _ (p : Program) (codes : Codes) (waiting calls : List (List Use)) (book :
         let any = from-any (λ caller. is_among m (gained_in p loaded new (operations_of p caller))) entered h in
         let has = has-code any.item (code_at codes any.item) refl (booked any.item any.there) in
         let one = gain-from p loaded new (operations_of p any.item) m any.holds in
-        let read = map-from symbolic_view has.namings one.index one.naming (ap (λ l. slice_get l one.index) (book.read any.item has.namings has.there) ∙ one.there) in
-        is-gathered any.item one.index has.namings read.item any.there has.there read.there
-        (gained-either p loaded new (symbolic_view read.item) m (ap (λ n. is_among m (gained_by p loaded new n)) read.is ∙ one.within))
+        let read : slice_get has.namings one.index ≡ Some one.naming =
+        ap (λ l. slice_get l one.index) (book.read any.item has.namings has.there) ∙ one.there in
+        is-gathered any.item one.index has.namings one.naming any.there has.there read (gained-either p loaded new one.naming m one.within)
 
     -- ---- both
 

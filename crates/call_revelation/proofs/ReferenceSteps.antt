@@ -6,13 +6,11 @@ use Rattle.std.specs.Option.{option_and_then, option_map, option_map_or, option_
 use Rattle.const_pool.specs.declared.class.ClassFile.{ClassFile}
 use Rattle.code_model.specs.declared.instr.Instr.{Instr}
 use Rattle.code_model.specs.Instructions.{end_of, instruction_at}
-use Rattle.jvm_model.specs.Basis.Data.{Operation}
+use Rattle.jvm_model.specs.declared.instruction.Operation.{Operation}
 use Rattle.jvm_model.specs.Codes.Lines.{operation_of}
-use Rattle.jvm_model.specs.Instructions.SymbolicReference as model
 use Rattle.jvm_model.specs.Codes.Places.{read_from}
 use Rattle.jvm_model.specs.Profiling.Revelation.{symbolic_reference_in}
-use Rattle.symbolic_references.specs.declared.symbolic_reference.SymbolicReference.{SymbolicReference}
-use Rattle.symbolic_references.specs.Names.{symbolic_view}
+use Rattle.jvm_model.specs.declared.instruction.SymbolicReference.{SymbolicReference}
 use Rattle.call_revelation.specs.CodeReferences.{symbolic_references_from}
 
 some-some : {A : Type 0} (x y : A) → Some x ≡ Some y → x ≡ y
@@ -37,28 +35,28 @@ append-nothing : {A : Type 0} (xs : List A) → xs ++ [] ≡ xs
 append-nothing [] = refl
 append-nothing (x ∷ xs) = ap (λ l. x ∷ l) (append-nothing xs)
 
-append-one : {A B : Type 0} (view : A → B) (xs : List A) (x : A) (rest : List B) → map view (xs ++ x ∷ []) ++ rest ≡ map view xs ++ view x ∷ rest
-append-one view [] x rest = refl
-append-one view (y ∷ ys) x rest = ap (λ l. view y ∷ l) (append-one view ys x rest)
+append-one : {A : Type 0} (xs : List A) (x : A) (rest : List A) → (xs ++ x ∷ []) ++ rest ≡ xs ++ x ∷ rest
+append-one [] x rest = refl
+append-one (y ∷ ys) x rest = ap (λ l. y ∷ l) (append-one ys x rest)
 
-module _ (c : ClassFile) (code : List ℕ) (ns : List SymbolicReference) (whole : List model.SymbolicReference) (at n left : ℕ) (i : Instr)
-    (there : instruction_at code at ≡ Some i) (more : left ≡ suc n) (is : map symbolic_view ns ++ symbolic_references_from c left code at ≡ whole) where
-  read-on : (o : Option model.SymbolicReference) → o ≡ option_and_then symbolic_reference_in (operation_of c i)
-      → map symbolic_view ns ++ cons_option o (symbolic_references_from c n code (end_of i)) ≡ whole
+module _ (c : ClassFile) (code : List ℕ) (ns : List SymbolicReference) (whole : List SymbolicReference) (at n left : ℕ) (i : Instr)
+    (there : instruction_at code at ≡ Some i) (more : left ≡ suc n) (is : ns ++ symbolic_references_from c left code at ≡ whole) where
+  read-on : (o : Option SymbolicReference) → o ≡ option_and_then symbolic_reference_in (operation_of c i)
+      → ns ++ cons_option o (symbolic_references_from c n code (end_of i)) ≡ whole
   read-on o e =
-      ap (λ o. map symbolic_view ns ++ cons_option o (symbolic_references_from c n code (end_of i))) e
-      ∙ (ap (λ l. map symbolic_view ns ++ l) (sym (one-read c code at n i there)) ∙ (ap (λ k. map symbolic_view ns ++ symbolic_references_from c k code at) (sym more) ∙ is))
+      ap (λ o. ns ++ cons_option o (symbolic_references_from c n code (end_of i))) e
+      ∙ (ap (λ l. ns ++ l) (sym (one-read c code at n i there)) ∙ (ap (λ k. ns ++ symbolic_references_from c k code at) (sym more) ∙ is))
 
   -- it can begin a method
-  one-pushed : (x : SymbolicReference) → Some (symbolic_view x) ≡ option_and_then symbolic_reference_in (operation_of c i)
-      → map symbolic_view (ns ++ x ∷ []) ++ symbolic_references_from c n code (end_of i) ≡ whole
-  one-pushed x e = append-one symbolic_view ns x (symbolic_references_from c n code (end_of i)) ∙ read-on (Some (symbolic_view x)) e
+  one-pushed : (x : SymbolicReference) → Some x ≡ option_and_then symbolic_reference_in (operation_of c i)
+      → (ns ++ x ∷ []) ++ symbolic_references_from c n code (end_of i) ≡ whole
+  one-pushed x e = append-one ns x (symbolic_references_from c n code (end_of i)) ∙ read-on (Some x) e
 
   -- or it can't
-  one-passed : None ≡ option_and_then symbolic_reference_in (operation_of c i) → map symbolic_view ns ++ symbolic_references_from c n code (end_of i) ≡ whole
+  one-passed : None ≡ option_and_then symbolic_reference_in (operation_of c i) → ns ++ symbolic_references_from c n code (end_of i) ≡ whole
   one-passed e = read-on None e
 
-  pub one-more : (o : Option SymbolicReference) → option_map symbolic_view o ≡ option_and_then symbolic_reference_in (operation_of c i)
-      → map symbolic_view (ns ++ option_to_list o) ++ symbolic_references_from c n code (end_of i) ≡ whole
-  one-more None e = ap (λ l. map symbolic_view l ++ symbolic_references_from c n code (end_of i)) (append-nothing ns) ∙ one-passed e
+  pub one-more : (o : Option SymbolicReference) → o ≡ option_and_then symbolic_reference_in (operation_of c i)
+      → (ns ++ option_to_list o) ++ symbolic_references_from c n code (end_of i) ≡ whole
+  one-more None e = ap (λ l. l ++ symbolic_references_from c n code (end_of i)) (append-nothing ns) ∙ one-passed e
   one-more (Some x) e = one-pushed x e

@@ -4,13 +4,15 @@ use Rattle.std.specs.Prelude.{filter, flat_map, Option, Some, None, ◌||◌, if
 use Rattle.std.specs.Option.{option_and_then, option_map_or, option_to_list}
 use Rattle.const_pool.specs.References.{Reference}
 use Rattle.jvm_model.specs.declared.program.Program.{Program}
-use Rattle.jvm_model.specs.Basis.Data.{Operation, Within, Named, Athrow, Monitor, Newarray, Arraylength, LoadElement, StoreElement, LdcString}
+use Rattle.jvm_model.specs.declared.instruction.Operation.{Operation}
+use Rattle.jvm_model.specs.declared.instruction.Operation.TheVariants.{Within, Named, Athrow, Monitor, Newarray, Arraylength, LoadElement, StoreElement, LdcString}
 use Rattle.jvm_model.specs.Instructions.FieldRules.{is_static_field}
 use Rattle.jvm_model.specs.Instructions.InvocationRules.{Selecting, Virtual, OfInterface, Special, names_interface, selected_by}
 use Rattle.jvm_model.specs.Basis.KindNumbers.{user_count}
 use Rattle.jvm_model.specs.Classes.Load.{is_among}
 use Rattle.jvm_model.specs.Classes.Lookup.{MemberPlace, is_subtype, resolved_field, resolved_method}
-use Rattle.jvm_model.specs.Instructions.SymbolicReference.{SymbolicReference, New, Getfield, Putfield, Getstatic, Putstatic, Invokevirtual, Invokespecial, Invokestatic, Invokeinterface, Checkcast, Instanceof, Anewarray, Multianewarray, LdcClass}
+use Rattle.jvm_model.specs.declared.instruction.SymbolicReference.{SymbolicReference}
+use Rattle.jvm_model.specs.declared.instruction.SymbolicReference.TheVariants.{New, Getfield, Putfield, Getstatic, Putstatic, Invokevirtual, Invokespecial, Invokestatic, Invokeinterface, Checkcast, Instanceof, Anewarray, Multianewarray, LdcClass}
 use Rattle.jvm_model.specs.Basis.Programs.{class_named, initializer_of}
 use Rattle.jvm_model.specs.Classes.Selection.{is_static}
 use Rattle.jvm_model.specs.Profiling.Targets.{begun_by, begun_by_operation, begun_field, begun_on, begun_static, class_with_methods, method_coded, coded_at, found_where, initializers, invoked_by, is_array_type, loaded_class_named, selections, targets_in, where_loaded}

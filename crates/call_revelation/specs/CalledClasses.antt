@@ -4,7 +4,8 @@ use Rattle.std.specs.Option.{option_to_list}
 use Rattle.jvm_model.specs.declared.program.Program.{Program}
 use Rattle.jvm_model.specs.Classes.Load.{is_among}
 use Rattle.jvm_model.specs.Classes.Lookup.{is_subtype}
-use Rattle.jvm_model.specs.Instructions.SymbolicReference as model
+use Rattle.jvm_model.specs.declared.instruction.SymbolicReference.{SymbolicReference}
+use Rattle.jvm_model.specs.Instructions.SymbolicReference.{resolved_name}
 use Rattle.jvm_model.specs.Basis.Programs.{class_named}
 use Rattle.jvm_model.specs.Profiling.Revelation.{symbolic_references_of}
 use Rattle.jvm_model.specs.Profiling.Targets.{operations_of}
@@ -13,8 +14,8 @@ use Rattle.call_revelation.specs.Books.{is_call}
 use Rattle.call_revelation.specs.Tables.{list_at}
 
 -- the class that a call names
-abbrev pub called_class : Program → model.SymbolicReference → List ℕ
-called_class p n = if is_call n then option_to_list (class_named p (model.resolved_name n)) else []
+abbrev pub called_class : Program → SymbolicReference → List ℕ
+called_class p n = if is_call n then option_to_list (class_named p (resolved_name n)) else []
 
 -- the classes that the calls of a method's original code name
 abbrev pub classes_called : Program → ℕ → List ℕ

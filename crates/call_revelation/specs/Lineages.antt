@@ -6,7 +6,9 @@ use Rattle.jvm_model.specs.Instructions.InvocationRules.{Selecting, Virtual, OfI
 use Rattle.jvm_model.specs.Basis.KindNumbers.{user_count}
 use Rattle.jvm_model.specs.Classes.Load.{is_among}
 use Rattle.jvm_model.specs.Classes.Lookup.{MemberPlace, interfaces_of, is_subtype, superclass_of}
-use Rattle.jvm_model.specs.Instructions.SymbolicReference as model
+use Rattle.jvm_model.specs.declared.instruction.SymbolicReference.{SymbolicReference}
+use Rattle.jvm_model.specs.Instructions.SymbolicReference.{resolved_name}
+use Rattle.jvm_model.specs.declared.instruction.SymbolicReference.TheVariants as model
 use Rattle.jvm_model.specs.Basis.Programs.{initializer_of, number_of_method}
 use Rattle.jvm_model.specs.Classes.Selection.{method_selected}
 use Rattle.jvm_model.specs.Profiling.Targets.{begun_field, begun_on, begun_static, initializers, where_loaded}
@@ -86,7 +88,7 @@ abbrev pub initializer_in : Program → List ℕ → ℕ → Option ℕ
 initializer_in p loaded class = if is_among class loaded then initializer_of p class else None
 
 -- what an instruction begins that names this class; invokespecial asks for the class whose methods the named type has
-abbrev pub begun_at : Program → List ℕ → model.SymbolicReference → ℕ → List ℕ
+abbrev pub begun_at : Program → List ℕ → SymbolicReference → ℕ → List ℕ
 begun_at p loaded (model.New name) class = initializers p loaded class
 begun_at p loaded (model.Getstatic r) class = begun_field p loaded class r
 begun_at p loaded (model.Putstatic r) class = begun_field p loaded class r
@@ -95,5 +97,5 @@ begun_at p loaded (model.Invokevirtual r) class = begun_on p loaded class Virtua
 begun_at p loaded (model.Invokeinterface r) class = begun_on p loaded class OfInterface r
 begun_at p loaded _ class = []
 
-abbrev pub begun_named : Program → List ℕ → model.SymbolicReference → List ℕ
-begun_named p loaded n = where_loaded p loaded (model.resolved_name n) (begun_at p loaded n)
+abbrev pub begun_named : Program → List ℕ → SymbolicReference → List ℕ
+begun_named p loaded n = where_loaded p loaded (resolved_name n) (begun_at p loaded n)

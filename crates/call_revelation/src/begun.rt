@@ -4,15 +4,14 @@ ghost use Rattle.std.specs.Prelude.{◌≡◌, ◌<◌, ℕ, List, filter_map, l
 ghost use Rattle.std.specs.Option.{option_and_then, option_to_list};
 ghost use Rattle.jvm_model.specs.Instructions.InvocationRules.{Special};
 ghost use Rattle.jvm_model.specs.Classes.Load.{is_among};
-ghost use Rattle.jvm_model.specs.Instructions.SymbolicReference.{Invokespecial};
+ghost use Rattle.jvm_model.specs.declared.instruction.SymbolicReference.TheVariants.{Invokespecial};
 ghost use Rattle.jvm_model.specs.Basis.Programs.{class_named, initializer_name};
 ghost use Rattle.jvm_model.specs.Soundness.Sound.{HasLoadedCaller};
 ghost use Rattle.jvm_model.specs.Classes.SuperCalls.{invoked_special};
 ghost use Rattle.class_index.specs.Members.{wanted_view};
 ghost use Rattle.class_index.specs.Orders.{with_classes};
 ghost use Rattle.class_linker.specs.Linkers.{IsLoaded};
-ghost use Rattle.symbolic_references.specs.Members.{at_place, reference_of};
-ghost use Rattle.symbolic_references.specs.Names.{symbolic_view};
+ghost use Rattle.symbolic_references.specs.Members.{at_place};
 ghost use Rattle.symbolic_references.specs.Numbers.{AreNumbers};
 ghost use Rattle.call_revelation.specs.Lineages.{AreKnown, begun_at, begun_named, initializer_in};
 ghost use Rattle.call_revelation.specs.Lineages.{number_of, selecting, selection_of};
@@ -28,10 +27,9 @@ use crate::lookup::{
 use class_index::{Order, Wanted};
 use class_linker::Linker;
 use jf_bytes::{NoMemory, Text16, from_utf8};
+use jvm_model::{MemberName, SymbolicReference};
 use std::alloc::Global;
-use symbolic_references::{
-    DeclaredMember, MemberName, MethodNumbers, SymbolicReference, resolved_name,
-};
+use symbolic_references::{DeclaredMember, MethodNumbers, resolved_name};
 
 // ---- of one method or class
 
@@ -153,7 +151,7 @@ fn add_begun_on(
     requires class { class < length linker.now.program.classes }
     requires loaded { is_among class lineage.now.loaded ≡ true }
     ensures { OnOk result (Adds found.old found.new (begun_on linker.now.program lineage.now.loaded
-        class (selecting interface) (reference_of member.now))) }
+        class (selecting interface) member.now)) }
 {
     match method_found(linker, class, interface, false, member) {
         Some(m) => add_selections(alloc, linker, numbers, lineage, interface, class, m, found),
@@ -195,7 +193,7 @@ fn add_special_on(
     requires caller { (class : ℕ) → class_named linker.now.program caller.now ≡ Some class →
         IsLoaded linker.now class }
     ensures { (loaded : List ℕ) → OnOk result (Adds found.old found.new (begun_on linker.now.program
-        loaded class (Special caller.now interface) (reference_of member.now))) }
+        loaded class (Special caller.now interface) member.now)) }
 {
     match method_found(linker, class, interface, false, member) {
         Some(m) => add_number(found, special_number(linker, numbers, caller, m)),
@@ -217,9 +215,9 @@ fn add_special(
     requires caller { (class : ℕ) → class_named linker.now.program caller.now ≡ Some class →
         IsLoaded linker.now class }
     ensures { OnOk result (Adds found.old found.new (begun_by linker.now.program lineage.now.loaded
-        (Invokespecial caller.now (reference_of member.now) interface))) }
+        (Invokespecial caller.now member.now interface))) }
 {
-    match class_with_methods(linker, lineage, &member.class) {
+    match class_with_methods(linker, lineage, member.class()) {
         Some(class) => add_special_on(linker, numbers, caller, interface, class, member, found),
         None => Ok(()),
     }
@@ -238,7 +236,7 @@ fn add_static_on(
     requires known { AreKnown linker.now numbers.now lineage.now }
     requires loaded { is_among class lineage.now.loaded ≡ true }
     ensures { OnOk result (Adds found.old found.new (begun_static linker.now.program
-        lineage.now.loaded class (reference_of member.now))) }
+        lineage.now.loaded class member.now)) }
 {
     let Some(m) = method_found(linker, class, false, true, member) else {
         return Ok(());
@@ -260,7 +258,7 @@ fn add_field_on(
     requires known { AreKnown linker.now numbers.now lineage.now }
     requires loaded { is_among class lineage.now.loaded ≡ true }
     ensures { OnOk result (Adds found.old found.new (begun_field linker.now.program
-        lineage.now.loaded class (reference_of member.now))) }
+        lineage.now.loaded class member.now)) }
 {
     match static_field_found(linker, class, member) {
         Some(_) => add_initializers(alloc, linker, numbers, lineage, class, found),
@@ -282,7 +280,7 @@ fn add_begun_at(
     requires class { class < length linker.now.program.classes }
     requires loaded { is_among class lineage.now.loaded ≡ true }
     ensures { OnOk result (Adds found.old found.new (begun_at linker.now.program
-        lineage.now.loaded (symbolic_view naming.now) class)) }
+        lineage.now.loaded naming.now class)) }
 {
     match naming {
         SymbolicReference::New(_) => add_initializers(
@@ -321,7 +319,7 @@ fn add_begun_named(
 ) -> Result<(), NoMemory>
     requires known { AreKnown linker.now numbers.now lineage.now }
     ensures { OnOk result (Adds found.old found.new (begun_named linker.now.program
-        lineage.now.loaded (symbolic_view naming.now))) }
+        lineage.now.loaded naming.now)) }
 {
     match loaded_class(linker, lineage, resolved_name(naming)) {
         Some(class) => add_begun_at(alloc, linker, numbers, lineage, class, naming, found),
@@ -340,9 +338,9 @@ pub fn add_begun(
 ) -> Result<(), NoMemory>
     requires known { AreKnown linker.now numbers.now lineage.now }
     requires caller { HasLoadedCaller linker.now.program linker.now.loaded
-        (symbolic_view naming.now) }
+        naming.now }
     ensures { OnOk result (Adds found.old found.new
-        (begun_by linker.now.program lineage.now.loaded (symbolic_view naming.now))) }
+        (begun_by linker.now.program lineage.now.loaded naming.now)) }
 {
     match naming {
         SymbolicReference::Invokespecial(caller, method, interface) => {

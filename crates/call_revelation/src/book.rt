@@ -7,7 +7,6 @@ ghost use Rattle.jvm_model.specs.Instructions.SymbolicReference.{resolved_name};
 ghost use Rattle.jvm_model.specs.Basis.Programs.{class_named};
 ghost use Rattle.jvm_model.specs.Profiling.Revelation.{is_named, symbolic_references_of};
 ghost use Rattle.jvm_model.specs.Profiling.Targets.{operations_of};
-ghost use Rattle.symbolic_references.specs.Names.{symbolic_view};
 ghost use Rattle.prepared_code.specs.Prepared.{HasShortCodes};
 ghost use Rattle.call_revelation.specs.Books.{HasMore, IsBookOf, code_at, is_noted, symbolic_reference_at};
 ghost use Rattle.call_revelation.specs.Books.{with_noted, with_use, with_uses};
@@ -18,8 +17,9 @@ use crate::tables::{add_item, no_lists};
 use crate::uses::Use;
 use class_linker::Linker;
 use jf_bytes::{NoMemory, Seq};
+use jvm_model::SymbolicReference;
 use std::alloc::Global;
-use symbolic_references::{SymbolicReference, resolved_name};
+use symbolic_references::resolved_name;
 
 /// What was read of methods, by their numbers; and by the class that an instruction names all instructions that name it, and those
 /// that select by their receiver's class. Where memory ran out there are more of them than were read.
@@ -32,7 +32,7 @@ pub struct Book {
 
 /// The class that an instruction names, where the program has one.
 pub fn class_of(linker: &Linker, naming: &SymbolicReference) -> Option<u32>
-    ensures { result ≡ class_named linker.now.program (resolved_name (symbolic_view naming.now)) }
+    ensures { result ≡ class_named linker.now.program (resolved_name naming.now) }
 {
     linker.index().class_named(resolved_name(naming).units())
 }
@@ -40,7 +40,7 @@ pub fn class_of(linker: &Linker, naming: &SymbolicReference) -> Option<u32>
 /// Whether it names this class.
 pub fn names(linker: &Linker, naming: &SymbolicReference, class: u32) -> bool
     ensures { result ≡ is_named linker.now.program class
-        (resolved_name (symbolic_view naming.now)) }
+        (resolved_name naming.now) }
 {
     match class_of(linker, naming) {
         Some(found) => found == class,
@@ -50,7 +50,7 @@ pub fn names(linker: &Linker, naming: &SymbolicReference, class: u32) -> bool
 
 /// Whether an instruction is noted, where calls alone are: those that select by their receiver's class.
 fn is_noted(calls: bool, naming: &SymbolicReference) -> bool
-    ensures { result ≡ is_noted calls (symbolic_view naming.now) }
+    ensures { result ≡ is_noted calls naming.now }
 {
     match naming {
         SymbolicReference::Invokevirtual(_) => true,
@@ -67,7 +67,7 @@ fn note_use(
     u: Use,
 ) -> Result<(), NoMemory>
     ensures { lists.new ≡ (if is_ok result
-        then with_use linker.now.program u (symbolic_view naming.now) lists.old else lists.old) }
+        then with_use linker.now.program u naming.now lists.old else lists.old) }
 {
     match class_of(linker, naming) {
         Some(class) => add_item(lists, class as usize, u),
@@ -84,7 +84,7 @@ fn note_one(
     u: Use,
 ) -> Result<(), NoMemory>
     ensures { lists.new ≡ (if is_ok result
-        then with_noted linker.now.program calls u (symbolic_view naming.now) lists.old
+        then with_noted linker.now.program calls u naming.now lists.old
         else lists.old) }
 {
     if is_noted(calls, naming) {
@@ -103,7 +103,7 @@ fn note_uses(
     namings: &[SymbolicReference],
 ) -> Result<(), NoMemory>
     ensures noted { OnOk result (lists.new ≡ with_uses linker.now.program calls caller 0
-        (map symbolic_view namings.now) lists.old) }
+        namings.now lists.old) }
     ensures more { HasMore lists.old lists.new }
 {
     for (at, naming) in namings.iter().enumerate() {

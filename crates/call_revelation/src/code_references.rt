@@ -5,7 +5,6 @@ ghost use Rattle.std.specs.List.{AllByRecursion};
 ghost use Rattle.std.specs.Option.{option_and_then, option_map, option_to_list};
 ghost use Rattle.code_model.specs.Instructions.{end_of};
 ghost use Rattle.jvm_model.specs.Codes.Lines.{operation_of};
-ghost use Rattle.symbolic_references.specs.Names.{symbolic_view};
 ghost use Rattle.prepared_code.specs.Prepared.{HasShortCode, HasShortCodes};
 ghost use Rattle.call_revelation.specs.CodeReferences.{begins_by, references_in_code, member_references};
 ghost use Rattle.jvm_model.specs.Profiling.Revelation.{symbolic_reference_in, symbolic_references_of};
@@ -15,14 +14,13 @@ use crate::tables::add_some;
 use code_model::{Instr, instr_at};
 use const_pool::{ClassFile, Member};
 use jf_bytes::{NoMemory, Seq};
-use jvm_model::Program;
+use jvm_model::{Program, SymbolicReference};
 use prepared_code::{Action, Line, code_of, line_of};
 use std::alloc::Global;
-use symbolic_references::SymbolicReference;
 
 /// What names something and can begin a method.
 fn beginning(action: Action) -> Option<SymbolicReference>
-    ensures { option_map symbolic_view result ≡ begins_by action }
+    ensures { result ≡ begins_by action }
 {
     let Action::Named(naming) = action else {
         return None;
@@ -45,7 +43,7 @@ fn beginning(action: Action) -> Option<SymbolicReference>
 
 /// What a line names, where it can begin a method.
 fn beginning_of(line: Line) -> Option<SymbolicReference>
-    ensures { option_map symbolic_view result ≡ begins_by line.action }
+    ensures { result ≡ begins_by line.action }
 {
     let Line { action, .. } = line;
     beginning(action)
@@ -58,7 +56,7 @@ fn symbolic_reference_of(
     instr: Instr,
 ) -> Result<Option<SymbolicReference>, NoMemory>
     requires { end_of instr < 2 ^ 16 }
-    ensures { IfOk result (λ n. option_map symbolic_view n
+    ensures { IfOk result (λ n. n
         ≡ option_and_then symbolic_reference_in (operation_of class.now instr)) }
 {
     match line_of(alloc, class, instr)? {
@@ -74,7 +72,7 @@ fn references_in_code(
     code: &[u8],
 ) -> Result<Seq<SymbolicReference>, NoMemory>
     requires { length code.now < 2 ^ 16 }
-    ensures { IfOk result (λ ns. map symbolic_view ns ≡ references_in_code class.now code.now) }
+    ensures { IfOk result (λ ns. ns ≡ references_in_code class.now code.now) }
 {
     let mut namings = Seq::new(alloc);
     let mut at = 0;
@@ -98,7 +96,7 @@ fn member_references(
     member: &Member,
 ) -> Result<Seq<SymbolicReference>, NoMemory>
     requires { HasShortCode member.now }
-    ensures { IfOk result (λ ns. map symbolic_view ns ≡ member_references class.now member.now) }
+    ensures { IfOk result (λ ns. ns ≡ member_references class.now member.now) }
 {
     match code_of(member) {
         Some(code) => references_in_code(alloc, class, code.code.as_slice()),
@@ -113,7 +111,7 @@ pub fn symbolic_references_of(
     method: u32,
 ) -> Result<Seq<SymbolicReference>, NoMemory>
     requires { AllByRecursion HasShortCodes program.now.classes }
-    ensures { IfOk result (λ ns. map symbolic_view ns
+    ensures { IfOk result (λ ns. ns
         ≡ symbolic_references_of (operations_of program.now method)) }
 {
     let Some(place) = program.methods.at(method as usize) else {

@@ -3,8 +3,6 @@
 ghost use Rattle.std.specs.Prelude.{◌≡◌, true, OnOk};
 ghost use Rattle.class_linker.specs.Linkers.{IsLoaded};
 ghost use Rattle.jvm_model.specs.Profiling.Revelation.{gained_on};
-ghost use Rattle.symbolic_references.specs.Members.{reference_of};
-ghost use Rattle.symbolic_references.specs.Names.{symbolic_view};
 ghost use Rattle.symbolic_references.specs.Numbers.{AreNumbers};
 ghost use Rattle.call_revelation.specs.Books.{called_by, called_on};
 ghost use Rattle.call_revelation.specs.Lineages.{selecting};
@@ -16,7 +14,8 @@ use crate::lookup::{method_found, selected_number};
 use class_index::Order;
 use class_linker::Linker;
 use jf_bytes::NoMemory;
-use symbolic_references::{MemberName, MethodNumbers, SymbolicReference};
+use jvm_model::{MemberName, SymbolicReference};
+use symbolic_references::MethodNumbers;
 
 /// What a call that names a class begins on a new one.
 fn add_called_on(
@@ -32,7 +31,7 @@ fn add_called_on(
     requires loaded { IsLoaded linker.now class }
     requires new { IsLoaded linker.now new }
     ensures { OnOk result (Adds found.old found.new (gained_on linker.now.program new class
-        (selecting interface) (reference_of member.now))) }
+        (selecting interface) member.now)) }
 {
     if !linker.is_subtype(new, class) {
         return Ok(());
@@ -56,7 +55,7 @@ fn add_called_reference(
     requires loaded { IsLoaded linker.now class }
     requires new { IsLoaded linker.now new }
     ensures { OnOk result (Adds found.old found.new
-        (called_on linker.now.program new class (symbolic_view naming.now))) }
+        (called_on linker.now.program new class naming.now)) }
 {
     match naming {
         SymbolicReference::Invokevirtual(method) => {
@@ -82,7 +81,7 @@ pub fn add_called(
     requires loaded { IsLoaded linker.now class }
     requires new { IsLoaded linker.now new }
     ensures { OnOk result (Adds found.old found.new
-        (called_by linker.now.program new class (symbolic_view naming.now))) }
+        (called_by linker.now.program new class naming.now)) }
 {
     if names(linker, naming, class) {
         add_called_reference(linker, numbers, new, class, naming, found)

@@ -9,7 +9,6 @@ ghost use Rattle.jvm_model.specs.Soundness.Sound.{HasClass, HasLoadedCaller, IsF
 ghost use Rattle.jvm_model.specs.Profiling.Targets.{begun_by, targets};
 ghost use Rattle.class_index.specs.Orders.{with_classes};
 ghost use Rattle.class_linker.specs.Linkers.{IsLoaded};
-ghost use Rattle.symbolic_references.specs.Names.{symbolic_view};
 ghost use Rattle.symbolic_references.specs.Numbers.{all_coded};
 ghost use Rattle.prepared_code.specs.Prepared.{HasShortCodes};
 ghost use Rattle.call_revelation.specs.Lineages.{AreKnown, IsLineage};
@@ -21,8 +20,9 @@ use crate::lineage::Lineage;
 use class_index::Order;
 use class_linker::Linker;
 use jf_bytes::{NoMemory, Seq};
+use jvm_model::SymbolicReference;
 use std::alloc::Global;
-use symbolic_references::{MethodNumbers, SymbolicReference};
+use symbolic_references::MethodNumbers;
 
 /// Classes more that are loaded.
 fn add_classes(lineage: &mut Lineage, linker: &Linker, classes: &[u32]) -> Result<(), NoMemory>
@@ -60,10 +60,10 @@ pub fn add_all_begun(
 ) -> Result<(), NoMemory>
     requires known { AreKnown linker.now numbers.now lineage.now }
     requires callers { AllByRecursion (λ n. HasLoadedCaller linker.now.program linker.now.loaded
-        (symbolic_view n)) namings.now }
+        n) namings.now }
     ensures { OnOk result (Adds found.old found.new
         (flat_map (begun_by linker.now.program lineage.now.loaded)
-        (map symbolic_view namings.now))) }
+        namings.now)) }
 {
     for naming in namings {
         add_begun(alloc, linker, numbers, lineage, naming, found)?;

@@ -10,7 +10,6 @@ ghost use Rattle.jvm_model.specs.Profiling.Revelation.{IsLoadOrder};
 ghost use Rattle.jvm_model.specs.Soundness.Sound.{HasSupertypes};
 ghost use Rattle.jvm_model.specs.Profiling.Targets.{begun_by};
 ghost use Rattle.class_linker.specs.Linkers.{IsLoaded};
-ghost use Rattle.symbolic_references.specs.Names.{symbolic_view};
 ghost use Rattle.call_revelation.specs.Books.{Begins, called_by, called_from};
 ghost use Rattle.call_revelation.specs.Books.{methods_gathered, symbolic_reference_at, of_entered};
 ghost use Rattle.call_revelation.specs.CalledClasses.{AreHanded};
@@ -29,8 +28,8 @@ use crate::uses::Use;
 use class_index::Order;
 use class_linker::Linker;
 use jf_bytes::NoMemory;
+use jvm_model::SymbolicReference;
 use std::alloc::Global;
-use symbolic_references::SymbolicReference;
 
 /// The classes that a linker has loaded behind so many.
 fn loaded_behind(linker: &Linker, count: usize) -> &[u32]
@@ -45,7 +44,7 @@ impl Reveal {
     fn entered_reference(&self, u: Use) -> Option<&SymbolicReference>
         requires { (m : ℕ) → flag_at self.now.flags m ≡ is_among m self.now.entered }
         ensures begins { (f : Begins) → of_entered self.now.entered self.now.book.codes f u
-            ≡ option_map_or (λ n. f (symbolic_view n)) (option_copied result) [] }
+            ≡ option_map_or (λ n. f n) (option_copied result) [] }
         ensures entered { IfSome result (λ n. is_among u.caller self.now.entered ≡ true) }
         ensures naming { IfSome result
             (λ n. symbolic_reference_at self.now.book.codes u ≡ Some n.now) }

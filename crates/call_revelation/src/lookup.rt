@@ -8,7 +8,7 @@ ghost use Rattle.jvm_model.specs.Basis.Programs.{initializer_name, initializer_o
 ghost use Rattle.jvm_model.specs.Classes.Selection.{is_static, method_selected};
 ghost use Rattle.class_index.specs.Members.{wanted_view};
 ghost use Rattle.class_linker.specs.Linkers.{IsLoaded};
-ghost use Rattle.symbolic_references.specs.Members.{at_place, reference_of};
+ghost use Rattle.symbolic_references.specs.Members.{at_place};
 ghost use Rattle.symbolic_references.specs.Numbers.{AreNumbers};
 ghost use Rattle.call_revelation.specs.Lineages.{initializer_in, number_of, selected_below, selection_of};
 ghost use Rattle.jvm_model.specs.Profiling.Targets.{class_with_methods, found_where, loaded_class_named};
@@ -18,8 +18,8 @@ use crate::lineage::Lineage;
 use class_index::{Wanted, meaning_of, method_at};
 use class_linker::{Linker, Resolved};
 use jf_bytes::Text16;
-use jvm_model::Program;
-use symbolic_references::{DeclaredMember, MemberName, MethodNumbers, is_static, is_static_field};
+use jvm_model::{MemberName, Program};
+use symbolic_references::{DeclaredMember, MethodNumbers, is_static, is_static_field};
 
 // ---- classes
 
@@ -71,9 +71,9 @@ pub fn method_found(
     requires { IsLoaded linker.now class }
     ensures { option_map at_place result
         ≡ found_where (is_static linker.now.program) fixed
-        (resolved_method linker.now.program class interface (reference_of member.now).member) }
+        (resolved_method linker.now.program class interface member.now.member) }
 {
-    match linker.resolve_method(class, interface, &member.name, &member.descriptor) {
+    match linker.resolve_method(class, interface, member.name(), member.descriptor()) {
         Resolved::Found(class, position) => {
             method_kept(linker.program(), DeclaredMember { class, position }, fixed)
         }
@@ -104,9 +104,9 @@ pub fn static_field_found(
     requires { IsLoaded linker.now class }
     ensures { option_map at_place result
         ≡ found_where (is_static_field linker.now.program) true
-        (resolved_field linker.now.program class (reference_of member.now).member) }
+        (resolved_field linker.now.program class member.now.member) }
 {
-    match linker.resolve_field(class, &member.name, &member.descriptor) {
+    match linker.resolve_field(class, member.name(), member.descriptor()) {
         Resolved::Found(class, position) => field_kept(linker, DeclaredMember { class, position }),
         Resolved::Throws(_) => None,
     }

@@ -5,7 +5,6 @@ ghost use Rattle.std.specs.Option.{option_to_list};
 ghost use Rattle.jvm_model.specs.declared.program.Program.{Program};
 ghost use Rattle.jvm_model.specs.Classes.Load.{is_among};
 ghost use Rattle.class_index.specs.Orders.{with_class, with_classes};
-ghost use Rattle.symbolic_references.specs.Names.{symbolic_view};
 ghost use Rattle.call_revelation.specs.Books.{IsBookOf, code_at, is_call};
 ghost use Rattle.call_revelation.specs.Lineages.{IsLineage};
 ghost use Rattle.call_revelation.specs.CalledClasses.{AreHanded, HasCalled, called_class, own_of, uppers_of};
@@ -17,8 +16,8 @@ use crate::tables::{no_lists, put_list};
 use class_index::Order;
 use class_linker::Linker;
 use jf_bytes::{NoMemory, Seq};
+use jvm_model::SymbolicReference;
 use std::alloc::Global;
-use symbolic_references::SymbolicReference;
 
 /// The classes that calls name, and for each loaded class those of them at or above it. Where memory ran out a list has more of them.
 #[derive(Drop)]
@@ -29,7 +28,7 @@ pub struct Named {
 
 /// Whether an instruction selects by its receiver's class.
 fn is_call(naming: &SymbolicReference) -> bool
-    ensures { result ≡ is_call (symbolic_view naming.now) }
+    ensures { result ≡ is_call naming.now }
 {
     match naming {
         SymbolicReference::Invokevirtual(_) => true,
@@ -40,7 +39,7 @@ fn is_call(naming: &SymbolicReference) -> bool
 
 /// The class that an instruction names, where it selects by its receiver's class.
 fn called_class(linker: &Linker, naming: &SymbolicReference) -> Option<u32>
-    ensures { option_to_list result ≡ called_class linker.now.program (symbolic_view naming.now) }
+    ensures { option_to_list result ≡ called_class linker.now.program naming.now }
 {
     if is_call(naming) {
         class_of(linker, naming)
@@ -89,7 +88,7 @@ impl Named {
         naming: &SymbolicReference,
     ) -> Result<(), NoMemory>
         ensures classes { OnOk result (self.new.classes ≡ with_classes self.old.classes
-            (called_class linker.now.program (symbolic_view naming.now))) }
+            (called_class linker.now.program naming.now)) }
         ensures more { (class : ℕ) → is_among class self.old.classes ≡ true →
             is_among class self.new.classes ≡ true }
         ensures handed { (p : Program) → IsLineage p lineage.now →
@@ -110,7 +109,7 @@ impl Named {
         namings: &[SymbolicReference],
     ) -> Result<(), NoMemory>
         ensures called { OnOk result (Adds self.old.classes self.new.classes
-            (flat_map (called_class linker.now.program) (map symbolic_view namings.now))) }
+            (flat_map (called_class linker.now.program) namings.now)) }
         ensures more { (class : ℕ) → is_among class self.old.classes ≡ true →
             is_among class self.new.classes ≡ true }
         ensures handed { (p : Program) → IsLineage p lineage.now →

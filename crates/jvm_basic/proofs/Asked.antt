@@ -13,7 +13,10 @@ use Rattle.code_model.specs.declared.instr.Arg.TheVariants as arg
 use Rattle.jvm_model.specs.declared.family.Family.{Family}
 use Rattle.jvm_model.specs.declared.family.Family.TheVariants as family
 use Rattle.jvm_model.specs.declared.family.Test.{Test}
-use Rattle.jvm_model.specs.Basis.Data.{Locals, Operands, Keys, Local, Constant, Load, Store, Iinc, Branch, Goto, Jsr, Ret, Switch}
+use Rattle.jvm_model.specs.Basis.Data.{Locals, Operands}
+use Rattle.jvm_model.specs.declared.instruction.Keys.{Keys}
+use Rattle.jvm_model.specs.declared.instruction.Local.{Local}
+use Rattle.jvm_model.specs.declared.instruction.Local.TheVariants.{Constant, Load, Store, Iinc, Branch, Goto, Jsr, Ret, Switch}
 use Rattle.jvm_model.specs.Basis.Data.{Next as Behind, Target, Back}
 use Rattle.jvm_model.specs.Basis.Data.{Outcome as Asked, GoesOn as AsksOn, Breaks as AsksBreak}
 use Rattle.jvm_model.specs.Codes.Lines.{value_in, slot_in, increment_in, target_in, keys_in, targets_of}

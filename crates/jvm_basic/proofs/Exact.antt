@@ -25,7 +25,8 @@ use Rattle.jvm_basic.specs.Outcomes.{Outcome, GoesOn, Raises, Breaks, Leaves, Ru
 use Rattle.jvm_model.specs.Basis.Values.{local_loaded, int_of, ints_of, longs_of, local_in}
 use Rattle.jvm_model.specs.Basis.StackForms.{forms_of}
 use Rattle.jvm_model.specs.Basis.Values.{managed_stack}
-use Rattle.jvm_model.specs.Basis.Data.{Keys, Next as Behind, Target, Back}
+use Rattle.jvm_model.specs.Basis.Data.{Next as Behind, Target, Back}
+use Rattle.jvm_model.specs.declared.instruction.Keys.{Keys}
 use Rattle.jvm_model.specs.Basis.Data.{Outcome as Asked, GoesOn as AsksOn, Breaks as AsksBreak}
 use Rattle.jvm_model.specs.Codes.Lines.{value_in, slot_in, increment_in, target_in, keys_in, targets_of}
 use Rattle.jvm_model.specs.Instructions.LocalRules

@@ -23,7 +23,8 @@ use Rattle.jvm_model.specs.Basis.Values.{int_of, long_of, ref_of, ints_of, longs
 use Rattle.jvm_model.specs.Basis.Data.{StackForm}
 use Rattle.jvm_model.specs.Basis.StackForms.{forms_of}
 use Rattle.jvm_model.specs.Basis.Values.{has_form, puts_on, managed_stack}
-use Rattle.jvm_model.specs.Basis.Data.{Keys, Next as Behind}
+use Rattle.jvm_model.specs.Basis.Data.{Next as Behind}
+use Rattle.jvm_model.specs.declared.instruction.Keys.{Keys}
 use Rattle.jvm_model.specs.Basis.Data.{GoesOn as AsksOn, Breaks as AsksBreak}
 use Rattle.jvm_model.specs.Codes.Lines.{value_in, slot_in, increment_in, target_in, keys_in, targets_of}
 use Rattle.jvm_model.specs.Instructions.LocalRules

@@ -18,7 +18,8 @@ use Rattle.jvm_model.specs.declared.family.LongShift.{LongShift}
 use Rattle.jvm_model.specs.declared.family.OfInt.{OfInt}
 use Rattle.jvm_model.specs.declared.family.OfLong.{OfLong}
 use Rattle.jvm_model.specs.declared.family.Test.{Test}
-use Rattle.jvm_model.specs.Basis.Data.{Locals, Operands, StackForm, Constant, Load, Iinc, Goto, Jsr, Ret, Nop}
+use Rattle.jvm_model.specs.Basis.Data.{Locals, Operands, StackForm}
+use Rattle.jvm_model.specs.declared.instruction.Local.TheVariants.{Constant, Load, Iinc, Goto, Jsr, Ret, Nop}
 use Rattle.jvm_model.specs.Basis.Data.{Where, Next, Target, Back, Subroutine}
 use Rattle.jvm_model.specs.Basis.Data.{Outcome as Asked, GoesOn as AsksOn, Raises as AsksRaise, Breaks as AsksBreak}
 use Rattle.jvm_model.specs.Basis.Descriptors.{same_text}

@@ -14,7 +14,13 @@ use Rattle.code_model.specs.declared.instr.Arg.TheVariants as arg
 use Rattle.code_model.specs.declared.instr.Instr.{Instr}
 use Rattle.jvm_model.specs.declared.family.Family.{Family}
 use Rattle.jvm_model.specs.declared.family.Family.TheVariants as family
-use Rattle.jvm_model.specs.Basis.Data.{ManageStack, BinaryOfInts, BinaryOfLongs, Branch, Constant, Datum, DivisionOfInts, DivisionOfLongs, Goto, Iinc, Jsr, Lcmp, LdcClass, LdcString, Load, Local, Named, SymbolicReference, Newarray, Nop, Operation, Ret, ShiftOfLong, Store, Switch, UnaryOfInt, UnaryOfLong, Within}
+use Rattle.jvm_model.specs.Basis.Data.{Datum}
+use Rattle.jvm_model.specs.declared.instruction.Local.TheVariants.{ManageStack, BinaryOfInts, BinaryOfLongs, Branch, Constant, DivisionOfInts, DivisionOfLongs, Goto, Iinc, Jsr, Lcmp, Load, Nop, Ret, ShiftOfLong, Store, Switch, UnaryOfInt, UnaryOfLong}
+use Rattle.jvm_model.specs.declared.instruction.SymbolicReference.TheVariants.{LdcClass}
+use Rattle.jvm_model.specs.declared.instruction.Operation.TheVariants.{LdcString, Named, Newarray, Within}
+use Rattle.jvm_model.specs.declared.instruction.Local.{Local}
+use Rattle.jvm_model.specs.declared.instruction.SymbolicReference.{SymbolicReference}
+use Rattle.jvm_model.specs.declared.instruction.Operation.{Operation}
 use Rattle.jvm_model.specs.Basis.Families.{family_of, rows}
 use Rattle.jvm_model.specs.Codes.Lines.{ObjectRow, constant_in, pool_constant_operation, has_dimensions, increment_in, interface_reference, keys_in, array_reference, named_by, symbolic_reference_of, newarray_of, object_among, object_constant, object_constant_in, object_rows, operation_by, operation_of, other_operation, slot_in, target_in, value_in}
 use Rattle.jvm_model.specs.Turns.StepPauses.{is_return}

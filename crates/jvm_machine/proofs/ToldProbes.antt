@@ -20,7 +20,8 @@ use Rattle.jvm_model.specs.declared.event.Mark.{Mark}
 use Rattle.jvm_model.specs.declared.event.Mark.TheVariants as mark
 use Rattle.jvm_model.specs.declared.program.MethodPlace.{MethodPlace}
 use Rattle.jvm_model.specs.declared.program.Program.{Program}
-use Rattle.jvm_model.specs.Basis.Data.{Began, Change, Instruction, Left, Loads, Operation, Unwound}
+use Rattle.jvm_model.specs.Basis.Data.{Began, Change, Instruction, Left, Loads, Unwound}
+use Rattle.jvm_model.specs.declared.instruction.Operation.{Operation}
 use Rattle.jvm_model.specs.Rewriting.Images.{is_off}
 use Rattle.jvm_model.specs.Codes.Lines.{code_instruction, instruction_of, method_instruction, operation_of}
 use Rattle.jvm_model.specs.Basis.Methods.{method_code}

@@ -1,5 +1,6 @@
 pub mod Descriptors
 pub mod Methods
+pub mod MemberNames
 pub mod Data
 pub mod Families
 pub mod Values

@@ -8,4 +8,5 @@ pub mod NativeRules
 pub mod InvocationRules
 pub mod ConstantRules
 pub mod ReferenceRules
+pub mod Exceptions
 pub mod Does

@@ -5,39 +5,22 @@ use Rattle.const_pool.specs.declared.class.ClassFile.{ClassFile}
 use Rattle.code_model.specs.declared.instr.Arg.{Arg}
 use Rattle.jvm_model.specs.declared.family.Family.{Family}
 use Rattle.jvm_model.specs.declared.family.Family.TheVariants as family
-use Rattle.jvm_model.specs.Basis.Data.{Local, Within, Named, SymbolicReference, New, Getfield, Putfield, Getstatic, Putstatic, Invokevirtual, Invokespecial, Invokestatic, Invokeinterface, Checkcast, Instanceof, Anewarray, Multianewarray, LdcClass}
+use Rattle.jvm_model.specs.declared.instruction.Local.{Local}
+use Rattle.jvm_model.specs.declared.instruction.Operation.TheVariants.{Within, Named}
+use Rattle.jvm_model.specs.declared.instruction.SymbolicReference.{SymbolicReference}
 use Rattle.jvm_model.specs.Codes.Lines.{local_of, constant_in, has_dimensions, named_by, operation_by}
-use Rattle.symbolic_references.specs.Names.{symbolic_view}
 use Rattle.prepared_code.specs.declared.line.Action.TheVariants as action
-use Rattle.prepared_code.specs.Lines.{action_of, local_action, named_action, named_as}
+use Rattle.prepared_code.specs.Lines.{action_of, local_action, named_action}
 
 -- ---- names
 
--- what a line keeps is seen as it was
-pub viewed : (n : SymbolicReference) → symbolic_view (named_as n) ≡ n
-viewed (New name) = refl
-viewed (Getfield r) = refl
-viewed (Putfield r) = refl
-viewed (Getstatic r) = refl
-viewed (Putstatic r) = refl
-viewed (Invokevirtual r) = refl
-viewed (Invokespecial caller r interface) = refl
-viewed (Invokestatic r) = refl
-viewed (Invokeinterface r) = refl
-viewed (Checkcast name) = refl
-viewed (Instanceof name) = refl
-viewed (Anewarray name) = refl
-viewed (Multianewarray name dimensions) = refl
-viewed (LdcClass name) = refl
-
-chosen : (n : SymbolicReference) (b : Bool) → cond b (Some (action.Named (named_as n))) None ≡ option_map action_of (cond b (Some (Named n)) None)
+chosen : (n : SymbolicReference) (b : Bool) → cond b (Some (action.Named n)) None ≡ option_map action_of (cond b (Some (Named n)) None)
 chosen n true = refl
 chosen n false = refl
 
-pub named_acted : (o : Option SymbolicReference) → option_and_then named_action (option_map named_as o) ≡ option_map action_of (option_and_then named_by o)
+pub named_acted : (o : Option SymbolicReference) → option_and_then named_action o ≡ option_map action_of (option_and_then named_by o)
 named_acted None = refl
-named_acted (Some n) =
-    ap (λ (m : SymbolicReference). cond (has_dimensions m) (Some (action.Named (named_as n))) None) (viewed n) ∙ chosen n (has_dimensions n)
+named_acted (Some n) = chosen n (has_dimensions n)
 
 -- ---- families
 

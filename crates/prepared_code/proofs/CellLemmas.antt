@@ -7,7 +7,9 @@ use Rattle.method_versions.specs.Tables.{is_superseded_in}
 use Rattle.jvm_model.specs.declared.state.Shared.{Shared}
 use Rattle.class_linker.specs.Linkers.{LinkerView}
 use Rattle.jvm_model.specs.Classes.Load.{load_of}
-use Rattle.jvm_model.specs.Instructions.SymbolicReference.{SymbolicReference, New, newly_loaded}
+use Rattle.jvm_model.specs.Instructions.SymbolicReference.{newly_loaded}
+use Rattle.jvm_model.specs.declared.instruction.SymbolicReference.{SymbolicReference}
+use Rattle.jvm_model.specs.declared.instruction.SymbolicReference.TheVariants.{New}
 use Rattle.jvm_model.proofs.Loading.LoadsAgain.{newly-loaded}
 use Rattle.symbolic_references.specs.Attempts.{linker_loaded}
 use Rattle.symbolic_references.specs.declared.known.Known.{Known}

@@ -17,19 +17,23 @@ use Rattle.code_model.specs.Instructions.{instruction_at}
 use Rattle.jvm_model.specs.declared.family.Family.{Family}
 use Rattle.jvm_model.specs.declared.family.Family.TheVariants as family
 use Rattle.jvm_model.specs.declared.program.Program.{Program}
-use Rattle.jvm_model.specs.Basis.Data.{Local, Return, Operation, Within, Named, SymbolicReference, New, Getfield, Putfield, Getstatic, Putstatic, Invokevirtual, Invokespecial, Invokestatic, Invokeinterface, Checkcast, Instanceof, Anewarray, Multianewarray, LdcClass, Athrow, Monitor, Newarray, Arraylength, LoadElement, StoreElement, LdcString}
+use Rattle.jvm_model.specs.declared.instruction.Local.{Local}
+use Rattle.jvm_model.specs.declared.instruction.Local.TheVariants.{Return}
+use Rattle.jvm_model.specs.declared.instruction.Operation.{Operation}
+use Rattle.jvm_model.specs.declared.instruction.Operation.TheVariants.{Within, Named, Athrow, Monitor, Newarray, Arraylength, LoadElement, StoreElement, LdcString}
+use Rattle.jvm_model.specs.declared.instruction.SymbolicReference.{SymbolicReference}
+use Rattle.jvm_model.specs.declared.instruction.SymbolicReference.TheVariants.{New, Getfield, Putfield, Getstatic, Putstatic, Invokevirtual, Invokespecial, Invokestatic, Invokeinterface, Checkcast, Instanceof, Anewarray, Multianewarray, LdcClass}
 use Rattle.jvm_model.specs.Basis.Families.{family_of}
 use Rattle.jvm_model.specs.Classes.Kinds.{meaning_of}
 use Rattle.jvm_model.specs.Codes.Lines.{ObjectRow, constant_in, pool_constant_operation, has_dimensions, interface_reference, local_of, array_reference, named_by, symbolic_reference_of, object_among, object_constant, object_constant_in, object_rows, operation_by, operation_of, other_operation}
 use Rattle.jvm_model.specs.Basis.Methods.{method_code}
 use Rattle.jvm_model.specs.Basis.Programs.{class_at, place_of_method}
-use Rattle.symbolic_references.specs.Names.{symbolic_view}
 use Rattle.symbolic_references.specs.Objects.{HasDimensions}
 use Rattle.prepared_code.specs.declared.line.Line.{Line}
 use Rattle.prepared_code.specs.Versions as versions
 use Rattle.prepared_code.specs.Versions.{HasLines}
 use Rattle.prepared_code.specs.Tables.{Versions}
-use Rattle.prepared_code.specs.Lines.{IfNamed, IfNamedBy, action_of, line_at, line_with, named_as}
+use Rattle.prepared_code.specs.Lines.{IfNamed, IfNamedBy, action_of, line_at, line_with}
 
 -- ---- operations
 
@@ -108,7 +112,7 @@ both true b h = (refl, h)
 both false b h = absurd cc
 
 -- as the format asks
-fits-naming : (n : SymbolicReference) → has_dimensions n ≡ true → HasDimensions (symbolic_view (named_as n))
+fits-naming : (n : SymbolicReference) → has_dimensions n ≡ true → HasDimensions n
 fits-naming (Anewarray name) h = ltb-true (meaning_of name).dimensions 255 h
 fits-naming (Multianewarray name dimensions) h =
     let parts = both (nat_le 1 dimensions) (nat_le dimensions (meaning_of name).dimensions) h in

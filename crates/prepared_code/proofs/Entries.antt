@@ -13,7 +13,7 @@ use Rattle.jvm_model.specs.Basis.Methods.{code_of, method_code, method_params, m
 use Rattle.jvm_model.specs.Basis.Programs.{class_at}
 use Rattle.jvm_model.specs.Basis.SharedState.{kind_for, string}
 use Rattle.symbolic_references.specs.Numbers.{AreNumbers, Row}
-use Rattle.prepared_code.specs.declared.originals.Exception.{Exception}
+use Rattle.jvm_model.specs.declared.exception.Exception.{Exception}
 use Rattle.prepared_code.specs.declared.originals.Exceptions.{Exceptions}
 use Rattle.prepared_code.specs.declared.originals.Method.{Method}
 use Rattle.prepared_code.specs.Prepared.{FitsOriginals, IsPrepared, exception_in, exception_kind}
@@ -73,7 +73,7 @@ locals-place p (Some place) = (limits-class place (class_at p place.class)).loca
 -- ---- all of them
 
 pub IsPrepared-entries : (p : Program) (methods : List Method) (v : Versions) (x : Exceptions) (numbers : List Row) → FitsOriginals p → length p.classes < 2 ^ 24 → length p.methods < 2 ^ 32 → methods ≡ map (entry_at p) p.methods → v ≡ original_versions p
-    → ((e : Exception) → exception_in x e ≡ exception_kind p e) → x.string ≡ kind_for p string → AreNumbers p numbers → IsPrepared p methods v x numbers
+    → ((e : Exception) → exception_in p x e ≡ exception_kind p e) → x.string ≡ kind_for p string → AreNumbers p numbers → IsPrepared p methods v x numbers
 IsPrepared-entries p methods v x rows fits few numbered is made raised text numbers =
     let entry : (k : ℕ) → slice_get methods k ≡ option_map (entry_at p) (slice_get p.methods k) = λ k. ap (λ ms. slice_get ms k) is ∙ slice_get-map (entry_at p) p.methods k in
     record {

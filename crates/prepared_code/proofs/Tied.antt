@@ -18,7 +18,13 @@ use Rattle.code_model.specs.Instructions.{instruction_at, end_of}
 use Rattle.jvm_model.specs.declared.family.Family.{Family}
 use Rattle.jvm_model.specs.declared.family.Family.TheVariants as family
 use Rattle.jvm_model.specs.declared.program.Program.{Program}
-use Rattle.jvm_model.specs.Basis.Data.{Locals, Operands, Local, Nop, Constant, Load, Store, ManageStack, BinaryOfInts, BinaryOfLongs, DivisionOfInts, DivisionOfLongs, ShiftOfLong, UnaryOfInt, UnaryOfLong, Lcmp, Iinc, Branch, Goto, Switch, Jsr, Ret, Return, SymbolicReference, New, Getfield, Putfield, Getstatic, Putstatic, Invokevirtual, Invokespecial, Invokestatic, Invokeinterface, Checkcast, Instanceof, Anewarray, Multianewarray, LdcClass, Operation, Within, Named, Athrow, Monitor, Newarray, Arraylength, LoadElement, StoreElement, LdcString, Instruction}
+use Rattle.jvm_model.specs.Basis.Data.{Locals, Operands, Instruction}
+use Rattle.jvm_model.specs.declared.instruction.Local.{Local}
+use Rattle.jvm_model.specs.declared.instruction.Local.TheVariants.{Nop, Constant, Load, Store, ManageStack, BinaryOfInts, BinaryOfLongs, DivisionOfInts, DivisionOfLongs, ShiftOfLong, UnaryOfInt, UnaryOfLong, Lcmp, Iinc, Branch, Goto, Switch, Jsr, Ret, Return}
+use Rattle.jvm_model.specs.declared.instruction.SymbolicReference.{SymbolicReference}
+use Rattle.jvm_model.specs.declared.instruction.SymbolicReference.TheVariants.{New, Getfield, Putfield, Getstatic, Putstatic, Invokevirtual, Invokespecial, Invokestatic, Invokeinterface, Checkcast, Instanceof, Anewarray, Multianewarray, LdcClass}
+use Rattle.jvm_model.specs.declared.instruction.Operation.{Operation}
+use Rattle.jvm_model.specs.declared.instruction.Operation.TheVariants.{Within, Named, Athrow, Monitor, Newarray, Arraylength, LoadElement, StoreElement, LdcString}
 use Rattle.jvm_model.specs.Basis.Families.{family_of}
 use Rattle.jvm_model.specs.Codes.Lines.{value_in, slot_in, increment_in, target_in, keys_in, local_of, constant_in, pool_constant_operation, has_dimensions, interface_reference, array_reference, named_by, symbolic_reference_of, ObjectRow, object_among, object_constant, object_constant_in, object_rows, other_operation, operation_by, is_last, next_of, targets_of, instruction_of}
 use Rattle.jvm_model.specs.Instructions.LocalRules.{within}
@@ -31,8 +37,7 @@ use Rattle.prepared_code.specs.declared.line.Line.{Line}
 use Rattle.prepared_code.specs.Ready.{CanRun, HasLocal, IsOwnLine, IsRuleOf, IsTied}
 use Rattle.prepared_code.specs.Versions.{Setup, instruction_by, instruction_in, is_athrow, is_last_family, next_in, operation_as, operation_in, listing_of}
 use Rattle.prepared_code.specs.Versions as versions
-use Rattle.symbolic_references.specs.Names.{symbolic_view}
-use Rattle.prepared_code.specs.Lines.{local_action, action_of, line_with, line_of, line_at, named_as}
+use Rattle.prepared_code.specs.Lines.{local_action, action_of, line_with, line_of, line_at}
 
 -- ---- a line and what it does
 
@@ -275,30 +280,13 @@ tied-at p method at =
 
 -- ---- the operation that a line shows
 
--- the names that a line keeps are those of its instruction
-pub viewed : (n : SymbolicReference) → symbolic_view (named_as n) ≡ n
-viewed (New name) = refl
-viewed (Getfield r) = refl
-viewed (Putfield r) = refl
-viewed (Getstatic r) = refl
-viewed (Putstatic r) = refl
-viewed (Invokevirtual r) = refl
-viewed (Invokespecial caller r interface) = refl
-viewed (Invokestatic r) = refl
-viewed (Invokeinterface r) = refl
-viewed (Checkcast name) = refl
-viewed (Instanceof name) = refl
-viewed (Anewarray name) = refl
-viewed (Multianewarray name dimensions) = refl
-viewed (LdcClass name) = refl
-
 local-shown : (line : Line) (l : Local) → HasLocal line l → operation_as line (local_action l) ≡ Within l
 local-shown line (Return k) e = refl
 local-shown line l e = ap (λ o. Within (unwrap_or o Nop)) e
 
 shown-by : (line : Line) (op : Operation) → ((l : Local) → op ≡ Within l → HasLocal line l) → operation_as line (action_of op) ≡ op
 shown-by line (Within l) within = local-shown line l (within l refl)
-shown-by line (Named n) within = ap Named (viewed n)
+shown-by line (Named n) within = refl
 shown-by line Athrow within = refl
 shown-by line Monitor within = refl
 shown-by line (Newarray code) within = ap Newarray (omega arith)

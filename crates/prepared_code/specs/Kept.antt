@@ -1,7 +1,7 @@
 -- What is kept of a program with what the names of its lines came to, over what is loaded (JVM Specification 5.4.3).
 use Rattle.std.specs.Prelude.{◌≡◌, ℕ, List, Some}
 use Rattle.class_linker.specs.Linkers.{LinkerView}
-use Rattle.jvm_model.specs.Instructions.SymbolicReference.{SymbolicReference}
+use Rattle.jvm_model.specs.declared.instruction.SymbolicReference.{SymbolicReference}
 use Rattle.symbolic_references.specs.declared.known.Known.{Known}
 use Rattle.symbolic_references.specs.Known.{IsKnown}
 use Rattle.symbolic_references.specs.Numbers.{Row}

@@ -2,13 +2,14 @@
 use Rattle.std.specs.Prelude.{ℕ, Option, Some, None, if◌then◌else◌}
 use Rattle.std.specs.Option.{option_and_then, option_map}
 use Rattle.const_pool.specs.declared.class.ClassFile.{ClassFile}
-use Rattle.const_pool.specs.References.{Reference}
 use Rattle.code_model.specs.declared.instr.Arg.{Arg}
 use Rattle.code_model.specs.declared.instr.Instr.{Instr}
 use Rattle.code_model.specs.Instructions.{instruction_at, end_of}
 use Rattle.jvm_model.specs.declared.program.Program.{Program}
-use Rattle.jvm_model.specs.Basis.Data.{Local, Return, Operation, Within, Named, Athrow, Monitor, Newarray, Arraylength, LoadElement, StoreElement, LdcString}
-use Rattle.jvm_model.specs.Basis.Data as model
+use Rattle.jvm_model.specs.declared.instruction.Local.{Local}
+use Rattle.jvm_model.specs.declared.instruction.Local.TheVariants.{Return}
+use Rattle.jvm_model.specs.declared.instruction.Operation.{Operation}
+use Rattle.jvm_model.specs.declared.instruction.Operation.TheVariants.{Within, Named, Athrow, Monitor, Newarray, Arraylength, LoadElement, StoreElement, LdcString}
 use Rattle.jvm_model.specs.Basis.Families.{family_of}
 use Rattle.jvm_model.specs.Codes.Lines.{constant_in, has_dimensions, operation_of}
 use Rattle.jvm_model.specs.Basis.Methods.{method_code}
@@ -19,39 +20,16 @@ use Rattle.jvm_model.specs.declared.family.Family.{Family}
 use Rattle.jvm_basic.specs.declared.hot.Hot.{Hot}
 use Rattle.jvm_basic.specs.declared.hot.Hot.TheVariants as hot
 use Rattle.jvm_basic.specs.Hot.{hot_by}
-use Rattle.symbolic_references.specs.declared.symbolic_reference.MemberName.{MemberName}
-use Rattle.symbolic_references.specs.declared.symbolic_reference.SymbolicReference.{SymbolicReference}
-use Rattle.symbolic_references.specs.declared.symbolic_reference.SymbolicReference.TheVariants as naming
-use Rattle.symbolic_references.specs.Names.{symbolic_view}
+use Rattle.jvm_model.specs.declared.instruction.SymbolicReference.{SymbolicReference}
 use Rattle.prepared_code.specs.declared.line.Action.{Action}
 use Rattle.prepared_code.specs.declared.line.Action.TheVariants as action
 use Rattle.prepared_code.specs.declared.line.Line.{Line}
 
 -- ---- instructions with names
 
-abbrev pub member_as : Reference → MemberName
-member_as r = record { class = r.class; name = r.member.name; descriptor = r.member.descriptor }
-
--- as a line keeps them
-abbrev pub named_as : model.SymbolicReference → SymbolicReference
-named_as (model.New name) = naming.New name
-named_as (model.Getfield r) = naming.Getfield (member_as r)
-named_as (model.Putfield r) = naming.Putfield (member_as r)
-named_as (model.Getstatic r) = naming.Getstatic (member_as r)
-named_as (model.Putstatic r) = naming.Putstatic (member_as r)
-named_as (model.Invokevirtual r) = naming.Invokevirtual r
-named_as (model.Invokespecial caller r interface) = naming.Invokespecial caller r interface
-named_as (model.Invokestatic r) = naming.Invokestatic r
-named_as (model.Invokeinterface r) = naming.Invokeinterface r
-named_as (model.Checkcast name) = naming.Checkcast name
-named_as (model.Instanceof name) = naming.Instanceof name
-named_as (model.Anewarray name) = naming.Anewarray name
-named_as (model.Multianewarray name dimensions) = naming.Multianewarray name dimensions
-named_as (model.LdcClass name) = naming.LdcClass name
-
 -- Where it is none for the dimensions of the array type that it names there is no line.
 abbrev pub named_action : SymbolicReference → Option Action
-named_action n = if has_dimensions (symbolic_view n) then Some (action.Named n) else None
+named_action n = if has_dimensions n then Some (action.Named n) else None
 
 -- ---- lines
 
@@ -62,7 +40,7 @@ local_action _ = action.Local
 
 abbrev pub action_of : Operation → Action
 action_of (Within i) = local_action i
-action_of (Named n) = action.Named (named_as n)
+action_of (Named n) = action.Named n
 action_of Athrow = action.Athrow
 action_of Monitor = action.Monitor
 action_of (Newarray code) = action.Newarray (array_kind code)
@@ -101,11 +79,11 @@ line_at p method at = by_number p (method_line at) method
 
 -- ---- what holds of the naming of a line, and of the place behind it
 
-abbrev pub IfNamedBy : Action → ℕ → (model.SymbolicReference → ℕ → Type 0) → Type 0
-IfNamedBy (action.Named n) next Holds = Holds (symbolic_view n) next
+abbrev pub IfNamedBy : Action → ℕ → (SymbolicReference → ℕ → Type 0) → Type 0
+IfNamedBy (action.Named n) next Holds = Holds n next
 IfNamedBy _ next Holds = Unit {0}
 
 -- where a line stands, and names something
-abbrev pub IfNamed : Option Line → (model.SymbolicReference → ℕ → Type 0) → Type 0
+abbrev pub IfNamed : Option Line → (SymbolicReference → ℕ → Type 0) → Type 0
 IfNamed None Holds = Unit {0}
 IfNamed (Some line) Holds = IfNamedBy line.action line.next Holds

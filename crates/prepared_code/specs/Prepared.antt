@@ -20,8 +20,9 @@ use Rattle.jvm_model.specs.Running.Run.{main_class}
 use Rattle.jvm_model.specs.Basis.SharedState.{built_in_from, kind_for, string, array_store, in_initializer, index_outside, negative_array_size, no_class_definition, no_such_field, no_such_method, null_pointer, stack_overflow}
 use Rattle.symbolic_references.specs.Numbers.{AreNumbers, Row}
 use Rattle.prepared_code.specs.declared.originals.Method.{Method}
-use Rattle.prepared_code.specs.declared.originals.Exception.{Exception}
-use Rattle.prepared_code.specs.declared.originals.Exception.TheVariants.{AbstractMethod, Arithmetic, ArrayStore, ClassCast, ClassCircularity, IncompatibleClassChange, InInitializer, IndexOutside, Instantiation, NegativeArraySize, NoClassDefinition, NoSuchField, NoSuchMethod, NullPointer, StackOverflow, UnsatisfiedLink}
+use Rattle.jvm_model.specs.declared.exception.Exception.{Exception}
+use Rattle.jvm_model.specs.declared.exception.Exception.TheVariants.{AbstractMethod, Arithmetic, ArrayStore, ClassCast, ClassCircularity, IncompatibleClassChange, InInitializer, IndexOutside, Instantiation, NegativeArraySize, NoClassDefinition, NoSuchField, NoSuchMethod, NullPointer, StackOverflow, UnsatisfiedLink, BuiltIn}
+use Rattle.jvm_model.specs.Instructions.Exceptions.{exception_name}
 use Rattle.prepared_code.specs.declared.originals.Exceptions.{Exceptions}
 use Rattle.prepared_code.specs.Versions.{HasLines}
 use Rattle.prepared_code.specs.Tables.{Versions}
@@ -67,24 +68,6 @@ main_name p = unwrap_or (name_at p (main_class p)) []
 
 -- ---- exceptions that instructions raise
 
-abbrev pub exception_name : Exception → List ℕ
-exception_name AbstractMethod = abstract_method
-exception_name Arithmetic = arithmetic_exception
-exception_name ArrayStore = array_store
-exception_name ClassCast = class_cast
-exception_name ClassCircularity = circular_class
-exception_name IncompatibleClassChange = incompatible_change
-exception_name InInitializer = in_initializer
-exception_name IndexOutside = index_outside
-exception_name Instantiation = instantiation_error
-exception_name NegativeArraySize = negative_array_size
-exception_name NoClassDefinition = no_class_definition
-exception_name NoSuchField = no_such_field
-exception_name NoSuchMethod = no_such_method
-exception_name NullPointer = null_pointer
-exception_name StackOverflow = stack_overflow
-exception_name UnsatisfiedLink = unsatisfied_link
-
 -- the kind of its class's instances
 abbrev pub exception_kind : Program → Exception → ℕ
 exception_kind p e = kind_for p (exception_name e)
@@ -93,23 +76,30 @@ exception_kind p e = kind_for p (exception_name e)
 abbrev pub built_in_named : ℕ → List ℕ
 built_in_named place = unwrap_or (slice_get built_in_names place) []
 
-abbrev pub exception_in : Exceptions → Exception → ℕ
-exception_in x AbstractMethod = x.abstract_method
-exception_in x Arithmetic = x.arithmetic
-exception_in x ArrayStore = x.array_store
-exception_in x ClassCast = x.class_cast
-exception_in x ClassCircularity = x.class_circularity
-exception_in x IncompatibleClassChange = x.incompatible_change
-exception_in x InInitializer = x.in_initializer
-exception_in x IndexOutside = x.index_outside
-exception_in x Instantiation = x.instantiation
-exception_in x NegativeArraySize = x.negative_array_size
-exception_in x NoClassDefinition = x.no_class_definition
-exception_in x NoSuchField = x.no_such_field
-exception_in x NoSuchMethod = x.no_such_method
-exception_in x NullPointer = x.null_pointer
-exception_in x StackOverflow = x.stack_overflow
-exception_in x UnsatisfiedLink = x.unsatisfied_link
+-- as it is kept; one that a native method throws is found by its name
+abbrev pub exception_in : Program → Exceptions → Exception → ℕ
+exception_in p x AbstractMethod = x.abstract_method
+exception_in p x Arithmetic = x.arithmetic
+exception_in p x ArrayStore = x.array_store
+exception_in p x ClassCast = x.class_cast
+exception_in p x ClassCircularity = x.class_circularity
+exception_in p x IncompatibleClassChange = x.incompatible_change
+exception_in p x InInitializer = x.in_initializer
+exception_in p x IndexOutside = x.index_outside
+exception_in p x Instantiation = x.instantiation
+exception_in p x NegativeArraySize = x.negative_array_size
+exception_in p x NoClassDefinition = x.no_class_definition
+exception_in p x NoSuchField = x.no_such_field
+exception_in p x NoSuchMethod = x.no_such_method
+exception_in p x NullPointer = x.null_pointer
+exception_in p x StackOverflow = x.stack_overflow
+exception_in p x UnsatisfiedLink = x.unsatisfied_link
+exception_in p x (BuiltIn place) = exception_kind p (BuiltIn place)
+
+-- its kind is kept
+abbrev pub IsKeptKind : Exception → Type 0
+IsKeptKind (BuiltIn place) = ⊥
+IsKeptKind _ = Unit {0}
 
 -- ---- what is kept
 
@@ -122,6 +112,6 @@ pub record IsPrepared (p : Program) (methods : List Method) (versions : Versions
   pub max_locals : (k : ℕ) → option_map_or (λ m. m.max_locals) (slice_get methods k) 0 ≡ max_locals_of (world_in p []) k
   pub lines : HasLines versions
   pub count : length versions.current ≡ length p.methods
-  pub raised : (e : Exception) → exception_in exceptions e ≡ exception_kind p e
+  pub raised : (e : Exception) → exception_in p exceptions e ≡ exception_kind p e
   pub string : exceptions.string ≡ kind_for p string
   pub numbers : AreNumbers p rows

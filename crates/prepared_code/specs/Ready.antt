@@ -2,7 +2,10 @@
 use Rattle.std.specs.Prelude.{◌≡◌, ◌≤◌, ◌⊎◌, ℕ, true, List, is_some, Some}
 use Rattle.prepared_code.specs.Tables.{Versions, version_at}
 use Rattle.std.specs.Option.{IfSome, option_and_then}
-use Rattle.jvm_model.specs.Basis.Data.{Locals, Operands, Local, Operation, Within}
+use Rattle.jvm_model.specs.Basis.Data.{Locals, Operands}
+use Rattle.jvm_model.specs.declared.instruction.Local.{Local}
+use Rattle.jvm_model.specs.declared.instruction.Operation.{Operation}
+use Rattle.jvm_model.specs.declared.instruction.Operation.TheVariants.{Within}
 use Rattle.jvm_model.specs.Basis.Families.{family_of}
 use Rattle.jvm_model.specs.Codes.Lines.{local_of, next_of, targets_of}
 use Rattle.jvm_model.specs.Instructions.LocalRules.{within}

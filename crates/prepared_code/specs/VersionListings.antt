@@ -2,7 +2,8 @@
 use Rattle.std.specs.Prelude.{◌≡◌, ◌≤◌, ◌<◌, ℕ, [], length, map, Option, Some, None, ◌==◌, if◌then◌else◌}
 use Rattle.std.specs.Option.{option_map}
 use Rattle.jvm_model.specs.declared.program.Program.{Program}
-use Rattle.jvm_model.specs.Basis.Data.{Instruction, Operation}
+use Rattle.jvm_model.specs.Basis.Data.{Instruction}
+use Rattle.jvm_model.specs.declared.instruction.Operation.{Operation}
 use Rattle.jvm_model.specs.Codes.Moved.{HaveBounds, IsPlace, moved_catcher, moved_instruction}
 use Rattle.jvm_model.specs.Codes.Originals.{original}
 use Rattle.prepared_code.specs.Tables.{Version, Versions, version_at}

@@ -5,13 +5,16 @@ use Rattle.std.specs.Option.{IfSome, option_and_then, option_flatten, option_map
 use Rattle.method_versions.specs.Tables.{current_in}
 use Rattle.jvm_model.specs.declared.event.Mark.{Mark}
 use Rattle.jvm_model.specs.declared.event.Mark.TheVariants.{Off}
-use Rattle.jvm_model.specs.Basis.Data.{Catcher, Instruction, Local, Nop, Return, Operation, Within, Named, Athrow, Monitor, Newarray, Arraylength, LoadElement, StoreElement, LdcString, Listing, World}
+use Rattle.jvm_model.specs.Basis.Data.{Catcher, Instruction, Listing, World}
+use Rattle.jvm_model.specs.declared.instruction.Local.{Local}
+use Rattle.jvm_model.specs.declared.instruction.Local.TheVariants.{Nop, Return}
+use Rattle.jvm_model.specs.declared.instruction.Operation.{Operation}
+use Rattle.jvm_model.specs.declared.instruction.Operation.TheVariants.{Within, Named, Athrow, Monitor, Newarray, Arraylength, LoadElement, StoreElement, LdcString}
 use Rattle.jvm_model.specs.Basis.Families.{family_of}
 use Rattle.jvm_model.specs.Codes.Lines.{local_of, next_of, targets_of}
 use Rattle.jvm_model.specs.declared.family.Family.{Family}
 use Rattle.jvm_model.specs.declared.family.Family.TheVariants as family
 use Rattle.jvm_basic.specs.Rules.{datum_in}
-use Rattle.symbolic_references.specs.Names.{symbolic_view}
 use Rattle.symbolic_references.specs.Objects.{HasDimensions}
 use Rattle.prepared_code.specs.Lines.{IfNamedBy, hot_in}
 use Rattle.prepared_code.specs.declared.line.Action.{Action}
@@ -99,7 +102,7 @@ local_in line = unwrap_or (local_of (family_of line.instr.op) line.instr.arg (op
 abbrev pub operation_as : Line → Action → Operation
 operation_as line action.Local = Within (local_in line)
 operation_as line (action.Return k) = Within (Return k)
-operation_as line (action.Named n) = Named (symbolic_view n)
+operation_as line (action.Named n) = Named n
 operation_as line action.Athrow = Athrow
 operation_as line action.Monitor = Monitor
 operation_as line action.Arraylength = Arraylength

@@ -35,7 +35,7 @@ pub use members::{
     method_named,
 };
 pub use objects::{arguments_fit, heap_before, make_arguments};
-pub use originals::{Exception, Originals};
+pub use originals::Originals;
 pub use parts::{Here, Parts, where_now};
 pub use passage::{Passage, next_in};
 pub use resolving::line_of;

@@ -5,8 +5,7 @@ use const_pool::Kind;
 use heap_objects::Value;
 use jf_bytes::Text16;
 use jvm_basic::Hot;
-use jvm_model::Family;
-use symbolic_references::SymbolicReference;
+use jvm_model::{Family, SymbolicReference};
 
 /// What an instruction does (JVM Specification 6.5), with the names that it gives.
 #[derive(Drop)]

@@ -26,7 +26,7 @@ ghost use Rattle.prepared_code.specs.Kept.{IsLater};
 ghost use Rattle.prepared_code.specs.Lines.{IfNamed, IfNamedBy};
 ghost use Rattle.prepared_code.specs.Linked.{IsReady, linker_in};
 ghost use Rattle.prepared_code.specs.Making.{passage_of};
-ghost use Rattle.prepared_code.specs.Prepared.{FitsOriginals, built_in_named, exception_kind};
+ghost use Rattle.prepared_code.specs.Prepared.{FitsOriginals, IsKeptKind, built_in_named, exception_kind};
 ghost use Rattle.prepared_code.specs.Prepared.{main_name};
 ghost use Rattle.prepared_code.specs.Entries.{original_versions};
 ghost use Rattle.prepared_code.specs.Versions.{ArePrepared, current_of, first_of, mark_of};
@@ -56,7 +56,7 @@ use code_model::Homes;
 use const_pool::{ClassFile, Kind};
 use frame_stack::Frames;
 use jf_bytes::{NoMemory, Seq};
-use jvm_model::{Mark, Program, Shared};
+use jvm_model::{Exception, Mark, Program, Shared};
 use std::alloc::Global;
 use std::marker::Model;
 use std::mem;
@@ -73,28 +73,7 @@ pub struct Method {
     pub max_locals: u16,
 }
 
-/// An exception that an instruction raises.
-#[derive(Clone, Copy, Debug, PartialEq, Eq)]
-pub enum Exception {
-    AbstractMethod,
-    Arithmetic,
-    ArrayStore,
-    ClassCast,
-    ClassCircularity,
-    IncompatibleClassChange,
-    InInitializer,
-    IndexOutside,
-    Instantiation,
-    NegativeArraySize,
-    NoClassDefinition,
-    NoSuchField,
-    NoSuchMethod,
-    NullPointer,
-    StackOverflow,
-    UnsatisfiedLink,
-}
-
-/// The kinds of their classes, and of the texts of their messages.
+/// The kinds of the classes of exceptions that instructions raise, and of the texts of their messages.
 #[derive(Clone, Copy, Debug, PartialEq, Eq)]
 pub struct Exceptions {
     pub abstract_method: u32,
@@ -569,8 +548,9 @@ impl Originals {
         self.methods.get(method as usize)?.params.as_ref()
     }
 
-    /// The kind of an exception's class.
+    /// The kind of the class of an exception that no native method throws.
     pub fn kind_of(&self, exception: Exception) -> u32
+        requires { IsKeptKind exception }
         ensures { result ≡ exception_kind self.now.setup.world.program exception }
     {
         match exception {
@@ -590,6 +570,8 @@ impl Originals {
             Exception::NullPointer => self.exceptions.null_pointer,
             Exception::StackOverflow => self.exceptions.stack_overflow,
             Exception::UnsatisfiedLink => self.exceptions.unsatisfied_link,
+            // It is none of those.
+            Exception::BuiltIn(_) => 0,
         }
     }
 

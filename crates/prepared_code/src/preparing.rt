@@ -2,7 +2,7 @@
 
 ghost use Rattle.std.specs.Prelude.{◌≡◌, ◌<◌, ◌^◌, length, map, unwrap_or, IfOk};
 ghost use Rattle.jvm_model.specs.Basis.SharedState.{kind_for, string};
-ghost use Rattle.prepared_code.specs.declared.originals.Exception.{Exception as TheException};
+ghost use Rattle.jvm_model.specs.declared.exception.Exception.{Exception as TheException};
 ghost use Rattle.prepared_code.specs.Entries.{code_line, lines_of, params_of};
 ghost use Rattle.std.specs.List.{range_with_len};
 ghost use Rattle.prepared_code.specs.Entries.{entry_at, entry_of, no_method};
@@ -350,7 +350,7 @@ pub fn bare_versions(alloc: Global, program: &Program) -> Result<Versions, NoMem
 /// The kinds of the exceptions that instructions raise, and of texts.
 pub fn exceptions_of(program: &Program) -> Exceptions
     requires { length program.now.classes < 2 ^ 24 }
-    ensures raised { (e : TheException) → exception_in result e ≡ exception_kind program.now e }
+    ensures raised { (e : TheException) → exception_in program.now result e ≡ exception_kind program.now e }
     ensures string { result.string ≡ kind_for program.now string }
 {
     Exceptions {

@@ -4,7 +4,7 @@ ghost use Rattle.std.specs.Prelude.{◌≡◌, ◌<◌, ◌^◌, IfOk};
 ghost use Rattle.std.specs.Int.{is_in_range};
 ghost use Rattle.std.specs.Option.{option_map};
 ghost use Rattle.code_model.specs.Instructions.{end_of};
-ghost use Rattle.jvm_model.specs.Basis.Data.{Within};
+ghost use Rattle.jvm_model.specs.declared.instruction.Operation.TheVariants.{Within};
 ghost use Rattle.jvm_model.specs.Codes.Lines.{constant_in, local_of, number_of};
 ghost use Rattle.jvm_model.specs.Codes.Lines.{pool_constant_operation, object_constant, object_constant_in};
 ghost use Rattle.jvm_model.specs.Basis.Values.{as_value};

@@ -4,13 +4,13 @@ ghost use Rattle.std.specs.Prelude.{◌≡◌, IfOk};
 ghost use Rattle.std.specs.Option.{option_and_then, option_map};
 ghost use Rattle.const_pool.specs.Members.{reference_view};
 ghost use Rattle.const_pool.specs.References.{named_class, named_field, named_method, named_text};
-ghost use Rattle.jvm_model.specs.Basis.Data.{LdcClass, Named};
+ghost use Rattle.jvm_model.specs.declared.instruction.SymbolicReference.TheVariants.{LdcClass};
+ghost use Rattle.jvm_model.specs.declared.instruction.Operation.TheVariants.{Named};
 ghost use Rattle.jvm_model.specs.Codes.Lines.{has_dimensions, interface_reference, array_reference};
 ghost use Rattle.jvm_model.specs.Codes.Lines.{named_interface_method, symbolic_reference_of, special_of};
 ghost use Rattle.jvm_model.specs.Basis.Programs.{name_of};
-ghost use Rattle.symbolic_references.specs.Members.{params_by};
-ghost use Rattle.symbolic_references.specs.Names.{symbolic_view};
-ghost use Rattle.prepared_code.specs.Lines.{action_of, member_as, named_action, named_as};
+ghost use Rattle.jvm_model.specs.Basis.MemberNames.{params_by};
+ghost use Rattle.prepared_code.specs.Lines.{action_of, named_action};
 
 use crate::descriptor::shape_of;
 use crate::line::Action;
@@ -18,8 +18,8 @@ use crate::members::{field_at, interface_method_at, method_at};
 use class_index::meaning_of;
 use const_pool::{ClassFile, Kind, MemberRef, Pool};
 use jf_bytes::{NoMemory, Seq, Text16};
+use jvm_model::{MemberName, MethodName, SymbolicReference};
 use std::alloc::Global;
-use symbolic_references::{MemberName, MethodName, SymbolicReference};
 
 // ---- names
 
@@ -32,13 +32,11 @@ pub fn copy_of(alloc: Global, text: &Text16) -> Result<Text16, NoMemory>
 
 /// A member with its names.
 fn member_as(alloc: Global, member: &MemberRef<'_>) -> Result<MemberName, NoMemory>
-    ensures { IfOk result (λ name. name ≡ member_as (reference_view member.now)) }
+    ensures { IfOk result (λ name. name ≡ reference_view member.now) }
 {
-    Ok(MemberName {
-        class: copy_of(alloc, member.class)?,
-        name: copy_of(alloc, member.name)?,
-        descriptor: copy_of(alloc, member.descriptor)?,
-    })
+    let class = copy_of(alloc, member.class)?;
+    let name = copy_of(alloc, member.name)?;
+    Ok(MemberName::new(class, name, copy_of(alloc, member.descriptor)?))
 }
 
 /// The kinds of the parameters that a method's descriptor tells.
@@ -61,7 +59,7 @@ fn method_as(alloc: Global, method: &MemberRef<'_>) -> Result<MethodName, NoMemo
 
 /// The names of what a Fieldref names.
 fn field_in(alloc: Global, pool: &Pool, index: u16) -> Result<Option<MemberName>, NoMemory>
-    ensures { IfOk result (λ name. name ≡ option_map member_as (named_field pool.now index)) }
+    ensures { IfOk result (λ name. name ≡ named_field pool.now index) }
 {
     match field_at(pool, index) {
         Some(field) => Ok(Some(member_as(alloc, &field)?)),
@@ -122,8 +120,7 @@ fn special_in(
     index: u16,
 ) -> Result<Option<SymbolicReference>, NoMemory>
     ensures { let method = named_method class.now.pool index in IfOk result (λ n. n
-        ≡ option_map named_as (option_and_then (λ caller. option_map (special_of caller) method)
-        (name_of class.now))) }
+        ≡ option_and_then (λ caller. option_map (special_of caller) method) (name_of class.now)) }
 {
     let Some(caller) = class_in(alloc, &class.pool, class.this_class)? else {
         return Ok(None);
@@ -142,7 +139,7 @@ pub fn symbolic_reference_of(
     index: u16,
 ) -> Result<Option<SymbolicReference>, NoMemory>
     ensures { IfOk result
-        (λ n. n ≡ option_map named_as (symbolic_reference_of class.now op index)) }
+        (λ n. n ≡ symbolic_reference_of class.now op index) }
 {
     let pool = &class.pool;
     match op {
@@ -168,7 +165,7 @@ pub fn interface_reference(
     op: u8,
     index: u16,
 ) -> Result<Option<SymbolicReference>, NoMemory>
-    ensures { IfOk result (λ n. n ≡ option_map named_as (interface_reference class.now op index)) }
+    ensures { IfOk result (λ n. n ≡ interface_reference class.now op index) }
 {
     match op {
         185 => Ok(interface_method_in(alloc, &class.pool, index)?.map(
@@ -187,7 +184,7 @@ pub fn array_reference(
     dimensions: u8,
 ) -> Result<Option<SymbolicReference>, NoMemory>
     ensures { IfOk result
-        (λ n. n ≡ option_map named_as (array_reference class.now op index dimensions)) }
+        (λ n. n ≡ array_reference class.now op index dimensions) }
 {
     if op != 197 {
         return Ok(None);
@@ -210,7 +207,7 @@ pub fn class_action(name: Option<Text16>) -> Option<Action>
 
 /// Whether an array type that is named has the dimensions that the format asks (4.9.1).
 fn has_dimensions(naming: &SymbolicReference) -> bool
-    ensures { result ≡ has_dimensions (symbolic_view naming.now) }
+    ensures { result ≡ has_dimensions naming.now }
 {
     match naming {
         SymbolicReference::Anewarray(name) => meaning_of(name.units()).dimensions < 255,

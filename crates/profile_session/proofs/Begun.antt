@@ -8,7 +8,8 @@ use Rattle.jvm_model.specs.declared.event.EventKind.TheVariants as kind
 use Rattle.jvm_model.specs.declared.event.Mark.{Mark}
 use Rattle.jvm_model.specs.declared.program.Program.{Program}
 use Rattle.jvm_model.specs.Soundness.Calls.{AreCalled}
-use Rattle.jvm_model.specs.Basis.Data.{Change, Loads, Began, Left, Unwound, Operation}
+use Rattle.jvm_model.specs.Basis.Data.{Change, Loads, Began, Left, Unwound}
+use Rattle.jvm_model.specs.declared.instruction.Operation.{Operation}
 use Rattle.jvm_model.specs.Rewriting.Images.{is_off}
 use Rattle.jvm_model.specs.Running.Changes.{without_first}
 use Rattle.jvm_model.specs.Turns.Pauses.{Stop, begin_kind, end_due, stop_by, stop_from, stop_in, told_at}

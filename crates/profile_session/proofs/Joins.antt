@@ -11,7 +11,8 @@ use Rattle.jvm_model.specs.declared.event.Mark.TheVariants.{Off, Plain, Root}
 use Rattle.jvm_model.specs.declared.program.MethodPlace.{MethodPlace}
 use Rattle.jvm_model.specs.declared.program.Program.{Program}
 use Rattle.jvm_model.specs.Running.Changes.{EndThenBegin, AreOrdered}
-use Rattle.jvm_model.specs.Basis.Data.{Change, Loads, Began, Left, Unwound, Operation, World}
+use Rattle.jvm_model.specs.Basis.Data.{Change, Loads, Began, Left, Unwound, World}
+use Rattle.jvm_model.specs.declared.instruction.Operation.{Operation}
 use Rattle.jvm_model.specs.Profiling.EventLists.{Marking, step_events}
 use Rattle.jvm_model.specs.Classes.Load.{is_among}
 use Rattle.jvm_model.specs.Codes.Originals.{original}

@@ -8,7 +8,8 @@ use Rattle.jvm_model.specs.declared.program.Program.{Program}
 use Rattle.jvm_model.specs.declared.state.State.{State}
 use Rattle.jvm_model.specs.Profiling.Activations.{trace_before}
 use Rattle.jvm_model.specs.Soundness.Calls.{AreFrom}
-use Rattle.jvm_model.specs.Basis.Data.{Operation, World}
+use Rattle.jvm_model.specs.Basis.Data.{World}
+use Rattle.jvm_model.specs.declared.instruction.Operation.{Operation}
 use Rattle.jvm_model.specs.Classes.Load.{is_among}
 use Rattle.jvm_model.specs.Codes.Originals.{original}
 use Rattle.jvm_model.specs.Profiling.Points.{Standing, has_class, is_target, mark_in, marking_of, nothing, standing_in}

@@ -11,7 +11,8 @@ use Rattle.jvm_model.specs.Classes.Kinds.{Element, Primitive, Named, kind_named,
 use Rattle.jvm_model.specs.Classes.Load.{Fault, Loading, There, Begun, Fresh, behind_needs, by_standing, loading_done, is_among, load_element, load_named, load_needs, load_of, needs_of, standing_of}
 use Rattle.jvm_model.specs.Basis.Programs.{class_named}
 use Rattle.jvm_model.proofs.Loading.LoadsAgain.{newly-again, newly-loaded}
-use Rattle.jvm_model.specs.Instructions.SymbolicReference.{SymbolicReference, kind_unless, newly_loaded, resolved_kind, resolved_name, resolves}
+use Rattle.jvm_model.specs.Instructions.SymbolicReference.{kind_unless, newly_loaded, resolved_kind, resolved_name, resolves}
+use Rattle.jvm_model.specs.declared.instruction.SymbolicReference.{SymbolicReference}
 use Rattle.jvm_model.specs.Instructions.ReferenceRules.{does_named}
 use Rattle.jvm_model.specs.Instructions.ObjectRules.{done as done_with}
 use Rattle.class_linker.specs.Linkers.{LinkerView}

@@ -23,7 +23,7 @@ use Rattle.jvm_model.specs.Basis.Descriptors.{shape_of}
 use Rattle.jvm_model.specs.Instructions.InvocationRules.{arguments_by, receiver_in, with_receiver}
 use Rattle.jvm_model.specs.Basis.Values.{arguments, data_of, datum_of}
 use Rattle.jvm_model.proofs.Running.Shapes.{method_sound}
-use Rattle.symbolic_references.specs.Members.{params_by}
+use Rattle.jvm_model.specs.Basis.MemberNames.{params_by}
 use Rattle.symbolic_references.specs.Targets.{as_datum, data_in, is_reference, reference_in}
 
 -- as many values as parameters, or there are no such data

@@ -9,7 +9,9 @@ use Rattle.jvm_model.specs.declared.program.Program.{Program}
 use Rattle.jvm_model.specs.declared.state.Shared.{Shared}
 use Rattle.jvm_model.specs.Basis.Data.{Operands, World}
 use Rattle.jvm_model.specs.Classes.Load.{load_of}
-use Rattle.jvm_model.specs.Instructions.SymbolicReference.{SymbolicReference, Invokespecial, newly_loaded, resolved_kind, resolved_name, resolves, unless_refused}
+use Rattle.jvm_model.specs.Instructions.SymbolicReference.{newly_loaded, resolved_kind, resolved_name, resolves, unless_refused}
+use Rattle.jvm_model.specs.declared.instruction.SymbolicReference.{SymbolicReference}
+use Rattle.jvm_model.specs.declared.instruction.SymbolicReference.TheVariants.{Invokespecial}
 use Rattle.jvm_model.specs.Instructions.ReferenceRules.{does_named}
 use Rattle.jvm_model.specs.Instructions.ObjectRules.{done}
 use Rattle.jvm_model.proofs.Loading.LoadsAgain.{newly-loaded, resolved-again}

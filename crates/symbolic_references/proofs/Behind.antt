@@ -8,7 +8,9 @@ use Rattle.jvm_model.specs.Basis.Data.{Locals, Operands, World, Next, Outcome, G
 use Rattle.jvm_model.specs.Instructions.FieldRules.{gets_of, held_of, kind_by, pushes_static, puts_into, putting_of, sets_static}
 use Rattle.jvm_model.specs.Instructions.InvocationRules.{Virtual, OfInterface, Special, arguments_by, invokes_on, invokes_with_static}
 use Rattle.jvm_model.specs.Instructions.LocalRules.{replaces}
-use Rattle.jvm_model.specs.Instructions.SymbolicReference.{◌>>=◌, SymbolicReference, New, Getfield, Putfield, Getstatic, Putstatic, Invokevirtual, Invokespecial, Invokestatic, Invokeinterface, Checkcast, Instanceof, Anewarray, Multianewarray, LdcClass, is_null, resolved_kind, resolved_name, resolves, unless_refused}
+use Rattle.jvm_model.specs.Instructions.SymbolicReference.{◌>>=◌, is_null, resolved_kind, resolved_name, resolves, unless_refused}
+use Rattle.jvm_model.specs.declared.instruction.SymbolicReference.{SymbolicReference}
+use Rattle.jvm_model.specs.declared.instruction.SymbolicReference.TheVariants.{New, Getfield, Putfield, Getstatic, Putstatic, Invokevirtual, Invokespecial, Invokestatic, Invokeinterface, Checkcast, Instanceof, Anewarray, Multianewarray, LdcClass}
 use Rattle.jvm_model.specs.Instructions.ReferenceRules.{does_named}
 use Rattle.jvm_model.specs.Instructions.ObjectRules.{done}
 use Rattle.jvm_model.specs.Instructions.Rules.{class_initialized}

@@ -3,7 +3,8 @@ use Rattle.std.proofs.Common.{ℕ, List}
 use Rattle.jvm_model.specs.declared.program.Program.{Program}
 use Rattle.const_pool.specs.References.{Reference}
 use Rattle.jvm_model.specs.Instructions.InvocationRules.{Selecting, Virtual, OfInterface, Special}
-use Rattle.jvm_model.specs.Instructions.SymbolicReference.{SymbolicReference, New, Checkcast, Instanceof}
+use Rattle.jvm_model.specs.declared.instruction.SymbolicReference.{SymbolicReference}
+use Rattle.jvm_model.specs.declared.instruction.SymbolicReference.TheVariants.{New, Checkcast, Instanceof}
 use Rattle.symbolic_references.specs.declared.known.Found.{Found}
 use Rattle.symbolic_references.specs.declared.known.Found.TheVariants as found
 use Rattle.symbolic_references.specs.declared.known.Site.{Site}

@@ -8,9 +8,11 @@ use Rattle.jvm_model.specs.Basis.Data.{Raises}
 use Rattle.jvm_model.specs.Basis.KindNumbers.{user_count}
 use Rattle.jvm_model.specs.Classes.Kinds.{kind_named, meaning_of}
 use Rattle.jvm_model.specs.Classes.Load.{Fault, NoClass, Circular, Incompatible, error_of, is_among, load_of}
-use Rattle.jvm_model.specs.Instructions.SymbolicReference.{New as NewReference, kind_unless, message_of, resolved_kind}
+use Rattle.jvm_model.specs.Instructions.SymbolicReference.{kind_unless, message_of, resolved_kind}
+use Rattle.jvm_model.specs.declared.instruction.SymbolicReference.TheVariants.{New as NewReference}
 use Rattle.jvm_model.proofs.Loading.LoadsAgain.{newly-loaded}
-use Rattle.symbolic_references.specs.Answers.{exception_name, exception_numbered}
+use Rattle.symbolic_references.specs.Answers.{exception_numbered}
+use Rattle.jvm_model.specs.Instructions.Exceptions.{exception_name}
 use Rattle.symbolic_references.specs.Objects.{IsResolved, IsUsable}
 use Rattle.symbolic_references.proofs.Loads.{resolves}
 use Rattle.symbolic_references.proofs.ObjectLemmas.{among-front}

@@ -16,29 +16,15 @@ use Rattle.jvm_model.specs.Classes.Lookup.{MemberPlace, incompatible_change}
 use Rattle.jvm_model.specs.Basis.SharedState.{negative_array_size, no_class_definition, no_such_field, no_such_method, null_pointer}
 use Rattle.symbolic_references.specs.declared.declared_member.DeclaredMember.{DeclaredMember}
 use Rattle.symbolic_references.specs.Members.{at_place}
-use Rattle.symbolic_references.specs.declared.asked.Exception.{Exception}
-use Rattle.symbolic_references.specs.declared.asked.Exception.TheVariants as exception
+use Rattle.jvm_model.specs.declared.exception.Exception.{Exception}
+use Rattle.jvm_model.specs.declared.exception.Exception.TheVariants as exception
+use Rattle.jvm_model.specs.Instructions.Exceptions.{exception_name}
 use Rattle.symbolic_references.specs.declared.asked.AbruptCompletion.{AbruptCompletion}
 use Rattle.symbolic_references.specs.declared.asked.AbruptCompletion.TheVariants as refusal
 use Rattle.symbolic_references.specs.declared.asked.Asked.{Asked}
 use Rattle.symbolic_references.specs.declared.asked.Asked.TheVariants as asked
 
 -- ---- refusals
-
--- the name of its class
-abbrev pub exception_name : Exception → List ℕ
-exception_name exception.AbstractMethod = abstract_method
-exception_name exception.ClassCast = class_cast
-exception_name exception.ClassCircularity = circular_class
-exception_name exception.IncompatibleClassChange = incompatible_change
-exception_name exception.Instantiation = instantiation_error
-exception_name exception.NegativeArraySize = negative_array_size
-exception_name exception.NoClassDefinition = no_class_definition
-exception_name exception.NoSuchField = no_such_field
-exception_name exception.NoSuchMethod = no_such_method
-exception_name exception.NullPointer = null_pointer
-exception_name exception.UnsatisfiedLink = unsatisfied_link
-exception_name (exception.BuiltIn place) = unwrap_or (slice_get built_in_names place) []
 
 -- that of the built-in class at this place, where it is the error of a load or of a resolution
 abbrev pub exception_numbered : ℕ → Exception

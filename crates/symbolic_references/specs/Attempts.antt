@@ -4,7 +4,8 @@ use Rattle.frame_stack.specs.FrameLists.{FramesView, top_operands}
 use Rattle.jvm_model.specs.declared.program.Program.{Program}
 use Rattle.jvm_model.specs.declared.state.Shared.{Shared}
 use Rattle.jvm_model.specs.Basis.Data.{Operands, World}
-use Rattle.jvm_model.specs.Instructions.SymbolicReference.{SymbolicReference, newly_loaded, resolved_kind, resolved_name, resolves}
+use Rattle.jvm_model.specs.Instructions.SymbolicReference.{newly_loaded, resolved_kind, resolved_name, resolves}
+use Rattle.jvm_model.specs.declared.instruction.SymbolicReference.{SymbolicReference}
 use Rattle.jvm_model.specs.Instructions.ReferenceRules.{does_named}
 use Rattle.class_linker.specs.Linkers.{LinkerView}
 use Rattle.symbolic_references.specs.declared.asked.AbruptCompletion.{AbruptCompletion}

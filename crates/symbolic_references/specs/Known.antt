@@ -8,7 +8,9 @@ use Rattle.jvm_model.specs.Instructions.CreationRules.{has_no_instances, is_text
 use Rattle.jvm_model.specs.Instructions.FieldRules.{slot_of}
 use Rattle.jvm_model.specs.Classes.Load.{loading_done, load_of}
 use Rattle.jvm_model.specs.Instructions.InvocationRules.{Selecting, Virtual, OfInterface, Special, names_interface, selected_by}
-use Rattle.jvm_model.specs.Instructions.SymbolicReference.{SymbolicReference, Getfield, Putfield, Getstatic, Putstatic, Invokevirtual, Invokespecial, Invokestatic, Invokeinterface, is_below_kind, resolved_name}
+use Rattle.jvm_model.specs.Instructions.SymbolicReference.{is_below_kind, resolved_name}
+use Rattle.jvm_model.specs.declared.instruction.SymbolicReference.{SymbolicReference}
+use Rattle.jvm_model.specs.declared.instruction.SymbolicReference.TheVariants.{Getfield, Putfield, Getstatic, Putstatic, Invokevirtual, Invokespecial, Invokestatic, Invokeinterface}
 use Rattle.jvm_model.specs.Basis.SharedState.{class_of_kind}
 use Rattle.symbolic_references.specs.declared.known.Chosen.{Chosen}
 use Rattle.symbolic_references.specs.declared.known.Found.{Found}

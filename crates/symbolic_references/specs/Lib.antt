@@ -1,5 +1,4 @@
 pub mod Members
-pub mod Names
 pub mod Answers
 pub mod Objects
 pub mod Resolved

@@ -7,7 +7,7 @@ ghost use Rattle.jvm_model.specs.Basis.Values.{int_of};
 ghost use Rattle.symbolic_references.specs.Answers.{Answers, Moves, Shares};
 ghost use Rattle.symbolic_references.specs.Objects.{AreLoaded, IsUsable};
 
-use crate::asked::{AbruptCompletion, Asked, Exception};
+use crate::asked::{AbruptCompletion, Asked};
 use crate::creation::RESERVED;
 use crate::moving::replace;
 use class_index::FIRST_ARRAY;
@@ -16,7 +16,7 @@ use frame_stack::Frames;
 use heap_objects::{Datum, HeapError, Value};
 use jf_bytes::NoMemory;
 use jvm_basic::int_of;
-use jvm_model::Shared;
+use jvm_model::{Exception, Shared};
 
 /// An array of this kind, of so many elements, where there is room for it, in place of the number.
 fn make_array(

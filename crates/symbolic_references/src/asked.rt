@@ -1,23 +1,7 @@
 //! What an instruction asks for.
 
 use jf_bytes::Text16;
-
-/// The class of an exception that an instruction raises; one that a native method throws is of the built-in class at a place among them.
-#[derive(Clone, Copy, Debug, PartialEq, Eq)]
-pub enum Exception {
-    AbstractMethod,
-    ClassCast,
-    ClassCircularity,
-    IncompatibleClassChange,
-    Instantiation,
-    NegativeArraySize,
-    NoClassDefinition,
-    NoSuchField,
-    NoSuchMethod,
-    NullPointer,
-    UnsatisfiedLink,
-    BuiltIn(u16),
-}
+use jvm_model::Exception;
 
 /// What an instruction asks for in place of going on (2.10, 5.5): an exception that the machine makes, with its message; that an object
 /// is thrown; that the class at this position is initialized before; the end of the program with a status; or its end where the code is

@@ -12,7 +12,6 @@ ghost use Rattle.symbolic_references.specs.Attempts.{IsFound, attempts, linker_l
 ghost use Rattle.symbolic_references.specs.Attempts.{loaded_for};
 ghost use Rattle.symbolic_references.specs.Attempts.{is_loaded, loads_nothing, shared_loaded, world_over};
 ghost use Rattle.symbolic_references.specs.Known.{IsKnown, LoadsNothing};
-ghost use Rattle.symbolic_references.specs.Names.{symbolic_view};
 ghost use Rattle.symbolic_references.specs.Natives.{HasBuiltIn};
 ghost use Rattle.symbolic_references.specs.Numbers.{AreNumbers};
 ghost use Rattle.symbolic_references.specs.Objects.{AreLoaded, HasDimensions, HasLoadedCaller};
@@ -24,13 +23,12 @@ use crate::known::{Found, Known};
 use crate::moving::{keep, replace};
 use crate::numbers::MethodNumbers;
 use crate::resolution::resolve;
-use crate::symbolic_reference::SymbolicReference;
 use class_linker::Linker;
 use frame_stack::Frames;
 use heap_objects::Value;
 use jf_bytes::{NoMemory, Seq, Text16};
 use jvm_basic::ref_of;
-use jvm_model::Shared;
+use jvm_model::{Shared, SymbolicReference};
 use std::alloc::Global;
 
 // ---- what is resolved
@@ -47,7 +45,7 @@ fn is_null(frames: &Frames) -> bool
 
 /// Whether the instruction resolves what it names: checkcast and instanceof of null do not.
 fn resolves(frames: &Frames, naming: &SymbolicReference) -> bool
-    ensures { result ≡ resolves (symbolic_view naming.now) (top_operands frames.now.frames) }
+    ensures { result ≡ resolves naming.now (top_operands frames.now.frames) }
 {
     match naming {
         SymbolicReference::Checkcast(_) => !is_null(frames),
@@ -58,14 +56,14 @@ fn resolves(frames: &Frames, naming: &SymbolicReference) -> bool
 
 /// The name of the class, or of the array type, that is resolved: of a member its class's.
 pub fn resolved_name(naming: &SymbolicReference) -> &Text16
-    ensures { result.now ≡ resolved_name (symbolic_view naming.now) }
+    ensures { result.now ≡ resolved_name naming.now }
 {
     match naming {
         SymbolicReference::New(name) => name,
-        SymbolicReference::Getfield(member) => &member.class,
-        SymbolicReference::Putfield(member) => &member.class,
-        SymbolicReference::Getstatic(member) => &member.class,
-        SymbolicReference::Putstatic(member) => &member.class,
+        SymbolicReference::Getfield(member) => member.class(),
+        SymbolicReference::Putfield(member) => member.class(),
+        SymbolicReference::Getstatic(member) => member.class(),
+        SymbolicReference::Putstatic(member) => member.class(),
         SymbolicReference::Invokevirtual(method) => method.class(),
         SymbolicReference::Invokespecial(_, method, _) => method.class(),
         SymbolicReference::Invokestatic(method) => method.class(),
@@ -87,10 +85,10 @@ fn find(
 ) -> Result<Option<Result<u32, AbruptCompletion>>, NoMemory>
     requires linked { linker.old.loaded ≡ loaded.old }
     requires root { IsLoaded linker.old (user_count linker.old.program) }
-    ensures found { IfOk result (λ found. IsFound linker.new (symbolic_view naming.now)
+    ensures found { IfOk result (λ found. IsFound linker.new naming.now
         (top_operands frames.now.frames) found) }
     ensures loaded { OnOk result (loaded.new ≡ loaded.old ++ newly_loaded linker.old.program
-        loaded.old (symbolic_view naming.now) (top_operands frames.now.frames)) }
+        loaded.old naming.now (top_operands frames.now.frames)) }
     ensures linker { OnOk result (linker.new ≡ linker_with linker.old loaded.new) }
     ensures program { linker.new.program ≡ linker.old.program }
 {
@@ -111,12 +109,12 @@ fn find_loaded(
     requires linked { linker.old.loaded ≡ loaded.old }
     requires root { IsLoaded linker.old (user_count linker.old.program) }
     ensures some { IfOk result (λ o. is_some o ≡ loads_nothing linker.old.program loaded.old
-        (symbolic_view naming.now) (top_operands frames.now.frames)) }
+        naming.now (top_operands frames.now.frames)) }
     ensures found { IfOk result
-        (λ o. IfSome o (λ found. IsFound linker.new (symbolic_view naming.now)
+        (λ o. IfSome o (λ found. IsFound linker.new naming.now
         (top_operands frames.now.frames) found)) }
     ensures loaded { OnOk result (loaded.new ≡ loaded.old ++ newly_loaded linker.old.program
-        loaded.old (symbolic_view naming.now) (top_operands frames.now.frames)) }
+        loaded.old naming.now (top_operands frames.now.frames)) }
     ensures linker { OnOk result (linker.new ≡ linker_with linker.old loaded.new) }
     ensures program { linker.new.program ≡ linker.old.program }
 {
@@ -132,8 +130,8 @@ fn find_loaded(
 
 /// checkcast and instanceof of null.
 fn skip(frames: &mut Frames, naming: &SymbolicReference, next: u16) -> Asked
-    ensures answer { answer_view result ≡ answer_of (skips (symbolic_view naming.now)) frames.old }
-    ensures frames { frames.new ≡ frames_of (skips (symbolic_view naming.now)) next frames.old }
+    ensures answer { answer_view result ≡ answer_of (skips naming.now) frames.old }
+    ensures frames { frames.new ≡ frames_of (skips naming.now) next frames.old }
 {
     match naming {
         SymbolicReference::Instanceof(_) => replace(frames, Value::Int(0), next),
@@ -157,26 +155,25 @@ fn do_found(
     learnt: &mut Option<Known>,
 ) -> Result<Asked, NoMemory>
     requires linked { linker.now.loaded ≡ shared.old.loaded }
-    requires found { IsFound linker.now (symbolic_view naming.now)
+    requires found { IsFound linker.now naming.now
         (top_operands frames.old.frames) found }
-    requires loads { resolves (symbolic_view naming.now) (top_operands frames.old.frames) ≡ true →
-        LoadsNothing linker.now (symbolic_view naming.now) }
+    requires loads { resolves naming.now (top_operands frames.old.frames) ≡ true →
+        LoadsNothing linker.now naming.now }
     requires numbers { AreNumbers linker.now.program numbers.now }
     requires built_in { HasBuiltIn linker.now }
     requires objects { AreLoaded linker.now shared.old.heap }
-    requires caller { HasLoadedCaller linker.now (symbolic_view naming.now) }
-    requires dimensions { HasDimensions (symbolic_view naming.now) }
-    ensures answer { Answers result (does_named (world_over linker.now input.now) (symbolic_view
-        naming.now) shared.old) frames.old }
+    requires caller { HasLoadedCaller linker.now naming.now }
+    requires dimensions { HasDimensions naming.now }
+    ensures answer { Answers result (does_named (world_over linker.now input.now) naming.now shared.old) frames.old }
     ensures frames { Moves result frames.new (does_named (world_over linker.now input.now)
-        (symbolic_view naming.now) shared.old) next frames.old }
+        naming.now shared.old) next frames.old }
     ensures shared { Shares result shared.new (does_named (world_over linker.now input.now)
-        (symbolic_view naming.now) shared.old) frames.old }
+        naming.now shared.old) frames.old }
     ensures output { OnOk result (output.new ≡ output.old ++ wrote_by (does_named (world_over
-        linker.now input.now) (symbolic_view naming.now) shared.old) frames.old) }
+        linker.now input.now) naming.now shared.old) frames.old) }
     ensures objects { OnOk result (AreLoaded linker.now shared.new.heap) }
     ensures learnt { OnOk result (IfSome learnt.new
-        (λ known. IsKnown linker.now (symbolic_view naming.now) known)) }
+        (λ known. IsKnown linker.now naming.now known)) }
 {
     *learnt = None;
     match found {
@@ -214,23 +211,22 @@ pub fn attempt(
     requires numbers { AreNumbers linker.old.program numbers.now }
     requires built_in { HasBuiltIn linker.old }
     requires objects { AreLoaded linker.old shared.old.heap }
-    requires caller { HasLoadedCaller linker.old (symbolic_view naming.now) }
-    requires dimensions { HasDimensions (symbolic_view naming.now) }
-    ensures answer { Answers result (attempts (world_over linker.old input.now) (symbolic_view
-        naming.now) shared.old frames.old) frames.old }
+    requires caller { HasLoadedCaller linker.old naming.now }
+    requires dimensions { HasDimensions naming.now }
+    ensures answer { Answers result (attempts (world_over linker.old input.now) naming.now shared.old frames.old) frames.old }
     ensures frames { Moves result frames.new (attempts (world_over linker.old input.now)
-        (symbolic_view naming.now) shared.old frames.old) next frames.old }
+        naming.now shared.old frames.old) next frames.old }
     ensures shared { Shares result shared.new (attempts (world_over linker.old input.now)
-        (symbolic_view naming.now) shared.old frames.old) frames.old }
+        naming.now shared.old frames.old) frames.old }
     ensures output { OnOk result (output.new ≡ output.old ++ wrote_by (attempts (world_over
-        linker.old input.now) (symbolic_view naming.now) shared.old frames.old) frames.old) }
+        linker.old input.now) naming.now shared.old frames.old) frames.old) }
     ensures linker { OnOk result (linker.new
-        ≡ linker_loaded (symbolic_view naming.now) shared.old linker.old frames.old) }
+        ≡ linker_loaded naming.now shared.old linker.old frames.old) }
     ensures program { linker.new.program ≡ linker.old.program }
     ensures built_in { OnOk result (HasBuiltIn linker.new) }
     ensures objects { OnOk result (AreLoaded linker.new shared.new.heap) }
     ensures learnt { OnOk result (IfSome learnt.new
-        (λ known. IsKnown linker.new (symbolic_view naming.now) known)) }
+        (λ known. IsKnown linker.new naming.now known)) }
 {
     let found = find(linker, &mut shared.loaded, frames, naming)?;
     do_found(
@@ -256,33 +252,33 @@ pub fn attempt_loaded(
     requires numbers { AreNumbers linker.old.program numbers.now }
     requires built_in { HasBuiltIn linker.old }
     requires objects { AreLoaded linker.old shared.old.heap }
-    requires caller { HasLoadedCaller linker.old (symbolic_view naming.now) }
-    requires dimensions { HasDimensions (symbolic_view naming.now) }
+    requires caller { HasLoadedCaller linker.old naming.now }
+    requires dimensions { HasDimensions naming.now }
     ensures some { let w = world_over linker.old input.now in IfOk result
-        (λ a. is_some a ≡ is_loaded w (symbolic_view naming.now) shared.old frames.old) }
+        (λ a. is_some a ≡ is_loaded w naming.now shared.old frames.old) }
     ensures answer { let w = world_over linker.old input.now in
-        let rule = attempts w (symbolic_view naming.now) shared.old frames.old in
+        let rule = attempts w naming.now shared.old frames.old in
         IfOk result (λ a. IfSome a (λ a. answer_view a ≡ answer_by rule frames.old)) }
     ensures frames { let w = world_over linker.old input.now in
-        let rule = attempts w (symbolic_view naming.now) shared.old frames.old in
+        let rule = attempts w naming.now shared.old frames.old in
         IfOk result (λ a. IfSome a (λ _. frames.new ≡ frames_by rule next frames.old)) }
     ensures shared { let w = world_over linker.old input.now in
-        let rule = attempts w (symbolic_view naming.now) shared.old frames.old in
+        let rule = attempts w naming.now shared.old frames.old in
         IfOk result (λ a. IfSome a (λ _. shared.new ≡ shared_by rule frames.old)) }
     ensures output { let w = world_over linker.old input.now in
-        let rule = attempts w (symbolic_view naming.now) shared.old frames.old in
+        let rule = attempts w naming.now shared.old frames.old in
         IfOk result (λ a. IfSome a (λ _. output.new ≡ output.old ++ wrote_by rule frames.old)) }
     ensures same_frames { IfOk result (λ a. IfNone a (frames.new ≡ frames.old)) }
     ensures same_output { IfOk result (λ a. IfNone a (output.new ≡ output.old)) }
-    ensures loads { let n = symbolic_view naming.now in let p = linker.old.program in
+    ensures loads { let n = naming.now in let p = linker.old.program in
         IfOk result (λ a. IfNone a (shared.new ≡ shared_loaded p n shared.old frames.old)) }
     ensures linker { OnOk result (linker.new
-        ≡ linker_loaded (symbolic_view naming.now) shared.old linker.old frames.old) }
+        ≡ linker_loaded naming.now shared.old linker.old frames.old) }
     ensures program { linker.new.program ≡ linker.old.program }
     ensures built_in { OnOk result (HasBuiltIn linker.new) }
     ensures objects { OnOk result (AreLoaded linker.new shared.new.heap) }
     ensures learnt { OnOk result (IfSome learnt.new
-        (λ known. IsKnown linker.new (symbolic_view naming.now) known)) }
+        (λ known. IsKnown linker.new naming.now known)) }
 {
     let Some(found) = find_loaded(linker, &mut shared.loaded, frames, naming)? else {
         *learnt = None;
@@ -312,26 +308,25 @@ pub fn attempt_known(
     known: &mut Known,
 ) -> Result<Asked, NoMemory>
     requires linked { linker.now.loaded ≡ shared.old.loaded }
-    requires known { IsKnown linker.now (symbolic_view naming.now) known.old }
+    requires known { IsKnown linker.now naming.now known.old }
     requires numbers { AreNumbers linker.now.program numbers.now }
     requires built_in { HasBuiltIn linker.now }
     requires objects { AreLoaded linker.now shared.old.heap }
-    requires caller { HasLoadedCaller linker.now (symbolic_view naming.now) }
-    requires dimensions { HasDimensions (symbolic_view naming.now) }
-    ensures answer { Answers result (attempts (world_over linker.now input.now) (symbolic_view
-        naming.now) shared.old frames.old) frames.old }
+    requires caller { HasLoadedCaller linker.now naming.now }
+    requires dimensions { HasDimensions naming.now }
+    ensures answer { Answers result (attempts (world_over linker.now input.now) naming.now shared.old frames.old) frames.old }
     ensures frames { Moves result frames.new (attempts (world_over linker.now input.now)
-        (symbolic_view naming.now) shared.old frames.old) next frames.old }
+        naming.now shared.old frames.old) next frames.old }
     ensures shared { Shares result shared.new (attempts (world_over linker.now input.now)
-        (symbolic_view naming.now) shared.old frames.old) frames.old }
+        naming.now shared.old frames.old) frames.old }
     ensures output { OnOk result (output.new ≡ output.old ++ wrote_by (attempts (world_over
-        linker.now input.now) (symbolic_view naming.now) shared.old frames.old) frames.old) }
+        linker.now input.now) naming.now shared.old frames.old) frames.old) }
     ensures loaded { linker.now.loaded
-        ≡ loaded_for linker.now.program (symbolic_view naming.now) shared.old frames.old }
+        ≡ loaded_for linker.now.program naming.now shared.old frames.old }
     ensures loads { let w = world_over linker.now input.now in
-        is_loaded w (symbolic_view naming.now) shared.old frames.old ≡ true }
+        is_loaded w naming.now shared.old frames.old ≡ true }
     ensures objects { OnOk result (AreLoaded linker.now shared.new.heap) }
-    ensures known { IsKnown linker.now (symbolic_view naming.now) known.new }
+    ensures known { IsKnown linker.now naming.now known.new }
 {
     if !resolves(frames, naming) {
         return Ok(skip(frames, naming, next));

@@ -7,9 +7,9 @@ ghost use Rattle.frame_stack.specs.FrameLists.{top_operands};
 ghost use Rattle.jvm_basic.specs.Outcomes.{top_locals};
 ghost use Rattle.jvm_model.specs.Instructions.InvocationRules.{OfInterface, Special, Virtual};
 ghost use Rattle.jvm_model.specs.Instructions.InvocationRules.{invokes_native, invokes_selected};
-ghost use Rattle.jvm_model.specs.Instructions.SymbolicReference as model;
-ghost use Rattle.jvm_model.specs.Instructions.SymbolicReference.{Invokeinterface, Invokespecial, Invokestatic};
-ghost use Rattle.jvm_model.specs.Instructions.SymbolicReference.{Invokevirtual};
+ghost use Rattle.jvm_model.specs.declared.instruction.SymbolicReference.TheVariants as model;
+ghost use Rattle.jvm_model.specs.declared.instruction.SymbolicReference.TheVariants.{Invokeinterface, Invokespecial, Invokestatic};
+ghost use Rattle.jvm_model.specs.declared.instruction.SymbolicReference.TheVariants.{Invokevirtual};
 ghost use Rattle.symbolic_references.specs.Answers.{Answers, Moves, Shares, wrote_by};
 ghost use Rattle.symbolic_references.specs.Attempts.{world_over};
 ghost use Rattle.symbolic_references.specs.Callees.{HasCallee, chosen_place};
@@ -22,17 +22,16 @@ ghost use Rattle.symbolic_references.specs.Members.{at_place};
 ghost use Rattle.symbolic_references.specs.Resolved.{invokes_instance, invokes_static_method};
 ghost use Rattle.symbolic_references.specs.Targets.{HasCaller, selecting_view, data_in};
 
-use crate::asked::{AbruptCompletion, Asked, Exception};
+use crate::asked::{AbruptCompletion, Asked};
 use crate::declared_member::DeclaredMember;
 use crate::known::{Callee, Chosen, Found};
 use crate::natives::{run_native, run_numbered};
 use crate::numbers::MethodNumbers;
-use crate::symbolic_reference::MethodName;
 use crate::targets::{Selecting, instance_target, is_abstract, static_target};
 use class_linker::Linker;
 use frame_stack::Frames;
 use jf_bytes::{NoMemory, Seq, Text16};
-use jvm_model::Shared;
+use jvm_model::{Exception, MethodName, Shared};
 use std::alloc::Global;
 
 // ---- what is invoked

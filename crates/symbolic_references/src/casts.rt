@@ -10,7 +10,7 @@ ghost use Rattle.symbolic_references.specs.Answers.{answer_of, answer_view, fram
 ghost use Rattle.symbolic_references.specs.Known.{IsClassFound};
 ghost use Rattle.symbolic_references.specs.Objects.{AreLoaded, IsResolved};
 
-use crate::asked::{AbruptCompletion, Asked, Exception};
+use crate::asked::{AbruptCompletion, Asked};
 use crate::instances::kind_of_object;
 use crate::known::Found;
 use crate::moving::{keep, replace};
@@ -19,7 +19,7 @@ use frame_stack::Frames;
 use heap_objects::Value;
 use jf_bytes::Text16;
 use jvm_basic::ref_of;
-use jvm_model::Shared;
+use jvm_model::{Exception, Shared};
 
 /// Whether an object is of the class, or of the array type, with this name, or of a subtype.
 /// The kind of the last object that was is kept.

@@ -13,7 +13,7 @@ ghost use Rattle.symbolic_references.specs.Known.{IsClassFound, IsMade};
 ghost use Rattle.symbolic_references.specs.Objects.{AreLoaded, IsUsable};
 ghost use Rattle.symbolic_references.specs.Resolved.{makes_new};
 
-use crate::asked::{AbruptCompletion, Asked, Exception};
+use crate::asked::{AbruptCompletion, Asked};
 use crate::classes::{has_no_instances, is_text_class};
 use crate::known::Found;
 use crate::moving::put;
@@ -23,7 +23,7 @@ use const_pool::Kind;
 use frame_stack::Frames;
 use heap_objects::{Datum, HeapError, Value};
 use jf_bytes::{NoMemory, Seq};
-use jvm_model::{Phase, Shared};
+use jvm_model::{Exception, Phase, Shared};
 use std::alloc::Global;
 
 /// The OutOfMemoryError that the machine makes before the start.

@@ -5,7 +5,6 @@ ghost use Rattle.jvm_model.specs.Instructions.SymbolicReference.{resolved_name};
 ghost use Rattle.symbolic_references.specs.Answers.{Answers, Moves, Shares, wrote_by};
 ghost use Rattle.symbolic_references.specs.Attempts.{world_over};
 ghost use Rattle.symbolic_references.specs.Known.{IsFoundAs};
-ghost use Rattle.symbolic_references.specs.Names.{symbolic_view};
 ghost use Rattle.symbolic_references.specs.Natives.{HasBuiltIn};
 ghost use Rattle.symbolic_references.specs.Numbers.{AreNumbers};
 ghost use Rattle.symbolic_references.specs.Objects.{AreLoaded, HasDimensions, HasLoadedCaller, IsResolved};
@@ -22,11 +21,10 @@ use crate::known::Found;
 use crate::multi_arrays::make_arrays;
 use crate::numbers::MethodNumbers;
 use crate::statics::{get_static, put_static};
-use crate::symbolic_reference::SymbolicReference;
 use class_linker::Linker;
 use frame_stack::Frames;
 use jf_bytes::{NoMemory, Seq};
-use jvm_model::Shared;
+use jvm_model::{Shared, SymbolicReference};
 use std::alloc::Global;
 
 /// What the instruction does, with what it names resolved to this kind; of checkcast and instanceof where the operand is not null.
@@ -46,23 +44,23 @@ pub fn do_resolved(
     next: u16,
 ) -> Result<Asked, NoMemory>
     requires linked { linker.now.loaded ≡ shared.old.loaded }
-    requires resolved { IsResolved linker.now (resolved_name (symbolic_view naming.now)) kind }
-    requires found { IsFoundAs found.old linker.now.program kind (symbolic_view naming.now) }
+    requires resolved { IsResolved linker.now (resolved_name naming.now) kind }
+    requires found { IsFoundAs found.old linker.now.program kind naming.now }
     requires numbers { AreNumbers linker.now.program numbers.now }
     requires built_in { HasBuiltIn linker.now }
     requires objects { AreLoaded linker.now shared.old.heap }
-    requires caller { HasLoadedCaller linker.now (symbolic_view naming.now) }
-    requires dimensions { HasDimensions (symbolic_view naming.now) }
+    requires caller { HasLoadedCaller linker.now naming.now }
+    requires dimensions { HasDimensions naming.now }
     ensures answer { Answers result (does_resolved (world_over linker.now input.now) kind
-        (symbolic_view naming.now) shared.old) frames.old }
+        naming.now shared.old) frames.old }
     ensures frames { Moves result frames.new (does_resolved (world_over linker.now input.now) kind
-        (symbolic_view naming.now) shared.old) next frames.old }
+        naming.now shared.old) next frames.old }
     ensures shared { Shares result shared.new (does_resolved (world_over linker.now input.now) kind
-        (symbolic_view naming.now) shared.old) frames.old }
+        naming.now shared.old) frames.old }
     ensures output { OnOk result (output.new ≡ output.old ++ wrote_by (does_resolved (world_over
-        linker.now input.now) kind (symbolic_view naming.now) shared.old) frames.old) }
+        linker.now input.now) kind naming.now shared.old) frames.old) }
     ensures objects { OnOk result (AreLoaded linker.now shared.new.heap) }
-    ensures found { IsFoundAs found.new linker.now.program kind (symbolic_view naming.now) }
+    ensures found { IsFoundAs found.new linker.now.program kind naming.now }
 {
     match naming {
         SymbolicReference::New(_) => make_new(alloc, linker, shared, frames, kind, found, next),

@@ -9,7 +9,8 @@ ghost use Rattle.jvm_model.specs.Instructions.FieldRules.{field_owner, fields_be
 ghost use Rattle.jvm_model.specs.Instructions.FieldRules.{puts_into, putting_of, slot_of};
 ghost use Rattle.jvm_model.specs.Classes.Kinds.{kind_named};
 ghost use Rattle.jvm_model.specs.Instructions.LocalRules.{replaces};
-ghost use Rattle.jvm_model.specs.Instructions.SymbolicReference.{Getfield, Putfield, extends};
+ghost use Rattle.jvm_model.specs.Instructions.SymbolicReference.{extends};
+ghost use Rattle.jvm_model.specs.declared.instruction.SymbolicReference.TheVariants.{Getfield, Putfield};
 ghost use Rattle.jvm_model.specs.Basis.Values.{as_value, ref_of};
 ghost use Rattle.class_linker.specs.Linkers.{IsLoaded};
 ghost use Rattle.symbolic_references.specs.Answers.{Answers, Moves, Shares, answer_by, answer_of};
@@ -17,18 +18,17 @@ ghost use Rattle.symbolic_references.specs.Answers.{answer_view, found_view, fra
 ghost use Rattle.symbolic_references.specs.Fields.{has_field_at, is_of_instances, owner_found};
 ghost use Rattle.symbolic_references.specs.Fields.{putting_view, writes};
 ghost use Rattle.symbolic_references.specs.Known.{IsFoundAs};
-ghost use Rattle.symbolic_references.specs.Members.{at_place, reference_of};
+ghost use Rattle.symbolic_references.specs.Members.{at_place};
 ghost use Rattle.symbolic_references.specs.Objects.{AreLoaded, IsResolved};
 ghost use Rattle.symbolic_references.specs.Resolved.{field_found, gets_instance, puts_instance};
 
-use crate::asked::{AbruptCompletion, Asked, Exception};
+use crate::asked::{AbruptCompletion, Asked};
 use crate::declared_member::DeclaredMember;
 use crate::held::field_narrowed;
 use crate::instances::kind_of_object;
 use crate::known::Found;
 use crate::members::field_found;
 use crate::moving::{drop_two, replace};
-use crate::symbolic_reference::MemberName;
 use crate::values::datum_of;
 use class_index::{STATIC, has_flag, held_by};
 use class_linker::Linker;
@@ -37,7 +37,7 @@ use frame_stack::Frames;
 use heap_objects::{Datum, Heap, Value};
 use jf_bytes::NoMemory;
 use jvm_basic::{ref_of, value_of};
-use jvm_model::Shared;
+use jvm_model::{Exception, MemberName, Shared};
 
 // ---- where a field stands
 
@@ -153,7 +153,7 @@ fn field_owner(
     requires named { kind_named linker.now.program member.now.class ≡ Some kind }
     requires objects { AreLoaded linker.now shared.now.heap }
     ensures owner { owner_found result ≡ field_owner linker.now.program shared.now
-        (reference_of member.now) (at_place field) object }
+        member.now (at_place field) object }
     ensures loaded { IfOk result (λ owner. IsLoaded linker.now owner.class) }
     ensures extends { IfOk result
         (λ owner. extends linker.now.program owner.class field.class ≡ true) }
@@ -209,7 +209,7 @@ pub fn known_owner(
     requires objects { AreLoaded linker.now shared.now.heap }
     requires own { has_field_at linker.now.program (Some last) kind field.class ≡ true }
     ensures owner { found_view result ≡ field_owner linker.now.program shared.now
-        (reference_of member.now) (at_place field) object }
+        member.now (at_place field) object }
     ensures object { IfOk result (λ object. (object == 0) ≡ false) }
 {
     if object == 0 {
@@ -251,16 +251,16 @@ fn read_field(
 ) -> Result<Asked, NoMemory>
     requires named { kind_named linker.now.program member.now.class ≡ Some kind }
     requires objects { AreLoaded linker.now shared.now.heap }
-    requires field { field_found linker.now.program kind false (reference_of member.now)
+    requires field { field_found linker.now.program kind false member.now
         ≡ Ok (at_place field) }
-    requires found { let n = Getfield (reference_of member.now) in
+    requires found { let n = Getfield member.now in
         IsFoundAs found.old linker.now.program kind n }
-    ensures answer { Answers result (λ l o. gets_of linker.now.program (reference_of member.now)
+    ensures answer { Answers result (λ l o. gets_of linker.now.program member.now
         (at_place field) (ref_of o) shared.now l o) frames.old }
     ensures frames { Moves result frames.new
-        (λ l o. gets_of linker.now.program (reference_of member.now) (at_place field) (ref_of o)
+        (λ l o. gets_of linker.now.program member.now (at_place field) (ref_of o)
         shared.now l o) next frames.old }
-    ensures found { let n = Getfield (reference_of member.now) in
+    ensures found { let n = Getfield member.now in
         IsFoundAs found.new linker.now.program kind n }
 {
     let Some(object) = ref_of(frames) else {
@@ -296,9 +296,9 @@ pub fn read_known(
     requires slot { slot ≡ slot_of linker.now.program (at_place field) }
     requires own { has_field_at linker.now.program (Some last) kind field.class ≡ true }
     ensures answer { answer_view result ≡ answer_by (λ l o. gets_of linker.now.program
-        (reference_of member.now) (at_place field) (ref_of o) shared.now l o) frames.old }
+        member.now (at_place field) (ref_of o) shared.now l o) frames.old }
     ensures frames { frames.new ≡ frames_by (λ l o. gets_of linker.now.program
-        (reference_of member.now) (at_place field) (ref_of o) shared.now l o) next frames.old }
+        member.now (at_place field) (ref_of o) shared.now l o) next frames.old }
 {
     let Some(object) = ref_of(frames) else {
         return Asked::Refused(AbruptCompletion::Breaks);
@@ -322,14 +322,14 @@ fn get_by_name(
 ) -> Result<Asked, NoMemory>
     requires resolved { IsResolved linker.now member.now.class kind }
     requires objects { AreLoaded linker.now shared.now.heap }
-    requires found { let n = Getfield (reference_of member.now) in
+    requires found { let n = Getfield member.now in
         IsFoundAs found.old linker.now.program kind n }
     ensures answer { Answers result
-        (gets_instance linker.now.program kind (reference_of member.now) shared.now) frames.old }
+        (gets_instance linker.now.program kind member.now shared.now) frames.old }
     ensures frames { Moves result frames.new
-        (gets_instance linker.now.program kind (reference_of member.now) shared.now) next
+        (gets_instance linker.now.program kind member.now shared.now) next
         frames.old }
-    ensures found { let n = Getfield (reference_of member.now) in
+    ensures found { let n = Getfield member.now in
         IsFoundAs found.new linker.now.program kind n }
 {
     match field_found(linker, kind, false, member) {
@@ -350,14 +350,14 @@ pub fn get_field(
 ) -> Result<Asked, NoMemory>
     requires resolved { IsResolved linker.now member.now.class kind }
     requires objects { AreLoaded linker.now shared.now.heap }
-    requires found { let n = Getfield (reference_of member.now) in
+    requires found { let n = Getfield member.now in
         IsFoundAs found.old linker.now.program kind n }
     ensures answer { Answers result
-        (gets_instance linker.now.program kind (reference_of member.now) shared.now) frames.old }
+        (gets_instance linker.now.program kind member.now shared.now) frames.old }
     ensures frames { Moves result frames.new
-        (gets_instance linker.now.program kind (reference_of member.now) shared.now) next
+        (gets_instance linker.now.program kind member.now shared.now) next
         frames.old }
-    ensures found { let n = Getfield (reference_of member.now) in
+    ensures found { let n = Getfield member.now in
         IsFoundAs found.new linker.now.program kind n }
 {
     if let Found::Field(field, slot, last) = *found {
@@ -430,24 +430,24 @@ fn write_field(
 ) -> Result<Asked, NoMemory>
     requires named { kind_named linker.now.program member.now.class ≡ Some kind }
     requires objects { AreLoaded linker.now shared.old.heap }
-    requires field { field_found linker.now.program kind false (reference_of member.now)
+    requires field { field_found linker.now.program kind false member.now
         ≡ Ok (at_place field) }
-    requires found { let n = Putfield (reference_of member.now) in
+    requires found { let n = Putfield member.now in
         IsFoundAs found.old linker.now.program kind n }
     ensures answer { Answers result
-        (λ l o. puts_into linker.now.program (reference_of member.now) (at_place field)
-        (putting_of (kind_by (reference_of member.now)) o) shared.old l o) frames.old }
+        (λ l o. puts_into linker.now.program member.now (at_place field)
+        (putting_of (kind_by member.now) o) shared.old l o) frames.old }
     ensures frames { Moves result frames.new
-        (λ l o. puts_into linker.now.program (reference_of member.now) (at_place field)
-        (putting_of (kind_by (reference_of member.now)) o) shared.old l o) next frames.old }
+        (λ l o. puts_into linker.now.program member.now (at_place field)
+        (putting_of (kind_by member.now) o) shared.old l o) next frames.old }
     ensures shared { Shares result shared.new
-        (λ l o. puts_into linker.now.program (reference_of member.now) (at_place field)
-        (putting_of (kind_by (reference_of member.now)) o) shared.old l o) frames.old }
+        (λ l o. puts_into linker.now.program member.now (at_place field)
+        (putting_of (kind_by member.now) o) shared.old l o) frames.old }
     ensures objects { OnOk result (AreLoaded linker.now shared.new.heap) }
-    ensures found { let n = Putfield (reference_of member.now) in
+    ensures found { let n = Putfield member.now in
         IsFoundAs found.new linker.now.program kind n }
 {
-    let Some(putting) = putting_of(frames, held_by(member.descriptor.units())) else {
+    let Some(putting) = putting_of(frames, held_by(member.descriptor().units())) else {
         return Ok(Asked::Refused(AbruptCompletion::Breaks));
     };
     match field_owner(linker, shared, member, kind, field, putting.object) {
@@ -481,17 +481,17 @@ fn write_known(
     requires slot { slot ≡ slot_of linker.now.program (at_place field) }
     requires own { has_field_at linker.now.program (Some last) kind field.class ≡ true }
     ensures answer { Answers result
-        (λ l o. puts_into linker.now.program (reference_of member.now) (at_place field)
-        (putting_of (kind_by (reference_of member.now)) o) shared.old l o) frames.old }
+        (λ l o. puts_into linker.now.program member.now (at_place field)
+        (putting_of (kind_by member.now) o) shared.old l o) frames.old }
     ensures frames { Moves result frames.new
-        (λ l o. puts_into linker.now.program (reference_of member.now) (at_place field)
-        (putting_of (kind_by (reference_of member.now)) o) shared.old l o) next frames.old }
+        (λ l o. puts_into linker.now.program member.now (at_place field)
+        (putting_of (kind_by member.now) o) shared.old l o) next frames.old }
     ensures shared { Shares result shared.new
-        (λ l o. puts_into linker.now.program (reference_of member.now) (at_place field)
-        (putting_of (kind_by (reference_of member.now)) o) shared.old l o) frames.old }
+        (λ l o. puts_into linker.now.program member.now (at_place field)
+        (putting_of (kind_by member.now) o) shared.old l o) frames.old }
     ensures objects { OnOk result (AreLoaded linker.now shared.new.heap) }
 {
-    let Some(putting) = putting_of(frames, held_by(member.descriptor.units())) else {
+    let Some(putting) = putting_of(frames, held_by(member.descriptor().units())) else {
         return Ok(Asked::Refused(AbruptCompletion::Breaks));
     };
     match known_owner(linker, shared, member, kind, field, last, putting.object) {
@@ -516,17 +516,17 @@ fn put_by_name(
 ) -> Result<Asked, NoMemory>
     requires resolved { IsResolved linker.now member.now.class kind }
     requires objects { AreLoaded linker.now shared.old.heap }
-    requires found { let n = Putfield (reference_of member.now) in
+    requires found { let n = Putfield member.now in
         IsFoundAs found.old linker.now.program kind n }
     ensures answer { Answers result
-        (puts_instance linker.now.program kind (reference_of member.now) shared.old) frames.old }
+        (puts_instance linker.now.program kind member.now shared.old) frames.old }
     ensures frames { Moves result frames.new
-        (puts_instance linker.now.program kind (reference_of member.now) shared.old) next
+        (puts_instance linker.now.program kind member.now shared.old) next
         frames.old }
     ensures shared { Shares result shared.new
-        (puts_instance linker.now.program kind (reference_of member.now) shared.old) frames.old }
+        (puts_instance linker.now.program kind member.now shared.old) frames.old }
     ensures objects { OnOk result (AreLoaded linker.now shared.new.heap) }
-    ensures found { let n = Putfield (reference_of member.now) in
+    ensures found { let n = Putfield member.now in
         IsFoundAs found.new linker.now.program kind n }
 {
     match field_found(linker, kind, false, member) {
@@ -547,17 +547,17 @@ pub fn put_field(
 ) -> Result<Asked, NoMemory>
     requires resolved { IsResolved linker.now member.now.class kind }
     requires objects { AreLoaded linker.now shared.old.heap }
-    requires found { let n = Putfield (reference_of member.now) in
+    requires found { let n = Putfield member.now in
         IsFoundAs found.old linker.now.program kind n }
     ensures answer { Answers result
-        (puts_instance linker.now.program kind (reference_of member.now) shared.old) frames.old }
+        (puts_instance linker.now.program kind member.now shared.old) frames.old }
     ensures frames { Moves result frames.new
-        (puts_instance linker.now.program kind (reference_of member.now) shared.old) next
+        (puts_instance linker.now.program kind member.now shared.old) next
         frames.old }
     ensures shared { Shares result shared.new
-        (puts_instance linker.now.program kind (reference_of member.now) shared.old) frames.old }
+        (puts_instance linker.now.program kind member.now shared.old) frames.old }
     ensures objects { OnOk result (AreLoaded linker.now shared.new.heap) }
-    ensures found { let n = Putfield (reference_of member.now) in
+    ensures found { let n = Putfield member.now in
         IsFoundAs found.new linker.now.program kind n }
 {
     if let Found::Field(field, slot, last) = *found {

@@ -1,22 +1,24 @@
 //! The fields that an instruction names (JVM Specification 5.4.3.2).
 
 ghost use Rattle.std.specs.Prelude.{◌≡◌};
+ghost use Rattle.const_pool.specs.References.{name_type_of};
 ghost use Rattle.class_linker.specs.Linkers.{IsLoaded};
 ghost use Rattle.jvm_model.specs.Instructions.FieldRules.{is_static_field};
 ghost use Rattle.jvm_model.specs.Classes.Lookup.{resolved_field};
 ghost use Rattle.jvm_model.specs.Instructions.SymbolicReference.{member_found};
 ghost use Rattle.jvm_model.specs.Basis.SharedState.{class_of_kind};
 ghost use Rattle.symbolic_references.specs.Answers.{place_found};
-ghost use Rattle.symbolic_references.specs.Members.{at_place, reference_of};
+ghost use Rattle.symbolic_references.specs.Members.{at_place};
 ghost use Rattle.symbolic_references.specs.Objects.{IsUsable};
 ghost use Rattle.symbolic_references.specs.Resolved.{field_found};
 
-use crate::asked::{AbruptCompletion, Exception};
+use crate::asked::AbruptCompletion;
 use crate::declared_member::DeclaredMember;
 use crate::resolution::exception_numbered;
-use crate::symbolic_reference::MemberName;
 use class_index::{STATIC, has_flag};
 use class_linker::{Linker, Resolved};
+use jf_bytes::Text16;
+use jvm_model::{Exception, MemberName};
 
 /// Whether the field is static.
 pub fn is_static_field(linker: &Linker, m: DeclaredMember) -> bool
@@ -31,6 +33,23 @@ pub fn is_static_field(linker: &Linker, m: DeclaredMember) -> bool
     }
 }
 
+/// The field of a class with this name and descriptor, static or not.
+fn field_in(
+    linker: &Linker,
+    class: u32,
+    name: &Text16,
+    descriptor: &Text16,
+) -> Result<DeclaredMember, AbruptCompletion>
+    requires { IsLoaded linker.now class }
+    ensures { place_found result ≡ member_found
+        (resolved_field linker.now.program class (name_type_of name.now descriptor.now)) }
+{
+    match linker.resolve_field(class, name, descriptor) {
+        Resolved::Found(class, position) => Ok(DeclaredMember { class, position }),
+        Resolved::Throws(number) => Err(AbruptCompletion::Raises(exception_numbered(number), None)),
+    }
+}
+
 /// The field of a class that a name stands for, static or not.
 fn resolved_field(
     linker: &Linker,
@@ -39,12 +58,9 @@ fn resolved_field(
 ) -> Result<DeclaredMember, AbruptCompletion>
     requires { IsLoaded linker.now class }
     ensures { place_found result
-        ≡ member_found (resolved_field linker.now.program class (reference_of member.now).member) }
+        ≡ member_found (resolved_field linker.now.program class member.now.member) }
 {
-    match linker.resolve_field(class, &member.name, &member.descriptor) {
-        Resolved::Found(class, position) => Ok(DeclaredMember { class, position }),
-        Resolved::Throws(number) => Err(AbruptCompletion::Raises(exception_numbered(number), None)),
-    }
+    field_in(linker, class, member.name(), member.descriptor())
 }
 
 /// The field that a name stands for, once its class was resolved: a static one where one is asked for, and else one that is not.
@@ -56,7 +72,7 @@ pub fn field_found(
 ) -> Result<DeclaredMember, AbruptCompletion>
     requires { IsUsable linker.now kind }
     ensures { place_found result
-        ≡ field_found linker.now.program kind is_static (reference_of member.now) }
+        ≡ field_found linker.now.program kind is_static member.now }
 {
     let m = match resolved_field(linker, linker.index().class_of_kind(kind), member) {
         Ok(m) => m,

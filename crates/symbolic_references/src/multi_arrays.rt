@@ -13,7 +13,7 @@ ghost use Rattle.symbolic_references.specs.Answers.{Answers, Moves, Shares};
 ghost use Rattle.symbolic_references.specs.Arrays.{number_capped, int_at, lengths_from};
 ghost use Rattle.symbolic_references.specs.Objects.{AreLoaded, IsUsable};
 
-use crate::asked::{AbruptCompletion, Asked, Exception};
+use crate::asked::{AbruptCompletion, Asked};
 use crate::creation::RESERVED;
 use crate::fields::put_slot;
 use crate::moving::replace_many;
@@ -23,7 +23,7 @@ use frame_stack::Frames;
 use heap_objects::{Datum, Heap, HeapError, Value};
 use jf_bytes::{NoMemory, Seq};
 use jvm_basic::recall;
-use jvm_model::Shared;
+use jvm_model::{Exception, Shared};
 use std::alloc::Global;
 
 // ---- the operands

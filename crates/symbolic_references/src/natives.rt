@@ -22,7 +22,7 @@ ghost use Rattle.symbolic_references.specs.Objects.{AreLoaded};
 ghost use Rattle.symbolic_references.specs.Passing.{IfRan, is_next, runs_native_call};
 ghost use Rattle.symbolic_references.specs.Targets.{as_datum, data_in};
 
-use crate::asked::{AbruptCompletion, Asked, Exception};
+use crate::asked::{AbruptCompletion, Asked};
 use crate::creation::RESERVED;
 use crate::declared_member::DeclaredMember;
 use crate::moving::{drop_operands, replace_operands};
@@ -34,7 +34,7 @@ use frame_stack::Frames;
 use heap_objects::{Datum, Value};
 use jf_bytes::{NoMemory, Seq};
 use jvm_basic::{recall, value_of};
-use jvm_model::{Program, Shared};
+use jvm_model::{Exception, Program, Shared};
 use jvm_natives::LinkedKinds;
 use native_ops::{Native, call};
 use std::alloc::Global;

@@ -7,13 +7,11 @@ ghost use Rattle.std.specs.Option.{option_map};
 ghost use Rattle.jvm_basic.specs.Outcomes.{top_locals};
 ghost use Rattle.jvm_model.specs.Instructions.InvocationRules.{invokes_selected};
 ghost use Rattle.frame_stack.specs.FrameLists.{top_operands};
-ghost use Rattle.jvm_model.specs.Instructions.SymbolicReference.{Getfield, Getstatic, Invokestatic, Putfield, Putstatic};
+ghost use Rattle.jvm_model.specs.declared.instruction.SymbolicReference.TheVariants.{Getfield, Getstatic, Invokestatic, Putfield, Putstatic};
 ghost use Rattle.symbolic_references.specs.Answers.{answer_view, done_on};
 ghost use Rattle.symbolic_references.specs.Attempts.{attempts, loads_nothing, world_over};
 ghost use Rattle.symbolic_references.specs.Callees.{HasCallee, chosen_place};
 ghost use Rattle.symbolic_references.specs.Known.{IsFixed, IsFoundAs, IsKnown, IsSite, symbolic_reference_by};
-ghost use Rattle.symbolic_references.specs.Members.{reference_of};
-ghost use Rattle.symbolic_references.specs.Names.{symbolic_view};
 ghost use Rattle.symbolic_references.specs.Objects.{AreLoaded, IsResolved, IsUsable};
 ghost use Rattle.symbolic_references.specs.Passing.{IfPassed, IsCall, IsInvoked, is_next, is_usable};
 ghost use Rattle.jvm_model.specs.declared.program.Program.{Program};
@@ -34,13 +32,12 @@ use crate::receivers::{argument_count, receiver_below};
 use crate::selections::Selections;
 use crate::static_fields::set_static;
 use crate::statics::{held_of, push_field};
-use crate::symbolic_reference::{MemberName, MethodName, SymbolicReference};
 use crate::targets::{Selecting, Target};
 use class_index::held_by;
 use class_linker::Linker;
 use frame_stack::Frames;
 use heap_objects::Heap;
-use jvm_model::{Phase, Shared};
+use jvm_model::{MemberName, MethodName, Phase, Shared, SymbolicReference};
 use std::alloc::Global;
 
 /// Whether the frame has gone on.
@@ -68,8 +65,8 @@ fn pass_getfield(
 ) -> bool
     requires resolved { IsResolved linker.now member.now.class kind }
     requires objects { AreLoaded linker.now shared.now.heap }
-    requires found { IsFoundAs found linker.now.program kind (Getfield (reference_of member.now)) }
-    ensures { let r = reference_of member.now in
+    requires found { IsFoundAs found linker.now.program kind (Getfield member.now) }
+    ensures { let r = member.now in
         let d = done_on (gets_instance linker.now.program kind r shared.now) frames.old in
         IfPassed result d next frames.old shared.now frames.new shared.now }
 {
@@ -94,15 +91,15 @@ fn pass_putfield(
 ) -> bool
     requires resolved { IsResolved linker.now member.now.class kind }
     requires objects { AreLoaded linker.now shared.old.heap }
-    requires found { IsFoundAs found linker.now.program kind (Putfield (reference_of member.now)) }
-    ensures { let r = reference_of member.now in
+    requires found { IsFoundAs found linker.now.program kind (Putfield member.now) }
+    ensures { let r = member.now in
         let d = done_on (puts_instance linker.now.program kind r shared.old) frames.old in
         IfPassed result d next frames.old shared.old frames.new shared.new }
 {
     let Found::Field(field, slot, last) = found else {
         return false;
     };
-    let Some(putting) = putting_of(frames, held_by(member.descriptor.units())) else {
+    let Some(putting) = putting_of(frames, held_by(member.descriptor().units())) else {
         return false;
     };
     let Ok(owner) = known_owner(linker, shared, member, kind, field, last, putting.object) else {
@@ -139,8 +136,8 @@ fn pass_getstatic(
     found: Found,
     next: u16,
 ) -> bool
-    requires found { IsFoundAs found linker.now.program kind (Getstatic (reference_of member.now)) }
-    ensures { let r = reference_of member.now in
+    requires found { IsFoundAs found linker.now.program kind (Getstatic member.now) }
+    ensures { let r = member.now in
         let d = done_on (gets_static linker.now.program kind r shared.now) frames.old in
         IfPassed result d next frames.old shared.now frames.new shared.now }
 {
@@ -165,8 +162,8 @@ fn pass_putstatic(
     found: Found,
     next: u16,
 ) -> bool
-    requires found { IsFoundAs found linker.now.program kind (Putstatic (reference_of member.now)) }
-    ensures { let r = reference_of member.now in
+    requires found { IsFoundAs found linker.now.program kind (Putstatic member.now) }
+    ensures { let r = member.now in
         let d = done_on (puts_static linker.now.program kind r shared.old) frames.old in
         IfPassed result d next frames.old shared.old frames.new shared.new }
 {
@@ -176,7 +173,7 @@ fn pass_putstatic(
     if !is_usable(shared, place.class) {
         return false;
     }
-    let Some(datum) = held_of(frames, held_by(member.descriptor.units())) else {
+    let Some(datum) = held_of(frames, held_by(member.descriptor().units())) else {
         return false;
     };
     let asked = drop_one(frames, next);
@@ -400,13 +397,13 @@ pub fn known_call(
     known: &Known,
 ) -> Option<Invoked>
     requires linked { linker.now.loaded ≡ shared.now.loaded }
-    requires known { IsKnown linker.now (symbolic_view naming.now) known.now }
+    requires known { IsKnown linker.now naming.now known.now }
     requires selections { AreSelections linker.now.program selections.now }
     requires objects { AreLoaded linker.now shared.now.heap }
     ensures called { (input : List ℕ) → let w = world_over linker.now input in
-        let d = done_on (attempts w (symbolic_view naming.now) shared.now frames.now) frames.now in
+        let d = done_on (attempts w naming.now shared.now frames.now) frames.now in
         IfSome result (λ c. IsInvoked w c d shared.now frames.now.frames) }
-    ensures loads { let n = symbolic_view naming.now in loads_nothing linker.now.program
+    ensures loads { let n = naming.now in loads_nothing linker.now.program
         shared.now.loaded n (top_operands frames.now.frames) ≡ true }
 {
     let kind = known.kind;
@@ -443,13 +440,13 @@ pub fn known_code(
     known: &Known,
 ) -> Option<Call>
     requires linked { linker.now.loaded ≡ shared.now.loaded }
-    requires known { IsKnown linker.now (symbolic_view naming.now) known.now }
+    requires known { IsKnown linker.now naming.now known.now }
     requires selections { AreSelections linker.now.program selections.now }
     requires objects { AreLoaded linker.now shared.now.heap }
     ensures called { (input : List ℕ) → let w = world_over linker.now input in
-        let d = done_on (attempts w (symbolic_view naming.now) shared.now frames.now) frames.now in
+        let d = done_on (attempts w naming.now shared.now frames.now) frames.now in
         IfSome result (λ c. IsCall c d shared.now) }
-    ensures loads { let n = symbolic_view naming.now in loads_nothing linker.now.program
+    ensures loads { let n = naming.now in loads_nothing linker.now.program
         shared.now.loaded n (top_operands frames.now.frames) ≡ true }
 {
     let Some(invoked) = known_call(linker, selections, shared, frames, naming, known) else {
@@ -475,13 +472,13 @@ pub fn pass_field(
     known: &Known,
 ) -> bool
     requires linked { linker.now.loaded ≡ shared.old.loaded }
-    requires known { IsKnown linker.now (symbolic_view naming.now) known.now }
+    requires known { IsKnown linker.now naming.now known.now }
     requires objects { AreLoaded linker.now shared.old.heap }
     ensures passed { (input : List ℕ) →
-        let rule = attempts (world_over linker.now input) (symbolic_view naming.now) shared.old
+        let rule = attempts (world_over linker.now input) naming.now shared.old
         frames.old in
         IfPassed result (done_on rule frames.old) next frames.old shared.old frames.new shared.new }
-    ensures loads { let n = symbolic_view naming.now in loads_nothing linker.now.program
+    ensures loads { let n = naming.now in loads_nothing linker.now.program
         shared.old.loaded n (top_operands frames.old.frames) ≡ true }
 {
     let kind = known.kind;

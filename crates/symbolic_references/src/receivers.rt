@@ -9,11 +9,11 @@ ghost use Rattle.jvm_model.specs.Instructions.InvocationRules.{arguments_by, rec
 ghost use Rattle.jvm_model.specs.Basis.Values.{arguments, datum_of};
 ghost use Rattle.symbolic_references.specs.Targets.{data_in, is_reference, reference_in};
 
-use crate::symbolic_reference::MethodName;
 use crate::values::datum_of;
 use const_pool::Kind;
 use frame_stack::Frames;
 use heap_objects::Value;
+use jvm_model::MethodName;
 
 /// The topmost operand. An int or a reference is read where it stands.
 #[inline(always)]

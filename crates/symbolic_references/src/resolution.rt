@@ -9,9 +9,10 @@ ghost use Rattle.symbolic_references.specs.Answers.{exception_numbered, found_vi
 ghost use Rattle.symbolic_references.specs.Objects.{IsResolved};
 ghost use Rattle.class_index.specs.Indices.{IsLinkable};
 
-use crate::asked::{AbruptCompletion, Exception};
+use crate::asked::AbruptCompletion;
 use class_linker::{Linker, Loaded};
 use jf_bytes::{NoMemory, Seq, Text16};
+use jvm_model::Exception;
 
 /// The exception of the built-in class at this place that a load or a resolution ends with.
 pub fn exception_numbered(number: u16) -> Exception

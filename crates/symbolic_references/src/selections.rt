@@ -5,13 +5,12 @@ ghost use Rattle.std.specs.Prelude.{◌≡◌, [], true, IfOk, IfSome};
 ghost use Rattle.class_linker.specs.Linkers.{LinkerView};
 ghost use Rattle.jvm_model.specs.declared.program.Program.{Program};
 ghost use Rattle.symbolic_references.specs.Known.{IsKnown};
-ghost use Rattle.symbolic_references.specs.Names.{symbolic_view};
 ghost use Rattle.symbolic_references.specs.Selections.{AreSelections, IsSelection, selection_for, site_for};
 
 use crate::declared_member::DeclaredMember;
 use crate::known::{Chosen, Found, Known, Site};
-use crate::symbolic_reference::SymbolicReference;
 use jf_bytes::{NoMemory, Seq};
+use jvm_model::SymbolicReference;
 use std::alloc::Global;
 use std::marker::Model;
 
@@ -244,7 +243,7 @@ impl Selections {
     /// Keeps what an instruction's names came to, where that is of a receiver.
     pub fn keep(&mut self, alloc: Global, naming: &SymbolicReference, known: &Known)
         ensures { (l : LinkerView) → AreSelections l.program self.old
-            → IsKnown l (symbolic_view naming.now) known.now → AreSelections l.program self.new }
+            → IsKnown l naming.now known.now → AreSelections l.program self.new }
     {
         let Found::Selected(site) = known.found else {
             return;

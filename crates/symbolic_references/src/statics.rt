@@ -7,7 +7,7 @@ ghost use Rattle.jvm_model.specs.Basis.Data.{Raises};
 ghost use Rattle.jvm_model.specs.Instructions.FieldRules.{held_of, kind_by};
 ghost use Rattle.jvm_model.specs.Instructions.FieldRules.{pushes_static, sets_static, static_field};
 ghost use Rattle.jvm_model.specs.Instructions.LocalRules.{pushes};
-ghost use Rattle.jvm_model.specs.Instructions.SymbolicReference.{Getstatic, Putstatic};
+ghost use Rattle.jvm_model.specs.declared.instruction.SymbolicReference.TheVariants.{Getstatic, Putstatic};
 ghost use Rattle.jvm_model.specs.Basis.Programs.{name_at};
 ghost use Rattle.jvm_model.specs.Instructions.Rules.{class_initialized};
 ghost use Rattle.jvm_model.specs.Basis.SharedState.{no_class_definition, static_at};
@@ -15,18 +15,17 @@ ghost use Rattle.jvm_model.specs.Basis.Values.{as_value};
 ghost use Rattle.symbolic_references.specs.Answers.{Answers, Moves, Shares, Stops, answer_by, answer_of};
 ghost use Rattle.symbolic_references.specs.Answers.{answer_view, frames_by, frames_of, shared_by};
 ghost use Rattle.symbolic_references.specs.Known.{IsFoundAs};
-ghost use Rattle.symbolic_references.specs.Members.{at_place, reference_of};
+ghost use Rattle.symbolic_references.specs.Members.{at_place};
 ghost use Rattle.symbolic_references.specs.Objects.{IsUsable};
 ghost use Rattle.symbolic_references.specs.Resolved.{gets_static, puts_static};
 
-use crate::asked::{AbruptCompletion, Asked, Exception};
+use crate::asked::{AbruptCompletion, Asked};
 use crate::declared_member::DeclaredMember;
 use crate::held::field_narrowed;
 use crate::known::Found;
 use crate::members::field_found;
 use crate::moving::{drop_one, put};
 use crate::static_fields::set_static;
-use crate::symbolic_reference::MemberName;
 use crate::values::datum_of;
 use class_index::held_by;
 use class_linker::Linker;
@@ -35,7 +34,7 @@ use frame_stack::Frames;
 use heap_objects::Datum;
 use jf_bytes::{NoMemory, Text16};
 use jvm_basic::value_of;
-use jvm_model::{Phase, Shared};
+use jvm_model::{Exception, MemberName, Phase, Shared};
 use std::alloc::Global;
 
 // ---- classes that are not initialized
@@ -116,14 +115,14 @@ fn get_by_name(
     next: u16,
 ) -> Result<Asked, NoMemory>
     requires usable { IsUsable linker.now kind }
-    requires found { let n = Getstatic (reference_of member.now) in
+    requires found { let n = Getstatic member.now in
         IsFoundAs found.old linker.now.program kind n }
     ensures answer { Answers result
-        (gets_static linker.now.program kind (reference_of member.now) shared.now) frames.old }
+        (gets_static linker.now.program kind member.now shared.now) frames.old }
     ensures frames { Moves result frames.new
-        (gets_static linker.now.program kind (reference_of member.now) shared.now) next
+        (gets_static linker.now.program kind member.now shared.now) next
         frames.old }
-    ensures found { let n = Getstatic (reference_of member.now) in
+    ensures found { let n = Getstatic member.now in
         IsFoundAs found.new linker.now.program kind n }
 {
     match field_found(linker, kind, true, member) {
@@ -147,14 +146,14 @@ pub fn get_static(
     next: u16,
 ) -> Result<Asked, NoMemory>
     requires usable { IsUsable linker.now kind }
-    requires found { let n = Getstatic (reference_of member.now) in
+    requires found { let n = Getstatic member.now in
         IsFoundAs found.old linker.now.program kind n }
     ensures answer { Answers result
-        (gets_static linker.now.program kind (reference_of member.now) shared.now) frames.old }
+        (gets_static linker.now.program kind member.now shared.now) frames.old }
     ensures frames { Moves result frames.new
-        (gets_static linker.now.program kind (reference_of member.now) shared.now) next
+        (gets_static linker.now.program kind member.now shared.now) next
         frames.old }
-    ensures found { let n = Getstatic (reference_of member.now) in
+    ensures found { let n = Getstatic member.now in
         IsFoundAs found.new linker.now.program kind n }
 {
     if let Found::Static(field) = *found {
@@ -242,23 +241,23 @@ fn put_by_name(
     next: u16,
 ) -> Result<Asked, NoMemory>
     requires usable { IsUsable linker.now kind }
-    requires found { let n = Putstatic (reference_of member.now) in
+    requires found { let n = Putstatic member.now in
         IsFoundAs found.old linker.now.program kind n }
     ensures answer { Answers result
-        (puts_static linker.now.program kind (reference_of member.now) shared.old) frames.old }
+        (puts_static linker.now.program kind member.now shared.old) frames.old }
     ensures frames { Moves result frames.new
-        (puts_static linker.now.program kind (reference_of member.now) shared.old) next
+        (puts_static linker.now.program kind member.now shared.old) next
         frames.old }
     ensures shared { Shares result shared.new
-        (puts_static linker.now.program kind (reference_of member.now) shared.old) frames.old }
+        (puts_static linker.now.program kind member.now shared.old) frames.old }
     ensures heap { shared.new.heap ≡ shared.old.heap }
-    ensures found { let n = Putstatic (reference_of member.now) in
+    ensures found { let n = Putstatic member.now in
         IsFoundAs found.new linker.now.program kind n }
 {
     match field_found(linker, kind, true, member) {
         Ok(field) => {
             *found = Found::Static(field);
-            let held = held_by(member.descriptor.units());
+            let held = held_by(member.descriptor().units());
             put_field(alloc, linker, shared, frames, field, held, next)
         }
         Err(refusal) => Ok(Asked::Refused(refusal)),
@@ -277,21 +276,21 @@ pub fn put_static(
     next: u16,
 ) -> Result<Asked, NoMemory>
     requires usable { IsUsable linker.now kind }
-    requires found { let n = Putstatic (reference_of member.now) in
+    requires found { let n = Putstatic member.now in
         IsFoundAs found.old linker.now.program kind n }
     ensures answer { Answers result
-        (puts_static linker.now.program kind (reference_of member.now) shared.old) frames.old }
+        (puts_static linker.now.program kind member.now shared.old) frames.old }
     ensures frames { Moves result frames.new
-        (puts_static linker.now.program kind (reference_of member.now) shared.old) next
+        (puts_static linker.now.program kind member.now shared.old) next
         frames.old }
     ensures shared { Shares result shared.new
-        (puts_static linker.now.program kind (reference_of member.now) shared.old) frames.old }
+        (puts_static linker.now.program kind member.now shared.old) frames.old }
     ensures heap { shared.new.heap ≡ shared.old.heap }
-    ensures found { let n = Putstatic (reference_of member.now) in
+    ensures found { let n = Putstatic member.now in
         IsFoundAs found.new linker.now.program kind n }
 {
     if let Found::Static(field) = *found {
-        let held = held_by(member.descriptor.units());
+        let held = held_by(member.descriptor().units());
         return put_field(alloc, linker, shared, frames, field, held, next);
     }
     put_by_name(alloc, linker, shared, frames, member, kind, found, next)

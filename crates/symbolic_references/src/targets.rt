@@ -7,7 +7,8 @@ ghost use Rattle.const_pool.specs.References.{name_type_of};
 ghost use Rattle.frame_stack.specs.FrameLists.{top_operands};
 ghost use Rattle.jvm_model.specs.Instructions.InvocationRules.{names_interface, not_of_class, selected_by};
 ghost use Rattle.jvm_model.specs.Classes.Lookup.{resolved_method};
-ghost use Rattle.jvm_model.specs.Instructions.SymbolicReference.{Invokestatic, member_found, is_below_kind, where_fitting};
+ghost use Rattle.jvm_model.specs.Instructions.SymbolicReference.{member_found, is_below_kind, where_fitting};
+ghost use Rattle.jvm_model.specs.declared.instruction.SymbolicReference.TheVariants.{Invokestatic};
 ghost use Rattle.jvm_model.specs.Basis.Data.{Raises};
 ghost use Rattle.jvm_model.specs.Basis.Programs.{class_named, name_at};
 ghost use Rattle.jvm_model.specs.Classes.Selection.{access_of, is_abstract, is_static};
@@ -25,7 +26,7 @@ ghost use Rattle.symbolic_references.specs.Resolved.{method_found};
 ghost use Rattle.symbolic_references.specs.Targets.{HasCaller, selecting_view, found_as, instance_target};
 ghost use Rattle.symbolic_references.specs.Targets.{receiver_class, static_target, target_in, unready_by};
 
-use crate::asked::{AbruptCompletion, Exception};
+use crate::asked::AbruptCompletion;
 use crate::callees::callee_of;
 use crate::declared_member::DeclaredMember;
 use crate::instances::kind_of_object;
@@ -33,13 +34,12 @@ use crate::known::{Chosen, Found, Site};
 use crate::numbers::MethodNumbers;
 use crate::receivers::{argument_count, receiver_below};
 use crate::resolution::exception_numbered;
-use crate::symbolic_reference::{MemberName, MethodName};
 use class_index::{ABSTRACT, STATIC, has_flag};
 use class_linker::{Linker, Resolved};
 use frame_stack::Frames;
 use heap_objects::Heap;
 use jf_bytes::{NoMemory, Text16};
-use jvm_model::{Phase, Program, Shared};
+use jvm_model::{Exception, MemberName, MethodName, Phase, Program, Shared};
 use std::alloc::Global;
 
 /// Which invocation it is: invokespecial with the name of the class in which it stands, and whether it names an interface's method.
@@ -87,6 +87,24 @@ pub fn is_abstract(program: &Program, m: DeclaredMember) -> bool
 
 // ---- resolution
 
+/// The method of a class with this name and descriptor.
+fn method_in(
+    linker: &Linker,
+    class: u32,
+    interface: bool,
+    name: &Text16,
+    descriptor: &Text16,
+) -> Result<DeclaredMember, AbruptCompletion>
+    requires { IsLoaded linker.now class }
+    ensures { place_found result ≡ member_found (resolved_method linker.now.program class interface
+        (name_type_of name.now descriptor.now)) }
+{
+    match linker.resolve_method(class, interface, name, descriptor) {
+        Resolved::Found(class, position) => Ok(DeclaredMember { class, position }),
+        Resolved::Throws(number) => Err(AbruptCompletion::Raises(exception_numbered(number), None)),
+    }
+}
+
 /// The method that a name stands for in a class.
 fn found_in(
     linker: &Linker,
@@ -95,13 +113,10 @@ fn found_in(
     member: &MemberName,
 ) -> Result<DeclaredMember, AbruptCompletion>
     requires { IsLoaded linker.now class }
-    ensures { place_found result ≡ member_found (resolved_method linker.now.program class interface
-        (name_type_of member.now.name member.now.descriptor)) }
+    ensures { place_found result
+        ≡ member_found (resolved_method linker.now.program class interface member.now.member) }
 {
-    match linker.resolve_method(class, interface, &member.name, &member.descriptor) {
-        Resolved::Found(class, position) => Ok(DeclaredMember { class, position }),
-        Resolved::Throws(number) => Err(AbruptCompletion::Raises(exception_numbered(number), None)),
-    }
+    method_in(linker, class, interface, member.name(), member.descriptor())
 }
 
 /// The method, where it is static as it is asked for, or is not.

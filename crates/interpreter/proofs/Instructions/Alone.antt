@@ -10,7 +10,7 @@ use Rattle.jvm_basic.specs.Outcomes.{Outcome, GoesOn, Raises, Breaks, Leaves, ef
 use Rattle.jvm_basic.specs.Rules.{rule_of}
 use Rattle.prepared_code.specs.declared.line.Line.{Line}
 use Rattle.prepared_code.specs.declared.parts.Parts.{Parts}
-use Rattle.prepared_code.specs.declared.originals.Exception.TheVariants.{Arithmetic}
+use Rattle.jvm_model.specs.declared.exception.Exception.TheVariants.{Arithmetic}
 use Rattle.interpreter.specs.Instructions.Acts.{IsTop, comes_to, acts_alone, on_top, on_parts, run_ended, raising}
 use Rattle.prepared_code.specs.States.{frame_in, state_with, state_in}
 use Rattle.prepared_code.specs.Versions.{Setup}

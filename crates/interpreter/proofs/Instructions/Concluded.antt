@@ -7,7 +7,8 @@ use Rattle.frame_stack.specs.FrameLists.{PlacedFrame}
 use Rattle.jvm_basic.specs.Outcomes.{can_hold, with_top}
 use Rattle.jvm_model.specs.declared.state.State.{State}
 use Rattle.jvm_model.specs.Running.Applies.{breaks, with_frame}
-use Rattle.jvm_model.specs.Basis.Data.{Locals, Operands, SymbolicReference, Next, Target, Back, Outcome, GoesOn, Subroutine, Invokes, Returns, Throws, Raises, Initializes, Exits, Breaks, Done, Instruction}
+use Rattle.jvm_model.specs.Basis.Data.{Locals, Operands, Next, Target, Back, Outcome, GoesOn, Subroutine, Invokes, Returns, Throws, Raises, Initializes, Exits, Breaks, Done, Instruction}
+use Rattle.jvm_model.specs.declared.instruction.SymbolicReference.{SymbolicReference}
 use Rattle.jvm_model.specs.Running.Run.{starts}
 use Rattle.symbolic_references.specs.declared.asked.Asked.{Asked}
 use Rattle.symbolic_references.specs.declared.asked.Asked.TheVariants as asked

@@ -18,7 +18,14 @@ use Rattle.jvm_model.specs.declared.state.State.{State}
 use Rattle.jvm_model.specs.Running.Applies.{enters_subroutine, goes, resumes, gives_back, applies}
 use Rattle.jvm_model.specs.Instructions.ConstantRules.{pushes_string}
 use Rattle.jvm_model.specs.Running.Constants.{can_intern}
-use Rattle.jvm_model.specs.Basis.Data.{Locals, Operands, Listing, Local, Nop, Constant, Load, Store, ManageStack, BinaryOfInts, BinaryOfLongs, DivisionOfInts, DivisionOfLongs, ShiftOfLong, UnaryOfInt, UnaryOfLong, Lcmp, Iinc, Branch, Goto, Switch, Jsr, Ret, Return, SymbolicReference, New, Getfield, Putfield, Getstatic, Putstatic, Invokevirtual, Invokespecial, Invokestatic, Invokeinterface, Checkcast, Instanceof, Anewarray, Multianewarray, LdcClass, Operation, Within, Named, Athrow, Monitor, Newarray, Arraylength, LoadElement, StoreElement, LdcString, Instruction, Outcome, GoesOn, Subroutine, Invokes, Returns, Throws, Raises, Initializes, Exits, Breaks, Next, Target, Back, Done, Keys}
+use Rattle.jvm_model.specs.Basis.Data.{Locals, Operands, Listing, Instruction, Outcome, GoesOn, Subroutine, Invokes, Returns, Throws, Raises, Initializes, Exits, Breaks, Next, Target, Back, Done}
+use Rattle.jvm_model.specs.declared.instruction.Local.{Local}
+use Rattle.jvm_model.specs.declared.instruction.Local.TheVariants.{Nop, Constant, Load, Store, ManageStack, BinaryOfInts, BinaryOfLongs, DivisionOfInts, DivisionOfLongs, ShiftOfLong, UnaryOfInt, UnaryOfLong, Lcmp, Iinc, Branch, Goto, Switch, Jsr, Ret, Return}
+use Rattle.jvm_model.specs.declared.instruction.SymbolicReference.{SymbolicReference}
+use Rattle.jvm_model.specs.declared.instruction.SymbolicReference.TheVariants.{New, Getfield, Putfield, Getstatic, Putstatic, Invokevirtual, Invokespecial, Invokestatic, Invokeinterface, Checkcast, Instanceof, Anewarray, Multianewarray, LdcClass}
+use Rattle.jvm_model.specs.declared.instruction.Operation.{Operation}
+use Rattle.jvm_model.specs.declared.instruction.Operation.TheVariants.{Within, Named, Athrow, Monitor, Newarray, Arraylength, LoadElement, StoreElement, LdcString}
+use Rattle.jvm_model.specs.declared.instruction.Keys.{Keys}
 use Rattle.jvm_model.specs.Codes.Lines.{ends, is_last, targets_of}
 use Rattle.jvm_model.specs.Instructions.LocalRules.{arithmetic_exception, by_zero, divides_these, goes_if, holds, tests, switches_on, goes_back, replaces, returns, returns_datum, within}
 use Rattle.jvm_model.specs.Classes.Lookup.{is_below}
@@ -36,8 +43,7 @@ use Rattle.prepared_code.specs.declared.line.Action.{Action}
 use Rattle.prepared_code.specs.declared.line.Action.TheVariants as action
 use Rattle.prepared_code.specs.declared.line.Line.{Line}
 use Rattle.interpreter.specs.Instructions.Acts.{placed_line, comes_to, acts_alone, acts_asked, acts_done, acts_named, resumes_line, gives_back_line, returns_or_ends, acts_return, acts_by, acts, class_awaited, named_done, ready_for, with_done}
-use Rattle.symbolic_references.specs.Names.{symbolic_view}
-use Rattle.prepared_code.specs.Lines.{action_of, local_action, named_as}
+use Rattle.prepared_code.specs.Lines.{action_of, local_action}
 use Rattle.prepared_code.specs.Ready.{IsRuleOf, IsTied}
 use Rattle.prepared_code.specs.Tables.{Versions}
 use Rattle.prepared_code.specs.Versions.{Setup, listing_of, line_at, instruction_by, instruction_in}
@@ -455,23 +461,6 @@ op-awaits w s f (LdcString units) none = refl
 
 -- ---- instructions that name something
 
--- the names that a line keeps are those of its instruction
-pub viewed : (n : SymbolicReference) → symbolic_view (named_as n) ≡ n
-viewed (New name) = refl
-viewed (Getfield r) = refl
-viewed (Putfield r) = refl
-viewed (Getstatic r) = refl
-viewed (Putstatic r) = refl
-viewed (Invokevirtual r) = refl
-viewed (Invokespecial caller r interface) = refl
-viewed (Invokestatic r) = refl
-viewed (Invokeinterface r) = refl
-viewed (Checkcast name) = refl
-viewed (Instanceof name) = refl
-viewed (Anewarray name) = refl
-viewed (Multianewarray name dimensions) = refl
-viewed (LdcClass name) = refl
-
 pub with-loaded : (classes : List ℕ) (s : State) → with_loaded classes s ≡ record s { shared = record s.shared { loaded = s.shared.loaded ++ classes } }
 with-loaded [] s = ap (λ local_loaded. record s { shared = record s.shared { loaded = local_loaded } }) (sym (append-nil s.shared.loaded))
 with-loaded (c ∷ more) s = refl
@@ -495,15 +484,14 @@ named-steps w line n s f tied =
     let ready : State = readied w line (Named n) s f in
     let same : ready ≡ ready_for w n s f = with-loaded (newly_loaded w.world.program s.shared.loaded n f.operands) s in
     let there : Done = does_named w.world n ready.shared f.locals f.operands in
-    let kept : symbolic_view (named_as n) ≡ n = viewed n in
     record {
       starts_same =
           ap (λ (x : State). starts (does_named w.world n x.shared f.locals f.operands).outcome) same
-          ∙ (ap (λ m. starts (named_done w m s f).outcome) (sym kept) ∙ ap (class_awaited w s f) tied.action);
+          ∙ ap (class_awaited w s f) tied.action;
       applied =
           placed-same w line (Named n) (with_done there ready) f there.outcome refl
           ∙ (ap (λ (x : State). let d = does_named w.world n x.shared f.locals f.operands in acts_asked w line (with_done d x) f d.outcome) same
-          ∙ (ap (λ m. acts_named w line m s f) (sym kept) ∙ ap (acts_by w line s f) tied.action));
+          ∙ ap (acts_by w line s f) tied.action);
     }
 
 pub steps-as : (w : Setup) (line : Line) (op : Operation) (s : State) (f : Frame) → IsTied line op → StepsAs w line op s f

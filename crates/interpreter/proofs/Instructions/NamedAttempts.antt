@@ -5,13 +5,11 @@ use Rattle.std.proofs.lemmas.Option.{same_Some, none-some}
 use Rattle.frame_stack.specs.FrameLists.{PlacedFrame, FramesView, top_operands}
 use Rattle.jvm_model.specs.declared.state.Shared.{Shared}
 use Rattle.jvm_model.specs.declared.state.State.{State}
-use Rattle.jvm_model.specs.Basis.Data.{SymbolicReference}
+use Rattle.jvm_model.specs.declared.instruction.SymbolicReference.{SymbolicReference}
 use Rattle.jvm_model.specs.Instructions.SymbolicReference.{newly_loaded}
 use Rattle.symbolic_references.specs.declared.asked.Asked.{Asked}
-use Rattle.symbolic_references.specs.declared.symbolic_reference.SymbolicReference.{SymbolicReference as Kept}
 use Rattle.symbolic_references.specs.Answers.{answer_by, answer_in, answer_view, frames_by, shared_by, wrote_by}
 use Rattle.symbolic_references.specs.Attempts.{attempts, loaded_for}
-use Rattle.symbolic_references.specs.Names.{symbolic_view}
 use Rattle.prepared_code.specs.declared.line.Action.{Action}
 use Rattle.prepared_code.specs.declared.line.Action.TheVariants as action
 use Rattle.prepared_code.specs.declared.line.Line.{Line}
@@ -40,11 +38,11 @@ concluded-in w v here a mid after same made = subst (λ u. state_in after ≡ an
 
 pub record Names (lo : Option Line) : Type 0 where
   pub line : Line
-  pub kept : Kept
+  pub kept : SymbolicReference
   pub there : lo ≡ Some line
   pub named : line.action ≡ action.Named kept
 
-names-by : (a : Action) → is_named a ≡ true → (n : Kept) × (a ≡ action.Named n)
+names-by : (a : Action) → is_named a ≡ true → (n : SymbolicReference) × (a ≡ action.Named n)
 names-by (action.Named n) is = (n, refl)
 names-by action.Local is = absurd (false≢true is)
 names-by (action.Return k) is = absurd (false≢true is)
@@ -61,7 +59,7 @@ names-there None is = absurd (false≢true is)
 names-there (Some line) is = let found = names-by line.action is in record { line = line; kept = found.0; there = refl; named = found.1 }
 
 -- what holds of it where it is known
-pub held : (lo : Option Line) (names : Names lo) (Holds : SymbolicReference → ℕ → Type 0) → IfNamed lo Holds → Holds (symbolic_view names.kept) names.line.next
+pub held : (lo : Option Line) (names : Names lo) (Holds : SymbolicReference → ℕ → Type 0) → IfNamed lo Holds → Holds names.kept names.line.next
 held lo names Holds if_named =
     subst (λ a. IfNamedBy a names.line.next Holds) names.named (subst (λ o. IfNamed o Holds) names.there if_named)
 
@@ -79,7 +77,7 @@ module _ (w : Setup) (ms : List Initialization) (here : Here) (p : Parts) (is_na
   names = names-there (line_at w.versions here.version here.place) is_named_there
 
   abbrev n : SymbolicReference
-  n = symbolic_view names.kept
+  n = names.kept
 
   -- the state before
   abbrev s : State

@@ -7,7 +7,7 @@ use Rattle.std.specs.Prelude.{◌==◌, is_some, IfNone}
 use Rattle.frame_stack.specs.FrameLists.{PlacedFrame, FramesView, top_operands}
 use Rattle.jvm_model.specs.declared.state.Shared.{Shared}
 use Rattle.jvm_model.specs.declared.state.State.{State}
-use Rattle.jvm_model.specs.Basis.Data.{SymbolicReference}
+use Rattle.jvm_model.specs.declared.instruction.SymbolicReference.{SymbolicReference}
 use Rattle.jvm_model.specs.Instructions.Does.{loads}
 use Rattle.jvm_model.specs.Instructions.SymbolicReference.{newly_loaded}
 use Rattle.jvm_model.specs.Turns.Rest.{loads_at, loads_on}
@@ -15,7 +15,6 @@ use Rattle.jvm_model.specs.Running.Run.{with_loaded}
 use Rattle.symbolic_references.specs.declared.asked.Asked.{Asked}
 use Rattle.symbolic_references.specs.Answers.{answer_by, answer_view, frames_by, shared_by, wrote_by}
 use Rattle.symbolic_references.specs.Attempts.{attempts, is_loaded, loaded_for, shared_loaded}
-use Rattle.symbolic_references.specs.Names.{symbolic_view}
 use Rattle.prepared_code.specs.declared.line.Action.{Action}
 use Rattle.prepared_code.specs.declared.line.Action.TheVariants as action
 use Rattle.prepared_code.specs.declared.line.Line.{Line}
@@ -90,7 +89,7 @@ module _ (w : Setup) (ms : List Initialization) (p : Parts) (going : p.ending �
     names = names-there (line_at w.versions here.version here.place) is_named_there
 
     abbrev n : SymbolicReference
-    n = symbolic_view names.kept
+    n = names.kept
 
     named-loads : loads_in w s ≡ newly_loaded w.world.program p.shared.loaded n (top_operands p.frames.frames)
     named-loads = loads-by p.frames.frames here at none ∙ by p.frames.frames at where

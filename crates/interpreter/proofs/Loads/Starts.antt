@@ -8,7 +8,8 @@ use Rattle.heap_objects.specs.Heaps.{HeapView}
 use Rattle.jvm_model.specs.declared.state.Shared.{Shared}
 use Rattle.jvm_model.specs.declared.state.State.{State}
 use Rattle.jvm_model.specs.Running.Applies.{still}
-use Rattle.jvm_model.specs.Basis.Data.{New, Outcome}
+use Rattle.jvm_model.specs.Basis.Data.{Outcome}
+use Rattle.jvm_model.specs.declared.instruction.SymbolicReference.TheVariants.{New}
 use Rattle.jvm_model.specs.Basis.KindNumbers.{user_count}
 use Rattle.jvm_model.specs.Classes.Load.{Fault, is_among, load_of}
 use Rattle.jvm_model.specs.Running.Moves.{turn_settled}

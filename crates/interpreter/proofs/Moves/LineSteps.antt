@@ -14,7 +14,10 @@ use Rattle.jvm_model.specs.declared.state.Phase.{Phase}
 use Rattle.jvm_model.specs.declared.state.Phase.TheVariants.{Fresh, Running, Ready, Erroneous}
 use Rattle.jvm_model.specs.declared.state.State.{State}
 use Rattle.jvm_model.specs.Running.Applies.{still, breaks, applies}
-use Rattle.jvm_model.specs.Basis.Data.{Listing, SymbolicReference, Instruction, Operation, Named, Initializes, Done, Turn}
+use Rattle.jvm_model.specs.Basis.Data.{Listing, Instruction, Initializes, Done, Turn}
+use Rattle.jvm_model.specs.declared.instruction.SymbolicReference.{SymbolicReference}
+use Rattle.jvm_model.specs.declared.instruction.Operation.{Operation}
+use Rattle.jvm_model.specs.declared.instruction.Operation.TheVariants.{Named}
 use Rattle.jvm_model.specs.Running.Moves.{move, moves, moves_left, settles, turn_settled, then_turn}
 use Rattle.jvm_model.specs.Instructions.Does.{loads}
 use Rattle.jvm_model.specs.Instructions.SymbolicReference.{newly_loaded}
@@ -32,7 +35,7 @@ use Rattle.prepared_code.specs.Initializations.{initializing_entry, initializati
 use Rattle.prepared_code.specs.States.{active, frame_in}
 use Rattle.prepared_code.proofs.InitializingStacks.{length-active}
 use Rattle.interpreter.proofs.Instructions.Initializations.{IsReadyAgain, ready-again, set-there}
-use Rattle.interpreter.proofs.Instructions.LineActs.{awaits-named, done_there, readied, starts-some, steps-as, viewed, with-loaded}
+use Rattle.interpreter.proofs.Instructions.LineActs.{awaits-named, done_there, readied, starts-some, steps-as, with-loaded}
 use Rattle.prepared_code.proofs.InitializingStacks.{stack-empty, stack-frame, stack-on}
 use Rattle.jvm_model.proofs.Loading.LoadedMoves.{settled-loaded}
 use Rattle.interpreter.proofs.Instructions.NamedLaws.{Asks, IsNamed, is-named}
@@ -163,12 +166,12 @@ module _ (w : Setup) where
     there = named_done w n s f
 
     named-action : acts w line s f ≡ acts_named w line n s f
-    named-action = ap (acts_by w line s f) (sym tied.action) ∙ ap (λ m. acts_named w line m s f) (viewed n)
+    named-action = ap (acts_by w line s f) (sym tied.action)
 
     asks-for : there.outcome ≡ Initializes c
     asks-for =
         starts-some there.outcome c
-        (ap (λ m. starts (named_done w m s f).outcome) (sym (viewed n)) ∙ (ap (class_awaited w s f) tied.action ∙ is))
+        (ap (class_awaited w s f) tied.action ∙ is)
 
     law : IsNamed (ready_for w n s f).shared f.operands there
     law = is-named (ready_for w n s f).shared f.operands w n f.locals

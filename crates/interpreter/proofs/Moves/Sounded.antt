@@ -9,7 +9,13 @@ use Rattle.jvm_model.specs.declared.state.Entry.TheVariants.{Active}
 use Rattle.jvm_model.specs.declared.state.Frame.{Frame}
 use Rattle.jvm_model.specs.declared.state.Shared.{Shared}
 use Rattle.jvm_model.specs.declared.state.State.{State}
-use Rattle.jvm_model.specs.Basis.Data.{SymbolicReference, Invokespecial, Local, Return, Operation, Within, Named, Athrow, Monitor, Newarray, Arraylength, LoadElement, StoreElement, LdcString, Instruction, Breaks, Done}
+use Rattle.jvm_model.specs.Basis.Data.{Instruction, Breaks, Done}
+use Rattle.jvm_model.specs.declared.instruction.SymbolicReference.{SymbolicReference}
+use Rattle.jvm_model.specs.declared.instruction.SymbolicReference.TheVariants.{Invokespecial}
+use Rattle.jvm_model.specs.declared.instruction.Local.{Local}
+use Rattle.jvm_model.specs.declared.instruction.Local.TheVariants.{Return}
+use Rattle.jvm_model.specs.declared.instruction.Operation.{Operation}
+use Rattle.jvm_model.specs.declared.instruction.Operation.TheVariants.{Within, Named, Athrow, Monitor, Newarray, Arraylength, LoadElement, StoreElement, LdcString}
 use Rattle.jvm_model.specs.Instructions.Does.{loads}
 use Rattle.jvm_model.specs.Running.Run.{main_class}
 use Rattle.jvm_model.specs.Soundness.Sound as sound
@@ -32,7 +38,7 @@ use Rattle.interpreter.specs.Instructions.Acts.{acts, attempts_line, attempts_on
 use Rattle.prepared_code.specs.Lines.{IfNamed, IfNamedBy, action_of, local_action}
 use Rattle.prepared_code.specs.Initializations.{initialization_on, stack_of, state_of}
 use Rattle.prepared_code.specs.States.{active, here_of}
-use Rattle.interpreter.proofs.Instructions.LineActs.{readied, done_there, steps-as, viewed, with-loaded}
+use Rattle.interpreter.proofs.Instructions.LineActs.{readied, done_there, steps-as, with-loaded}
 use Rattle.interpreter.proofs.Moves.LineSteps.{IsGoing, top-frame}
 use Rattle.prepared_code.proofs.Tied.{Tie, tied-there}
 use Rattle.prepared_code.specs.Versions.{Setup, listing_of, line_at, instruction_by}
@@ -75,7 +81,7 @@ module _ (p : Program) (fit : IsFit p) (loaded : List ℕ) where
       → IfNamedBy line.action line.next (λ n next. HasLoadedCaller (linker_of p loaded) n)
   named-by line op tied can = subst (λ a. IfNamedBy a line.next (λ n next. HasLoadedCaller (linker_of p loaded) n)) tied.action (by op can) where
     by : (o : Operation) → CanAttempt p loaded o → IfNamedBy (action_of o) line.next (λ n next. HasLoadedCaller (linker_of p loaded) n)
-    by (Named n) can = subst (λ m. HasLoadedCaller (linker_of p loaded) m) (sym (viewed n)) (can-name n can)
+    by (Named n) can = can-name n can
     by (Within l) can = within-by line l
     by Athrow can = tt
     by Monitor can = tt

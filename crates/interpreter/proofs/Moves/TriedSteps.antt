@@ -18,7 +18,12 @@ use Rattle.jvm_model.specs.declared.state.Shared.{Shared}
 use Rattle.jvm_model.specs.declared.state.State.{State}
 use Rattle.jvm_model.specs.Running.Applies.{breaks, live_in}
 use Rattle.jvm_model.specs.Running.Between.{changes_between, attempt_followed}
-use Rattle.jvm_model.specs.Basis.Data.{Breaks, Instruction, Local, SymbolicReference, Named, Nop, Operands, Operation, Return, Listing, Within}
+use Rattle.jvm_model.specs.Basis.Data.{Breaks, Instruction, Operands, Listing}
+use Rattle.jvm_model.specs.declared.instruction.Local.{Local}
+use Rattle.jvm_model.specs.declared.instruction.SymbolicReference.{SymbolicReference}
+use Rattle.jvm_model.specs.declared.instruction.Operation.TheVariants.{Named, Within}
+use Rattle.jvm_model.specs.declared.instruction.Local.TheVariants.{Nop, Return}
+use Rattle.jvm_model.specs.declared.instruction.Operation.{Operation}
 use Rattle.jvm_model.specs.Instructions.Does.{does, loads}
 use Rattle.jvm_model.specs.Rewriting.Images.{is_off}
 use Rattle.jvm_model.specs.Turns.Rest.{loads_at, loads_on}
@@ -47,7 +52,7 @@ use Rattle.interpreter.proofs.Initializing.Behind.{sound-again, executing-again}
 use Rattle.prepared_code.proofs.InitializingStacks.{length-active}
 use Rattle.interpreter.proofs.Moves.Followed.{followed-loaded}
 use Rattle.interpreter.proofs.Instructions.InitializerFrames.{live-of}
-use Rattle.interpreter.proofs.Instructions.LineActs.{awaits-named, readied, steps-as, viewed}
+use Rattle.interpreter.proofs.Instructions.LineActs.{awaits-named, readied, steps-as}
 use Rattle.interpreter.proofs.Moves.LineSteps.{IsGoing, behind, going-on, stack-again, none-of, top-frame}
 use Rattle.prepared_code.proofs.InitializingStacks.{stack-empty, stack-on}
 use Rattle.prepared_code.proofs.Tied.{Tie, tied-there}
@@ -221,7 +226,7 @@ module _ (w : Setup) (run : CanRun w) (n : ℕ) (s : State) (going : IsGoing s) 
   acts-loaded : (line : Line) (m : SymbolicReference) → IsTied line (Named m) → loads w.world (Named m) s.shared f.operands ≡ []
       → (acts w line under f).shared.loaded ≡ s.shared.loaded
   acts-loaded line m tied none =
-      ap (λ (x : State). x.shared.loaded) (ap (acts_by w line under f) (sym tied.action) ∙ ap (λ k. acts_named w line k under f) (viewed m))
+      ap (λ (x : State). x.shared.loaded) (ap (acts_by w line under f) (sym tied.action))
       ∙ (named-loads w line m under f ∙ (ap (λ classes. s.shared.loaded ++ classes) none ∙ append-nil s.shared.loaded))
 
   module _ (c : ℕ) (line : Line) (i : Instruction) (at : t.at f.version f.place ≡ Some i) (there : here ≡ Some line) (tie : Tie (Some line) (Some i))

@@ -16,7 +16,8 @@ use Rattle.jvm_model.specs.declared.state.Entry.{Entry}
 use Rattle.jvm_model.specs.declared.state.Shared.{Shared}
 use Rattle.jvm_model.specs.declared.state.State.{State}
 use Rattle.jvm_model.specs.Running.Applies.{begins, begins_beside, breaks, has_room, invokes, live_in, most_live, new_frame, still, throws_at, with_frame}
-use Rattle.jvm_model.specs.Basis.Data.{Began, Datum, Done, SymbolicReference, Operands, Listing, Turn}
+use Rattle.jvm_model.specs.Basis.Data.{Began, Datum, Done, Operands, Listing, Turn}
+use Rattle.jvm_model.specs.declared.instruction.SymbolicReference.{SymbolicReference}
 use Rattle.jvm_model.specs.Instructions.Does.{loads}
 use Rattle.jvm_model.specs.Running.Moves.{moves_left, turn_settled}
 use Rattle.jvm_model.specs.Instructions.SymbolicReference.{newly_loaded}
@@ -30,11 +31,9 @@ use Rattle.jvm_model.specs.Turns.Told.{Held, helds, mark_now}
 use Rattle.jvm_model.specs.Basis.Values.{arguments_spread}
 use Rattle.jvm_model.proofs.Running.QuietSettles.{stops}
 use Rattle.symbolic_references.specs.declared.asked.Asked.TheVariants as asked
-use Rattle.symbolic_references.specs.declared.symbolic_reference.SymbolicReference.{SymbolicReference as Kept}
 use Rattle.symbolic_references.specs.declared.passing.Call.{Call}
 use Rattle.symbolic_references.specs.Answers.{Calls, answer_in, done_on, frames_in}
 use Rattle.symbolic_references.specs.Attempts.{attempts}
-use Rattle.symbolic_references.specs.Names.{symbolic_view}
 use Rattle.symbolic_references.specs.Passing.{IsCall}
 use Rattle.prepared_code.specs.declared.line.Action.TheVariants as action
 use Rattle.prepared_code.specs.declared.line.Line.{Line}
@@ -90,11 +89,11 @@ module _ (w : Setup) (m : ℕ) (args : List Datum) (below : Operands) (f : Place
 
 -- ---- at a line
 
-module _ (w : Setup) (run : CanRun w) (ms : List Initialization) (here : Here) (line : Line) (kept : Kept) (old : Parts) (stands : here_of old.frames.frames ≡ Some here)
+module _ (w : Setup) (run : CanRun w) (ms : List Initialization) (here : Here) (line : Line) (kept : SymbolicReference) (old : Parts) (stands : here_of old.frames.frames ≡ Some here)
     (found : line_at w.versions here.version here.place ≡ Some line) (named : line.action ≡ action.Named kept) (calm : IsAtInstruction (length old.frames.frames) ms old)
-    (nothing : newly_loaded w.world.program old.shared.loaded (symbolic_view kept) (top_operands old.frames.frames) ≡ []) (c : Call) where
+    (nothing : newly_loaded w.world.program old.shared.loaded kept (top_operands old.frames.frames) ≡ []) (c : Call) where
   abbrev n : SymbolicReference
-  n = symbolic_view kept
+  n = kept
 
   abbrev t : Listing
   t = listing_of w.versions

@@ -9,20 +9,20 @@ use Rattle.jvm_basic.specs.Outcomes.{can_hold, top_locals, with_top}
 use Rattle.jvm_model.specs.declared.state.Shared.{Shared}
 use Rattle.jvm_model.specs.declared.state.State.{State}
 use Rattle.jvm_model.specs.Running.Applies.{applies}
-use Rattle.jvm_model.specs.Basis.Data.{Back, Breaks, Done, Exits, GoesOn, Initializes, Instruction, Invokes, Locals, Named, SymbolicReference, Next as Following, Operands, Outcome, Raises, Returns, Subroutine, Target, Listing, Throws, Turn}
+use Rattle.jvm_model.specs.Basis.Data.{Back, Breaks, Done, Exits, GoesOn, Initializes, Instruction, Invokes, Locals, Next as Following, Operands, Outcome, Raises, Returns, Subroutine, Target, Listing, Throws, Turn}
+use Rattle.jvm_model.specs.declared.instruction.Operation.TheVariants.{Named}
+use Rattle.jvm_model.specs.declared.instruction.SymbolicReference.{SymbolicReference}
 use Rattle.jvm_model.specs.Running.Moves.{turn_settled}
 use Rattle.jvm_model.specs.Instructions.SymbolicReference.{newly_loaded}
 use Rattle.jvm_model.specs.Instructions.ReferenceRules.{does_named}
 use Rattle.jvm_model.specs.Running.Run.{goes_again, loaded_turn, starts, step, steps_at, steps_by, steps_on, tries, with_loaded}
 use Rattle.symbolic_references.specs.declared.asked.Asked.{Asked}
 use Rattle.symbolic_references.specs.declared.asked.Asked.TheVariants as asked
-use Rattle.symbolic_references.specs.declared.symbolic_reference.SymbolicReference.{SymbolicReference as Kept}
 use Rattle.symbolic_references.specs.declared.passing.Invoked.{Invoked}
 use Rattle.symbolic_references.specs.declared.passing.Invoked.TheVariants as invoked
 use Rattle.symbolic_references.specs.declared.passing.NativeCall.{NativeCall}
 use Rattle.symbolic_references.specs.Answers.{Continues, Exceeds, answer_by, answer_in, answer_view, done_on, frames_by, frames_in, wrote_by}
 use Rattle.symbolic_references.specs.Attempts.{attempts, loaded_for, loads_nothing, shared_loaded}
-use Rattle.symbolic_references.specs.Names.{symbolic_view}
 use Rattle.symbolic_references.specs.Does.{Changed, IsDone, parts_changed}
 use Rattle.symbolic_references.specs.Passing.{HasPassed, IfPassed, IfRan}
 use Rattle.prepared_code.specs.declared.line.Action.TheVariants as action
@@ -81,11 +81,11 @@ same-many q next fs so = ap (λ x. length (frames_in x next fs)) so.is ∙ (ap (
 
 -- ---- what stands at a line
 
-module _ (w : Setup) (run : CanRun w) (ms : List Initialization) (here : Here) (line : Line) (kept : Kept) (old : Parts) (stands : here_of old.frames.frames ≡ Some here)
+module _ (w : Setup) (run : CanRun w) (ms : List Initialization) (here : Here) (line : Line) (kept : SymbolicReference) (old : Parts) (stands : here_of old.frames.frames ≡ Some here)
     (found : line_at w.versions here.version here.place ≡ Some line) (named : line.action ≡ action.Named kept) (calm : IsAtInstruction (length old.frames.frames) ms old)
-    (nothing : newly_loaded w.world.program old.shared.loaded (symbolic_view kept) (top_operands old.frames.frames) ≡ []) where
+    (nothing : newly_loaded w.world.program old.shared.loaded kept (top_operands old.frames.frames) ≡ []) where
   abbrev n : SymbolicReference
-  n = symbolic_view kept
+  n = kept
 
   abbrev t : Listing
   t = listing_of w.versions
@@ -121,7 +121,7 @@ module _ (w : Setup) (run : CanRun w) (ms : List Initialization) (here : Here) (
         (there-by (λ n next. reached.frames ≡ frames_by (attempts w.world n old.shared old.frames) next old.frames) refl)
         (there-by (λ n next. reached.shared ≡ (done_on (attempts w.world n old.shared old.frames) old.frames).shared) refl)
         (there-by (λ n next. reached.output ≡ old.output ++ wrote_by (attempts w.world n old.shared old.frames) old.frames) refl)
-        (there-by (λ n next. loaded_for w.world.program (symbolic_view kept) old.shared old.frames ≡ loaded_for w.world.program n old.shared old.frames) refl)
+        (there-by (λ n next. loaded_for w.world.program kept old.shared old.frames ≡ loaded_for w.world.program n old.shared old.frames) refl)
         None new (sym quiet) refl concludes
 
     -- no class is awaited
@@ -132,7 +132,7 @@ module _ (w : Setup) (run : CanRun w) (ms : List Initialization) (here : Here) (
         (there-by (λ n next. reached.frames ≡ frames_by (attempts w.world n old.shared old.frames) next old.frames) refl)
         (there-by (λ n next. reached.shared ≡ (done_on (attempts w.world n old.shared old.frames) old.frames).shared) refl)
         (there-by (λ n next. reached.output ≡ old.output ++ wrote_by (attempts w.world n old.shared old.frames) old.frames) refl)
-        (there-by (λ n next. loaded_for w.world.program (symbolic_view kept) old.shared old.frames ≡ loaded_for w.world.program n old.shared old.frames) refl)
+        (there-by (λ n next. loaded_for w.world.program kept old.shared old.frames ≡ loaded_for w.world.program n old.shared old.frames) refl)
         None (sym quiet))
 
     pub is-step : (new : Parts) → state_in new ≡ answer_concluded w here (answer_view a) reached → is_at_rest ms new ≡ true
@@ -245,21 +245,21 @@ none-new xs is = by xs (zero-is (length xs) is) where
   by [] e = refl
   by (x ∷ xs) e = absurd (omega (arith, e))
 
-module _ (w : Setup) (run : CanRun w) (ms : List Initialization) (here : Here) (line : Line) (kept : Kept) (old : Parts) (stands : here_of old.frames.frames ≡ Some here)
+module _ (w : Setup) (run : CanRun w) (ms : List Initialization) (here : Here) (line : Line) (kept : SymbolicReference) (old : Parts) (stands : here_of old.frames.frames ≡ Some here)
     (found : line_at w.versions here.version here.place ≡ Some line) (named : line.action ≡ action.Named kept) (calm : IsAtInstruction (length old.frames.frames) ms old)
-    (silent : loads_nothing w.world.program old.shared.loaded (symbolic_view kept) (top_operands old.frames.frames) ≡ true) where
-  pub nothing-new : newly_loaded w.world.program old.shared.loaded (symbolic_view kept) (top_operands old.frames.frames) ≡ []
-  nothing-new = none-new (newly_loaded w.world.program old.shared.loaded (symbolic_view kept) (top_operands old.frames.frames)) silent
+    (silent : loads_nothing w.world.program old.shared.loaded kept (top_operands old.frames.frames) ≡ true) where
+  pub nothing-new : newly_loaded w.world.program old.shared.loaded kept (top_operands old.frames.frames) ≡ []
+  nothing-new = none-new (newly_loaded w.world.program old.shared.loaded kept (top_operands old.frames.frames)) silent
 
-  same-loaded : (shared : Shared) → shared ≡ (done_on (attempts w.world (symbolic_view kept) old.shared old.frames) old.frames).shared → shared.loaded ≡ old.shared.loaded
+  same-loaded : (shared : Shared) → shared ≡ (done_on (attempts w.world kept old.shared old.frames) old.frames).shared → shared.loaded ≡ old.shared.loaded
   same-loaded shared is =
-      let law = is-named (shared_loaded w.world.program (symbolic_view kept) old.shared old.frames) (top_operands old.frames.frames) w (symbolic_view kept) (top_locals old.frames.frames) in
+      let law = is-named (shared_loaded w.world.program kept old.shared old.frames) (top_operands old.frames.frames) w kept (top_locals old.frames.frames) in
       ap (λ (s : Shared). s.loaded) is
       ∙ (law.loaded ∙ (ap (λ more. old.shared.loaded ++ more) nothing-new ∙ append-nil old.shared.loaded))
 
   -- a native method
   pub native-passes : (b : Bool) (new : Parts)
-      → IfRan b (done_on (attempts w.world (symbolic_view kept) old.shared old.frames) old.frames) line.next (changed_in old) (changed_in new)
+      → IfRan b (done_on (attempts w.world kept old.shared old.frames) old.frames) line.next (changed_in old) (changed_in new)
       → new ≡ with_changed (changed_in new) old → Passes w ms old (steps_if b) new
   native-passes true new went same =
       subst (Passes w ms old 1) (sym same)
@@ -268,7 +268,7 @@ module _ (w : Setup) (run : CanRun w) (ms : List Initialization) (here : Here) (
       subst (Passes w ms old 0) (sym (same ∙ ap (λ (x : Changed). with_changed x old) went)) (passes_none w ms old calm)
 
   pub access-passes : (b : Bool) (frames : FramesView) (shared : Shared)
-      → IfPassed b (done_on (attempts w.world (symbolic_view kept) old.shared old.frames) old.frames) line.next old.frames old.shared frames shared
+      → IfPassed b (done_on (attempts w.world kept old.shared old.frames) old.frames) line.next old.frames old.shared frames shared
       → Passes w ms old (steps_if b) (record old { frames = frames; shared = shared })
   access-passes true frames shared went =
       field-passes w run ms here line kept old stands found named calm nothing-new frames shared went (same-loaded shared went.shared)
@@ -277,8 +277,8 @@ module _ (w : Setup) (run : CanRun w) (ms : List Initialization) (here : Here) (
       (subst (λ (s : Shared). Passes w ms old 0 (record old { shared = s })) (sym same.1) (passes_none w ms old calm))
 
 -- what holds of a line that names something, where it stands
-pub held-there : (lo : Option Line) (line : Line) (kept : Kept) → lo ≡ Some line → line.action ≡ action.Named kept → (Holds : SymbolicReference → ℕ → Type 0) → IfNamed lo Holds
-    → Holds (symbolic_view kept) line.next
+pub held-there : (lo : Option Line) (line : Line) (kept : SymbolicReference) → lo ≡ Some line → line.action ≡ action.Named kept → (Holds : SymbolicReference → ℕ → Type 0) → IfNamed lo Holds
+    → Holds kept line.next
 held-there lo line kept found named Holds holds = subst (λ a. IfNamedBy a line.next Holds) named (subst (λ o. IfNamed o Holds) found holds)
 
 -- what holds of what is invoked, where it is a native method

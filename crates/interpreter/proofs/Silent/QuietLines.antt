@@ -11,7 +11,10 @@ use Rattle.jvm_model.specs.declared.state.Entry.TheVariants.{Active}
 use Rattle.jvm_model.specs.declared.state.Frame.{Frame}
 use Rattle.jvm_model.specs.declared.state.State.{State}
 use Rattle.jvm_model.specs.Running.Applies.{applies, enters_subroutine, goes, place_of, still, with_frame}
-use Rattle.jvm_model.specs.Basis.Data.{Arraylength, Breaks, Done, Exits, GoesOn, Initializes, Instruction, Invokes, LoadElement, Local, Locals, Operands, Operation, Outcome, Raises, Returns, StoreElement, Subroutine, Listing, Throws, Turn, Where, Within, Next as Following}
+use Rattle.jvm_model.specs.Basis.Data.{Breaks, Done, Exits, GoesOn, Initializes, Instruction, Invokes, Locals, Operands, Outcome, Raises, Returns, Subroutine, Listing, Throws, Turn, Where, Next as Following}
+use Rattle.jvm_model.specs.declared.instruction.Operation.TheVariants.{Arraylength, LoadElement, StoreElement, Within}
+use Rattle.jvm_model.specs.declared.instruction.Local.{Local}
+use Rattle.jvm_model.specs.declared.instruction.Operation.{Operation}
 use Rattle.jvm_model.specs.Instructions.Does.{does, loads}
 use Rattle.jvm_model.specs.Codes.Lines.{targets_of}
 use Rattle.jvm_model.specs.Basis.Values.{ref_of}

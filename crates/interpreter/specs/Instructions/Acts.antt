@@ -11,7 +11,10 @@ use Rattle.jvm_model.specs.declared.state.Entry.{Entry}
 use Rattle.jvm_model.specs.declared.state.Entry.TheVariants.{Active, Initializing}
 use Rattle.jvm_model.specs.declared.state.Frame.{Frame}
 use Rattle.jvm_model.specs.declared.state.State.{State}
-use Rattle.jvm_model.specs.Basis.Data.{SymbolicReference, Nop, Within, Instruction, Outcome, Returns, Done}
+use Rattle.jvm_model.specs.Basis.Data.{Instruction, Outcome, Returns, Done}
+use Rattle.jvm_model.specs.declared.instruction.SymbolicReference.{SymbolicReference}
+use Rattle.jvm_model.specs.declared.instruction.Local.TheVariants.{Nop}
+use Rattle.jvm_model.specs.declared.instruction.Operation.TheVariants.{Within}
 use Rattle.jvm_model.specs.Running.Applies.{breaks, goes, throws_at, applies}
 use Rattle.jvm_model.specs.Instructions.ConstantRules.{pushes_string}
 use Rattle.jvm_model.specs.Codes.Lines.{targets_of}
@@ -26,15 +29,14 @@ use Rattle.jvm_basic.specs.declared.effect.Effect.{Effect}
 use Rattle.jvm_basic.specs.declared.effect.Effect.TheVariants.{Next, Throws, Bad, Other}
 use Rattle.jvm_basic.specs.Outcomes.{Outcome as Comes, GoesOn, Raises, Breaks, Leaves}
 use Rattle.jvm_basic.specs.Rules.{rule_of}
-use Rattle.symbolic_references.specs.Names.{symbolic_view}
 use Rattle.prepared_code.specs.declared.line.Action.{Action}
 use Rattle.prepared_code.specs.declared.line.Action.TheVariants as action
 use Rattle.prepared_code.specs.declared.line.Line.{Line}
 use Rattle.prepared_code.specs.declared.initializations.Initialization.{Initialization}
-use Rattle.prepared_code.specs.declared.originals.Exception.{Exception}
+use Rattle.jvm_model.specs.declared.exception.Exception.{Exception}
 use Rattle.prepared_code.specs.declared.parts.Parts.{Parts}
 use Rattle.prepared_code.specs.Initializations.{is_executing, state_of, with_initializations}
-use Rattle.prepared_code.specs.Prepared.{exception_name}
+use Rattle.jvm_model.specs.Instructions.Exceptions.{exception_name}
 use Rattle.prepared_code.specs.States.{frame_in, state_with, state_in}
 use Rattle.prepared_code.specs.Versions.{Setup, next_in, listing_of, line_at}
 use Rattle.prepared_code.specs.Tables.{Versions}
@@ -139,7 +141,7 @@ acts_string w line units s f =
 abbrev pub acts_by : Setup → Line → State → Frame → Action → State
 acts_by w line s f action.Local = acts_alone w line s f
 acts_by w line s f (action.Return k) = acts_return w line k s f
-acts_by w line s f (action.Named n) = acts_named w line (symbolic_view n) s f
+acts_by w line s f (action.Named n) = acts_named w line n s f
 acts_by w line s f action.Athrow = acts_athrow w line s f
 acts_by w line s f action.Monitor = acts_monitor w line s f
 acts_by w line s f action.Arraylength = acts_arraylength w line s f
@@ -217,7 +219,7 @@ named_in line = option_map_or (λ (l : Line). is_named l.action) line false
 
 -- by a line with this action (5.5)
 abbrev pub class_awaited : Setup → State → Frame → Action → Option ℕ
-class_awaited w s f (action.Named n) = starts (named_done w (symbolic_view n) s f).outcome
+class_awaited w s f (action.Named n) = starts (named_done w n s f).outcome
 class_awaited w s f _ = None
 
 abbrev pub awaited_by : Setup → State → Frame → Option Line → Option ℕ

@@ -5,7 +5,8 @@ use Rattle.jvm_basic.specs.Outcomes.{top_locals}
 use Rattle.jvm_model.specs.declared.ending.Ending.TheVariants.{Exited}
 use Rattle.jvm_model.specs.declared.state.Shared.{Shared}
 use Rattle.jvm_model.specs.declared.state.State.{State}
-use Rattle.jvm_model.specs.Basis.Data.{SymbolicReference, Outcome, Raises, Throws, Initializes, Exits, Done}
+use Rattle.jvm_model.specs.Basis.Data.{Outcome, Raises, Throws, Initializes, Exits, Done}
+use Rattle.jvm_model.specs.declared.instruction.SymbolicReference.{SymbolicReference}
 use Rattle.jvm_model.specs.Instructions.SymbolicReference.{newly_loaded}
 use Rattle.jvm_model.specs.Instructions.ReferenceRules.{does_named}
 use Rattle.jvm_model.specs.Running.Run.{starts}

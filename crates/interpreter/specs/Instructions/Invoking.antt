@@ -3,7 +3,7 @@ use Rattle.std.specs.Prelude.{ℕ, Bool, List, None, length, nat_lt, if◌then�
 use Rattle.frame_stack.specs.FrameLists.{PlacedFrame}
 use Rattle.jvm_model.specs.declared.state.State.{State}
 use Rattle.jvm_model.specs.Running.Applies.{most_live}
-use Rattle.prepared_code.specs.declared.originals.Exception.TheVariants.{StackOverflow}
+use Rattle.jvm_model.specs.declared.exception.Exception.TheVariants.{StackOverflow}
 use Rattle.prepared_code.specs.declared.parts.Here.{Here}
 use Rattle.prepared_code.specs.declared.parts.Parts.{Parts}
 use Rattle.interpreter.specs.Instructions.Acts.{run_ended, raising}

@@ -10,7 +10,8 @@ use class_index::FIRST_ARRAY;
 use heap_objects::{Datum, Heap, HeapError, Value};
 use jf_bytes::NoMemory;
 use jvm_basic::{Effect, int_of, ref_of, replace};
-use prepared_code::{Exception, Line, Originals, Parts};
+use jvm_model::Exception;
+use prepared_code::{Line, Originals, Parts};
 
 /// The greatest int.
 const GREATEST: u32 = 2_147_483_647;

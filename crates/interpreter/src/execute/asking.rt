@@ -4,7 +4,8 @@
 ghost use Rattle.std.specs.Prelude.{◌≡◌, Some, None, IfOk, OnOk};
 ghost use Rattle.std.specs.Option.{option_map};
 ghost use Rattle.jvm_model.specs.Running.Run.{starts};
-ghost use Rattle.symbolic_references.specs.Answers.{answer_view, exception_name, abrupt_view};
+ghost use Rattle.symbolic_references.specs.Answers.{answer_view, abrupt_view};
+ghost use Rattle.jvm_model.specs.Instructions.Exceptions.{exception_name};
 ghost use Rattle.interpreter.specs.Instructions.Acts.{raised_in};
 ghost use Rattle.interpreter.specs.Instructions.Asked.{answer_concluded, refused_in, starts_in};
 ghost use Rattle.prepared_code.specs.States.{state_in};
@@ -13,10 +14,10 @@ use crate::execute::invoking::call;
 use crate::unwind::exceptions::kind_raised;
 use crate::unwind::raising::{break_at, throw_kind, throw_kind_with};
 use jf_bytes::{NoMemory, Text16};
-use jvm_model::Ending;
+use jvm_model::{Ending, Exception};
 use prepared_code::{Here, Originals, Parts};
 use std::alloc::Global;
-use symbolic_references::{AbruptCompletion, Asked, Exception};
+use symbolic_references::{AbruptCompletion, Asked};
 
 /// Throws an exception that the instruction raises, with its message.
 pub fn raise_named(

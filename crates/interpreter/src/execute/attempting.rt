@@ -27,8 +27,9 @@ use crate::initialize::initializing::initialize;
 use crate::unwind::raising::{break_off, raise_with};
 use jf_bytes::{NoMemory, Stack};
 use jvm_basic::{Effect, basic_by};
+use jvm_model::Exception;
 use prepared_code::{
-    Action, Exception, Here, Initialization, Line, Originals, Parts, initialization_on, where_now,
+    Action, Here, Initialization, Line, Originals, Parts, initialization_on, where_now,
 };
 use std::alloc::Global;
 

@@ -26,7 +26,8 @@ use frame_stack::Frames;
 use heap_objects::{Datum, Element, Heap, Value, element_of};
 use jf_bytes::{NoMemory, Seq};
 use jvm_basic::{Effect, drop_narrow, drop_three, exchange_two, recall, replace_two, value_of};
-use prepared_code::{Exception, Line, Originals, Parts, fits_array, units_of};
+use jvm_model::Exception;
+use prepared_code::{Line, Originals, Parts, fits_array, units_of};
 use std::alloc::Global;
 use symbolic_references::datum_of;
 

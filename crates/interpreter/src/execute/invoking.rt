@@ -5,7 +5,7 @@ ghost use Rattle.frame_stack.specs.FrameLists.{top_operands};
 ghost use Rattle.frame_stack.specs.Widths.{width};
 ghost use Rattle.jvm_model.specs.Basis.Values.{data_of, datum_of};
 ghost use Rattle.jvm_model.specs.Basis.Programs.{name_at};
-ghost use Rattle.prepared_code.specs.declared.originals.Exception.TheVariants.{NoClassDefinition};
+ghost use Rattle.jvm_model.specs.declared.exception.Exception.TheVariants.{NoClassDefinition};
 ghost use Rattle.interpreter.specs.Instructions.Acts.{raising};
 ghost use Rattle.interpreter.specs.Instructions.Arguments.{arguments_of, can_begin, with_begun};
 ghost use Rattle.interpreter.specs.Instructions.Arguments.{fits_params, is_long_kind, slots_for, taken_slots};
@@ -18,7 +18,8 @@ use const_pool::Kind;
 use frame_stack::Frames;
 use heap_objects::Value;
 use jf_bytes::NoMemory;
-use prepared_code::{Exception, Here, Originals, Parts};
+use jvm_model::Exception;
+use prepared_code::{Here, Originals, Parts};
 use std::alloc::Global;
 use symbolic_references::datum_of;
 

@@ -7,7 +7,8 @@ ghost use Rattle.interpreter.specs.Instructions.Acts.{IsTop, Becomes, acts_monit
 use crate::unwind::raising::{break_off, end_unless, raise};
 use jf_bytes::NoMemory;
 use jvm_basic::{drop_one, ref_of};
-use prepared_code::{Exception, Line, Originals, Parts};
+use jvm_model::Exception;
+use prepared_code::{Line, Originals, Parts};
 
 /// Takes the object off.
 pub fn watch(

@@ -12,7 +12,6 @@ ghost use Rattle.jvm_model.specs.Basis.Values.{as_value};
 ghost use Rattle.jvm_model.specs.Rewriting.Images.{is_off};
 ghost use Rattle.jvm_model.specs.declared.due.Due.TheVariants as due;
 ghost use Rattle.symbolic_references.specs.Known.{IsKnown};
-ghost use Rattle.symbolic_references.specs.Names.{symbolic_view};
 ghost use Rattle.symbolic_references.specs.Passing.{IfRan, runs_native_call};
 ghost use Rattle.prepared_code.specs.declared.line.Action.TheVariants as action;
 ghost use Rattle.interpreter.specs.Instructions.Arguments.{can_begin, with_begun};
@@ -42,14 +41,12 @@ use frame_stack::Frames;
 use heap_objects::{Datum, Value};
 use jf_bytes::Stack;
 use jvm_basic::recall;
-use jvm_model::{Due, EventKind};
+use jvm_model::{Due, EventKind, SymbolicReference};
 use prepared_code::{
     Action, Here, Initialization, Line, Originals, Parts, initialization_on, next_in, where_now,
 };
 use std::alloc::Global;
-use symbolic_references::{
-    Call, Found, Invoked, Known, NativeCall, SymbolicReference, known_call, pass_field, pass_native,
-};
+use symbolic_references::{Call, Found, Invoked, Known, NativeCall, known_call, pass_field, pass_native};
 
 // ---- a call
 
@@ -141,7 +138,7 @@ fn pass_call(
     requires here { here_of parts.old.frames.frames ≡ Some here }
     requires line { line_at originals.now.setup.versions here.version here.place ≡ Some line.now }
     requires named { line.now.action ≡ action.Named naming.now }
-    requires known { IsKnown (linker_in originals.now) (symbolic_view naming.now) known.now }
+    requires known { IsKnown (linker_in originals.now) naming.now known.now }
     ensures { GoesOnward originals.now.setup initializing.now parts.old result parts.new }
 {
     let linker = originals.linker();
@@ -180,7 +177,7 @@ fn pass_access(
     requires here { here_of parts.old.frames.frames ≡ Some here }
     requires line { line_at originals.now.setup.versions here.version here.place ≡ Some line.now }
     requires named { line.now.action ≡ action.Named naming.now }
-    requires known { IsKnown (linker_in originals.now) (symbolic_view naming.now) known.now }
+    requires known { IsKnown (linker_in originals.now) naming.now known.now }
     ensures { Passes originals.now.setup initializing.now parts.old (steps_if result) parts.new }
 {
     let linker = originals.linker();

@@ -10,8 +10,8 @@ use crate::unwind::raising::{break_off, raise};
 use crate::unwind::supertypes::is_below_bytes;
 use jf_bytes::NoMemory;
 use jvm_basic::ref_of;
-use jvm_model::Shared;
-use prepared_code::{Exception, Line, Originals, Parts};
+use jvm_model::{Exception, Shared};
+use prepared_code::{Line, Originals, Parts};
 
 /// Whether an object is a Throwable.
 fn is_throwable(originals: &Originals, shared: &Shared, object: u32) -> bool

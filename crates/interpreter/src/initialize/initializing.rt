@@ -20,9 +20,9 @@ use crate::unwind::handlers::class_of;
 use crate::unwind::raising::{make, raise};
 use crate::unwind::supertypes::is_below_bytes;
 use jf_bytes::{NoMemory, Stack};
-use jvm_model::{Part, Phase, Shared};
+use jvm_model::{Exception, Part, Phase, Shared};
 use prepared_code::{
-    Exception, Initialization, Originals, Parts, initializer_of, put_initialization,
+    Initialization, Originals, Parts, initializer_of, put_initialization,
 };
 use std::alloc::Global;
 use symbolic_references::set_constants;

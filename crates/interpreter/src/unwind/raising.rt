@@ -7,12 +7,13 @@ ghost use Rattle.jvm_model.specs.Basis.SharedState.{kind_for, string};
 ghost use Rattle.interpreter.specs.Instructions.Raising.{heap_made, heap_with_both, reference_made};
 ghost use Rattle.interpreter.specs.Instructions.Raising.{reference_of_both, throwing, throwing_with, with_both};
 ghost use Rattle.interpreter.specs.Moves.Settling.{own_of};
+ghost use Rattle.prepared_code.specs.Prepared.{IsKeptKind};
 
 use heap_objects::{Datum, Heap, HeapError};
 use jf_bytes::NoMemory;
 use jvm_basic::Effect;
-use jvm_model::Ending;
-use prepared_code::{Exception, Here, Originals, Parts};
+use jvm_model::{Ending, Exception};
+use prepared_code::{Here, Originals, Parts};
 use std::alloc::Global;
 
 /// The object that is thrown where an exception does not fit into the heap.
@@ -125,6 +126,7 @@ pub fn throw_kind_with(
 
 /// Throws an exception that the machine makes, without a message.
 pub fn raise(originals: &Originals, parts: &mut Parts, exception: Exception) -> Result<(), NoMemory>
+    requires { IsKeptKind exception }
     ensures { OnOk result (parts.new ≡ raising originals.now.setup exception None parts.old) }
 {
     throw_kind(parts, originals.kind_of(exception))
@@ -137,6 +139,7 @@ pub fn raise_with(
     exception: Exception,
     message: &[u16],
 ) -> Result<(), NoMemory>
+    requires { IsKeptKind exception }
     ensures { let delivered = Some message.now in
         OnOk result (parts.new ≡ raising originals.now.setup exception delivered parts.old) }
 {

@@ -26,6 +26,14 @@ pub use Rattle.jvm_model.specs.declared.family.Test.{Test}
 pub use Rattle.jvm_model.specs.declared.family.Test.TheVariants.{WithZero, OfInts, OfReferences, IsNull}
 pub use Rattle.jvm_model.specs.declared.family.StackInstruction.{StackInstruction}
 pub use Rattle.jvm_model.specs.declared.family.StackInstruction.TheVariants.{Pop, Pop2, Dup, DupX1, DupX2, Dup2, Dup2X1, Dup2X2, Swap}
+pub use Rattle.jvm_model.specs.declared.instruction.Keys.{Keys}
+pub use Rattle.jvm_model.specs.declared.instruction.Keys.TheVariants.{Consecutive, Listed}
+pub use Rattle.jvm_model.specs.declared.instruction.Local.{Local}
+pub use Rattle.jvm_model.specs.declared.instruction.Local.TheVariants.{Nop, Constant, Load, Store, ManageStack, BinaryOfInts, BinaryOfLongs, DivisionOfInts, DivisionOfLongs, ShiftOfLong, UnaryOfInt, UnaryOfLong, Lcmp, Iinc, Branch, Goto, Switch, Jsr, Ret, Return}
+pub use Rattle.jvm_model.specs.declared.instruction.SymbolicReference.{SymbolicReference}
+pub use Rattle.jvm_model.specs.declared.instruction.SymbolicReference.TheVariants.{New, Getfield, Putfield, Getstatic, Putstatic, Invokevirtual, Invokespecial, Invokestatic, Invokeinterface, Checkcast, Instanceof, Anewarray, Multianewarray, LdcClass}
+pub use Rattle.jvm_model.specs.declared.instruction.Operation.{Operation}
+pub use Rattle.jvm_model.specs.declared.instruction.Operation.TheVariants.{Within, Named, Athrow, Monitor, Newarray, Arraylength, LoadElement, StoreElement, LdcString}
 pub use Rattle.jvm_model.specs.declared.state.Frame.{Frame}
 pub use Rattle.jvm_model.specs.declared.state.Part.{Part}
 pub use Rattle.jvm_model.specs.declared.state.Part.TheVariants.{Constants, Superclass, Initializer, Finish}
@@ -53,88 +61,6 @@ pub record World : Type 0 where
 pub record StackForm : Type 0 where
   pub takes : List Bool
   pub puts : List ℕ
-
--- The numbers that a switch tells apart, in the order of the targets behind the default: so many from the lowest one on, or these.
-pub data Keys : Type 0 where
-  Consecutive : ℤ → ℕ → Keys
-  Listed : List ℤ → Keys
-
--- An instruction that sees nothing but the locals and operands of its frame, in families: those of one family differ in a
--- constant, a kind or an operator.
-pub data Local : Type 0 where
-  Nop : Local
-  -- aconst_null, iconst, lconst, bipush, sipush, ldc of a number
-  Constant : Datum → Local
-  -- iload, lload, aload
-  Load : Kind → ℕ → Local
-  -- istore, lstore, astore
-  Store : Kind → ℕ → Local
-  -- pop, pop2, dup, .., swap: by the first form that fits
-  ManageStack : StackInstruction → Local
-  -- iadd, .., ixor: from two ints an int
-  BinaryOfInts : IntOperator → Local
-  -- ladd, .., lxor but for the shifts: from two longs a long
-  BinaryOfLongs : LongOperator → Local
-  -- idiv, irem
-  DivisionOfInts : Division → Local
-  -- ldiv, lrem
-  DivisionOfLongs : Division → Local
-  -- lshl, lshr, lushr: of a long by an int
-  ShiftOfLong : LongShift → Local
-  -- ineg, i2l, i2b, i2c, i2s
-  UnaryOfInt : OfInt → Local
-  -- lneg, l2i
-  UnaryOfLong : OfLong → Local
-  Lcmp : Local
-  Iinc : ℕ → ℤ → Local
-  -- ifeq, .., if_icmpeq, .., if_acmpeq, .., ifnull, ifnonnull
-  Branch : Test → Local
-  -- goto, goto_w
-  Goto : Local
-  -- tableswitch, lookupswitch
-  Switch : Keys → Local
-  -- jsr, jsr_w
-  Jsr : Local
-  Ret : ℕ → Local
-  -- ireturn, lreturn, areturn, return
-  Return : Option Kind → Local
-
--- An instruction that names a class, a field or a method, with the names that it gives: what they refer to is looked up in the program
--- when it is executed.
-pub data SymbolicReference : Type 0 where
-  New : List ℕ → SymbolicReference
-  Getfield : Reference → SymbolicReference
-  Putfield : Reference → SymbolicReference
-  Getstatic : Reference → SymbolicReference
-  Putstatic : Reference → SymbolicReference
-  Invokevirtual : Reference → SymbolicReference
-  -- with the name of the class in which it stands, and whether it names an interface's method
-  Invokespecial : List ℕ → Reference → Bool → SymbolicReference
-  Invokestatic : Reference → SymbolicReference
-  Invokeinterface : Reference → SymbolicReference
-  Checkcast : List ℕ → SymbolicReference
-  Instanceof : List ℕ → SymbolicReference
-  Anewarray : List ℕ → SymbolicReference
-  -- with so many dimensions that are given
-  Multianewarray : List ℕ → ℕ → SymbolicReference
-  -- ldc, ldc_w of a Class
-  LdcClass : List ℕ → SymbolicReference
-
--- An instruction as it is attempted.
-pub data Operation : Type 0 where
-  Within : Local → Operation
-  Named : SymbolicReference → Operation
-  Athrow : Operation
-  -- monitorenter, monitorexit
-  Monitor : Operation
-  -- newarray, of elements with this code
-  Newarray : ℕ → Operation
-  Arraylength : Operation
-  -- iaload, .., saload and iastore, .., sastore: baload and bastore are of bytes, and serve booleans too
-  LoadElement : Kind → Operation
-  StoreElement : Kind → Operation
-  -- ldc, ldc_w of a String of these units
-  LdcString : List ℕ → Operation
 
 -- An instruction in a method: its offset in the original code, the place behind it, unless control never goes on there, and
 -- the places that it names.

@@ -1,7 +1,6 @@
 use Rattle.std.proofs.Common.{◌∙◌, ap, subst, sym}
 use Rattle.std.specs.Prelude.{OnOk}
-use Rattle.jvm_model.specs.Instructions.SymbolicReference.{Invokeinterface, Invokestatic, Invokevirtual}
-use Rattle.symbolic_references.specs.Names.{symbolic_view}
+use Rattle.jvm_model.specs.declared.instruction.SymbolicReference.TheVariants.{Invokeinterface, Invokestatic, Invokevirtual}
 use Rattle.call_revelation.specs.Lineages.{begun_at}
 use Rattle.call_revelation.specs.Tables.{Adds}
 use Rattle.call_revelation.proofs.begun.add_begun_at.Goals as goal
@@ -9,14 +8,14 @@ use Rattle.call_revelation.proofs.begun.add_begun_at.Goals as goal
 pub returns-in-Invokestatic : goal.returns-in-Invokestatic
 returns-in-Invokestatic c =
     subst (λ n. OnOk c.add_static_on.result (Adds c.args.found.now c.add_static_on.new.found (begun_at c.args.linker.now.program c.args.lineage.now.loaded n c.args.class)))
-    (ap (λ r. Invokestatic r) c.member-member.ensures ∙ sym (ap symbolic_view c.in-Invokestatic.is)) c.add_static_on.ensures
+    (ap (λ r. Invokestatic r) c.member-member.ensures ∙ sym c.in-Invokestatic.is) c.add_static_on.ensures
 
 pub returns-in-Invokevirtual : goal.returns-in-Invokevirtual
 returns-in-Invokevirtual c =
     subst (λ n. OnOk c.add_begun_on.result (Adds c.args.found.now c.add_begun_on.new.found (begun_at c.args.linker.now.program c.args.lineage.now.loaded n c.args.class)))
-    (ap (λ r. Invokevirtual r) c.member-member-in-Invokevirtual.ensures ∙ sym (ap symbolic_view c.in-Invokevirtual.is)) c.add_begun_on.ensures
+    (ap (λ r. Invokevirtual r) c.member-member-in-Invokevirtual.ensures ∙ sym c.in-Invokevirtual.is) c.add_begun_on.ensures
 
 pub returns-in-Invokeinterface : goal.returns-in-Invokeinterface
 returns-in-Invokeinterface c =
     subst (λ n. OnOk c.add_begun_on-in-Invokeinterface.result (Adds c.args.found.now c.add_begun_on-in-Invokeinterface.new.found (begun_at c.args.linker.now.program c.args.lineage.now.loaded n c.args.class)))
-    (ap (λ r. Invokeinterface r) c.member-member-in-Invokeinterface.ensures ∙ sym (ap symbolic_view c.in-Invokeinterface.is)) c.add_begun_on-in-Invokeinterface.ensures
+    (ap (λ r. Invokeinterface r) c.member-member-in-Invokeinterface.ensures ∙ sym c.in-Invokeinterface.is) c.add_begun_on-in-Invokeinterface.ensures

@@ -1,7 +1,6 @@
 use Rattle.std.proofs.Common.{◌-◌, ◌++◌, map, sym, ap, ◌∙◌, arith}
 use Rattle.std.specs.Option.{option_to_list}
 use Rattle.code_model.proofs.Readings.{end_of-within}
-use Rattle.symbolic_references.specs.Names.{symbolic_view}
 use Rattle.call_revelation.specs.CodeReferences.{references_in_code, symbolic_references_from}
 use Rattle.call_revelation.proofs.ReferenceSteps.{one-more}
 use Rattle.call_revelation.proofs.code_references.references_in_code.Goals as goal
@@ -16,7 +15,7 @@ loop-left-preserved c =
     let code = c.args.code.now in
     let n = c.loop-left.left - 1 in
     let ns = c.loop-left.namings in
-    ap (λ l. map symbolic_view l ++ symbolic_references_from class n code c.next_offset-at.result) c.in_ok-add_some.ensures
-    ∙ (ap (λ k. map symbolic_view (ns ++ option_to_list c.in_ok-naming.naming) ++ symbolic_references_from class n code k) c.next_offset-at.ensures
+    ap (λ l. l ++ symbolic_references_from class n code c.next_offset-at.result) c.in_ok-add_some.ensures
+    ∙ (ap (λ k. (ns ++ option_to_list c.in_ok-naming.naming) ++ symbolic_references_from class n code k) c.next_offset-at.ensures
     ∙ one-more class code ns (references_in_code class code) c.loop-left.at n c.loop-left.left c.in-Some.instr (sym c.in_ok-instr.ensures ∙ c.in-Some.is)
     (omega (arith, c.loop-left-test.true)) c.loop-left.invariant c.in_ok-naming.naming c.in_ok-naming.ensures)

@@ -1,6 +1,5 @@
 -- what was read, and what the instructions from here on name
 use Rattle.std.proofs.Common.{◌≡◌, ◌++◌, map}
-use Rattle.symbolic_references.specs.Names.{symbolic_view}
 use Rattle.call_revelation.specs.CodeReferences.{references_in_code, symbolic_references_from}
 use Rattle.call_revelation.proofs.code_references.references_in_code.Given as goal
 
@@ -8,4 +7,4 @@ abbrev pub decreases-loop-left : goal.decreases-loop-left
 decreases-loop-left l = l.left
 
 abbrev pub invariant-loop-left : goal.invariant-loop-left
-invariant-loop-left l = map symbolic_view l.namings ++ symbolic_references_from l.class l.left l.code l.at ≡ references_in_code l.class l.code
+invariant-loop-left l = l.namings ++ symbolic_references_from l.class l.left l.code l.at ≡ references_in_code l.class l.code

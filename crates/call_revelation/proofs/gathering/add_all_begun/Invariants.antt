@@ -5,11 +5,10 @@ use Rattle.std.specs.List.{AllByRecursion}
 use Rattle.jvm_model.specs.Classes.Load.{is_among}
 use Rattle.jvm_model.specs.Soundness.Sound.{HasLoadedCaller}
 use Rattle.jvm_model.specs.Profiling.Targets.{begun_by}
-use Rattle.symbolic_references.specs.Names.{symbolic_view}
 use Rattle.call_revelation.proofs.gathering.add_all_begun.Given as goal
 
 abbrev pub invariant-loop-naming : goal.invariant-loop-naming
 invariant-loop-naming l =
-    ((m : ℕ) → (is_among m l.found || is_among m (flat_map (begun_by l.linker.program l.lineage.loaded) (map symbolic_view (drop l.naming-index l.namings))))
-    ≡ (is_among m l.initial.found || is_among m (flat_map (begun_by l.linker.program l.lineage.loaded) (map symbolic_view l.namings))))
-    × AllByRecursion (λ n. HasLoadedCaller l.linker.program l.linker.loaded (symbolic_view n)) (drop l.naming-index l.namings)
+    ((m : ℕ) → (is_among m l.found || is_among m (flat_map (begun_by l.linker.program l.lineage.loaded) (drop l.naming-index l.namings)))
+    ≡ (is_among m l.initial.found || is_among m (flat_map (begun_by l.linker.program l.lineage.loaded) l.namings)))
+    × AllByRecursion (λ n. HasLoadedCaller l.linker.program l.linker.loaded n) (drop l.naming-index l.namings)

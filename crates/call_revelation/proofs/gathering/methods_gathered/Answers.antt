@@ -5,11 +5,10 @@ use Rattle.jvm_model.specs.Classes.Load.{is_among}
 use Rattle.jvm_model.specs.Soundness.Sound.{HasLoadedCaller}
 use Rattle.jvm_model.specs.Profiling.Targets.{begun_by, operations_of}
 use Rattle.jvm_model.specs.Profiling.Revelation.{symbolic_references_of}
-use Rattle.symbolic_references.specs.Names.{symbolic_view}
 use Rattle.symbolic_references.specs.Numbers.{AreNumbers}
 use Rattle.call_revelation.specs.Tables.{Adds}
 use Rattle.call_revelation.proofs.Adding.{adds-all}
-use Rattle.call_revelation.proofs.CallerLemmas.{callers-loaded, viewed-fine}
+use Rattle.call_revelation.proofs.CallerLemmas.{callers-loaded}
 use Rattle.call_revelation.proofs.TargetLemmas.{gathered-are}
 use Rattle.call_revelation.proofs.gathering.methods_gathered.Goals as goal
 
@@ -27,9 +26,9 @@ pub add_all_begun-requires-clause-callers : goal.add_all_begun-requires-clause-c
 add_all_begun-requires-clause-callers c =
     let p = c.args.linker.now.program in
     let loaded = c.args.linker.now.loaded in
-    subst (AllByRecursion (λ n. HasLoadedCaller p loaded (symbolic_view n))) (sym c.as_slice-namings.ensures)
-    (viewed-fine (HasLoadedCaller p loaded) symbolic_view c.in_ok-namings.namings (symbolic_references_of (operations_of p c.args.method))
-    (c.in_ok-namings.ensures ∙ ap (λ q. symbolic_references_of (operations_of q c.args.method)) c.program-2.ensures)
+    subst (AllByRecursion (λ n. HasLoadedCaller p loaded n)) (sym c.as_slice-namings.ensures)
+    (subst (AllByRecursion (λ n. HasLoadedCaller p loaded n))
+    (sym (c.in_ok-namings.ensures ∙ ap (λ q. symbolic_references_of (operations_of q c.args.method)) c.program-2.ensures))
     (callers-loaded p loaded c.requires.fit c.args.method c.requires.class))
 
 pub returns : goal.returns
@@ -37,8 +36,8 @@ returns c =
     let p = c.args.linker.now.program in
     let loaded = c.args.linker.now.loaded in
     let kept = c.in_ok-lineage.lineage.loaded in
-    let ns = map symbolic_view c.as_slice-namings.result.now in
+    let ns = c.as_slice-namings.result.now in
     gathered-are p kept loaded c.args.method ns c.add_all_begun.new.found
     (λ x. ap (is_among x) c.in_ok-lineage.ensures.loaded ∙ adds-all [] loaded x)
-    (ap (map symbolic_view) c.as_slice-namings.ensures ∙ (c.in_ok-namings.ensures ∙ ap (λ q. symbolic_references_of (operations_of q c.args.method)) c.program-2.ensures))
+    (c.as_slice-namings.ensures ∙ (c.in_ok-namings.ensures ∙ ap (λ q. symbolic_references_of (operations_of q c.args.method)) c.program-2.ensures))
     (subst (λ l. Adds l c.add_all_begun.new.found (flat_map (begun_by p kept) ns)) c.new-found.ensures c.in_ok-add_all_begun.ensures)

@@ -1,4 +1,5 @@
-use Rattle.prepared_code.specs.declared.originals.Exception.TheVariants.{AbstractMethod, Arithmetic, ArrayStore, ClassCast, ClassCircularity, IncompatibleClassChange, InInitializer, IndexOutside, Instantiation, NegativeArraySize, NoClassDefinition, NoSuchField, NoSuchMethod, NullPointer, StackOverflow, UnsatisfiedLink}
+use Rattle.jvm_model.specs.declared.exception.Exception.TheVariants.{AbstractMethod, Arithmetic, ArrayStore, ClassCast, ClassCircularity, IncompatibleClassChange, InInitializer, IndexOutside, Instantiation, NegativeArraySize, NoClassDefinition, NoSuchField, NoSuchMethod, NullPointer, StackOverflow, UnsatisfiedLink, BuiltIn}
+use Rattle.std.proofs.Common.{refl}
 use Rattle.prepared_code.proofs.preparing.exceptions_of.Goals as goal
 
 pub returns-clause-raised : goal.returns-clause-raised
@@ -18,3 +19,4 @@ returns-clause-raised c NoSuchMethod = c.kind_for-13.ensures.kind
 returns-clause-raised c NullPointer = c.kind_for-14.ensures.kind
 returns-clause-raised c StackOverflow = c.kind_for-15.ensures.kind
 returns-clause-raised c UnsatisfiedLink = c.kind_for-16.ensures.kind
+returns-clause-raised c (BuiltIn place) = refl

@@ -4,7 +4,7 @@ use Rattle.jvm_basic.specs.Outcomes.{top_locals}
 use Rattle.jvm_model.specs.Instructions.FieldRules.{kind_by, putting_of}
 use Rattle.jvm_model.specs.Classes.Layouts.{held_by}
 use Rattle.symbolic_references.specs.Fields.{putting_view}
-use Rattle.symbolic_references.specs.Members.{at_place, reference_of}
+use Rattle.symbolic_references.specs.Members.{at_place}
 use Rattle.symbolic_references.specs.Objects.{AreLoaded}
 use Rattle.symbolic_references.proofs.ObjectLemmas.{objects_slot}
 use Rattle.symbolic_references.proofs.Slots.{puts_found}
@@ -13,11 +13,11 @@ use Rattle.symbolic_references.proofs.fields.write_known.Goals as goal
 pub returns-in-Ok-clause-shared : goal.returns-in-Ok-clause-shared
 returns-in-Ok-clause-shared c =
     c.write_slot.ensures.shared
-    ∙ sym (puts_found c.args.linker.now.program (reference_of c.args.member.now) (at_place c.args.field) c.args.shared.now
+    ∙ sym (puts_found c.args.linker.now.program c.args.member.now (at_place c.args.field) c.args.shared.now
     (top_locals c.args.frames.now.frames) (top_operands c.args.frames.now.frames)
-    (putting_of (kind_by (reference_of c.args.member.now)) (top_operands c.args.frames.now.frames)) (putting_view c.in-Some.putting)
+    (putting_of (kind_by c.args.member.now) (top_operands c.args.frames.now.frames)) (putting_view c.in-Some.putting)
     c.in-Ok.owner c.args.slot
-    (sym (c.in-Some.ensures ∙ ap (λ k. putting_of k (top_operands c.args.frames.now.frames)) (c.held_by.ensures ∙ ap held_by c.units.ensures)))
+    (sym (c.in-Some.ensures ∙ ap (λ k. putting_of k (top_operands c.args.frames.now.frames)) (c.held_by.ensures ∙ (ap held_by c.units.ensures ∙ ap held_by c.descriptor.ensures))))
     c.in-Ok.ensures.owner c.requires.slot)
 
 pub returns-in-Ok-clause-objects : goal.returns-in-Ok-clause-objects

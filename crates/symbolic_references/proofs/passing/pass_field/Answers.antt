@@ -1,11 +1,9 @@
 use Rattle.std.proofs.Common.{sym, subst, refl}
-use Rattle.jvm_model.specs.Instructions.SymbolicReference.{Getfield, Getstatic, Putfield, Putstatic}
-use Rattle.symbolic_references.specs.declared.symbolic_reference.SymbolicReference.{SymbolicReference as Kept}
+use Rattle.jvm_model.specs.declared.instruction.SymbolicReference.TheVariants.{Getfield, Getstatic, Putfield, Putstatic}
+use Rattle.jvm_model.specs.declared.instruction.SymbolicReference.{SymbolicReference as Kept}
 use Rattle.symbolic_references.specs.Answers.{done_on}
 use Rattle.symbolic_references.specs.Attempts.{attempts, world_over}
 use Rattle.symbolic_references.specs.Known.{IsKnown}
-use Rattle.symbolic_references.specs.Members.{reference_of}
-use Rattle.symbolic_references.specs.Names.{symbolic_view}
 use Rattle.symbolic_references.specs.Passing.{IfPassed}
 use Rattle.symbolic_references.proofs.Again.{done_again}
 use Rattle.symbolic_references.proofs.passing.pass_field.Goals as goal
@@ -15,9 +13,9 @@ returns-in-Getfield-clause-passed c input =
     let l = c.args.linker.now in
     let s = c.args.shared.now in
     let f = c.args.frames.now in
-    let n = Getfield (reference_of c.in-Getfield.member) in
-    let known = subst (λ (kept : Kept). IsKnown l (symbolic_view kept) c.args.known.now) c.in-Getfield.is c.requires.known in
-    subst (λ (kept : Kept). IfPassed c.pass_getfield.result (done_on (attempts (world_over l input) (symbolic_view kept) s f) f) c.args.next f s c.pass_getfield.new.frames s)
+    let n = Getfield c.in-Getfield.member in
+    let known = subst (λ (kept : Kept). IsKnown l kept c.args.known.now) c.in-Getfield.is c.requires.known in
+    subst (λ (kept : Kept). IfPassed c.pass_getfield.result (done_on (attempts (world_over l input) kept s f) f) c.args.next f s c.pass_getfield.new.frames s)
     (sym c.in-Getfield.is)
     (subst (λ d. IfPassed c.pass_getfield.result d c.args.next f s c.pass_getfield.new.frames s)
     (done_again l input n c.args.known.now s f c.requires.linked known refl) c.pass_getfield.ensures)
@@ -27,9 +25,9 @@ returns-in-Putfield-clause-passed c input =
     let l = c.args.linker.now in
     let s = c.args.shared.now in
     let f = c.args.frames.now in
-    let n = Putfield (reference_of c.in-Putfield.member) in
-    let known = subst (λ (kept : Kept). IsKnown l (symbolic_view kept) c.args.known.now) c.in-Putfield.is c.requires.known in
-    subst (λ (kept : Kept). IfPassed c.pass_putfield.result (done_on (attempts (world_over l input) (symbolic_view kept) s f) f) c.args.next f s c.pass_putfield.new.frames
+    let n = Putfield c.in-Putfield.member in
+    let known = subst (λ (kept : Kept). IsKnown l kept c.args.known.now) c.in-Putfield.is c.requires.known in
+    subst (λ (kept : Kept). IfPassed c.pass_putfield.result (done_on (attempts (world_over l input) kept s f) f) c.args.next f s c.pass_putfield.new.frames
     c.pass_putfield.new.shared)
     (sym c.in-Putfield.is)
     (subst (λ d. IfPassed c.pass_putfield.result d c.args.next f s c.pass_putfield.new.frames c.pass_putfield.new.shared)
@@ -40,9 +38,9 @@ returns-in-Getstatic-clause-passed c input =
     let l = c.args.linker.now in
     let s = c.args.shared.now in
     let f = c.args.frames.now in
-    let n = Getstatic (reference_of c.in-Getstatic.member) in
-    let known = subst (λ (kept : Kept). IsKnown l (symbolic_view kept) c.args.known.now) c.in-Getstatic.is c.requires.known in
-    subst (λ (kept : Kept). IfPassed c.pass_getstatic.result (done_on (attempts (world_over l input) (symbolic_view kept) s f) f) c.args.next f s c.pass_getstatic.new.frames s)
+    let n = Getstatic c.in-Getstatic.member in
+    let known = subst (λ (kept : Kept). IsKnown l kept c.args.known.now) c.in-Getstatic.is c.requires.known in
+    subst (λ (kept : Kept). IfPassed c.pass_getstatic.result (done_on (attempts (world_over l input) kept s f) f) c.args.next f s c.pass_getstatic.new.frames s)
     (sym c.in-Getstatic.is)
     (subst (λ d. IfPassed c.pass_getstatic.result d c.args.next f s c.pass_getstatic.new.frames s)
     (done_again l input n c.args.known.now s f c.requires.linked known refl) c.pass_getstatic.ensures)
@@ -52,9 +50,9 @@ returns-in-Putstatic-clause-passed c input =
     let l = c.args.linker.now in
     let s = c.args.shared.now in
     let f = c.args.frames.now in
-    let n = Putstatic (reference_of c.in-Putstatic.member) in
-    let known = subst (λ (kept : Kept). IsKnown l (symbolic_view kept) c.args.known.now) c.in-Putstatic.is c.requires.known in
-    subst (λ (kept : Kept). IfPassed c.pass_putstatic.result (done_on (attempts (world_over l input) (symbolic_view kept) s f) f) c.args.next f s c.pass_putstatic.new.frames
+    let n = Putstatic c.in-Putstatic.member in
+    let known = subst (λ (kept : Kept). IsKnown l kept c.args.known.now) c.in-Putstatic.is c.requires.known in
+    subst (λ (kept : Kept). IfPassed c.pass_putstatic.result (done_on (attempts (world_over l input) kept s f) f) c.args.next f s c.pass_putstatic.new.frames
     c.pass_putstatic.new.shared)
     (sym c.in-Putstatic.is)
     (subst (λ d. IfPassed c.pass_putstatic.result d c.args.next f s c.pass_putstatic.new.frames c.pass_putstatic.new.shared)

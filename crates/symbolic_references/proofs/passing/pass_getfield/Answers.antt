@@ -3,11 +3,11 @@ use Rattle.frame_stack.specs.FrameLists.{top_operands, with_frames}
 use Rattle.jvm_basic.specs.Outcomes.{top_locals}
 use Rattle.jvm_model.specs.Basis.Data.{Done}
 use Rattle.jvm_model.specs.Instructions.FieldRules.{gets_of}
-use Rattle.jvm_model.specs.Instructions.SymbolicReference.{Getfield, unless_refused}
+use Rattle.jvm_model.specs.Instructions.SymbolicReference.{unless_refused}
+use Rattle.jvm_model.specs.declared.instruction.SymbolicReference.TheVariants.{Getfield}
 use Rattle.jvm_model.specs.Basis.Values.{ref_of}
 use Rattle.symbolic_references.specs.Answers.{answer_in, answer_view, done_on, frames_in}
 use Rattle.symbolic_references.specs.Known.{IsField, IsFoundAs}
-use Rattle.symbolic_references.specs.Members.{reference_of}
 use Rattle.symbolic_references.specs.Passing.{IfPassed}
 use Rattle.symbolic_references.specs.Resolved.{gets_instance}
 use Rattle.symbolic_references.proofs.PassingLemmas.{passed-by}
@@ -17,7 +17,7 @@ use Rattle.symbolic_references.proofs.passing.pass_getfield.Goals as goal
 pub returns : goal.returns
 returns c =
     let p = c.args.linker.now.program in
-    let r = reference_of c.args.member.now in
+    let r = c.args.member.now in
     let s = c.args.shared.now in
     let f = c.args.frames.now in
     let l = top_locals f.frames in

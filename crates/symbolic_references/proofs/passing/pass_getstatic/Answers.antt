@@ -5,13 +5,14 @@ use Rattle.jvm_basic.specs.Outcomes.{top_locals}
 use Rattle.jvm_model.specs.Basis.Data.{Done}
 use Rattle.jvm_model.specs.Instructions.FieldRules.{pushes_static, static_field}
 use Rattle.jvm_model.specs.Instructions.LocalRules.{pushes}
-use Rattle.jvm_model.specs.Instructions.SymbolicReference.{Getstatic, unless_refused}
+use Rattle.jvm_model.specs.Instructions.SymbolicReference.{unless_refused}
+use Rattle.jvm_model.specs.declared.instruction.SymbolicReference.TheVariants.{Getstatic}
 use Rattle.jvm_model.specs.Instructions.ObjectRules.{done}
 use Rattle.jvm_model.specs.Basis.SharedState.{phase_of, static_at}
 use Rattle.jvm_model.specs.Basis.Values.{as_value}
 use Rattle.symbolic_references.specs.Answers.{answer_in, answer_view, done_on, frames_in}
 use Rattle.symbolic_references.specs.Known.{IsFoundAs}
-use Rattle.symbolic_references.specs.Members.{at_place, reference_of}
+use Rattle.symbolic_references.specs.Members.{at_place}
 use Rattle.symbolic_references.specs.Passing.{IfPassed}
 use Rattle.symbolic_references.specs.Resolved.{gets_static}
 use Rattle.symbolic_references.proofs.PassingLemmas.{passed-by, when-usable}
@@ -21,7 +22,7 @@ use Rattle.symbolic_references.proofs.passing.pass_getstatic.Goals as goal
 pub returns : goal.returns
 returns c =
     let p = c.args.linker.now.program in
-    let r = reference_of c.args.member.now in
+    let r = c.args.member.now in
     let s = c.args.shared.now in
     let f = c.args.frames.now in
     let l = top_locals f.frames in

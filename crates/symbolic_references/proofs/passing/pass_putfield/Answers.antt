@@ -5,11 +5,11 @@ use Rattle.jvm_model.specs.declared.state.Shared.{Shared}
 use Rattle.jvm_model.specs.Basis.Data.{GoesOn, Next}
 use Rattle.jvm_model.specs.Instructions.FieldRules.{kind_by, putting_of}
 use Rattle.jvm_model.specs.Classes.Layouts.{held_by}
-use Rattle.jvm_model.specs.Instructions.SymbolicReference.{Putfield}
+use Rattle.jvm_model.specs.declared.instruction.SymbolicReference.TheVariants.{Putfield}
 use Rattle.symbolic_references.specs.Answers.{answer_view, done_on}
 use Rattle.symbolic_references.specs.Fields.{putting_view, writes}
 use Rattle.symbolic_references.specs.Known.{IsField, IsFoundAs}
-use Rattle.symbolic_references.specs.Members.{at_place, reference_of}
+use Rattle.symbolic_references.specs.Members.{at_place}
 use Rattle.symbolic_references.specs.Passing.{IfPassed}
 use Rattle.symbolic_references.specs.Resolved.{puts_instance}
 use Rattle.symbolic_references.proofs.PassingLemmas.{next-is, not-moved, passed-on, puts-written}
@@ -26,7 +26,7 @@ returns-then-not-went_on c = (
 pub returns : goal.returns
 returns c =
     let p = c.args.linker.now.program in
-    let r = reference_of c.args.member.now in
+    let r = c.args.member.now in
     let s = c.args.shared.now in
     let f = c.args.frames.now in
     let l = top_locals f.frames in

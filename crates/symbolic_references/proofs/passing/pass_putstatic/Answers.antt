@@ -5,12 +5,13 @@ use Rattle.jvm_model.specs.declared.state.Shared.{Shared}
 use Rattle.jvm_model.specs.Basis.Data.{Done, GoesOn, Next}
 use Rattle.jvm_model.specs.Instructions.FieldRules.{held_of, kind_by, sets_static}
 use Rattle.jvm_model.specs.Classes.Layouts.{held_by}
-use Rattle.jvm_model.specs.Instructions.SymbolicReference.{Putstatic, unless_refused}
+use Rattle.jvm_model.specs.Instructions.SymbolicReference.{unless_refused}
+use Rattle.jvm_model.specs.declared.instruction.SymbolicReference.TheVariants.{Putstatic}
 use Rattle.jvm_model.specs.Instructions.Rules.{class_initialized}
 use Rattle.jvm_model.specs.Basis.SharedState.{phase_of}
 use Rattle.symbolic_references.specs.Answers.{answer_view, done_on}
 use Rattle.symbolic_references.specs.Known.{IsFoundAs}
-use Rattle.symbolic_references.specs.Members.{at_place, reference_of}
+use Rattle.symbolic_references.specs.Members.{at_place}
 use Rattle.symbolic_references.specs.Passing.{IfPassed}
 use Rattle.symbolic_references.specs.Resolved.{puts_static}
 use Rattle.symbolic_references.proofs.PassingLemmas.{next-is, not-moved, passed-on, when-usable}
@@ -27,7 +28,7 @@ returns-then-not-went_on c = (
 pub returns : goal.returns
 returns c =
     let p = c.args.linker.now.program in
-    let r = reference_of c.args.member.now in
+    let r = c.args.member.now in
     let s = c.args.shared.now in
     let f = c.args.frames.now in
     let l = top_locals f.frames in

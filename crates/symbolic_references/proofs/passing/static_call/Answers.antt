@@ -2,7 +2,7 @@ use Rattle.std.proofs.Common.{sym, subst, ◌∙◌}
 use Rattle.std.specs.Prelude.{IfSome}
 use Rattle.frame_stack.specs.FrameLists.{top_operands}
 use Rattle.jvm_basic.specs.Outcomes.{top_locals}
-use Rattle.jvm_model.specs.Instructions.SymbolicReference.{Invokestatic}
+use Rattle.jvm_model.specs.declared.instruction.SymbolicReference.TheVariants.{Invokestatic}
 use Rattle.symbolic_references.specs.Attempts.{world_over}
 use Rattle.symbolic_references.specs.Callees.{HasCallee}
 use Rattle.symbolic_references.specs.Known.{IsFixed, IsFoundAs}

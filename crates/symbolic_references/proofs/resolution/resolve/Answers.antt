@@ -1,6 +1,6 @@
 use Rattle.std.proofs.Common.{◌∙◌, ap, subst, sym, ◌++◌, Err}
 use Rattle.jvm_model.specs.Basis.Data.{Raises}
-use Rattle.symbolic_references.specs.Answers.{exception_name}
+use Rattle.jvm_model.specs.Instructions.Exceptions.{exception_name}
 use Rattle.std.proofs.lemmas.List.{append-nil}
 use Rattle.class_linker.specs.Linkers.{LinkerView}
 use Rattle.symbolic_references.specs.Objects.{IsResolved}

@@ -4,7 +4,6 @@ use Rattle.std.specs.Vec.{with_items}
 use Rattle.std.proofs.lemmas.List.{with_items_is}
 use Rattle.jvm_model.specs.Profiling.Revelation.{symbolic_references_of}
 use Rattle.jvm_model.specs.Profiling.Targets.{operations_of}
-use Rattle.symbolic_references.specs.Names.{symbolic_view}
 use Rattle.call_revelation.specs.Books.{code_at, with_uses}
 use Rattle.call_revelation.proofs.BookLemmas.{book-kept, has-read, still-read}
 use Rattle.call_revelation.proofs.book.Book.read.Goals as goal
@@ -20,10 +19,10 @@ returns-clause-book c =
     c.set.new.self (with_items book.waiting waiting).items (with_items book.calls calls).items c.set.ensures
     (with_items_is book.waiting waiting (omega (arith, c.in_ok-note_uses.ensures.more.places, ap length c.as_mut_slice.ensures.value, book.waiting.ok.0))
     ∙ (c.in_ok-note_uses.ensures.noted
-    ∙ ap₂ (λ ns l. with_uses p false c.args.method 0 (map symbolic_view ns) l) c.as_slice-named.ensures c.as_mut_slice.ensures.value))
+    ∙ ap₂ (λ ns l. with_uses p false c.args.method 0 ns l) c.as_slice-named.ensures c.as_mut_slice.ensures.value))
     (with_items_is book.calls calls (omega (arith, c.in_ok-note_uses-2.ensures.more.places, ap length c.as_mut_slice-2.ensures.value, book.calls.ok.0))
     ∙ (c.in_ok-note_uses-2.ensures.noted
-    ∙ ap₂ (λ ns l. with_uses p true c.args.method 0 (map symbolic_view ns) l) c.as_slice-named.ensures c.as_mut_slice-2.ensures.value))
+    ∙ ap₂ (λ ns l. with_uses p true c.args.method 0 ns l) c.as_slice-named.ensures c.as_mut_slice-2.ensures.value))
 
 pub returns-clause-has : goal.returns-clause-has
 returns-clause-has c =

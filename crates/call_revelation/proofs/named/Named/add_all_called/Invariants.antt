@@ -3,14 +3,13 @@ use Rattle.std.proofs.Common.{◌≡◌, ℕ, map, drop, true}
 use Rattle.std.specs.Prelude.{flat_map, ◌||◌}
 use Rattle.jvm_model.specs.declared.program.Program.{Program}
 use Rattle.jvm_model.specs.Classes.Load.{is_among}
-use Rattle.symbolic_references.specs.Names.{symbolic_view}
 use Rattle.call_revelation.specs.CalledClasses.{AreHanded, called_class}
 use Rattle.call_revelation.specs.Lineages.{IsLineage}
 use Rattle.call_revelation.proofs.named.Named.add_all_called.Given as goal
 
 abbrev pub invariant-loop-naming : goal.invariant-loop-naming
 invariant-loop-naming l =
-    ((m : ℕ) → (is_among m l.self.classes || is_among m (flat_map (called_class l.linker.program) (map symbolic_view (drop l.naming-index l.namings))))
-    ≡ (is_among m l.initial.self.classes || is_among m (flat_map (called_class l.linker.program) (map symbolic_view l.namings))))
+    ((m : ℕ) → (is_among m l.self.classes || is_among m (flat_map (called_class l.linker.program) (drop l.naming-index l.namings)))
+    ≡ (is_among m l.initial.self.classes || is_among m (flat_map (called_class l.linker.program) l.namings)))
     × (((class : ℕ) → is_among class l.initial.self.classes ≡ true → is_among class l.self.classes ≡ true)
     × ((p : Program) → IsLineage p l.lineage → AreHanded p l.lineage.loaded l.initial.self → AreHanded p l.lineage.loaded l.self))

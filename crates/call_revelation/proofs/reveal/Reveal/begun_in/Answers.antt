@@ -3,8 +3,7 @@ use Rattle.std.specs.Prelude.{flat_map}
 use Rattle.std.specs.List.{AllByRecursion}
 use Rattle.jvm_model.specs.Soundness.Sound.{HasLoadedCaller}
 use Rattle.jvm_model.specs.Profiling.Targets.{begun_by}
-use Rattle.symbolic_references.specs.declared.symbolic_reference.SymbolicReference.{SymbolicReference}
-use Rattle.symbolic_references.specs.Names.{symbolic_view}
+use Rattle.jvm_model.specs.declared.instruction.SymbolicReference.{SymbolicReference}
 use Rattle.call_revelation.specs.Tables.{Adds}
 use Rattle.call_revelation.proofs.Callers.{callers-there}
 use Rattle.call_revelation.proofs.TargetLemmas.{gathered-are}
@@ -15,7 +14,7 @@ add_all_begun-requires-clause-callers c =
     let p = c.args.linker.now.program in
     let loaded = c.args.linker.now.loaded in
     let book = c.args.self.now.book in
-    subst (AllByRecursion (λ (n : SymbolicReference). HasLoadedCaller p loaded (symbolic_view n))) (sym c.as_slice-namings.ensures)
+    subst (AllByRecursion (λ (n : SymbolicReference). HasLoadedCaller p loaded n)) (sym c.as_slice-namings.ensures)
     (callers-there p loaded book.codes book.waiting.items book.calls.items c.requires.kept.book c.requires.kept.fit c.args.method c.in-Some.namings.now
     (sym c.in-Some.ensures) (λ place e. c.requires.ahead.loaded place.class (c.requires.class place e)))
 
@@ -23,7 +22,7 @@ pub returns : goal.returns
 returns c =
     let p = c.args.linker.now.program in
     let loaded = c.args.self.now.lineage.loaded in
-    let ns = map symbolic_view c.as_slice-namings.result.now in
+    let ns = c.as_slice-namings.result.now in
     gathered-are p loaded loaded c.args.method ns c.add_all_begun.new.found (λ x. refl)
-    (ap (map symbolic_view) c.as_slice-namings.ensures ∙ c.requires.kept.book.read c.args.method c.in-Some.namings.now (sym c.in-Some.ensures))
+    (c.as_slice-namings.ensures ∙ c.requires.kept.book.read c.args.method c.in-Some.namings.now (sym c.in-Some.ensures))
     (subst (λ l. Adds l c.add_all_begun.new.found (flat_map (begun_by p loaded) ns)) c.new-found.ensures c.in_ok-add_all_begun.ensures)

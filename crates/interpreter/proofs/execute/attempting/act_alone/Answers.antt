@@ -1,7 +1,7 @@
 use Rattle.std.proofs.Common.{Some, sym, ap, ◌∙◌}
 use Rattle.std.proofs.lemmas.Result.{on_ok_weaker}
 use Rattle.jvm_model.specs.Instructions.LocalRules.{by_zero}
-use Rattle.prepared_code.specs.declared.originals.Exception.TheVariants.{Arithmetic}
+use Rattle.jvm_model.specs.declared.exception.Exception.TheVariants.{Arithmetic}
 use Rattle.interpreter.specs.Instructions.Acts.{acts_alone, on_parts, raising}
 use Rattle.prepared_code.specs.States.{state_in}
 use Rattle.interpreter.proofs.Instructions.Alone.{goes-next, goes-bad, goes-other, goes-throws}

@@ -5,7 +5,6 @@ use Rattle.class_linker.specs.Linkers.{LinkerView}
 use Rattle.symbolic_references.specs.Answers.{done_on}
 use Rattle.symbolic_references.specs.Attempts.{attempts, loads_nothing, world_over}
 use Rattle.symbolic_references.specs.Known.{IsKnown}
-use Rattle.symbolic_references.specs.Names.{symbolic_view}
 use Rattle.symbolic_references.specs.Objects.{AreLoaded}
 use Rattle.symbolic_references.specs.Selections.{AreSelections}
 use Rattle.symbolic_references.specs.Passing.{IfRan, IsCall, IsInvoked, IsNativeCall}
@@ -22,7 +21,7 @@ pub known_call-requires-clause-linked : goal.known_call-requires-clause-linked
 known_call-requires-clause-linked c = ap (λ (v : LinkerView). v.loaded) c.linker-linker.ensures ∙ c.requires.linked
 
 pub known_call-requires-clause-known : goal.known_call-requires-clause-known
-known_call-requires-clause-known c = subst (λ v. IsKnown v (symbolic_view c.args.naming.now) c.args.known.now) (sym c.linker-linker.ensures) c.requires.known
+known_call-requires-clause-known c = subst (λ v. IsKnown v c.args.naming.now c.args.known.now) (sym c.linker-linker.ensures) c.requires.known
 
 pub known_call-requires-clause-objects : goal.known_call-requires-clause-objects
 known_call-requires-clause-objects c =
@@ -36,20 +35,20 @@ known_call-requires-clause-selections c =
 pub do_native-requires-clause-stands : goal.do_native-requires-clause-stands
 do_native-requires-clause-stands c =
     (native-there (c.known_call.result) c.in-Some.invoked c.in-Native.native c.in-Some.is c.in-Native.is
-    (λ x. IsInvoked (world_over c.linker-linker.result.now []) x (done_on (attempts (world_over c.linker-linker.result.now []) (symbolic_view c.args.naming.now) c.args.parts.now.shared
+    (λ x. IsInvoked (world_over c.linker-linker.result.now []) x (done_on (attempts (world_over c.linker-linker.result.now []) c.args.naming.now c.args.parts.now.shared
     c.args.parts.now.frames) c.args.parts.now.frames) c.args.parts.now.shared c.args.parts.now.frames.frames) (c.known_call.ensures.called [])).stands
 
 pub do_native-requires-clause-within : goal.do_native-requires-clause-within
 do_native-requires-clause-within c =
     (native-there (c.known_call.result) c.in-Some.invoked c.in-Native.native c.in-Some.is c.in-Native.is
-    (λ x. IsInvoked (world_over c.linker-linker.result.now []) x (done_on (attempts (world_over c.linker-linker.result.now []) (symbolic_view c.args.naming.now) c.args.parts.now.shared
+    (λ x. IsInvoked (world_over c.linker-linker.result.now []) x (done_on (attempts (world_over c.linker-linker.result.now []) c.args.naming.now c.args.parts.now.shared
     c.args.parts.now.frames) c.args.parts.now.frames) c.args.parts.now.shared c.args.parts.now.frames.frames) (c.known_call.ensures.called [])).within
 
 pub returns-in-Code : goal.returns-in-Code
 returns-in-Code c =
     let w = c.args.originals.now.setup in
     let p = c.args.parts.now in
-    let n = symbolic_view c.args.naming.now in
+    let n = c.args.naming.now in
     let said = subst (λ o. IfSome o (λ x. IsInvoked (world_over c.linker-linker.result.now w.world.input) x (done_on (attempts (world_over c.linker-linker.result.now w.world.input) n p.shared p.frames) p.frames) p.shared
     p.frames.frames)) c.in-Some.is (c.known_call.ensures.called w.world.input) in
     let code = subst (λ x. IsInvoked (world_over c.linker-linker.result.now w.world.input) x (done_on (attempts (world_over c.linker-linker.result.now w.world.input) n p.shared p.frames) p.frames) p.shared
@@ -65,7 +64,7 @@ pub returns-in-Native : goal.returns-in-Native
 returns-in-Native c =
     let w = c.args.originals.now.setup in
     let p = c.args.parts.now in
-    let n = symbolic_view c.args.naming.now in
+    let n = c.args.naming.now in
     let said = subst (λ o. IfSome o (λ x. IsInvoked (world_over c.linker-linker.result.now w.world.input) x (done_on (attempts (world_over c.linker-linker.result.now w.world.input) n p.shared p.frames) p.frames) p.shared
     p.frames.frames)) c.in-Some.is (c.known_call.ensures.called w.world.input) in
     let native = subst (λ x. IsInvoked (world_over c.linker-linker.result.now w.world.input) x (done_on (attempts (world_over c.linker-linker.result.now w.world.input) n p.shared p.frames) p.frames) p.shared

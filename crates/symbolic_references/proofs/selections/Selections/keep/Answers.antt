@@ -1,7 +1,6 @@
 use Rattle.std.proofs.Common.{false, true, subst}
-use Rattle.symbolic_references.specs.declared.symbolic_reference.SymbolicReference.{SymbolicReference as Kept}
+use Rattle.jvm_model.specs.declared.instruction.SymbolicReference.{SymbolicReference as Kept}
 use Rattle.symbolic_references.specs.Known.{IsKnown}
-use Rattle.symbolic_references.specs.Names.{symbolic_view}
 use Rattle.symbolic_references.proofs.SelectionLemmas.{selection_of}
 use Rattle.symbolic_references.proofs.selections.Selections.keep.Goals as goal
 
@@ -9,10 +8,10 @@ pub returns-in-Invokevirtual : goal.returns-in-Invokevirtual
 returns-in-Invokevirtual c l are is =
     c.put.ensures l.program are
     (selection_of l c.in-Invokevirtual.field-0 false c.args.known.now c.in-Selected.site c.in-Selected.is
-    (subst (λ (kept : Kept). IsKnown l (symbolic_view kept) c.args.known.now) c.in-Invokevirtual.is is))
+    (subst (λ (kept : Kept). IsKnown l kept c.args.known.now) c.in-Invokevirtual.is is))
 
 pub returns-in-Invokeinterface : goal.returns-in-Invokeinterface
 returns-in-Invokeinterface c l are is =
     c.put-in-Invokeinterface.ensures l.program are
     (selection_of l c.in-Invokeinterface.field-0 true c.args.known.now c.in-Selected.site c.in-Selected.is
-    (subst (λ (kept : Kept). IsKnown l (symbolic_view kept) c.args.known.now) c.in-Invokeinterface.is is))
+    (subst (λ (kept : Kept). IsKnown l kept c.args.known.now) c.in-Invokeinterface.is is))
