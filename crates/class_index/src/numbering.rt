@@ -21,7 +21,10 @@ pub fn user_count(program: &Program) -> u32
     ensures count { result ≡ user_count program.now }
     ensures most { result < 2 ^ 24 }
 {
-    program.classes.len().saturating_sub(BUILT_IN_CLASSES as usize) as u32
+    program
+        .classes
+        .len()
+        .saturating_sub(BUILT_IN_CLASSES as usize) as u32
 }
 
 /// The base of a class in kinds.
