@@ -37,10 +37,18 @@ const RETURN: Instruction = Instruction::Plain(op_table::RETURN);
 /// ifgt over the two instructions behind it, which have one byte each.
 const IFGT: Instruction = Instruction::Short(op_table::IFGT, 5);
 
-const GETSTATIC_OUT: Instruction = Instruction::OfMember(op_table::GETSTATIC, ClassName::System, MemberName::Out);
+const GETSTATIC_OUT: Instruction = Instruction::OfMember(
+    op_table::GETSTATIC,
+    ClassName::System,
+    MemberName::Out,
+);
 
 /// Gen0.run.
-const RUN: Instruction = Instruction::OfMember(op_table::INVOKEVIRTUAL, ClassName::Numbered(0), MemberName::Run);
+const RUN: Instruction = Instruction::OfMember(
+    op_table::INVOKEVIRTUAL,
+    ClassName::Numbered(0),
+    MemberName::Run,
+);
 
 const PRINTLN: Instruction = Instruction::OfMember(
     op_table::INVOKEVIRTUAL,

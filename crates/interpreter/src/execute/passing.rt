@@ -46,7 +46,9 @@ use prepared_code::{
     Action, Here, Initialization, Line, Originals, Parts, initialization_on, next_in, where_now,
 };
 use std::alloc::Global;
-use symbolic_references::{Call, Found, Invoked, Known, NativeCall, known_call, pass_field, pass_native};
+use symbolic_references::{
+    Call, Found, Invoked, Known, NativeCall, known_call, pass_field, pass_native,
+};
 
 // ---- a call
 

@@ -21,9 +21,7 @@ use crate::unwind::raising::{make, raise};
 use crate::unwind::supertypes::is_below_bytes;
 use jf_bytes::{NoMemory, Stack};
 use jvm_model::{Exception, Part, Phase, Shared};
-use prepared_code::{
-    Initialization, Originals, Parts, initializer_of, put_initialization,
-};
+use prepared_code::{Initialization, Originals, Parts, initializer_of, put_initialization};
 use std::alloc::Global;
 use symbolic_references::set_constants;
 
