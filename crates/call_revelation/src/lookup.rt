@@ -2,6 +2,7 @@
 
 ghost use Rattle.std.specs.Prelude.{◌≡◌, true};
 ghost use Rattle.std.specs.Option.{option_map};
+ghost use Rattle.const_pool.specs.References.{name_type_of};
 ghost use Rattle.jvm_model.specs.Instructions.FieldRules.{is_static_field};
 ghost use Rattle.jvm_model.specs.Classes.Lookup.{Found, resolved_field, resolved_method};
 ghost use Rattle.jvm_model.specs.Basis.Programs.{initializer_name, initializer_of};
@@ -60,6 +61,29 @@ fn method_kept(program: &Program, m: DeclaredMember, fixed: bool) -> Option<Decl
     }
 }
 
+/// The method, static or not, that a name and a descriptor stand for in a class.
+fn method_in(
+    linker: &Linker,
+    class: u32,
+    interface: bool,
+    fixed: bool,
+    name: &Text16,
+    descriptor: &Text16,
+) -> Option<DeclaredMember>
+    requires { IsLoaded linker.now class }
+    ensures { option_map at_place result
+        ≡ found_where (is_static linker.now.program) fixed
+        (resolved_method linker.now.program class interface
+        (name_type_of name.now descriptor.now)) }
+{
+    match linker.resolve_method(class, interface, name, descriptor) {
+        Resolved::Found(class, position) => {
+            method_kept(linker.program(), DeclaredMember { class, position }, fixed)
+        }
+        Resolved::Throws(_) => None,
+    }
+}
+
 /// The method, static or not, that a reference stands for in a class.
 pub fn method_found(
     linker: &Linker,
@@ -73,12 +97,14 @@ pub fn method_found(
         ≡ found_where (is_static linker.now.program) fixed
         (resolved_method linker.now.program class interface member.now.member) }
 {
-    match linker.resolve_method(class, interface, member.name(), member.descriptor()) {
-        Resolved::Found(class, position) => {
-            method_kept(linker.program(), DeclaredMember { class, position }, fixed)
-        }
-        Resolved::Throws(_) => None,
-    }
+    method_in(
+        linker,
+        class,
+        interface,
+        fixed,
+        member.name(),
+        member.descriptor(),
+    )
 }
 
 // ---- fields
@@ -95,6 +121,24 @@ fn field_kept(linker: &Linker, m: DeclaredMember) -> Option<DeclaredMember>
     }
 }
 
+/// The static field that a name and a descriptor stand for in a class.
+fn static_field_in(
+    linker: &Linker,
+    class: u32,
+    name: &Text16,
+    descriptor: &Text16,
+) -> Option<DeclaredMember>
+    requires { IsLoaded linker.now class }
+    ensures { option_map at_place result
+        ≡ found_where (is_static_field linker.now.program) true
+        (resolved_field linker.now.program class (name_type_of name.now descriptor.now)) }
+{
+    match linker.resolve_field(class, name, descriptor) {
+        Resolved::Found(class, position) => field_kept(linker, DeclaredMember { class, position }),
+        Resolved::Throws(_) => None,
+    }
+}
+
 /// The static field that a reference stands for in a class.
 pub fn static_field_found(
     linker: &Linker,
@@ -106,10 +150,7 @@ pub fn static_field_found(
         ≡ found_where (is_static_field linker.now.program) true
         (resolved_field linker.now.program class member.now.member) }
 {
-    match linker.resolve_field(class, member.name(), member.descriptor()) {
-        Resolved::Found(class, position) => field_kept(linker, DeclaredMember { class, position }),
-        Resolved::Throws(_) => None,
-    }
+    static_field_in(linker, class, member.name(), member.descriptor())
 }
 
 // ---- numbers
