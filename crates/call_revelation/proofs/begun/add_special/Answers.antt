@@ -1,8 +1,8 @@
-use Rattle.std.proofs.Common.{◌∙◌, [], subst, sym}
+use Rattle.std.proofs.Common.{◌∙◌, [], ap, subst, sym}
 use Rattle.std.specs.Prelude.{OnOk}
 use Rattle.std.specs.Option.{option_map_or}
 use Rattle.jvm_model.specs.Instructions.InvocationRules.{Special}
-use Rattle.jvm_model.specs.Profiling.Targets.{begun_on}
+use Rattle.jvm_model.specs.Profiling.Targets.{begun_on, class_with_methods}
 use Rattle.call_revelation.specs.Tables.{Adds}
 use Rattle.call_revelation.proofs.begun.add_special.Goals as goal
 
@@ -12,4 +12,4 @@ returns-in-Some c =
     let loaded = c.args.lineage.now.loaded in
     subst (λ o. OnOk c.add_special_on.result (Adds c.args.found.now c.add_special_on.new.found
     (option_map_or (λ class. begun_on p loaded class (Special c.args.caller.now c.args.interface) c.args.member.now) o [])))
-    (sym c.in-Some.is ∙ c.class_with_methods.ensures) (c.add_special_on.ensures loaded)
+    (sym c.in-Some.is ∙ (c.class_with_methods.ensures ∙ ap (class_with_methods p loaded) c.class.ensures)) (c.add_special_on.ensures loaded)

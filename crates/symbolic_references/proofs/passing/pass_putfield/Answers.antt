@@ -34,7 +34,7 @@ returns c =
     let after : Shared = record s { heap = c.put_slot.new.heap } in
     let there : IsField p c.args.kind r c.in-Field.field c.in-Field.slot c.in-Field.last = subst (λ x. IsFoundAs x p c.args.kind (Putfield r)) c.in-Field.is c.requires.found in
     let given : putting_of (kind_by r) o ≡ Some (putting_view c.in-Some.putting) =
-    sym (c.in-Some.ensures ∙ ap (λ k. putting_of k o) (c.held_by.ensures ∙ ap held_by c.units.ensures)) in
+    sym (c.in-Some.ensures ∙ ap (λ k. putting_of k o) (c.held_by.ensures ∙ (ap held_by c.units.ensures ∙ ap held_by c.descriptor.ensures))) in
     let same : writes c.in-Ok.owner c.in-Field.slot c.in-Some.putting.datum s l o ≡ done_on (puts_instance p c.args.kind r s) f =
     puts-written p c.args.kind r (at_place c.in-Field.field) s l o (putting_view c.in-Some.putting) c.in-Ok.owner c.in-Field.slot
     given c.in-Ok.ensures.owner there.stands there.named in

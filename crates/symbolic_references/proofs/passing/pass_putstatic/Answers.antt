@@ -38,7 +38,7 @@ returns c =
     let there = subst (λ x. IsFoundAs x p c.args.kind (Putstatic r)) c.in-Static.is c.requires.found in
     let set : Done = sets_static m (Some c.in-Some.datum) s l o in
     let given : held_of (kind_by r) o ≡ Some c.in-Some.datum =
-    sym (sym c.in-Some.is ∙ (c.held_of.ensures ∙ ap (λ k. held_of k o) (c.held_by.ensures ∙ ap held_by c.units.ensures))) in
+    sym (sym c.in-Some.is ∙ (c.held_of.ensures ∙ ap (λ k. held_of k o) (c.held_by.ensures ∙ (ap held_by c.units.ensures ∙ ap held_by c.descriptor.ensures)))) in
     let same : set ≡ done_on (puts_static p c.args.kind r s) f =
     when-usable p (phase_of s m.class) m.class s set (sym c.is_usable.ensures ∙ c.if-not-is_usable.false)
     ∙ (ap (λ d. class_initialized p m.class s (sets_static m d s l o)) (sym given)
