@@ -34,32 +34,27 @@ impl Children {
     }
 
     /// The number of the child that goes on by this method, by hashing.
+    #[inline(never)]
     fn look_up(&self, method: u32) -> Option<usize>
         ensures { result ≡ number_under method self.now }
     {
         self.entries.get(&method).copied()
     }
 
-    /// The number of the first child, where it goes on by this method.
-    #[inline(always)]
-    fn first(&self, method: u32) -> Option<usize>
-        ensures { IfSome result (λ number. number_under method self.now ≡ Some number) }
-    {
-        match self.entries.get_index(0) {
-            Some((of, number)) if *of == method => Some(*number),
-            _ => None,
-        }
-    }
-
-    /// The number of the child that goes on by this method, in one look-up at most.
+    /// The number of the child that goes on by this method. A few children are looked at one by one.
     #[inline(always)]
     pub fn find(&self, method: u32) -> Option<usize>
         ensures { result ≡ number_under method self.now }
     {
-        match self.first(method) {
-            Some(number) => Some(number),
-            None => self.look_up(method),
+        let mut place = 0;
+        while place < 4 {
+            let (of, number) = self.entries.get_index(place)?;
+            if *of == method {
+                return Some(*number);
+            }
+            place += 1;
         }
+        self.look_up(method)
     }
 
     /// The number of the child at a place.
@@ -105,6 +100,7 @@ impl ChildLists {
     }
 
     /// The number of a node's child that goes on by this method.
+    #[inline(always)]
     pub fn find(&self, node: usize, method: u32) -> Option<usize>
         ensures { result ≡ number_under method (list_at node self.now) }
     {

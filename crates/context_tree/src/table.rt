@@ -56,6 +56,7 @@ impl NodeTable {
     }
 
     /// The child of a node that goes on by this method.
+    #[inline(always)]
     fn find(&self, node: Option<usize>, method: u32) -> Option<usize>
         ensures { result ≡ child_by node method self.now }
     {
@@ -150,6 +151,7 @@ impl NodeTable {
     }
 
     /// One node more, which is a child. An Err changes nothing.
+    #[inline(never)]
     fn grow(&mut self, parent: Option<usize>, method: u32) -> Result<(), NoMemory>
         requires within { IfSome parent (λ i. i < length self.old.children) }
         requires absent { child_by parent method self.old ≡ None }
@@ -167,6 +169,7 @@ impl NodeTable {
     }
 
     /// A method's entry. An Err changes nothing.
+    #[inline(always)]
     fn enter(&mut self, method: u32) -> Result<(), NoMemory>
         requires within { IfSome self.old.open (λ i. i < length self.old.children) }
         requires countable { calls_in self.old.nodes < 2 ^ 64 - 1 }

@@ -5,7 +5,7 @@ use Rattle.std.proofs.lemmas.Bool.{ltb-true, ltb-false, lt-ltb, le-ltb}
 use Rattle.std.proofs.lemmas.Nat.{div-add-mod'}
 use Rattle.event_buffer.specs.Records.{leb128, leb128_within}
 use Rattle.std.proofs.Common.{append_assoc, length-append}
-use Rattle.circular_buffer.specs.Buffer.{Buffer, buffer}
+use Rattle.event_buffer.specs.Rooms.{Room, room_of}
 use Rattle.event_buffer.specs.Reading.{number_in, behind_number}
 
 within-small : (k n : ℕ) → n < 128 → leb128_within k n ≡ n ∷ []
@@ -113,20 +113,20 @@ room-small n used capacity h room = let same = ap length (leb128-small n h) in o
 pub room-large : (n used capacity : ℕ) → 128 ≤ n → used + length (leb128 n) ≤ capacity → (used < capacity) × ((used + 1) + length (leb128 (n / 128)) ≤ capacity)
 room-large n used capacity h room = let same = ap length (leb128-large n h) in (omega (arith, same, room), omega (arith, same, room))
 
-pub room-rest : (items : List ℕ) (n byte capacity : ℕ) (first : Buffer ℕ) → 128 ≤ n → length items + length (leb128 n) ≤ capacity → first ≡ buffer (items ++ byte ∷ []) capacity
+pub room-rest : (items : List ℕ) (n byte capacity : ℕ) (first : Room) → 128 ≤ n → length items + length (leb128 n) ≤ capacity → first ≡ room_of (items ++ byte ∷ []) capacity
     → length first.items + length (leb128 (n / 128)) ≤ first.capacity
 room-rest items n byte capacity first h room e =
-    let longer : length first.items ≡ length items + 1 = ap (λ (b : Buffer ℕ). length b.items) e ∙ length-append items (byte ∷ []) in
-    let same : first.capacity ≡ capacity = ap (λ (b : Buffer ℕ). b.capacity) e in
+    let longer : length first.items ≡ length items + 1 = ap (λ (b : Room). length b.items) e ∙ length-append items (byte ∷ []) in
+    let same : first.capacity ≡ capacity = ap (λ (b : Room). b.capacity) e in
     let rest = (room-large n (length items) capacity h room).1 in
     omega (arith, longer, same, rest)
 
-pub put-small : (items : List ℕ) (n capacity : ℕ) (last : Buffer ℕ) → n < 128 → last ≡ buffer (items ++ n ∷ []) capacity → last ≡ buffer (items ++ leb128 n) capacity
-put-small items n capacity last h e = e ∙ ap (λ bytes. buffer (items ++ bytes) capacity) (sym (leb128-small n h))
+pub put-small : (items : List ℕ) (n capacity : ℕ) (last : Room) → n < 128 → last ≡ room_of (items ++ n ∷ []) capacity → last ≡ room_of (items ++ leb128 n) capacity
+put-small items n capacity last h e = e ∙ ap (λ bytes. room_of (items ++ bytes) capacity) (sym (leb128-small n h))
 
-pub put-large : (items : List ℕ) (n capacity : ℕ) (first last : Buffer ℕ) → 128 ≤ n → first ≡ buffer (items ++ (n % 128 + 128) ∷ []) capacity
-    → last ≡ buffer (first.items ++ leb128 (n / 128)) first.capacity → last ≡ buffer (items ++ leb128 n) capacity
+pub put-large : (items : List ℕ) (n capacity : ℕ) (first last : Room) → 128 ≤ n → first ≡ room_of (items ++ (n % 128 + 128) ∷ []) capacity
+    → last ≡ room_of (first.items ++ leb128 (n / 128)) first.capacity → last ≡ room_of (items ++ leb128 n) capacity
 put-large items n capacity first last h e f =
-    f ∙ ap (λ (b : Buffer ℕ). buffer (b.items ++ leb128 (n / 128)) b.capacity) e
-    ∙ ap (λ bytes. buffer bytes capacity) (append_assoc items ((n % 128 + 128) ∷ []) (leb128 (n / 128)))
-    ∙ ap (λ bytes. buffer (items ++ bytes) capacity) (sym (leb128-large n h))
+    f ∙ ap (λ (b : Room). room_of (b.items ++ leb128 (n / 128)) b.capacity) e
+    ∙ ap (λ bytes. room_of bytes capacity) (append_assoc items ((n % 128 + 128) ∷ []) (leb128 (n / 128)))
+    ∙ ap (λ bytes. room_of (items ++ bytes) capacity) (sym (leb128-large n h))

@@ -6,7 +6,7 @@ use Rattle.jvm_model.specs.declared.event.EventKind.{EventKind}
 use Rattle.jvm_model.specs.declared.event.EventKind.TheVariants.{Root, Enter, Leave, Unwind}
 use Rattle.event_buffer.specs.Records.{leb128, kind_number, record_of, records_of}
 use Rattle.event_buffer.specs.Reading.{number_in, behind_number, kind_numbered, event_in, events_within, events_in}
-use Rattle.circular_buffer.specs.Buffer.{Buffer, buffer}
+use Rattle.event_buffer.specs.Rooms.{Room, room_of}
 use Rattle.event_buffer.specs.Buffers.{Held, clock_behind, rest_of}
 use Rattle.event_buffer.specs.Spelled.{IsNext, AreInOrder, AreRecords}
 use Rattle.event_buffer.proofs.Leb128.{leb128-front}
@@ -166,47 +166,47 @@ front-cons (b ∷ rest) kind h = let same : b ≡ kind = cc in ap (λ k. k ∷ r
 front-holds : (popped last : ℕ) (bytes : List ℕ) (kind : ℕ) → AreRecords popped last bytes → Some kind ≡ slice_get bytes 0 → IsPopped popped last kind (drop 1 bytes)
 front-holds popped last bytes kind are h = pop-holds popped last kind (drop 1 bytes) (subst (AreRecords popped last) (front-cons bytes kind h) are)
 
-items-are : (b : Buffer ℕ) (items : List ℕ) (capacity : ℕ) → b ≡ buffer items capacity → b.items ≡ items
-items-are b items capacity e = ap (λ (b : Buffer ℕ). b.items) e
+items-are : (b : Room) (items : List ℕ) (capacity : ℕ) → b ≡ room_of items capacity → b.items ≡ items
+items-are b items capacity e = ap (λ (b : Room). b.items) e
 
-pub pop-method : (popped last : ℕ) (bytes : List ℕ) (kind capacity : ℕ) (first : Buffer ℕ) → AreRecords popped last bytes → Some kind ≡ slice_get bytes 0
-    → first ≡ buffer (drop 1 bytes) capacity → number_in first.items < 2 ^ 32
+pub pop-method : (popped last : ℕ) (bytes : List ℕ) (kind capacity : ℕ) (first : Room) → AreRecords popped last bytes → Some kind ≡ slice_get bytes 0
+    → first ≡ room_of (drop 1 bytes) capacity → number_in first.items < 2 ^ 32
 pop-method popped last bytes kind capacity first are h e =
     subst (λ xs. number_in xs < 2 ^ 32) (sym (items-are first (drop 1 bytes) capacity e)) (front-holds popped last bytes kind are h).next.method
 
-pub pop-clock : (popped last : ℕ) (bytes : List ℕ) (kind capacity : ℕ) (first second : Buffer ℕ) → AreRecords popped last bytes → Some kind ≡ slice_get bytes 0
-    → first ≡ buffer (drop 1 bytes) capacity → second ≡ buffer (behind_number first.items) first.capacity → popped + number_in second.items < 2 ^ 64
+pub pop-clock : (popped last : ℕ) (bytes : List ℕ) (kind capacity : ℕ) (first second : Room) → AreRecords popped last bytes → Some kind ≡ slice_get bytes 0
+    → first ≡ room_of (drop 1 bytes) capacity → second ≡ room_of (behind_number first.items) first.capacity → popped + number_in second.items < 2 ^ 64
 pop-clock popped last bytes kind capacity first second are h e f =
     let second_is = items-are second (behind_number first.items) first.capacity f ∙ ap behind_number (items-are first (drop 1 bytes) capacity e) in
     subst (λ xs. popped + number_in xs < 2 ^ 64) (sym second_is) (front-holds popped last bytes kind are h).next.clock
 
 -- what a pop comes to
-pub record PopsFirst (popped last capacity kind : ℕ) (bytes : List ℕ) (third : Buffer ℕ) (method more : ℕ) : Type 0 where
+pub record PopsFirst (popped last capacity kind : ℕ) (bytes : List ℕ) (third : Room) (method more : ℕ) : Type 0 where
   pub records : AreRecords (popped + more) last third.items
   pub first : Some (event_of (kind_numbered kind) method (popped + more)) ≡ slice_get (events_in popped bytes) 0
   pub rest : held_of (events_in (popped + more) third.items) (popped + more) third.capacity
       ≡ rest_of (held_of (events_in popped bytes) popped capacity) (events_in popped bytes)
 
-pub pop-first : (popped last : ℕ) (bytes : List ℕ) (kind capacity : ℕ) (first second third : Buffer ℕ) (method more : ℕ)
+pub pop-first : (popped last : ℕ) (bytes : List ℕ) (kind capacity : ℕ) (first second third : Room) (method more : ℕ)
     → AreRecords popped last bytes → Some kind ≡ slice_get bytes 0
-    → first ≡ buffer (drop 1 bytes) capacity
-    → method ≡ number_in first.items → second ≡ buffer (behind_number first.items) first.capacity
-    → more ≡ number_in second.items → third ≡ buffer (behind_number second.items) second.capacity
+    → first ≡ room_of (drop 1 bytes) capacity
+    → method ≡ number_in first.items → second ≡ room_of (behind_number first.items) first.capacity
+    → more ≡ number_in second.items → third ≡ room_of (behind_number second.items) second.capacity
     → PopsFirst popped last capacity kind bytes third method more
 pop-first popped last bytes kind capacity first second third method more are h e m f d g =
     let is = front-holds popped last bytes kind are h in
     let rest = drop 1 bytes in
-    let second_is : second ≡ buffer (behind_number rest) capacity = f ∙ ap (λ (b : Buffer ℕ). buffer (behind_number b.items) b.capacity) e in
-    let third_is : third ≡ buffer (behind_number (behind_number rest)) capacity = g ∙ ap (λ (b : Buffer ℕ). buffer (behind_number b.items) b.capacity) second_is in
-    let method_is : method ≡ number_in rest = m ∙ ap (λ (b : Buffer ℕ). number_in b.items) e in
-    let more_is : more ≡ number_in (behind_number rest) = d ∙ ap (λ (b : Buffer ℕ). number_in b.items) second_is in
+    let second_is : second ≡ room_of (behind_number rest) capacity = f ∙ ap (λ (b : Room). room_of (behind_number b.items) b.capacity) e in
+    let third_is : third ≡ room_of (behind_number (behind_number rest)) capacity = g ∙ ap (λ (b : Room). room_of (behind_number b.items) b.capacity) second_is in
+    let method_is : method ≡ number_in rest = m ∙ ap (λ (b : Room). number_in b.items) e in
+    let more_is : more ≡ number_in (behind_number rest) = d ∙ ap (λ (b : Room). number_in b.items) second_is in
     let read = ap (events_in popped) (front-cons bytes kind h) ∙ is.events in
     record {
       records = subst (λ n. AreRecords (popped + n) last third.items) (sym more_is)
-          (subst (λ (b : Buffer ℕ). AreRecords (popped + number_in (behind_number rest)) last b.items) (sym third_is) is.records);
+          (subst (λ (b : Room). AreRecords (popped + number_in (behind_number rest)) last b.items) (sym third_is) is.records);
       first = ap (λ (x : Event). Some x) (ap (λ n. event_of (kind_numbered kind) n (popped + more)) method_is ∙ ap (λ n. event_of (kind_numbered kind) (number_in rest) (popped + n)) more_is)
           ∙ sym (ap (λ (xs : List Event). slice_get xs 0) read);
-      rest = ap (λ (b : Buffer ℕ). held_of (events_in (popped + more) b.items) (popped + more) b.capacity) third_is
+      rest = ap (λ (b : Room). held_of (events_in (popped + more) b.items) (popped + more) b.capacity) third_is
           ∙ ap (λ n. held_of (events_in (popped + n) (behind_number (behind_number rest))) (popped + n) capacity) more_is
           ∙ sym (ap (rest_of (held_of (events_in popped bytes) popped capacity)) read);
     }
@@ -221,15 +221,15 @@ unfolding events_in
 none-in popped [] h = refl
 none-in popped (b ∷ rest) h = absurd cc
 
-pub new-view : (b : Buffer ℕ) (capacity : ℕ) → b ≡ buffer [] capacity → held_of (events_in 0 b.items) 0 b.capacity ≡ held_of [] 0 capacity
+pub new-view : (b : Room) (capacity : ℕ) → b ≡ room_of [] capacity → held_of (events_in 0 b.items) 0 b.capacity ≡ held_of [] 0 capacity
 unfolding events_in
-new-view b capacity e = ap (λ (b : Buffer ℕ). held_of (events_in 0 b.items) 0 b.capacity) e
+new-view b capacity e = ap (λ (b : Room). held_of (events_in 0 b.items) 0 b.capacity) e
 
-pub push-view : (popped last capacity : ℕ) (bytes : List ℕ) (e : Event) (after : Buffer ℕ) → AreRecords popped last bytes → IsNext last e
-    → after ≡ buffer (bytes ++ record_of last e) capacity
+pub push-view : (popped last capacity : ℕ) (bytes : List ℕ) (e : Event) (after : Room) → AreRecords popped last bytes → IsNext last e
+    → after ≡ room_of (bytes ++ record_of last e) capacity
     → AreRecords popped e.clock after.items × (held_of (events_in popped after.items) popped after.capacity ≡ held_of (events_in popped bytes ++ e ∷ []) popped capacity)
 push-view popped last capacity bytes e after are next is =
     let holds = push-holds popped last bytes e are next in (
-      subst (λ (b : Buffer ℕ). AreRecords popped e.clock b.items) (sym is) holds.records,
-      ap (λ (b : Buffer ℕ). held_of (events_in popped b.items) popped b.capacity) is ∙ ap (λ (xs : List Event). held_of xs popped capacity) holds.read,
+      subst (λ (b : Room). AreRecords popped e.clock b.items) (sym is) holds.records,
+      ap (λ (b : Room). held_of (events_in popped b.items) popped b.capacity) is ∙ ap (λ (xs : List Event). held_of xs popped capacity) holds.read,
     )

@@ -5,7 +5,7 @@ ghost use Rattle.event_buffer.specs.Buffers.{empty, event_pushed, rest_of, last_
 
 use crate::numbers::take_number;
 use crate::records::{kind_of_number, length_of_record, put_record};
-use circular_buffer::HeapCircularBuffer;
+use crate::room::Room;
 use jf_bytes::NoMemory;
 use jvm_model::Event;
 use std::alloc::Global;
@@ -15,12 +15,12 @@ use std::marker::Model;
 #[derive(Clone, Copy, Debug, PartialEq, Eq)]
 pub struct Full;
 
-/// Events, first in and first out, in a ring of bytes that is made once. A clause sees the events, the clock of the one that
+/// Events, first in and first out, in room of bytes that is made once. A clause sees the events, the clock of the one that
 /// was popped last, and the capacity. A record is one byte (0 root, 1 enter, 2 leave, 3 unwind), the method, and the clock
 /// less that of the event that was pushed before, both in unsigned LEB128.
 #[derive(Drop)]
 pub struct Events {
-    bytes: HeapCircularBuffer<u8>,
+    bytes: Room,
     /// The clock of the event that was popped last.
     popped: u64,
     /// The clock of the event that was pushed last.
@@ -49,7 +49,7 @@ impl Events {
         ensures { IfOk result (λ events. events ≡ empty capacity) }
     {
         Ok(Events {
-            bytes: HeapCircularBuffer::with_capacity(alloc, capacity)?,
+            bytes: Room::new(alloc, capacity)?,
             popped: 0,
             last: 0,
         })

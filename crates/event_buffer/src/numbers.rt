@@ -1,16 +1,16 @@
-//! Numbers in unsigned LEB128, in a ring of bytes.
+//! Numbers in unsigned LEB128, in room of bytes.
 
 ghost use Rattle.std.specs.Prelude.{◌≡◌, ◌+◌, ◌++◌, ◌∷◌, [], ◌<◌, ◌≤◌, ◌^◌, length, drop};
-ghost use Rattle.circular_buffer.specs.Buffer.{buffer};
+ghost use Rattle.event_buffer.specs.Rooms.{room_of};
 ghost use Rattle.event_buffer.specs.Records.{leb128};
 ghost use Rattle.event_buffer.specs.Reading.{number_in, behind_number};
 
-use circular_buffer::HeapCircularBuffer;
+use crate::room::Room;
 
 /// Appends a byte that there is room for.
-pub(crate) fn put_byte(bytes: &mut HeapCircularBuffer<u8>, byte: u8)
+pub(crate) fn put_byte(bytes: &mut Room, byte: u8)
     requires room { length bytes.old.items < bytes.old.capacity }
-    ensures { bytes.new ≡ buffer (bytes.old.items ++ byte ∷ []) bytes.old.capacity }
+    ensures { bytes.new ≡ room_of (bytes.old.items ++ byte ∷ []) bytes.old.capacity }
 {
     bytes.push_back(byte);
 }
@@ -43,9 +43,9 @@ pub(crate) fn length_of_number(number: u64) -> usize
 }
 
 /// Appends a number that there is room for, byte after byte.
-fn put_bytes(bytes: &mut HeapCircularBuffer<u8>, number: u64)
+fn put_bytes(bytes: &mut Room, number: u64)
     requires room { length bytes.old.items + length (leb128 number) ≤ bytes.old.capacity }
-    ensures { bytes.new ≡ buffer (bytes.old.items ++ leb128 number) bytes.old.capacity }
+    ensures { bytes.new ≡ room_of (bytes.old.items ++ leb128 number) bytes.old.capacity }
 {
     if number < 128 {
         put_byte(bytes, number as u8);
@@ -57,9 +57,9 @@ fn put_bytes(bytes: &mut HeapCircularBuffer<u8>, number: u64)
 
 /// The same; of a small number, as mostly, it is one byte.
 #[inline(always)]
-pub(crate) fn put_number(bytes: &mut HeapCircularBuffer<u8>, number: u64)
+pub(crate) fn put_number(bytes: &mut Room, number: u64)
     requires room { length bytes.old.items + length (leb128 number) ≤ bytes.old.capacity }
-    ensures { bytes.new ≡ buffer (bytes.old.items ++ leb128 number) bytes.old.capacity }
+    ensures { bytes.new ≡ room_of (bytes.old.items ++ leb128 number) bytes.old.capacity }
 {
     if number < 128 {
         put_byte(bytes, number as u8);
@@ -69,10 +69,10 @@ pub(crate) fn put_number(bytes: &mut HeapCircularBuffer<u8>, number: u64)
 }
 
 /// Takes the number at the front, byte after byte.
-fn take_bytes(bytes: &mut HeapCircularBuffer<u8>) -> u64
+fn take_bytes(bytes: &mut Room) -> u64
     requires { number_in bytes.old.items < 2 ^ 64 }
     ensures value { result ≡ number_in bytes.old.items }
-    ensures rest { bytes.new ≡ buffer (behind_number bytes.old.items) bytes.old.capacity }
+    ensures rest { bytes.new ≡ room_of (behind_number bytes.old.items) bytes.old.capacity }
 {
     match bytes.pop_front() {
         None => 0,
@@ -88,10 +88,10 @@ fn take_bytes(bytes: &mut HeapCircularBuffer<u8>) -> u64
 
 /// The same; of a small number, as mostly, it is one byte.
 #[inline(always)]
-pub(crate) fn take_number(bytes: &mut HeapCircularBuffer<u8>) -> u64
+pub(crate) fn take_number(bytes: &mut Room) -> u64
     requires { number_in bytes.old.items < 2 ^ 64 }
     ensures value { result ≡ number_in bytes.old.items }
-    ensures rest { bytes.new ≡ buffer (behind_number bytes.old.items) bytes.old.capacity }
+    ensures rest { bytes.new ≡ room_of (behind_number bytes.old.items) bytes.old.capacity }
 {
     match bytes.pop_front() {
         None => 0,

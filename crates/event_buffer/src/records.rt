@@ -1,13 +1,13 @@
-//! Records of events, in a ring of bytes.
+//! Records of events, in room of bytes.
 
 ghost use Rattle.std.specs.Prelude.{◌≡◌, ◌+◌, ◌-◌, ◌++◌, ◌≤◌, ◌<◌, ◌^◌, length};
-ghost use Rattle.circular_buffer.specs.Buffer.{buffer};
+ghost use Rattle.event_buffer.specs.Rooms.{room_of};
 ghost use Rattle.event_buffer.specs.Records.{leb128, kind_number, record_of};
 ghost use Rattle.event_buffer.specs.Reading.{kind_numbered};
 ghost use Rattle.event_buffer.specs.Spelled.{IsNext};
 
 use crate::numbers::{length_of_number, put_byte, put_number};
-use circular_buffer::HeapCircularBuffer;
+use crate::room::Room;
 use jvm_model::{Event, EventKind};
 
 #[inline(always)]
@@ -47,10 +47,10 @@ pub(crate) fn length_of_record(before: u64, event: Event) -> usize
 
 /// Appends the record of an event that there is room for, behind one of the clock `before`.
 #[inline(always)]
-pub(crate) fn put_record(bytes: &mut HeapCircularBuffer<u8>, before: u64, event: Event)
+pub(crate) fn put_record(bytes: &mut Room, before: u64, event: Event)
     requires later { before ≤ event.clock }
     requires room { length bytes.old.items + length (record_of before event) ≤ bytes.old.capacity }
-    ensures { bytes.new ≡ buffer (bytes.old.items ++ record_of before event) bytes.old.capacity }
+    ensures { bytes.new ≡ room_of (bytes.old.items ++ record_of before event) bytes.old.capacity }
 {
     put_byte(bytes, number_of_kind(event.kind));
     put_number(bytes, event.method as u64);
