@@ -3,3 +3,4 @@ pub mod Turning
 pub mod Trying
 pub mod Hands
 pub mod Calmly
+pub mod Onward

@@ -14,7 +14,7 @@ pub use execute::plain::plain_steps;
 pub use startup::beginning::{begin_start, end_unmade, make_ready, start};
 pub use startup::starting::parts_before;
 pub use turns::calmly::go_calmly;
-pub use turns::hands::{Gone, Hand, go};
+pub use turns::hands::{Gone, Hand, Passed, go};
 pub use turns::pausing::{go_by_moves, pause};
 pub use turns::stepping::{run, step};
 pub use turns::trying::go_by_attempt;

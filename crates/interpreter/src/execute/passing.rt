@@ -1,15 +1,16 @@
-//! Several steps that tell nothing: those of the current frame alone, and between them accesses of fields that raise nothing, and calls
-//! of methods whose current version has no probes, both by what their names came to.
+//! Several steps that tell nothing: those of the current frame alone, and between them accesses of fields that raise nothing, calls and
+//! returns, by what their names came to. They go on up to a call into a version with probes, or a return from one.
 
-ghost use Rattle.std.specs.Prelude.{◌≡◌, ◌≤◌, true, false, length, slice_get};
-ghost use Rattle.std.specs.Prelude.{IfSome, IsSome, Some};
+ghost use Rattle.std.specs.Prelude.{◌≡◌, ◌≤◌, ◌<◌, true, false, length, slice_get};
+ghost use Rattle.std.specs.Prelude.{IfSome, IsSome, Some, is_some, not};
 ghost use Rattle.base_classes.specs.Natives.{native_methods};
 ghost use Rattle.std.specs.Option.{option_map};
 ghost use Rattle.frame_stack.specs.FrameLists.{top_operands};
 ghost use Rattle.jvm_model.specs.Basis.Data.{Returns};
 ghost use Rattle.jvm_model.specs.Instructions.LocalRules.{returns};
 ghost use Rattle.jvm_model.specs.Basis.Values.{as_value};
-ghost use Rattle.jvm_model.specs.declared.event.Mark.TheVariants.{Off};
+ghost use Rattle.jvm_model.specs.Rewriting.Images.{is_off};
+ghost use Rattle.jvm_model.specs.declared.due.Due.TheVariants as due;
 ghost use Rattle.symbolic_references.specs.Known.{IsKnown};
 ghost use Rattle.symbolic_references.specs.Names.{symbolic_view};
 ghost use Rattle.symbolic_references.specs.Passing.{IfRan, runs_native_call};
@@ -18,18 +19,21 @@ ghost use Rattle.interpreter.specs.Instructions.Arguments.{can_begin, with_begun
 ghost use Rattle.interpreter.specs.Instructions.Invoking.{may_begin};
 ghost use Rattle.prepared_code.specs.Linked.{linker_in};
 ghost use Rattle.prepared_code.specs.Initializations.{state_of};
-ghost use Rattle.interpreter.specs.Instructions.Passing.{Passes, ReturnsTo, is_method, is_probed, is_told, on_frames};
+ghost use Rattle.interpreter.specs.Instructions.Passing.{Passes, is_method, on_frames};
 ghost use Rattle.interpreter.specs.Instructions.Passing.{changed_in, steps_if, with_changed};
 ghost use Rattle.prepared_code.specs.Ready.{CanRun, IsSoundIn};
 ghost use Rattle.prepared_code.specs.Runs.{IsAtInstruction};
 ghost use Rattle.prepared_code.specs.States.{here_of};
-ghost use Rattle.interpreter.specs.Moves.Calmly.{GoesBack};
+ghost use Rattle.interpreter.specs.Moves.Calmly.{GoesBack, TriesIf, passed_there};
+ghost use Rattle.interpreter.specs.Moves.Onward.{GoesOnward, PassesOnward};
+ghost use Rattle.interpreter.specs.Moves.Onward.{begun_due, is_telling, made_if};
 ghost use Rattle.prepared_code.specs.Versions.{current_of, line_at, mark_of};
 
 use crate::execute::arrays::pass_length;
 use crate::execute::going::{top_datum, value_of};
 use crate::execute::invoking::{begin_frame, may_begin};
 use crate::execute::plain::plain_steps;
+use crate::turns::hands::{Passed, gone_to};
 use crate::turns::turning::is_marked;
 use crate::unwind::catching::{catch_below, caught_below, thrown_object};
 use crate::unwind::handlers::class_of;
@@ -38,50 +42,46 @@ use frame_stack::Frames;
 use heap_objects::{Datum, Value};
 use jf_bytes::Stack;
 use jvm_basic::recall;
-use jvm_model::Mark;
+use jvm_model::{Due, EventKind};
 use prepared_code::{
     Action, Here, Initialization, Line, Originals, Parts, initialization_on, next_in, where_now,
 };
 use std::alloc::Global;
 use symbolic_references::{
-    Call, Callee, Found, Invoked, Known, NativeCall, SymbolicReference, known_call, pass_field,
-    pass_native,
+    Call, Found, Invoked, Known, NativeCall, SymbolicReference, known_call, pass_field, pass_native,
 };
 
 // ---- a call
 
-/// Whether a version has no probes.
+/// What is due where a method has begun in a version, by whether that has probes.
 #[inline(always)]
-pub fn is_off(mark: Mark) -> bool
-    ensures { result ≡ true → mark ≡ Off }
+fn begun_due(marked: bool) -> Due
+    ensures { result ≡ begun_due marked }
 {
-    match mark {
-        Mark::Off => true,
-        Mark::Plain => false,
-        Mark::Root => false,
-    }
+    if marked { Due::Begins } else { Due::Nothing }
 }
 
-/// A method begins on the current frame, in a version without probes. False, with nothing of the frames changed, where it can't.
-fn begin_call(originals: &Originals, parts: &mut Parts, call: Call) -> bool
-    ensures few { result ≡ true → may_begin parts.old.frames.frames ≡ true }
-    ensures fits { result ≡ true
+/// A method begins on the current frame, in its current version: what is due then. None, with nothing of the frames changed, where it
+/// can't.
+#[inline(always)]
+fn begin_call(originals: &Originals, parts: &mut Parts, call: Call) -> Option<Due>
+    ensures few { is_some result ≡ true → may_begin parts.old.frames.frames ≡ true }
+    ensures fits { is_some result ≡ true
         → can_begin originals.now.setup call.method call.count parts.old.frames.frames ≡ true }
-    ensures off { let v = originals.now.setup.versions in
-        result ≡ true → mark_of v (current_of v call.method) ≡ Off }
-    ensures frames { parts.new.frames.frames
-        ≡ with_begun result originals.now.setup call.method call.count parts.old.frames.frames }
+    ensures due { let v = originals.now.setup.versions in IfSome result (λ due.
+        due ≡ begun_due (not (is_off (mark_of v (current_of v call.method))))) }
+    ensures frames { parts.new.frames.frames ≡ with_begun
+        (is_some result) originals.now.setup call.method call.count parts.old.frames.frames }
     ensures same { parts.new ≡ on_frames parts.new.frames parts.old }
 {
     if !may_begin(&parts.frames) {
-        return false;
+        return None;
     }
-    if !is_off(originals.mark(originals.current(call.method))) {
-        return false;
-    }
+    let due = begun_due(is_marked(originals, originals.current(call.method)));
     match begin_frame(originals, &mut parts.frames, call.method, call.count) {
-        Ok(begun) => begun,
-        Err(_) => false,
+        Ok(true) => Some(due),
+        Ok(false) => None,
+        Err(_) => None,
     }
 }
 
@@ -114,6 +114,14 @@ fn do_native(
     )
 }
 
+/// Whether a step was made, as what is due behind it.
+#[inline(always)]
+fn made_if(done: bool) -> Option<Due>
+    ensures { result ≡ made_if done }
+{
+    if done { Some(Due::Nothing) } else { None }
+}
+
 /// An invocation by what its names came to.
 fn pass_call(
     alloc: Global,
@@ -124,7 +132,7 @@ fn pass_call(
     line: &Line,
     naming: &SymbolicReference,
     known: &Known,
-) -> bool
+) -> Option<Due>
     requires run { CanRun originals.now.setup }
     requires linked { originals.now.loaded ≡ parts.old.shared.loaded }
     requires sound { IsSoundIn originals.now.setup (state_of initializing.now parts.old) }
@@ -134,18 +142,20 @@ fn pass_call(
     requires line { line_at originals.now.setup.versions here.version here.place ≡ Some line.now }
     requires named { line.now.action ≡ action.Named naming.now }
     requires known { IsKnown (linker_in originals.now) (symbolic_view naming.now) known.now }
-    ensures { Passes originals.now.setup initializing.now parts.old (steps_if result) parts.new }
+    ensures { GoesOnward originals.now.setup initializing.now parts.old result parts.new }
 {
     let linker = originals.linker();
     let selections = originals.selections();
     let shared = &parts.shared;
     let frames = &parts.frames;
     let Some(invoked) = known_call(linker, selections, shared, frames, naming, known) else {
-        return false;
+        return None;
     };
     match invoked {
         Invoked::Code(call) => begin_call(originals, parts, call),
-        Invoked::Native(native) => do_native(alloc, originals, parts, native, line.next),
+        Invoked::Native(native) => {
+            made_if(do_native(alloc, originals, parts, native, line.next))
+        }
     }
 }
 
@@ -257,27 +267,10 @@ pub fn goes_back(
     next_in(line)
 }
 
-/// The same; None also where the frame's version has probes, or is not its method's current one.
-fn returns_to(
-    originals: &Originals,
-    frames: &Frames,
-    initializing: &Stack<Initialization>,
-    here: Here,
-) -> Option<u16>
-    ensures { let w = originals.now.setup in
-        IfSome result (λ next. ReturnsTo w initializing.now here frames.now.frames next) }
-{
-    if !is_off(originals.mark(here.version)) {
-        return None;
-    }
-    if !originals.is_current(here.version) {
-        return None;
-    }
-    goes_back(originals, frames, initializing)
-}
-
-/// A return.
-fn pass_return(
+/// A return from a version that is its method's current one; its probe has told, if it has one. False, with nothing changed, where the
+/// caller can't go on.
+#[inline(always)]
+pub fn leave(
     originals: &Originals,
     parts: &mut Parts,
     initializing: &Stack<Initialization>,
@@ -291,9 +284,16 @@ fn pass_return(
     requires here { here_of parts.old.frames.frames ≡ Some here }
     requires line { line_at originals.now.setup.versions here.version here.place ≡ Some line.now }
     requires ends { line.now.action ≡ action.Return kind }
-    ensures { Passes originals.now.setup initializing.now parts.old (steps_if result) parts.new }
+    ensures delivered { let w = originals.now.setup in
+        TriesIf result w initializing.now true parts.old due.Nothing parts.new }
+    // Where the version has no probes nothing is told of it.
+    ensures silent { let w = originals.now.setup in is_off (mark_of w.versions here.version) ≡ true
+        → Passes w initializing.now parts.old (steps_if result) parts.new }
 {
-    let Some(next) = returns_to(originals, &parts.frames, initializing, here) else {
+    if !originals.is_current(here.version) {
+        return false;
+    }
+    let Some(next) = goes_back(originals, &parts.frames, initializing) else {
         return false;
     };
     let Some(datum) = result_of(&parts.frames, kind) else {
@@ -301,6 +301,29 @@ fn pass_return(
     };
     recall(&parts.frames);
     parts.frames.give_back(value_given(datum), next)
+}
+
+/// A return. From a version with probes nothing is done yet: its probe tells first.
+fn pass_return(
+    originals: &Originals,
+    parts: &mut Parts,
+    initializing: &Stack<Initialization>,
+    here: Here,
+    line: &Line,
+    kind: Option<Kind>,
+) -> Option<Due>
+    requires run { CanRun originals.now.setup }
+    requires at_instruction { IsAtInstruction
+        (length parts.old.frames.frames) initializing.now parts.old }
+    requires here { here_of parts.old.frames.frames ≡ Some here }
+    requires line { line_at originals.now.setup.versions here.version here.place ≡ Some line.now }
+    requires ends { line.now.action ≡ action.Return kind }
+    ensures { GoesOnward originals.now.setup initializing.now parts.old result parts.new }
+{
+    if is_marked(originals, here.version) {
+        return Some(Due::Ends(EventKind::Leave));
+    }
+    made_if(leave(originals, parts, initializing, here, line, kind))
 }
 
 // ---- a throw
@@ -345,30 +368,7 @@ pub fn is_method(known: &Known) -> bool
     }
 }
 
-/// Whether a probe tells where this is invoked.
-#[inline(always)]
-fn is_probed(originals: &Originals, callee: Callee) -> bool
-    ensures { result ≡ is_probed originals.now.setup.versions callee }
-{
-    match callee {
-        Callee::Code(method) => is_marked(originals, originals.current(method)),
-        Callee::Native(_) => false,
-        Callee::Other => false,
-    }
-}
-
-/// Whether what is known is of a static method where whose begin a probe tells.
-#[inline(always)]
-fn is_told(originals: &Originals, known: &Known) -> bool
-    ensures { result ≡ is_told originals.now.setup.versions known.now.found }
-{
-    match known.found {
-        Found::Fixed(method) => is_probed(originals, method.callee),
-        _ => false,
-    }
-}
-
-/// A step by a line that names something. Nothing of the run is changed where the answer is false.
+/// A step by a line that names something. Nothing of the run is changed where the answer is None.
 fn pass_named(
     alloc: Global,
     originals: &Originals,
@@ -377,7 +377,7 @@ fn pass_named(
     here: Here,
     line: &Line,
     naming: &SymbolicReference,
-) -> bool
+) -> Option<Due>
     requires run { CanRun originals.now.setup }
     requires linked { originals.now.loaded ≡ parts.old.shared.loaded }
     requires sound { IsSoundIn originals.now.setup (state_of initializing.now parts.old) }
@@ -386,16 +386,13 @@ fn pass_named(
     requires here { here_of parts.old.frames.frames ≡ Some here }
     requires line { line_at originals.now.setup.versions here.version here.place ≡ Some line.now }
     requires named { line.now.action ≡ action.Named naming.now }
-    ensures { Passes originals.now.setup initializing.now parts.old (steps_if result) parts.new }
+    ensures { GoesOnward originals.now.setup initializing.now parts.old result parts.new }
 {
     let Some(known) = originals.known(here.version, here.place) else {
-        return false;
+        return None;
     };
-    if is_told(originals, known) {
-        return false;
-    }
     if is_method(known) {
-        pass_call(
+        return pass_call(
             alloc,
             originals,
             parts,
@@ -404,41 +401,41 @@ fn pass_named(
             line,
             naming,
             known,
-        )
-    } else {
-        pass_access(
-            alloc,
-            originals,
-            parts,
-            initializing,
-            here,
-            line,
-            naming,
-            known,
-        )
+        );
     }
+    made_if(pass_access(
+        alloc,
+        originals,
+        parts,
+        initializing,
+        here,
+        line,
+        naming,
+        known,
+    ))
 }
 
-/// A step by the line at which the current frame stands, where that tells nothing. Nothing of the run is changed where the answer is
-/// false: the line does something else, or raises something, or nothing is known of its names.
+/// A step by the line at which the current frame stands, up to what a probe tells of it: what is due there, and nothing where the step
+/// is made. Nothing of the run is changed where the answer is None: the line does something else, or raises something, or nothing is
+/// known of its names.
 fn pass_line(
     alloc: Global,
     originals: &Originals,
     parts: &mut Parts,
     initializing: &Stack<Initialization>,
-) -> bool
+) -> Option<Due>
     requires run { CanRun originals.now.setup }
     requires linked { originals.now.loaded ≡ parts.old.shared.loaded }
     requires sound { IsSoundIn originals.now.setup (state_of initializing.now parts.old) }
     requires at_instruction { IsAtInstruction
         (length parts.old.frames.frames) initializing.now parts.old }
-    ensures { Passes originals.now.setup initializing.now parts.old (steps_if result) parts.new }
+    ensures { GoesOnward originals.now.setup initializing.now parts.old result parts.new }
 {
     let Some(here) = where_now(&parts.frames) else {
-        return false;
+        return None;
     };
     let Some(line) = originals.line(here.version, here.place) else {
-        return false;
+        return None;
     };
     match &line.action {
         Action::Named(naming) => pass_named(
@@ -451,32 +448,65 @@ fn pass_line(
             naming,
         ),
         Action::Return(kind) => pass_return(originals, parts, initializing, here, line, *kind),
-        Action::Athrow => pass_throw(originals, parts, initializing, here, line),
-        Action::Arraylength => pass_measure(originals, parts, initializing, here, line),
-        _ => false,
+        Action::Athrow => made_if(pass_throw(originals, parts, initializing, here, line)),
+        Action::Arraylength => made_if(pass_measure(originals, parts, initializing, here, line)),
+        _ => None,
     }
 }
 
-/// Steps from which nothing follows, and of which nothing is told, at most so many: how many it has made.
+/// Whether a probe tells there.
+#[inline(always)]
+fn is_telling(due: Due) -> bool
+    ensures { result ≡ is_telling due }
+{
+    match due {
+        Due::Nothing => false,
+        Due::Ends(_) | Due::Begins => true,
+    }
+}
+
+/// How many of a step's changes are behind it there, where none was before.
+#[inline(always)]
+fn passed_there(due: Due) -> u64
+    ensures { result ≡ passed_there due }
+{
+    match due {
+        Due::Ends(_) => 0,
+        Due::Nothing | Due::Begins => 1,
+    }
+}
+
+/// Steps from which nothing follows, and of which nothing is told, at most so many: how many it has made. Where the next one is within
+/// them, and a probe tells of it, it goes on to there.
 pub fn pass_steps(
     alloc: Global,
     originals: &Originals,
     parts: &mut Parts,
     initializing: &Stack<Initialization>,
     most: u64,
-) -> u64
+) -> Passed
     requires run { CanRun originals.now.setup }
     requires linked { originals.now.loaded ≡ parts.old.shared.loaded }
     requires sound { IsSoundIn originals.now.setup (state_of initializing.now parts.old) }
     requires at_instruction { IsAtInstruction
         (length parts.old.frames.frames) initializing.now parts.old }
-    ensures within { result ≤ most }
-    ensures made { Passes originals.now.setup initializing.now parts.old result parts.new }
+    ensures within { result.made ≤ most }
+    ensures below { IfSome result.gone (λ gone. result.made < most) }
+    ensures made { PassesOnward originals.now.setup initializing.now parts.old result parts.new }
 {
     let mut made = plain_steps(originals, parts, most);
-    while made < most && pass_line(alloc, originals, parts, initializing) {
+    while made < most {
+        let Some(due) = pass_line(alloc, originals, parts, initializing) else {
+            return Passed { made, gone: None };
+        };
+        if is_telling(due) {
+            return Passed {
+                made,
+                gone: Some(gone_to(due, passed_there(due))),
+            };
+        }
         made += 1;
         made += plain_steps(originals, parts, most - made);
     }
-    made
+    Passed { made, gone: None }
 }

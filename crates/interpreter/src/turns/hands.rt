@@ -35,6 +35,13 @@ pub struct Gone {
     pub due: Due,
 }
 
+/// How many steps that tell nothing were made, and where the one behind them has stopped, if a probe tells of it.
+#[derive(Clone, Copy, Debug, PartialEq, Eq)]
+pub struct Passed {
+    pub made: u64,
+    pub gone: Option<Gone>,
+}
+
 /// Whether an end is due.
 #[inline(always)]
 fn is_end(due: Due) -> bool

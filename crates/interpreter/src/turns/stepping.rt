@@ -14,7 +14,7 @@ ghost use Rattle.prepared_code.specs.Tables.{AreAllCurrent, Releases};
 ghost use Rattle.prepared_code.specs.Versions.{listing_of};
 
 use crate::execute::attempting::attempt;
-use crate::execute::passing::pass_steps;
+use crate::execute::plain::plain_steps;
 use crate::unwind::settling::settle;
 use jf_bytes::{NoMemory, Stack};
 use jvm_model::{Phase, Shared};
@@ -143,7 +143,6 @@ pub fn step(
 
 /// Steps from which nothing follows, at most so many: how many it has made.
 fn step_plainly(
-    alloc: Global,
     originals: &Originals,
     parts: &mut Parts,
     initializing: &Stack<Initialization>,
@@ -162,7 +161,7 @@ fn step_plainly(
     if parts.thrown.is_some() || !is_executing(parts, initializing) {
         return 0;
     }
-    pass_steps(alloc, originals, parts, initializing, most)
+    plain_steps(originals, parts, most)
 }
 
 /// One step or more, at most so many: how many it has made.
@@ -186,7 +185,7 @@ fn step_on(
         (λ n. Leads originals.old.setup (state_of initializing.old parts.old) n
         (state_of initializing.new parts.new)) }
 {
-    let plain = step_plainly(alloc, originals, parts, initializing, most);
+    let plain = step_plainly(originals, parts, initializing, most);
     if plain == most {
         return Ok(plain);
     }
