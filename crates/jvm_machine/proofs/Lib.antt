@@ -22,3 +22,4 @@ pub mod Turned
 pub mod SeveralTurns
 pub mod SeenLaws
 pub mod Calmly
+pub mod Onward

@@ -1,5 +1,5 @@
 -- A step that is settled by one turn is one more of several.
-use Rattle.std.proofs.Common.{◌≡◌, ℕ, suc, ◌+◌, ◌≤◌, Bool, true, false, if◌then◌else◌, refl, sym, ap, subst, arith}
+use Rattle.std.proofs.Common.{◌≡◌, ℕ, suc, ◌+◌, ◌-◌, ◌≤◌, Bool, true, false, if◌then◌else◌, refl, sym, ap, subst, arith}
 use Rattle.jvm_machine.specs.View.{View, step_begun, is_resting}
 use Rattle.jvm_machine.specs.declared.turn.Turn.{Turn}
 use Rattle.jvm_machine.specs.declared.turn.Turn.TheVariants.{Settled, Loaded, Probe, Ended, Broken, NoMemory}
@@ -50,3 +50,29 @@ runs-on first mid between new n m most t before passes turns within all = record
   within = omega (arith, within);
   all = λ settled. let last = all (ap is_settled settled) in omega (arith, last);
 }
+
+-- ---- from a step in hand
+
+-- one turn answers
+pub one-turn : (old new : View) (most : ℕ) (t : Turn) → Turns old t new → 1 ≤ most → (is_settled t ≡ true → 1 ≡ most) → RunsOn old most t new
+one-turn old new most t turns some all = record {
+  steps = 0;
+  between = old;
+  passes = none;
+  last = turns;
+  within = omega (arith, some);
+  all = λ settled. all (ap is_settled settled);
+}
+
+-- the step in hand is settled by one turn, and then it goes on
+pub first-more : (old mid new : View) (most : ℕ) (t : Turn) → Settles old mid → RunsOn mid (most - 1) t new → 1 ≤ most → RunsOn old most t new
+first-more old mid new most t first runs some =
+    let within = runs.within in
+    record {
+      steps = 1 + runs.steps;
+      between = runs.between;
+      passes = passes-more old mid runs.between 1 runs.steps (more 0 old mid none first) runs.passes;
+      last = runs.last;
+      within = omega (arith, within);
+      all = λ settled. let last = runs.all settled in omega (arith, last, some);
+    }

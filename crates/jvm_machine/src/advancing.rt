@@ -10,6 +10,7 @@ ghost use Rattle.prepared_code.specs.Initializations.{state_of};
 ghost use Rattle.jvm_machine.specs.Advances.{clock_in, left_in};
 ghost use Rattle.jvm_machine.specs.Advances.{taken_hand, taken_loads, taken_state};
 
+use crate::turn::Turn;
 use interpreter::{Gone, Hand, begin_start};
 use jf_bytes::{NoMemory, Seq, Stack};
 use jvm_model::{Due, Shared};
@@ -21,6 +22,19 @@ use std::alloc::Global;
 pub enum Telling {
     Classes(Seq<u32>),
     Due(Due),
+}
+
+/// How many steps that tell nothing were made, and what is due where the one behind them has stopped, if it has.
+pub struct Passage {
+    pub made: u64,
+    pub due: Option<Due>,
+}
+
+/// How many steps that tell nothing were made, and the turn behind them.
+#[derive(Drop)]
+pub struct Onward {
+    pub made: u64,
+    pub turn: Turn,
 }
 
 /// The clock rises where a step after the start begins.

@@ -14,10 +14,10 @@ ghost use Rattle.jvm_machine.specs.Advances.{Advances, Stops, broken_in};
 ghost use Rattle.jvm_machine.specs.Installs.{IsFormed, IsImageOf, with_class};
 ghost use Rattle.jvm_machine.specs.Probes.{IfLeaves};
 ghost use Rattle.jvm_machine.specs.Turns.{Turns, turn_by};
-ghost use Rattle.jvm_machine.specs.Several.{Passes, RunsOn, is_settled};
+ghost use Rattle.jvm_machine.specs.Several.{PassesUpTo, RunsOn, TurnsBehind, is_settled};
 ghost use Rattle.jvm_machine.specs.View.{IsGoingOn, has_ended, is_resting, machine_made, run_state};
 
-use crate::advancing::{Telling, clock_in, hand_left, hand_now, loaded_since, take_up};
+use crate::advancing::{Onward, Passage, Telling, clock_in, hand_left, hand_now, loaded_since, take_up};
 use crate::telling::event_told;
 use crate::turn::Turn;
 use class_linker::Linker;
@@ -269,31 +269,64 @@ impl Vm {
         }
     }
 
-    /// Makes steps from which nothing follows, at most so many: how many it has made. Nothing is told of them.
-    fn pass_plainly(&mut self, most: u64) -> u64
+    /// Makes steps from which nothing follows, at most so many. Where the next one is within them, and a probe tells of it, it goes on to
+    /// there.
+    #[inline(always)]
+    fn pass_onward(&mut self, most: u64) -> Passage
         requires resting { is_resting self.old ≡ true }
         requires below { self.old.clock + most < 2 ^ 63 }
-        ensures passes { Passes self.old result self.new }
-        ensures within { result ≤ most }
-        ensures clock { self.new.clock ≡ self.old.clock + result }
-        ensures rests { is_resting self.new ≡ true }
+        ensures passes { PassesUpTo self.old result.made result.due self.new }
+        ensures within { result.made ≤ most }
     {
         if self.broken || !self.started || !is_at_instruction(&self.parts, &self.initializing) {
-            return 0;
+            return Passage { made: 0, due: None };
         }
-        let made = pass_steps(
+        let passed = pass_steps(
             self.alloc,
             &self.originals,
             &mut self.parts,
             &self.initializing,
             most,
         );
-        self.clock += made;
-        made
+        self.clock += passed.made;
+        let Some(gone) = passed.gone else {
+            return Passage {
+                made: passed.made,
+                due: None,
+            };
+        };
+        self.clock += 1;
+        self.hand = hand_left(gone);
+        Passage {
+            made: passed.made,
+            due: Some(gone.due),
+        }
     }
 
-    /// Makes steps, at most so many, while they tell nothing; the answer is the turn of the last one.
-    pub fn run_on(&mut self, most: u64) -> Turn
+    /// The same, and one turn more.
+    #[inline(always)]
+    fn go_onward(&mut self, most: u64) -> Onward
+        requires resting { is_resting self.old ≡ true }
+        requires below { self.old.clock + most < 2 ^ 63 }
+        ensures turns { TurnsBehind self.old result.made result.turn self.new }
+        ensures within { result.made ≤ most }
+    {
+        let passed = self.pass_onward(most);
+        match passed.due {
+            Some(due) => Onward {
+                made: passed.made,
+                turn: self.turn(due),
+            },
+            None => Onward {
+                made: passed.made,
+                turn: self.step_fully(),
+            },
+        }
+    }
+
+    /// From a state of rest.
+    #[inline(always)]
+    fn run_rested(&mut self, most: u64) -> Turn
         requires some { 0 < most }
         requires below { self.old.clock + most < 2 ^ 63 }
         requires resting { is_resting self.old ≡ true }
@@ -301,16 +334,35 @@ impl Vm {
     {
         let mut made = 0;
         loop {
-            made += self.pass_plainly(most - made - 1);
-            let turn = self.step();
-            made += 1;
-            if !is_settled(&turn) {
-                return turn;
+            let onward = self.go_onward(most - made - 1);
+            made += onward.made + 1;
+            if !is_settled(&onward.turn) {
+                return onward.turn;
             }
             if made == most {
-                return turn;
+                return onward.turn;
             }
         }
+    }
+
+    /// Makes steps, at most so many, while they tell nothing; the answer is the turn of the last one.
+    #[inline(always)]
+    pub fn run_on(&mut self, most: u64) -> Turn
+        requires some { 0 < most }
+        requires below { self.old.clock + most < 2 ^ 63 }
+        ensures { RunsOn self.old most result self.new }
+    {
+        if self.is_resting() {
+            return self.run_rested(most);
+        }
+        let turn = self.step();
+        if !is_settled(&turn) {
+            return turn;
+        }
+        if most == 1 {
+            return turn;
+        }
+        self.run_rested(most - 1)
     }
 
     /// Makes the versions of an image current: the methods of the class begin in them from now on, also within a step in hand. Live

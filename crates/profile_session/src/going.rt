@@ -66,47 +66,30 @@ impl Parts {
         }
     }
 
-    /// The rest of the step in hand. Says whether the run has ended in it.
+    /// The next turn where nothing is selected and no path is open, or several where there is.
     #[inline(always)]
-    fn finish(&mut self) -> Result<bool, NoMemory>
-        requires busy { IsBusy self.old }
-        requires below { self.old.vm.clock < 2 ^ 63 }
-        ensures { MatchResult result
-            (λ ended. Finished self.old ended self.new)
-            (λ e. IsSameRun self.old self.new) }
+    fn go_on(&mut self, last: u64) -> Result<Turn, NoMemory>
     {
+        if self.is_idle() {
+            return self.turn();
+        }
+        self.run(last + 1 - self.vm.clock())
+    }
+
+    #[inline(always)]
+    fn slice(&mut self, last: u64, most: u64) -> Result<bool, NoMemory>
+    {
+        let mut turn = self.run(most)?;
         loop {
-            match self.turn()? {
+            match turn {
                 Turn::Probe(_) => {}
+                Turn::Loaded(_) => {}
                 Turn::Settled => return Ok(false),
                 Turn::Ended => return Ok(true),
-                // A step tells the classes that it loads first, and there was memory.
-                Turn::Loaded(_) => unreachable!(),
                 Turn::Broken => unreachable!(),
                 Turn::NoMemory => unreachable!(),
             }
-        }
-    }
-
-    /// One step or several, no more than this. Says whether the run has ended.
-    #[inline(always)]
-    fn slice(&mut self, most: u64) -> Result<bool, NoMemory>
-        requires rests { Rests self.old }
-        requires going { IsGoingOn self.old.vm }
-        requires some { 0 < most }
-        requires below { self.old.vm.clock + most < 2 ^ 63 }
-        ensures { MatchResult result
-            (λ ended. Sliced self.old most ended self.new)
-            (λ e. IsSameRun self.old self.new) }
-    {
-        match self.run(most)? {
-            Turn::Settled => return Ok(false),
-            Turn::Ended => return Ok(true),
-            Turn::Probe(_) => return self.finish(),
-            Turn::Loaded(_) => return self.finish(),
-            // There was memory.
-            Turn::Broken => unreachable!(),
-            Turn::NoMemory => unreachable!(),
+            turn = self.go_on(last)?;
         }
     }
 
@@ -132,7 +115,7 @@ impl Parts {
         let mut next = self.next_number();
         self.started = true;
         while next <= last {
-            if self.slice(last + 1 - next)? {
+            if self.slice(last, last + 1 - next)? {
                 return Ok(true);
             }
             next = self.vm.clock() + 1;

@@ -10,7 +10,7 @@ use Rattle.jvm_machine.specs.Advances.{Stops}
 use Rattle.jvm_machine.specs.declared.advancing.Telling.TheVariants as telling
 use Rattle.jvm_machine.specs.Machine.{Keeps}
 use Rattle.jvm_machine.specs.Probes.{IfLeaves}
-use Rattle.jvm_machine.proofs.Calmly.{calm-attempted, calm-going, calm-leaves, calm-machine, calm-stops, calm-tidy}
+use Rattle.jvm_machine.proofs.Calmly.{calm-going, calm-leaves, calm-machine, calm-stops, calm-tidy}
 use Rattle.jvm_machine.proofs.Exits.{GoesOnFrom}
 use Rattle.jvm_machine.proofs.HeldVersions.{never-stale, plain-view, seen-is}
 use Rattle.jvm_machine.proofs.machine.Vm.advance_calmly.Goals as goal
@@ -18,18 +18,8 @@ use Rattle.jvm_machine.proofs.machine.Vm.advance_calmly.Goals as goal
 pub returns-then-self-clause-held : goal.returns-then-self-clause-held
 returns-then-self-clause-held c = never-stale c.self.invariant c.self.view_is
 
-pub go_calmly-gone-requires-clause-linked : goal.go_calmly-gone-requires-clause-linked
-go_calmly-gone-requires-clause-linked c = (c.self.invariant.machine.whole c.if-self.false).linked
-
 pub go_calmly-gone-requires-clause-fit : goal.go_calmly-gone-requires-clause-fit
 go_calmly-gone-requires-clause-fit c = set-up-runs c.self.inside.originals.setup c.self.invariant.machine.homes c.self.invariant.machine.has
-
-pub go_calmly-gone-requires-clause-sound : goal.go_calmly-gone-requires-clause-sound
-go_calmly-gone-requires-clause-sound c =
-    calm-attempted c.self.inside.originals.setup c.self.inside.originals.loaded c.self.inside.hand c.self.inside.started c.self.inside.broken c.self.inside.clock
-    c.self.inside.initializing c.self.inside.parts c.self.invariant.machine c.args.self.now (seen-is c.self.invariant c.self.view_is) c.if-not-self.false c.if-self.false
-    c.is_resting-resting.result c.is_resting-resting.ensures
-    c.hand_now-hand.result (c.hand_now-hand.ensures c.self.inside.originals.setup.world)
 
 pub go_calmly-gone-requires-clause-at_instruction : goal.go_calmly-gone-requires-clause-at_instruction
 go_calmly-gone-requires-clause-at_instruction c = c.is_at_instruction.ensures c.if-not-is_at_instruction.false
