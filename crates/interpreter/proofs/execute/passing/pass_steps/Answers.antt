@@ -1,7 +1,9 @@
-use Rattle.std.proofs.Common.{◌≡◌, ◌+◌, sym, subst, ◌∙◌, arith}
+use Rattle.std.proofs.Common.{◌≡◌, ◌+◌, sym, subst, refl, ◌∙◌, arith}
 use Rattle.prepared_code.specs.Initializations.{state_of}
-use Rattle.interpreter.specs.Instructions.Passing.{Passes, steps_if}
+use Rattle.interpreter.specs.Instructions.Passing.{Passes}
+use Rattle.interpreter.specs.Moves.Onward.{GoesOnward}
 use Rattle.interpreter.proofs.Initializing.Behind.{leads-sound}
+use Rattle.interpreter.proofs.Silent.GoingOnward.{passes-still, silent-onward, stops-onward}
 use Rattle.interpreter.proofs.Silent.SilentSteps.{passes-alone, passes-on}
 use Rattle.interpreter.proofs.execute.passing.pass_steps.Goals as goal
 
@@ -16,7 +18,8 @@ pub loop-made-preserved : goal.loop-made-preserved
 loop-made-preserved c =
     let w = c.args.originals.now.setup in
     let ms = c.args.initializing.now in
-    let one = subst (λ b. Passes w ms c.loop-made.parts (steps_if b) c.pass_line.new.parts) c.if-pass_line.true c.pass_line.ensures in
+    let went = subst (λ o. GoesOnward w ms c.loop-made.parts o c.pass_line.new.parts) c.in-Some.is c.pass_line.ensures in
+    let one = silent-onward w ms c.loop-made.parts c.pass_line.new.parts c.in-Some.due (sym c.is_telling.ensures ∙ c.if-is_telling.false) went in
     let first = passes-on w ms c.args.parts.now c.loop-made.parts c.pass_line.new.parts c.loop-made.made 1 c.loop-made.invariant.1 one in (
       omega (arith, c.loop-made-test.true, c.plain_steps-made-in-loop-made.ensures.within),
       passes-on w ms c.args.parts.now c.pass_line.new.parts c.plain_steps-made-in-loop-made.new.parts (c.loop-made.made + 1) c.plain_steps-made-in-loop-made.result first
@@ -35,11 +38,26 @@ pass_line-requires-clause-sound c =
 pub pass_line-requires-clause-at_instruction : goal.pass_line-requires-clause-at_instruction
 pass_line-requires-clause-at_instruction c = c.loop-made.invariant.1.at_instruction
 
-pub returns-else-pass_line-clause-made : goal.returns-else-pass_line-clause-made
-returns-else-pass_line-clause-made c =
+-- the line is left to others
+pub returns-in_default-clause-made : goal.returns-in_default-clause-made
+returns-in_default-clause-made c =
     let w = c.args.originals.now.setup in
     let ms = c.args.initializing.now in
-    let none = subst (λ b. Passes w ms c.loop-made.parts (steps_if b) c.pass_line.new.parts) c.if-pass_line.false c.pass_line.ensures in
-    let same : c.loop-made.made + 0 ≡ c.loop-made.made = omega arith in
-    subst (λ k. Passes w ms c.args.parts.now k c.pass_line.new.parts) same
-    (passes-on w ms c.args.parts.now c.loop-made.parts c.pass_line.new.parts c.loop-made.made 0 c.loop-made.invariant.1 none)
+    let none = subst (λ o. GoesOnward w ms c.loop-made.parts o c.pass_line.new.parts) c.in_default.is c.pass_line.ensures in
+    record { between = c.pass_line.new.parts; passes = passes-still w ms c.args.parts.now c.loop-made.parts c.pass_line.new.parts c.loop-made.made c.loop-made.invariant.1 none; stops = refl }
+
+-- a probe tells of it
+pub returns-then-is_telling-clause-made : goal.returns-then-is_telling-clause-made
+returns-then-is_telling-clause-made c =
+    let w = c.args.originals.now.setup in
+    let ms = c.args.initializing.now in
+    let went = subst (λ o. GoesOnward w ms c.loop-made.parts o c.pass_line.new.parts) c.in-Some.is c.pass_line.ensures in
+    record {
+      between = c.loop-made.parts;
+      passes = c.loop-made.invariant.1;
+      stops = stops-onward w ms c.loop-made.parts c.pass_line.new.parts c.requires.run c.in-Some.due c.gone_to.result (sym c.is_telling.ensures ∙ c.if-is_telling.true) went
+          c.gone_to.ensures.left c.gone_to.ensures.due (c.gone_to.ensures.passed ∙ c.passed_there.ensures);
+    }
+
+pub returns-clause-made : goal.returns-clause-made
+returns-clause-made c = record { between = c.loop-made.parts; passes = c.loop-made.invariant.1; stops = refl }
