@@ -10,3 +10,4 @@ pub mod PassingThrows
 pub mod PassingLengths
 pub mod CatchLemmas
 pub mod ReturnLemmas
+pub mod GoingOnward

@@ -1,16 +1,17 @@
 -- A call of a method whose current version has no probes is a step of the run of which nothing is told.
-use Rattle.std.proofs.Common.{◌≡◌, ℕ, suc, Bool, true, false, cond, List, [], ◌∷◌, ◌++◌, length, map, take, drop, Some, None, refl, sym, ap, subst, ◌∙◌, arith}
-use Rattle.std.specs.Prelude.{is_none, is_some, nat_le, nat_lt, reverse, ◌==◌, ◌&&◌, ◌||◌}
-use Rattle.std.specs.Option.{option_map}
-use Rattle.std.proofs.lemmas.Bool.{and_parts}
+use Rattle.std.proofs.Common.{◌≡◌, ℕ, suc, Bool, true, false, cond, List, [], ◌∷◌, ◌++◌, length, map, take, drop, Option, Some, None, refl, sym, ap, subst, ◌∙◌, arith}
+use Rattle.std.specs.Prelude.{is_none, is_some, nat_le, nat_lt, not, reverse, ◌==◌, ◌&&◌, ◌||◌}
+use Rattle.std.specs.Option.{IfSome, option_map}
+use Rattle.std.proofs.lemmas.Bool.{and_parts, false≢true}
 use Rattle.std.proofs.lemmas.List.{append-nil}
 use Rattle.std.proofs.lemmas.Option.{none-some, same_Some}
 use Rattle.heap_objects.specs.declared.Value.{Value}
 use Rattle.frame_stack.specs.Widths.{height_of}
 use Rattle.frame_stack.specs.FrameLists.{FramesView, PlacedFrame, has_frame, top_of, top_operands, with_frames, without_arguments}
+use Rattle.jvm_model.specs.declared.due.Due.{Due}
 use Rattle.jvm_model.specs.declared.due.Due.TheVariants.{Begins, Nothing}
 use Rattle.jvm_model.specs.declared.event.Mark.{Mark}
-use Rattle.jvm_model.specs.declared.event.Mark.TheVariants.{Off}
+use Rattle.jvm_model.specs.declared.event.Mark.TheVariants.{Off, Plain, Root}
 use Rattle.jvm_model.specs.declared.state.Entry.{Entry}
 use Rattle.jvm_model.specs.declared.state.Shared.{Shared}
 use Rattle.jvm_model.specs.declared.state.State.{State}
@@ -47,6 +48,7 @@ use Rattle.prepared_code.specs.Initializations.{initialization_on, stack_of, sta
 use Rattle.interpreter.specs.Instructions.Passing.{AreKeptBy, Passes, on_frames, runs, steps_if}
 use Rattle.prepared_code.specs.Ready.{CanRun}
 use Rattle.interpreter.specs.Moves.Calmly.{Attempted, TriesCalmly, TriesIf}
+use Rattle.interpreter.specs.Moves.Onward.{GoesOnward, begun_due}
 use Rattle.interpreter.specs.Moves.Trying.{returns_by}
 use Rattle.interpreter.proofs.Moves.CalmSteps.{begins-calmly, has-here, no-return}
 use Rattle.prepared_code.specs.Runs.{IsAtInstruction, steps_from-zero}
@@ -274,3 +276,21 @@ module _ (w : Setup) (run : CanRun w) (ms : List Initialization) (here : Here) (
       (more call (may refl) (can refl) after.frames are) (marked refl))
   called-tries false after call may can marked are same delivered =
       ap (state_of ms) same ∙ ap (λ fs. with_initializations ms (state_with fs old)) are
+
+  -- by what was due then
+  pub called-onward : (o : Option Due) (new : Parts) → IsCall c (done_on (attempts w.world n old.shared old.frames) old.frames) old.shared
+      → (is_some o ≡ true → may_begin old.frames.frames ≡ true) → (is_some o ≡ true → can_begin w c.method c.count old.frames.frames ≡ true)
+      → IfSome o (λ due. due ≡ begun_due (not (is_off (marks (current_of w.versions c.method))))) → new.frames.frames ≡ with_begun (is_some o) w c.method c.count old.frames.frames
+      → new ≡ on_frames new.frames old → GoesOnward w ms old o new
+  called-onward None new call may can due are same = called-passes false new call may can (λ e. absurd (false≢true e)) are same
+  called-onward (Some d) new call may can due are same = by (marks (current_of w.versions c.method)) refl where
+    by : (mark : Mark) → marks (current_of w.versions c.method) ≡ mark → GoesOnward w ms old (Some d) new
+    by Off e =
+        subst (λ x. GoesOnward w ms old (Some x) new) (sym (due ∙ ap (λ (m : Mark). begun_due (not (is_off m))) e))
+        (called-passes true new call may can (λ _. e) are same)
+    by Plain e =
+        subst (λ x. GoesOnward w ms old (Some x) new) (sym (due ∙ ap (λ (m : Mark). begun_due (not (is_off m))) e))
+        (called-tries true new call may can (λ _. ap is_off e) are same false)
+    by Root e =
+        subst (λ x. GoesOnward w ms old (Some x) new) (sym (due ∙ ap (λ (m : Mark). begun_due (not (is_off m))) e))
+        (called-tries true new call may can (λ _. ap is_off e) are same false)

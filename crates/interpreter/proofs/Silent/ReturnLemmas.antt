@@ -23,7 +23,7 @@ use Rattle.prepared_code.specs.declared.initializations.Initialization.{Initiali
 use Rattle.prepared_code.specs.declared.parts.Here.{Here}
 use Rattle.prepared_code.specs.declared.parts.Parts.{Parts}
 use Rattle.prepared_code.specs.Initializations.{initialization_on, state_of}
-use Rattle.interpreter.specs.Instructions.Passing.{Passes, ReturnsTo, caller_line, fits_given, gone_back, on_frames, steps_if}
+use Rattle.interpreter.specs.Instructions.Passing.{Passes, caller_line, fits_given, gone_back, on_frames, steps_if}
 use Rattle.prepared_code.specs.Ready.{CanRun}
 use Rattle.interpreter.specs.Moves.Calmly.{GoesBack, TriesIf}
 use Rattle.prepared_code.specs.Runs.{IsAtInstruction}
@@ -47,14 +47,6 @@ pub goes-there : (w : Setup) (ms : List Initialization) (fs : List PlacedFrame) 
     → initialization_on (length fs - 1) ms ≡ None → IfSome o (λ next. GoesBack w ms fs next)
 goes-there w ms fs line None is stands executing = tt
 goes-there w ms fs line (Some next) is stands executing = record { caller = line; stands = stands; goes_on = sym is; executing = executing }
-
--- and nothing is told of it
-pub returns-there : (w : Setup) (ms : List Initialization) (here : Here) (fs : List PlacedFrame) (o : Option ℕ) → IfSome o (λ next. GoesBack w ms fs next)
-    → mark_of w.versions here.version ≡ Off → is_superseded_in w.versions.slots w.versions.current here.version ≡ false
-    → IfSome o (λ next. ReturnsTo w ms here fs next)
-returns-there w ms here fs None to off current = tt
-returns-there w ms here fs (Some next) to off current =
-    record { caller = to.caller; stands = to.stands; goes_on = to.goes_on; executing = to.executing; off = off; current = current }
 
 -- the caller's operands are within its limit with the value, where they are without
 fits-by : (v : Option Value) (fs : List PlacedFrame) → AreSound fs → can_give v fs ≡ true → fits_given v fs ≡ true
@@ -103,12 +95,10 @@ module _ (w : Setup) (run : CanRun w) (ms : List Initialization) (here : Here) (
       ap (λ (f : FramesView). f.frames) are
       ∙ (same-back v next old.frames.frames (fits-by v old.frames.frames sound (sym can)) ∙ ap (λ x. gone_back x next old.frames.frames) value)
 
-  pub gives-passes : (b : Bool) → ReturnsTo w ms here old.frames.frames next → b ≡ can_give v old.frames.frames → frames ≡ changed_if b (with_given v next) old.frames
-      → Passes w ms old (steps_if b) (on_frames frames old)
-  gives-passes true to can are =
-      return-passes w run ms here line k old stands found ends calm d next
-      (gives (record { caller = to.caller; stands = to.stands; goes_on = to.goes_on; executing = to.executing }) can) frames (back-there can are) to.off
-  gives-passes false to can are = subst (λ (f : FramesView). Passes w ms old 0 (on_frames f old)) (sym are) (passes_none w ms old calm)
+  pub gives-passes : (b : Bool) → GoesBack w ms old.frames.frames next → mark_of w.versions here.version ≡ Off → b ≡ can_give v old.frames.frames
+      → frames ≡ changed_if b (with_given v next) old.frames → Passes w ms old (steps_if b) (on_frames frames old)
+  gives-passes true to off can are = return-passes w run ms here line k old stands found ends calm d next (gives to can) frames (back-there can are) off
+  gives-passes false to off can are = subst (λ (f : FramesView). Passes w ms old 0 (on_frames f old)) (sym are) (passes_none w ms old calm)
 
   -- of which its probe has told
   pub gives-tries : (b : Bool) → GoesBack w ms old.frames.frames next → b ≡ can_give v old.frames.frames → frames ≡ changed_if b (with_given v next) old.frames

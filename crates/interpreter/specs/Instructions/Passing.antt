@@ -91,17 +91,6 @@ is_method (found.Fixed m) = true
 is_method (found.Selected site) = true
 is_method _ = false
 
--- a method begins there in a version with probes
-abbrev pub is_probed : Versions → Callee → Bool
-is_probed v (callee.Code method) = not (is_off (mark_of v (current_of v method)))
-is_probed v (callee.Native number) = false
-is_probed v callee.Other = false
-
--- a method that is the same for each receiver begins so
-abbrev pub is_told : Versions → Found → Bool
-is_told v (found.Fixed m) = is_probed v m.callee
-is_told v _ = false
-
 -- ---- returns
 
 -- the frames where the top one is off, and its caller goes on at a place, with a value on top if there is one
@@ -118,15 +107,6 @@ fits_given v fs = false
 abbrev pub caller_line : Versions → List PlacedFrame → Option Line
 caller_line v (f ∷ g ∷ fs) = line_at v g.version g.place
 caller_line v fs = None
-
--- where the caller of a frame in this place goes on by a return of which nothing is told
-pub record ReturnsTo (w : Setup) (ms : List Initialization) (here : Here) (fs : List PlacedFrame) (next : ℕ) : Type 0 where
-  pub caller : Line
-  pub stands : caller_line w.versions fs ≡ Some caller
-  pub goes_on : next_in caller ≡ Some next
-  pub executing : initialization_on (length fs - 1) ms ≡ None
-  pub off : mark_of w.versions here.version ≡ Off
-  pub current : is_superseded_in w.versions.slots w.versions.current here.version ≡ false
 
 -- ---- throws
 

@@ -494,8 +494,12 @@ pub fn pass_steps(
     ensures below { IfSome result.gone (λ gone. result.made < most) }
     ensures made { PassesOnward originals.now.setup initializing.now parts.old result parts.new }
 {
-    let mut made = plain_steps(originals, parts, most);
+    let mut made = 0;
     while made < most {
+        made += plain_steps(originals, parts, most - made);
+        if made == most {
+            return Passed { made, gone: None };
+        }
         let Some(due) = pass_line(alloc, originals, parts, initializing) else {
             return Passed { made, gone: None };
         };
@@ -506,7 +510,6 @@ pub fn pass_steps(
             };
         }
         made += 1;
-        made += plain_steps(originals, parts, most - made);
     }
     Passed { made, gone: None }
 }

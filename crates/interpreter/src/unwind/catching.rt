@@ -7,10 +7,10 @@ ghost use Rattle.jvm_model.specs.Classes.Lookup.{is_below};
 ghost use Rattle.jvm_model.specs.Instructions.ObjectRules.{throws};
 ghost use Rattle.jvm_model.specs.Basis.SharedState.{throwable};
 ghost use Rattle.jvm_model.specs.Basis.Values.{ref_of};
+ghost use Rattle.jvm_model.specs.declared.event.Mark.TheVariants.{Off};
 ghost use Rattle.interpreter.specs.Instructions.Passing.{CatchesBelow, caught_if, fits_caught};
 ghost use Rattle.prepared_code.specs.Ready.{CanRun};
 
-use crate::execute::passing::is_off;
 use crate::unwind::handlers::{class_of, handler_for};
 use crate::unwind::settling::put_alone;
 use crate::unwind::supertypes::is_subtype;
@@ -18,7 +18,7 @@ use frame_stack::Frames;
 use heap_objects::Value;
 use jf_bytes::Stack;
 use jvm_basic::{recall, ref_of};
-use jvm_model::Shared;
+use jvm_model::{Mark, Shared};
 use prepared_code::{Here, Initialization, Originals, has_bytes, initialization_on};
 
 /// How many classes of a program stand from java/lang/Throwable on.
@@ -59,6 +59,18 @@ pub fn thrown_object(originals: &Originals, shared: &Shared, frames: &Frames) ->
         return None;
     }
     Some(object)
+}
+
+/// Whether a version has no probes.
+#[inline(always)]
+fn is_off(mark: Mark) -> bool
+    ensures { result ≡ true → mark ≡ Off }
+{
+    match mark {
+        Mark::Off => true,
+        Mark::Plain => false,
+        Mark::Root => false,
+    }
 }
 
 /// Where the caller of the current frame goes on when an object of this class is thrown there. None where the frame catches it itself or the

@@ -10,7 +10,9 @@ use Rattle.symbolic_references.specs.Objects.{AreLoaded}
 use Rattle.symbolic_references.specs.Selections.{AreSelections}
 use Rattle.symbolic_references.specs.Passing.{IfRan, IsCall, IsInvoked, IsNativeCall}
 use Rattle.interpreter.specs.Instructions.Passing.{changed_in}
-use Rattle.interpreter.proofs.Silent.PassingCalls.{called-passes}
+use Rattle.interpreter.specs.Moves.Onward.{GoesOnward}
+use Rattle.interpreter.proofs.Silent.GoingOnward.{onward-if}
+use Rattle.interpreter.proofs.Silent.PassingCalls.{called-onward}
 use Rattle.interpreter.proofs.Silent.PassingSteps.{native-passes, native-there, nothing-new}
 use Rattle.interpreter.proofs.Moves.Sounded.{objects-linked}
 use Rattle.interpreter.proofs.Silent.SilentSteps.{passes_none}
@@ -55,8 +57,8 @@ returns-in-Code c =
     let call = subst (λ v. IsCall c.in-Code.call (done_on (attempts (world_over v w.world.input) n p.shared p.frames) p.frames) p.shared) c.linker-linker.ensures code in
     let silent = subst (λ (v : LinkerView). loads_nothing v.program p.shared.loaded n (top_operands p.frames.frames) ≡ true) c.linker-linker.ensures c.known_call.ensures.loads in
     let nothing = nothing-new w c.requires.run c.args.initializing.now c.args.here c.args.line.now c.args.naming.now p c.requires.here c.requires.line c.requires.named c.requires.at_instruction silent in
-    called-passes w c.requires.run c.args.initializing.now c.args.here c.args.line.now c.args.naming.now p c.requires.here c.requires.line c.requires.named c.requires.at_instruction nothing
-    c.in-Code.call c.begin_call.result c.begin_call.new.parts call c.begin_call.ensures.few c.begin_call.ensures.fits c.begin_call.ensures.off c.begin_call.ensures.frames
+    called-onward w c.requires.run c.args.initializing.now c.args.here c.args.line.now c.args.naming.now p c.requires.here c.requires.line c.requires.named c.requires.at_instruction nothing
+    c.in-Code.call c.begin_call.result c.begin_call.new.parts call c.begin_call.ensures.few c.begin_call.ensures.fits c.begin_call.ensures.due c.begin_call.ensures.frames
     c.begin_call.ensures.same
 
 pub returns-in-Native : goal.returns-in-Native
@@ -71,10 +73,13 @@ returns-in-Native c =
     let call = subst (λ v. IsNativeCall (world_over v w.world.input) c.in-Native.native (done_on (attempts (world_over v w.world.input) n p.shared p.frames) p.frames) p.shared p.frames.frames)
     c.linker-linker.ensures native in
     let silent = subst (λ (v : LinkerView). loads_nothing v.program p.shared.loaded n (top_operands p.frames.frames) ≡ true) c.linker-linker.ensures c.known_call.ensures.loads in
+    let passes =
     native-passes w c.requires.run c.args.initializing.now c.args.here c.args.line.now c.args.naming.now p c.requires.here c.requires.line c.requires.named c.requires.at_instruction silent
     c.do_native.result c.do_native.new.parts
     (subst (λ d. IfRan c.do_native.result d c.args.line.now.next (changed_in p) (changed_in c.do_native.new.parts)) (sym call.runs) c.do_native.ensures.ran)
-    c.do_native.ensures.same
+    c.do_native.ensures.same in
+    subst (λ o. GoesOnward w c.args.initializing.now p o c.do_native.new.parts) (sym c.made_if.ensures)
+    (onward-if w c.args.initializing.now p c.do_native.new.parts c.do_native.result passes)
 
 pub returns-in_default : goal.returns-in_default
 returns-in_default c = passes_none c.args.originals.now.setup c.args.initializing.now c.args.parts.now c.requires.at_instruction

@@ -1,4 +1,6 @@
-use Rattle.std.proofs.Common.{sym, ◌∙◌}
+use Rattle.std.proofs.Common.{sym, subst, ◌∙◌}
+use Rattle.interpreter.specs.Moves.Onward.{GoesOnward}
+use Rattle.interpreter.proofs.Silent.GoingOnward.{onward-if}
 use Rattle.interpreter.proofs.Silent.SilentSteps.{passes_none}
 use Rattle.interpreter.proofs.execute.passing.pass_line.Goals as goal
 
@@ -34,3 +36,17 @@ pass_measure-requires-clause-here c = sym c.where_now.ensures ∙ c.in-Some.is
 
 pub pass_measure-requires-clause-line : goal.pass_measure-requires-clause-line
 pass_measure-requires-clause-line c = c.in-Some-line.ensures.line
+
+pub returns-in-Athrow : goal.returns-in-Athrow
+returns-in-Athrow c =
+    let w = c.args.originals.now.setup in
+    let ms = c.args.initializing.now in
+    subst (λ o. GoesOnward w ms c.args.parts.now o c.pass_throw.new.parts) (sym c.made_if.ensures)
+    (onward-if w ms c.args.parts.now c.pass_throw.new.parts c.pass_throw.result c.pass_throw.ensures)
+
+pub returns-in-Arraylength : goal.returns-in-Arraylength
+returns-in-Arraylength c =
+    let w = c.args.originals.now.setup in
+    let ms = c.args.initializing.now in
+    subst (λ o. GoesOnward w ms c.args.parts.now o c.pass_measure.new.parts) (sym c.made_if-2.ensures)
+    (onward-if w ms c.args.parts.now c.pass_measure.new.parts c.pass_measure.result c.pass_measure.ensures)

@@ -1,6 +1,9 @@
+use Rattle.std.proofs.Common.{sym, subst}
 use Rattle.symbolic_references.specs.Known.{IsKnown}
 use Rattle.prepared_code.specs.Linked.{linker_in}
 use Rattle.prepared_code.specs.Versions.{line_at}
+use Rattle.interpreter.specs.Moves.Onward.{GoesOnward}
+use Rattle.interpreter.proofs.Silent.GoingOnward.{onward-if}
 use Rattle.interpreter.proofs.Silent.PassingSteps.{held-there}
 use Rattle.interpreter.proofs.Silent.SilentSteps.{passes_none}
 use Rattle.interpreter.proofs.execute.passing.pass_named.Goals as goal
@@ -18,5 +21,9 @@ pass_access-requires-clause-known c =
 pub returns-in_default : goal.returns-in_default
 returns-in_default c = passes_none c.args.originals.now.setup c.args.initializing.now c.args.parts.now c.requires.at_instruction
 
-pub returns-then-is_told : goal.returns-then-is_told
-returns-then-is_told c = passes_none c.args.originals.now.setup c.args.initializing.now c.args.parts.now c.requires.at_instruction
+pub returns : goal.returns
+returns c =
+    let w = c.args.originals.now.setup in
+    let ms = c.args.initializing.now in
+    subst (λ o. GoesOnward w ms c.args.parts.now o c.pass_access.new.parts) (sym c.made_if.ensures)
+    (onward-if w ms c.args.parts.now c.pass_access.new.parts c.pass_access.result c.pass_access.ensures)

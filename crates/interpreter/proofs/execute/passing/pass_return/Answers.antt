@@ -1,25 +1,21 @@
-use Rattle.std.proofs.Common.{◌≡◌, subst}
-use Rattle.std.specs.Option.{IfSome}
-use Rattle.frame_stack.specs.FrameLists.{top_operands}
-use Rattle.jvm_model.specs.Basis.Data.{Returns}
-use Rattle.jvm_model.specs.Instructions.LocalRules.{returns as gives}
-use Rattle.interpreter.specs.Instructions.Passing.{ReturnsTo}
-use Rattle.interpreter.proofs.Silent.ReturnLemmas.{gives-passes}
-use Rattle.interpreter.proofs.Silent.SilentSteps.{passes_none}
+use Rattle.std.proofs.Common.{sym, ap, subst, ◌∙◌}
+use Rattle.jvm_model.specs.Rewriting.Images.{is_off}
+use Rattle.prepared_code.specs.Versions.{mark_of}
+use Rattle.interpreter.specs.Moves.Onward.{GoesOnward}
+use Rattle.interpreter.specs.Moves.Trying.{returns_by}
+use Rattle.interpreter.proofs.Moves.CalmSteps.{stops-calmly}
+use Rattle.interpreter.proofs.Silent.GoingOnward.{not-marked, onward-if}
 use Rattle.interpreter.proofs.execute.passing.pass_return.Goals as goal
 
-pub returns-in_default : goal.returns-in_default
-returns-in_default c = passes_none c.args.originals.now.setup c.args.initializing.now c.args.parts.now c.requires.at_instruction
-
-pub returns-in_default-result_of : goal.returns-in_default-result_of
-returns-in_default-result_of c = passes_none c.args.originals.now.setup c.args.initializing.now c.args.parts.now c.requires.at_instruction
+pub returns-then-is_marked : goal.returns-then-is_marked
+returns-then-is_marked c =
+    stops-calmly c.args.originals.now.setup c.requires.run c.args.initializing.now c.args.parts.now c.args.here c.args.line.now c.requires.here c.requires.at_instruction c.requires.line
+    (ap returns_by c.requires.ends) (sym c.is_marked.ensures ∙ c.if-is_marked.true)
 
 pub returns : goal.returns
 returns c =
     let w = c.args.originals.now.setup in
-    let p = c.args.parts.now in
-    let to = subst (λ o. IfSome o (λ next. ReturnsTo w c.args.initializing.now c.args.here p.frames.frames next)) c.in-Some.is c.returns_to.ensures in
-    gives-passes w c.requires.run c.args.initializing.now c.args.here c.args.line.now c.args.kind p c.requires.here c.requires.line c.requires.ends c.requires.at_instruction
-    c.in-Some-result_of.datum c.in-Some.next c.value_given.result c.give_back.new.self c.recall.ensures to.current
-    (subst (λ o. IfSome o (λ d. gives c.args.kind (top_operands p.frames.frames) ≡ Returns d)) c.in-Some-result_of.is c.result_of.ensures)
-    c.value_given.ensures c.give_back.result to c.give_back.ensures.answer c.give_back.ensures.frames
+    let ms = c.args.initializing.now in
+    subst (λ o. GoesOnward w ms c.args.parts.now o c.leave.new.parts) (sym c.made_if.ensures)
+    (onward-if w ms c.args.parts.now c.leave.new.parts c.leave.result
+    (c.leave.ensures.silent (not-marked (is_off (mark_of w.versions c.args.here.version)) (sym c.is_marked.ensures ∙ c.if-is_marked.false))))

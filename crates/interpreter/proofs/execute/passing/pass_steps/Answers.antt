@@ -1,45 +1,103 @@
-use Rattle.std.proofs.Common.{◌≡◌, ◌+◌, sym, subst, ◌∙◌, arith}
+use Rattle.std.proofs.Common.{◌≡◌, ◌+◌, ℕ, List, sym, subst, refl, ◌∙◌, arith}
+use Rattle.prepared_code.specs.declared.initializations.Initialization.{Initialization}
+use Rattle.prepared_code.specs.declared.parts.Parts.{Parts}
+use Rattle.prepared_code.specs.Runs.{LeadsAlone}
+use Rattle.prepared_code.specs.Versions.{Setup}
 use Rattle.prepared_code.specs.Initializations.{state_of}
-use Rattle.interpreter.specs.Instructions.Passing.{Passes, steps_if}
+use Rattle.interpreter.specs.Instructions.Passing.{Passes}
+use Rattle.interpreter.specs.Moves.Onward.{GoesOnward}
 use Rattle.interpreter.proofs.Initializing.Behind.{leads-sound}
-use Rattle.interpreter.proofs.Silent.SilentSteps.{passes-alone, passes-on}
+use Rattle.interpreter.proofs.Silent.GoingOnward.{passes-still, silent-onward, stops-onward}
+use Rattle.interpreter.proofs.Silent.SilentSteps.{passes-alone, passes-on, passes_none}
 use Rattle.interpreter.proofs.execute.passing.pass_steps.Goals as goal
 
 pub loop-made-init : goal.loop-made-init
-loop-made-init c = (
-  c.plain_steps-made.ensures.within,
-  passes-alone c.args.originals.now.setup c.args.initializing.now c.args.parts.now c.plain_steps-made.new.parts c.plain_steps-made.result
-      c.plain_steps-made.ensures.made c.requires.at_instruction,
-)
+loop-made-init c = (omega arith, passes_none c.args.originals.now.setup c.args.initializing.now c.args.parts.now c.requires.at_instruction)
 
+-- what was made before the line
+plainly : (w : Setup) (ms : List Initialization) (old mid new : Parts) (n m : ℕ) → Passes w ms old n mid → LeadsAlone w mid m new → Passes w ms old (n + m) new
+plainly w ms old mid new n m first plain = passes-on w ms old mid new n m first (passes-alone w ms mid new m plain first.at_instruction)
+
+pub pass_line-requires-clause-linked : goal.pass_line-requires-clause-linked
+pass_line-requires-clause-linked c =
+    c.requires.linked
+    ∙ sym (plainly c.args.originals.now.setup c.args.initializing.now c.args.parts.now c.loop-made.parts c.plain_steps-made.new.parts c.loop-made.made c.plain_steps-made.result
+    c.loop-made.invariant.1 c.plain_steps-made.ensures.made).loaded
+
+pub pass_line-requires-clause-sound : goal.pass_line-requires-clause-sound
+pass_line-requires-clause-sound c =
+    let w = c.args.originals.now.setup in
+    let ms = c.args.initializing.now in
+    let n = c.loop-made.made + c.plain_steps-made.result in
+    leads-sound w c.requires.run (state_of ms c.args.parts.now) n (state_of ms c.plain_steps-made.new.parts)
+    (plainly w ms c.args.parts.now c.loop-made.parts c.plain_steps-made.new.parts c.loop-made.made c.plain_steps-made.result c.loop-made.invariant.1 c.plain_steps-made.ensures.made).leads
+    c.requires.sound
+
+pub pass_line-requires-clause-at_instruction : goal.pass_line-requires-clause-at_instruction
+pass_line-requires-clause-at_instruction c =
+    (plainly c.args.originals.now.setup c.args.initializing.now c.args.parts.now c.loop-made.parts c.plain_steps-made.new.parts c.loop-made.made c.plain_steps-made.result
+    c.loop-made.invariant.1 c.plain_steps-made.ensures.made).at_instruction
+
+-- one more is made
 pub loop-made-preserved : goal.loop-made-preserved
 loop-made-preserved c =
     let w = c.args.originals.now.setup in
     let ms = c.args.initializing.now in
-    let one = subst (λ b. Passes w ms c.loop-made.parts (steps_if b) c.pass_line.new.parts) c.if-pass_line.true c.pass_line.ensures in
-    let first = passes-on w ms c.args.parts.now c.loop-made.parts c.pass_line.new.parts c.loop-made.made 1 c.loop-made.invariant.1 one in (
-      omega (arith, c.loop-made-test.true, c.plain_steps-made-in-loop-made.ensures.within),
-      passes-on w ms c.args.parts.now c.pass_line.new.parts c.plain_steps-made-in-loop-made.new.parts (c.loop-made.made + 1) c.plain_steps-made-in-loop-made.result first
-          (passes-alone w ms c.pass_line.new.parts c.plain_steps-made-in-loop-made.new.parts c.plain_steps-made-in-loop-made.result
-          c.plain_steps-made-in-loop-made.ensures.made first.at_instruction),
+    let mid = c.plain_steps-made.new.parts in
+    let n = c.loop-made.made + c.plain_steps-made.result in
+    let first = plainly w ms c.args.parts.now c.loop-made.parts mid c.loop-made.made c.plain_steps-made.result c.loop-made.invariant.1 c.plain_steps-made.ensures.made in
+    let went = subst (λ o. GoesOnward w ms mid o c.pass_line.new.parts) c.in-Some.is c.pass_line.ensures in
+    let one = silent-onward w ms mid c.pass_line.new.parts c.in-Some.due (sym c.is_telling.ensures ∙ c.if-is_telling.false) went in
+    let within = c.plain_steps-made.ensures.within in
+    let less = c.loop-made-test.true in
+    let other = c.if-made-most.false in (
+      (let not_most : n ≡ c.args.most → ⊥ = other in grind (arith, less, within, not_most)),
+      passes-on w ms c.args.parts.now mid c.pass_line.new.parts n 1 first one,
     )
 
-pub pass_line-requires-clause-linked : goal.pass_line-requires-clause-linked
-pass_line-requires-clause-linked c = c.requires.linked ∙ sym c.loop-made.invariant.1.loaded
+-- as many as were wanted
+pub returns-then-made-most-clause-made : goal.returns-then-made-most-clause-made
+returns-then-made-most-clause-made c = record {
+  between = c.plain_steps-made.new.parts;
+  passes = plainly c.args.originals.now.setup c.args.initializing.now c.args.parts.now c.loop-made.parts c.plain_steps-made.new.parts c.loop-made.made c.plain_steps-made.result
+      c.loop-made.invariant.1 c.plain_steps-made.ensures.made;
+  stops = refl;
+}
 
-pub pass_line-requires-clause-sound : goal.pass_line-requires-clause-sound
-pass_line-requires-clause-sound c =
-    leads-sound c.args.originals.now.setup c.requires.run (state_of c.args.initializing.now c.args.parts.now) c.loop-made.made (state_of c.args.initializing.now c.loop-made.parts)
-    c.loop-made.invariant.1.leads c.requires.sound
-
-pub pass_line-requires-clause-at_instruction : goal.pass_line-requires-clause-at_instruction
-pass_line-requires-clause-at_instruction c = c.loop-made.invariant.1.at_instruction
-
-pub returns-else-pass_line-clause-made : goal.returns-else-pass_line-clause-made
-returns-else-pass_line-clause-made c =
+-- the line is left to others
+pub returns-in_default-clause-made : goal.returns-in_default-clause-made
+returns-in_default-clause-made c =
     let w = c.args.originals.now.setup in
     let ms = c.args.initializing.now in
-    let none = subst (λ b. Passes w ms c.loop-made.parts (steps_if b) c.pass_line.new.parts) c.if-pass_line.false c.pass_line.ensures in
-    let same : c.loop-made.made + 0 ≡ c.loop-made.made = omega arith in
-    subst (λ k. Passes w ms c.args.parts.now k c.pass_line.new.parts) same
-    (passes-on w ms c.args.parts.now c.loop-made.parts c.pass_line.new.parts c.loop-made.made 0 c.loop-made.invariant.1 none)
+    let mid = c.plain_steps-made.new.parts in
+    let first = plainly w ms c.args.parts.now c.loop-made.parts mid c.loop-made.made c.plain_steps-made.result c.loop-made.invariant.1 c.plain_steps-made.ensures.made in
+    let none = subst (λ o. GoesOnward w ms mid o c.pass_line.new.parts) c.in_default.is c.pass_line.ensures in
+    record {
+      between = c.pass_line.new.parts;
+      passes = passes-still w ms c.args.parts.now mid c.pass_line.new.parts (c.loop-made.made + c.plain_steps-made.result) first none;
+      stops = refl;
+    }
+
+-- a probe tells of it
+pub returns-then-is_telling-clause-made : goal.returns-then-is_telling-clause-made
+returns-then-is_telling-clause-made c =
+    let w = c.args.originals.now.setup in
+    let ms = c.args.initializing.now in
+    let mid = c.plain_steps-made.new.parts in
+    let went = subst (λ o. GoesOnward w ms mid o c.pass_line.new.parts) c.in-Some.is c.pass_line.ensures in
+    record {
+      between = mid;
+      passes = plainly w ms c.args.parts.now c.loop-made.parts mid c.loop-made.made c.plain_steps-made.result c.loop-made.invariant.1 c.plain_steps-made.ensures.made;
+      stops = stops-onward w ms mid c.pass_line.new.parts c.requires.run c.in-Some.due c.gone_to.result (sym c.is_telling.ensures ∙ c.if-is_telling.true) went
+          c.gone_to.ensures.left c.gone_to.ensures.due (c.gone_to.ensures.passed ∙ c.passed_there.ensures);
+    }
+
+pub returns-then-is_telling-clause-below : goal.returns-then-is_telling-clause-below
+returns-then-is_telling-clause-below c =
+    let within = c.plain_steps-made.ensures.within in
+    let less = c.loop-made-test.true in
+    let not_most : c.loop-made.made + c.plain_steps-made.result ≡ c.args.most → ⊥ = c.if-made-most.false in
+    grind (arith, less, within, not_most)
+
+pub returns-clause-made : goal.returns-clause-made
+returns-clause-made c = record { between = c.loop-made.parts; passes = c.loop-made.invariant.1; stops = refl }

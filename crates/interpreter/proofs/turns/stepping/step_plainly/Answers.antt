@@ -9,20 +9,17 @@ use Rattle.std.proofs.Common.{length}
 pub returns-then-is_some-clause-made : goal.returns-then-is_some-clause-made
 returns-then-is_some-clause-made c = leads-none c.args.originals.now.setup (state_of c.args.initializing.now c.args.parts.now)
 
-pub pass_steps-requires-clause-at_instruction : goal.pass_steps-requires-clause-at_instruction
-pass_steps-requires-clause-at_instruction c =
+pub returns-clause-made : goal.returns-clause-made
+returns-clause-made c =
     let p = c.args.parts.now in
-    record {
+    c.plain_steps.ensures.made.leads c.args.initializing.now (record {
       ending = c.requires.ending;
       thrown = not-some p.thrown (sym c.is_some.ensures ∙ c.if-is_some.false);
       executing = none-of c.args.initializing.now (length p.frames.frames) (sym c.is_executing.ensures ∙ c.if-not-is_executing.false);
-    }
-
-pub returns-clause-made : goal.returns-clause-made
-returns-clause-made c = c.pass_steps.ensures.made.leads
+    })
 
 pub returns-clause-ending : goal.returns-clause-ending
-returns-clause-ending c = c.pass_steps.ensures.made.at_instruction.ending
+returns-clause-ending c = c.plain_steps.ensures.made.ending ∙ c.requires.ending
 
 pub returns-clause-loaded : goal.returns-clause-loaded
-returns-clause-loaded c = c.pass_steps.ensures.made.loaded
+returns-clause-loaded c = c.plain_steps.ensures.made.loaded
