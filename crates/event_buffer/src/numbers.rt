@@ -8,6 +8,7 @@ ghost use Rattle.event_buffer.specs.Reading.{number_in, behind_number};
 use crate::room::Room;
 
 /// Appends a byte that there is room for.
+#[inline(always)]
 pub(crate) fn put_byte(bytes: &mut Room, byte: u8)
     requires room { length bytes.old.items < bytes.old.capacity }
     ensures { bytes.new ≡ room_of (bytes.old.items ++ byte ∷ []) bytes.old.capacity }

@@ -1,29 +1,43 @@
-use Rattle.std.proofs.Common.{◌<◌, sym, subst, true, false}
-use Rattle.profile_session.specs.Advances.{After}
-use Rattle.profile_session.proofs.Slices.{finished-along, first-along, goes-along, goes-down}
+use Rattle.std.proofs.Common.{◌+◌, ◌-◌, subst}
+use Rattle.profile_session.specs.Advances.{RanOn}
+use Rattle.profile_session.proofs.Busy.{ended-by, first-along, onward-loaded, onward-probe, settled-by}
 use Rattle.profile_session.proofs.parts.Parts.finish.Goals as goal
 
 pub loop-init : goal.loop-init
-loop-init c = first-along c.args.self.now c.requires.busy
+loop-init c = first-along c.args.self.now c.args.last c.requires.busy c.requires.within
 
-pub turn-requires-clause-busy : goal.turn-requires-clause-busy
-turn-requires-clause-busy c = c.loop.invariant.busy
+pub go_on-requires-clause-busy : goal.go_on-requires-clause-busy
+go_on-requires-clause-busy c = c.loop.invariant.busy
 
-pub turn-requires-clause-below : goal.turn-requires-clause-below
-turn-requires-clause-below c = subst (λ n. n < 9223372036854775808) (sym c.loop.invariant.clock) c.requires.below
+pub go_on-requires-clause-within : goal.go_on-requires-clause-within
+go_on-requires-clause-within c = c.loop.invariant.high
 
 pub loop-preserved : goal.loop-preserved
 loop-preserved c =
-    goes-along c.args.self.now c.loop.self c.turn.new.self c.loop.invariant (subst (λ t. After c.loop.self t c.turn.new.self) c.in-Probe.is c.in_ok-turn.ensures).goes
+    (onward-probe c.args.self.now c.args.last c.loop.self c.go_on.new.self c.loop.invariant c.in-Probe.field-0
+    (subst (λ t. RanOn c.loop.self (c.args.last + 1 - c.loop.self.vm.clock) t c.go_on.new.self) c.in-Probe.is c.in_ok-go_on.ensures)).along
 
 pub loop-smaller : goal.loop-smaller
 loop-smaller c =
-    goes-down c.args.self.now c.loop.self c.turn.new.self c.loop.invariant (subst (λ t. After c.loop.self t c.turn.new.self) c.in-Probe.is c.in_ok-turn.ensures)
+    (onward-probe c.args.self.now c.args.last c.loop.self c.go_on.new.self c.loop.invariant c.in-Probe.field-0
+    (subst (λ t. RanOn c.loop.self (c.args.last + 1 - c.loop.self.vm.clock) t c.go_on.new.self) c.in-Probe.is c.in_ok-go_on.ensures)).down
+
+pub loop-preserved-in-Loaded : goal.loop-preserved-in-Loaded
+loop-preserved-in-Loaded c =
+    (onward-loaded c.args.self.now c.args.last c.loop.self c.go_on.new.self c.loop.invariant c.in-Loaded.field-0
+    (subst (λ t. RanOn c.loop.self (c.args.last + 1 - c.loop.self.vm.clock) t c.go_on.new.self) c.in-Loaded.is c.in_ok-go_on.ensures)).along
+
+pub loop-smaller-in-Loaded : goal.loop-smaller-in-Loaded
+loop-smaller-in-Loaded c =
+    (onward-loaded c.args.self.now c.args.last c.loop.self c.go_on.new.self c.loop.invariant c.in-Loaded.field-0
+    (subst (λ t. RanOn c.loop.self (c.args.last + 1 - c.loop.self.vm.clock) t c.go_on.new.self) c.in-Loaded.is c.in_ok-go_on.ensures)).down
 
 pub returns-in-Settled : goal.returns-in-Settled
 returns-in-Settled c =
-    finished-along c.args.self.now c.loop.self c.turn.new.self false c.requires.busy c.loop.invariant (subst (λ t. After c.loop.self t c.turn.new.self) c.in-Settled.is c.in_ok-turn.ensures)
+    settled-by c.args.self.now c.args.last c.loop.self c.go_on.new.self c.loop.invariant
+    (subst (λ t. RanOn c.loop.self (c.args.last + 1 - c.loop.self.vm.clock) t c.go_on.new.self) c.in-Settled.is c.in_ok-go_on.ensures)
 
 pub returns-in-Ended : goal.returns-in-Ended
 returns-in-Ended c =
-    finished-along c.args.self.now c.loop.self c.turn.new.self true c.requires.busy c.loop.invariant (subst (λ t. After c.loop.self t c.turn.new.self) c.in-Ended.is c.in_ok-turn.ensures)
+    ended-by c.args.self.now c.args.last c.loop.self c.go_on.new.self c.loop.invariant
+    (subst (λ t. RanOn c.loop.self (c.args.last + 1 - c.loop.self.vm.clock) t c.go_on.new.self) c.in-Ended.is c.in_ok-go_on.ensures)

@@ -1,10 +1,8 @@
-use Rattle.std.proofs.Common.{length}
-use Rattle.jvm_machine.specs.View.{events_left}
-use Rattle.profile_session.proofs.Slices.{Along}
+use Rattle.profile_session.proofs.Busy.{Along, left_in}
 use Rattle.profile_session.proofs.parts.Parts.finish.Given as goal
 
 abbrev pub invariant-loop : goal.invariant-loop
-invariant-loop l = Along l.fn.self l.self
+invariant-loop l = Along l.fn.self l.last l.self
 
 abbrev pub decreases-loop : goal.decreases-loop
-decreases-loop l = length (events_left l.self.vm)
+decreases-loop l = left_in l.last l.self.vm
