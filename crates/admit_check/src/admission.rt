@@ -235,11 +235,12 @@ fn admit_over(
     }
 }
 
-/// The program of these classes, with the built-in ones behind them, or its first fault. The classes are taken in order, and
-/// of each its name, its shape, its codes, its floating point and then what can't be rewritten with probes; behind the last class
-/// come the number of methods, the main method in the class named `main`, with slashes, and the roots of the plan's actions. Each
-/// class is read and rewritten once; each action looks through the classes and the methods. Neither the plan's main class nor its
-/// budget is looked at. What the program has is all that the machine, the linker, the report and what rewrites classes ask of it.
+/// The program of these classes, with the built-in ones behind them, or its first fault. The classes are taken in order, and of
+/// each its name, its shape, its codes, its floating point and then what can't be rewritten with probes; behind the last class come
+/// the number of methods, the main method in the class named `main`, with slashes, and the roots of the plan's actions. Each class
+/// is read once, and rewritten once where a code of it is long; each action looks through the classes and the methods. Neither the
+/// plan's main class nor its budget is looked at. What the program has is all that the machine, the linker, the report and what
+/// rewrites classes ask of it.
 pub fn admit(
     alloc: Global,
     classes: Seq<ClassFile>,

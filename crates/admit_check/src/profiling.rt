@@ -8,7 +8,7 @@ ghost use Rattle.admit_check.specs.Profiling.{profiling_fault};
 use crate::codes::code_of;
 use crate::error::AdmitError;
 use const_pool::{ClassFile, Member};
-use inject_events::{InjectError, instrument};
+use inject_events::{InjectError, instrument, is_surely_profilable};
 use jf_bytes::{NoMemory, Seq};
 use jvm_model::Mark;
 use std::alloc::Global;
@@ -35,8 +35,8 @@ fn all_plain(alloc: Global, class: &ClassFile) -> Result<Seq<Mark>, NoMemory>
     Ok(marks)
 }
 
-/// The fault of the first method that cannot be rewritten where all methods with Code are. What they become is made and given up: the size of
-/// each table is known only then.
+/// The fault of the first method that cannot be rewritten where all methods with Code are. Where one of them is long, what they become is made
+/// and given up: the size of each table is known only then.
 pub(crate) fn profiling_fault(
     alloc: Global,
     number: u32,
@@ -45,6 +45,9 @@ pub(crate) fn profiling_fault(
     requires { IsReadableClass class.now }
     ensures { IfOk result (λ fault. fault ≡ profiling_fault number class.now) }
 {
+    if is_surely_profilable(class) {
+        return Ok(None);
+    }
     let marks = all_plain(alloc, class)?;
     match instrument(alloc, class, 0, marks.as_slice()) {
         Ok(_image) => Ok(None),

@@ -15,3 +15,5 @@ pub mod Formed
 pub mod SoundMoves
 pub mod WorkedTables
 mod WorkedLimits
+pub mod SmallTables
+pub mod SmallCodes

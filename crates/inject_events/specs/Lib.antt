@@ -4,3 +4,4 @@ pub mod Tables
 pub mod Rewriting
 pub mod Answers
 pub mod SoundTables
+pub mod SmallCodes

@@ -11,6 +11,7 @@ mod methods;
 mod probes;
 mod rewriting;
 mod settings;
+mod small_codes;
 mod tables;
 mod versions;
 
@@ -18,3 +19,4 @@ pub use classes::instrument;
 pub use error::{Cause, InjectError};
 pub use image::Image;
 pub use methods::marked_have_code;
+pub use small_codes::is_surely_profilable;

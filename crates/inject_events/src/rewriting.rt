@@ -60,7 +60,7 @@ fn laid_with(alloc: Global, probes: &Probes, code: &[u8]) -> Result<Laid, NoVers
 }
 
 /// Whether attributes have at most so many bytes.
-fn raws_fit(raws: &[Raw], room: usize) -> bool
+pub(crate) fn raws_fit(raws: &[Raw], room: usize) -> bool
     ensures { result ≡ nat_le (length (flat_map raw_bytes raws.now)) room }
 {
     let mut left = room;

@@ -115,7 +115,7 @@ divides-comes (Some None) next l o z h = record { left = refl; throws = h; only 
 divides-comes (Some (Some v)) next l o z h = record { left = refl; throws = h; only = λ class e. absurd (false≢true (ap throwing e)) }
 
 quotient-lacks : (op : Division) (w : Width) (make : ℤ → Value) (x : Option (ℤ × ℤ))
-    → lacks (option_map (λ p. option_map make (LocalRules.divided op w p.0 p.1)) x) ≡ has_zero_divisor x
+    → lacks (option_map (λ p. option_map make (LocalRules.number_divided op w p.0 p.1)) x) ≡ has_zero_divisor x
 quotient-lacks op w make None = refl
 quotient-lacks op w make (Some p) = by (int_eq p.1 (pos 0)) (LocalRules.divided_by op w p.0 p.1)
   where

@@ -273,3 +273,16 @@ reference_there (Int m ∷ below) r is = absurd (none-some r is)
 reference_there (Long m ∷ below) r is = absurd (none-some r is)
 reference_there (Addr t ∷ below) r is = absurd (none-some r is)
 reference_there [] r is = absurd (none-some r is)
+
+-- the only parameter is of ints, and an int is there
+pub one-int : (ks : List Kind) (o : Operands) (k : Kind) (n : ℤ) → length ks ≡ 1 → is_some (datum_of (get_or ks 0 k) (Int n)) ≡ true → int_of o ≡ Some n → is_some (arguments ks o) ≡ true
+one-int [] o k n len is there = absurd (omega (arith, len))
+one-int (k1 ∷ k2 ∷ ks) o k n len is there = absurd (omega (arith, len))
+one-int (k1 ∷ []) (Int m ∷ below) k n len is there =
+    is_some-first (datum_of k1 (Int m)) (Some [])
+    ∙ (ap (λ x. cond (is_some (datum_of k1 (Int x))) true false) (same_Some m n there)
+    ∙ ap (λ b. cond b true false) is)
+one-int (k1 ∷ []) (Long m ∷ below) k n len is there = absurd (none-some n there)
+one-int (k1 ∷ []) (Ref r ∷ below) k n len is there = absurd (none-some n there)
+one-int (k1 ∷ []) (Addr t ∷ below) k n len is there = absurd (none-some n there)
+one-int (k1 ∷ []) [] k n len is there = absurd (none-some n there)

@@ -1,8 +1,9 @@
 //! Receivers and arguments of invocations (JVM Specification 2.6.1, 6.5).
 
 ghost use Rattle.std.specs.Prelude.{◌≡◌, ◌<◌, ◌≤◌, ◌-◌, ◌^◌};
-ghost use Rattle.std.specs.Prelude.{true, length, is_some, slice_get, IfSome, IsTrue};
+ghost use Rattle.std.specs.Prelude.{ℤ, true, length, is_some, slice_get, IfSome, IsTrue};
 ghost use Rattle.std.specs.Option.{option_map};
+ghost use Rattle.heap_objects.specs.declared.Value.TheVariants.{Int};
 ghost use Rattle.frame_stack.specs.FrameLists.{top_operands};
 ghost use Rattle.jvm_model.specs.Instructions.InvocationRules.{arguments_by, receiver_in, with_receiver};
 ghost use Rattle.jvm_model.specs.Basis.Values.{arguments, datum_of};
@@ -65,7 +66,49 @@ fn are_of_kinds(params: &[Kind], frames: &Frames) -> bool
     true
 }
 
+/// Whether values of this kind are ints.
+#[inline(always)]
+fn is_int_kind(kind: Kind) -> bool
+    ensures { result ≡ true → (n : ℤ) → is_some (datum_of kind (Int n)) ≡ true }
+{
+    matches!(
+        kind,
+        Kind::Int | Kind::Bool | Kind::Byte | Kind::Char | Kind::Short
+    )
+}
+
+/// Whether there is one parameter, of ints, and an int on top, as there often is. False says nothing.
+#[inline(always)]
+fn is_one_int(params: &[Kind], frames: &Frames) -> bool
+    ensures { result ≡ true
+        → is_some (arguments params.now (top_operands frames.now.frames)) ≡ true }
+{
+    if params.len() != 1 {
+        return false;
+    }
+    if !is_int_kind(params[0]) {
+        return false;
+    }
+    match frames.int() {
+        Some(_n) => true,
+        None => false,
+    }
+}
+
+/// Whether the topmost operands are arguments of these kinds.
+#[inline(always)]
+fn are_arguments(params: &[Kind], frames: &Frames) -> bool
+    requires { length params.now < 2 ^ 16 }
+    ensures { result ≡ is_some (arguments params.now (top_operands frames.now.frames)) }
+{
+    if is_one_int(params, frames) {
+        return true;
+    }
+    are_of_kinds(params, frames)
+}
+
 /// How many arguments a method takes, where they are there and of their kinds.
+#[inline(always)]
 fn count_without_receiver(params: &[Kind], frames: &Frames) -> Option<u16>
     requires { length params.now < 2 ^ 16 }
     ensures data { let o = top_operands frames.now.frames in
@@ -73,7 +116,7 @@ fn count_without_receiver(params: &[Kind], frames: &Frames) -> Option<u16>
     ensures within { IfSome result (λ count. count ≤ length (top_operands frames.now.frames)) }
     ensures count { IfSome result (λ count. count ≡ length params.now) }
 {
-    if are_of_kinds(params, frames) {
+    if are_arguments(params, frames) {
         Some(params.len() as u16)
     } else {
         None

@@ -2,7 +2,7 @@
 use Rattle.std.proofs.Common.{◌≡◌, drop, map}
 use Rattle.admit_check.specs.Shapes.{has_twins}
 use Rattle.admit_check.specs.Twins.{has_key_twice, member_key}
-use Rattle.admit_check.proofs.twins.has_twins.Given as goal
+use Rattle.admit_check.proofs.twins.has_twins_among_many.Given as goal
 
 abbrev pub invariant-loop-member : goal.invariant-loop-member
 invariant-loop-member l =
