@@ -23,6 +23,6 @@ moved-view from end bytes ys byte e order within less =
     let same : length ys ≡ length bytes = ap length e ∙ turned-length from bytes (omega (arith, order, within)) in
     let more : take (count + 1) (slice_set ys count byte) ≡ take count ys ++ byte ∷ [] = take_more_set ys count byte (omega (arith, same, held, less)) in
     let front : take count ys ≡ between from end bytes =
-        ap (take count) e ∙ turned-between from count bytes (omega (arith, whole, within)) ∙ ap (λ n. drop from (take n bytes)) whole in
+    ap (take count) e ∙ turned-between from count bytes (omega (arith, whole, within)) ∙ ap (λ n. drop from (take n bytes)) whole in
     ap (λ xs. room_of xs (length (slice_set ys count byte))) (more ∙ ap (λ xs. xs ++ byte ∷ []) front)
     ∙ ap (room_of (between from end bytes ++ byte ∷ [])) (length-set ys count byte ∙ same)

@@ -34,7 +34,7 @@ use Rattle.jfluid_cli.proofs.Spelled.{spelled-alone, spelled-program, spells-alo
 
 -- The program of a command is generated of this.
 pub record IsGeneratedOf (k : Command) (o : Generation) : Type 0 where
-  pub classes_generated : k.generated ≡ Some o
+  pub generated : k.generated ≡ Some o
   pub main : k.main ≡ generated_main
   pub some : 1 ≤ o.size
   pub most : o.size ≤ 200

@@ -92,7 +92,7 @@ module _ (w : Setup) (homes : ℕ → ℕ → ℕ) (has : HasVersions w homes) (
       let nothing : loads_in w s ≡ [] = none-front (loads_in w s) (in-hand-loads w homes has whole hand live s h e) in
       ap (λ (z : State). z.shared.loaded) (sym same)
       ∙ (sym (stands-shows w homes versions_step (step w.world (original w.world.program) from_original).after step-there).loaded
-      ∙ (step-loaded (RunsIn w.versions) w.world has.fit (listing_of w.versions) (set-up-runs w homes has).text s (attempt-sound hand once e)
+      ∙ (step-loaded (RunsIn w.versions) w.world has.fit (listing_of w.versions) (set-up-runs w homes has).listing s (attempt-sound hand once e)
       ∙ (ap (λ l. s.shared.loaded ++ l) nothing ∙ append-nil s.shared.loaded)))
 
   pub hand-loaded : whole.after.shared.loaded ≡ s.shared.loaded

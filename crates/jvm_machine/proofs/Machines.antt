@@ -244,7 +244,7 @@ module _ (w : Setup) (hand : Hand) (started : Bool) (clock : ℕ) (s : State) (l
   module _ (none : (then_hand.moves || loads_none w then_state) ≡ false) where
     pub record FromRest : Type 0 where
       pub first : resting_now ≡ true
-      pub step_begun : started ≡ true
+      pub begun : started ≡ true
       pub loads : loads_none w s ≡ false
 
     busy-loads : (moves : Bool) → hand.moves ≡ moves → resting_now ≡ false → (moves || loads_none w s) ≡ true

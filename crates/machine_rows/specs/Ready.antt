@@ -20,11 +20,11 @@ pub record IsReady (v : View) : Type 0 where
 pub record IsFresh (v : View) : Type 0 where
   pub program : Program
   pub admitted : IsAdmitted program
-  pub machine_made : v ≡ machine_made program []
+  pub made : v ≡ machine_made program []
 
 -- a class file that is the image of a class for these marks
 pub record IsImageFile (p : Program) (class : ℕ) (marks : List Mark) (image : ClassFile) (homes : List (Option Homes)) : Type 0 where
-  pub machine_made : IsImageOf p class marks image homes
+  pub made : IsImageOf p class marks image homes
   pub formed : IsClassFile image
 
 -- the bytes redefine no class at this position

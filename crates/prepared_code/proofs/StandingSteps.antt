@@ -65,7 +65,7 @@ run-of-starts w set after made =
       has = set.has;
       stands = subst (λ s. StandsFor (places_of p) (method_of v) set.homes s (run w.world 0)) (sym made)
           (subst (λ (a : Turn). StandsFor (places_of p) (method_of v) set.homes (start w.world (listing_of v)).after a.after) (sym (turn_in-zero w.world (original p))) started);
-      sound = subst (IsSoundIn w) (sym made) (sound-start (RunsIn v) w.world set.has.fit (listing_of v) (set-up-runs w set.homes set.has).text);
+      sound = subst (IsSoundIn w) (sym made) (sound-start (RunsIn v) w.world set.has.fit (listing_of v) (set-up-runs w set.homes set.has).listing);
     }
 
 pub run-of-steps : (w : Setup) (clock : ℕ) (s after : State) → IsRunOf w clock s → after ≡ (step w.world (listing_of w.versions) s).after → IsRunOf w (suc clock) after
@@ -77,7 +77,7 @@ run-of-steps w clock s after is made =
       has = is.has;
       stands = subst (λ (a : Turn). StandsFor (places_of p) (method_of v) is.homes after a.after) (sym (turn_in-suc w.world (original p) clock))
           (step-stands p (places_of p) is.homes v is.has.are w.world refl (program-agrees p is.has.closed) s (run w.world clock) after is.stands made);
-      sound = subst (IsSoundIn w) (sym made) (sound-step (RunsIn v) w.world is.has.fit (listing_of v) (set-up-runs w is.homes is.has).text s is.sound);
+      sound = subst (IsSoundIn w) (sym made) (sound-step (RunsIn v) w.world is.has.fit (listing_of v) (set-up-runs w is.homes is.has).listing s is.sound);
     }
 
 pub run-of-more : (w : Setup) (clock n : ℕ) (s : State) → IsRunOf w clock s → IsRunOf w (clock + n) (steps_from w n s)

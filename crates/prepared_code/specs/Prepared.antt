@@ -51,7 +51,7 @@ load_built_in p (c ∷ rest) loaded = load_built_in p rest (with_built_in p c lo
 -- what it names above itself stands in front of it.
 pub record FitsOriginals (p : Program) : Type 0 where
   pub linkable : IsLinkable p
-  pub methods_numbered : p.methods ≡ methods_numbered p.classes
+  pub numbered : p.methods ≡ methods_numbered p.classes
   pub methods : length p.methods < 2 ^ 32
   pub codes : AllByRecursion HasShortCodes p.classes
   pub built_in : load_built_in p p.classes [] ≡ built_in_from 0 p.classes
@@ -116,7 +116,7 @@ exception_in x UnsatisfiedLink = x.unsatisfied_link
 pub record IsPrepared (p : Program) (methods : List Method) (versions : Versions) (exceptions : Exceptions) (rows : List Row) : Type 0 where
   pub fits : FitsOriginals p
   pub few : length p.classes < 2 ^ 24
-  pub methods_numbered : length p.methods < 2 ^ 32
+  pub numbered : length p.methods < 2 ^ 32
   pub params : (k : ℕ) → option_and_then (λ m. m.params) (slice_get methods k) ≡ params_of_method p k
   pub max_stack : (k : ℕ) → option_map_or (λ m. m.max_stack) (slice_get methods k) 0 ≡ max_stack_of (world_in p []) k
   pub max_locals : (k : ℕ) → option_map_or (λ m. m.max_locals) (slice_get methods k) 0 ≡ max_locals_of (world_in p []) k

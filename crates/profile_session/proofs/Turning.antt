@@ -68,7 +68,7 @@ module _ (w : World) (is : IsWhole w.program) (acts : List Act) (from : AreFrom 
   pub record IsToldNow (es : List Event) (k : Kept) (e : Event) (mid : View) : Type 0 where
     pub now : e.clock ≡ mid.clock
     pub loaded : k.seen.loaded ≡ (run_state mid).shared.loaded
-    pub step_begun : opens k.seen.open e.kind ≡ true → has_class p k.seen.loaded e.method ≡ true
+    pub begun : opens k.seen.open e.kind ≡ true → has_class p k.seen.loaded e.method ≡ true
     pub few : entries es + entries_by e.kind ≤ suc mid.clock
 
   pub record AreLoadedNow (k : Kept) (classes : List ℕ) (mid : View) : Type 0 where

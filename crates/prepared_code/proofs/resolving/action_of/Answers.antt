@@ -8,5 +8,5 @@ use Rattle.prepared_code.proofs.resolving.action_of.Goals as goal
 pub returns-in_default : goal.returns-in_default
 returns-in_default c =
     c.local_action.ensures
-    ∙ (family-acted c.args.class.now c.args.instr.now.op c.args.instr.now.arg c.args.family c.in_default.not-NotLocal c.in_default.not-Given
+    ∙ (family-acted c.args.class.now c.args.instr.now.op c.args.instr.now.arg c.args.family c.in_default.not-NotLocal c.in_default.not-PoolConstant
     ∙ ap (λ f. option_map action_of (operation_by c.args.class.now c.args.instr.now.op c.args.instr.now.arg f)) c.requires)
