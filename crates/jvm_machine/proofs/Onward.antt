@@ -1,5 +1,5 @@
 -- A machine that has passed steps, and the next one up to where a probe tells of it.
-use Rattle.std.proofs.Common.{◌≡◌, ℕ, suc, ◌+◌, ◌≤◌, Bool, true, false, List, Option, Some, None, sym, ap, subst, ◌∙◌, refl, arith}
+use Rattle.std.proofs.Common.{◌≡◌, ℕ, ◌+◌, Bool, true, false, List, Option, Some, None, sym, ap, subst, ◌∙◌, refl, arith}
 use Rattle.interpreter.specs.declared.turns.hands.Gone.{Gone}
 use Rattle.interpreter.specs.declared.turns.hands.Hand.{Hand}
 use Rattle.interpreter.specs.Instructions.Passing.{Passes as Silent}
@@ -11,19 +11,11 @@ use Rattle.prepared_code.specs.Initializations.{state_of}
 use Rattle.prepared_code.specs.Versions.{Setup}
 use Rattle.jvm_machine.specs.Advances.{left_in}
 use Rattle.jvm_machine.specs.Machine.{IsMachine, IsTidy, Keeps, state_seen, state_viewed}
-use Rattle.jvm_machine.specs.Several.{Passes, PassesUpTo, more, none}
+use Rattle.jvm_machine.specs.Several.{Passes, PassesUpTo}
 use Rattle.jvm_machine.specs.View.{View, is_resting}
 use Rattle.jvm_machine.proofs.Calmly.{calm-going, calm-leaves, calm-machine, calm-stops, calm-tidy}
 use Rattle.jvm_machine.proofs.HeldVersions.{plain-view, seen-is}
 use Rattle.jvm_machine.proofs.QuietSteps.{plain-machine, plain-passes, plain-tidy}
-use Rattle.jvm_machine.proofs.SeveralTurns.{settles-clock}
-
-pub passes-clock : (old new : View) (n : ℕ) → Passes old n new → new.clock ≤ old.clock + n
-passes-clock old _ _ none = omega arith
-passes-clock old _ _ (more n mid new before last) =
-    let up = settles-clock mid new last in
-    let rest = passes-clock old mid n before in
-    omega (arith, up, rest)
 
 module _ (w : Setup) (loaded : List ℕ) (hand : Hand) (started broken : Bool) (clock : ℕ) (ms : List Initialization) (p : Parts) (v : View)
     (keeps : Keeps w loaded hand started broken clock (state_of ms p)) (viewed : state_viewed w (state_of ms p) started broken clock hand ≡ v)
@@ -49,13 +41,13 @@ module _ (w : Setup) (loaded : List ℕ) (hand : Hand) (started broken : Bool) (
 
   -- what holds behind them
   pub record Behind (h : Hand) (c : ℕ) (due : Option Due) (after : Parts) : Type 0 where
-    pub keeps : Keeps w loaded h started broken c (state_of ms after)
+    pub kept : Keeps w loaded h started broken c (state_of ms after)
     pub passes : PassesUpTo v n due (state_viewed w (state_of ms after) started broken c h)
 
   behind-seen : (h : Hand) (c : ℕ) (due : Option Due) (after : Parts) → IsMachine w loaded h (state_seen w (state_of ms after) started broken c h) (state_of ms after)
       → IsTidy w.versions (state_of ms after).stack → PassesUpTo v n due (state_seen w (state_of ms after) started broken c h) → Behind h c due after
   behind-seen h c due after machine tidy passes = record {
-    keeps = record { machine = machine; tidy = λ same. tidy };
+    kept = record { machine = machine; tidy = λ same. tidy };
     passes = subst (PassesUpTo v n due) (sym (plain-view w loaded h started broken c (state_of ms after) (λ same. tidy))) passes;
   }
 

@@ -24,6 +24,13 @@ begun-clock v = by (is_resting v) v.started where
 pub settles-clock : (old new : View) → Settles old new → new.clock ≤ old.clock + 1
 settles-clock old new is = subst (λ (v : View). v.clock ≤ old.clock + 1) (sym is.stepped) (begun-clock old)
 
+pub passes-clock : (old new : View) (n : ℕ) → Passes old n new → new.clock ≤ old.clock + n
+passes-clock old _ _ none = omega arith
+passes-clock old _ _ (more n mid new before last) =
+    let up = settles-clock mid new last in
+    let rest = passes-clock old mid n before in
+    omega (arith, up, rest)
+
 pub one-more : (first old new : View) (n : ℕ) (t : Turn) → Passes first n old → Turns old t new → is_settled t ≡ true → Passes first (suc n) new × Settles old new
 one-more first old new n t passes turns e = let s = subst (λ t. Turns old t new) (settled-is t e) turns in (more n old new passes s, s)
 

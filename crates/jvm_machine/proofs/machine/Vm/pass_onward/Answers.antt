@@ -29,18 +29,18 @@ pub invariant_of-self : goal.invariant_of-self
 invariant_of-self c =
     (behind-none c.self.inside.originals.setup c.self.inside.originals.loaded c.self.inside.hand c.self.inside.started c.self.inside.broken c.self.inside.clock c.self.inside.initializing c.self.inside.parts
     c.args.self.now c.self.invariant c.self.view_is c.if-not-self.false c.if-self.false c.requires.resting c.pass_steps-passed.result.made c.pass_steps-passed.ensures.made.between
-    c.pass_steps-passed.ensures.made.passes c.pass_steps-passed.result.gone c.pass_steps-passed.new.parts c.in_default.is c.pass_steps-passed.ensures.made.stops).keeps
+    c.pass_steps-passed.ensures.made.passes c.pass_steps-passed.result.gone c.pass_steps-passed.new.parts (sym c.in_default.is) c.pass_steps-passed.ensures.made.stops).kept
 
 pub returns-in_default-clause-passes : goal.returns-in_default-clause-passes
 returns-in_default-clause-passes c =
     (behind-none c.self.inside.originals.setup c.self.inside.originals.loaded c.self.inside.hand c.self.inside.started c.self.inside.broken c.self.inside.clock c.self.inside.initializing c.self.inside.parts
     c.args.self.now c.self.invariant c.self.view_is c.if-not-self.false c.if-self.false c.requires.resting c.pass_steps-passed.result.made c.pass_steps-passed.ensures.made.between
-    c.pass_steps-passed.ensures.made.passes c.pass_steps-passed.result.gone c.pass_steps-passed.new.parts c.in_default.is c.pass_steps-passed.ensures.made.stops).passes
+    c.pass_steps-passed.ensures.made.passes c.pass_steps-passed.result.gone c.pass_steps-passed.new.parts (sym c.in_default.is) c.pass_steps-passed.ensures.made.stops).passes
 
 -- a probe tells of it
 pub overflow_add-self-2 : goal.overflow_add-self-2
 overflow_add-self-2 c =
-    let less = subst (λ o. IfSome o (λ (gone : Gone). c.pass_steps-passed.result.made < c.args.most)) (sym c.in-Some.is) c.pass_steps-passed.ensures.below in
+    let less = subst (λ o. IfSome o (λ (gone : Gone). c.pass_steps-passed.result.made < c.args.most)) c.in-Some.is c.pass_steps-passed.ensures.below in
     let clock = ap (λ (x : View). x.clock) c.self.view_is in
     omega (arith, less, clock, c.requires.below)
 
@@ -48,12 +48,12 @@ pub invariant_of-self-2 : goal.invariant_of-self-2
 invariant_of-self-2 c =
     (behind-some c.self.inside.originals.setup c.self.inside.originals.loaded c.self.inside.hand c.self.inside.started c.self.inside.broken c.self.inside.clock c.self.inside.initializing c.self.inside.parts
     c.args.self.now c.self.invariant c.self.view_is c.if-not-self.false c.if-self.false c.requires.resting c.pass_steps-passed.result.made c.pass_steps-passed.ensures.made.between
-    c.pass_steps-passed.ensures.made.passes c.pass_steps-passed.result.gone c.in-Some.gone c.pass_steps-passed.new.parts c.in-Some.is c.pass_steps-passed.ensures.made.stops
-    (c.self.inside.clock + c.pass_steps-passed.result.made + 1) refl c.hand_left-self-inside.result c.hand_left-self-inside.ensures).keeps
+    c.pass_steps-passed.ensures.made.passes c.pass_steps-passed.result.gone c.in-Some.gone c.pass_steps-passed.new.parts (sym c.in-Some.is) c.pass_steps-passed.ensures.made.stops
+    (c.self.inside.clock + c.pass_steps-passed.result.made + 1) refl c.hand_left-self-inside.result c.hand_left-self-inside.ensures).kept
 
 pub returns-clause-passes : goal.returns-clause-passes
 returns-clause-passes c =
     (behind-some c.self.inside.originals.setup c.self.inside.originals.loaded c.self.inside.hand c.self.inside.started c.self.inside.broken c.self.inside.clock c.self.inside.initializing c.self.inside.parts
     c.args.self.now c.self.invariant c.self.view_is c.if-not-self.false c.if-self.false c.requires.resting c.pass_steps-passed.result.made c.pass_steps-passed.ensures.made.between
-    c.pass_steps-passed.ensures.made.passes c.pass_steps-passed.result.gone c.in-Some.gone c.pass_steps-passed.new.parts c.in-Some.is c.pass_steps-passed.ensures.made.stops
+    c.pass_steps-passed.ensures.made.passes c.pass_steps-passed.result.gone c.in-Some.gone c.pass_steps-passed.new.parts (sym c.in-Some.is) c.pass_steps-passed.ensures.made.stops
     (c.self.inside.clock + c.pass_steps-passed.result.made + 1) refl c.hand_left-self-inside.result c.hand_left-self-inside.ensures).passes
