@@ -3,7 +3,7 @@
 
 use command_line::{SystemWords, raw_words};
 use jf_bytes::{DiskFiles, LateFile, NoMemory, StdSink, StdSource};
-use jfluid_cli::jfluid;
+use jfluid_cli::{Devices, jfluid};
 use std::process::ExitCode;
 
 /// Gives the real words, files and streams to the top call. The report goes to standard error. Where there
@@ -16,15 +16,12 @@ fn main(rt: HostRuntime) -> ExitCode {
         ),
         Err(_) => (Err(NoMemory), String::new(rt.alloc())),
     };
-    let status = jfluid(
-        rt.alloc(),
-        words,
-        &mut DiskFiles::new(rt.alloc(), &rt),
-        &mut StdSource::new(rt.stdin()),
-        &mut StdSink::new(rt.stdout()),
-        &mut StdSink::new(rt.stderr()),
-        &mut LateFile::new(&rt, images),
-        &mut None,
-    );
-    ExitCode::from(status)
+    let mut devices = Devices {
+        files: DiskFiles::new(rt.alloc(), &rt),
+        input: StdSource::new(rt.stdin()),
+        out: StdSink::new(rt.stdout()),
+        report: StdSink::new(rt.stderr()),
+        images: LateFile::new(&rt, images),
+    };
+    ExitCode::from(jfluid(rt.alloc(), words, &mut devices, &mut None))
 }

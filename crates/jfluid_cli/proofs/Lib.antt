@@ -10,6 +10,7 @@ pub mod Spelled
 pub mod Admitted
 pub mod NamedRoots
 pub mod Alternating
+pub mod OnDevices
 pub mod OneCommand
 pub mod Complete
 pub mod Early

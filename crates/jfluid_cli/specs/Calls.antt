@@ -16,7 +16,7 @@ use Rattle.jfluid_cli.specs.Images.{IsImaged, IsUnimaged, images_of}
 use Rattle.jfluid_cli.specs.Origins.{HasOrigin, IsOnlyProgram}
 use Rattle.jfluid_cli.specs.Refusals.{status_of, refusal_line}
 use Rattle.jfluid_cli.specs.Runs.{IsCarriedOut, PutsAtMost, ending_at, world_on}
-use Rattle.jfluid_cli.specs.Sinks.{SinkView, SourceView, FilesView, Streams, FailsOnce, IsUntold, PutsOrRose}
+use Rattle.jfluid_cli.specs.Sinks.{DevicesView, SinkView, SourceView, FilesView, Streams, FailsOnce, IsUntold, PutsOrRose, streams_of}
 use Rattle.jfluid_cli.specs.Top.{IsWithoutFault, is_run, is_refused, is_unadmitted, is_status, report_of, status_of_ending}
 use Rattle.jfluid_cli.specs.Words.{words_accepted, asks_images, budget_of, file_words, is_generated, plan_word, words_in}
 
@@ -33,6 +33,19 @@ pub record Call : Type 0 where
   pub input_after : SourceView
   pub streams : Streams
   pub kept : Option Kept
+
+-- a call on devices that are seen so before and behind it
+abbrev pub call_of : Result (List (List ℕ)) NoMemory → DevicesView → DevicesView → Option Kept → Call
+call_of words old new kept = record {
+  words = words;
+  told = old.told;
+  files = old.files;
+  files_after = new.files;
+  input = old.input;
+  input_after = new.input;
+  streams = streams_of old new;
+  kept = kept;
+}
 
 abbrev pub words_of : Call → List (List ℕ)
 words_of c = words_in c.words

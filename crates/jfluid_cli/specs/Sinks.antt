@@ -1,6 +1,6 @@
 -- What clauses see of a call's sinks, source and files, before and after.
 use Rattle.std.specs.Prelude.{◌≡◌, ℕ, ◌⊎◌, List, Option, Some, slice_get}
-use Rattle.jf_bytes.specs.Streams.{PutsAll, PutsPrefix, Rose}
+use Rattle.jf_bytes.specs.Streams.{Told, PutsAll, PutsPrefix, Rose}
 
 -- ---- a sink
 
@@ -65,3 +65,33 @@ pub record HasFailed (plan : Option (List ℕ)) (files : List (List ℕ)) (old n
 -- no fetch failed, so that the files tell of the same fault as before, or one did
 abbrev pub FailsOnce : Option (List ℕ) → List (List ℕ) → FilesView → FilesView → Type 0
 FailsOnce plan files old new = (new ≡ old) ⊎ HasFailed plan files old new
+
+-- ---- the devices
+
+-- What is seen of a call's devices at one time: what the files tell, files, source and sinks.
+pub record DevicesView : Type 0 where
+  pub told : Option Told
+  pub files : FilesView
+  pub input : SourceView
+  pub out : SinkView
+  pub report : SinkView
+  pub images : SinkView
+
+-- the sinks of devices before and after
+abbrev pub streams_of : DevicesView → DevicesView → Streams
+streams_of old new = record {
+  out = old.out;
+  out_after = new.out;
+  report = old.report;
+  report_after = new.report;
+  images = old.images;
+  images_after = new.images;
+}
+
+-- devices with other sinks
+abbrev pub with_sinks : DevicesView → DevicesView → DevicesView
+with_sinks sinks d = record d {
+  out = sinks.out;
+  report = sinks.report;
+  images = sinks.images;
+}

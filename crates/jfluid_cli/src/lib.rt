@@ -2,6 +2,7 @@
 #![tactic(auto)]
 
 mod causes;
+mod devices;
 mod images;
 mod input;
 mod kept;
@@ -14,5 +15,6 @@ mod running;
 mod top;
 mod words;
 
+pub use devices::Devices;
 pub use kept::Kept;
 pub use top::jfluid;

@@ -7,13 +7,14 @@ ghost use Rattle.command_line.specs.Words.{IsSound, read_in, texts};
 ghost use Rattle.profile_session.specs.Answers.{Gathers};
 ghost use Rattle.jfluid_cli.specs.Actions.{CanBeTaken};
 ghost use Rattle.jf_bytes.specs.Streams.{PutsPrefix};
-ghost use Rattle.jfluid_cli.specs.Calls.{Call, IsRun, IsShown, IsAnswered};
+ghost use Rattle.jfluid_cli.specs.Calls.{IsRun, IsShown, IsAnswered, call_of};
 ghost use Rattle.jfluid_cli.specs.Images.{images_of};
 ghost use Rattle.jfluid_cli.specs.Stages.{IsStopped, IsSameRun, IsCarried};
 ghost use Rattle.jfluid_cli.specs.Runs.{IsFresh, IsGoing, IsPlanned, PutsAtMost, SameProgram};
-ghost use Rattle.jfluid_cli.specs.Sinks.{Streams, IsUntold, sink_view, source_view, files_view};
+ghost use Rattle.jfluid_cli.specs.Sinks.{IsUntold, sink_view, streams_of, with_sinks};
 ghost use Rattle.jfluid_cli.specs.Words.{words_accepted};
 
+use crate::devices::Devices;
 use crate::images::show;
 use crate::input::take;
 use crate::kept::Kept;
@@ -69,42 +70,35 @@ fn answer<P: Sink, G: Sink>(
 
 /// Runs what was made up to a budget, and reports on it, by its tree or by the sums over it, behind its
 /// images where they are asked for.
-fn run_made<O: Sink, P: Sink, G: Sink>(
+fn run_made<F: Files, I: Source, O: Sink, P: Sink, G: Sink>(
     alloc: Global,
     made_of: Kept,
     budget: u64,
     summary: bool,
     asked: bool,
-    out: &mut O,
-    report: &mut P,
-    images: &mut G,
+    devices: &mut Devices<F, I, O, P, G>,
     kept: &mut Option<Kept>,
 ) -> Result<u8, Refusal>
     requires fresh { IsFresh made_of.session.value }
     requires acts { CanBeTaken made_of.session.value.program.acts }
     requires small { budget ≤ greatest_steps }
     ensures same { IsSomeAnd kept.new (IsSameRun made_of) }
-    ensures run { let s : Streams = record {
-      out = sink_view (O.taken out.old) (O.faults out.old);
-      out_after = sink_view (O.taken out.new) (O.faults out.new);
-      report = sink_view (P.taken report.old) (P.faults report.old);
-      report_after = sink_view (P.taken report.new) (P.faults report.new);
-      images = sink_view (G.taken images.old) (G.faults images.old);
-      images_after = sink_view (G.taken images.new) (G.faults images.new);
-    } in
+    ensures run { let s = streams_of devices.old devices.new in
         MatchResult result
         (λ status. IsSomeAnd kept.new (IsRun summary asked budget s status))
         (IsStopped s) }
     ensures images { IsSomeAnd kept.new (λ k. let bytes = images_of asked k.session.value in
-        PutsPrefix (G.taken images.old) (G.taken images.new) bytes) }
-    ensures unasked { let before = sink_view (G.taken images.old) (G.faults images.old) in
-        let after = sink_view (G.taken images.new) (G.faults images.new) in
-        asked ≡ false → IsUntold before after }
-    ensures prefix { PutsAtMost made_of.session.value budget (O.taken out.old) (O.taken out.new) }
+        PutsPrefix devices.old.images.taken devices.new.images.taken bytes) }
+    ensures unasked { asked ≡ false → IsUntold devices.old.images devices.new.images }
+    ensures prefix { let old = devices.old.out.taken in
+        PutsAtMost made_of.session.value budget old devices.new.out.taken }
+    ensures stay { devices.new ≡ with_sinks devices.new devices.old }
 {
     let mut ran = made_of;
     let session = &mut *ran.session;
-    let outcome = run_all(session, out, budget);
+    let outcome = run_all(session, &mut devices.out, budget);
+    let report = &mut devices.report;
+    let images = &mut devices.images;
     let answered = answer(alloc, outcome, session, summary, asked, report, images);
     *kept = Some(ran);
     answered
@@ -114,41 +108,20 @@ fn run_made<O: Sink, P: Sink, G: Sink>(
 fn carry_out<F: Files, I: Source, O: Sink, P: Sink, G: Sink>(
     alloc: Global,
     words: &Words<'_>,
-    files: &mut F,
-    input: &mut I,
-    out: &mut O,
-    report: &mut P,
-    images: &mut G,
+    devices: &mut Devices<F, I, O, P, G>,
     kept: &mut Option<Kept>,
 ) -> Result<u8, Refusal>
     requires sound { IsSound (read_in words.now) }
     requires empty { kept.old ≡ None }
-    ensures stay { F.contents files.new ≡ F.contents files.old }
+    ensures stay { devices.new.told ≡ devices.old.told }
     ensures carried { (list : List (List ℕ)) → words_accepted list ≡ Some (read_in words.now) →
-        let call : Call = record {
-          words = Ok list;
-          told = F.contents files.old;
-          files = files_view (F.faults files.old) (F.last_failed files.old);
-          files_after = files_view (F.faults files.new) (F.last_failed files.new);
-          input = source_view (I.left input.old) (I.faults input.old);
-          input_after = source_view (I.left input.new) (I.faults input.new);
-          streams = record {
-            out = sink_view (O.taken out.old) (O.faults out.old);
-            out_after = sink_view (O.taken out.new) (O.faults out.new);
-            report = sink_view (P.taken report.old) (P.faults report.old);
-            report_after = sink_view (P.taken report.new) (P.faults report.new);
-            images = sink_view (G.taken images.old) (G.faults images.old);
-            images_after = sink_view (G.taken images.new) (G.faults images.new);
-          };
-          kept = kept.new;
-        } in
-        IsCarried call result }
+        IsCarried (call_of (Ok list) devices.old devices.new kept.new) result }
 {
-    let loaded = match prepare(alloc, words, files) {
+    let loaded = match prepare(alloc, words, &mut devices.files) {
         Ok(loaded) => loaded,
         Err(refusal) => return Err(refusal),
     };
-    let bytes = match take(alloc, input) {
+    let bytes = match take(alloc, &mut devices.input) {
         Ok(bytes) => bytes,
         Err(refusal) => return Err(refusal),
     };
@@ -157,107 +130,68 @@ fn carry_out<F: Files, I: Source, O: Sink, P: Sink, G: Sink>(
     let Ok(made_of) = make(alloc, loaded, bytes) else {
         return Err(Refusal::NoMemory);
     };
-    run_made(
-        alloc,
-        made_of,
-        budget,
-        summary,
-        words.images,
-        out,
-        report,
-        images,
-        kept,
-    )
+    run_made(alloc, made_of, budget, summary, words.images, devices, kept)
 }
 
 /// Answers for words that are texts.
 fn answer_texts<F: Files, I: Source, O: Sink, P: Sink, G: Sink>(
     alloc: Global,
     words: &[&str],
-    files: &mut F,
-    input: &mut I,
-    out: &mut O,
-    report: &mut P,
-    images: &mut G,
+    devices: &mut Devices<F, I, O, P, G>,
     kept: &mut Option<Kept>,
 ) -> u8
     requires texts { AreTexts (texts words.now) }
     requires empty { kept.old ≡ None }
-    ensures stay { F.contents files.new ≡ F.contents files.old }
-    ensures answered { let call : Call = record {
-      words = Ok (texts words.now);
-      told = F.contents files.old;
-      files = files_view (F.faults files.old) (F.last_failed files.old);
-      files_after = files_view (F.faults files.new) (F.last_failed files.new);
-      input = source_view (I.left input.old) (I.faults input.old);
-      input_after = source_view (I.left input.new) (I.faults input.new);
-      streams = record {
-        out = sink_view (O.taken out.old) (O.faults out.old);
-        out_after = sink_view (O.taken out.new) (O.faults out.new);
-        report = sink_view (P.taken report.old) (P.faults report.old);
-        report_after = sink_view (P.taken report.new) (P.faults report.new);
-        images = sink_view (G.taken images.old) (G.faults images.old);
-        images_after = sink_view (G.taken images.new) (G.faults images.new);
-      };
-      kept = kept.new;
-    } in
-        IsAnswered call result }
+    ensures stay { devices.new.told ≡ devices.old.told }
+    ensures answered { let list = Ok (texts words.now) in
+        IsAnswered (call_of list devices.old devices.new kept.new) result }
 {
     let words = match read(alloc, words) {
         Ok(words) => words,
-        Err(refusal) => return tell(alloc, refusal, None, &[], report).status(),
+        Err(refusal) => {
+            return tell(alloc, refusal, None, &[], &mut devices.report).status();
+        }
     };
-    let refusal = match carry_out(alloc, &words, files, input, out, report, images, kept) {
+    let refusal = match carry_out(alloc, &words, devices, kept) {
         Ok(status) => return status,
         Err(refusal) => refusal,
     };
-    tell(alloc, refusal, words.plan, &words.files, report).status()
+    tell(
+        alloc,
+        refusal,
+        words.plan,
+        &words.files,
+        &mut devices.report,
+    )
+    .status()
 }
 
 /// Answers for words as bytes.
 fn answer_words<F: Files, I: Source, O: Sink, P: Sink, G: Sink>(
     alloc: Global,
     words: &[Seq<u8>],
-    files: &mut F,
-    input: &mut I,
-    out: &mut O,
-    report: &mut P,
-    images: &mut G,
+    devices: &mut Devices<F, I, O, P, G>,
     kept: &mut Option<Kept>,
 ) -> u8
     requires empty { kept.old ≡ None }
-    ensures stay { F.contents files.new ≡ F.contents files.old }
-    ensures answered { let call : Call = record {
-      words = Ok words.now;
-      told = F.contents files.old;
-      files = files_view (F.faults files.old) (F.last_failed files.old);
-      files_after = files_view (F.faults files.new) (F.last_failed files.new);
-      input = source_view (I.left input.old) (I.faults input.old);
-      input_after = source_view (I.left input.new) (I.faults input.new);
-      streams = record {
-        out = sink_view (O.taken out.old) (O.faults out.old);
-        out_after = sink_view (O.taken out.new) (O.faults out.new);
-        report = sink_view (P.taken report.old) (P.faults report.old);
-        report_after = sink_view (P.taken report.new) (P.faults report.new);
-        images = sink_view (G.taken images.old) (G.faults images.old);
-        images_after = sink_view (G.taken images.new) (G.faults images.new);
-      };
-      kept = kept.new;
-    } in
-        IsAnswered call result }
+    ensures stay { devices.new.told ≡ devices.old.told }
+    ensures answered { let list = Ok words.now in
+        IsAnswered (call_of list devices.old devices.new kept.new) result }
 {
     let texts = match texts_in(alloc, words) {
         Ok(texts) => texts,
-        Err(refusal) => return tell(alloc, refusal, None, &[], report).status(),
+        Err(refusal) => {
+            return tell(alloc, refusal, None, &[], &mut devices.report).status();
+        }
     };
-    answer_texts(alloc, &texts, files, input, out, report, images, kept)
+    answer_texts(alloc, &texts, devices, kept)
 }
 
 /// Does what the words `jfluid [--main M] [--root R] [--budget N] [--plan P] [--images] [FILE...]`
 /// say, as the system gave them: reads the plan P, fetches the class files, reads them, both in the
 /// order of the words, admits them, takes the input to its end, runs the main class for at most so
-/// many steps, puts what the program writes to `out` and the report to `report`, and answers the
-/// exit status.
+/// many steps, puts what the program writes to `out` and the report to `report` of the devices, and
+/// answers the exit status.
 ///
 /// The main class is M, with slashes for dots, else the plan's; the budget is N, else the plan's,
 /// else 100,000,000; the heap is the plan's, else 4,194,304 slots. `--root R` is a plan that
@@ -285,46 +219,19 @@ fn answer_words<F: Files, I: Source, O: Sink, P: Sink, G: Sink>(
 pub fn jfluid<F: Files, I: Source, O: Sink, P: Sink, G: Sink>(
     alloc: Global,
     words: Result<Seq<Seq<u8>>, NoMemory>,
-    files: &mut F,
-    input: &mut I,
-    out: &mut O,
-    report: &mut P,
-    images: &mut G,
+    devices: &mut Devices<F, I, O, P, G>,
     kept: &mut Option<Kept>,
 ) -> u8
-    ensures stay { F.contents files.new ≡ F.contents files.old }
-    ensures answered { let call : Call = record {
-      words = words;
-      told = F.contents files.old;
-      files = files_view (F.faults files.old) (F.last_failed files.old);
-      files_after = files_view (F.faults files.new) (F.last_failed files.new);
-      input = source_view (I.left input.old) (I.faults input.old);
-      input_after = source_view (I.left input.new) (I.faults input.new);
-      streams = record {
-        out = sink_view (O.taken out.old) (O.faults out.old);
-        out_after = sink_view (O.taken out.new) (O.faults out.new);
-        report = sink_view (P.taken report.old) (P.faults report.old);
-        report_after = sink_view (P.taken report.new) (P.faults report.new);
-        images = sink_view (G.taken images.old) (G.faults images.old);
-        images_after = sink_view (G.taken images.new) (G.faults images.new);
-      };
-      kept = kept.new;
-    } in
-        IsAnswered call result }
+    ensures stay { devices.new.told ≡ devices.old.told }
+    ensures answered { IsAnswered (call_of words devices.old devices.new kept.new) result }
 {
     *kept = None;
     let words = match words {
         Ok(words) => words,
-        Err(_) => return tell(alloc, Refusal::NoMemory, None, &[], report).status(),
+        Err(_) => {
+            let refusal = Refusal::NoMemory;
+            return tell(alloc, refusal, None, &[], &mut devices.report).status();
+        }
     };
-    answer_words(
-        alloc,
-        words.as_slice(),
-        files,
-        input,
-        out,
-        report,
-        images,
-        kept,
-    )
+    answer_words(alloc, words.as_slice(), devices, kept)
 }

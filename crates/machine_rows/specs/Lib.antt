@@ -2,3 +2,4 @@ pub mod Files
 pub mod Ready
 pub mod Played
 pub mod Resting
+pub mod Names

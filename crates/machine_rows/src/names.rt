@@ -1,70 +1,116 @@
 //! Classes and methods of a program by their names.
 
-use const_pool::{ClassFile, Pool};
+ghost use Rattle.std.specs.Prelude.{◌≡◌, IfOk, position};
+ghost use Rattle.const_pool.specs.References.{name_type_of};
+ghost use Rattle.jf_bytes.specs.Unicode.{utf16_of};
+ghost use Rattle.jvm_model.specs.Basis.Methods.{is_member, same_text_at};
+ghost use Rattle.jvm_model.specs.Basis.Programs.{class_named, has_name};
+ghost use Rattle.machine_rows.specs.Names.{IsMethodOf, has_member, in_32_bits, is_root, method_of_root};
+
+use const_pool::{ClassFile, Member, Pool};
 use jf_bytes::{NoMemory, Text16, from_utf8};
 use jvm_model::{MethodPlace, Program};
 use plan_text::{PlanError, RootName, plan_of_root};
 use std::alloc::Global;
 
-fn is_text(pool: &Pool, index: u16, wanted: &Text16) -> bool {
+/// A position as a number of a class or a method.
+fn number_of(position: Option<usize>) -> Option<u32>
+    ensures { result ≡ in_32_bits position }
+{
+    u32::try_from(position?).ok()
+}
+
+fn is_text(pool: &Pool, index: u16, wanted: &Text16) -> bool
+    ensures { result ≡ same_text_at pool.now index wanted.now }
+{
     match pool.text(index) {
         Ok(text) => text.same(wanted),
         Err(_) => false,
     }
 }
 
-fn has_name(class: &ClassFile, wanted: &Text16) -> bool {
+fn has_name(class: &ClassFile, wanted: &Text16) -> bool
+    ensures { result ≡ has_name wanted.now class.now }
+{
     match class.pool.class_name(class.this_class) {
         Ok(name) => name.same(wanted),
         Err(_) => false,
     }
 }
 
+/// Where the first class with this name stands.
+fn position_of(classes: &[ClassFile], wanted: &Text16) -> Option<usize>
+    ensures { result ≡ position (has_name wanted.now) classes.now }
+{
+    classes.iter().position(|class| has_name(class, wanted))
+}
+
 /// The position of the class with this name.
-pub fn class_named(alloc: Global, program: &Program, name: &str) -> Result<Option<u32>, NoMemory> {
-    let Ok(wanted) = from_utf8(alloc, name) else {
-        return Err(NoMemory);
-    };
-    for (at, class) in program.classes.as_slice().iter().enumerate() {
-        if has_name(class, &wanted) {
-            return Ok(u32::try_from(at).ok());
-        }
-    }
-    Ok(None)
+pub fn class_named(alloc: Global, program: &Program, name: &str) -> Result<Option<u32>, NoMemory>
+    ensures { IfOk result (λ found.
+        found ≡ in_32_bits (class_named program.now (utf16_of name.now))) }
+{
+    let wanted = from_utf8(alloc, name)?;
+    Ok(number_of(position_of(program.classes.as_slice(), &wanted)))
 }
 
-/// Whether a method has this class, name and descriptor.
-fn is_method(program: &Program, place: MethodPlace, wanted: &RootName) -> bool {
-    let Some(class) = program.classes.get(place.class as usize) else {
-        return false;
-    };
-    let Some(method) = class.methods.get(place.position as usize) else {
-        return false;
-    };
-    has_name(class, &wanted.class)
-        && is_text(&class.pool, method.name, &wanted.name)
-        && is_text(&class.pool, method.descriptor, &wanted.descriptor)
+/// Whether a method has the name and the descriptor of a root.
+fn is_member(pool: &Pool, method: &Member, root: &RootName) -> bool
+    ensures { let wanted = name_type_of root.now.name root.now.descriptor in
+        result ≡ is_member pool.now wanted method.now }
+{
+    is_text(pool, method.name, &root.name) && is_text(pool, method.descriptor, &root.descriptor)
 }
 
-/// The number of the method whose class, name and descriptor are these.
-fn number_of(program: &Program, wanted: &RootName) -> Option<u32> {
-    for (number, place) in program.methods.as_slice().iter().enumerate() {
-        if is_method(program, *place, wanted) {
-            return u32::try_from(number).ok();
-        }
+/// Whether the method at a position of a class has the name and the descriptor of a root.
+fn has_member(root: &RootName, class: &ClassFile, position: u16) -> bool
+    ensures { result ≡ has_member root.now class.now position }
+{
+    match class.methods.get(position as usize) {
+        Some(method) => is_member(&class.pool, method, root),
+        None => false,
     }
-    None
+}
+
+/// Whether it is the method that a root names.
+fn is_root(program: &Program, root: &RootName, place: &MethodPlace) -> bool
+    ensures { result ≡ is_root program.now root.now place.now }
+{
+    match program.classes.get(place.class as usize) {
+        Some(class) => has_name(class, &root.class) && has_member(root, class, place.position),
+        None => false,
+    }
+}
+
+/// Where the first method stands among all that a root names.
+fn place_of(program: &Program, root: &RootName) -> Option<usize>
+    ensures { result ≡ position (is_root program.now root.now) program.now.methods }
+{
+    program
+        .methods
+        .as_slice()
+        .iter()
+        .position(|place| is_root(program, root, place))
+}
+
+/// The number of the method that a root names.
+fn method_of(program: &Program, root: &RootName) -> Option<u32>
+    ensures { result ≡ method_of_root program.now root.now }
+{
+    number_of(place_of(program, root))
 }
 
 /// The number of the method that a word names: class, dot, name, descriptor.
-pub fn method_named(alloc: Global, program: &Program, word: &str) -> Result<Option<u32>, NoMemory> {
+pub fn method_named(alloc: Global, program: &Program, word: &str) -> Result<Option<u32>, NoMemory>
+    ensures { IfOk result (IsMethodOf program.now word.now) }
+{
     let plan = match plan_of_root(alloc, word) {
         Ok(plan) => plan,
         Err(PlanError::NoMemory) => return Err(NoMemory),
         Err(_) => return Ok(None),
     };
     match plan.actions.as_slice() {
-        [action] => Ok(number_of(program, &action.root)),
+        [action] => Ok(method_of(program, &action.root)),
         _ => Ok(None),
     }
 }

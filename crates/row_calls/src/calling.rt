@@ -5,7 +5,7 @@ ghost use Rattle.row_calls.specs.Calls.{IsAnswerTo};
 
 use crate::given::{Device, Failure, Given, NamedFile};
 use jf_bytes::{MemFiles, MemSink, MemSource, NoMemory, Seq};
-use jfluid_cli::jfluid;
+use jfluid_cli::{Devices, jfluid};
 use std::alloc::{AllocError, Global};
 
 /// What came of a row.
@@ -46,15 +46,14 @@ fn files_of(
     Ok(MemFiles::new(alloc, names, all, failing))
 }
 
+/// The devices of the top call, in memory.
+type MemDevices = Devices<MemFiles, MemSource, MemSink, MemSink, MemSink>;
+
 /// What the top call is given.
 #[derive(Drop)]
 struct Objects {
     words: Seq<Seq<u8>>,
-    files: MemFiles,
-    input: MemSource,
-    out: MemSink,
-    report: MemSink,
-    images: MemSink,
+    devices: MemDevices,
 }
 
 fn sink_of(alloc: Global, failures: &[Failure], device: Device) -> Result<MemSink, NoMemory> {
@@ -73,62 +72,32 @@ fn objects_of(alloc: Global, given: Given) -> Result<Objects, NoMemory>
     } = given;
     Ok(Objects {
         words,
-        files: files_of(alloc, files, failing(alloc, &failures, Device::Files)?)?,
-        input: MemSource::new(input, failing(alloc, &failures, Device::Input)?),
-        out: sink_of(alloc, &failures, Device::Output)?,
-        report: sink_of(alloc, &failures, Device::Report)?,
-        images: sink_of(alloc, &failures, Device::Images)?,
+        devices: Devices {
+            files: files_of(alloc, files, failing(alloc, &failures, Device::Files)?)?,
+            input: MemSource::new(input, failing(alloc, &failures, Device::Input)?),
+            out: sink_of(alloc, &failures, Device::Output)?,
+            report: sink_of(alloc, &failures, Device::Report)?,
+            images: sink_of(alloc, &failures, Device::Images)?,
+        },
     })
 }
 
 /// The status that the top call answers.
-fn call(
-    alloc: Global,
-    words: Seq<Seq<u8>>,
-    files: &mut MemFiles,
-    input: &mut MemSource,
-    out: &mut MemSink,
-    report: &mut MemSink,
-    images: &mut MemSink,
-) -> u8
+fn call(alloc: Global, words: Seq<Seq<u8>>, devices: &mut MemDevices) -> u8
     ensures { IsAnswerTo words result }
 {
-    jfluid(
-        alloc,
-        Ok(words),
-        files,
-        input,
-        out,
-        report,
-        images,
-        &mut None,
-    )
+    jfluid(alloc, Ok(words), devices, &mut None)
 }
 
 /// What the top call makes of its objects.
 fn answer_of(alloc: Global, objects: Objects) -> Result<Answer, NoMemory>
     ensures { IfOk result (λ a. IsAnswerTo objects.words a.status) }
 {
-    let Objects {
-        words,
-        mut files,
-        mut input,
-        mut out,
-        mut report,
-        mut images,
-    } = objects;
-    let status = call(
-        alloc,
-        words,
-        &mut files,
-        &mut input,
-        &mut out,
-        &mut report,
-        &mut images,
-    );
-    let output = Vec::from_slice(alloc, out.bytes())?;
-    let report = Vec::from_slice(alloc, report.bytes())?;
-    let images = Vec::from_slice(alloc, images.bytes())?;
+    let Objects { words, mut devices } = objects;
+    let status = call(alloc, words, &mut devices);
+    let output = Vec::from_slice(alloc, devices.out.bytes())?;
+    let report = Vec::from_slice(alloc, devices.report.bytes())?;
+    let images = Vec::from_slice(alloc, devices.images.bytes())?;
     Ok(Answer {
         status,
         output,

@@ -3,7 +3,7 @@
 ghost use Rattle.std.specs.Prelude.{◌≡◌, ◌≤◌, false, IfOk};
 
 use jf_bytes::{MemFiles, MemSink, MemSource, Seq};
-use jfluid_cli::{Kept, jfluid};
+use jfluid_cli::{Devices, Kept, jfluid};
 use profile_session::{Run, Session};
 use std::alloc::{AllocError, Global};
 use std::test::Fail;
@@ -74,31 +74,26 @@ pub(crate) fn recursive() -> &'static [u8] {
     &R
 }
 
+/// A sink that nothing is asked of.
+fn sink(alloc: Global) -> Result<MemSink, Fail> {
+    match MemSink::new(alloc, 4096, Vec::new(alloc)) {
+        Ok(sink) => Ok(sink),
+        Err(_) => Err("memory".into()),
+    }
+}
+
 /// What the top call keeps of these words.
 pub(crate) fn session_kept(alloc: Global, words: &[&str]) -> Result<Kept, Fail> {
     let words = bytes_of(alloc, words)?;
-    let mut files = files(alloc)?;
-    let mut input = MemSource::new(Vec::new(alloc), Vec::new(alloc));
-    let Ok(mut out) = MemSink::new(alloc, 4096, Vec::new(alloc)) else {
-        return Err("memory".into());
-    };
-    let Ok(mut report) = MemSink::new(alloc, 4096, Vec::new(alloc)) else {
-        return Err("memory".into());
-    };
-    let Ok(mut images) = MemSink::new(alloc, 4096, Vec::new(alloc)) else {
-        return Err("memory".into());
+    let mut devices = Devices {
+        files: files(alloc)?,
+        input: MemSource::new(Vec::new(alloc), Vec::new(alloc)),
+        out: sink(alloc)?,
+        report: sink(alloc)?,
+        images: sink(alloc)?,
     };
     let mut kept = None;
-    let _status = jfluid(
-        alloc,
-        Ok(words),
-        &mut files,
-        &mut input,
-        &mut out,
-        &mut report,
-        &mut images,
-        &mut kept,
-    );
+    let _status = jfluid(alloc, Ok(words), &mut devices, &mut kept);
     match kept {
         Some(kept) => Ok(kept),
         None => Err("nothing is kept".into()),

@@ -1,5 +1,5 @@
 -- Several steps of the run that tell nothing, in one activation or in several: what begins or ends in them has no probes.
-use Rattle.std.specs.Prelude.{◌≡◌, ℕ, ◌<◌, ◌-◌, Bool, true, false, not, List, [], ◌∷◌, length, nat_le, Option, Some, None, ◌==◌, ◌||◌}
+use Rattle.std.specs.Prelude.{◌≡◌, ℕ, ◌<◌, ◌-◌, Bool, true, false, List, [], ◌∷◌, length, nat_le, Option, Some, None, ◌==◌, ◌||◌}
 use Rattle.heap_objects.specs.declared.Value.{Value}
 use Rattle.heap_objects.specs.declared.Value.TheVariants.{Ref}
 use Rattle.frame_stack.specs.FrameLists.{FramesView, PlacedFrame}
@@ -10,15 +10,12 @@ use Rattle.jvm_model.specs.declared.due.Due.TheVariants.{Nothing}
 use Rattle.jvm_model.specs.declared.state.Entry.{Entry}
 use Rattle.jvm_model.specs.declared.state.Entry.TheVariants.{Active, Initializing}
 use Rattle.jvm_model.specs.declared.state.State.{State}
-use Rattle.jvm_model.specs.Rewriting.Images.{is_off}
 use Rattle.jvm_model.specs.Running.Moves.{handler_for}
 use Rattle.jvm_model.specs.Turns.Pauses.{stop_in}
 use Rattle.jvm_model.specs.Turns.Rest.{step_loads}
 use Rattle.jvm_model.specs.Running.Run.{step}
 use Rattle.jvm_model.specs.Turns.Told.{helds, mark_now}
 use Rattle.jvm_model.specs.Basis.Values.{with_value}
-use Rattle.symbolic_references.specs.declared.known.Callee.{Callee}
-use Rattle.symbolic_references.specs.declared.known.Callee.TheVariants as callee
 use Rattle.symbolic_references.specs.declared.known.Found.{Found}
 use Rattle.symbolic_references.specs.declared.known.Found.TheVariants as found
 use Rattle.symbolic_references.specs.Does.{Changed}
@@ -30,7 +27,7 @@ use Rattle.prepared_code.specs.Initializations.{initialization_on, state_of}
 use Rattle.prepared_code.specs.Runs.{IsAtInstruction, Leads, steps_from}
 use Rattle.prepared_code.specs.declared.line.Line.{Line}
 use Rattle.prepared_code.specs.Tables.{Versions}
-use Rattle.prepared_code.specs.Versions.{Setup, current_of, line_at, mark_of, next_in, listing_of}
+use Rattle.prepared_code.specs.Versions.{Setup, line_at, mark_of, listing_of}
 
 -- ---- live activations
 

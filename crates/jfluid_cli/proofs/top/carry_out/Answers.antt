@@ -1,5 +1,5 @@
 use Rattle.std.proofs.Common.{◌≡◌, ◌≤◌, List, ℕ, length, refl, sym, subst}
-use Rattle.std.specs.Prelude.{IfSome}
+use Rattle.std.specs.Prelude.{Ok, IfSome}
 use Rattle.plan_text.specs.declared.plan.Plan.{Plan}
 use Rattle.command_line.specs.Input.{most_input}
 use Rattle.command_line.specs.Words.{read_in}
@@ -9,28 +9,32 @@ use Rattle.jfluid_cli.specs.Causes.{Given}
 use Rattle.jfluid_cli.specs.Runs.{RunsProgram}
 use Rattle.jfluid_cli.specs.Stages.{IsPrepared}
 use Rattle.jfluid_cli.proofs.Carried.{carried-refused, carried-input, carried-memory, carried-run, of-program, rest-of-input}
+use Rattle.jfluid_cli.proofs.OnDevices.{carried-from, carried-on}
 use Rattle.jfluid_cli.proofs.top.carry_out.Goals as goal
 
 pub returns-in-Err-clause-carried : goal.returns-in-Err-clause-carried
-returns-in-Err-clause-carried g c = λ list read. carried-refused _ (read_in c.args.words.now) c.in-Err.refusal read c.requires.empty
+returns-in-Err-clause-carried g c = λ list read. carried-from (Ok list) _ _ _ _ _ _ _ _ _ c.devices.view_is
+    (carried-refused _ (read_in c.args.words.now) c.in-Err.refusal read c.requires.empty
     (record { taken = refl; faults = refl }) (record { taken = refl; faults = refl })
     (record { taken = refl; faults = refl }) refl
-    (c.in-Err.ensures.before_the_run _ read refl) c.in-Err.ensures.cause
+    (c.in-Err.ensures.before_the_run _ read refl) c.in-Err.ensures.cause)
 
 pub returns-in-Err-take-clause-carried : goal.returns-in-Err-take-clause-carried
 returns-in-Err-take-clause-carried g c =
     let l = c.in-Ok.loaded in
-    λ list read. carried-input _ c.in-Err-take.refusal c.requires.empty
+    λ list read. carried-from (Ok list) _ _ _ _ _ _ _ _ _ c.devices.view_is
+    (carried-input _ c.in-Err-take.refusal c.requires.empty
     (record { taken = refl; faults = refl }) (record { taken = refl; faults = refl })
     (record { taken = refl; faults = refl }) (c.in-Ok.ensures.without_fault refl)
     (of-program _ l.plan l.budget l.contents l.program (c.in-Ok.ensures.ok _ read refl))
-    c.in-Err-take.ensures.refused
+    c.in-Err-take.ensures.refused)
 
 pub returns-in_default-clause-carried : goal.returns-in_default-clause-carried
-returns-in_default-clause-carried g c = λ list read. carried-memory _ c.requires.empty
+returns-in_default-clause-carried g c = λ list read. carried-from (Ok list) _ _ _ _ _ _ _ _ _ c.devices.view_is
+    (carried-memory _ c.requires.empty
     (record { taken = refl; faults = refl }) (record { taken = refl; faults = refl })
     (record { taken = refl; faults = refl }) (c.in-Ok.ensures.without_fault refl)
-    (rest-of-input _ _ c.in-Ok-take.bytes c.in-Ok-take.ensures.short c.in-Ok-take.ensures.taken)
+    (rest-of-input _ _ c.in-Ok-take.bytes c.in-Ok-take.ensures.short c.in-Ok-take.ensures.taken))
 
 pub run_made-requires-clause-acts : goal.run_made-requires-clause-acts
 run_made-requires-clause-acts g c =
@@ -43,10 +47,11 @@ returns-clause-carried g c =
     λ list read.
     (let given : Given = record {
       words = list;
-      told = g.F.Files.contents c.args.files.now;
-      left = g.I.Source.left c.args.input.now;
+      told = g.F.Files.contents c.devices.inside.files;
+      left = g.I.Source.left c.devices.inside.input;
     } in
-    carried-run _ c.is_some-summary.result l.budget made c.run_made.result (read_in c.args.words.now) read
+    carried-on (Ok list) _ _ _ _ _ _ c.devices.view_is (sym c.run_made.ensures.stay)
+    (carried-run _ c.is_some-summary.result l.budget made c.run_made.result (read_in c.args.words.now) read
     c.is_some-summary.ensures
     (record {
       program = l.program;
@@ -64,4 +69,4 @@ returns-clause-carried g c =
     })
     c.run_made.ensures.same c.run_made.ensures.run c.run_made.ensures.prefix c.run_made.ensures.images
     c.run_made.ensures.unasked
-    (c.in-Ok.ensures.without_fault refl) (c.in-Ok-take.ensures.without_fault refl))
+    (c.in-Ok.ensures.without_fault refl) (c.in-Ok-take.ensures.without_fault refl)))

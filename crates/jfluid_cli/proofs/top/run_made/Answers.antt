@@ -1,38 +1,52 @@
-use Rattle.jfluid_cli.specs.Sinks.{Streams}
+use Rattle.std.proofs.Common.{subst}
+use Rattle.profile_session.specs.Sessions.{Profiling}
+use Rattle.jfluid_cli.specs.declared.kept.Kept.{Kept}
+use Rattle.jfluid_cli.specs.Runs.{PutsAtMost}
+use Rattle.jfluid_cli.specs.Sinks.{DevicesView, Streams}
 use Rattle.jfluid_cli.proofs.Answered.{run-answer}
+use Rattle.jfluid_cli.proofs.OnDevices.{ran-from}
 use Rattle.jfluid_cli.proofs.top.run_made.Goals as goal
 
 pub returns-clause-run : goal.returns-clause-run
 returns-clause-run g c =
     let s : Streams = record {
       out = record {
-        taken = g.O.Sink.taken c.args.out.now;
-        faults = g.O.Sink.faults c.args.out.now;
+        taken = g.O.Sink.taken c.devices.inside.out;
+        faults = g.O.Sink.faults c.devices.inside.out;
       };
       out_after = record {
         taken = g.O.Sink.taken c.run_all-outcome.new.out;
         faults = g.O.Sink.faults c.run_all-outcome.new.out;
       };
       report = record {
-        taken = g.P.Sink.taken c.args.report.now;
-        faults = g.P.Sink.faults c.args.report.now;
+        taken = g.P.Sink.taken c.devices.inside.report;
+        faults = g.P.Sink.faults c.devices.inside.report;
       };
       report_after = record {
         taken = g.P.Sink.taken c.answer-answered.new.report;
         faults = g.P.Sink.faults c.answer-answered.new.report;
       };
       images = record {
-        taken = g.G.Sink.taken c.args.images.now;
-        faults = g.G.Sink.faults c.args.images.now;
+        taken = g.G.Sink.taken c.devices.inside.images;
+        faults = g.G.Sink.faults c.devices.inside.images;
       };
       images_after = record {
         taken = g.G.Sink.taken c.answer-answered.new.images;
         faults = g.G.Sink.faults c.answer-answered.new.images;
       };
     } in
-    run-answer c.answer-answered.result c.run_all-outcome.result s c.args.summary c.args.asked c.args.budget
-    c.run_all-outcome.new.session
-    (record c.args.made_of { session = record c.args.made_of.session { value = c.answer-answered.new.session } })
+    let k : Kept = record c.args.made_of { session = record c.args.made_of.session { value = c.answer-answered.new.session } } in
+    ran-from _ _ s.out_after s.report_after s.images_after c.answer-answered.result k c.args.summary c.args.asked c.args.budget
+    c.devices.view_is
+    (run-answer c.answer-answered.result c.run_all-outcome.result s c.args.summary c.args.asked c.args.budget
+    c.run_all-outcome.new.session k
     c.answer-answered.ensures.carried_out c.answer-answered.ensures.gathered c.answer-answered.ensures.shown
     c.answer-answered.ensures.stopped c.answer-answered.ensures.unshown c.run_all-outcome.ensures.carried_out
-    c.run_all-outcome.ensures.cause
+    c.run_all-outcome.ensures.cause)
+
+pub returns-clause-prefix : goal.returns-clause-prefix
+returns-clause-prefix g c =
+    let after = g.O.Sink.taken c.run_all-outcome.new.out in
+    subst (λ (d : DevicesView). PutsAtMost c.args.made_of.session.value c.args.budget d.out.taken after) c.devices.view_is
+    (subst (λ (v : Profiling). PutsAtMost v c.args.budget (g.O.Sink.taken c.devices.inside.out) after)
+    c.deref_mut-session.ensures.value c.run_all-outcome.ensures.prefix)

@@ -48,5 +48,5 @@ pub returns-in-Arraylength : goal.returns-in-Arraylength
 returns-in-Arraylength c =
     let w = c.args.originals.now.setup in
     let ms = c.args.initializing.now in
-    subst (λ o. GoesOnward w ms c.args.parts.now o c.pass_measure.new.parts) (sym c.made_if-2.ensures)
+    subst (λ o. GoesOnward w ms c.args.parts.now o c.pass_measure.new.parts) (sym c.made_if-in-Arraylength.ensures)
     (onward-if w ms c.args.parts.now c.pass_measure.new.parts c.pass_measure.result c.pass_measure.ensures)

@@ -101,3 +101,15 @@ returns-then-is_telling-clause-below c =
 
 pub returns-clause-made : goal.returns-clause-made
 returns-clause-made c = record { between = c.loop-made.parts; passes = c.loop-made.invariant.1; stops = refl }
+
+pub returns-in_default-clause-within : goal.returns-in_default-clause-within
+returns-in_default-clause-within c =
+    let within = c.plain_steps-made.ensures.within in
+    let less = c.loop-made-test.true in
+    omega (arith, less, within)
+
+pub returns-then-is_telling-clause-within : goal.returns-then-is_telling-clause-within
+returns-then-is_telling-clause-within c =
+    let within = c.plain_steps-made.ensures.within in
+    let less = c.loop-made-test.true in
+    omega (arith, less, within)

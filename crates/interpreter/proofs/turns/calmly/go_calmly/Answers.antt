@@ -1,8 +1,9 @@
-use Rattle.std.proofs.Common.{sym, subst, ◌∙◌, arith}
+use Rattle.std.proofs.Common.{true, sym, subst, ◌∙◌, arith}
 use Rattle.std.proofs.lemmas.Bool.{false≢true}
 use Rattle.jvm_model.specs.declared.due.Due.TheVariants.{Nothing}
 use Rattle.interpreter.specs.Moves.Calmly.{TriesCalmly, TriesIf}
 use Rattle.interpreter.proofs.Moves.CalmHands.{calm-moves, calm-tries, hands-calmly, sound-calmly, start-calmly}
+use Rattle.interpreter.proofs.Silent.GoingOnward.{not-marked}
 use Rattle.interpreter.proofs.turns.calmly.go_calmly.Goals as goal
 
 -- by moves
@@ -30,7 +31,7 @@ returns-clause-goes c =
     let ms = c.args.initializing.now in
     let none = c.if-hand-gt0.false in
     calm-tries w ms c.args.hand c.args.parts.now c.gone_to-2.result c.gone_to-2.ensures.left c.end_told.new.parts Nothing c.if-hand.false (omega (arith, none))
-    (subst (λ b. TriesCalmly w ms b c.args.parts.now Nothing c.end_told.new.parts) (sym c.if-not-hand.false)
+    (subst (λ b. TriesCalmly w ms b c.args.parts.now Nothing c.end_told.new.parts) (sym (not-marked c.args.hand.delivered c.if-not-hand.false))
     (subst (λ b. TriesIf b w ms true c.args.parts.now Nothing c.end_told.new.parts) c.if-not-end_told.false c.end_told.ensures))
     c.gone_to-2.ensures.due c.gone_to-2.ensures.passed
 
@@ -43,3 +44,8 @@ returns-clause-sound c =
 
 pub returns-clause-starts : goal.returns-clause-starts
 returns-clause-starts c = λ moves undelivered start. absurd (false≢true (sym c.if-hand.false ∙ moves))
+
+-- nothing was done
+pub returns-then-not-end_told-clause-none : goal.returns-then-not-end_told-clause-none
+returns-then-not-end_told-clause-none c =
+    subst (λ b. TriesIf b c.args.originals.now.setup c.args.initializing.now true c.args.parts.now Nothing c.end_told.new.parts) c.if-not-end_told.true c.end_told.ensures
