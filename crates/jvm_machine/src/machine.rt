@@ -17,7 +17,9 @@ ghost use Rattle.jvm_machine.specs.Turns.{Turns, turn_by};
 ghost use Rattle.jvm_machine.specs.Several.{PassesUpTo, RunsOn, TurnsBehind, is_settled};
 ghost use Rattle.jvm_machine.specs.View.{IsGoingOn, has_ended, is_resting, machine_made, run_state};
 
-use crate::advancing::{Onward, Passage, Telling, clock_in, hand_left, hand_now, loaded_since, take_up};
+use crate::advancing::{
+    Onward, Passage, Telling, clock_in, hand_left, hand_now, loaded_since, take_up,
+};
 use crate::telling::event_told;
 use crate::turn::Turn;
 use class_linker::Linker;
@@ -303,7 +305,7 @@ impl Vm {
         }
     }
 
-    /// The same, and one turn more.
+    /// The same, and one turn more: what is due, or else a whole one.
     #[inline(always)]
     fn go_onward(&mut self, most: u64) -> Onward
         requires resting { is_resting self.old ≡ true }
@@ -324,7 +326,7 @@ impl Vm {
         }
     }
 
-    /// From a state of rest.
+    /// Makes steps from a state of rest, at most so many, while they tell nothing; the answer is the turn of the last one.
     #[inline(always)]
     fn run_rested(&mut self, most: u64) -> Turn
         requires some { 0 < most }
@@ -345,7 +347,8 @@ impl Vm {
         }
     }
 
-    /// Makes steps, at most so many, while they tell nothing; the answer is the turn of the last one.
+    /// Ends the step in hand, if there is one, and makes steps, with it at most so many, while they tell nothing; the answer is the turn of
+    /// the last one.
     #[inline(always)]
     pub fn run_on(&mut self, most: u64) -> Turn
         requires some { 0 < most }
