@@ -1,5 +1,5 @@
 -- Steps from a step in hand, and how much is left to be told of them.
-use Rattle.std.proofs.Common.{◌≡◌, ℕ, zero, suc, ◌+◌, ◌-◌, ◌<◌, ◌≤◌, Bool, true, false, List, [], ◌∷◌, ◌++◌, drop, length, Result, Ok, Err, refl, sym, ap, subst, ◌∙◌, length-append, arith}
+use Rattle.std.proofs.Common.{◌≡◌, ℕ, zero, suc, ◌+◌, ◌-◌, ◌<◌, ◌≤◌, Bool, true, false, List, [], ◌∷◌, ◌++◌, drop, length, Option, Some, None, Result, Ok, Err, if◌then◌else◌, refl, sym, ap, subst, ◌∙◌, length-append, arith}
 use Rattle.std.specs.Prelude.{MatchResult}
 use Rattle.std.proofs.lemmas.List.{length-drop}
 use Rattle.jvm_model.specs.declared.event.Event.{Event}
@@ -19,7 +19,7 @@ use Rattle.jvm_machine.specs.Several.{Passes, RunsOn, none, more}
 use Rattle.jvm_machine.specs.Turns.{Settles, Turns}
 use Rattle.jvm_machine.specs.View.{View, events_left, has_ended, is_resting, step_begun, to_come, world}
 use Rattle.profile_session.specs.declared.parts.Parts.{Parts}
-use Rattle.profile_session.specs.Advances.{After, Finished, FinishedBy, Goes, Ran, RanOn, Stays, at_once, later}
+use Rattle.profile_session.specs.Advances.{After, Finished, FinishedBy, Goes, Ran, RanOn, Stays, at_once, ended_by, later}
 use Rattle.profile_session.specs.Keeping.{is_idle}
 use Rattle.profile_session.specs.Parts.{Hears, IsBusy, IsHearable, IsSameRun, kept_in}
 use Rattle.profile_session.specs.Standing.{next_step}
@@ -110,7 +110,7 @@ end-mark k step m Root = omega arith
 
 end-short : (k : EventKind) (step : ℕ) (live : List Held) → length (end_told k step live) ≤ 1
 end-short k step [] = omega arith
-end-short k step (h ∷ more) = end-mark k step h.method h.mark
+end-short k step (h ∷ others) = end-mark k step h.method h.mark
 
 change-short : (marks : ℕ → Mark) (step : ℕ) (live : List Held) (c : Change) → length (change_told marks step live c) ≤ 1
 change-short marks step live (Loads classes) = omega arith
@@ -120,19 +120,19 @@ change-short marks step live Unwound = end-short kind.Unwind step live
 
 changes-short : (marks : ℕ → Mark) (step : ℕ) (live : List Held) (cs : List Change) → length (changes_told marks step live cs) ≤ length cs
 changes-short marks step live [] = omega arith
-changes-short marks step live (c ∷ more) =
-    let sum = length-append (change_told marks step live c) (changes_told marks step (held_after marks live c) more) in
+changes-short marks step live (c ∷ others) =
+    let sum = length-append (change_told marks step live c) (changes_told marks step (held_after marks live c) others) in
     let one = change-short marks step live c in
-    let rest = changes-short marks step (held_after marks live c) more in
-    let whole : length (c ∷ more) ≡ length more + 1 = omega arith in
+    let rest = changes-short marks step (held_after marks live c) others in
+    let whole : length (c ∷ others) ≡ length others + 1 = omega arith in
     omega (arith, sum, one, rest, whole)
 
 from-short : (marks : ℕ → Mark) (step : ℕ) (delivered : Bool) (live : List Held) (cs : List Change) → length (told_from marks step delivered live cs) ≤ length cs
 from-short marks step false live cs = changes-short marks step live cs
 from-short marks step true live [] = omega arith
-from-short marks step true live (c ∷ more) =
-    let rest = changes-short marks step (held_after marks live c) more in
-    let whole : length (c ∷ more) ≡ length more + 1 = omega arith in
+from-short marks step true live (c ∷ others) =
+    let rest = changes-short marks step (held_after marks live c) others in
+    let whole : length (c ∷ others) ≡ length others + 1 = omega arith in
     omega (arith, rest, whole)
 
 abbrev changes_of : World → ℕ → ℕ
@@ -191,23 +191,6 @@ pub record Along (first : Parts) (last : ℕ) (x : Parts) : Type 0 where
 pub first-along : (x : Parts) (last : ℕ) → IsBusy x → x.vm.clock ≤ last → Along x last x
 first-along x last busy within = record { busy = busy; stays = record { world_is = refl; acts = refl; started = refl }; low = omega arith; high = within }
 
--- an event was told, or classes
-abbrev is_going_on : Turn → Bool
-is_going_on (Probe e) = true
-is_going_on (Loaded classes) = true
-is_going_on Settled = false
-is_going_on Ended = false
-is_going_on Broken = false
-is_going_on NoMemory = false
-
-goes-of : (x : Parts) (t : Turn) (new : Parts) → is_going_on t ≡ true → After x t new → Goes x new
-goes-of x (Probe e) new on a = a.goes
-goes-of x (Loaded classes) new on a = a.goes
-goes-of x Settled new on a = absurd (let h : false ≡ true = on in cc)
-goes-of x Ended new on a = absurd (let h : false ≡ true = on in cc)
-goes-of x Broken new on a = absurd (let h : false ≡ true = on in cc)
-goes-of x NoMemory new on a = absurd (let h : false ≡ true = on in cc)
-
 pub record Onward (first : Parts) (last : ℕ) (x new : Parts) : Type 0 where
   pub along : Along first last new
   pub down : left_in last new.vm < left_in last x.vm
@@ -231,7 +214,7 @@ module _ (first : Parts) (last : ℕ) (x new : Parts) (a : Along first last x) w
         down = left-falls x.vm new.vm last stays.world_is up within;
       }
 
-  pub onward-probe : (e : Event) → RanOn x (last + 1 - x.vm.clock) (Probe e) new → Onward first last x new
+  onward-probe : (e : Event) → RanOn x (last + 1 - x.vm.clock) (Probe e) new → Onward first last x new
   onward-probe e (at_once t) =
       let at = same-step t.goes in
       let fewer : suc (length (events_left new.vm)) ≡ length (events_left x.vm) = t.fewer ∙ ap (λ (v : View). length (events_left v)) (begun-busy x.vm a.busy.busy) in
@@ -248,7 +231,7 @@ module _ (first : Parts) (last : ℕ) (x new : Parts) (a : Along first last x) w
       }
   onward-probe e (later mid f r) = later-goes mid (Probe e) f r r.last.goes
 
-  pub onward-loaded : (classes : List ℕ) → RanOn x (last + 1 - x.vm.clock) (Loaded classes) new → Onward first last x new
+  onward-loaded : (classes : List ℕ) → RanOn x (last + 1 - x.vm.clock) (Loaded classes) new → Onward first last x new
   onward-loaded classes (at_once t) = absurd (let h : true ≡ false = sym t.first ∙ a.busy.busy in cc)
   onward-loaded classes (later mid f r) = later-goes mid (Loaded classes) f r r.last.goes
 
@@ -284,10 +267,28 @@ module _ (first : Parts) (last : ℕ) (x new : Parts) (a : Along first last x) w
         high = omega (arith, at, next, high, to);
       }
 
-  pub settled-by : RanOn x (last + 1 - x.vm.clock) Settled new → FinishedBy first last false new
+  settled-by : RanOn x (last + 1 - x.vm.clock) Settled new → FinishedBy first last false new
   settled-by (at_once f) = now-finished false f
   settled-by (later mid f r) = later-finished mid Settled false f r r.last
 
-  pub ended-by : RanOn x (last + 1 - x.vm.clock) Ended new → FinishedBy first last true new
-  ended-by (at_once f) = now-finished true f
-  ended-by (later mid f r) = later-finished mid Ended true f r r.last
+  run-ended-by : RanOn x (last + 1 - x.vm.clock) Ended new → FinishedBy first last true new
+  run-ended-by (at_once f) = now-finished true f
+  run-ended-by (later mid f r) = later-finished mid Ended true f r r.last
+
+  pub finished-by : (t : Turn) (ended : Bool) → ended_by t ≡ Some ended → RanOn x (last + 1 - x.vm.clock) t new → FinishedBy first last ended new
+  finished-by Settled ended e r = let is : false ≡ ended = cc in subst (λ b. FinishedBy first last b new) is (settled-by r)
+  finished-by Ended ended e r = let is : true ≡ ended = cc in subst (λ b. FinishedBy first last b new) is (run-ended-by r)
+  finished-by (Loaded classes) ended e r = absurd cc
+  finished-by (Probe event) ended e r = absurd cc
+  finished-by Broken ended e r = absurd cc
+  finished-by NoMemory ended e r = absurd cc
+
+  pub onward-by : (t : Turn) → ended_by t ≡ None → RanOn x (last + 1 - x.vm.clock) t new → Onward first last x new
+  onward-by Settled e r = absurd cc
+  onward-by Ended e r = absurd cc
+  onward-by (Loaded classes) e r = onward-loaded classes r
+  onward-by (Probe event) e r = onward-probe event r
+  onward-by Broken e (at_once impossible) = absurd impossible
+  onward-by Broken e (later mid f r) = absurd r.last
+  onward-by NoMemory e (at_once impossible) = absurd impossible
+  onward-by NoMemory e (later mid f r) = absurd r.last

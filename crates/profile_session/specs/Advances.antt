@@ -1,5 +1,5 @@
 -- How a session's parts go on with turns and steps.
-use Rattle.std.specs.Prelude.{◌≡◌, ℕ, suc, ◌+◌, ◌-◌, ◌≤◌, ◌<◌, Bool, true, false, length}
+use Rattle.std.specs.Prelude.{◌≡◌, ℕ, suc, ◌+◌, ◌-◌, ◌≤◌, ◌<◌, Bool, true, false, length, Option, Some, None}
 use Rattle.jvm_machine.specs.declared.turn.Turn.{Turn}
 use Rattle.jvm_machine.specs.declared.turn.Turn.TheVariants.{Settled, Loaded, Probe, Ended, Broken, NoMemory}
 use Rattle.jvm_machine.specs.View.{step_begun, has_ended, is_resting, world, events_left}
@@ -57,6 +57,15 @@ pub record Ran (old : Parts) (most : ℕ) (turn : Turn) (new : Parts) : Type 0 w
 pub data RanOn (old : Parts) (most : ℕ) (turn : Turn) (new : Parts) : Type 0 where
   at_once : After old turn new → RanOn old most turn new
   later : (mid : Parts) → Finished old false mid → Ran mid (most - 1) turn new → RanOn old most turn new
+
+-- what the last turn of a step says: whether the run has ended in it
+abbrev pub ended_by : Turn → Option Bool
+ended_by Settled = Some false
+ended_by Ended = Some true
+ended_by (Loaded classes) = None
+ended_by (Probe e) = None
+ended_by Broken = None
+ended_by NoMemory = None
 
 -- no step is in hand any more, and none was made behind the last one
 pub record FinishedBy (old : Parts) (last : ℕ) (ended : Bool) (new : Parts) : Type 0 where

@@ -2,7 +2,7 @@
 
 ghost use Rattle.std.specs.Prelude.{◌≡◌, ◌+◌, ◌-◌, ◌^◌, ◌<◌, ◌≤◌, true, false, MatchResult, if◌then◌else◌};
 ghost use Rattle.jvm_machine.specs.View.{IsGoingOn, has_ended};
-ghost use Rattle.profile_session.specs.Advances.{After, FinishedBy, Makes, Ran, RanOn, Sliced};
+ghost use Rattle.profile_session.specs.Advances.{After, FinishedBy, Makes, Ran, RanOn, Sliced, ended_by};
 ghost use Rattle.profile_session.specs.Keeping.{is_idle};
 ghost use Rattle.profile_session.specs.Parts.{IsBusy, IsSameRun, Rests, kept_in};
 ghost use Rattle.profile_session.specs.Standing.{next_step};
@@ -24,6 +24,21 @@ fn is_telling(turn: &Turn) -> bool
         Turn::Ended => true,
         Turn::Broken => false,
         Turn::NoMemory => false,
+    }
+}
+
+/// What the last turn of a step says: whether the run has ended in it.
+#[inline(always)]
+fn ended_by(turn: &Turn) -> Option<bool>
+    ensures { result ≡ ended_by turn.now }
+{
+    match turn {
+        Turn::Settled => Some(false),
+        Turn::Ended => Some(true),
+        Turn::Probe(_) => None,
+        Turn::Loaded(_) => None,
+        Turn::Broken => None,
+        Turn::NoMemory => None,
     }
 }
 
@@ -119,14 +134,10 @@ impl Parts {
             (λ e. IsSameRun self.old self.new) }
     {
         loop {
-            match self.go_on(last)? {
-                Turn::Probe(_) => {}
-                Turn::Loaded(_) => {}
-                Turn::Settled => return Ok(false),
-                Turn::Ended => return Ok(true),
-                // There was memory.
-                Turn::Broken => unreachable!(),
-                Turn::NoMemory => unreachable!(),
+            let turn = self.go_on(last)?;
+            match ended_by(&turn) {
+                Some(ended) => return Ok(ended),
+                None => {}
             }
         }
     }
