@@ -45,14 +45,19 @@ pub(crate) fn length_of_record(before: u64, event: Event) -> usize
     1 + length_of_number(event.method as u64) + length_of_number(event.clock - before)
 }
 
-/// Appends the record of an event that there is room for, behind one of the clock `before`.
+/// Appends the record of an event that there is room for, behind one of the clock `before`. Small numbers, as mostly, are put at once.
 #[inline(always)]
 pub(crate) fn put_record(bytes: &mut Room, before: u64, event: Event)
     requires later { before ≤ event.clock }
     requires room { length bytes.old.items + length (record_of before event) ≤ bytes.old.capacity }
     ensures { bytes.new ≡ room_of (bytes.old.items ++ record_of before event) bytes.old.capacity }
 {
+    let more = event.clock - before;
+    if event.method < 128 && more < 128 {
+        bytes.push_three(number_of_kind(event.kind), event.method as u8, more as u8);
+        return;
+    }
     put_byte(bytes, number_of_kind(event.kind));
     put_number(bytes, event.method as u64);
-    put_number(bytes, event.clock - before);
+    put_number(bytes, more);
 }

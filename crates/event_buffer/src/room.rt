@@ -1,6 +1,6 @@
 //! Bytes in room that is made once.
 
-ghost use Rattle.std.specs.Prelude.{◌≡◌, ◌++◌, ◌∷◌, [], ◌≤◌, ◌<◌, ◌^◌, length, drop, slice_get, IfOk};
+ghost use Rattle.std.specs.Prelude.{◌≡◌, ◌+◌, ◌++◌, ◌∷◌, [], ◌≤◌, ◌<◌, ◌^◌, length, drop, slice_get, IfOk};
 ghost use Rattle.event_buffer.specs.Rooms.{room_of};
 
 use jf_bytes::NoMemory;
@@ -85,6 +85,35 @@ impl Room {
         }
         self.bytes[self.end] = byte;
         self.end += 1;
+    }
+
+    /// Puts three bytes behind those that are held, one by one.
+    #[inline(never)]
+    fn push_each(&mut self, first: u8, second: u8, third: u8)
+        requires { length self.old.items + 3 ≤ self.old.capacity }
+        ensures { self.new
+            ≡ room_of (self.old.items ++ first ∷ second ∷ third ∷ []) self.old.capacity }
+    {
+        self.push_back(first);
+        self.push_back(second);
+        self.push_back(third);
+    }
+
+    /// Puts three bytes behind those that are held.
+    #[inline(always)]
+    pub(crate) fn push_three(&mut self, first: u8, second: u8, third: u8)
+        requires { length self.old.items + 3 ≤ self.old.capacity }
+        ensures { self.new
+            ≡ room_of (self.old.items ++ first ∷ second ∷ third ∷ []) self.old.capacity }
+    {
+        if self.bytes.len() - self.end < 3 {
+            self.push_each(first, second, third);
+            return;
+        }
+        self.bytes[self.end] = first;
+        self.bytes[self.end + 1] = second;
+        self.bytes[self.end + 2] = third;
+        self.end += 3;
     }
 
     /// Takes the first byte out.
