@@ -1,7 +1,7 @@
 //! Steps of instructions that the current frame does by itself, and of those that load or store an element and raise nothing: nothing
 //! but the current frame and the heap changes, and nothing follows.
 
-ghost use Rattle.std.specs.Prelude.{◌≡◌, ◌≢◌, ◌≤◌, true, false};
+ghost use Rattle.std.specs.Prelude.{◌≡◌, ◌≢◌, ◌≤◌, ◌<◌, true, false};
 ghost use Rattle.std.specs.Option.{IfSome};
 ghost use Rattle.const_pool.specs.declared.descriptor.Kind.{Kind};
 ghost use Rattle.jvm_basic.specs.declared.effect.Effect.TheVariants.{Next};
@@ -152,6 +152,38 @@ fn plain_step(version: &Version, parts: &mut Parts) -> bool
         return false;
     };
     pass_line(line, parts)
+}
+
+/// Such steps in the version that the current frame runs, at most so many, up to a line that is none: that line, where it has come to
+/// one. How many were made is put beside it.
+#[inline(never)]
+pub fn plain_to<'a>(
+    version: &'a Version,
+    parts: &mut Parts,
+    most: u64,
+    count: &mut u64,
+) -> Option<&'a Line>
+    requires { ArePrepared version.now }
+    ensures within { count.new ≤ most }
+    ensures below { IfSome result (λ l. count.new < most) }
+    ensures made { (w : Setup) → CanRun w → RunsVersion w version.now parts.old.frames.frames
+        → LeadsAlone w parts.old count.new parts.new }
+    ensures stands { IfSome result
+        (λ l. IsLineIn version.now parts.new.frames.frames l.now) }
+    ensures same { top_version parts.new.frames.frames ≡ top_version parts.old.frames.frames }
+{
+    for made in 0..most {
+        let Some(line) = line_now(version, &parts.frames) else {
+            *count = made;
+            return None;
+        };
+        if !pass_line(line, parts) {
+            *count = made;
+            return Some(line);
+        }
+    }
+    *count = most;
+    None
 }
 
 /// Such steps, at most so many: how many it has made. The frame's version is looked up once.
