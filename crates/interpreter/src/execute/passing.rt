@@ -466,7 +466,10 @@ fn version_now<'a>(originals: &'a Originals, frames: &Frames) -> Option<&'a Vers
     let Some(here) = where_now(frames) else {
         return None;
     };
-    originals.version(here.version)
+    let Some(version) = originals.version(here.version) else {
+        return None;
+    };
+    Some(version)
 }
 
 /// Whether a probe tells there.
