@@ -27,12 +27,12 @@ ghost use Rattle.prepared_code.specs.States.{here_of};
 ghost use Rattle.interpreter.specs.Moves.Calmly.{GoesBack, TriesIf, passed_there};
 ghost use Rattle.interpreter.specs.Moves.Onward.{ComesTo, GoesOnward, PassesOnward};
 ghost use Rattle.interpreter.specs.Moves.Onward.{begun_due, is_telling, made_if};
-ghost use Rattle.prepared_code.specs.Versions.{ArePrepared, current_of, line_at, mark_of};
+ghost use Rattle.prepared_code.specs.Versions.{current_of, line_at, mark_of};
 
 use crate::execute::arrays::pass_length;
 use crate::execute::going::{top_datum, value_of};
 use crate::execute::invoking::{begin_frame, may_begin};
-use crate::execute::plain::plain_to;
+use crate::execute::plain::{plain_to, version_now};
 use crate::turns::hands::{Passed, gone_to};
 use crate::turns::turning::is_marked;
 use crate::unwind::catching::{catch_below, caught_below, thrown_object};
@@ -454,22 +454,6 @@ fn pass_line(
         Action::Arraylength => made_if(pass_measure(originals, parts, initializing, here, line)),
         _ => None,
     }
-}
-
-/// The version that the current frame runs. None where there is no frame, or its lines are still to be made.
-#[inline(always)]
-fn version_now<'a>(originals: &'a Originals, frames: &Frames) -> Option<&'a Version>
-    ensures runs { let w = originals.now.setup in
-        IfSome result (λ x. RunsVersion w x.now frames.now.frames) }
-    ensures prepared { IfSome result (λ x. ArePrepared x.now) }
-{
-    let Some(here) = where_now(frames) else {
-        return None;
-    };
-    let Some(version) = originals.version(here.version) else {
-        return None;
-    };
-    Some(version)
 }
 
 /// Whether a probe tells there.

@@ -1,6 +1,6 @@
 use Rattle.std.proofs.Common.{sym, ◌∙◌}
 use Rattle.interpreter.proofs.Silent.PlainSteps.{runs-here}
-use Rattle.interpreter.proofs.execute.passing.version_now.Goals as goal
+use Rattle.interpreter.proofs.execute.plain.version_now.Goals as goal
 
 pub returns-clause-runs : goal.returns-clause-runs
 returns-clause-runs c =
