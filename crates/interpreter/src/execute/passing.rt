@@ -22,7 +22,7 @@ ghost use Rattle.prepared_code.specs.Initializations.{state_of};
 ghost use Rattle.interpreter.specs.Instructions.Passing.{Passes, is_method, on_frames};
 ghost use Rattle.interpreter.specs.Instructions.Passing.{changed_in, steps_if, with_changed};
 ghost use Rattle.prepared_code.specs.Ready.{CanRun, IsSoundIn};
-ghost use Rattle.prepared_code.specs.Runs.{IsAtInstruction};
+ghost use Rattle.prepared_code.specs.Runs.{IsAtInstruction, IsLineIn, RunsVersion};
 ghost use Rattle.prepared_code.specs.States.{here_of};
 ghost use Rattle.interpreter.specs.Moves.Calmly.{GoesBack, TriesIf, passed_there};
 ghost use Rattle.interpreter.specs.Moves.Onward.{ComesTo, GoesOnward, PassesOnward};
@@ -32,7 +32,7 @@ ghost use Rattle.prepared_code.specs.Versions.{current_of, line_at, mark_of};
 use crate::execute::arrays::pass_length;
 use crate::execute::going::{top_datum, value_of};
 use crate::execute::invoking::{begin_frame, may_begin};
-use crate::execute::plain::plain_steps;
+use crate::execute::plain::{plain_to, version_now};
 use crate::turns::hands::{Passed, gone_to};
 use crate::turns::turning::is_marked;
 use crate::unwind::catching::{catch_below, caught_below, thrown_object};
@@ -44,7 +44,8 @@ use jf_bytes::Stack;
 use jvm_basic::recall;
 use jvm_model::{Due, EventKind};
 use prepared_code::{
-    Action, Here, Initialization, Line, Originals, Parts, initialization_on, next_in, where_now,
+    Action, Here, Initialization, Line, Originals, Parts, Version, initialization_on, next_in,
+    where_now,
 };
 use std::alloc::Global;
 use symbolic_references::{
@@ -415,26 +416,27 @@ fn pass_named(
     ))
 }
 
-/// A step by the line at which the current frame stands, up to what a probe tells of it: what is due there, and nothing where the step
-/// is made. Nothing of the run is changed where the answer is None: the line does something else, or raises something, or nothing is
-/// known of its names.
+/// A step by a line at which the current frame stands, in the version that it runs, up to what a probe tells of it: what is due there,
+/// and nothing where the step is made. Nothing of the run is changed where the answer is None: the line does something else, or raises
+/// something, or nothing is known of its names.
 fn pass_line(
     alloc: Global,
     originals: &Originals,
     parts: &mut Parts,
     initializing: &Stack<Initialization>,
+    version: &Version,
+    line: &Line,
 ) -> Option<Due>
     requires run { CanRun originals.now.setup }
     requires linked { originals.now.loaded ≡ parts.old.shared.loaded }
     requires sound { IsSoundIn originals.now.setup (state_of initializing.now parts.old) }
     requires at_instruction { IsAtInstruction
         (length parts.old.frames.frames) initializing.now parts.old }
+    requires runs { RunsVersion originals.now.setup version.now parts.old.frames.frames }
+    requires stands { IsLineIn version.now parts.old.frames.frames line.now }
     ensures { GoesOnward originals.now.setup initializing.now parts.old result parts.new }
 {
     let Some(here) = where_now(&parts.frames) else {
-        return None;
-    };
-    let Some(line) = originals.line(here.version, here.place) else {
         return None;
     };
     match &line.action {
@@ -498,12 +500,18 @@ fn pass_to(
 {
     let mut made = 0;
     while made < most {
-        made += plain_steps(originals, parts, most - made);
-        if made == most {
+        let Some(version) = version_now(originals, &parts.frames) else {
             *count = made;
             return None;
-        }
-        let Some(due) = pass_line(alloc, originals, parts, initializing) else {
+        };
+        let mut plain = 0;
+        let stop = plain_to(version, parts, most - made, &mut plain);
+        made += plain;
+        let Some(line) = stop else {
+            *count = made;
+            return None;
+        };
+        let Some(due) = pass_line(alloc, originals, parts, initializing, version, line) else {
             *count = made;
             return None;
         };
