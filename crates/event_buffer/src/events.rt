@@ -4,7 +4,7 @@ ghost use Rattle.std.specs.Prelude.{◌≡◌, ◌+◌, ◌-◌, ◌≤◌, ◌<
 ghost use Rattle.event_buffer.specs.Buffers.{empty, event_pushed, rest_of, last_clock, used_of, length_of};
 
 use crate::numbers::take_number;
-use crate::records::{kind_of_number, length_of_record, put_record};
+use crate::records::{kind_of_number, length_of_record, put_record, put_small_record};
 use crate::room::Room;
 use jf_bytes::NoMemory;
 use jvm_model::Event;
@@ -55,9 +55,9 @@ impl Events {
         })
     }
 
-    /// Puts an event behind those that are held, where its record fits.
-    #[inline(always)]
-    pub fn push(&mut self, event: Event) -> Result<(), Full>
+    /// Puts an event behind those that are held, where its record fits, byte after byte.
+    #[inline(never)]
+    fn push_bytes(&mut self, event: Event) -> Result<(), Full>
         requires later { last_clock self.old ≤ event.clock }
         ensures full { IsErr result
             ↔ (self.old.capacity - used_of self.old < length_of self.old event) }
@@ -75,9 +75,27 @@ impl Events {
         Ok(())
     }
 
-    /// Takes the first event out. It is None exactly where nothing is held.
+    /// Puts an event behind those that are held, where its record fits.
     #[inline(always)]
-    pub fn pop(&mut self) -> Option<Event>
+    pub fn push(&mut self, event: Event) -> Result<(), Full>
+        requires later { last_clock self.old ≤ event.clock }
+        ensures full { IsErr result
+            ↔ (self.old.capacity - used_of self.old < length_of self.old event) }
+        ensures ok { OnOk result (self.new ≡ event_pushed self.old event) }
+        ensures err { OnErr result (self.new ≡ self.old) }
+        ensures clock { OnOk result (last_clock self.new ≡ event.clock) }
+        ensures room { self.old.events ≡ [] → 16 ≤ self.old.capacity → IsOk result }
+    {
+        if !put_small_record(&mut self.bytes, self.last, event) {
+            return self.push_bytes(event);
+        }
+        self.last = event.clock;
+        Ok(())
+    }
+
+    /// Takes the first event out, byte after byte. It is None exactly where nothing is held.
+    #[inline(never)]
+    fn pop_bytes(&mut self) -> Option<Event>
         ensures first { result ≡ slice_get self.old.events 0 }
         ensures rest { self.new ≡ rest_of self.old self.old.events }
         ensures clock { last_clock self.new ≡ last_clock self.old }
@@ -95,6 +113,24 @@ impl Events {
                 })
             }
         }
+    }
+
+    /// Takes the first event out. It is None exactly where nothing is held.
+    #[inline(always)]
+    pub fn pop(&mut self) -> Option<Event>
+        ensures first { result ≡ slice_get self.old.events 0 }
+        ensures rest { self.new ≡ rest_of self.old self.old.events }
+        ensures clock { last_clock self.new ≡ last_clock self.old }
+    {
+        let Some((kind, method, more)) = self.bytes.pop_three() else {
+            return self.pop_bytes();
+        };
+        self.popped += more as u64;
+        Some(Event {
+            kind: kind_of_number(kind),
+            method: method as u32,
+            clock: self.popped,
+        })
     }
 
     /// How many bytes the records that are held have.

@@ -1,6 +1,6 @@
 //! Bytes in room that is made once.
 
-ghost use Rattle.std.specs.Prelude.{◌≡◌, ◌+◌, ◌++◌, ◌∷◌, [], ◌≤◌, ◌<◌, ◌^◌, length, drop, slice_get, IfOk};
+ghost use Rattle.std.specs.Prelude.{◌≡◌, ◌+◌, ◌++◌, ◌∷◌, [], ◌≤◌, ◌<◌, ◌^◌, true, false, None, length, drop, slice_get, IfOk, IfSome};
 ghost use Rattle.event_buffer.specs.Rooms.{room_of};
 
 use jf_bytes::NoMemory;
@@ -87,33 +87,22 @@ impl Room {
         self.end += 1;
     }
 
-    /// Puts three bytes behind those that are held, one by one.
-    #[inline(never)]
-    fn push_each(&mut self, first: u8, second: u8, third: u8)
-        requires { length self.old.items + 3 ≤ self.old.capacity }
-        ensures { self.new
-            ≡ room_of (self.old.items ++ first ∷ second ∷ third ∷ []) self.old.capacity }
-    {
-        self.push_back(first);
-        self.push_back(second);
-        self.push_back(third);
-    }
-
-    /// Puts three bytes behind those that are held.
+    /// Puts three bytes behind those that are held, where there are three places behind them. Says whether it did.
     #[inline(always)]
-    pub(crate) fn push_three(&mut self, first: u8, second: u8, third: u8)
-        requires { length self.old.items + 3 ≤ self.old.capacity }
-        ensures { self.new
+    pub(crate) fn push_three(&mut self, first: u8, second: u8, third: u8) -> bool
+        ensures put { result ≡ true → self.new
             ≡ room_of (self.old.items ++ first ∷ second ∷ third ∷ []) self.old.capacity }
+        ensures fits { result ≡ true → length self.old.items + 3 ≤ self.old.capacity }
+        ensures kept { result ≡ false → self.new ≡ self.old }
     {
         if self.bytes.len() - self.end < 3 {
-            self.push_each(first, second, third);
-            return;
+            return false;
         }
         self.bytes[self.end] = first;
         self.bytes[self.end + 1] = second;
         self.bytes[self.end + 2] = third;
         self.end += 3;
+        true
     }
 
     /// Takes the first byte out.
@@ -130,5 +119,28 @@ impl Room {
         let byte = self.bytes[self.from];
         self.from += 1;
         Some(byte)
+    }
+
+    /// Takes the first three bytes out, where so many are held and the last two of them are numbers by themselves.
+    #[inline(always)]
+    pub(crate) fn pop_three(&mut self) -> Option<(u8, u8, u8)>
+        ensures taken { IfSome result (λ bytes. self.old.items
+            ≡ bytes.0 ∷ bytes.1 ∷ bytes.2 ∷ drop 3 self.old.items) }
+        ensures small { IfSome result (λ bytes. (bytes.1 < 128) × (bytes.2 < 128)) }
+        ensures items { IfSome result (λ bytes. self.new
+            ≡ room_of (drop 3 self.old.items) self.old.capacity) }
+        ensures kept { result ≡ None → self.new ≡ self.old }
+    {
+        if self.end - self.from < 3 {
+            return None;
+        }
+        let first = self.bytes[self.from];
+        let second = self.bytes[self.from + 1];
+        let third = self.bytes[self.from + 2];
+        if second >= 128 || third >= 128 {
+            return None;
+        }
+        self.from += 3;
+        Some((first, second, third))
     }
 }
