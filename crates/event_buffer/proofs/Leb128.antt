@@ -46,7 +46,7 @@ pub record IsFront (bytes : List ℕ) (n : ℕ) (rest : List ℕ) : Type 0 where
   pub value : number_in bytes ≡ n
   pub behind : behind_number bytes ≡ rest
 
-pub front-small : (n : ℕ) (rest : List ℕ) → n < 128 → IsFront (n ∷ rest) n rest
+front-small : (n : ℕ) (rest : List ℕ) → n < 128 → IsFront (n ∷ rest) n rest
 front-small n rest h = record {
   value = ap (λ b. if b then n else (n - 128) + 128 * number_in rest) (lt-ltb n 128 h);
   behind = ap (λ b. if b then rest else behind_number rest) (lt-ltb n 128 h);

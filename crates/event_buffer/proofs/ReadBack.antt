@@ -9,7 +9,7 @@ use Rattle.event_buffer.specs.Reading.{number_in, behind_number, kind_numbered, 
 use Rattle.event_buffer.specs.Rooms.{Room, room_of}
 use Rattle.event_buffer.specs.Buffers.{Held, clock_behind, rest_of}
 use Rattle.event_buffer.specs.Spelled.{IsNext, AreInOrder, AreRecords}
-use Rattle.event_buffer.proofs.Leb128.{front-small, leb128-front}
+use Rattle.event_buffer.proofs.Leb128.{leb128-front}
 
 abbrev pub option-of : Event → Option Event
 option-of e = Some e
@@ -210,25 +210,6 @@ pop-first popped last bytes kind capacity first second third method more are h e
           ∙ ap (λ n. held_of (events_in (popped + n) (behind_number (behind_number rest))) (popped + n) capacity) more_is
           ∙ sym (ap (rest_of (held_of (events_in popped bytes) popped capacity)) read);
     }
-
--- of a record of three bytes
-pub small-first : (popped last : ℕ) (bytes : List ℕ) (kind method more capacity : ℕ) (after : Room) → AreRecords popped last bytes
-    → bytes ≡ kind ∷ method ∷ more ∷ drop 3 bytes → method < 128 → more < 128 → after ≡ room_of (drop 3 bytes) capacity → PopsFirst popped last capacity kind bytes after method more
-small-first popped last bytes kind method more capacity after are taken m d is =
-    let first = front-small method (more ∷ drop 3 bytes) m in
-    let second = front-small more (drop 3 bytes) d in
-    pop-first popped last bytes kind capacity (room_of (method ∷ more ∷ drop 3 bytes) capacity) (room_of (more ∷ drop 3 bytes) capacity) after method more are
-    (sym (ap (λ (xs : List ℕ). slice_get xs 0) taken)) (sym (ap (λ (xs : List ℕ). room_of (drop 1 xs) capacity) taken)) (sym first.value)
-    (ap (λ xs. room_of xs capacity) (sym first.behind)) (sym second.value) (is ∙ ap (λ xs. room_of xs capacity) (sym second.behind))
-
-pub small-clock : (popped last : ℕ) (bytes : List ℕ) (kind method more : ℕ) → AreRecords popped last bytes → bytes ≡ kind ∷ method ∷ more ∷ drop 3 bytes → method < 128 → more < 128
-    → popped + more < 2 ^ 64
-small-clock popped last bytes kind method more are taken m d =
-    let first = front-small method (more ∷ drop 3 bytes) m in
-    let second = front-small more (drop 3 bytes) d in
-    subst (λ n. popped + n < 2 ^ 64) second.value
-    (pop-clock popped last bytes kind 0 (room_of (method ∷ more ∷ drop 3 bytes) 0) (room_of (more ∷ drop 3 bytes) 0) are (sym (ap (λ (xs : List ℕ). slice_get xs 0) taken))
-    (sym (ap (λ (xs : List ℕ). room_of (drop 1 xs) 0) taken)) (ap (λ xs. room_of xs 0) (sym first.behind)))
 
 -- ---- nothing is held
 

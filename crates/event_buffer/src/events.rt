@@ -93,9 +93,9 @@ impl Events {
         Ok(())
     }
 
-    /// Takes the first event out, byte after byte. It is None exactly where nothing is held.
-    #[inline(never)]
-    fn pop_bytes(&mut self) -> Option<Event>
+    /// Takes the first event out. It is None exactly where nothing is held.
+    #[inline(always)]
+    pub fn pop(&mut self) -> Option<Event>
         ensures first { result ≡ slice_get self.old.events 0 }
         ensures rest { self.new ≡ rest_of self.old self.old.events }
         ensures clock { last_clock self.new ≡ last_clock self.old }
@@ -113,24 +113,6 @@ impl Events {
                 })
             }
         }
-    }
-
-    /// Takes the first event out. It is None exactly where nothing is held.
-    #[inline(always)]
-    pub fn pop(&mut self) -> Option<Event>
-        ensures first { result ≡ slice_get self.old.events 0 }
-        ensures rest { self.new ≡ rest_of self.old self.old.events }
-        ensures clock { last_clock self.new ≡ last_clock self.old }
-    {
-        let Some((kind, method, more)) = self.bytes.pop_three() else {
-            return self.pop_bytes();
-        };
-        self.popped += more as u64;
-        Some(Event {
-            kind: kind_of_number(kind),
-            method: method as u32,
-            clock: self.popped,
-        })
     }
 
     /// How many bytes the records that are held have.

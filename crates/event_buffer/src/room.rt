@@ -1,6 +1,6 @@
 //! Bytes in room that is made once.
 
-ghost use Rattle.std.specs.Prelude.{◌≡◌, ◌+◌, ◌++◌, ◌∷◌, [], ◌≤◌, ◌<◌, ◌^◌, true, false, None, length, drop, slice_get, IfOk, IfSome};
+ghost use Rattle.std.specs.Prelude.{◌≡◌, ◌+◌, ◌++◌, ◌∷◌, [], ◌≤◌, ◌<◌, ◌^◌, true, false, length, drop, slice_get, IfOk};
 ghost use Rattle.event_buffer.specs.Rooms.{room_of};
 
 use jf_bytes::NoMemory;
@@ -119,28 +119,5 @@ impl Room {
         let byte = self.bytes[self.from];
         self.from += 1;
         Some(byte)
-    }
-
-    /// Takes the first three bytes out, where so many are held and the last two of them are numbers by themselves.
-    #[inline(always)]
-    pub(crate) fn pop_three(&mut self) -> Option<(u8, u8, u8)>
-        ensures taken { IfSome result (λ bytes. self.old.items
-            ≡ bytes.0 ∷ bytes.1 ∷ bytes.2 ∷ drop 3 self.old.items) }
-        ensures small { IfSome result (λ bytes. (bytes.1 < 128) × (bytes.2 < 128)) }
-        ensures items { IfSome result (λ bytes. self.new
-            ≡ room_of (drop 3 self.old.items) self.old.capacity) }
-        ensures kept { result ≡ None → self.new ≡ self.old }
-    {
-        if self.end - self.from < 3 {
-            return None;
-        }
-        let first = self.bytes[self.from];
-        let second = self.bytes[self.from + 1];
-        let third = self.bytes[self.from + 2];
-        if second >= 128 || third >= 128 {
-            return None;
-        }
-        self.from += 3;
-        Some((first, second, third))
     }
 }
