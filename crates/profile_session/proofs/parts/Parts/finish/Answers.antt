@@ -15,6 +15,15 @@ pub returns-in-Some : goal.returns-in-Some
 returns-in-Some c =
     finished-by c.args.self.now c.args.last c.loop-turn.self c.go_on.new.self c.loop-turn.invariant c.in_ok-turn.turn c.in-Some.ended (sym c.ended_by.ensures ∙ c.in-Some.is) c.in_ok-turn.ensures
 
+-- where the turn has nothing to give back, and where it has
+pub loop-turn-preserved : goal.loop-turn-preserved
+loop-turn-preserved c =
+    (onward-by c.args.self.now c.args.last c.loop-turn.self c.go_on.new.self c.loop-turn.invariant c.in_ok-turn.turn (sym c.ended_by.ensures ∙ c.in-None.is) c.in_ok-turn.ensures).along
+
+pub loop-turn-smaller : goal.loop-turn-smaller
+loop-turn-smaller c =
+    (onward-by c.args.self.now c.args.last c.loop-turn.self c.go_on.new.self c.loop-turn.invariant c.in_ok-turn.turn (sym c.ended_by.ensures ∙ c.in-None.is) c.in_ok-turn.ensures).down
+
 pub loop-turn-preserved-in-None : goal.loop-turn-preserved-in-None
 loop-turn-preserved-in-None c =
     (onward-by c.args.self.now c.args.last c.loop-turn.self c.go_on.new.self c.loop-turn.invariant c.in_ok-turn.turn (sym c.ended_by.ensures ∙ c.in-None.is) c.in_ok-turn.ensures).along
