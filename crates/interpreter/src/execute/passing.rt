@@ -27,6 +27,8 @@ ghost use Rattle.prepared_code.specs.States.{here_of};
 ghost use Rattle.interpreter.specs.Moves.Calmly.{GoesBack, TriesIf, passed_there};
 ghost use Rattle.interpreter.specs.Moves.Onward.{ComesTo, GoesOnward, PassesOnward};
 ghost use Rattle.interpreter.specs.Moves.Onward.{begun_due, is_telling, made_if};
+ghost use Rattle.method_versions.specs.Tables.{is_superseded_in};
+ghost use Rattle.prepared_code.specs.Tables.{version_at};
 ghost use Rattle.prepared_code.specs.Versions.{current_of, line_at, mark_of};
 
 use crate::execute::arrays::pass_length;
@@ -42,7 +44,7 @@ use frame_stack::Frames;
 use heap_objects::{Datum, Value};
 use jf_bytes::Stack;
 use jvm_basic::recall;
-use jvm_model::{Due, EventKind};
+use jvm_model::{Due, EventKind, Mark};
 use prepared_code::{
     Action, Here, Initialization, Line, Originals, Parts, Version, initialization_on, next_in,
     where_now,
@@ -268,6 +270,33 @@ pub fn goes_back(
     next_in(line)
 }
 
+/// The numbers of versions are below this one.
+const MOST_VERSIONS: usize = 4294967296;
+
+/// Whether its method begins in a version, of which the number is given.
+#[inline(always)]
+fn begins_in(originals: &Originals, version: &Version, number: usize) -> bool
+    requires { version_at originals.now.setup.versions number ≡ Some version.now }
+    ensures { let v = originals.now.setup.versions in
+        result ≡ true → is_superseded_in v.slots v.current number ≡ false }
+{
+    if number >= MOST_VERSIONS {
+        return false;
+    }
+    originals.current(version.method) == number
+}
+
+/// Whether a version has probes.
+#[inline(always)]
+fn is_probed(version: &Version) -> bool
+    ensures { result ≡ not (is_off version.now.prepared.mark) }
+{
+    match version.prepared.mark {
+        Mark::Plain | Mark::Root => true,
+        Mark::Off => false,
+    }
+}
+
 /// A return from a version that is its method's current one; its probe has told, if it has one. False, with nothing changed, where the
 /// caller can't go on.
 #[inline(always)]
@@ -276,6 +305,7 @@ pub fn leave(
     parts: &mut Parts,
     initializing: &Stack<Initialization>,
     here: Here,
+    version: &Version,
     line: &Line,
     kind: Option<Kind>,
 ) -> bool
@@ -283,15 +313,18 @@ pub fn leave(
     requires at_instruction { IsAtInstruction
         (length parts.old.frames.frames) initializing.now parts.old }
     requires here { here_of parts.old.frames.frames ≡ Some here }
+    requires runs { version_at originals.now.setup.versions here.version ≡ Some version.now }
     requires line { line_at originals.now.setup.versions here.version here.place ≡ Some line.now }
     requires ends { line.now.action ≡ action.Return kind }
     ensures delivered { let w = originals.now.setup in
         TriesIf result w initializing.now true parts.old due.Nothing parts.new }
+    ensures calm { result ≡ true → IsAtInstruction
+        (length parts.new.frames.frames) initializing.now parts.new }
     // Where the version has no probes nothing is told of it.
     ensures silent { let w = originals.now.setup in is_off (mark_of w.versions here.version) ≡ true
         → Passes w initializing.now parts.old (steps_if result) parts.new }
 {
-    if !originals.is_current(here.version) {
+    if !begins_in(originals, version, here.version) {
         return false;
     }
     let Some(next) = goes_back(originals, &parts.frames, initializing) else {
@@ -310,6 +343,7 @@ fn pass_return(
     parts: &mut Parts,
     initializing: &Stack<Initialization>,
     here: Here,
+    version: &Version,
     line: &Line,
     kind: Option<Kind>,
 ) -> Option<Due>
@@ -317,14 +351,23 @@ fn pass_return(
     requires at_instruction { IsAtInstruction
         (length parts.old.frames.frames) initializing.now parts.old }
     requires here { here_of parts.old.frames.frames ≡ Some here }
+    requires runs { version_at originals.now.setup.versions here.version ≡ Some version.now }
     requires line { line_at originals.now.setup.versions here.version here.place ≡ Some line.now }
     requires ends { line.now.action ≡ action.Return kind }
     ensures { GoesOnward originals.now.setup initializing.now parts.old result parts.new }
 {
-    if is_marked(originals, here.version) {
+    if is_probed(version) {
         return Some(Due::Ends(EventKind::Leave));
     }
-    made_if(leave(originals, parts, initializing, here, line, kind))
+    made_if(leave(
+        originals,
+        parts,
+        initializing,
+        here,
+        version,
+        line,
+        kind,
+    ))
 }
 
 // ---- a throw
@@ -449,7 +492,15 @@ fn pass_line(
             line,
             naming,
         ),
-        Action::Return(kind) => pass_return(originals, parts, initializing, here, line, *kind),
+        Action::Return(kind) => pass_return(
+            originals,
+            parts,
+            initializing,
+            here,
+            version,
+            line,
+            *kind,
+        ),
         Action::Athrow => made_if(pass_throw(originals, parts, initializing, here, line)),
         Action::Arraylength => made_if(pass_measure(originals, parts, initializing, here, line)),
         _ => None,

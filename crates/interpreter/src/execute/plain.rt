@@ -70,10 +70,10 @@ fn pass_alone(line: &Line, frames: &mut Frames) -> bool
     matches!(effect, Effect::Next)
 }
 
-/// Does a line that the current frame does by itself, or that loads or stores an element and raises nothing. False, with nothing
-/// changed, where it is none, or the frame does not go on. It is a call of its own, so that the loop stays small.
+/// Does a line that the current frame does by itself, or that loads or stores an element and raises nothing, by its action. False, with
+/// nothing changed, where the frame does not go on. It is a call of its own, so that the loop stays small.
 #[inline(never)]
-fn pass_cold(line: &Line, parts: &mut Parts) -> bool
+fn pass_by_action(line: &Line, parts: &mut Parts) -> bool
     requires { line.now.family ≡ family_of line.now.instr.op }
     ensures gone { result ≡ true → IsPassed line.now parts.old parts.new }
     ensures kept { result ≡ false → parts.new ≡ parts.old }
@@ -82,6 +82,21 @@ fn pass_cold(line: &Line, parts: &mut Parts) -> bool
         Action::Local => pass_alone(line, &mut parts.frames),
         Action::LoadElement(kind) => pass_load(parts, line, kind),
         Action::StoreElement(kind) => pass_store(parts, line, kind),
+        _ => false,
+    }
+}
+
+/// The same; where it is none, as mostly, it is a test.
+#[inline(always)]
+fn pass_cold(line: &Line, parts: &mut Parts) -> bool
+    requires { line.now.family ≡ family_of line.now.instr.op }
+    ensures gone { result ≡ true → IsPassed line.now parts.old parts.new }
+    ensures kept { result ≡ false → parts.new ≡ parts.old }
+{
+    match line.action {
+        Action::Local | Action::LoadElement(_) | Action::StoreElement(_) => {
+            pass_by_action(line, parts)
+        }
         _ => false,
     }
 }

@@ -1,11 +1,12 @@
 use Rattle.std.proofs.Common.{◌≡◌, List, [], ◌∷◌, Option, Some, sym, subst, ◌∙◌}
 use Rattle.std.specs.Option.{IfSome}
+use Rattle.std.proofs.lemmas.Option.{none-some}
 use Rattle.frame_stack.specs.FrameLists.{PlacedFrame}
 use Rattle.prepared_code.specs.declared.line.Line.{Line}
 use Rattle.prepared_code.specs.declared.parts.Here.{Here}
 use Rattle.prepared_code.specs.Runs.{IsLineIn, RunsVersion}
 use Rattle.prepared_code.specs.States.{here_of}
-use Rattle.prepared_code.specs.Tables.{Version}
+use Rattle.prepared_code.specs.Tables.{Version, version_at}
 use Rattle.prepared_code.specs.Versions.{Setup, line_at}
 use Rattle.interpreter.proofs.Instructions.ElementSteps.{stands-there}
 use Rattle.interpreter.specs.Moves.Onward.{GoesOnward}
@@ -19,6 +20,16 @@ at-here : (w : Setup) (x : Version) (fs : List PlacedFrame) (line : Line) (here 
 at-here w x [] line here stands runs is = absurd is
 at-here w x (f ∷ fs) line here stands runs is =
     subst (λ (o : Option Here). IfSome o (λ h. line_at w.versions h.version h.place ≡ Some line)) stands (stands-there w x (f ∷ fs) line runs is)
+
+-- and the version is the one with its number
+at-version : (w : Setup) (x : Version) (fs : List PlacedFrame) (here : Here) → here_of fs ≡ Some here → RunsVersion w x fs
+    → version_at w.versions here.version ≡ Some x
+at-version w x [] here stands runs = absurd (none-some stands)
+at-version w x (f ∷ fs) here stands runs = subst (λ (o : Option Here). IfSome o (λ h. version_at w.versions h.version ≡ Some x)) stands runs
+
+pub pass_return-requires-clause-runs : goal.pass_return-requires-clause-runs
+pass_return-requires-clause-runs c =
+    at-version c.args.originals.now.setup c.args.version.now c.args.parts.now.frames.frames c.in-Some.here (sym c.where_now.ensures ∙ c.in-Some.is) c.requires.runs
 
 pub pass_named-requires-clause-here : goal.pass_named-requires-clause-here
 pass_named-requires-clause-here c = sym c.where_now.ensures ∙ c.in-Some.is
