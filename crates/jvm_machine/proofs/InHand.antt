@@ -99,7 +99,7 @@ module _ (w : Setup) (loaded : List ℕ) (hand : Hand) (started broken : Bool) (
     pub ends-none : (all : Option Gone) (new : Parts) → None ≡ all → StopsIf w ms between all new → (h : Hand) → h ≡ left_in gone → Ended h (clock + n) None new
     ends-none all new e is h left =
         let behind = behind-none w loaded (left_in gone) started broken clock ms after first first-keeps (plain-view w loaded (left_in gone) started broken clock (state_of ms after) (λ same. tidy)) begun_is
-            whole rests n between silent all new e is in
+        whole rests n between silent all new e is in
         subst (λ x. Ended x (clock + n) None new) (sym left)
         (record { kept = behind.kept; passes = record { first = first; ends = ends; behind = behind.passes } })
 
@@ -107,5 +107,5 @@ module _ (w : Setup) (loaded : List ℕ) (hand : Hand) (started broken : Bool) (
         → Ended h c (Some next.due) new
     ends-some all next new e is c ticks h left =
         let behind = behind-some w loaded (left_in gone) started broken clock ms after first first-keeps (plain-view w loaded (left_in gone) started broken clock (state_of ms after) (λ same. tidy)) begun_is
-            whole rests n between silent all next new e is c ticks h left in
+        whole rests n between silent all next new e is c ticks h left in
         record { kept = behind.kept; passes = record { first = first; ends = ends; behind = behind.passes } }

@@ -87,14 +87,14 @@ first-more old mid new most t first runs some =
 -- and then so many more and a turn
 pub ends-on : (old new : View) (n most : ℕ) (t : Turn) → EndsBehind old n t new → n + 2 ≤ most → (is_settled t ≡ true → n + 2 ≡ most) → RunsOn old most t new
 ends-on old new n most t is within all =
-    runs-on old is.first is.behind.between new 1 n most t (more 0 old old is.first none is.ends) is.behind.passes is.behind.last (omega (arith, within))
+    runs-on old is.first is.behind.between new 1 n most t (more 0 old is.first none is.ends) is.behind.passes is.behind.last (omega (arith, within))
     (λ settled. let last = all settled in omega (arith, last))
 
 -- and several more
 pub ends-more : (old mid new : View) (n most : ℕ) (t : Turn) → EndsBehind old n Settled mid → RunsOn mid (most - (n + 2)) t new → n + 2 ≤ most → RunsOn old most t new
 ends-more old mid new n most t is runs within =
     let behind = is.behind in
-    let upto = passes-more old is.first behind.between 1 n (more 0 old old is.first none is.ends) behind.passes in
+    let upto = passes-more old is.first behind.between 1 n (more 0 old is.first none is.ends) behind.passes in
     let last = more (1 + n) behind.between mid upto behind.last in
     let inner = runs.within in
     record {

@@ -369,25 +369,25 @@ impl Vm {
         let Some(gone) = gone else {
             return None;
         };
-        let passed = pass_steps(
+        let behind = pass_steps(
             self.alloc,
             &self.originals,
             &mut self.parts,
             &self.initializing,
             most - 2,
         );
-        self.clock += passed.made;
-        let Some(next) = passed.gone else {
+        self.clock += behind.made;
+        let Some(next) = behind.gone else {
             self.hand = hand_left(gone);
             return Some(Passage {
-                made: passed.made,
+                made: behind.made,
                 due: None,
             });
         };
         self.clock += 1;
         self.hand = hand_left(next);
         Some(Passage {
-            made: passed.made,
+            made: behind.made,
             due: Some(next.due),
         })
     }

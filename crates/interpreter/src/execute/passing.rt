@@ -359,15 +359,7 @@ fn pass_return(
     if is_probed(version) {
         return Some(Due::Ends(EventKind::Leave));
     }
-    made_if(leave(
-        originals,
-        parts,
-        initializing,
-        here,
-        version,
-        line,
-        kind,
-    ))
+    made_if(leave(originals, parts, initializing, here, version, line, kind))
 }
 
 // ---- a throw

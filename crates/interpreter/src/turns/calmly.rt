@@ -41,15 +41,7 @@ fn end_told(originals: &Originals, parts: &mut Parts, initializing: &Stack<Initi
         return false;
     };
     match line.action {
-        Action::Return(kind) => leave(
-            originals,
-            parts,
-            initializing,
-            here,
-            version,
-            line,
-            kind,
-        ),
+        Action::Return(kind) => leave(originals, parts, initializing, here, version, line, kind),
         _ => false,
     }
 }

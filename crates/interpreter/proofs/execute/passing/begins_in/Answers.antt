@@ -6,9 +6,6 @@ use Rattle.method_versions.specs.Tables.{current_in, held_in, is_number, is_old,
 use Rattle.prepared_code.specs.Tables.{Version}
 use Rattle.interpreter.proofs.execute.passing.begins_in.Goals as goal
 
-
-
-
 -- it is the number of one, since it is below what stands for none
 is-number : (o : Option ℕ) (number m : ℕ) → (unwrap_or o (4294967296 + m) == number) ≡ true → number < 4294967296 → not (is_number number o) ≡ false
 is-number None number m same less = absurd (let e = eqb-true (4294967296 + m) number same in omega (arith, e, less))
@@ -22,5 +19,5 @@ current-by slots current number x there same less =
 pub returns : goal.returns
 returns c = λ same.
     let v = c.args.originals.now.setup.versions in
-    let most = c.if-number.false in
+    let most = c.if-number-ge-MOST_VERSIONS.false in
     current-by v.slots v.current c.args.number c.args.version.now c.requires (subst (λ n. (n == c.args.number) ≡ true) c.current.ensures same) (omega (arith, most))

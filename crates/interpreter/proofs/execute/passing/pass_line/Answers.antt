@@ -24,7 +24,7 @@ at-here w x (f ∷ fs) line here stands runs is =
 -- and the version is the one with its number
 at-version : (w : Setup) (x : Version) (fs : List PlacedFrame) (here : Here) → here_of fs ≡ Some here → RunsVersion w x fs
     → version_at w.versions here.version ≡ Some x
-at-version w x [] here stands runs = absurd (none-some stands)
+at-version w x [] here stands runs = absurd (none-some here stands)
 at-version w x (f ∷ fs) here stands runs = subst (λ (o : Option Here). IfSome o (λ h. version_at w.versions h.version ≡ Some x)) stands runs
 
 pub pass_return-requires-clause-runs : goal.pass_return-requires-clause-runs

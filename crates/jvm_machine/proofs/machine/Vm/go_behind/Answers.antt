@@ -15,17 +15,17 @@ of-passage o p old new is said = subst (λ o. IfSome o (λ (p : Passage). EndsUp
 pub turn-requires-clause-whole : goal.turn-requires-clause-whole
 turn-requires-clause-whole c =
     let e = of-passage c.pass_behind.result c.in-Some.passed c.args.self.now c.pass_behind.new.self c.in-Some.is c.pass_behind.ensures.passes in
-    (subst (λ o. ReachesIf e.behind.between o c.pass_behind.new.self) c.in-Some-passed.is e.behind.reaches).after
+    (subst (λ o. ReachesIf e.behind.between o c.pass_behind.new.self) c.in-Some-due.is e.behind.reaches).after
 
 pub turn-requires-clause-rests : goal.turn-requires-clause-rests
 turn-requires-clause-rests c =
     let e = of-passage c.pass_behind.result c.in-Some.passed c.args.self.now c.pass_behind.new.self c.in-Some.is c.pass_behind.ensures.passes in
-    rests-then e.behind.between c.pass_behind.new.self c.in-Some-passed.due (subst (λ o. ReachesIf e.behind.between o c.pass_behind.new.self) c.in-Some-passed.is e.behind.reaches).stops
+    rests-then e.behind.between c.pass_behind.new.self c.in-Some-due.due (subst (λ o. ReachesIf e.behind.between o c.pass_behind.new.self) c.in-Some-due.is e.behind.reaches).stops
 
-pub returns-in-Some-clause-turns : goal.returns-in-Some-clause-turns
-returns-in-Some-clause-turns c =
+pub returns-in-Some-due-clause-turns : goal.returns-in-Some-due-clause-turns
+returns-in-Some-due-clause-turns c =
     let e = of-passage c.pass_behind.result c.in-Some.passed c.args.self.now c.pass_behind.new.self c.in-Some.is c.pass_behind.ensures.passes in
-    let r = subst (λ o. ReachesIf e.behind.between o c.pass_behind.new.self) c.in-Some-passed.is e.behind.reaches in
+    let r = subst (λ o. ReachesIf e.behind.between o c.pass_behind.new.self) c.in-Some-due.is e.behind.reaches in
     record {
       first = e.first;
       ends = e.ends;
@@ -33,7 +33,7 @@ returns-in-Some-clause-turns c =
         between = e.behind.between;
         passes = e.behind.passes;
         last = subst (λ t. Turns e.behind.between t c.pass_behind.new.self) (sym c.turn.ensures)
-            (turned e.behind.between c.pass_behind.new.self c.in-Some-passed.due r.whole r.went_on r.stops r.leaves);
+            (turned e.behind.between c.pass_behind.new.self c.in-Some-due.due r.whole r.went_on r.stops r.leaves);
       };
     }
 

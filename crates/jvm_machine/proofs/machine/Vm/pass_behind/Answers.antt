@@ -28,11 +28,11 @@ invariant_of-self c =
     (sym (subst (λ o. IfNone o (state_of c.self.inside.initializing c.go_calmly-gone.new.parts ≡ state_of c.self.inside.initializing c.self.inside.parts)) c.in_default.is c.go_calmly-gone.ensures.none)) c.self.invariant
 
 -- steps behind the one in hand
-pub pass_steps-passed-requires-clause-run : goal.pass_steps-passed-requires-clause-run
-pass_steps-passed-requires-clause-run c = set-up-runs c.self.inside.originals.setup c.self.invariant.machine.homes c.self.invariant.machine.has
+pub pass_steps-behind-requires-clause-run : goal.pass_steps-behind-requires-clause-run
+pass_steps-behind-requires-clause-run c = set-up-runs c.self.inside.originals.setup c.self.invariant.machine.homes c.self.invariant.machine.has
 
-pub pass_steps-passed-requires-clause-linked : goal.pass_steps-passed-requires-clause-linked
-pass_steps-passed-requires-clause-linked c =
+pub pass_steps-behind-requires-clause-linked : goal.pass_steps-behind-requires-clause-linked
+pass_steps-behind-requires-clause-linked c =
     linked-behind c.self.inside.originals.setup c.self.inside.originals.loaded c.self.inside.hand c.self.inside.started c.self.inside.broken c.self.inside.clock c.self.inside.initializing c.self.inside.parts
     c.args.self.now c.self.invariant c.self.view_is c.if-not-self.false c.if-self.false c.requires.in_hand c.go_calmly-gone.new.parts c.in-Some.gone
     (subst (λ o. IfSome o (λ gone. GoesCalmly c.self.inside.originals.setup c.self.inside.initializing c.self.inside.hand c.self.inside.parts gone c.go_calmly-gone.new.parts)) c.in-Some.is c.go_calmly-gone.ensures.goes)
@@ -42,8 +42,8 @@ pass_steps-passed-requires-clause-linked c =
     (subst (λ o. IfSome o (λ (gone : Gone). gone.due ≡ Nothing)) c.in-Some.is c.go_calmly-gone.ensures.done)
     (subst (λ o. IfSome o (λ (gone : Gone). IsAtInstruction (length c.go_calmly-gone.new.parts.frames.frames) c.self.inside.initializing c.go_calmly-gone.new.parts)) c.in-Some.is c.go_calmly-gone.ensures.calm)
 
-pub pass_steps-passed-requires-clause-sound : goal.pass_steps-passed-requires-clause-sound
-pass_steps-passed-requires-clause-sound c =
+pub pass_steps-behind-requires-clause-sound : goal.pass_steps-behind-requires-clause-sound
+pass_steps-behind-requires-clause-sound c =
     sound-behind c.self.inside.originals.setup c.self.inside.originals.loaded c.self.inside.hand c.self.inside.started c.self.inside.broken c.self.inside.clock c.self.inside.initializing c.self.inside.parts
     c.args.self.now c.self.invariant c.self.view_is c.if-not-self.false c.if-self.false c.requires.in_hand c.go_calmly-gone.new.parts c.in-Some.gone
     (subst (λ o. IfSome o (λ gone. GoesCalmly c.self.inside.originals.setup c.self.inside.initializing c.self.inside.hand c.self.inside.parts gone c.go_calmly-gone.new.parts)) c.in-Some.is c.go_calmly-gone.ensures.goes)
@@ -53,12 +53,12 @@ pass_steps-passed-requires-clause-sound c =
     (subst (λ o. IfSome o (λ (gone : Gone). gone.due ≡ Nothing)) c.in-Some.is c.go_calmly-gone.ensures.done)
     (subst (λ o. IfSome o (λ (gone : Gone). IsAtInstruction (length c.go_calmly-gone.new.parts.frames.frames) c.self.inside.initializing c.go_calmly-gone.new.parts)) c.in-Some.is c.go_calmly-gone.ensures.calm)
 
-pub pass_steps-passed-requires-clause-at_instruction : goal.pass_steps-passed-requires-clause-at_instruction
-pass_steps-passed-requires-clause-at_instruction c = (subst (λ o. IfSome o (λ (gone : Gone). IsAtInstruction (length c.go_calmly-gone.new.parts.frames.frames) c.self.inside.initializing c.go_calmly-gone.new.parts)) c.in-Some.is c.go_calmly-gone.ensures.calm)
+pub pass_steps-behind-requires-clause-at_instruction : goal.pass_steps-behind-requires-clause-at_instruction
+pass_steps-behind-requires-clause-at_instruction c = (subst (λ o. IfSome o (λ (gone : Gone). IsAtInstruction (length c.go_calmly-gone.new.parts.frames.frames) c.self.inside.initializing c.go_calmly-gone.new.parts)) c.in-Some.is c.go_calmly-gone.ensures.calm)
 
 -- nothing is told of the next one
-pub invariant_of-self-2 : goal.invariant_of-self-2
-invariant_of-self-2 c = (ends-none c.self.inside.originals.setup c.self.inside.originals.loaded c.self.inside.hand c.self.inside.started c.self.inside.broken c.self.inside.clock c.self.inside.initializing c.self.inside.parts
+pub invariant_of-self-in_default-gone : goal.invariant_of-self-in_default-gone
+invariant_of-self-in_default-gone c = (ends-none c.self.inside.originals.setup c.self.inside.originals.loaded c.self.inside.hand c.self.inside.started c.self.inside.broken c.self.inside.clock c.self.inside.initializing c.self.inside.parts
     c.args.self.now c.self.invariant c.self.view_is c.if-not-self.false c.if-self.false c.requires.in_hand c.go_calmly-gone.new.parts c.in-Some.gone
     (subst (λ o. IfSome o (λ gone. GoesCalmly c.self.inside.originals.setup c.self.inside.initializing c.self.inside.hand c.self.inside.parts gone c.go_calmly-gone.new.parts)) c.in-Some.is c.go_calmly-gone.ensures.goes)
     (subst (λ o. IfSome o (λ gone. GoesOnFrom c.self.inside.originals.setup c.self.inside.hand (state_of c.self.inside.initializing c.self.inside.parts) gone (state_of c.self.inside.initializing c.go_calmly-gone.new.parts))) c.in-Some.is c.go_calmly-gone.ensures.hands)
@@ -66,11 +66,11 @@ invariant_of-self-2 c = (ends-none c.self.inside.originals.setup c.self.inside.o
     (subst (λ o. IfSome o (λ gone. c.self.inside.hand.moves ≡ true → c.self.inside.hand.delivered ≡ false → state_of c.self.inside.initializing c.self.inside.parts ≡ starts_with c.self.inside.originals.setup.world → IsSoundIn c.self.inside.originals.setup (state_of c.self.inside.initializing c.go_calmly-gone.new.parts))) c.in-Some.is c.go_calmly-gone.ensures.starts)
     (subst (λ o. IfSome o (λ (gone : Gone). gone.due ≡ Nothing)) c.in-Some.is c.go_calmly-gone.ensures.done)
     (subst (λ o. IfSome o (λ (gone : Gone). IsAtInstruction (length c.go_calmly-gone.new.parts.frames.frames) c.self.inside.initializing c.go_calmly-gone.new.parts)) c.in-Some.is c.go_calmly-gone.ensures.calm)
-    c.pass_steps-passed.result.made c.pass_steps-passed.ensures.made.between c.pass_steps-passed.ensures.made.passes c.pass_steps-passed.result.gone c.pass_steps-passed.new.parts (sym c.in_default-passed.is)
-    c.pass_steps-passed.ensures.made.stops c.hand_left-self-inside.result c.hand_left-self-inside.ensures).kept
+    c.pass_steps-behind.result.made c.pass_steps-behind.ensures.made.between c.pass_steps-behind.ensures.made.passes c.pass_steps-behind.result.gone c.pass_steps-behind.new.parts (sym c.in_default-gone.is)
+    c.pass_steps-behind.ensures.made.stops c.hand_left-self-inside.result c.hand_left-self-inside.ensures).kept
 
-pub returns-in_default-passed-clause-passes : goal.returns-in_default-passed-clause-passes
-returns-in_default-passed-clause-passes c = (ends-none c.self.inside.originals.setup c.self.inside.originals.loaded c.self.inside.hand c.self.inside.started c.self.inside.broken c.self.inside.clock c.self.inside.initializing c.self.inside.parts
+pub returns-in_default-gone-clause-passes : goal.returns-in_default-gone-clause-passes
+returns-in_default-gone-clause-passes c = (ends-none c.self.inside.originals.setup c.self.inside.originals.loaded c.self.inside.hand c.self.inside.started c.self.inside.broken c.self.inside.clock c.self.inside.initializing c.self.inside.parts
     c.args.self.now c.self.invariant c.self.view_is c.if-not-self.false c.if-self.false c.requires.in_hand c.go_calmly-gone.new.parts c.in-Some.gone
     (subst (λ o. IfSome o (λ gone. GoesCalmly c.self.inside.originals.setup c.self.inside.initializing c.self.inside.hand c.self.inside.parts gone c.go_calmly-gone.new.parts)) c.in-Some.is c.go_calmly-gone.ensures.goes)
     (subst (λ o. IfSome o (λ gone. GoesOnFrom c.self.inside.originals.setup c.self.inside.hand (state_of c.self.inside.initializing c.self.inside.parts) gone (state_of c.self.inside.initializing c.go_calmly-gone.new.parts))) c.in-Some.is c.go_calmly-gone.ensures.hands)
@@ -78,18 +78,18 @@ returns-in_default-passed-clause-passes c = (ends-none c.self.inside.originals.s
     (subst (λ o. IfSome o (λ gone. c.self.inside.hand.moves ≡ true → c.self.inside.hand.delivered ≡ false → state_of c.self.inside.initializing c.self.inside.parts ≡ starts_with c.self.inside.originals.setup.world → IsSoundIn c.self.inside.originals.setup (state_of c.self.inside.initializing c.go_calmly-gone.new.parts))) c.in-Some.is c.go_calmly-gone.ensures.starts)
     (subst (λ o. IfSome o (λ (gone : Gone). gone.due ≡ Nothing)) c.in-Some.is c.go_calmly-gone.ensures.done)
     (subst (λ o. IfSome o (λ (gone : Gone). IsAtInstruction (length c.go_calmly-gone.new.parts.frames.frames) c.self.inside.initializing c.go_calmly-gone.new.parts)) c.in-Some.is c.go_calmly-gone.ensures.calm)
-    c.pass_steps-passed.result.made c.pass_steps-passed.ensures.made.between c.pass_steps-passed.ensures.made.passes c.pass_steps-passed.result.gone c.pass_steps-passed.new.parts (sym c.in_default-passed.is)
-    c.pass_steps-passed.ensures.made.stops c.hand_left-self-inside.result c.hand_left-self-inside.ensures).passes
+    c.pass_steps-behind.result.made c.pass_steps-behind.ensures.made.between c.pass_steps-behind.ensures.made.passes c.pass_steps-behind.result.gone c.pass_steps-behind.new.parts (sym c.in_default-gone.is)
+    c.pass_steps-behind.ensures.made.stops c.hand_left-self-inside.result c.hand_left-self-inside.ensures).passes
 
 -- a probe tells of it
 pub overflow_add-self-2 : goal.overflow_add-self-2
 overflow_add-self-2 c =
-    let less = subst (λ o. IfSome o (λ (gone : Gone). c.pass_steps-passed.result.made < c.args.most - 2)) c.in-Some-passed.is c.pass_steps-passed.ensures.below in
+    let less = subst (λ o. IfSome o (λ (gone : Gone). c.pass_steps-behind.result.made < c.args.most - 2)) c.in-Some-gone.is c.pass_steps-behind.ensures.below in
     let clock = ap (λ (x : View). x.clock) c.self.view_is in
     omega (arith, less, clock, c.requires.below)
 
-pub invariant_of-self-3 : goal.invariant_of-self-3
-invariant_of-self-3 c = (ends-some c.self.inside.originals.setup c.self.inside.originals.loaded c.self.inside.hand c.self.inside.started c.self.inside.broken c.self.inside.clock c.self.inside.initializing c.self.inside.parts
+pub invariant_of-self-2 : goal.invariant_of-self-2
+invariant_of-self-2 c = (ends-some c.self.inside.originals.setup c.self.inside.originals.loaded c.self.inside.hand c.self.inside.started c.self.inside.broken c.self.inside.clock c.self.inside.initializing c.self.inside.parts
     c.args.self.now c.self.invariant c.self.view_is c.if-not-self.false c.if-self.false c.requires.in_hand c.go_calmly-gone.new.parts c.in-Some.gone
     (subst (λ o. IfSome o (λ gone. GoesCalmly c.self.inside.originals.setup c.self.inside.initializing c.self.inside.hand c.self.inside.parts gone c.go_calmly-gone.new.parts)) c.in-Some.is c.go_calmly-gone.ensures.goes)
     (subst (λ o. IfSome o (λ gone. GoesOnFrom c.self.inside.originals.setup c.self.inside.hand (state_of c.self.inside.initializing c.self.inside.parts) gone (state_of c.self.inside.initializing c.go_calmly-gone.new.parts))) c.in-Some.is c.go_calmly-gone.ensures.hands)
@@ -97,8 +97,8 @@ invariant_of-self-3 c = (ends-some c.self.inside.originals.setup c.self.inside.o
     (subst (λ o. IfSome o (λ gone. c.self.inside.hand.moves ≡ true → c.self.inside.hand.delivered ≡ false → state_of c.self.inside.initializing c.self.inside.parts ≡ starts_with c.self.inside.originals.setup.world → IsSoundIn c.self.inside.originals.setup (state_of c.self.inside.initializing c.go_calmly-gone.new.parts))) c.in-Some.is c.go_calmly-gone.ensures.starts)
     (subst (λ o. IfSome o (λ (gone : Gone). gone.due ≡ Nothing)) c.in-Some.is c.go_calmly-gone.ensures.done)
     (subst (λ o. IfSome o (λ (gone : Gone). IsAtInstruction (length c.go_calmly-gone.new.parts.frames.frames) c.self.inside.initializing c.go_calmly-gone.new.parts)) c.in-Some.is c.go_calmly-gone.ensures.calm)
-    c.pass_steps-passed.result.made c.pass_steps-passed.ensures.made.between c.pass_steps-passed.ensures.made.passes c.pass_steps-passed.result.gone c.in-Some-passed.next c.pass_steps-passed.new.parts (sym c.in-Some-passed.is)
-    c.pass_steps-passed.ensures.made.stops (c.self.inside.clock + c.pass_steps-passed.result.made + 1) refl c.hand_left-self-inside-2.result c.hand_left-self-inside-2.ensures).kept
+    c.pass_steps-behind.result.made c.pass_steps-behind.ensures.made.between c.pass_steps-behind.ensures.made.passes c.pass_steps-behind.result.gone c.in-Some-gone.next c.pass_steps-behind.new.parts (sym c.in-Some-gone.is)
+    c.pass_steps-behind.ensures.made.stops (c.self.inside.clock + c.pass_steps-behind.result.made + 1) refl c.hand_left-self-inside-2.result c.hand_left-self-inside-2.ensures).kept
 
 pub returns-clause-passes : goal.returns-clause-passes
 returns-clause-passes c = (ends-some c.self.inside.originals.setup c.self.inside.originals.loaded c.self.inside.hand c.self.inside.started c.self.inside.broken c.self.inside.clock c.self.inside.initializing c.self.inside.parts
@@ -109,5 +109,5 @@ returns-clause-passes c = (ends-some c.self.inside.originals.setup c.self.inside
     (subst (λ o. IfSome o (λ gone. c.self.inside.hand.moves ≡ true → c.self.inside.hand.delivered ≡ false → state_of c.self.inside.initializing c.self.inside.parts ≡ starts_with c.self.inside.originals.setup.world → IsSoundIn c.self.inside.originals.setup (state_of c.self.inside.initializing c.go_calmly-gone.new.parts))) c.in-Some.is c.go_calmly-gone.ensures.starts)
     (subst (λ o. IfSome o (λ (gone : Gone). gone.due ≡ Nothing)) c.in-Some.is c.go_calmly-gone.ensures.done)
     (subst (λ o. IfSome o (λ (gone : Gone). IsAtInstruction (length c.go_calmly-gone.new.parts.frames.frames) c.self.inside.initializing c.go_calmly-gone.new.parts)) c.in-Some.is c.go_calmly-gone.ensures.calm)
-    c.pass_steps-passed.result.made c.pass_steps-passed.ensures.made.between c.pass_steps-passed.ensures.made.passes c.pass_steps-passed.result.gone c.in-Some-passed.next c.pass_steps-passed.new.parts (sym c.in-Some-passed.is)
-    c.pass_steps-passed.ensures.made.stops (c.self.inside.clock + c.pass_steps-passed.result.made + 1) refl c.hand_left-self-inside-2.result c.hand_left-self-inside-2.ensures).passes
+    c.pass_steps-behind.result.made c.pass_steps-behind.ensures.made.between c.pass_steps-behind.ensures.made.passes c.pass_steps-behind.result.gone c.in-Some-gone.next c.pass_steps-behind.new.parts (sym c.in-Some-gone.is)
+    c.pass_steps-behind.ensures.made.stops (c.self.inside.clock + c.pass_steps-behind.result.made + 1) refl c.hand_left-self-inside-2.result c.hand_left-self-inside-2.ensures).passes

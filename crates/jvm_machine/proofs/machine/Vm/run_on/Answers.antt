@@ -37,14 +37,14 @@ returns-then-made-most c =
     (subst (λ o. IfSome o (λ (x : Onward). x.made + 2 ≤ c.args.most)) c.in-Some.is c.go_behind.ensures.within)
     (λ settled. c.if-made-most.true)
 
-pub run_rested-2-requires-clause-some : goal.run_rested-2-requires-clause-some
-run_rested-2-requires-clause-some c =
+pub run_rested-requires-2-clause-some : goal.run_rested-requires-2-clause-some
+run_rested-requires-2-clause-some c =
     let within = subst (λ o. IfSome o (λ (x : Onward). x.made + 2 ≤ c.args.most)) c.in-Some.is c.go_behind.ensures.within in
     let other = c.if-made-most.false in
     (let not_most : c.in-Some.onward.made + 2 ≡ c.args.most → ⊥ = other in grind (arith, within, not_most))
 
-pub run_rested-2-requires-clause-below : goal.run_rested-2-requires-clause-below
-run_rested-2-requires-clause-below c =
+pub run_rested-requires-2-clause-below : goal.run_rested-requires-2-clause-below
+run_rested-requires-2-clause-below c =
     let within = subst (λ o. IfSome o (λ (x : Onward). x.made + 2 ≤ c.args.most)) c.in-Some.is c.go_behind.ensures.within in
     let is = subst (λ o. IfSome o (λ (x : Onward). EndsBehind c.args.self.now x.made x.turn c.go_behind.new.self)) c.in-Some.is c.go_behind.ensures.turns in
     let settled = subst (λ t. EndsBehind c.args.self.now c.in-Some.onward.made t c.go_behind.new.self) (settled-is c.in-Some.onward.turn (sym c.is_settled.ensures ∙ c.if-not-is_settled.false)) is in
@@ -52,8 +52,8 @@ run_rested-2-requires-clause-below c =
     let below = c.requires.below in
     omega (arith, within, up, below)
 
-pub run_rested-2-requires-clause-resting : goal.run_rested-2-requires-clause-resting
-run_rested-2-requires-clause-resting c =
+pub run_rested-requires-2-clause-resting : goal.run_rested-requires-2-clause-resting
+run_rested-requires-2-clause-resting c =
     let is = subst (λ o. IfSome o (λ (x : Onward). EndsBehind c.args.self.now x.made x.turn c.go_behind.new.self)) c.in-Some.is c.go_behind.ensures.turns in
     let settled = subst (λ t. EndsBehind c.args.self.now c.in-Some.onward.made t c.go_behind.new.self) (settled-is c.in-Some.onward.turn (sym c.is_settled.ensures ∙ c.if-not-is_settled.false)) is in
     settles-rests settled.behind.between c.go_behind.new.self settled.behind.last
