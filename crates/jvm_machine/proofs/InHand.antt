@@ -22,7 +22,7 @@ use Rattle.jvm_machine.specs.Machine.{IsMachine, IsTidy, Keeps, state_seen, stat
 use Rattle.jvm_machine.specs.Probes.{IfLeaves}
 use Rattle.jvm_machine.specs.Several.{EndsUpTo}
 use Rattle.jvm_machine.specs.Turns.{Settles, Turns, turn_by}
-use Rattle.jvm_machine.specs.View.{View, IsGoingOn, has_ended, is_resting}
+use Rattle.jvm_machine.specs.View.{View, has_ended, is_resting}
 use Rattle.jvm_machine.proofs.Calmly.{calm-going, calm-leaves, calm-machine, calm-stops, calm-tidy}
 use Rattle.jvm_machine.proofs.Exits.{GoesOnFrom}
 use Rattle.jvm_machine.proofs.HeldVersions.{plain-view, seen-is}

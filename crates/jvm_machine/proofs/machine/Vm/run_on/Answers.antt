@@ -2,7 +2,6 @@ use Rattle.std.proofs.Common.{true, false, ◌≡◌, ◌+◌, ◌<◌, ◌≤�
 use Rattle.std.specs.Prelude.{IfNone}
 use Rattle.std.specs.Option.{IfSome}
 use Rattle.jvm_machine.specs.declared.advancing.Onward.{Onward}
-use Rattle.jvm_machine.specs.declared.turn.Turn.TheVariants.{Settled}
 use Rattle.jvm_machine.specs.Several.{EndsBehind, RunsOn}
 use Rattle.jvm_machine.specs.View.{View}
 use Rattle.jvm_machine.proofs.SeveralTurns.{ends-clock, ends-more, ends-on, settled-is, settles-rests}
