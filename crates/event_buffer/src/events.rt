@@ -4,7 +4,7 @@ ghost use Rattle.std.specs.Prelude.{◌≡◌, ◌+◌, ◌-◌, ◌≤◌, ◌<
 ghost use Rattle.event_buffer.specs.Buffers.{empty, event_pushed, rest_of, last_clock, used_of, length_of};
 
 use crate::numbers::take_number;
-use crate::records::{kind_of_number, length_of_record, put_record};
+use crate::records::{kind_of_number, length_of_record, put_record, put_small_record};
 use crate::room::Room;
 use jf_bytes::NoMemory;
 use jvm_model::Event;
@@ -55,9 +55,9 @@ impl Events {
         })
     }
 
-    /// Puts an event behind those that are held, where its record fits.
-    #[inline(always)]
-    pub fn push(&mut self, event: Event) -> Result<(), Full>
+    /// Puts an event behind those that are held, where its record fits, byte after byte.
+    #[inline(never)]
+    fn push_bytes(&mut self, event: Event) -> Result<(), Full>
         requires later { last_clock self.old ≤ event.clock }
         ensures full { IsErr result
             ↔ (self.old.capacity - used_of self.old < length_of self.old event) }
@@ -71,6 +71,24 @@ impl Events {
             return Err(Full);
         }
         put_record(&mut self.bytes, self.last, event);
+        self.last = event.clock;
+        Ok(())
+    }
+
+    /// Puts an event behind those that are held, where its record fits.
+    #[inline(always)]
+    pub fn push(&mut self, event: Event) -> Result<(), Full>
+        requires later { last_clock self.old ≤ event.clock }
+        ensures full { IsErr result
+            ↔ (self.old.capacity - used_of self.old < length_of self.old event) }
+        ensures ok { OnOk result (self.new ≡ event_pushed self.old event) }
+        ensures err { OnErr result (self.new ≡ self.old) }
+        ensures clock { OnOk result (last_clock self.new ≡ event.clock) }
+        ensures room { self.old.events ≡ [] → 16 ≤ self.old.capacity → IsOk result }
+    {
+        if !put_small_record(&mut self.bytes, self.last, event) {
+            return self.push_bytes(event);
+        }
         self.last = event.clock;
         Ok(())
     }

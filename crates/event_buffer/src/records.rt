@@ -1,6 +1,6 @@
 //! Records of events, in room of bytes.
 
-ghost use Rattle.std.specs.Prelude.{◌≡◌, ◌+◌, ◌-◌, ◌++◌, ◌≤◌, ◌<◌, ◌^◌, length};
+ghost use Rattle.std.specs.Prelude.{◌≡◌, ◌+◌, ◌-◌, ◌++◌, ◌≤◌, ◌<◌, ◌^◌, true, false, length};
 ghost use Rattle.event_buffer.specs.Rooms.{room_of};
 ghost use Rattle.event_buffer.specs.Records.{leb128, kind_number, record_of};
 ghost use Rattle.event_buffer.specs.Reading.{kind_numbered};
@@ -55,4 +55,23 @@ pub(crate) fn put_record(bytes: &mut Room, before: u64, event: Event)
     put_byte(bytes, number_of_kind(event.kind));
     put_number(bytes, event.method as u64);
     put_number(bytes, event.clock - before);
+}
+
+/// The same at once, where its numbers are small, as mostly, and there are three places behind the bytes that are held. Says whether
+/// it did.
+#[inline(always)]
+pub(crate) fn put_small_record(bytes: &mut Room, before: u64, event: Event) -> bool
+    requires later { before ≤ event.clock }
+    ensures put { result ≡ true → bytes.new
+        ≡ room_of (bytes.old.items ++ record_of before event) bytes.old.capacity }
+    ensures fits { result ≡ true
+        → length bytes.old.items + length (record_of before event) ≤ bytes.old.capacity }
+    ensures kept { result ≡ false → bytes.new ≡ bytes.old }
+    ensures next { IsNext before event }
+{
+    let more = event.clock - before;
+    if event.method >= 128 || more >= 128 {
+        return false;
+    }
+    bytes.push_three(number_of_kind(event.kind), event.method as u8, more as u8)
 }

@@ -1,6 +1,6 @@
 //! Bytes in room that is made once.
 
-ghost use Rattle.std.specs.Prelude.{◌≡◌, ◌++◌, ◌∷◌, [], ◌≤◌, ◌<◌, ◌^◌, length, drop, slice_get, IfOk};
+ghost use Rattle.std.specs.Prelude.{◌≡◌, ◌+◌, ◌++◌, ◌∷◌, [], ◌≤◌, ◌<◌, ◌^◌, true, false, length, drop, slice_get, IfOk};
 ghost use Rattle.event_buffer.specs.Rooms.{room_of};
 
 use jf_bytes::NoMemory;
@@ -85,6 +85,24 @@ impl Room {
         }
         self.bytes[self.end] = byte;
         self.end += 1;
+    }
+
+    /// Puts three bytes behind those that are held, where there are three places behind them. Says whether it did.
+    #[inline(always)]
+    pub(crate) fn push_three(&mut self, first: u8, second: u8, third: u8) -> bool
+        ensures put { result ≡ true → self.new
+            ≡ room_of (self.old.items ++ first ∷ second ∷ third ∷ []) self.old.capacity }
+        ensures fits { result ≡ true → length self.old.items + 3 ≤ self.old.capacity }
+        ensures kept { result ≡ false → self.new ≡ self.old }
+    {
+        if self.bytes.len() - self.end < 3 {
+            return false;
+        }
+        self.bytes[self.end] = first;
+        self.bytes[self.end + 1] = second;
+        self.bytes[self.end + 2] = third;
+        self.end += 3;
+        true
     }
 
     /// Takes the first byte out.

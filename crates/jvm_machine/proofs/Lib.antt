@@ -23,3 +23,4 @@ pub mod SeveralTurns
 pub mod SeenLaws
 pub mod Calmly
 pub mod Onward
+pub mod InHand

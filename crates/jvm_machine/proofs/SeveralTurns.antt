@@ -3,7 +3,7 @@ use Rattle.std.proofs.Common.{◌≡◌, ℕ, suc, ◌+◌, ◌-◌, ◌≤◌, 
 use Rattle.jvm_machine.specs.View.{View, step_begun, is_resting}
 use Rattle.jvm_machine.specs.declared.turn.Turn.{Turn}
 use Rattle.jvm_machine.specs.declared.turn.Turn.TheVariants.{Settled, Loaded, Probe, Ended, Broken, NoMemory}
-use Rattle.jvm_machine.specs.Several.{Passes, RunsOn, is_settled, more, none}
+use Rattle.jvm_machine.specs.Several.{EndsBehind, Passes, RunsOn, is_settled, more, none}
 use Rattle.jvm_machine.specs.Turns.{Settles, Turns}
 
 pub settled-is : (t : Turn) → is_settled t ≡ true → t ≡ Settled
@@ -83,3 +83,32 @@ first-more old mid new most t first runs some =
       within = omega (arith, within);
       all = λ settled. let last = runs.all settled in omega (arith, last, some);
     }
+
+-- and then so many more and a turn
+pub ends-on : (old new : View) (n most : ℕ) (t : Turn) → EndsBehind old n t new → n + 2 ≤ most → (is_settled t ≡ true → n + 2 ≡ most) → RunsOn old most t new
+ends-on old new n most t is within all =
+    runs-on old is.first is.behind.between new 1 n most t (more 0 old is.first none is.ends) is.behind.passes is.behind.last (omega (arith, within))
+    (λ settled. let last = all settled in omega (arith, last))
+
+-- and several more
+pub ends-more : (old mid new : View) (n most : ℕ) (t : Turn) → EndsBehind old n Settled mid → RunsOn mid (most - (n + 2)) t new → n + 2 ≤ most → RunsOn old most t new
+ends-more old mid new n most t is runs within =
+    let behind = is.behind in
+    let upto = passes-more old is.first behind.between 1 n (more 0 old is.first none is.ends) behind.passes in
+    let last = more (1 + n) behind.between mid upto behind.last in
+    let inner = runs.within in
+    record {
+      steps = suc (1 + n) + runs.steps;
+      between = runs.between;
+      passes = passes-more old mid runs.between (suc (1 + n)) runs.steps last runs.passes;
+      last = runs.last;
+      within = omega (arith, inner, within);
+      all = λ settled. let all = runs.all settled in omega (arith, all, within);
+    }
+
+pub ends-clock : (old new : View) (n : ℕ) → EndsBehind old n Settled new → new.clock ≤ old.clock + (n + 2)
+ends-clock old new n is =
+    let first = settles-clock old is.first is.ends in
+    let between = passes-clock is.first is.behind.between n is.behind.passes in
+    let last = settles-clock is.behind.between new is.behind.last in
+    omega (arith, first, between, last)

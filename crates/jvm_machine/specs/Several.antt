@@ -47,6 +47,22 @@ pub record TurnsBehind (old : View) (n : ℕ) (turn : Turn) (new : View) : Type 
   pub passes : Passes old n between
   pub last : Turns between turn new
 
+-- ---- from a step in hand
+
+-- it is done, nothing was told of its end, and then so many steps and the next one as above
+pub record EndsUpTo (old : View) (n : ℕ) (due : Option Due) (new : View) : Type 0 where
+  pub first : View
+  pub ends : Settles old first
+  pub behind : PassesUpTo first n due new
+
+-- the same, and one turn more
+pub record EndsBehind (old : View) (n : ℕ) (turn : Turn) (new : View) : Type 0 where
+  pub first : View
+  pub ends : Settles old first
+  pub behind : TurnsBehind first n turn new
+
+-- ---- a call
+
 -- What as many calls of `step` do, up to the first one that tells more than that a step is done: the last of them answers.
 pub record RunsOn (old : View) (most : ℕ) (turn : Turn) (new : View) : Type 0 where
   pub steps : ℕ

@@ -14,7 +14,8 @@ ghost use Rattle.jvm_machine.specs.Advances.{Advances, Stops, broken_in};
 ghost use Rattle.jvm_machine.specs.Installs.{IsFormed, IsImageOf, with_class};
 ghost use Rattle.jvm_machine.specs.Probes.{IfLeaves};
 ghost use Rattle.jvm_machine.specs.Turns.{Turns, turn_by};
-ghost use Rattle.jvm_machine.specs.Several.{PassesUpTo, RunsOn, TurnsBehind, is_settled};
+ghost use Rattle.jvm_machine.specs.Several.{EndsBehind, EndsUpTo, PassesUpTo};
+ghost use Rattle.jvm_machine.specs.Several.{RunsOn, TurnsBehind, is_settled};
 ghost use Rattle.jvm_machine.specs.View.{IsGoingOn, has_ended, is_resting, machine_made, run_state};
 
 use crate::advancing::{
@@ -326,8 +327,9 @@ impl Vm {
         }
     }
 
-    /// Makes steps from a state of rest, at most so many, while they tell nothing; the answer is the turn of the last one.
-    #[inline(always)]
+    /// Makes steps from a state of rest, at most so many, while they tell nothing; the answer is the turn of the last one. It is a call of
+    /// its own, so that `run_on`, which has it three times, stays small enough to be inlined.
+    #[inline(never)]
     fn run_rested(&mut self, most: u64) -> Turn
         requires some { 0 < most }
         requires below { self.old.clock + most < 2 ^ 63 }
@@ -347,6 +349,91 @@ impl Vm {
         }
     }
 
+    /// Ends the step in hand, where that is quickly done, and makes steps as `pass_onward` does, so many with the step in hand and a last
+    /// one. None, with nothing changed, where it is not, or they are too few.
+    #[inline(always)]
+    fn pass_behind(&mut self, most: u64) -> Option<Passage>
+        requires in_hand { is_resting self.old ≡ false }
+        requires below { self.old.clock + most < 2 ^ 63 }
+        ensures passes { IfSome result (λ p. EndsUpTo self.old p.made p.due self.new) }
+        ensures within { IfSome result (λ p. p.made + 2 ≤ most) }
+        ensures none { IfNone result (self.new ≡ self.old) }
+    {
+        if most < 2 || self.broken || !self.started {
+            return None;
+        }
+        if !is_at_instruction(&self.parts, &self.initializing) {
+            return None;
+        }
+        let hand = self.hand;
+        let gone = go_calmly(&self.originals, &mut self.parts, &self.initializing, hand);
+        let Some(gone) = gone else {
+            return None;
+        };
+        let behind = pass_steps(
+            self.alloc,
+            &self.originals,
+            &mut self.parts,
+            &self.initializing,
+            most - 2,
+        );
+        self.clock += behind.made;
+        let Some(next) = behind.gone else {
+            self.hand = hand_left(gone);
+            return Some(Passage {
+                made: behind.made,
+                due: None,
+            });
+        };
+        self.clock += 1;
+        self.hand = hand_left(next);
+        Some(Passage {
+            made: behind.made,
+            due: Some(next.due),
+        })
+    }
+
+    /// The same, and one turn more: what is due, or else a whole one.
+    #[inline(always)]
+    fn go_behind(&mut self, most: u64) -> Option<Onward>
+        requires in_hand { is_resting self.old ≡ false }
+        requires below { self.old.clock + most < 2 ^ 63 }
+        ensures turns { IfSome result (λ o. EndsBehind self.old o.made o.turn self.new) }
+        ensures within { IfSome result (λ o. o.made + 2 ≤ most) }
+        ensures none { IfNone result (self.new ≡ self.old) }
+    {
+        let Some(passed) = self.pass_behind(most) else {
+            return None;
+        };
+        match passed.due {
+            Some(due) => Some(Onward {
+                made: passed.made,
+                turn: self.turn(due),
+            }),
+            None => Some(Onward {
+                made: passed.made,
+                turn: self.step_fully(),
+            }),
+        }
+    }
+
+    /// `run_on` where a step is in hand, by a whole turn of it. It is a call of its own, so that what is quickly done stays small.
+    #[inline(never)]
+    fn run_fully(&mut self, most: u64) -> Turn
+        requires some { 0 < most }
+        requires below { self.old.clock + most < 2 ^ 63 }
+        ensures { RunsOn self.old most result self.new }
+    {
+        let turn = self.step_fully();
+        if !is_settled(&turn) {
+            return turn;
+        }
+        if most == 1 {
+            return turn;
+        }
+        self.run_rested(most - 1)
+    }
+
     /// Ends the step in hand, if there is one, and makes steps, with it at most so many, while they tell nothing; the answer is the turn of
     /// the last one.
     #[inline(always)]
@@ -358,14 +445,17 @@ impl Vm {
         if self.is_resting() {
             return self.run_rested(most);
         }
-        let turn = self.step();
-        if !is_settled(&turn) {
-            return turn;
+        let Some(onward) = self.go_behind(most) else {
+            return self.run_fully(most);
+        };
+        if !is_settled(&onward.turn) {
+            return onward.turn;
         }
-        if most == 1 {
-            return turn;
+        let made = onward.made + 2;
+        if made == most {
+            return onward.turn;
         }
-        self.run_rested(most - 1)
+        self.run_rested(most - made)
     }
 
     /// Makes the versions of an image current: the methods of the class begin in them from now on, also within a step in hand. Live

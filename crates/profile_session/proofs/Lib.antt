@@ -20,3 +20,4 @@ pub mod Acts
 pub mod FirstParts
 pub mod SwapImages
 pub mod Sessions
+pub mod Busy

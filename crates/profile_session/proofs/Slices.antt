@@ -8,7 +8,7 @@ use Rattle.jvm_machine.specs.Several.{Passes, RunsOn, none, more}
 use Rattle.jvm_machine.specs.Turns.{Turns}
 use Rattle.jvm_machine.specs.View.{View, IsGoingOn, clock_advanced, step_begun, has_ended, is_resting, world, events_left}
 use Rattle.profile_session.specs.declared.parts.Parts.{Parts}
-use Rattle.profile_session.specs.Advances.{After, Finished, Goes, Makes, Ran, Sliced, Stays, Tells}
+use Rattle.profile_session.specs.Advances.{After, Finished, FinishedBy, Goes, Makes, Ran, Sliced, Stays}
 use Rattle.std.specs.Prelude.{MatchResult}
 use Rattle.profile_session.specs.Parts.{Hears, IsBusy, IsHearable, IsSameRun, Rests, kept_in, revealed_in}
 use Rattle.profile_session.specs.Standing.{AtRest, next_step, rests, within}
@@ -83,14 +83,14 @@ passed x _ _ r on (more n mid v before t) =
       going = ap (λ b. is_resting v && b) t.goes_on ∙ and-false (is_resting v);
     }
 
-next-clock : (x : Parts) → next_step x.vm ≤ x.vm.clock + 1
+pub next-clock : (x : Parts) → next_step x.vm ≤ x.vm.clock + 1
 next-clock x = by x.vm.started where
   by : (b : Bool) → (let n : ℕ = if b then x.vm.clock + 1 else 0 in n) ≤ x.vm.clock + 1
   by true = omega arith
   by false = omega arith
 
 -- the step that comes next is none before the clock's
-clock-next : (x : Parts) → Rests x → x.vm.clock ≤ next_step x.vm
+pub clock-next : (x : Parts) → Rests x → x.vm.clock ≤ next_step x.vm
 clock-next x r = by x.vm.started r.stands.before_the_run where
   by : (b : Bool) → (b ≡ false → x.vm.clock ≡ 0) → x.vm.clock ≤ (let n : ℕ = if b then x.vm.clock + 1 else 0 in n)
   by true early = omega arith
@@ -127,32 +127,6 @@ ran x new most turn v r on runs tells h =
 pub then-stays : (a b c : Parts) → Stays a b → Stays b c → Stays a c
 then-stays a b c s t = record { world_is = t.world_is ∙ s.world_is; acts = t.acts ∙ s.acts; started = t.started ∙ s.started }
 
--- a step goes on from turn to turn
-pub record Along (first x : Parts) : Type 0 where
-  pub busy : IsBusy x
-  pub stays : Stays first x
-  pub clock : x.vm.clock ≡ first.vm.clock
-
-pub first-along : (x : Parts) → IsBusy x → Along x x
-first-along x busy = record { busy = busy; stays = record { world_is = refl; acts = refl; started = refl }; clock = refl }
-
-pub goes-along : (first x new : Parts) → Along first x → Goes x new → Along first new
-goes-along first x new a g = record { busy = g.busy; stays = then-stays first x new a.stays g.stays; clock = g.clock ∙ (busy-clock x a.busy ∙ a.clock) }
-
-pub goes-down : (first x new : Parts) → Along first x → Tells x new → length (events_left new.vm) < length (events_left x.vm)
-goes-down first x new a t =
-    let fewer : suc (length (events_left new.vm)) ≡ length (events_left x.vm) = t.fewer ∙ ap (λ (v : View). length (events_left v)) (begun-busy x.vm a.busy.busy) in
-    omega (arith, fewer)
-
-pub finished-along : (first x new : Parts) (ended : Bool) → IsBusy first → Along first x → Finished x ended new → Finished first ended new
-finished-along first x new ended busy a f = record {
-  stays = then-stays first x new a.stays f.stays;
-  rests = f.rests;
-  ended_is = f.ended_is;
-  clock = f.clock ∙ (busy-clock x a.busy ∙ (a.clock ∙ sym (busy-clock first busy)));
-  started = f.started;
-}
-
 -- ---- a slice
 
 pub sliced-done : (x new : Parts) (most : ℕ) (turn : Turn) (ended : Bool) (r : Ran x most turn new) → Finished r.between ended new → Sliced x most ended new
@@ -169,31 +143,32 @@ sliced-done x new most turn ended r f =
       high = omega (arith, at, high);
     }
 
-pub sliced-on : (x mid new : Parts) (most : ℕ) (turn : Turn) (ended : Bool) (r : Ran x most turn mid) → Goes r.between mid → Finished mid ended new → Sliced x most ended new
-sliced-on x mid new most turn ended r g f =
-    let at : new.vm.clock ≡ next_step r.between.vm = f.clock ∙ (busy-clock mid g.busy ∙ (g.clock ∙ rest-clock r.between r.rests)) in
-    let low = r.low in
+pub sliced-within : (x mid : Parts) (most last : ℕ) (turn : Turn) (r : Ran x most turn mid) → Goes r.between mid → next_step x.vm + most ≡ last + 1 → mid.vm.clock ≤ last
+sliced-within x mid most last turn r g sum =
+    let at : mid.vm.clock ≡ next_step r.between.vm = g.clock ∙ rest-clock r.between r.rests in
     let high = r.high in
+    omega (arith, at, high, sum)
+
+sliced-on : (x mid new : Parts) (most last : ℕ) (turn : Turn) (ended : Bool) (r : Ran x most turn mid) → Goes r.between mid → next_step x.vm + most ≡ last + 1 → FinishedBy mid last ended new
+    → Sliced x most ended new
+sliced-on x mid new most last turn ended r g sum f =
+    let at : mid.vm.clock ≡ next_step r.between.vm = g.clock ∙ rest-clock r.between r.rests in
+    let first = r.low in
+    let low = f.low in
+    let high = f.high in
     record {
       stays = then-stays x mid new (then-stays x r.between mid r.stays g.stays) f.stays;
       rests = f.rests;
       ended_is = f.ended_is;
       started = f.started;
-      low = omega (arith, at, low);
-      high = omega (arith, at, high);
+      low = omega (arith, at, first, low);
+      high = omega (arith, high, sum);
     }
 
-pub sliced-below : (x mid : Parts) (most : ℕ) (turn : Turn) (r : Ran x most turn mid) → Goes r.between mid → x.vm.clock + most < 9223372036854775808 → mid.vm.clock < 9223372036854775808
-sliced-below x mid most turn r g below =
-    let at : mid.vm.clock ≡ next_step r.between.vm = g.clock ∙ rest-clock r.between r.rests in
-    let up = next-clock x in
-    let high = r.high in
-    omega (arith, at, up, high, below)
-
-pub sliced-finish : {E : Type 0} (x mid new : Parts) (most : ℕ) (turn : Turn) (result : Result Bool E) (r : Ran x most turn mid) → Goes r.between mid
-    → MatchResult result (λ ended. Finished mid ended new) (λ e. IsSameRun mid new) → MatchResult result (λ ended. Sliced x most ended new) (λ e. IsSameRun x new)
-sliced-finish x mid new most turn (Ok ended) r g f = sliced-on x mid new most turn ended r g f
-sliced-finish x mid new most turn (Err e) r g f = f ∙ (g.stays.world_is ∙ r.stays.world_is)
+pub sliced-finish : {E : Type 0} (x mid new : Parts) (most last : ℕ) (turn : Turn) (result : Result Bool E) (r : Ran x most turn mid) → Goes r.between mid → next_step x.vm + most ≡ last + 1
+    → MatchResult result (λ ended. FinishedBy mid last ended new) (λ e. IsSameRun mid new) → MatchResult result (λ ended. Sliced x most ended new) (λ e. IsSameRun x new)
+sliced-finish x mid new most last turn (Ok ended) r g sum f = sliced-on x mid new most last turn ended r g sum f
+sliced-finish x mid new most last turn (Err e) r g sum f = f ∙ (g.stays.world_is ∙ r.stays.world_is)
 
 -- ---- many slices
 
@@ -315,10 +290,5 @@ making-done first x steps last next m over = record {
       let low = m.low in
       omega (arith, at, last_is, low, over)
 
-pub making-below : (first x : Parts) (steps last next : ℕ) → Making first steps last next x → next ≤ last → first.vm.clock + steps < 4611686018427387904
-    → x.vm.clock + (last + 1 - next) < 9223372036854775808
-making-below first x steps last next m le below =
-    let at = m.next_is in
-    let last_is = m.last_is in
-    let up = clock-next x m.rests in
-    omega (arith, at, up, last_is, below, le)
+pub making-below : (first x : Parts) (steps last next : ℕ) → Making first steps last next x → first.vm.clock + steps < 4611686018427387904 → last < 4611686018427387904
+making-below first x steps last next m below = let last_is = m.last_is in omega (arith, last_is, below)

@@ -1,5 +1,5 @@
 -- How a session's parts go on with turns and steps.
-use Rattle.std.specs.Prelude.{◌≡◌, ℕ, suc, ◌+◌, ◌≤◌, ◌<◌, Bool, true, false, length}
+use Rattle.std.specs.Prelude.{◌≡◌, ℕ, suc, ◌+◌, ◌-◌, ◌≤◌, ◌<◌, Bool, true, false, length, Option, Some, None}
 use Rattle.jvm_machine.specs.declared.turn.Turn.{Turn}
 use Rattle.jvm_machine.specs.declared.turn.Turn.TheVariants.{Settled, Loaded, Probe, Ended, Broken, NoMemory}
 use Rattle.jvm_machine.specs.View.{step_begun, has_ended, is_resting, world, events_left}
@@ -52,6 +52,29 @@ pub record Ran (old : Parts) (most : ℕ) (turn : Turn) (new : Parts) : Type 0 w
   pub low : next_step old.vm ≤ next_step between.vm
   pub high : next_step between.vm < next_step old.vm + most
   pub last : After between turn new
+
+-- From a step in hand: its turn; or one turn has settled it, and then came steps that tell nothing, and one turn more.
+pub data RanOn (old : Parts) (most : ℕ) (turn : Turn) (new : Parts) : Type 0 where
+  at_once : After old turn new → RanOn old most turn new
+  later : (mid : Parts) → Finished old false mid → Ran mid (most - 1) turn new → RanOn old most turn new
+
+-- what the last turn of a step says: whether the run has ended in it
+abbrev pub ended_by : Turn → Option Bool
+ended_by Settled = Some false
+ended_by Ended = Some true
+ended_by (Loaded classes) = None
+ended_by (Probe e) = None
+ended_by Broken = None
+ended_by NoMemory = None
+
+-- no step is in hand any more, and none was made behind the last one
+pub record FinishedBy (old : Parts) (last : ℕ) (ended : Bool) (new : Parts) : Type 0 where
+  pub stays : Stays old new
+  pub rests : Rests new
+  pub ended_is : has_ended new.vm ≡ ended
+  pub started : new.vm.started ≡ true
+  pub low : old.vm.clock ≤ new.vm.clock
+  pub high : new.vm.clock ≤ last
 
 -- one step or several, no more than this
 pub record Sliced (old : Parts) (most : ℕ) (ended : Bool) (new : Parts) : Type 0 where

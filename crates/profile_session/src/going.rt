@@ -1,9 +1,11 @@
 //! Turns and steps of a session.
 
-ghost use Rattle.std.specs.Prelude.{◌≡◌, ◌+◌, ◌^◌, ◌<◌, true, false, MatchResult, if◌then◌else◌};
+ghost use Rattle.std.specs.Prelude.{◌≡◌, ◌+◌, ◌-◌, ◌^◌, ◌<◌, ◌≤◌, true, false, MatchResult, if◌then◌else◌};
 ghost use Rattle.jvm_machine.specs.View.{IsGoingOn, has_ended};
-ghost use Rattle.profile_session.specs.Advances.{After, Finished, Makes, Ran, Sliced};
-ghost use Rattle.profile_session.specs.Parts.{IsBusy, IsSameRun, Rests};
+ghost use Rattle.profile_session.specs.Advances.{After, FinishedBy, Makes, Ran, RanOn, Sliced, ended_by};
+ghost use Rattle.profile_session.specs.Keeping.{is_idle};
+ghost use Rattle.profile_session.specs.Parts.{IsBusy, IsSameRun, Rests, kept_in};
+ghost use Rattle.profile_session.specs.Standing.{next_step};
 ghost use Rattle.profile_session.specs.Turned.{is_telling};
 
 use crate::parts::Parts;
@@ -22,6 +24,21 @@ fn is_telling(turn: &Turn) -> bool
         Turn::Ended => true,
         Turn::Broken => false,
         Turn::NoMemory => false,
+    }
+}
+
+/// What the last turn of a step says: whether the run has ended in it.
+#[inline(always)]
+fn ended_by(turn: &Turn) -> Option<bool>
+    ensures { result ≡ ended_by turn.now }
+{
+    match turn {
+        Turn::Settled => Some(false),
+        Turn::Ended => Some(true),
+        Turn::Probe(_) => None,
+        Turn::Loaded(_) => None,
+        Turn::Broken => None,
+        Turn::NoMemory => None,
     }
 }
 
@@ -66,44 +83,82 @@ impl Parts {
         }
     }
 
-    /// The rest of the step in hand. Says whether the run has ended in it.
+    /// The rest of the step in hand and steps that tell nothing, the turn behind them, and what the session does behind that. Something is
+    /// selected or a path is open, so it does nothing behind the other turns.
     #[inline(always)]
-    fn finish(&mut self) -> Result<bool, NoMemory>
+    fn run_busy(&mut self, most: u64) -> Result<Turn, NoMemory>
         requires busy { IsBusy self.old }
-        requires below { self.old.vm.clock < 2 ^ 63 }
+        requires profiles { is_idle (kept_in self.old).seen ≡ false }
+        requires some { 0 < most }
+        requires below { self.old.vm.clock + most < 2 ^ 63 }
         ensures { MatchResult result
-            (λ ended. Finished self.old ended self.new)
+            (λ turn. RanOn self.old most turn self.new)
+            (λ e. IsSameRun self.old self.new) }
+    {
+        let turn = self.vm.run_on(most);
+        if !is_telling(&turn) {
+            return Err(NoMemory);
+        }
+        match self.hear(&turn) {
+            Ok(()) => Ok(turn),
+            Err(error) => Err(error),
+        }
+    }
+
+    /// The next turn of the step in hand, or several, also of steps behind it, but of none behind the last one.
+    #[inline(always)]
+    fn go_on(&mut self, last: u64) -> Result<Turn, NoMemory>
+        requires busy { IsBusy self.old }
+        requires within { self.old.vm.clock ≤ last }
+        requires below { last < 2 ^ 62 }
+        ensures { MatchResult result
+            (λ turn. RanOn self.old (last + 1 - self.old.vm.clock) turn self.new)
+            (λ e. IsSameRun self.old self.new) }
+    {
+        if self.is_idle() {
+            return self.turn();
+        }
+        let most = last + 1 - self.vm.clock();
+        self.run_busy(most)
+    }
+
+    /// The rest of the step in hand and more steps, but none behind the last one, up to where no step is in hand. Says whether the run has
+    /// ended.
+    #[inline(always)]
+    fn finish(&mut self, last: u64) -> Result<bool, NoMemory>
+        requires busy { IsBusy self.old }
+        requires within { self.old.vm.clock ≤ last }
+        requires below { last < 2 ^ 62 }
+        ensures { MatchResult result
+            (λ ended. FinishedBy self.old last ended self.new)
             (λ e. IsSameRun self.old self.new) }
     {
         loop {
-            match self.turn()? {
-                Turn::Probe(_) => {}
-                Turn::Settled => return Ok(false),
-                Turn::Ended => return Ok(true),
-                // A step tells the classes that it loads first, and there was memory.
-                Turn::Loaded(_) => unreachable!(),
-                Turn::Broken => unreachable!(),
-                Turn::NoMemory => unreachable!(),
+            let turn = self.go_on(last)?;
+            match ended_by(&turn) {
+                Some(ended) => return Ok(ended),
+                None => {}
             }
         }
     }
 
-    /// One step or several, no more than this. Says whether the run has ended.
+    /// One step or several, none behind the last one. Says whether the run has ended.
     #[inline(always)]
-    fn slice(&mut self, most: u64) -> Result<bool, NoMemory>
+    fn slice(&mut self, next: u64, last: u64) -> Result<bool, NoMemory>
         requires rests { Rests self.old }
         requires going { IsGoingOn self.old.vm }
-        requires some { 0 < most }
-        requires below { self.old.vm.clock + most < 2 ^ 63 }
+        requires next { next ≡ next_step self.old.vm }
+        requires some { next ≤ last }
+        requires below { last < 2 ^ 62 }
         ensures { MatchResult result
-            (λ ended. Sliced self.old most ended self.new)
+            (λ ended. Sliced self.old (last + 1 - next) ended self.new)
             (λ e. IsSameRun self.old self.new) }
     {
-        match self.run(most)? {
+        match self.run(last + 1 - next)? {
             Turn::Settled => return Ok(false),
             Turn::Ended => return Ok(true),
-            Turn::Probe(_) => return self.finish(),
-            Turn::Loaded(_) => return self.finish(),
+            Turn::Probe(_) => return self.finish(last),
+            Turn::Loaded(_) => return self.finish(last),
             // There was memory.
             Turn::Broken => unreachable!(),
             Turn::NoMemory => unreachable!(),
@@ -132,7 +187,7 @@ impl Parts {
         let mut next = self.next_number();
         self.started = true;
         while next <= last {
-            if self.slice(last + 1 - next)? {
+            if self.slice(next, last)? {
                 return Ok(true);
             }
             next = self.vm.clock() + 1;

@@ -21,17 +21,19 @@ ghost use Rattle.prepared_code.specs.Initializations.{state_of};
 ghost use Rattle.interpreter.specs.Instructions.Passing.{Passes, is_method, on_frames};
 ghost use Rattle.interpreter.specs.Instructions.Passing.{changed_in, steps_if, with_changed};
 ghost use Rattle.prepared_code.specs.Ready.{CanRun, IsSoundIn};
-ghost use Rattle.prepared_code.specs.Runs.{IsAtInstruction};
+ghost use Rattle.prepared_code.specs.Runs.{IsAtInstruction, IsLineIn, RunsVersion};
 ghost use Rattle.prepared_code.specs.States.{here_of};
 ghost use Rattle.interpreter.specs.Moves.Calmly.{GoesBack, TriesIf, passed_there};
 ghost use Rattle.interpreter.specs.Moves.Onward.{ComesTo, GoesOnward, PassesOnward};
 ghost use Rattle.interpreter.specs.Moves.Onward.{begun_due, is_telling, made_if};
+ghost use Rattle.method_versions.specs.Tables.{is_superseded_in};
+ghost use Rattle.prepared_code.specs.Tables.{version_at};
 ghost use Rattle.prepared_code.specs.Versions.{current_of, line_at, mark_of};
 
 use crate::execute::arrays::pass_length;
 use crate::execute::going::{top_datum, value_of};
 use crate::execute::invoking::{begin_frame, may_begin};
-use crate::execute::plain::plain_steps;
+use crate::execute::plain::{plain_to, version_now};
 use crate::turns::hands::{Passed, gone_to};
 use crate::turns::turning::is_marked;
 use crate::unwind::catching::{catch_below, caught_below, thrown_object};
@@ -41,9 +43,10 @@ use frame_stack::Frames;
 use heap_objects::{Datum, Value};
 use jf_bytes::Stack;
 use jvm_basic::recall;
-use jvm_model::{Due, EventKind, SymbolicReference};
+use jvm_model::{Due, EventKind, Mark, SymbolicReference};
 use prepared_code::{
-    Action, Here, Initialization, Line, Originals, Parts, initialization_on, next_in, where_now,
+    Action, Here, Initialization, Line, Originals, Parts, Version, initialization_on, next_in,
+    where_now,
 };
 use std::alloc::Global;
 use symbolic_references::{
@@ -266,6 +269,33 @@ pub fn goes_back(
     next_in(line)
 }
 
+/// The numbers of versions are below this one.
+const MOST_VERSIONS: usize = 4294967296;
+
+/// Whether its method begins in a version, of which the number is given.
+#[inline(always)]
+fn begins_in(originals: &Originals, version: &Version, number: usize) -> bool
+    requires { version_at originals.now.setup.versions number ≡ Some version.now }
+    ensures { let v = originals.now.setup.versions in
+        result ≡ true → is_superseded_in v.slots v.current number ≡ false }
+{
+    if number >= MOST_VERSIONS {
+        return false;
+    }
+    originals.current(version.method) == number
+}
+
+/// Whether a version has probes.
+#[inline(always)]
+fn is_probed(version: &Version) -> bool
+    ensures { result ≡ not (is_off version.now.prepared.mark) }
+{
+    match version.prepared.mark {
+        Mark::Plain | Mark::Root => true,
+        Mark::Off => false,
+    }
+}
+
 /// A return from a version that is its method's current one; its probe has told, if it has one. False, with nothing changed, where the
 /// caller can't go on.
 #[inline(always)]
@@ -274,6 +304,7 @@ pub fn leave(
     parts: &mut Parts,
     initializing: &Stack<Initialization>,
     here: Here,
+    version: &Version,
     line: &Line,
     kind: Option<Kind>,
 ) -> bool
@@ -281,15 +312,18 @@ pub fn leave(
     requires at_instruction { IsAtInstruction
         (length parts.old.frames.frames) initializing.now parts.old }
     requires here { here_of parts.old.frames.frames ≡ Some here }
+    requires runs { version_at originals.now.setup.versions here.version ≡ Some version.now }
     requires line { line_at originals.now.setup.versions here.version here.place ≡ Some line.now }
     requires ends { line.now.action ≡ action.Return kind }
     ensures delivered { let w = originals.now.setup in
         TriesIf result w initializing.now true parts.old due.Nothing parts.new }
+    ensures calm { result ≡ true → IsAtInstruction
+        (length parts.new.frames.frames) initializing.now parts.new }
     // Where the version has no probes nothing is told of it.
     ensures silent { let w = originals.now.setup in is_off (mark_of w.versions here.version) ≡ true
         → Passes w initializing.now parts.old (steps_if result) parts.new }
 {
-    if !originals.is_current(here.version) {
+    if !begins_in(originals, version, here.version) {
         return false;
     }
     let Some(next) = goes_back(originals, &parts.frames, initializing) else {
@@ -308,6 +342,7 @@ fn pass_return(
     parts: &mut Parts,
     initializing: &Stack<Initialization>,
     here: Here,
+    version: &Version,
     line: &Line,
     kind: Option<Kind>,
 ) -> Option<Due>
@@ -315,14 +350,15 @@ fn pass_return(
     requires at_instruction { IsAtInstruction
         (length parts.old.frames.frames) initializing.now parts.old }
     requires here { here_of parts.old.frames.frames ≡ Some here }
+    requires runs { version_at originals.now.setup.versions here.version ≡ Some version.now }
     requires line { line_at originals.now.setup.versions here.version here.place ≡ Some line.now }
     requires ends { line.now.action ≡ action.Return kind }
     ensures { GoesOnward originals.now.setup initializing.now parts.old result parts.new }
 {
-    if is_marked(originals, here.version) {
+    if is_probed(version) {
         return Some(Due::Ends(EventKind::Leave));
     }
-    made_if(leave(originals, parts, initializing, here, line, kind))
+    made_if(leave(originals, parts, initializing, here, version, line, kind))
 }
 
 // ---- a throw
@@ -414,26 +450,27 @@ fn pass_named(
     ))
 }
 
-/// A step by the line at which the current frame stands, up to what a probe tells of it: what is due there, and nothing where the step
-/// is made. Nothing of the run is changed where the answer is None: the line does something else, or raises something, or nothing is
-/// known of its names.
+/// A step by a line at which the current frame stands, in the version that it runs, up to what a probe tells of it: what is due there,
+/// and nothing where the step is made. Nothing of the run is changed where the answer is None: the line does something else, or raises
+/// something, or nothing is known of its names.
 fn pass_line(
     alloc: Global,
     originals: &Originals,
     parts: &mut Parts,
     initializing: &Stack<Initialization>,
+    version: &Version,
+    line: &Line,
 ) -> Option<Due>
     requires run { CanRun originals.now.setup }
     requires linked { originals.now.loaded ≡ parts.old.shared.loaded }
     requires sound { IsSoundIn originals.now.setup (state_of initializing.now parts.old) }
     requires at_instruction { IsAtInstruction
         (length parts.old.frames.frames) initializing.now parts.old }
+    requires runs { RunsVersion originals.now.setup version.now parts.old.frames.frames }
+    requires stands { IsLineIn version.now parts.old.frames.frames line.now }
     ensures { GoesOnward originals.now.setup initializing.now parts.old result parts.new }
 {
     let Some(here) = where_now(&parts.frames) else {
-        return None;
-    };
-    let Some(line) = originals.line(here.version, here.place) else {
         return None;
     };
     match &line.action {
@@ -446,7 +483,15 @@ fn pass_line(
             line,
             naming,
         ),
-        Action::Return(kind) => pass_return(originals, parts, initializing, here, line, *kind),
+        Action::Return(kind) => pass_return(
+            originals,
+            parts,
+            initializing,
+            here,
+            version,
+            line,
+            *kind,
+        ),
         Action::Athrow => made_if(pass_throw(originals, parts, initializing, here, line)),
         Action::Arraylength => made_if(pass_measure(originals, parts, initializing, here, line)),
         _ => None,
@@ -497,12 +542,18 @@ fn pass_to(
 {
     let mut made = 0;
     while made < most {
-        made += plain_steps(originals, parts, most - made);
-        if made == most {
+        let Some(version) = version_now(originals, &parts.frames) else {
             *count = made;
             return None;
-        }
-        let Some(due) = pass_line(alloc, originals, parts, initializing) else {
+        };
+        let mut plain = 0;
+        let stop = plain_to(version, parts, most - made, &mut plain);
+        made += plain;
+        let Some(line) = stop else {
+            *count = made;
+            return None;
+        };
+        let Some(due) = pass_line(alloc, originals, parts, initializing, version, line) else {
             *count = made;
             return None;
         };

@@ -1,7 +1,7 @@
 //! Steps of instructions that the current frame does by itself, and of those that load or store an element and raise nothing: nothing
 //! but the current frame and the heap changes, and nothing follows.
 
-ghost use Rattle.std.specs.Prelude.{◌≡◌, ◌≢◌, ◌≤◌, true, false};
+ghost use Rattle.std.specs.Prelude.{◌≡◌, ◌≢◌, ◌≤◌, ◌<◌, true, false};
 ghost use Rattle.std.specs.Option.{IfSome};
 ghost use Rattle.const_pool.specs.declared.descriptor.Kind.{Kind};
 ghost use Rattle.jvm_basic.specs.declared.effect.Effect.TheVariants.{Next};
@@ -25,6 +25,22 @@ use jvm_basic::{
 };
 use jvm_model::Test;
 use prepared_code::{Action, Line, Originals, Parts, Version, line_in, where_now};
+
+/// The version that the current frame runs. None where there is no frame, or its lines are still to be made.
+#[inline(always)]
+pub fn version_now<'a>(originals: &'a Originals, frames: &Frames) -> Option<&'a Version>
+    ensures runs { let w = originals.now.setup in
+        IfSome result (λ x. RunsVersion w x.now frames.now.frames) }
+    ensures prepared { IfSome result (λ x. ArePrepared x.now) }
+{
+    let Some(here) = where_now(frames) else {
+        return None;
+    };
+    let Some(version) = originals.version(here.version) else {
+        return None;
+    };
+    Some(version)
+}
 
 /// The line of a version at which the current frame stands.
 #[inline(always)]
@@ -54,10 +70,10 @@ fn pass_alone(line: &Line, frames: &mut Frames) -> bool
     matches!(effect, Effect::Next)
 }
 
-/// Does a line that the current frame does by itself, or that loads or stores an element and raises nothing. False, with nothing
-/// changed, where it is none, or the frame does not go on. It is a call of its own, so that the loop stays small.
+/// Does a line that the current frame does by itself, or that loads or stores an element and raises nothing, by its action. False, with
+/// nothing changed, where the frame does not go on. It is a call of its own, so that the loop stays small.
 #[inline(never)]
-fn pass_cold(line: &Line, parts: &mut Parts) -> bool
+fn pass_by_action(line: &Line, parts: &mut Parts) -> bool
     requires { line.now.family ≡ family_of line.now.instr.op }
     ensures gone { result ≡ true → IsPassed line.now parts.old parts.new }
     ensures kept { result ≡ false → parts.new ≡ parts.old }
@@ -66,6 +82,21 @@ fn pass_cold(line: &Line, parts: &mut Parts) -> bool
         Action::Local => pass_alone(line, &mut parts.frames),
         Action::LoadElement(kind) => pass_load(parts, line, kind),
         Action::StoreElement(kind) => pass_store(parts, line, kind),
+        _ => false,
+    }
+}
+
+/// The same; where it is none, as mostly, it is a test.
+#[inline(always)]
+fn pass_cold(line: &Line, parts: &mut Parts) -> bool
+    requires { line.now.family ≡ family_of line.now.instr.op }
+    ensures gone { result ≡ true → IsPassed line.now parts.old parts.new }
+    ensures kept { result ≡ false → parts.new ≡ parts.old }
+{
+    match line.action {
+        Action::Local | Action::LoadElement(_) | Action::StoreElement(_) => {
+            pass_by_action(line, parts)
+        }
         _ => false,
     }
 }
@@ -138,38 +169,48 @@ fn pass_line(line: &Line, parts: &mut Parts) -> bool
     matches!(effect, Effect::Next)
 }
 
-/// A step in the version that the current frame runs, by a line that its frame does by itself, or that loads or stores an element and
-/// raises nothing. False, with nothing changed, where it is none.
-#[inline(always)]
-fn plain_step(version: &Version, parts: &mut Parts) -> bool
+/// Steps in the version that the current frame runs, at most so many, by lines that its frame does by itself, or that load or store an
+/// element and raise nothing; up to a line that is none: that line, where it has come to one. How many were made is put beside it.
+#[inline(never)]
+pub fn plain_to<'a>(
+    version: &'a Version,
+    parts: &mut Parts,
+    most: u64,
+    count: &mut u64,
+) -> Option<&'a Line>
     requires { ArePrepared version.now }
-    ensures gone { (w : Setup) → CanRun w → RunsVersion w version.now parts.old.frames.frames
-        → result ≡ true → LeadsAlone w parts.old 1 parts.new }
+    ensures within { count.new ≤ most }
+    ensures below { IfSome result (λ l. count.new < most) }
+    ensures made { (w : Setup) → CanRun w → RunsVersion w version.now parts.old.frames.frames
+        → LeadsAlone w parts.old count.new parts.new }
+    ensures stands { IfSome result
+        (λ l. IsLineIn version.now parts.new.frames.frames l.now) }
     ensures same { top_version parts.new.frames.frames ≡ top_version parts.old.frames.frames }
-    ensures kept { result ≡ false → parts.new ≡ parts.old }
 {
-    let Some(line) = line_now(version, &parts.frames) else {
-        return false;
-    };
-    pass_line(line, parts)
+    for made in 0..most {
+        let Some(line) = line_now(version, &parts.frames) else {
+            *count = made;
+            return None;
+        };
+        if !pass_line(line, parts) {
+            *count = made;
+            return Some(line);
+        }
+    }
+    *count = most;
+    None
 }
 
-/// Such steps, at most so many: how many it has made. The frame's version is looked up once.
+/// Such steps, at most so many: how many it has made.
 pub fn plain_steps(originals: &Originals, parts: &mut Parts, most: u64) -> u64
     requires { CanRun originals.now.setup }
     ensures within { result ≤ most }
     ensures made { LeadsAlone originals.now.setup parts.old result parts.new }
 {
-    let Some(here) = where_now(&parts.frames) else {
+    let Some(version) = version_now(originals, &parts.frames) else {
         return 0;
     };
-    let Some(version) = originals.version(here.version) else {
-        return 0;
-    };
-    for made in 0..most {
-        if !plain_step(version, parts) {
-            return made;
-        }
-    }
-    most
+    let mut made = 0;
+    let _stop = plain_to(version, parts, most, &mut made);
+    made
 }

@@ -18,7 +18,7 @@ use crate::turns::hands::{Gone, Hand, gone_to};
 use crate::turns::stepping::is_at_rest;
 use jf_bytes::Stack;
 use jvm_model::Due;
-use prepared_code::{Action, Initialization, Originals, Parts, where_now};
+use prepared_code::{Action, Initialization, Originals, Parts, line_in, where_now};
 
 /// A return of which its probe has told. False, with nothing of the run changed, where the line is none, or the caller can't go on.
 #[inline(always)]
@@ -26,17 +26,22 @@ fn end_told(originals: &Originals, parts: &mut Parts, initializing: &Stack<Initi
     requires run { CanRun originals.now.setup }
     requires at_instruction { IsAtInstruction
         (length parts.old.frames.frames) initializing.now parts.old }
-    ensures { let w = originals.now.setup in
+    ensures tries { let w = originals.now.setup in
         TriesIf result w initializing.now true parts.old due.Nothing parts.new }
+    ensures calm { result ≡ true → IsAtInstruction
+        (length parts.new.frames.frames) initializing.now parts.new }
 {
     let Some(here) = where_now(&parts.frames) else {
         return false;
     };
-    let Some(line) = originals.line(here.version, here.place) else {
+    let Some(version) = originals.version(here.version) else {
+        return false;
+    };
+    let Some(line) = line_in(version, here.place) else {
         return false;
     };
     match line.action {
-        Action::Return(kind) => leave(originals, parts, initializing, here, line, kind),
+        Action::Return(kind) => leave(originals, parts, initializing, here, version, line, kind),
         _ => false,
     }
 }
@@ -55,6 +60,9 @@ pub fn go_calmly(
         (length parts.old.frames.frames) initializing.now parts.old }
     ensures goes { let w = originals.now.setup in IfSome result (λ gone.
         GoesCalmly w initializing.now hand parts.old gone parts.new) }
+    ensures done { IfSome result (λ gone. gone.due ≡ due.Nothing) }
+    ensures calm { IfSome result (λ gone. IsAtInstruction
+        (length parts.new.frames.frames) initializing.now parts.new) }
     // The rest of the same step is in hand then, at the next of its changes that is told.
     ensures hands { let w = originals.now.setup in let s = state_of initializing.now parts.old in
         IfSome result (λ gone. (homes : ℕ → ℕ → ℕ) (turn : Turn) (live : List Held)

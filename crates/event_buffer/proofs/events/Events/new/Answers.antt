@@ -1,5 +1,5 @@
 -- No bytes are the records of no events.
-use Rattle.std.proofs.Common.{ℕ, sym, subst}
+use Rattle.std.proofs.Common.{sym, subst}
 use Rattle.event_buffer.specs.Rooms.{Room}
 use Rattle.event_buffer.specs.Spelled.{AreRecords}
 use Rattle.event_buffer.proofs.ReadBack.{records-none, new-view}

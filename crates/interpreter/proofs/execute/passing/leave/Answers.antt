@@ -6,12 +6,12 @@ use Rattle.jvm_model.specs.Instructions.LocalRules.{returns as gives}
 use Rattle.prepared_code.specs.Versions.{mark_of}
 use Rattle.interpreter.specs.Moves.Calmly.{GoesBack}
 use Rattle.interpreter.proofs.Silent.GoingOnward.{off-by}
-use Rattle.interpreter.proofs.Silent.ReturnLemmas.{gives-passes, gives-tries}
+use Rattle.interpreter.proofs.Silent.ReturnLemmas.{gives-calm, gives-passes, gives-tries}
 use Rattle.interpreter.proofs.Silent.SilentSteps.{passes_none}
 use Rattle.interpreter.proofs.execute.passing.leave.Goals as goal
 
-pub returns-then-not-is_current-clause-silent : goal.returns-then-not-is_current-clause-silent
-returns-then-not-is_current-clause-silent c = λ off. passes_none c.args.originals.now.setup c.args.initializing.now c.args.parts.now c.requires.at_instruction
+pub returns-then-not-begins_in-clause-silent : goal.returns-then-not-begins_in-clause-silent
+returns-then-not-begins_in-clause-silent c = λ off. passes_none c.args.originals.now.setup c.args.initializing.now c.args.parts.now c.requires.at_instruction
 
 pub returns-in_default-clause-silent : goal.returns-in_default-clause-silent
 returns-in_default-clause-silent c = λ off. passes_none c.args.originals.now.setup c.args.initializing.now c.args.parts.now c.requires.at_instruction
@@ -24,9 +24,20 @@ returns-clause-delivered c =
     let w = c.args.originals.now.setup in
     let p = c.args.parts.now in
     gives-tries w c.requires.run c.args.initializing.now c.args.here c.args.line.now c.args.kind p c.requires.here c.requires.line c.requires.ends c.requires.at_instruction
-    c.in-Some-result_of.datum c.in-Some.next c.value_given.result c.give_back.new.self c.recall.ensures (c.is_current.ensures c.if-not-is_current.false)
+    c.in-Some-result_of.datum c.in-Some.next c.value_given.result c.give_back.new.self c.recall.ensures (c.begins_in.ensures c.if-not-begins_in.false)
     (subst (λ o. IfSome o (λ d. gives c.args.kind (top_operands p.frames.frames) ≡ Returns d)) c.in-Some-result_of.is c.result_of.ensures)
     c.value_given.ensures c.give_back.result
+    (subst (λ o. IfSome o (λ next. GoesBack w c.args.initializing.now p.frames.frames next)) c.in-Some.is c.goes_back.ensures)
+    c.give_back.ensures.answer c.give_back.ensures.frames
+
+pub returns-clause-calm : goal.returns-clause-calm
+returns-clause-calm c = λ given.
+    let w = c.args.originals.now.setup in
+    let p = c.args.parts.now in
+    gives-calm w c.requires.run c.args.initializing.now c.args.here c.args.line.now c.args.kind p c.requires.here c.requires.line c.requires.ends c.requires.at_instruction
+    c.in-Some-result_of.datum c.in-Some.next c.value_given.result c.give_back.new.self c.recall.ensures (c.begins_in.ensures c.if-not-begins_in.false)
+    (subst (λ o. IfSome o (λ d. gives c.args.kind (top_operands p.frames.frames) ≡ Returns d)) c.in-Some-result_of.is c.result_of.ensures)
+    c.value_given.ensures c.give_back.result given
     (subst (λ o. IfSome o (λ next. GoesBack w c.args.initializing.now p.frames.frames next)) c.in-Some.is c.goes_back.ensures)
     c.give_back.ensures.answer c.give_back.ensures.frames
 
@@ -35,7 +46,7 @@ returns-clause-silent c = λ off.
     let w = c.args.originals.now.setup in
     let p = c.args.parts.now in
     gives-passes w c.requires.run c.args.initializing.now c.args.here c.args.line.now c.args.kind p c.requires.here c.requires.line c.requires.ends c.requires.at_instruction
-    c.in-Some-result_of.datum c.in-Some.next c.value_given.result c.give_back.new.self c.recall.ensures (c.is_current.ensures c.if-not-is_current.false)
+    c.in-Some-result_of.datum c.in-Some.next c.value_given.result c.give_back.new.self c.recall.ensures (c.begins_in.ensures c.if-not-begins_in.false)
     (subst (λ o. IfSome o (λ d. gives c.args.kind (top_operands p.frames.frames) ≡ Returns d)) c.in-Some-result_of.is c.result_of.ensures)
     c.value_given.ensures c.give_back.result
     (subst (λ o. IfSome o (λ next. GoesBack w c.args.initializing.now p.frames.frames next)) c.in-Some.is c.goes_back.ensures)

@@ -1,7 +1,9 @@
-use Rattle.std.proofs.Common.{◌≡◌, ◌+◌, ℕ, List, sym, subst, refl, ◌∙◌, arith}
+use Rattle.std.proofs.Common.{◌≡◌, ◌+◌, ◌-◌, ◌<◌, ℕ, List, Option, Some, sym, ap, subst, refl, ◌∙◌, arith}
+use Rattle.std.specs.Option.{IfSome, option_and_then}
+use Rattle.prepared_code.specs.Tables.{version_at}
 use Rattle.prepared_code.specs.declared.initializations.Initialization.{Initialization}
 use Rattle.prepared_code.specs.declared.parts.Parts.{Parts}
-use Rattle.prepared_code.specs.Runs.{LeadsAlone}
+use Rattle.prepared_code.specs.Runs.{IsLineIn, LeadsAlone}
 use Rattle.prepared_code.specs.Versions.{Setup}
 use Rattle.prepared_code.specs.Initializations.{state_of}
 use Rattle.interpreter.specs.Instructions.Passing.{Passes}
@@ -18,63 +20,80 @@ loop-made-init c = (omega arith, passes_none c.args.originals.now.setup c.args.i
 plainly : (w : Setup) (ms : List Initialization) (old mid new : Parts) (n m : ℕ) → Passes w ms old n mid → LeadsAlone w mid m new → Passes w ms old (n + m) new
 plainly w ms old mid new n m first plain = passes-on w ms old mid new n m first (passes-alone w ms mid new m plain first.at_instruction)
 
+-- what is said of the line where it has stopped
+of-line : {A : Type 0} (o : Option A) (l : A) → o ≡ Some l → (P : A → Type 0) → IfSome o P → P l
+of-line o l is P said = subst (λ o. IfSome o P) is said
+
 pub pass_line-requires-clause-linked : goal.pass_line-requires-clause-linked
 pass_line-requires-clause-linked c =
     c.requires.linked
-    ∙ sym (plainly c.args.originals.now.setup c.args.initializing.now c.args.parts.now c.loop-made.parts c.plain_steps-made.new.parts c.loop-made.made c.plain_steps-made.result
-    c.loop-made.invariant.1 c.plain_steps-made.ensures.made).loaded
+    ∙ sym (plainly c.args.originals.now.setup c.args.initializing.now c.args.parts.now c.loop-made.parts c.plain_to-stop.new.parts c.loop-made.made c.plain_to-stop.new.count
+    c.loop-made.invariant.1 (c.plain_to-stop.ensures.made c.args.originals.now.setup c.requires.run c.in-Some.ensures.runs)).loaded
 
 pub pass_line-requires-clause-sound : goal.pass_line-requires-clause-sound
 pass_line-requires-clause-sound c =
     let w = c.args.originals.now.setup in
     let ms = c.args.initializing.now in
-    let n = c.loop-made.made + c.plain_steps-made.result in
-    leads-sound w c.requires.run (state_of ms c.args.parts.now) n (state_of ms c.plain_steps-made.new.parts)
-    (plainly w ms c.args.parts.now c.loop-made.parts c.plain_steps-made.new.parts c.loop-made.made c.plain_steps-made.result c.loop-made.invariant.1 c.plain_steps-made.ensures.made).leads
+    let n = c.loop-made.made + c.plain_to-stop.new.count in
+    leads-sound w c.requires.run (state_of ms c.args.parts.now) n (state_of ms c.plain_to-stop.new.parts)
+    (plainly w ms c.args.parts.now c.loop-made.parts c.plain_to-stop.new.parts c.loop-made.made c.plain_to-stop.new.count c.loop-made.invariant.1 (c.plain_to-stop.ensures.made c.args.originals.now.setup c.requires.run c.in-Some.ensures.runs)).leads
     c.requires.sound
 
 pub pass_line-requires-clause-at_instruction : goal.pass_line-requires-clause-at_instruction
 pass_line-requires-clause-at_instruction c =
-    (plainly c.args.originals.now.setup c.args.initializing.now c.args.parts.now c.loop-made.parts c.plain_steps-made.new.parts c.loop-made.made c.plain_steps-made.result
-    c.loop-made.invariant.1 c.plain_steps-made.ensures.made).at_instruction
+    (plainly c.args.originals.now.setup c.args.initializing.now c.args.parts.now c.loop-made.parts c.plain_to-stop.new.parts c.loop-made.made c.plain_to-stop.new.count
+    c.loop-made.invariant.1 (c.plain_to-stop.ensures.made c.args.originals.now.setup c.requires.run c.in-Some.ensures.runs)).at_instruction
 
 -- one more is made
 pub loop-made-preserved : goal.loop-made-preserved
 loop-made-preserved c =
     let w = c.args.originals.now.setup in
     let ms = c.args.initializing.now in
-    let mid = c.plain_steps-made.new.parts in
-    let n = c.loop-made.made + c.plain_steps-made.result in
-    let first = plainly w ms c.args.parts.now c.loop-made.parts mid c.loop-made.made c.plain_steps-made.result c.loop-made.invariant.1 c.plain_steps-made.ensures.made in
-    let went = subst (λ o. GoesOnward w ms mid o c.pass_line.new.parts) c.in-Some.is c.pass_line.ensures in
-    let one = silent-onward w ms mid c.pass_line.new.parts c.in-Some.due (sym c.is_telling.ensures ∙ c.if-is_telling.false) went in
-    let within = c.plain_steps-made.ensures.within in
+    let mid = c.plain_to-stop.new.parts in
+    let n = c.loop-made.made + c.plain_to-stop.new.count in
+    let first = plainly w ms c.args.parts.now c.loop-made.parts mid c.loop-made.made c.plain_to-stop.new.count c.loop-made.invariant.1 (c.plain_to-stop.ensures.made c.args.originals.now.setup c.requires.run c.in-Some.ensures.runs) in
+    let went = subst (λ o. GoesOnward w ms mid o c.pass_line.new.parts) c.in-Some-pass_line.is c.pass_line.ensures in
+    let one = silent-onward w ms mid c.pass_line.new.parts c.in-Some-pass_line.due (sym c.is_telling.ensures ∙ c.if-is_telling.false) went in
     let less = c.loop-made-test.true in
-    let other = c.if-made-most.false in (
-      (let not_most : n ≡ c.args.most → ⊥ = other in grind (arith, less, within, not_most)),
+    let below = of-line c.plain_to-stop.result c.in-Some-stop.line c.in-Some-stop.is (λ l. c.plain_to-stop.new.count < c.args.most - c.loop-made.made) c.plain_to-stop.ensures.below in (
+      omega (arith, less, below),
       passes-on w ms c.args.parts.now mid c.pass_line.new.parts n 1 first one,
     )
 
--- as many as were wanted
-pub returns-then-made-most-clause-made : goal.returns-then-made-most-clause-made
-returns-then-made-most-clause-made c = record {
-  between = c.plain_steps-made.new.parts;
-  passes = plainly c.args.originals.now.setup c.args.initializing.now c.args.parts.now c.loop-made.parts c.plain_steps-made.new.parts c.loop-made.made c.plain_steps-made.result
-      c.loop-made.invariant.1 c.plain_steps-made.ensures.made;
+-- nothing is run
+pub returns-in_default-clause-made : goal.returns-in_default-clause-made
+returns-in_default-clause-made c = record { between = c.loop-made.parts; passes = c.loop-made.invariant.1; comes = refl }
+
+-- as many as were wanted, or no line stands there
+pub returns-in_default-stop-clause-made : goal.returns-in_default-stop-clause-made
+returns-in_default-stop-clause-made c = record {
+  between = c.plain_to-stop.new.parts;
+  passes = plainly c.args.originals.now.setup c.args.initializing.now c.args.parts.now c.loop-made.parts c.plain_to-stop.new.parts c.loop-made.made c.plain_to-stop.new.count
+      c.loop-made.invariant.1 (c.plain_to-stop.ensures.made c.args.originals.now.setup c.requires.run c.in-Some.ensures.runs);
   comes = refl;
 }
 
+pub pass_line-requires-clause-runs : goal.pass_line-requires-clause-runs
+pass_line-requires-clause-runs c =
+    let w = c.args.originals.now.setup in
+    ap (option_and_then (version_at w.versions)) c.plain_to-stop.ensures.same ∙ c.in-Some.ensures.runs
+
+pub pass_line-requires-clause-stands : goal.pass_line-requires-clause-stands
+pass_line-requires-clause-stands c =
+    of-line c.plain_to-stop.result c.in-Some-stop.line c.in-Some-stop.is (λ l. IsLineIn c.in-Some.version.now c.plain_to-stop.new.parts.frames.frames l.now)
+    c.plain_to-stop.ensures.stands
+
 -- the line is left to others
-pub returns-in_default-clause-made : goal.returns-in_default-clause-made
-returns-in_default-clause-made c =
+pub returns-in_default-pass_line-clause-made : goal.returns-in_default-pass_line-clause-made
+returns-in_default-pass_line-clause-made c =
     let w = c.args.originals.now.setup in
     let ms = c.args.initializing.now in
-    let mid = c.plain_steps-made.new.parts in
-    let first = plainly w ms c.args.parts.now c.loop-made.parts mid c.loop-made.made c.plain_steps-made.result c.loop-made.invariant.1 c.plain_steps-made.ensures.made in
-    let none = subst (λ o. GoesOnward w ms mid o c.pass_line.new.parts) c.in_default.is c.pass_line.ensures in
+    let mid = c.plain_to-stop.new.parts in
+    let first = plainly w ms c.args.parts.now c.loop-made.parts mid c.loop-made.made c.plain_to-stop.new.count c.loop-made.invariant.1 (c.plain_to-stop.ensures.made c.args.originals.now.setup c.requires.run c.in-Some.ensures.runs) in
+    let none = subst (λ o. GoesOnward w ms mid o c.pass_line.new.parts) c.in_default-pass_line.is c.pass_line.ensures in
     record {
       between = c.pass_line.new.parts;
-      passes = passes-still w ms c.args.parts.now mid c.pass_line.new.parts (c.loop-made.made + c.plain_steps-made.result) first none;
+      passes = passes-still w ms c.args.parts.now mid c.pass_line.new.parts (c.loop-made.made + c.plain_to-stop.new.count) first none;
       comes = refl;
     }
 
@@ -83,32 +102,37 @@ pub returns-then-is_telling-clause-made : goal.returns-then-is_telling-clause-ma
 returns-then-is_telling-clause-made c =
     let w = c.args.originals.now.setup in
     let ms = c.args.initializing.now in
-    let mid = c.plain_steps-made.new.parts in
-    let went = subst (λ o. GoesOnward w ms mid o c.pass_line.new.parts) c.in-Some.is c.pass_line.ensures in
+    let mid = c.plain_to-stop.new.parts in
+    let went = subst (λ o. GoesOnward w ms mid o c.pass_line.new.parts) c.in-Some-pass_line.is c.pass_line.ensures in
     record {
       between = mid;
-      passes = plainly w ms c.args.parts.now c.loop-made.parts mid c.loop-made.made c.plain_steps-made.result c.loop-made.invariant.1 c.plain_steps-made.ensures.made;
-      comes = told-onward w ms mid c.pass_line.new.parts c.in-Some.due (sym c.is_telling.ensures ∙ c.if-is_telling.true) went;
+      passes = plainly w ms c.args.parts.now c.loop-made.parts mid c.loop-made.made c.plain_to-stop.new.count c.loop-made.invariant.1 (c.plain_to-stop.ensures.made c.args.originals.now.setup c.requires.run c.in-Some.ensures.runs);
+      comes = told-onward w ms mid c.pass_line.new.parts c.in-Some-pass_line.due (sym c.is_telling.ensures ∙ c.if-is_telling.true) went;
     }
 
 pub returns-then-is_telling-clause-below : goal.returns-then-is_telling-clause-below
 returns-then-is_telling-clause-below c =
-    let within = c.plain_steps-made.ensures.within in
+    let below = of-line c.plain_to-stop.result c.in-Some-stop.line c.in-Some-stop.is (λ l. c.plain_to-stop.new.count < c.args.most - c.loop-made.made) c.plain_to-stop.ensures.below in
     let less = c.loop-made-test.true in
-    let not_most : c.loop-made.made + c.plain_steps-made.result ≡ c.args.most → ⊥ = c.if-made-most.false in
-    grind (arith, less, within, not_most)
+    omega (arith, less, below)
 
 pub returns-clause-made : goal.returns-clause-made
 returns-clause-made c = record { between = c.loop-made.parts; passes = c.loop-made.invariant.1; comes = refl }
 
-pub returns-in_default-clause-within : goal.returns-in_default-clause-within
-returns-in_default-clause-within c =
-    let within = c.plain_steps-made.ensures.within in
+pub returns-in_default-stop-clause-within : goal.returns-in_default-stop-clause-within
+returns-in_default-stop-clause-within c =
+    let within = c.plain_to-stop.ensures.within in
+    let less = c.loop-made-test.true in
+    omega (arith, less, within)
+
+pub returns-in_default-pass_line-clause-within : goal.returns-in_default-pass_line-clause-within
+returns-in_default-pass_line-clause-within c =
+    let within = c.plain_to-stop.ensures.within in
     let less = c.loop-made-test.true in
     omega (arith, less, within)
 
 pub returns-then-is_telling-clause-within : goal.returns-then-is_telling-clause-within
 returns-then-is_telling-clause-within c =
-    let within = c.plain_steps-made.ensures.within in
+    let within = c.plain_to-stop.ensures.within in
     let less = c.loop-made-test.true in
     omega (arith, less, within)

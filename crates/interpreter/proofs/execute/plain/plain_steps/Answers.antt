@@ -1,38 +1,8 @@
-use Rattle.std.proofs.Common.{sym, subst, ap, ◌∙◌, refl, arith}
-use Rattle.std.specs.Option.{option_and_then}
-use Rattle.prepared_code.specs.declared.parts.Parts.{Parts}
-use Rattle.prepared_code.specs.Runs.{LeadsAlone, RunsVersion}
-use Rattle.prepared_code.specs.Tables.{version_at}
-use Rattle.interpreter.proofs.Silent.Leading.{alone-none, alone-on}
-use Rattle.interpreter.proofs.Silent.PlainSteps.{runs-here}
+use Rattle.interpreter.proofs.Silent.Leading.{alone-none}
 use Rattle.interpreter.proofs.execute.plain.plain_steps.Goals as goal
 
 pub returns-in_default-clause-made : goal.returns-in_default-clause-made
 returns-in_default-clause-made c = alone-none c.args.originals.now.setup c.args.parts.now
 
-pub returns-in_default-version-clause-made : goal.returns-in_default-version-clause-made
-returns-in_default-version-clause-made c = alone-none c.args.originals.now.setup c.args.parts.now
-
-pub loop-made-init : goal.loop-made-init
-loop-made-init c = (alone-none c.args.originals.now.setup c.args.parts.now, refl)
-
-pub loop-made-preserved : goal.loop-made-preserved
-loop-made-preserved c =
-    let w = c.args.originals.now.setup in
-    let held = c.in-Some-version.ensures.version in
-    let runs : RunsVersion w c.in-Some-version.version.now c.args.parts.now.frames.frames =
-    runs-here w c.args.parts.now.frames.frames c.in-Some.here c.in-Some-version.version.now (sym c.where_now.ensures ∙ c.in-Some.is) held in (
-      alone-on w c.args.parts.now c.loop-made.parts c.plain_step.new.parts c.loop-made.made 1 c.loop-made.invariant.0
-          (c.plain_step.ensures.gone w c.requires (ap (option_and_then (version_at w.versions)) c.loop-made.invariant.1 ∙ runs) c.if-not-plain_step.false),
-      c.plain_step.ensures.same ∙ c.loop-made.invariant.1,
-    )
-
-pub returns-then-not-plain_step-clause-made : goal.returns-then-not-plain_step-clause-made
-returns-then-not-plain_step-clause-made c =
-    subst (λ (s : Parts). LeadsAlone c.args.originals.now.setup c.args.parts.now c.loop-made.made s)
-    (sym (c.plain_step.ensures.kept c.if-not-plain_step.true)) c.loop-made.invariant.0
-
 pub returns-clause-made : goal.returns-clause-made
-returns-clause-made c =
-    subst (λ n. LeadsAlone c.args.originals.now.setup c.args.parts.now n c.loop-made.parts)
-    (omega (arith, c.loop-made-test.false, c.loop-made.auto.made-end)) c.loop-made.invariant.0
+returns-clause-made c = c.plain_to-stop.ensures.made c.args.originals.now.setup c.requires c.in-Some.ensures.runs

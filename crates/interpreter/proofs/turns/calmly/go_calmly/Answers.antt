@@ -32,7 +32,7 @@ returns-clause-goes c =
     let none = c.if-hand-gt0.false in
     calm-tries w ms c.args.hand c.args.parts.now c.gone_to-2.result c.gone_to-2.ensures.left c.end_told.new.parts Nothing c.if-hand.false (omega (arith, none))
     (subst (λ b. TriesCalmly w ms b c.args.parts.now Nothing c.end_told.new.parts) (sym (not-marked c.args.hand.delivered c.if-not-hand.false))
-    (subst (λ b. TriesIf b w ms true c.args.parts.now Nothing c.end_told.new.parts) c.if-not-end_told.false c.end_told.ensures))
+    (subst (λ b. TriesIf b w ms true c.args.parts.now Nothing c.end_told.new.parts) c.if-not-end_told.false c.end_told.ensures.tries))
     c.gone_to-2.ensures.due c.gone_to-2.ensures.passed
 
 pub returns-clause-hands : goal.returns-clause-hands
@@ -48,4 +48,4 @@ returns-clause-starts c = λ moves undelivered start. absurd (false≢true (sym 
 -- nothing was done
 pub returns-then-not-end_told-clause-none : goal.returns-then-not-end_told-clause-none
 returns-then-not-end_told-clause-none c =
-    subst (λ b. TriesIf b c.args.originals.now.setup c.args.initializing.now true c.args.parts.now Nothing c.end_told.new.parts) c.if-not-end_told.true c.end_told.ensures
+    subst (λ b. TriesIf b c.args.originals.now.setup c.args.initializing.now true c.args.parts.now Nothing c.end_told.new.parts) c.if-not-end_told.true c.end_told.ensures.tries

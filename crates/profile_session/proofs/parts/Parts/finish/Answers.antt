@@ -1,29 +1,33 @@
-use Rattle.std.proofs.Common.{◌<◌, sym, subst, true, false}
-use Rattle.profile_session.specs.Advances.{After}
-use Rattle.profile_session.proofs.Slices.{finished-along, first-along, goes-along, goes-down}
+use Rattle.std.proofs.Common.{sym, ◌∙◌}
+use Rattle.profile_session.proofs.Busy.{finished-by, first-along, onward-by}
 use Rattle.profile_session.proofs.parts.Parts.finish.Goals as goal
 
-pub loop-init : goal.loop-init
-loop-init c = first-along c.args.self.now c.requires.busy
+pub loop-turn-init : goal.loop-turn-init
+loop-turn-init c = first-along c.args.self.now c.args.last c.requires.busy c.requires.within
 
-pub turn-requires-clause-busy : goal.turn-requires-clause-busy
-turn-requires-clause-busy c = c.loop.invariant.busy
+pub go_on-requires-clause-busy : goal.go_on-requires-clause-busy
+go_on-requires-clause-busy c = c.loop-turn.invariant.busy
 
-pub turn-requires-clause-below : goal.turn-requires-clause-below
-turn-requires-clause-below c = subst (λ n. n < 9223372036854775808) (sym c.loop.invariant.clock) c.requires.below
+pub go_on-requires-clause-within : goal.go_on-requires-clause-within
+go_on-requires-clause-within c = c.loop-turn.invariant.high
 
-pub loop-preserved : goal.loop-preserved
-loop-preserved c =
-    goes-along c.args.self.now c.loop.self c.turn.new.self c.loop.invariant (subst (λ t. After c.loop.self t c.turn.new.self) c.in-Probe.is c.in_ok-turn.ensures).goes
+pub returns-in-Some : goal.returns-in-Some
+returns-in-Some c =
+    finished-by c.args.self.now c.args.last c.loop-turn.self c.go_on.new.self c.loop-turn.invariant c.in_ok-turn.turn c.in-Some.ended (sym c.ended_by.ensures ∙ c.in-Some.is) c.in_ok-turn.ensures
 
-pub loop-smaller : goal.loop-smaller
-loop-smaller c =
-    goes-down c.args.self.now c.loop.self c.turn.new.self c.loop.invariant (subst (λ t. After c.loop.self t c.turn.new.self) c.in-Probe.is c.in_ok-turn.ensures)
+-- where the turn has nothing to give back, and where it has
+pub loop-turn-preserved : goal.loop-turn-preserved
+loop-turn-preserved c =
+    (onward-by c.args.self.now c.args.last c.loop-turn.self c.go_on.new.self c.loop-turn.invariant c.in_ok-turn.turn (sym c.ended_by.ensures ∙ c.in-None.is) c.in_ok-turn.ensures).along
 
-pub returns-in-Settled : goal.returns-in-Settled
-returns-in-Settled c =
-    finished-along c.args.self.now c.loop.self c.turn.new.self false c.requires.busy c.loop.invariant (subst (λ t. After c.loop.self t c.turn.new.self) c.in-Settled.is c.in_ok-turn.ensures)
+pub loop-turn-smaller : goal.loop-turn-smaller
+loop-turn-smaller c =
+    (onward-by c.args.self.now c.args.last c.loop-turn.self c.go_on.new.self c.loop-turn.invariant c.in_ok-turn.turn (sym c.ended_by.ensures ∙ c.in-None.is) c.in_ok-turn.ensures).down
 
-pub returns-in-Ended : goal.returns-in-Ended
-returns-in-Ended c =
-    finished-along c.args.self.now c.loop.self c.turn.new.self true c.requires.busy c.loop.invariant (subst (λ t. After c.loop.self t c.turn.new.self) c.in-Ended.is c.in_ok-turn.ensures)
+pub loop-turn-preserved-in-None : goal.loop-turn-preserved-in-None
+loop-turn-preserved-in-None c =
+    (onward-by c.args.self.now c.args.last c.loop-turn.self c.go_on.new.self c.loop-turn.invariant c.in_ok-turn.turn (sym c.ended_by.ensures ∙ c.in-None.is) c.in_ok-turn.ensures).along
+
+pub loop-turn-smaller-in-None : goal.loop-turn-smaller-in-None
+loop-turn-smaller-in-None c =
+    (onward-by c.args.self.now c.args.last c.loop-turn.self c.go_on.new.self c.loop-turn.invariant c.in_ok-turn.turn (sym c.ended_by.ensures ∙ c.in-None.is) c.in_ok-turn.ensures).down

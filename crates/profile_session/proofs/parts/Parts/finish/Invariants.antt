@@ -1,10 +1,8 @@
-use Rattle.std.proofs.Common.{length}
-use Rattle.jvm_machine.specs.View.{events_left}
-use Rattle.profile_session.proofs.Slices.{Along}
+use Rattle.profile_session.proofs.Busy.{Along, left_in}
 use Rattle.profile_session.proofs.parts.Parts.finish.Given as goal
 
-abbrev pub invariant-loop : goal.invariant-loop
-invariant-loop l = Along l.fn.self l.self
+abbrev pub invariant-loop-turn : goal.invariant-loop-turn
+invariant-loop-turn l = Along l.fn.self l.last l.self
 
-abbrev pub decreases-loop : goal.decreases-loop
-decreases-loop l = length (events_left l.self.vm)
+abbrev pub decreases-loop-turn : goal.decreases-loop-turn
+decreases-loop-turn l = left_in l.last l.self.vm

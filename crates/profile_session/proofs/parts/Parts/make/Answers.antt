@@ -8,9 +8,12 @@ loop-next-init c =
     making-first c.args.self.now c.args.steps (c.clock.result + c.args.steps) c.next_number-next.result c.requires.rests c.requires.goes_on c.requires.started
     (ap (λ n. n + c.args.steps) c.clock.ensures) c.next_number-next.ensures
 
+pub slice-requires-clause-next : goal.slice-requires-clause-next
+slice-requires-clause-next c = c.loop-next.invariant.next_is
+
 pub slice-requires-clause-below : goal.slice-requires-clause-below
 slice-requires-clause-below c =
-    making-below c.args.self.now c.loop-next.self c.args.steps (c.clock.result + c.args.steps) c.loop-next.next c.loop-next.invariant c.loop-next-test.true c.requires.below
+    making-below c.args.self.now c.loop-next.self c.args.steps (c.clock.result + c.args.steps) c.loop-next.next c.loop-next.invariant c.requires.below
 
 pub returns-then-branch : goal.returns-then-branch
 returns-then-branch c =

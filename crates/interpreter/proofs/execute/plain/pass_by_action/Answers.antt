@@ -2,7 +2,7 @@ use Rattle.std.proofs.Common.{ap}
 use Rattle.frame_stack.specs.FrameLists.{FramesView}
 use Rattle.prepared_code.specs.declared.parts.Parts.{Parts}
 use Rattle.interpreter.proofs.Silent.PassedLines.{passed-alone, passed-load, passed-store}
-use Rattle.interpreter.proofs.execute.plain.pass_cold.Goals as goal
+use Rattle.interpreter.proofs.execute.plain.pass_by_action.Goals as goal
 
 pub returns-in-Local-clause-gone : goal.returns-in-Local-clause-gone
 returns-in-Local-clause-gone c = λ gone.

@@ -1,0 +1,294 @@
+-- Steps from a step in hand, and how much is left to be told of them.
+use Rattle.std.proofs.Common.{◌≡◌, ℕ, zero, suc, ◌+◌, ◌-◌, ◌<◌, ◌≤◌, Bool, true, false, List, [], ◌∷◌, ◌++◌, drop, length, Option, Some, None, Result, Ok, Err, if◌then◌else◌, refl, sym, ap, subst, ◌∙◌, length-append, arith}
+use Rattle.std.specs.Prelude.{MatchResult}
+use Rattle.std.proofs.lemmas.List.{length-drop}
+use Rattle.jvm_model.specs.declared.event.Event.{Event}
+use Rattle.jvm_model.specs.declared.event.EventKind.{EventKind}
+use Rattle.jvm_model.specs.declared.event.EventKind.TheVariants as kind
+use Rattle.jvm_model.specs.declared.event.Mark.{Mark}
+use Rattle.jvm_model.specs.declared.event.Mark.TheVariants.{Off, Plain, Root}
+use Rattle.jvm_model.specs.Basis.Data.{Change, Loads, Began, Left, Unwound, World}
+use Rattle.jvm_model.specs.Profiling.EventLists.{begin_events, end_events}
+use Rattle.jvm_model.specs.Rewriting.StandsFor.{mark_at}
+use Rattle.jvm_model.specs.Running.Run.{turn}
+use Rattle.jvm_model.specs.Turns.Pauses.{told_from}
+use Rattle.jvm_model.specs.Turns.Told.{Held, change_told, changes_told, end_told, held_after}
+use Rattle.jvm_machine.specs.declared.turn.Turn.{Turn}
+use Rattle.jvm_machine.specs.declared.turn.Turn.TheVariants.{Settled, Loaded, Probe, Ended, Broken, NoMemory}
+use Rattle.jvm_machine.specs.Several.{Passes, RunsOn, none, more}
+use Rattle.jvm_machine.specs.Turns.{Settles, Turns}
+use Rattle.jvm_machine.specs.View.{View, events_left, has_ended, is_resting, step_begun, to_come, world}
+use Rattle.profile_session.specs.declared.parts.Parts.{Parts}
+use Rattle.profile_session.specs.Advances.{After, Finished, FinishedBy, Goes, Ran, RanOn, Stays, at_once, ended_by, later}
+use Rattle.profile_session.specs.Keeping.{is_idle}
+use Rattle.profile_session.specs.Parts.{Hears, IsBusy, IsHearable, IsSameRun, kept_in}
+use Rattle.profile_session.specs.Standing.{next_step}
+use Rattle.profile_session.specs.Turned.{is_telling}
+use Rattle.profile_session.proofs.Hearing.{hears-still}
+use Rattle.profile_session.proofs.Slices.{busy-clock, ran, ran-hearable, rest-clock, rest-going, then-stays, turn-after, turn-hearable}
+use Rattle.profile_session.proofs.Turning.{begun-busy}
+
+-- ---- the first of several steps
+
+record First (old : View) (n : ℕ) (new : View) : Type 0 where
+  mid : View
+  first : Settles old mid
+  rest : Passes mid n new
+
+first-of : (old new : View) (n : ℕ) → Passes old (suc n) new → First old n new
+first-of old _ _ (more zero mid new none s) = record { mid = new; first = s; rest = none }
+first-of old _ _ (more (suc n) mid new before s) =
+    let f = first-of old mid n before in record { mid = f.mid; first = f.first; rest = more n mid new f.rest s }
+
+-- where something is selected or a path is open, the session does nothing behind the end of a step
+settled-still : (x : Parts) (v : View) → IsBusy x → is_idle (kept_in x).seen ≡ false → Settles x.vm v → x.vm.clock < 9223372036854775808 → Finished x false (record x { vm = v })
+settled-still x v busy profiles s below =
+    let h = turn-hearable x v Settled busy s refl below in
+    turn-after x (record x { vm = v }) v Settled busy s refl (hears-still (record x { vm = v }) h.fit h.shown profiles)
+
+-- the run goes on from there, by so many turns less
+runs-from : (old new : View) (most n : ℕ) (between : View) (t : Turn) → Passes old n between → Turns between t new → suc (suc n) ≤ most → (t ≡ Settled → suc (suc n) ≡ most)
+    → RunsOn old (most - 1) t new
+runs-from old new most n between t passes turns within all = record {
+  steps = n;
+  between = between;
+  passes = passes;
+  last = turns;
+  within = omega (arith, within);
+  all = λ settled. let e = all settled in omega (arith, e);
+}
+
+mid-clock : (x mid : Parts) → IsBusy x → Finished x false mid → (mid.vm.clock ≡ x.vm.clock) × (next_step mid.vm ≡ x.vm.clock + 1)
+mid-clock x mid busy f =
+    let same : mid.vm.clock ≡ x.vm.clock = f.clock ∙ busy-clock x busy in (same, ap (λ b. if b then mid.vm.clock + 1 else 0) f.started ∙ ap (λ n. n + 1) same)
+
+module _ (x : Parts) (most : ℕ) (t : Turn) (v : View) (busy : IsBusy x) (profiles : is_idle (kept_in x).seen ≡ false) (tells : is_telling t ≡ true)
+    (below : x.vm.clock + most < 9223372036854775808) where
+  below-now : 1 ≤ most → x.vm.clock < 9223372036854775808
+  below-now some = omega (arith, below, some)
+
+  heard-by : (n : ℕ) (between : View) → Passes x.vm n between → Turns between t v → suc n ≤ most → (t ≡ Settled → suc n ≡ most) → IsHearable (record x { vm = v }) t
+  heard-by zero _ none turns within all = turn-hearable x v t busy turns tells (below-now within)
+  heard-by (suc n) between passes turns within all =
+      let f = first-of x.vm between n passes in
+      let y : Parts = record x { vm = f.mid } in
+      let done = settled-still x f.mid busy profiles f.first (below-now (omega (arith, within))) in
+      let clock = (mid-clock x y busy done).0 in
+      ran-hearable y (most - 1) t v done.rests (rest-going y done.ended_is) (runs-from f.mid v most n between t f.rest turns within all) tells (omega (arith, clock, below, within))
+
+  ran-by : (new : Parts) → Hears (record x { vm = v }) t new → (n : ℕ) (between : View) → Passes x.vm n between → Turns between t v → suc n ≤ most → (t ≡ Settled → suc n ≡ most) → RanOn x most t new
+  ran-by new h zero _ none turns within all = at_once (turn-after x new v t busy turns tells h)
+  ran-by new h (suc n) between passes turns within all =
+      let f = first-of x.vm between n passes in
+      let y : Parts = record x { vm = f.mid } in
+      let done = settled-still x f.mid busy profiles f.first (below-now (omega (arith, within))) in
+      later y done (ran y new (most - 1) t v done.rests (rest-going y done.ended_is) (runs-from f.mid v most n between t f.rest turns within all) tells h)
+
+  pub busy-hearable : RunsOn x.vm most t v → IsHearable (record x { vm = v }) t
+  busy-hearable r = heard-by r.steps r.between r.passes r.last r.within r.all
+
+  pub busy-ran : (new : Parts) → RunsOn x.vm most t v → Hears (record x { vm = v }) t new → RanOn x most t new
+  busy-ran new r h = ran-by new h r.steps r.between r.passes r.last r.within r.all
+
+-- one turn of it, whatever it is
+pub turn-ran : {E : Type 0} (x new : Parts) (most : ℕ) (result : Result Turn E) → MatchResult result (λ t. After x t new) (λ e. IsSameRun x new)
+    → MatchResult result (λ t. RanOn x most t new) (λ e. IsSameRun x new)
+turn-ran x new most (Ok t) h = at_once h
+turn-ran x new most (Err e) h = h
+
+-- ---- how much is left to be told
+
+begin-short : (step m : ℕ) (k : Mark) → length (begin_events step m k) ≤ 1
+begin-short step m Off = omega arith
+begin-short step m Plain = omega arith
+begin-short step m Root = omega arith
+
+end-mark : (k : EventKind) (step m : ℕ) (mark : Mark) → length (end_events k step m mark) ≤ 1
+end-mark k step m Off = omega arith
+end-mark k step m Plain = omega arith
+end-mark k step m Root = omega arith
+
+end-short : (k : EventKind) (step : ℕ) (live : List Held) → length (end_told k step live) ≤ 1
+end-short k step [] = omega arith
+end-short k step (h ∷ others) = end-mark k step h.method h.mark
+
+change-short : (marks : ℕ → Mark) (step : ℕ) (live : List Held) (c : Change) → length (change_told marks step live c) ≤ 1
+change-short marks step live (Loads classes) = omega arith
+change-short marks step live (Began m) = begin-short step m (marks m)
+change-short marks step live Left = end-short kind.Leave step live
+change-short marks step live Unwound = end-short kind.Unwind step live
+
+changes-short : (marks : ℕ → Mark) (step : ℕ) (live : List Held) (cs : List Change) → length (changes_told marks step live cs) ≤ length cs
+changes-short marks step live [] = omega arith
+changes-short marks step live (c ∷ others) =
+    let sum = length-append (change_told marks step live c) (changes_told marks step (held_after marks live c) others) in
+    let one = change-short marks step live c in
+    let rest = changes-short marks step (held_after marks live c) others in
+    let whole : length (c ∷ others) ≡ length others + 1 = omega arith in
+    omega (arith, sum, one, rest, whole)
+
+from-short : (marks : ℕ → Mark) (step : ℕ) (delivered : Bool) (live : List Held) (cs : List Change) → length (told_from marks step delivered live cs) ≤ length cs
+from-short marks step false live cs = changes-short marks step live cs
+from-short marks step true live [] = omega arith
+from-short marks step true live (c ∷ others) =
+    let rest = changes-short marks step (held_after marks live c) others in
+    let whole : length (c ∷ others) ≡ length others + 1 = omega arith in
+    omega (arith, rest, whole)
+
+abbrev changes_of : World → ℕ → ℕ
+changes_of w n = length (turn w n).changes
+
+left-short : (v : View) → length (events_left v) ≤ changes_of (world v) v.clock
+left-short v =
+    let told = from-short (mark_at v.marks) v.clock v.delivered v.live (to_come v) in
+    let some = length-drop v.passed (turn (world v) v.clock).changes in
+    omega (arith, told, some)
+
+-- of so many steps behind this one, at most
+abbrev pub left_of : World → ℕ → ℕ → ℕ
+left_of w n zero = 0
+left_of w n (suc k) = suc (changes_of w (n + 1)) + left_of w (n + 1) k
+
+left-later : (w : World) (n d k : ℕ) → suc (changes_of w (n + 1 + d)) + left_of w (n + 1 + d) k ≤ left_of w n (suc (d + k))
+left-later w n zero k =
+    let same : n + 1 ≡ n + 1 + 0 = omega arith in
+    subst (λ m. suc (changes_of w m) + left_of w m k ≤ left_of w n (suc (0 + k))) same (subst (λ j. suc (changes_of w (n + 1)) + left_of w (n + 1) k ≤ left_of w n (suc j)) (let e : k ≡ 0 + k = omega arith in e) (omega arith))
+left-later w n (suc d) k =
+    let same : n + 1 + 1 + d ≡ n + 1 + suc d = omega arith in
+    let rest = left-later w (n + 1) d k in
+    let sum : suc (d + k) ≡ suc d + k = omega arith in
+    let there : suc (changes_of w (n + 1 + suc d)) + left_of w (n + 1 + suc d) k ≤ left_of w (n + 1) (suc d + k) =
+    subst (λ m. suc (changes_of w m) + left_of w m k ≤ left_of w (n + 1) (suc d + k)) same (subst (λ j. suc (changes_of w (n + 1 + 1 + d)) + left_of w (n + 1 + 1 + d) k ≤ left_of w (n + 1) j) sum rest) in
+    omega (arith, there)
+
+-- of the step in hand, and of those behind it up to the last one
+abbrev pub left_in : ℕ → View → ℕ
+left_in last v = length (events_left v) + left_of (world v) v.clock (last - v.clock)
+
+-- a later step is in hand
+left-falls : (old new : View) (last : ℕ) → world new ≡ world old → old.clock < new.clock → new.clock ≤ last → left_in last new < left_in last old
+left-falls old new last same up high =
+    let d : ℕ = new.clock - (old.clock + 1) in
+    let k : ℕ = last - new.clock in
+    let at : old.clock + 1 + d ≡ new.clock = omega (arith, up) in
+    let all : suc (d + k) ≡ last - old.clock = omega (arith, up, high) in
+    let bound = left-later (world old) old.clock d k in
+    let there : suc (changes_of (world old) new.clock) + left_of (world old) new.clock k ≤ left_of (world old) old.clock (last - old.clock) =
+    subst (λ m. suc (changes_of (world old) m) + left_of (world old) m k ≤ left_of (world old) old.clock (last - old.clock)) at
+    (subst (λ j. suc (changes_of (world old) (old.clock + 1 + d)) + left_of (world old) (old.clock + 1 + d) k ≤ left_of (world old) old.clock j) all bound) in
+    let short : length (events_left new) ≤ changes_of (world old) new.clock = subst (λ w. length (events_left new) ≤ changes_of w new.clock) same (left-short new) in
+    let rest : left_of (world new) new.clock k ≡ left_of (world old) new.clock k = ap (λ w. left_of w new.clock k) same in
+    omega (arith, there, short, rest)
+
+-- ---- from turn to turn
+
+pub record Along (first : Parts) (last : ℕ) (x : Parts) : Type 0 where
+  pub busy : IsBusy x
+  pub stays : Stays first x
+  pub low : first.vm.clock ≤ x.vm.clock
+  pub high : x.vm.clock ≤ last
+
+pub first-along : (x : Parts) (last : ℕ) → IsBusy x → x.vm.clock ≤ last → Along x last x
+first-along x last busy within = record { busy = busy; stays = record { world_is = refl; acts = refl; started = refl }; low = omega arith; high = within }
+
+pub record Onward (first : Parts) (last : ℕ) (x new : Parts) : Type 0 where
+  pub along : Along first last new
+  pub down : left_in last new.vm < left_in last x.vm
+
+module _ (first : Parts) (last : ℕ) (x new : Parts) (a : Along first last x) where
+  same-step : Goes x new → new.vm.clock ≡ x.vm.clock
+  same-step g = g.clock ∙ busy-clock x a.busy
+
+  -- a later step
+  later-goes : (mid : Parts) (t : Turn) → Finished x false mid → (r : Ran mid (last + 1 - x.vm.clock - 1) t new) → Goes r.between new → Onward first last x new
+  later-goes mid t f r g =
+      let at : new.vm.clock ≡ next_step r.between.vm = g.clock ∙ rest-clock r.between r.rests in
+      let next = (mid-clock x mid a.busy f).1 in
+      let low = r.low in
+      let high = r.high in
+      let up : x.vm.clock < new.vm.clock = omega (arith, at, next, low) in
+      let within : new.vm.clock ≤ last = (let le = a.high in omega (arith, at, next, high, le)) in
+      let stays = then-stays x mid new f.stays (then-stays mid r.between new r.stays g.stays) in
+      record {
+        along = record { busy = g.busy; stays = then-stays first x new a.stays stays; low = (let from = a.low in omega (arith, from, up)); high = within };
+        down = left-falls x.vm new.vm last stays.world_is up within;
+      }
+
+  onward-probe : (e : Event) → RanOn x (last + 1 - x.vm.clock) (Probe e) new → Onward first last x new
+  onward-probe e (at_once t) =
+      let at = same-step t.goes in
+      let fewer : suc (length (events_left new.vm)) ≡ length (events_left x.vm) = t.fewer ∙ ap (λ (v : View). length (events_left v)) (begun-busy x.vm a.busy.busy) in
+      let rest : left_of (world new.vm) new.vm.clock (last - new.vm.clock) ≡ left_of (world x.vm) x.vm.clock (last - x.vm.clock) =
+      ap (λ w. left_of w new.vm.clock (last - new.vm.clock)) t.goes.stays.world_is ∙ ap (λ c. left_of (world x.vm) c (last - c)) at in
+      record {
+        along = record {
+          busy = t.goes.busy;
+          stays = then-stays first x new a.stays t.goes.stays;
+          low = (let from = a.low in omega (arith, from, at));
+          high = (let to = a.high in omega (arith, to, at));
+        };
+        down = omega (arith, fewer, rest);
+      }
+  onward-probe e (later mid f r) = later-goes mid (Probe e) f r r.last.goes
+
+  onward-loaded : (classes : List ℕ) → RanOn x (last + 1 - x.vm.clock) (Loaded classes) new → Onward first last x new
+  onward-loaded classes (at_once t) = absurd (let h : true ≡ false = sym t.first ∙ a.busy.busy in cc)
+  onward-loaded classes (later mid f r) = later-goes mid (Loaded classes) f r r.last.goes
+
+  -- and where no step is in hand any more
+  now-finished : (ended : Bool) → Finished x ended new → FinishedBy first last ended new
+  now-finished ended f =
+      let at : new.vm.clock ≡ x.vm.clock = f.clock ∙ busy-clock x a.busy in
+      let low = a.low in
+      let high = a.high in
+      record {
+        stays = then-stays first x new a.stays f.stays;
+        rests = f.rests;
+        ended_is = f.ended_is;
+        started = f.started;
+        low = omega (arith, at, low);
+        high = omega (arith, at, high);
+      }
+
+  later-finished : (mid : Parts) (t : Turn) (ended : Bool) → Finished x false mid → (r : Ran mid (last + 1 - x.vm.clock - 1) t new) → Finished r.between ended new → FinishedBy first last ended new
+  later-finished mid t ended f r done =
+      let at : new.vm.clock ≡ next_step r.between.vm = done.clock ∙ rest-clock r.between r.rests in
+      let next = (mid-clock x mid a.busy f).1 in
+      let from = a.low in
+      let to = a.high in
+      let low = r.low in
+      let high = r.high in
+      record {
+        stays = then-stays first x new a.stays (then-stays x mid new f.stays (then-stays mid r.between new r.stays done.stays));
+        rests = done.rests;
+        ended_is = done.ended_is;
+        started = done.started;
+        low = omega (arith, at, next, from, low);
+        high = omega (arith, at, next, high, to);
+      }
+
+  settled-by : RanOn x (last + 1 - x.vm.clock) Settled new → FinishedBy first last false new
+  settled-by (at_once f) = now-finished false f
+  settled-by (later mid f r) = later-finished mid Settled false f r r.last
+
+  run-ended-by : RanOn x (last + 1 - x.vm.clock) Ended new → FinishedBy first last true new
+  run-ended-by (at_once f) = now-finished true f
+  run-ended-by (later mid f r) = later-finished mid Ended true f r r.last
+
+  pub finished-by : (t : Turn) (ended : Bool) → ended_by t ≡ Some ended → RanOn x (last + 1 - x.vm.clock) t new → FinishedBy first last ended new
+  finished-by Settled ended e r = let is : false ≡ ended = cc in subst (λ b. FinishedBy first last b new) is (settled-by r)
+  finished-by Ended ended e r = let is : true ≡ ended = cc in subst (λ b. FinishedBy first last b new) is (run-ended-by r)
+  finished-by (Loaded classes) ended e r = absurd cc
+  finished-by (Probe event) ended e r = absurd cc
+  finished-by Broken ended e r = absurd cc
+  finished-by NoMemory ended e r = absurd cc
+
+  pub onward-by : (t : Turn) → ended_by t ≡ None → RanOn x (last + 1 - x.vm.clock) t new → Onward first last x new
+  onward-by Settled e r = absurd cc
+  onward-by Ended e r = absurd cc
+  onward-by (Loaded classes) e r = onward-loaded classes r
+  onward-by (Probe event) e r = onward-probe event r
+  onward-by Broken e (at_once impossible) = absurd impossible
+  onward-by Broken e (later mid f r) = absurd r.last
+  onward-by NoMemory e (at_once impossible) = absurd impossible
+  onward-by NoMemory e (later mid f r) = absurd r.last

@@ -1,0 +1,19 @@
+use Rattle.std.proofs.Common.{sym, ◌∙◌}
+use Rattle.profile_session.proofs.Busy.{busy-hearable, busy-ran}
+use Rattle.profile_session.proofs.Worlds.{run-world}
+use Rattle.profile_session.proofs.parts.Parts.run_busy.Goals as goal
+
+pub returns-then-not-is_telling : goal.returns-then-not-is_telling
+returns-then-not-is_telling c = run-world c.args.self.now.vm c.run_on-turn.new.self c.args.most c.run_on-turn.result c.run_on-turn.ensures
+
+pub hear-requires-clause-hearable : goal.hear-requires-clause-hearable
+hear-requires-clause-hearable c =
+    busy-hearable c.args.self.now c.args.most c.run_on-turn.result c.run_on-turn.new.self c.requires.busy c.requires.profiles (sym c.if-not-is_telling.ensures) c.requires.below c.run_on-turn.ensures
+
+pub returns-in-Ok : goal.returns-in-Ok
+returns-in-Ok c =
+    busy-ran c.args.self.now c.args.most c.run_on-turn.result c.run_on-turn.new.self c.requires.busy c.requires.profiles (sym c.if-not-is_telling.ensures) c.requires.below c.hear.new.self
+    c.run_on-turn.ensures c.in-Ok.ensures
+
+pub returns-in-Err : goal.returns-in-Err
+returns-in-Err c = c.in-Err.ensures ∙ run-world c.args.self.now.vm c.run_on-turn.new.self c.args.most c.run_on-turn.result c.run_on-turn.ensures
