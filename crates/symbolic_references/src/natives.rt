@@ -27,7 +27,8 @@ use crate::creation::RESERVED;
 use crate::declared_member::DeclaredMember;
 use crate::moving::{drop_operands, replace_operands};
 use crate::passing::{NativeCall, went_on};
-use base_classes::{BUILT_IN_CLASSES, OUT_OF_MEMORY_ERROR, native_of};
+use base_classes::native_of;
+use class_index::BUILT_IN_CLASSES;
 use class_linker::Linker;
 use const_pool::MemberRef;
 use frame_stack::Frames;
@@ -38,6 +39,9 @@ use jvm_model::{Exception, Program, Shared};
 use jvm_natives::LinkedKinds;
 use native_ops::{Native, call};
 use std::alloc::Global;
+
+/// The place of java/lang/OutOfMemoryError among the built-in classes.
+const OUT_OF_MEMORY_ERROR: u16 = 51;
 
 // ---- which method it is
 
