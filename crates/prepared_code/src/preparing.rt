@@ -350,7 +350,8 @@ pub fn bare_versions(alloc: Global, program: &Program) -> Result<Versions, NoMem
 /// The kinds of the exceptions that instructions raise, and of texts.
 pub fn exceptions_of(program: &Program) -> Exceptions
     requires { length program.now.classes < 2 ^ 24 }
-    ensures raised { (e : TheException) → exception_in program.now result e ≡ exception_kind program.now e }
+    ensures raised { (e : TheException) →
+        exception_in program.now result e ≡ exception_kind program.now e }
     ensures string { result.string ≡ kind_for program.now string }
 {
     Exceptions {

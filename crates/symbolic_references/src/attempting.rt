@@ -164,7 +164,8 @@ fn do_found(
     requires objects { AreLoaded linker.now shared.old.heap }
     requires caller { HasLoadedCaller linker.now naming.now }
     requires dimensions { HasDimensions naming.now }
-    ensures answer { Answers result (does_named (world_over linker.now input.now) naming.now shared.old) frames.old }
+    ensures answer { Answers result (does_named (world_over linker.now input.now)
+        naming.now shared.old) frames.old }
     ensures frames { Moves result frames.new (does_named (world_over linker.now input.now)
         naming.now shared.old) next frames.old }
     ensures shared { Shares result shared.new (does_named (world_over linker.now input.now)
@@ -213,7 +214,8 @@ pub fn attempt(
     requires objects { AreLoaded linker.old shared.old.heap }
     requires caller { HasLoadedCaller linker.old naming.now }
     requires dimensions { HasDimensions naming.now }
-    ensures answer { Answers result (attempts (world_over linker.old input.now) naming.now shared.old frames.old) frames.old }
+    ensures answer { Answers result (attempts (world_over linker.old input.now)
+        naming.now shared.old frames.old) frames.old }
     ensures frames { Moves result frames.new (attempts (world_over linker.old input.now)
         naming.now shared.old frames.old) next frames.old }
     ensures shared { Shares result shared.new (attempts (world_over linker.old input.now)
@@ -314,7 +316,8 @@ pub fn attempt_known(
     requires objects { AreLoaded linker.now shared.old.heap }
     requires caller { HasLoadedCaller linker.now naming.now }
     requires dimensions { HasDimensions naming.now }
-    ensures answer { Answers result (attempts (world_over linker.now input.now) naming.now shared.old frames.old) frames.old }
+    ensures answer { Answers result (attempts (world_over linker.now input.now)
+        naming.now shared.old frames.old) frames.old }
     ensures frames { Moves result frames.new (attempts (world_over linker.now input.now)
         naming.now shared.old frames.old) next frames.old }
     ensures shared { Shares result shared.new (attempts (world_over linker.now input.now)
