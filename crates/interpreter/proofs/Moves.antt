@@ -1,4 +1,3 @@
-pub mod MovesOn
 pub mod LineSteps
 pub mod Sounded
 pub mod TurnsCarried

@@ -8,15 +8,13 @@ mod startup;
 mod turns;
 mod unwind;
 
-pub use execute::invoking::{fits_params, may_begin};
+pub use execute::invoking::may_begin;
 pub use execute::passing::pass_steps;
-pub use execute::plain::plain_steps;
-pub use startup::beginning::{begin_start, end_unmade, make_ready, start};
+pub use startup::beginning::begin_start;
 pub use startup::starting::parts_before;
 pub use turns::calmly::go_calmly;
 pub use turns::hands::{Gone, Hand, Passed, go};
 pub use turns::pausing::{go_by_moves, pause};
-pub use turns::stepping::{run, step};
 pub use turns::trying::go_by_attempt;
 pub use turns::turning::{Moved, make_move};
 pub use unwind::raising::raise;

@@ -3,6 +3,6 @@
 pub mod calmly;
 pub mod hands;
 pub mod pausing;
-pub mod stepping;
+pub mod resting;
 pub mod trying;
 pub mod turning;

@@ -1,12 +1,11 @@
--- A step over the parts of a machine: what it asks of its second attempt, and what it has loaded.
+-- An instruction that awaits a class: what its second attempt asks. Several steps leave a sound state.
 use Rattle.std.proofs.Common.{◌≡◌, ℕ, zero, suc, Bool, true, false, List, length, Option, Some, None, refl, sym, ap, subst, ◌∙◌}
 use Rattle.std.specs.Prelude.{is_none, ◌&&◌}
 use Rattle.std.proofs.lemmas.Bool.{false≢true}
 use Rattle.frame_stack.specs.FrameLists.{has_frame}
 use Rattle.jvm_model.specs.declared.state.State.{State}
 use Rattle.jvm_model.specs.Running.Applies.{still}
-use Rattle.jvm_model.specs.Running.Moves.{turn_settled}
-use Rattle.jvm_model.specs.Running.Run.{is_ready, step}
+use Rattle.jvm_model.specs.Running.Run.{is_ready}
 use Rattle.jvm_model.specs.Basis.SharedState.{phase_of}
 use Rattle.jvm_model.proofs.Soundness.SoundListingRuns.{sound-step}
 use Rattle.jvm_model.proofs.Soundness.SoundListingSteps.{sound-settled}
@@ -15,8 +14,7 @@ use Rattle.prepared_code.specs.declared.parts.Parts.{Parts}
 use Rattle.interpreter.specs.Instructions.Acts.{attempts_on, awaited_in, goes_on_in}
 use Rattle.prepared_code.specs.Initializations.{is_executing, initialization_on, state_of}
 use Rattle.prepared_code.specs.Runs.{Leads, steps_from, steps_from-zero, steps_from-suc}
-use Rattle.interpreter.proofs.Moves.LineSteps.{IsGoing, behind, going-again, going-on, none-of, step-again, step-attempts, step-awaits, executing}
-use Rattle.jvm_model.proofs.Loading.LoadedMoves.{settled-loaded}
+use Rattle.interpreter.proofs.Moves.LineSteps.{IsGoing, behind, going-again, going-on, none-of, executing}
 use Rattle.interpreter.proofs.Moves.Sounded.{attempted-sound}
 use Rattle.prepared_code.specs.Versions.{Setup, listing_of}
 use Rattle.prepared_code.specs.Ready.{CanRun, IsSoundIn, RunsIn}
@@ -33,20 +31,6 @@ pub none-there : (ms : List Initialization) (p : Parts) → goes_on_in ms p ≡ 
 none-there ms p goes =
     none-of ms (length p.frames.frames) (both (has_frame p.frames.frames) (is_executing ms p) (both (is_none p.ending) (has_frame p.frames.frames && is_executing ms p) goes).1).1
 
--- ---- the world stays
-
-pub settled-in : (w v : Setup) (x y : State) → v ≡ w → x ≡ (turn_settled v.world (listing_of v.versions) (still y)).after → x ≡ behind w y
-settled-in w v x y same settles = subst (λ u. x ≡ behind u y) same settles
-
-pub attempted-in : (w v : Setup) (s x : State) → v ≡ w → x ≡ attempts_on v s s.stack → x ≡ attempts_on w s s.stack
-attempted-in w v s x same attempted = subst (λ u. x ≡ attempts_on u s s.stack) same attempted
-
--- ---- what is loaded behind all moves
-
-pub loaded-behind : (w : Setup) (old new : State) (loaded : List ℕ) → new ≡ behind w old → loaded ≡ old.shared.loaded → loaded ≡ new.shared.loaded
-loaded-behind w old new loaded settles same =
-    same ∙ (sym (settled-loaded w.world (listing_of w.versions) (still old)) ∙ ap (λ (x : State). x.shared.loaded) (sym settles))
-
 -- ---- a step whose instruction awaits a class
 
 -- the parts before, with the attempt and the moves behind it
@@ -59,31 +43,16 @@ module _ (w : Setup) (run : CanRun w) (ms : List Initialization) (p : Parts) (go
   awaits : awaited_in w (state_of ms p) ≡ Some c
   awaits = sym answer ∙ some
 
-  pub not-ready : is_ready (phase_of then_there.shared c) ≡ false → state_of ms_then then_there ≡ (step w.world (listing_of w.versions) (state_of ms p)).after
-  not-ready isnt = step-awaits w run (state_of ms p) going c awaits mid (state_of ms_then then_there) attempted settles isnt
-
   module _ (ready : is_ready (phase_of then_there.shared c) ≡ true) where
     pub executing-again : initialization_on (length then_there.frames.frames) ms_then ≡ None
     executing-again =
         none-there ms_then then_there
         (goes-there ms_then then_there (going-again w run (state_of ms p) going c awaits mid (state_of ms_then then_there) attempted settles ready))
 
-    pub again-done : (mid_again after : State) → mid_again ≡ attempts_on w (state_of ms_then then_there) (state_of ms_then then_there).stack
-        → after ≡ behind w mid_again → after ≡ (step w.world (listing_of w.versions) (state_of ms p)).after
-    again-done mid_again after attempted_again settles_again =
-        step-again w run (state_of ms p) going c awaits mid (state_of ms_then then_there) attempted settles ready mid_again after attempted_again settles_again
-
   pub sound-again : IsSoundIn w (state_of ms p) → IsSoundIn w (state_of ms_then then_there)
   sound-again is =
       subst (IsSoundIn w) (sym settles)
       (sound-settled (RunsIn w.versions) w.world run.fit (listing_of w.versions) run.listing (still mid) (subst (IsSoundIn w) (sym attempted) (attempted-sound w run (state_of ms p) going is)))
-
--- ---- a step whose instruction awaits none
-
-pub attempts-all : (w : Setup) → CanRun w → (ms : List Initialization) (p : Parts) → goes_on_in ms p ≡ true → (o : Option ℕ) → o ≡ awaited_in w (state_of ms p) → o ≡ None
-    → (mid after : State) → mid ≡ attempts_on w (state_of ms p) (state_of ms p).stack → after ≡ behind w mid → after ≡ (step w.world (listing_of w.versions) (state_of ms p)).after
-attempts-all w run ms p goes o answer none mid after attempted settles =
-    step-attempts w run (state_of ms p) (going-on ms p goes) (sym answer ∙ none) mid after attempted settles
 
 -- ---- several steps leave a sound state
 

@@ -1,9 +1,8 @@
 -- Values on top of a caller as the arguments of a method: their kinds, and the locals that they take.
-use Rattle.std.proofs.lemmas.List.Sums.{sum_by-cons}
-use Rattle.std.proofs.Common.{◌≡◌, ℕ, zero, suc, ◌+◌, ◌-◌, ◌<◌, ◌≤◌, Bool, true, false, List, [], ◌∷◌, ◌++◌, length, take, min, cond, Option, Some, None, refl, sym, ap, ◌∙◌, ⊎_elim, arith}
-use Rattle.std.specs.Prelude.{count_by, nat_le, slice_get, reverse, ◌&&◌}
+use Rattle.std.proofs.Common.{◌≡◌, ℕ, zero, suc, ◌+◌, ◌-◌, ◌<◌, ◌≤◌, Bool, true, List, [], ◌∷◌, ◌++◌, length, take, min, Option, Some, None, refl, sym, ap, ◌∙◌, ⊎_elim, arith}
+use Rattle.std.specs.Prelude.{nat_le, slice_get, reverse}
 use Rattle.std.specs.Option.{option_and_then, option_map}
-use Rattle.std.proofs.lemmas.Bool.{cases_lt, lt-leb, le-leb}
+use Rattle.std.proofs.lemmas.Bool.{cases_lt, le-leb}
 use Rattle.std.proofs.lemmas.List.{length-reverse, length-take, reverse-append}
 use Rattle.std.proofs.lemmas.Option.{same_Some, none-some}
 use Rattle.heap_objects.specs.declared.datum.Datum.{Datum}
@@ -13,11 +12,9 @@ use Rattle.heap_objects.specs.declared.Value.TheVariants.{Int, Long, Ref, Addr}
 use Rattle.const_pool.specs.declared.descriptor.Kind.{Kind}
 use Rattle.const_pool.specs.declared.descriptor.Kind.TheVariants as kind
 use Rattle.frame_stack.specs.Widths.{width, height_of, slots_of_all}
-use Rattle.frame_stack.specs.FrameLists.{PlacedFrame, top_operands, can_enter}
 use Rattle.jvm_model.specs.Basis.Data.{Operands}
 use Rattle.jvm_model.specs.Basis.Values.{as_value, datum_of, data_of, arguments_spread}
 use Rattle.symbolic_references.proofs.Arguments.{data_of-unequal}
-use Rattle.interpreter.specs.Instructions.Arguments.{is_long_kind, slots_for}
 
 -- ---- values of their parameters' kinds
 
@@ -50,33 +47,6 @@ spread-data (k ∷ ks) (v ∷ vs) ds e = by_first (datum_of k v) (data_of ks vs)
   by_first (Some d) (Some xs) f r e =
       ap arguments_spread (sym (same_Some (d ∷ xs) ds e)) ∙ (spread-one d xs vs (r xs refl) ∙ ap (λ x. slots_of_all (x ∷ vs)) (sym (as_value-datum k v d f)))
 
--- a value of a kind is as wide as the kind
-width-kind : (k : Kind) (v : Value) (d : Datum) → datum_of k v ≡ Some d → width v ≡ 1 + cond (is_long_kind k) 1 0
-width-kind kind.Int (Int n) d e = refl
-width-kind kind.Bool (Int n) d e = refl
-width-kind kind.Byte (Int n) d e = refl
-width-kind kind.Char (Int n) d e = refl
-width-kind kind.Short (Int n) d e = refl
-width-kind kind.Long (Long n) d e = refl
-width-kind kind.Ref (Ref r) d e = refl
-width-kind _ _ d e = absurd (none-some d e)
-
--- so the values take the locals that their kinds tell
-pub height-kinds : (ks : List Kind) (vs : List Value) (ds : List Datum) → data_of ks vs ≡ Some ds → height_of vs ≡ slots_for ks
-height-kinds [] [] ds e = refl
-height-kinds [] (v ∷ vs) ds e = absurd (none-some ds e)
-height-kinds (k ∷ ks) [] ds e = absurd (none-some ds e)
-height-kinds (k ∷ ks) (v ∷ vs) ds e = by_first (datum_of k v) (data_of ks vs) refl (height-kinds ks vs) e where
-  by_first : (first : Option Datum) (rest : Option (List Datum)) → datum_of k v ≡ first → ((xs : List Datum) → rest ≡ Some xs → height_of vs ≡ slots_for ks)
-      → option_and_then (λ d. option_map (λ xs. d ∷ xs) rest) first ≡ Some ds → height_of (v ∷ vs) ≡ slots_for (k ∷ ks)
-  by_first None rest f r e = absurd (none-some ds e)
-  by_first (Some d) None f r e = absurd (none-some ds e)
-  by_first (Some d) (Some xs) f r e =
-      let one = width-kind k v d f in
-      let others = r xs refl in
-      let count : count_by is_long_kind (k ∷ ks) ≡ cond (is_long_kind k) 1 0 + count_by is_long_kind ks = sum_by-cons (λ x. cond (is_long_kind x) 1 0) k ks in
-      omega (arith, one, others, count)
-
 -- ---- slots and heights
 
 height-first : (v : Value) (vs : List Value) → length (slots_of_all (v ∷ vs)) ≡ width v + length (slots_of_all vs)
@@ -97,27 +67,6 @@ pub height-reverse : (vs : List Value) → height_of (reverse vs) ≡ height_of 
 height-reverse [] = refl
 height-reverse (v ∷ vs) =
     ap height_of (reverse-append (v ∷ []) vs) ∙ (height-append (reverse vs) (v ∷ []) ∙ (let rest = height-reverse vs in omega (arith, rest)))
-
-length-height : (vs : List Value) → length vs ≤ height_of vs
-length-height [] = omega arith
-length-height (v ∷ vs) = let rest = length-height vs in let one = positive v in omega (arith, rest, one)
-  where
-    positive : (v : Value) → 1 ≤ width v
-    positive (Int n) = omega arith
-    positive (Long n) = omega arith
-    positive (Ref r) = omega arith
-    positive (Addr t) = omega arith
-
--- so many arguments fit into fewer locals nowhere
-pub too-many : (most count : ℕ) (fs : List PlacedFrame) → most < count → can_enter most count fs ≡ false
-too-many most count fs over =
-    ⊎_elim
-    (λ (few : length (top_operands fs) < count). ap (λ b. b && nat_le (height_of (take count (top_operands fs))) most) (lt-leb _ _ few))
-    (λ (enough : count ≤ length (top_operands fs)).
-    let long = length-height (take count (top_operands fs)) in
-    let len : length (take count (top_operands fs)) ≡ min count (length (top_operands fs)) = length-take count (top_operands fs) in
-    ap (λ b. b && nat_le (height_of (take count (top_operands fs))) most) (le-leb _ _ enough) ∙ lt-leb _ _ (omega arith))
-    (cases_lt (length (top_operands fs)) count)
 
 -- ---- the callee
 

@@ -1,5 +1,5 @@
 -- The frame that begins on a caller is the one that a method begins with, where its arguments are data that fit.
-use Rattle.std.proofs.Common.{◌≡◌, ℕ, suc, ◌-◌, ◌<◌, Bool, true, false, List, [], ◌∷◌, ◌++◌, length, drop, take, cond, Option, Some, None, Result, refl, sym, ap, ◌∙◌}
+use Rattle.std.proofs.Common.{◌≡◌, ℕ, suc, ◌-◌, Bool, true, false, List, [], ◌∷◌, ◌++◌, length, drop, take, cond, Option, Some, None, Result, refl, sym, ap, ◌∙◌}
 use Rattle.std.specs.Prelude.{is_some, map, nat_le, nat_lt, replicate, reverse, ◌&&◌}
 use Rattle.std.specs.Option.{option_and_then, option_map}
 use Rattle.std.specs.Result.{OnOk}
@@ -10,10 +10,10 @@ use Rattle.heap_objects.specs.declared.datum.Datum.{Datum}
 use Rattle.heap_objects.specs.declared.Value.{Value}
 use Rattle.const_pool.specs.declared.descriptor.Kind.{Kind}
 use Rattle.frame_stack.specs.Widths.{height_of, slots_of_all}
-use Rattle.frame_stack.specs.FrameLists.{PlacedFrame, top_operands}
+use Rattle.frame_stack.specs.FrameLists.{PlacedFrame}
 use Rattle.jvm_model.specs.declared.state.State.{State}
 use Rattle.jvm_model.specs.Basis.Data.{Locals, Operands, Invokes, Turn}
-use Rattle.jvm_model.specs.Basis.Programs.{max_locals_of, max_stack_of, params_of_method}
+use Rattle.jvm_model.specs.Basis.Programs.{max_locals_of, max_stack_of}
 use Rattle.jvm_model.specs.Basis.Values.{data_of, datum_of, arguments_spread}
 use Rattle.jvm_model.specs.Instructions.Rules.{invokes as invokes_outcome}
 use Rattle.jvm_model.specs.Running.Applies.{still, breaks, begins, live_in, most_live, with_frame, applies}
@@ -25,9 +25,9 @@ use Rattle.interpreter.specs.Instructions.Acts.{run_ended, placed_line, raising}
 use Rattle.interpreter.specs.Instructions.Invoking.{method_called, may_begin}
 use Rattle.interpreter.specs.Moves.Settling.{own_of}
 use Rattle.prepared_code.specs.States.{active, frame_in, state_with, state_in}
-use Rattle.interpreter.specs.Instructions.Arguments.{arguments_of, can_begin, fits_with, fits_params, slots_for, with_begun}
+use Rattle.interpreter.specs.Instructions.Arguments.{can_begin, with_begun}
 use Rattle.interpreter.proofs.Instructions.NamedLaws.{Takes}
-use Rattle.interpreter.proofs.Instructions.Arguments.{spread-data, length-slots, height-reverse, height-kinds, enough-data, too-many}
+use Rattle.interpreter.proofs.Instructions.Arguments.{spread-data, length-slots, height-reverse, enough-data}
 use Rattle.prepared_code.specs.Versions.{Setup, listing_of, current_of, first_of}
 
 pub live-is : (fs : List PlacedFrame) → live_in (map active fs) ≡ length fs
@@ -142,35 +142,3 @@ module _ (w : Setup) (line : Line) (callee : ℕ) (p : Parts) (f : PlacedFrame) 
 pub came-to : (result : Result (Unit {0}) NoMemory) (new done : Parts) (state : State) → state_in done ≡ state → OnOk result (new ≡ done)
     → OnOk result (state_in new ≡ state)
 came-to result new done state same made = on_ok_weaker result (λ (e : new ≡ done). ap state_in e ∙ same) made
-
--- ---- arguments that do not fit
-
--- more parameters than locals
-pub fits-nowhere : (w : Setup) (callee : ℕ) (fs : List PlacedFrame) (ks : List Kind) → params_of_method w.world.program callee ≡ Some ks → max_locals_of w.world callee < length ks
-    → fits_params w callee fs ≡ false
-fits-nowhere w callee fs ks known over =
-    ap (fits_with w callee fs) known
-    ∙ (ap (λ b. is_some (data_of ks (arguments_of (length ks) fs)) && b) (too-many (max_locals_of w.world callee) (length ks) fs over)
-    ∙ never (is_some (data_of ks (arguments_of (length ks) fs))))
-  where
-    never : (b : Bool) → (b && false) ≡ false
-    never true = refl
-    never false = refl
-
--- the locals that arguments of these kinds take
-pub fits-by : (w : Setup) (callee : ℕ) (fs : List PlacedFrame) (ks : List Kind) → params_of_method w.world.program callee ≡ Some ks
-    → is_some (data_of ks (arguments_of (length ks) fs)) ≡ true → fits_params w callee fs ≡ nat_le (slots_for ks) (max_locals_of w.world callee)
-fits-by w callee fs ks known are =
-    ap (fits_with w callee fs) known ∙ by (data_of ks (arguments_of (length ks) fs)) refl are
-  where
-    by : (x : Option (List Datum)) → data_of ks (arguments_of (length ks) fs) ≡ x → is_some x ≡ true
-        → (is_some (data_of ks (arguments_of (length ks) fs)) && can_begin w callee (length ks) fs) ≡ nat_le (slots_for ks) (max_locals_of w.world callee)
-    by None e is = absurd cc
-    by (Some args) e is =
-        ap (λ b. b && can_begin w callee (length ks) fs) (ap is_some e)
-        ∙ (ap (λ b. b && nat_le (height_of (take (length ks) (top_operands fs))) (max_locals_of w.world callee)) (enough-data ks (top_operands fs) args e)
-        ∙ ap (λ n. nat_le n (max_locals_of w.world callee)) (sym (height-reverse (take (length ks) (top_operands fs))) ∙ height-kinds ks (arguments_of (length ks) fs) args e))
-
-pub fits-never : (w : Setup) (callee : ℕ) (fs : List PlacedFrame) (ks : List Kind) → params_of_method w.world.program callee ≡ Some ks
-    → is_some (data_of ks (arguments_of (length ks) fs)) ≡ false → fits_params w callee fs ≡ false
-fits-never w callee fs ks known are = ap (fits_with w callee fs) known ∙ ap (λ b. b && can_begin w callee (length ks) fs) are

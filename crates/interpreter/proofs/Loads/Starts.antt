@@ -7,25 +7,21 @@ use Rattle.jf_bytes.specs.declared.error.NoMemory.{NoMemory}
 use Rattle.heap_objects.specs.Heaps.{HeapView}
 use Rattle.jvm_model.specs.declared.state.Shared.{Shared}
 use Rattle.jvm_model.specs.declared.state.State.{State}
-use Rattle.jvm_model.specs.Running.Applies.{still}
 use Rattle.jvm_model.specs.Basis.Data.{Outcome}
 use Rattle.jvm_model.specs.declared.instruction.SymbolicReference.TheVariants.{New}
 use Rattle.jvm_model.specs.Basis.KindNumbers.{user_count}
 use Rattle.jvm_model.specs.Classes.Load.{Fault, is_among, load_of}
-use Rattle.jvm_model.specs.Running.Moves.{turn_settled}
 use Rattle.jvm_model.specs.Instructions.SymbolicReference.{kind_unless, resolved_kind}
-use Rattle.jvm_model.specs.Running.Run.{arguments_made, before, main_class, main_classes, main_loading, main_loads, run_opened, start, starts_if, starts_unless, starts_with}
+use Rattle.jvm_model.specs.Running.Run.{arguments_made, before, main_class, main_classes, main_loading, run_opened, starts_if, starts_unless}
 use Rattle.jvm_model.specs.Basis.SharedState.{arguments_cost, arguments_fit, shared_before, with_arguments}
 use Rattle.jvm_model.specs.Soundness.Sound.{IsFit}
-use Rattle.jvm_model.proofs.Running.Attempts.{loaded-after}
 use Rattle.jvm_model.proofs.Loading.LoadsAgain.{newly-loaded}
 use Rattle.jvm_model.proofs.Soundness.SoundKinds.{has-root}
 use Rattle.interpreter.specs.Machine.Before.{begun_by}
 use Rattle.interpreter.specs.Instructions.Initializing.{begins_class}
 use Rattle.prepared_code.specs.Prepared.{main_name}
 use Rattle.interpreter.proofs.Instructions.LineActs.{with-loaded}
-use Rattle.interpreter.proofs.Moves.LineSteps.{behind}
-use Rattle.prepared_code.specs.Versions.{Setup, listing_of}
+use Rattle.prepared_code.specs.Versions.{Setup}
 
 -- by the fault that stopped the loading, on an empty stack
 fault-begins : (w : Setup) (fault : Option Fault) (kind : Option ℕ) (s : State) → s.stack ≡ []
@@ -88,7 +84,3 @@ pub root-before : (w : Setup) (s : State) (loaded : List ℕ) → IsFit w.world.
 root-before w s loaded fit is linked =
     ap (is_among (user_count w.world.program)) (linked ∙ ap (λ (x : State). x.shared.loaded) is)
     ∙ has-root w.world.program fit (shared_before w.world.program).loaded fit.before
-
-pub start-is : (w v : Setup) (mid after : State) → v ≡ w → mid ≡ starts_with w.world → after ≡ behind v mid → after ≡ (start w.world (listing_of w.versions)).after
-start-is w v mid after same begins settles =
-    settles ∙ (ap (λ u. behind u mid) same ∙ (ap (behind w) begins ∙ sym (loaded-after (main_loads w.world) (turn_settled w.world (listing_of w.versions) (still (starts_with w.world))))))

@@ -1,5 +1,5 @@
 -- A step is an attempt of the current line, with all moves behind it.
-use Rattle.std.proofs.Common.{◌≡◌, ℕ, zero, suc, Bool, true, false, cond, List, [], ◌∷◌, ◌++◌, length, map, Option, Some, None, refl, sym, ap, subst, ◌∙◌}
+use Rattle.std.proofs.Common.{◌≡◌, ℕ, zero, suc, true, List, [], ◌∷◌, ◌++◌, length, map, Option, Some, None, refl, sym, ap, subst, ◌∙◌}
 use Rattle.std.specs.Prelude.{is_some, is_none, ◌&&◌, ◌||◌}
 use Rattle.std.specs.Option.{option_map_or}
 use Rattle.std.proofs.lemmas.Bool.{false≢true}
@@ -20,12 +20,9 @@ use Rattle.jvm_model.specs.declared.instruction.Operation.{Operation}
 use Rattle.jvm_model.specs.declared.instruction.Operation.TheVariants.{Named}
 use Rattle.jvm_model.specs.Running.Moves.{move, moves, moves_left, settles, turn_settled, then_turn}
 use Rattle.jvm_model.specs.Instructions.Does.{loads}
-use Rattle.jvm_model.specs.Instructions.SymbolicReference.{newly_loaded}
-use Rattle.jvm_model.specs.Instructions.ReferenceRules.{does_named}
-use Rattle.jvm_model.specs.Running.Run.{attempt, tries, starts, is_ready, is_quiet, goes_on, goes_again, with_loaded, steps_by, steps_at, steps_on, step}
+use Rattle.jvm_model.specs.Running.Run.{tries, is_ready, goes_again, steps_by, steps_at, steps_on, step}
 use Rattle.jvm_model.specs.Basis.SharedState.{phase_of, with_phase}
 use Rattle.jvm_model.proofs.Running.Attempts.{loaded-after}
-use Rattle.jvm_model.proofs.Loading.LoadsAgain.{newly-again}
 use Rattle.jvm_model.proofs.Running.QuietSettles.{stops}
 use Rattle.prepared_code.specs.declared.line.Line.{Line}
 use Rattle.prepared_code.specs.declared.initializations.Initialization.{Initialization}
@@ -35,9 +32,8 @@ use Rattle.prepared_code.specs.Initializations.{initializing_entry, initializati
 use Rattle.prepared_code.specs.States.{active, frame_in}
 use Rattle.prepared_code.proofs.InitializingStacks.{length-active}
 use Rattle.interpreter.proofs.Instructions.Initializations.{IsReadyAgain, ready-again, set-there}
-use Rattle.interpreter.proofs.Instructions.LineActs.{awaits-named, done_there, readied, starts-some, steps-as, with-loaded}
+use Rattle.interpreter.proofs.Instructions.LineActs.{awaits-named, done_there, readied, starts-some, steps-as}
 use Rattle.prepared_code.proofs.InitializingStacks.{stack-empty, stack-frame, stack-on}
-use Rattle.jvm_model.proofs.Loading.LoadedMoves.{settled-loaded}
 use Rattle.interpreter.proofs.Instructions.NamedLaws.{Asks, IsNamed, is-named}
 use Rattle.prepared_code.proofs.Tied.{Tie, tied-there}
 use Rattle.prepared_code.specs.Ready.{CanRun, IsTied}
@@ -129,27 +125,6 @@ module _ (w : Setup) where
 
   -- ---- a class is initialized before
 
-  -- the instruction behind that
-  abbrev again : Turn → Instruction → State → Frame → Turn
-  again turn i s f = then_turn turn (attempt w.world t i (record turn.after { stack = s.stack }) f)
-
-  -- where the class is not ready then, that is all
-  awaits-stays : (i : Instruction) (s : State) (f : Frame) (c : ℕ) (turn : Turn) → is_ready (phase_of turn.after.shared c) ≡ false
-      → goes_again w.world t i s f (Some c) turn ≡ turn
-  awaits-stays i s f c turn isnt = ap (λ b. cond (is_quiet turn.changes && b && goes_on turn.after.ending turn.after.thrown) (again turn i s f) turn) isnt ∙ by (is_quiet turn.changes) where
-    by : (b : Bool) → cond (b && false && goes_on turn.after.ending turn.after.thrown) (again turn i s f) turn ≡ turn
-    by true = refl
-    by false = refl
-
-  -- and where it is, the instruction is attempted again
-  awaits-again : (i : Instruction) (s : State) (f : Frame) (c : ℕ) (turn : Turn) → is_ready (phase_of turn.after.shared c) ≡ true → turn.changes ≡ []
-      → turn.after.ending ≡ None → turn.after.thrown ≡ None → goes_again w.world t i s f (Some c) turn ≡ again turn i s f
-  awaits-again i s f c turn is quiet ending thrown =
-      ap (λ b. cond (is_quiet turn.changes && b && goes_on turn.after.ending turn.after.thrown) (again turn i s f) turn) is
-      ∙ (ap (λ cs. cond (is_quiet cs && true && goes_on turn.after.ending turn.after.thrown) (again turn i s f) turn) quiet
-      ∙ (ap (λ e. cond (goes_on e turn.after.thrown) (again turn i s f) turn) ending
-      ∙ ap (λ r. cond (goes_on None r) (again turn i s f) turn) thrown))
-
   ready-of : (o : Option Phase) → is_ready o ≡ true → o ≡ Some Ready
   ready-of (Some Ready) h = refl
   ready-of (Some Fresh) h = absurd (false≢true h)
@@ -189,28 +164,6 @@ module _ (w : Setup) where
     abbrev turn : Turn
     turn = turn_settled w.world t (still begun)
 
-    first-is : first s f line (Named n) tied ≡ turn
-    first-is =
-        ap (λ (x : State). tries w.world t i x f (does_named w.world n x.shared f.locals f.operands)) (with-loaded (newly_loaded w.world.program s.shared.loaded n f.operands) s)
-        ∙ ap (λ q. turn_settled w.world t (applies w.world t i q (with_done there s) f)) asks-for
-
-    awaits-by : (steps_at w.world t s f (Some i)).after ≡ (goes_again w.world t i (ready_for w n s f) f (Some c) turn).after
-    awaits-by =
-        steps-by s f line (Named n) tied (Some c) is
-        ∙ (ap (λ x. (goes_again w.world t i (readied w line (Named n) s f) f (Some c) x).after) first-is
-        ∙ ap (λ x. (goes_again w.world t i x f (Some c) turn).after) (with-loaded (newly_loaded w.world.program s.shared.loaded n f.operands) s))
-
-    turn-behind : turn.after ≡ behind (acts w line s f)
-    turn-behind = ap behind (sym acts-begun)
-
-    -- where the class is not ready behind its initialization, nothing else is done
-    pub not-again : is_ready (phase_of turn.after.shared c) ≡ false → turn.after ≡ (steps_at w.world t s f (Some i)).after
-    not-again isnt = sym (awaits-by ∙ ap (λ (x : Turn). x.after) (awaits-stays i (ready_for w n s f) f c turn isnt))
-
-    -- nothing is loaded behind
-    same-loaded : turn.after.shared.loaded ≡ s.shared.loaded ++ newly_loaded w.world.program s.shared.loaded n f.operands
-    same-loaded = settled-loaded w.world t (still begun) ∙ law.loaded
-
     module _ (ending : s.ending ≡ None) (ready : is_ready (phase_of turn.after.shared c) ≡ true) where
       running : phase_of (with_phase there.shared c Running) c ≡ Some Running
       running = set-there there.shared.phases c Running Fresh fresh
@@ -221,26 +174,6 @@ module _ (w : Setup) where
           subst (λ (x : State). IsReadyAgain w t c f s.stack (turn_settled w.world t (still x))) same
           (ready-again w t c f s.stack s.thrown s.begun (s.output ++ there.wrote) (with_phase there.shared c Running) running
           (ap (λ (x : State). phase_of (turn_settled w.world t (still x)).after.shared c) same ∙ ready-of (phase_of turn.after.shared c) ready))
-
-      abbrev from : State
-      from = record turn.after { stack = s.stack }
-
-      loads-none : newly_loaded w.world.program from.shared.loaded n f.operands ≡ []
-      loads-none = ap (λ l. newly_loaded w.world.program l n f.operands) same-loaded ∙ newly-again w.world.program s.shared.loaded n f.operands
-
-      abbrev tried : State → State
-      tried x = (tries w.world t i x f (does_named w.world n x.shared f.locals f.operands)).after
-
-      second-after : (attempt w.world t i from f).after ≡ behind (acts w line from f)
-      second-after =
-          sym (ap (λ cs. tried (with_loaded cs from)) loads-none) ∙ first-after from f line (Named n) tied
-
-      -- its line is attempted in the same step
-      pub attempts-again : behind (acts w line from f) ≡ (steps_at w.world t s f (Some i)).after
-      attempts-again =
-          sym (awaits-by
-          ∙ (ap (λ (x : Turn). x.after) (awaits-again i (ready_for w n s f) f c turn ready restored.quiet restored.ending restored.thrown)
-          ∙ second-after))
 
   -- the line of a frame that awaits a class
   record IsAwaiting (s : State) (f : Frame) (c : ℕ) (lo : Option Line) (io : Option Instruction) : Type 0 where
@@ -311,22 +244,12 @@ module _ (w : Setup) (run : CanRun w) (s : State) (going : IsGoing s) where
     abbrev reached : State
     reached = (turn w under going.frame here.line here.named c here.tied here.awaits).after
 
-    step-there : (step w.world text s).after ≡ (steps_at w.world text under going.frame (Some (instruction_by (Named here.named) here.line))).after
-    step-there = step-at ∙ ap (λ x. (steps_at w.world text under going.frame x).after) here.instruction
-
     module _ (mid behind_it : State) (attempted : mid ≡ attempts_on w s s.stack) (settles : behind_it ≡ behind w mid) where
       comes-there : behind_it ≡ reached
       comes-there =
           settles
           ∙ ap (behind w) (attempted ∙ (attempted-here ∙ (ap (attempts_line w under going.frame) here.there
           ∙ acts-begun w under going.frame here.line here.named c here.tied here.awaits)))
-
-      -- where its class is not ready behind its initialization, nothing else is done
-      pub step-awaits : is_ready (phase_of behind_it.shared c) ≡ false → behind_it ≡ (step w.world text s).after
-      step-awaits isnt =
-          comes-there ∙ (not-again w under going.frame here.line here.named c here.tied here.awaits
-          (sym (ap (λ (x : State). is_ready (phase_of x.shared c)) comes-there) ∙ isnt)
-          ∙ sym step-there)
 
       module _ (ready : is_ready (phase_of behind_it.shared c) ≡ true) where
         ready-there : is_ready (phase_of reached.shared c) ≡ true
@@ -344,21 +267,8 @@ module _ (w : Setup) (run : CanRun w) (s : State) (going : IsGoing s) where
           stack = ap (λ (x : State). x.stack) comes-there ∙ back.stack;
         }
 
-        pub ending-again : behind_it.ending ≡ None
-        ending-again = ap (λ (x : State). x.ending) comes-there ∙ back.ending
-
         pub stack-again : behind_it.stack ≡ Active going.frame ∷ going.rest
         stack-again = ap (λ (x : State). x.stack) comes-there ∙ back.stack
-
-        -- and its line is attempted in the same step
-        pub step-again : (mid_again after : State) → mid_again ≡ attempts_on w behind_it behind_it.stack → after ≡ behind w mid_again → after ≡ (step w.world text s).after
-        step-again mid_again after attempted_again settles_again =
-            settles_again
-            ∙ (ap (behind w) (attempted_again
-            ∙ (ap (λ (x : State). attempts_on w x x.stack) comes-there
-            ∙ (ap (attempts_on w reached) back.stack ∙ ap (attempts_line w (record reached { stack = going.rest }) going.frame) here.there)))
-            ∙ (attempts-again w under going.frame here.line here.named c here.tied here.awaits going.ending ready-there
-            ∙ sym step-there))
 
 -- ---- over the parts of a machine
 
@@ -376,24 +286,6 @@ module _ (ms : List Initialization) (p : Parts) where
 
   pub going-on : goes_on_in ms p ≡ true → IsGoing (state_of ms p)
   going-on is = going-by p.ending p.frames.frames is
-
-  -- where an initialization is on top, or nothing, or the run has ended, a step does nothing
-  stays-by : (w : Setup) (s : State) (ending : Option Ending) (fs : List PlacedFrame) → (is_none ending && (has_frame fs && is_none (initialization_on (length fs) ms))) ≡ false
-      → (steps_on w.world (listing_of w.versions) s ending (stack_of (map active fs) ms)).after ≡ s
-  stays-by w s (Some e) fs is = refl
-  stays-by w s None [] is = ap (λ es. (steps_on w.world (listing_of w.versions) s None es).after) (stack-empty ms) ∙ by ms where
-    by : (marks : List Initialization) → (steps_on w.world (listing_of w.versions) s None (map initializing_entry marks)).after ≡ s
-    by [] = refl
-    by (m ∷ marks) = refl
-  stays-by w s None (f ∷ fs) is = by (initialization_on (length (f ∷ fs)) ms) refl is where
-    by : (o : Option Initialization) → initialization_on (length (f ∷ fs)) ms ≡ o → is_none o ≡ false → (steps_on w.world (listing_of w.versions) s None (stack_of (map active (f ∷ fs)) ms)).after ≡ s
-    by None e isnt = absurd (false≢true (sym isnt))
-    by (Some m) e isnt =
-        let on = stack-on (map active (f ∷ fs)) ms m (ap (λ n. initialization_on n ms) (length-active (f ∷ fs)) ∙ e) in
-        ap (λ es. (steps_on w.world (listing_of w.versions) s None es).after) on.1
-
-  pub step-stays : (w : Setup) → goes_on_in ms p ≡ false → state_of ms p ≡ (step w.world (listing_of w.versions) (state_of ms p)).after
-  step-stays w is = sym (stays-by w (state_of ms p) p.ending p.frames.frames is)
 
   -- a frame that stands on top has no initialization on it
   executing-by : (fs : List PlacedFrame) (f : Frame) (rest : List Entry) → stack_of (map active fs) ms ≡ Active f ∷ rest

@@ -1,13 +1,10 @@
--- The state before the start of a program, on whatever input, and what makes the first class ready.
-use Rattle.std.specs.Prelude.{◌≡◌, ◌≤◌, ℕ, List, [], ◌∷◌, ◌++◌, Result, Ok, Err}
+-- The state before the start of a program, on whatever input, and how its main class begins.
+use Rattle.std.specs.Prelude.{◌≡◌, ◌≤◌, ℕ, List, Result, Ok, Err}
 use Rattle.jvm_model.specs.declared.program.Program.{Program}
-use Rattle.jvm_model.specs.declared.state.Phase.TheVariants.{Ready}
-use Rattle.jvm_model.specs.declared.state.Shared.{Shared}
 use Rattle.jvm_model.specs.declared.state.State.{State}
 use Rattle.jvm_model.specs.Basis.Data.{World, Outcome, Raises}
 use Rattle.jvm_model.specs.Running.Moves.{raises}
 use Rattle.jvm_model.specs.Running.Run.{before}
-use Rattle.jvm_model.specs.Basis.SharedState.{with_phase}
 use Rattle.interpreter.specs.Instructions.Initializing.{begins_class}
 
 -- it holds of that state
@@ -22,10 +19,6 @@ pub record CanStart (p : Program) : Type 0 where
 pub record IsAtStart (w : World) (s : State) : Type 0 where
   pub before : s ≡ before w
   pub room : 1024 ≤ w.program.heap
-
--- the first class is loaded, and ready
-abbrev pub with_first : Shared → Shared
-with_first s = with_phase (record s { loaded = s.loaded ++ 0 ∷ [] }) 0 Ready
 
 -- What was found for the main class's name: its initialization begins, or what stopped its loading is raised.
 abbrev pub begun_by : World → ℕ → Result ℕ Outcome → State → State

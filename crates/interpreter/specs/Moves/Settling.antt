@@ -8,8 +8,7 @@ use Rattle.jvm_model.specs.declared.state.Entry.{Entry}
 use Rattle.jvm_model.specs.declared.state.Entry.TheVariants.{Active}
 use Rattle.jvm_model.specs.Basis.Data.{Instruction, Turn}
 use Rattle.jvm_model.specs.Running.Applies.{goes, new_frame}
-use Rattle.jvm_model.specs.Running.Moves.{argument_array, throw_caught, handler_for, move, own_at}
-use Rattle.jvm_model.specs.Basis.SharedState.{class_of}
+use Rattle.jvm_model.specs.Running.Moves.{argument_array, move, own_at}
 use Rattle.prepared_code.specs.declared.parts.Parts.{Parts}
 use Rattle.prepared_code.specs.declared.parts.Here.{Here}
 use Rattle.prepared_code.specs.States.{frame_in, state_in, state_with}
@@ -42,13 +41,6 @@ abbrev pub caught_at : Setup → ℕ → ℕ → List PlacedFrame → Parts → 
 caught_at w r target [] p = state_in p
 caught_at w r target (f ∷ fs) p =
     goes (record (state_with fs p) { thrown = None }) (frame_in f) (own_at (listing_of w.versions) (frame_in f)) f.locals (Ref r ∷ []) (Some target)
-
--- by the first handler that covers its place, or its activation ends
-abbrev pub caught_top : Setup → ℕ → List PlacedFrame → Parts → State
-caught_top w r [] p = state_in p
-caught_top w r (f ∷ fs) p =
-    let t = listing_of w.versions in
-    (throw_caught w.world t (state_with fs p) r (frame_in f) (handler_for w.world (class_of w.world.program p.shared r) f.place (t.handlers f.version))).after
 
 -- ---- `main` begins
 

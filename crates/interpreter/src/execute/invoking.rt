@@ -1,94 +1,27 @@
 //! Invocation (JVM Specification 2.6, 2.6.1, 5.5, 6.5).
 
-ghost use Rattle.std.specs.Prelude.{◌≡◌, ◌<◌, ◌≤◌, ◌^◌, false, true, length, is_some, IfOk, OnErr, OnOk};
+ghost use Rattle.std.specs.Prelude.{◌≡◌, ◌≤◌, false, true, IfOk, OnErr, OnOk};
 ghost use Rattle.frame_stack.specs.FrameLists.{top_operands};
 ghost use Rattle.frame_stack.specs.Widths.{width};
-ghost use Rattle.jvm_model.specs.Basis.Values.{data_of, datum_of};
 ghost use Rattle.jvm_model.specs.Basis.Programs.{name_at};
 ghost use Rattle.jvm_model.specs.declared.exception.Exception.TheVariants.{NoClassDefinition};
 ghost use Rattle.interpreter.specs.Instructions.Acts.{raising};
-ghost use Rattle.interpreter.specs.Instructions.Arguments.{arguments_of, can_begin, with_begun};
-ghost use Rattle.interpreter.specs.Instructions.Arguments.{fits_params, is_long_kind, slots_for, taken_slots};
+ghost use Rattle.interpreter.specs.Instructions.Arguments.{can_begin, with_begun};
+ghost use Rattle.interpreter.specs.Instructions.Arguments.{taken_slots};
 ghost use Rattle.interpreter.specs.Instructions.Invoking.{method_called, may_begin};
 ghost use Rattle.prepared_code.specs.States.{state_in};
 
 use crate::execute::entering::enter;
 use crate::unwind::raising::{break_at, raise, raise_with};
-use const_pool::Kind;
 use frame_stack::Frames;
 use heap_objects::Value;
 use jf_bytes::NoMemory;
 use jvm_model::Exception;
 use prepared_code::{Here, Originals, Parts};
 use std::alloc::Global;
-use symbolic_references::datum_of;
 
 /// How many activations are live at most.
 const MOST_LIVE: u32 = 1024;
-
-// ---- arguments
-
-/// Whether an argument of this kind may be the value.
-fn is_of_kind(kind: Kind, value: Value) -> bool
-    ensures { result ≡ is_some (datum_of kind value) }
-{
-    datum_of(kind, value).is_some()
-}
-
-/// Whether the topmost operands are as many as the parameters, each of its kind, the first
-/// parameter's the deepest.
-fn are_of_kinds(params: &[Kind], frames: &Frames) -> bool
-    requires { length params.now < 2 ^ 16 }
-    ensures { result ≡ is_some (data_of params.now
-        (arguments_of (length params.now) frames.now.frames)) }
-{
-    let count = params.len();
-    for i in 0..count {
-        let Some(value) = frames.peek((count - 1 - i) as u16) else {
-            return false;
-        };
-        if !is_of_kind(params[i], value) {
-            return false;
-        }
-    }
-    true
-}
-
-/// Whether an argument of this kind takes two locals.
-fn is_long_kind(kind: Kind) -> bool
-    ensures { result ≡ is_long_kind kind }
-{
-    match kind {
-        Kind::Long => true,
-        _ => false,
-    }
-}
-
-/// How many locals arguments of these kinds take.
-fn slots_for(params: &[Kind]) -> usize
-    requires { length params.now < 2 ^ 16 }
-    ensures { result ≡ slots_for params.now }
-{
-    let longs = params.iter().filter(|kind| is_long_kind(**kind)).count();
-    params.len() + longs
-}
-
-/// Whether a method's arguments are there and fit into its locals.
-pub fn fits_params(originals: &Originals, frames: &Frames, method: u32) -> bool
-    ensures { result ≡ fits_params originals.now.setup method frames.now.frames }
-{
-    let Some(params) = originals.params(method) else {
-        return false;
-    };
-    let max_locals = originals.max_locals(method) as usize;
-    if params.len() > max_locals {
-        return false;
-    }
-    if !are_of_kinds(params.as_slice(), frames) {
-        return false;
-    }
-    slots_for(params.as_slice()) <= max_locals
-}
 
 // ---- a method begins
 

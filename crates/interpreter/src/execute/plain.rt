@@ -200,17 +200,3 @@ pub fn plain_to<'a>(
     *count = most;
     None
 }
-
-/// Such steps, at most so many: how many it has made.
-pub fn plain_steps(originals: &Originals, parts: &mut Parts, most: u64) -> u64
-    requires { CanRun originals.now.setup }
-    ensures within { result ≤ most }
-    ensures made { LeadsAlone originals.now.setup parts.old result parts.new }
-{
-    let Some(version) = version_now(originals, &parts.frames) else {
-        return 0;
-    };
-    let mut made = 0;
-    let _stop = plain_to(version, parts, most, &mut made);
-    made
-}

@@ -2,64 +2,22 @@
 //! `main` begins.
 
 ghost use Rattle.std.specs.Prelude.{◌≡◌, ◌++◌, true, OnOk};
-ghost use Rattle.jvm_model.specs.Running.Run.{main_class, main_loads, start, starts_if, starts_with};
+ghost use Rattle.jvm_model.specs.Running.Run.{main_loads, starts_if, starts_with};
 ghost use Rattle.jvm_model.specs.Basis.SharedState.{arguments_fit};
 ghost use Rattle.jvm_model.specs.Soundness.Sound.{IsFit};
-ghost use Rattle.jvm_model.specs.Classes.Starting.{ready_in, unmade_in};
 ghost use Rattle.symbolic_references.specs.Answers.{found_view};
-ghost use Rattle.interpreter.specs.Machine.Before.{IsAtStart, begun_by, with_first};
+ghost use Rattle.interpreter.specs.Machine.Before.{IsAtStart, begun_by};
 ghost use Rattle.prepared_code.specs.Initializations.{state_of};
-ghost use Rattle.prepared_code.specs.Standing.{IsRunOf, IsSetUp};
-ghost use Rattle.prepared_code.specs.States.{state_in};
-ghost use Rattle.prepared_code.specs.Versions.{listing_of};
 
 use crate::execute::asking::raise_named;
-use crate::initialize::initializing::{initialize, set_phase};
-use crate::unwind::handlers::class_of;
-use crate::unwind::settling::settle;
+use crate::initialize::initializing::initialize;
 use jf_bytes::{NoMemory, Stack};
-use jvm_model::{Ending, Phase, Shared};
 use prepared_code::{Initialization, Originals, Parts, arguments_fit, main_class, make_arguments};
 use std::alloc::Global;
 use symbolic_references::AbruptCompletion;
 
 /// The OutOfMemoryError that the machine throws.
 const OUT_OF_MEMORY: u32 = 1;
-
-// ---- the main class is ready by itself
-
-/// The main class, which is the first one, is loaded, and ready.
-fn load_first(shared: &mut Shared) -> Result<(), NoMemory>
-    ensures { OnOk result (shared.new ≡ with_first shared.old) }
-{
-    shared.loaded.push(0)?;
-    set_phase(shared, 0, Phase::Ready);
-    Ok(())
-}
-
-/// What comes before `main` where nothing else runs at the start: the arguments are made, for which
-/// there is room, and the main class is loaded, and ready.
-pub fn make_ready(originals: &Originals, parts: &mut Parts) -> Result<(), NoMemory>
-    requires at_start { IsAtStart originals.now.setup.world (state_in parts.old) }
-    requires fits { arguments_fit originals.now.setup.world.program ≡ true }
-    ensures { OnOk result (state_in parts.new ≡ ready_in originals.now.setup.world) }
-{
-    make_arguments(originals.program(), &mut parts.shared.heap)?;
-    load_first(&mut parts.shared)
-}
-
-/// There is no room for the arguments: object 1 is thrown, which nothing catches, and the run ends.
-pub fn end_unmade(originals: &Originals, parts: &mut Parts)
-    requires { IsAtStart originals.now.setup.world (state_in parts.old) }
-    ensures { state_in parts.new ≡ (unmade_in originals.now.setup.world).after }
-{
-    parts.thrown = Some(OUT_OF_MEMORY);
-    parts.ending = Some(Ending::Uncaught(class_of(
-        originals.program(),
-        &parts.shared.heap,
-        OUT_OF_MEMORY,
-    )));
-}
 
 // ---- the main class is loaded
 
@@ -136,26 +94,4 @@ pub fn begin_start(
     }
     parts.thrown = Some(OUT_OF_MEMORY);
     Ok(())
-}
-
-/// The start: the arguments are made, the main class is loaded and initialized, and `main` begins
-/// where no static initializer runs before; or the run ends.
-pub fn start(
-    alloc: Global,
-    originals: &mut Originals,
-    parts: &mut Parts,
-    initializing: &mut Stack<Initialization>,
-) -> Result<(), NoMemory>
-    requires at_start { IsAtStart originals.old.setup.world (state_of initializing.old parts.old) }
-    requires linked { originals.old.loaded ≡ parts.old.shared.loaded }
-    requires fit { IsFit originals.old.setup.world.program }
-    ensures world { originals.new.setup ≡ originals.old.setup }
-    ensures linked { OnOk result (originals.new.loaded ≡ parts.new.shared.loaded) }
-    ensures state { let w = originals.old.setup in OnOk result
-        (state_of initializing.new parts.new ≡ (start w.world (listing_of w.versions)).after) }
-    ensures stands { let w = originals.old.setup in
-        IsSetUp w → OnOk result (IsRunOf w 0 (state_of initializing.new parts.new)) }
-{
-    begin_start(alloc, originals, parts, initializing)?;
-    settle(alloc, originals, parts, initializing)
 }

@@ -15,7 +15,7 @@ ghost use Rattle.interpreter.specs.Moves.Hands.{HasGoneOn, HasInHand};
 
 use crate::execute::passing::leave;
 use crate::turns::hands::{Gone, Hand, gone_to};
-use crate::turns::stepping::is_at_rest;
+use crate::turns::resting::is_at_rest;
 use jf_bytes::Stack;
 use jvm_model::Due;
 use prepared_code::{Action, Initialization, Originals, Parts, line_in, where_now};

@@ -6,7 +6,7 @@ ghost use Rattle.prepared_code.specs.Initializations.{state_of};
 ghost use Rattle.interpreter.specs.Moves.Turning.{goes_by_moves, pause_at, paused_in};
 ghost use Rattle.interpreter.specs.Moves.Turning.{frame_resumed, resumed_count};
 
-use crate::turns::stepping::is_at_rest;
+use crate::turns::resting::is_at_rest;
 use crate::turns::turning::{Moved, make_move};
 use jf_bytes::{NoMemory, Stack};
 use jvm_model::{Due, EventKind};

@@ -18,7 +18,7 @@ ghost use Rattle.interpreter.specs.Moves.Trying.{pause_behind_attempt, tried_in}
 
 use crate::execute::attempting::{attempt, attempt_loaded};
 use crate::turns::pausing::{one_more, pause};
-use crate::turns::stepping::{goes_on, is_ready};
+use crate::turns::resting::{goes_on, is_ready};
 use crate::turns::turning::is_marked;
 use frame_stack::Frames;
 use jf_bytes::{NoMemory, Stack};

@@ -1,27 +1,25 @@
-//! What follows from an instruction by itself (JVM Specification 2.10, 5.5): a throw goes to a
-//! handler or ends activations, an initialization goes on, and a run with nothing left ends, or
-//! begins `main`.
+//! What a move behind an instruction does (JVM Specification 2.10, 5.5): a frame goes on at a handler, an initialization goes
+//! on, `main` begins.
 
-ghost use Rattle.std.specs.Prelude.{◌≡◌, [], false, map, None, Some, is_some, IfOk, OnOk};
-ghost use Rattle.jvm_model.specs.Running.Applies.{has_room, still};
-ghost use Rattle.jvm_model.specs.Running.Moves.{argument_array, main_or_end, move, turn_settled};
+ghost use Rattle.std.specs.Prelude.{◌≡◌, [], false, map, Some, IfOk, OnOk};
+ghost use Rattle.jvm_model.specs.Running.Applies.{has_room};
+ghost use Rattle.jvm_model.specs.Running.Moves.{argument_array, main_or_end};
 ghost use Rattle.interpreter.specs.Instructions.Initializing.{after_initialization, initialization_begins};
 ghost use Rattle.prepared_code.specs.Initializations.{state_of};
 ghost use Rattle.prepared_code.specs.States.{active, here_of, state_in};
 ghost use Rattle.interpreter.specs.Moves.Settling.{frame_emptied, fits_alone, with_alone};
-ghost use Rattle.interpreter.specs.Moves.Settling.{after_move, caught_at, caught_top, main_entries};
+ghost use Rattle.interpreter.specs.Moves.Settling.{caught_at, main_entries};
 ghost use Rattle.interpreter.specs.Moves.Turning.{begun_in};
 ghost use Rattle.prepared_code.specs.Versions.{listing_of};
 
 use crate::execute::entering::enter;
 use crate::initialize::initializing::{fail, go_on};
-use crate::unwind::handlers::{class_of, handler_for};
 use crate::unwind::raising::break_at;
 use frame_stack::Frames;
 use heap_objects::Value;
 use jf_bytes::{NoMemory, Stack};
 use jvm_model::Ending;
-use prepared_code::{Here, Initialization, Originals, Parts, take_initialization, where_now};
+use prepared_code::{Here, Initialization, Originals, Parts};
 use std::alloc::Global;
 
 /// The argument array's object.
@@ -68,49 +66,6 @@ pub fn go_to_handler(
     Ok(())
 }
 
-/// A throw meets the current frame: it goes on at a handler, or its activation ends.
-fn meet_frame(
-    alloc: Global,
-    originals: &Originals,
-    parts: &mut Parts,
-    object: u32,
-    here: Here,
-) -> Result<(), NoMemory>
-    requires { here_of parts.old.frames.frames ≡ Some here }
-    ensures state { OnOk result (state_in parts.new ≡
-        caught_top originals.now.setup object parts.old.frames.frames parts.old) }
-{
-    let class = class_of(originals.program(), &parts.shared.heap, object) as usize;
-    match handler_for(originals, here.version, class, here.place) {
-        Some(target) => go_to_handler(alloc, originals, parts, object, here, target),
-        None => {
-            parts.frames.leave();
-            Ok(())
-        }
-    }
-}
-
-/// A throw goes to a handler of the current frame or ends its activation, and with no frame left it
-/// ends the run.
-fn meet_throw(
-    alloc: Global,
-    originals: &Originals,
-    parts: &mut Parts,
-    object: u32,
-) -> Result<(), NoMemory>
-    requires ending { parts.old.ending ≡ None }
-    requires thrown { parts.old.thrown ≡ Some object }
-    ensures state { OnOk result
-        (state_in parts.new ≡ after_move originals.now.setup (state_in parts.old)) }
-{
-    let Some(here) = where_now(&parts.frames) else {
-        let class = class_of(originals.program(), &parts.shared.heap, object);
-        parts.ending = Some(Ending::Uncaught(class));
-        return Ok(());
-    };
-    meet_frame(alloc, originals, parts, object, here)
-}
-
 // ---- nothing is left
 
 /// The frame of `main`, which has its argument array, if it has a local for it.
@@ -149,43 +104,7 @@ pub fn begin_main(originals: &Originals, parts: &mut Parts) -> Result<Option<u32
     Ok(None)
 }
 
-/// With nothing thrown and no frame left the run has returned, or `main` begins.
-fn begin_or_end(originals: &Originals, parts: &mut Parts) -> Result<(), NoMemory>
-    requires { parts.old.frames.frames ≡ [] }
-    ensures state { let w = originals.now.setup in OnOk result (state_in parts.new ≡
-        (main_or_end w.world (listing_of w.versions) (state_in parts.old) parts.old.begun).after) }
-{
-    if !parts.begun {
-        begin_main(originals, parts)?;
-        return Ok(());
-    }
-    parts.ending = Some(Ending::Returned);
-    Ok(())
-}
-
 // ---- every move
-
-/// A move of the frames, where no initialization stands on the current one. False, with nothing changed,
-/// where none applies.
-fn move_frame(alloc: Global, originals: &Originals, parts: &mut Parts) -> Result<bool, NoMemory>
-    ensures answer { let w = originals.now.setup in
-        IfOk result (λ b. b ≡ is_some (move w.world (listing_of w.versions) (state_in parts.old))) }
-    ensures state { OnOk result
-        (state_in parts.new ≡ after_move originals.now.setup (state_in parts.old)) }
-{
-    if parts.ending.is_some() {
-        return Ok(false);
-    }
-    if let Some(object) = parts.thrown {
-        meet_throw(alloc, originals, parts, object)?;
-        return Ok(true);
-    }
-    if where_now(&parts.frames).is_some() {
-        return Ok(false);
-    }
-    begin_or_end(originals, parts)?;
-    Ok(true)
-}
 
 /// A throw meets the initialization of a class, or it goes on, after its initialization was taken off. The answer is
 /// the method that has begun.
@@ -218,42 +137,4 @@ pub fn move_initialization(
             initialization.part,
         ),
     }
-}
-
-/// Makes a move. False, with nothing changed, where none applies.
-fn make_move(
-    alloc: Global,
-    originals: &Originals,
-    parts: &mut Parts,
-    initializing: &mut Stack<Initialization>,
-) -> Result<bool, NoMemory>
-    ensures answer { let w = originals.now.setup in IfOk result (λ b.
-        b ≡ is_some (move w.world (listing_of w.versions) (state_of initializing.old parts.old))) }
-    ensures state { OnOk result (state_of initializing.new parts.new
-        ≡ after_move originals.now.setup (state_of initializing.old parts.old)) }
-{
-    if parts.ending.is_some() {
-        return Ok(false);
-    }
-    let Some(initialization) = take_initialization(parts, initializing) else {
-        return move_frame(alloc, originals, parts);
-    };
-    move_initialization(alloc, originals, parts, initializing, initialization)?;
-    Ok(true)
-}
-
-/// Makes all moves, up to where none applies.
-pub fn settle(
-    alloc: Global,
-    originals: &Originals,
-    parts: &mut Parts,
-    initializing: &mut Stack<Initialization>,
-) -> Result<(), NoMemory>
-    ensures { let w = originals.now.setup in
-        let turn = still (state_of initializing.old parts.old) in OnOk result
-        (state_of initializing.new parts.new
-        ≡ (turn_settled w.world (listing_of w.versions) turn).after) }
-{
-    while make_move(alloc, originals, parts, initializing)? {}
-    Ok(())
 }
