@@ -1,6 +1,5 @@
 -- Steps from a step in hand, and how much is left to be told of them.
 use Rattle.std.proofs.Common.{◌≡◌, ℕ, zero, suc, ◌+◌, ◌-◌, ◌<◌, ◌≤◌, Bool, true, false, List, [], ◌∷◌, ◌++◌, drop, length, Option, Some, None, Result, Ok, Err, if◌then◌else◌, refl, sym, ap, subst, ◌∙◌, length-append, arith}
-use Rattle.std.specs.Prelude.{MatchResult}
 use Rattle.std.proofs.lemmas.List.{length-drop}
 use Rattle.jvm_model.specs.declared.event.Event.{Event}
 use Rattle.jvm_model.specs.declared.event.EventKind.{EventKind}
@@ -19,7 +18,7 @@ use Rattle.jvm_machine.specs.Several.{Passes, RunsOn, none, more}
 use Rattle.jvm_machine.specs.Turns.{Settles, Turns}
 use Rattle.jvm_machine.specs.View.{View, events_left, has_ended, is_resting, step_begun, to_come, world}
 use Rattle.profile_session.specs.declared.parts.Parts.{Parts}
-use Rattle.profile_session.specs.Advances.{After, Finished, FinishedBy, Goes, Ran, RanOn, Stays, at_once, ended_by, later}
+use Rattle.profile_session.specs.Advances.{Finished, RanOn, at_once, later}
 use Rattle.profile_session.specs.Keeping.{is_idle}
 use Rattle.profile_session.specs.Parts.{Hears, IsBusy, IsHearable, IsSameRun, kept_in}
 use Rattle.profile_session.specs.Standing.{next_step}

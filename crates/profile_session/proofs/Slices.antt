@@ -1,16 +1,15 @@
 -- Steps that tell nothing, slices, and as many steps as are asked for.
-use Rattle.std.proofs.Common.{◌≡◌, ℕ, suc, ◌+◌, ◌-◌, ◌<◌, ◌≤◌, Bool, true, false, ◌&&◌, length, Result, Ok, Err, if◌then◌else◌, refl, sym, ap, subst, ◌∙◌, arith}
+use Rattle.std.proofs.Common.{◌≡◌, ℕ, suc, ◌+◌, ◌-◌, ◌<◌, ◌≤◌, Bool, true, false, ◌&&◌, if◌then◌else◌, refl, sym, ap, subst, ◌∙◌, arith}
 use Rattle.jvm_model.specs.Profiling.Revealed.{marks_of}
 use Rattle.jvm_model.specs.Soundness.Whole.{IsWhole}
 use Rattle.jvm_machine.specs.declared.turn.Turn.{Turn}
 use Rattle.jvm_machine.specs.declared.turn.Turn.TheVariants.{Settled}
 use Rattle.jvm_machine.specs.Several.{Passes, RunsOn, none, more}
 use Rattle.jvm_machine.specs.Turns.{Turns}
-use Rattle.jvm_machine.specs.View.{View, IsGoingOn, clock_advanced, step_begun, has_ended, is_resting, world, events_left}
+use Rattle.jvm_machine.specs.View.{View, IsGoingOn, clock_advanced, step_begun, has_ended, is_resting, world}
 use Rattle.profile_session.specs.declared.parts.Parts.{Parts}
-use Rattle.profile_session.specs.Advances.{After, Finished, FinishedBy, Goes, Makes, Ran, Sliced, Stays}
-use Rattle.std.specs.Prelude.{MatchResult}
-use Rattle.profile_session.specs.Parts.{Hears, IsBusy, IsHearable, IsSameRun, Rests, kept_in, revealed_in}
+use Rattle.profile_session.specs.Advances.{After, Makes, Ran, Sliced, Stays}
+use Rattle.profile_session.specs.Parts.{Hears, IsBusy, IsHearable, Rests, kept_in, revealed_in}
 use Rattle.profile_session.specs.Standing.{AtRest, next_step, rests, within}
 use Rattle.profile_session.specs.Turned.{is_telling}
 use Rattle.profile_session.proofs.Advancing.{after, clock-rises, fits, hearable, same-world, still-of}

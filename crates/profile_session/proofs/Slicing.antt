@@ -1,5 +1,5 @@
 -- A slice: several steps, and what is left to be told of them.
-use Rattle.std.proofs.Common.{◌≡◌, ℕ, suc, ◌+◌, ◌-◌, ◌<◌, ◌≤◌, Bool, true, false, List, length, Option, Some, None, refl, sym, ap, subst, ◌∙◌, arith}
+use Rattle.std.proofs.Common.{◌≡◌, ℕ, zero, suc, ◌+◌, ◌-◌, ◌<◌, ◌≤◌, Bool, true, false, List, length, Option, Some, None, refl, sym, ap, subst, ◌∙◌, arith}
 use Rattle.jvm_model.specs.declared.event.Event.{Event}
 use Rattle.jvm_model.specs.Basis.Data.{World}
 use Rattle.jvm_machine.specs.declared.turn.Turn.{Turn}
@@ -39,7 +39,7 @@ left-further : (w : World) (n m last : ℕ) → n ≤ m → m ≤ last
     → suc (changes_of w m) + left_of w m (last - m) ≤ suc (changes_of w n) + left_of w n (last - n)
 left-further w n m last low high = by (m - n) (omega (arith, low)) where
   by : (gap : ℕ) → n + gap ≡ m → suc (changes_of w m) + left_of w m (last - m) ≤ suc (changes_of w n) + left_of w n (last - n)
-  by 0 same = subst (λ k. suc (changes_of w m) + left_of w m (last - m) ≤ suc (changes_of w k) + left_of w k (last - k)) (let e : m ≡ n = omega (arith, same) in e) (omega arith)
+  by zero same = subst (λ k. suc (changes_of w m) + left_of w m (last - m) ≤ suc (changes_of w k) + left_of w k (last - k)) (let e : m ≡ n = omega (arith, same) in e) (omega arith)
   by (suc d) same =
       let k : ℕ = last - m in
       let at : n + 1 + d ≡ m = omega (arith, same) in
