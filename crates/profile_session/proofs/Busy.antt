@@ -1,7 +1,6 @@
 -- Steps from a step in hand, and how much is left to be told of them.
-use Rattle.std.proofs.Common.{◌≡◌, ℕ, zero, suc, ◌+◌, ◌-◌, ◌<◌, ◌≤◌, Bool, true, false, List, [], ◌∷◌, ◌++◌, drop, length, Option, Some, None, Result, Ok, Err, if◌then◌else◌, refl, sym, ap, subst, ◌∙◌, length-append, arith}
+use Rattle.std.proofs.Common.{◌≡◌, ℕ, zero, suc, ◌+◌, ◌-◌, ◌<◌, ◌≤◌, Bool, true, false, List, [], ◌∷◌, length, if◌then◌else◌, refl, ap, subst, ◌∙◌, length-append, arith}
 use Rattle.std.proofs.lemmas.List.{length-drop}
-use Rattle.jvm_model.specs.declared.event.Event.{Event}
 use Rattle.jvm_model.specs.declared.event.EventKind.{EventKind}
 use Rattle.jvm_model.specs.declared.event.EventKind.TheVariants as kind
 use Rattle.jvm_model.specs.declared.event.Mark.{Mark}
@@ -13,19 +12,18 @@ use Rattle.jvm_model.specs.Running.Run.{turn}
 use Rattle.jvm_model.specs.Turns.Pauses.{told_from}
 use Rattle.jvm_model.specs.Turns.Told.{Held, change_told, changes_told, end_told, held_after}
 use Rattle.jvm_machine.specs.declared.turn.Turn.{Turn}
-use Rattle.jvm_machine.specs.declared.turn.Turn.TheVariants.{Settled, Loaded, Probe, Ended, Broken, NoMemory}
+use Rattle.jvm_machine.specs.declared.turn.Turn.TheVariants.{Settled}
 use Rattle.jvm_machine.specs.Several.{Passes, RunsOn, none, more}
 use Rattle.jvm_machine.specs.Turns.{Settles, Turns}
-use Rattle.jvm_machine.specs.View.{View, events_left, has_ended, is_resting, step_begun, to_come, world}
+use Rattle.jvm_machine.specs.View.{View, events_left, to_come, world}
 use Rattle.profile_session.specs.declared.parts.Parts.{Parts}
 use Rattle.profile_session.specs.Advances.{Finished, RanOn, at_once, later}
 use Rattle.profile_session.specs.Keeping.{is_idle}
-use Rattle.profile_session.specs.Parts.{Hears, IsBusy, IsHearable, IsSameRun, kept_in}
+use Rattle.profile_session.specs.Parts.{Hears, IsBusy, IsHearable, kept_in}
 use Rattle.profile_session.specs.Standing.{next_step}
 use Rattle.profile_session.specs.Turned.{is_telling}
 use Rattle.profile_session.proofs.Hearing.{hears-still}
-use Rattle.profile_session.proofs.Slices.{busy-clock, ran, ran-hearable, rest-clock, rest-going, then-stays, turn-after, turn-hearable}
-use Rattle.profile_session.proofs.Turning.{begun-busy}
+use Rattle.profile_session.proofs.Slices.{busy-clock, ran, ran-hearable, rest-going, turn-after, turn-hearable}
 
 -- ---- the first of several steps
 

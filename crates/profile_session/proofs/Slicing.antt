@@ -1,6 +1,7 @@
 -- A slice: several steps, and what is left to be told of them.
-use Rattle.std.proofs.Common.{◌≡◌, ℕ, zero, suc, ◌+◌, ◌-◌, ◌<◌, ◌≤◌, Bool, true, false, List, length, Option, Some, None, refl, sym, ap, subst, ◌∙◌, arith}
-use Rattle.jvm_model.specs.declared.event.Event.{Event}
+use Rattle.std.proofs.Common.{◌≡◌, ℕ, zero, suc, ◌+◌, ◌-◌, ◌<◌, ◌≤◌, Bool, true, false, length, Some, None, Result, Ok, Err, refl, sym, ap, subst, ◌∙◌, arith}
+use Rattle.std.specs.Prelude.{MatchResult}
+use Rattle.std.specs.Result.{IsErr}
 use Rattle.jvm_model.specs.Basis.Data.{World}
 use Rattle.jvm_machine.specs.declared.turn.Turn.{Turn}
 use Rattle.jvm_machine.specs.declared.turn.Turn.TheVariants.{Settled, Loaded, Probe, Ended, Broken, NoMemory}
@@ -85,6 +86,10 @@ slicing-first x next last r on at some = starts (record {
 pub slicing-ready : (first x : Parts) (last most : ℕ) → Slicing first last most x → IsReady x
 slicing-ready first x last most (starts s) = at_rest s.rests s.going
 slicing-ready first x last most (goes_on a profiles all) = in_step a.busy profiles
+
+pub slicing-world : (first x : Parts) (last most : ℕ) → Slicing first last most x → world x.vm ≡ world first.vm
+slicing-world first x last most (starts s) = s.stays.world_is
+slicing-world first x last most (goes_on a profiles all) = a.stays.world_is
 
 pub slicing-some : (first x : Parts) (last most : ℕ) → Slicing first last most x → 0 < most
 slicing-some first x last most (starts s) = s.some
@@ -242,6 +247,11 @@ module _ (first : Parts) (last most : ℕ) (x new : Parts) (t : Turn) where
         down = l.down g e;
       }
 
+-- what an error says, where it is handed on
+pub err-matches : {A E : Type 0} (r : Result A E) (P : A → Type 0) (Q : Type 0) → IsErr r → Q → MatchResult r P (λ e. Q)
+err-matches (Ok x) P Q is h = absurd (let no : false ≡ true = is in cc)
+err-matches (Err e) P Q is h = h
+
 -- ---- behind a turn where nothing was selected
 
 pub along-done : (first x new : Parts) (next last : ℕ) (ended : Bool) → next ≡ next_step first.vm → next ≤ last → Along first last x → Finished x ended new → Sliced first (last + 1 - next) ended new
@@ -274,11 +284,15 @@ onward-busily first x mid new last o b =
     }
 
 -- the slice goes on
-pub slicing-next : (first x new : Parts) (last now : ℕ) → Onward first last x new → is_idle (kept_in new).seen ≡ false → now ≡ new.vm.clock → Slicing first last (last + 1 - now) new
-slicing-next first x new last now o profiles at = let high = o.along.high in goes_on o.along profiles (omega (arith, at, high))
+pub slicing-next : (first x mid new : Parts) (last now : ℕ) → Onward first last x mid → GoesBusily mid new → now ≡ new.vm.clock → Slicing first last (last + 1 - now) new
+slicing-next first x mid new last now o b at =
+    let a = (onward-busily first x mid new last o b).along in
+    let high = a.high in
+    goes_on a b.profiles (omega (arith, at, high))
 
-pub slicing-down : (first x new : Parts) (last : ℕ) → Onward first last x new → left_by (is_resting new.vm) last new.vm < left_by (is_resting x.vm) last x.vm
-slicing-down first x new last o = subst (λ b. left_by b last new.vm < left_by (is_resting x.vm) last x.vm) (sym o.along.busy.busy) o.down
+pub slicing-down : (first x mid new : Parts) (last : ℕ) → Onward first last x mid → GoesBusily mid new → left_by (is_resting new.vm) last new.vm < left_by (is_resting x.vm) last x.vm
+slicing-down first x mid new last o b =
+    let on = onward-busily first x mid new last o b in subst (λ b. left_by b last new.vm < left_by (is_resting x.vm) last x.vm) (sym on.along.busy.busy) on.down
 
 -- ---- turns of a step in hand
 

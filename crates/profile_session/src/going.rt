@@ -82,7 +82,7 @@ impl Parts {
     }
 
     /// Turns of the step in hand while nothing is selected and no path is open: the session may do something behind each. Says whether the
-    /// run has ended where the step is done, and nothing where something is selected now.
+    /// run has ended where the step is done, and nothing where a path is open now.
     #[inline(never)]
     fn turn_while_idle(&mut self) -> Result<Option<bool>, NoMemory>
         requires busy { IsBusy self.old }
@@ -101,6 +101,21 @@ impl Parts {
                 None => {}
             }
         }
+    }
+
+    /// The same, and quickly where something is selected or a path is open: there it does nothing.
+    #[inline(always)]
+    fn turn_if_idle(&mut self) -> Result<Option<bool>, NoMemory>
+        requires busy { IsBusy self.old }
+        requires below { self.old.vm.clock < 2 ^ 63 }
+        ensures { MatchResult result
+            (λ done. TurnedTo self.old done self.new)
+            (λ e. IsSameRun self.old self.new) }
+    {
+        if !self.is_idle() {
+            return Ok(None);
+        }
+        self.turn_while_idle()
     }
 
     /// One step or several, none behind the last one. Says whether the run has ended. The machine is called in one place, so that what it
@@ -123,11 +138,9 @@ impl Parts {
                 Some(ended) => return Ok(ended),
                 None => {}
             }
-            if self.is_idle() {
-                match self.turn_while_idle()? {
-                    Some(ended) => return Ok(ended),
-                    None => {}
-                }
+            match self.turn_if_idle()? {
+                Some(ended) => return Ok(ended),
+                None => {}
             }
             most = last + 1 - self.vm.clock();
         }
