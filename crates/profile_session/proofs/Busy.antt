@@ -1,8 +1,6 @@
 -- Steps from a step in hand, and how much is left to be told of them.
-use Rattle.std.proofs.Common.{◌≡◌, ℕ, zero, suc, ◌+◌, ◌-◌, ◌<◌, ◌≤◌, Bool, true, false, List, [], ◌∷◌, ◌++◌, drop, length, Option, Some, None, Result, Ok, Err, if◌then◌else◌, refl, sym, ap, subst, ◌∙◌, length-append, arith}
-use Rattle.std.specs.Prelude.{MatchResult}
+use Rattle.std.proofs.Common.{◌≡◌, ℕ, zero, suc, ◌+◌, ◌-◌, ◌<◌, ◌≤◌, Bool, true, false, List, [], ◌∷◌, length, if◌then◌else◌, refl, ap, subst, ◌∙◌, length-append, arith}
 use Rattle.std.proofs.lemmas.List.{length-drop}
-use Rattle.jvm_model.specs.declared.event.Event.{Event}
 use Rattle.jvm_model.specs.declared.event.EventKind.{EventKind}
 use Rattle.jvm_model.specs.declared.event.EventKind.TheVariants as kind
 use Rattle.jvm_model.specs.declared.event.Mark.{Mark}
@@ -14,19 +12,18 @@ use Rattle.jvm_model.specs.Running.Run.{turn}
 use Rattle.jvm_model.specs.Turns.Pauses.{told_from}
 use Rattle.jvm_model.specs.Turns.Told.{Held, change_told, changes_told, end_told, held_after}
 use Rattle.jvm_machine.specs.declared.turn.Turn.{Turn}
-use Rattle.jvm_machine.specs.declared.turn.Turn.TheVariants.{Settled, Loaded, Probe, Ended, Broken, NoMemory}
+use Rattle.jvm_machine.specs.declared.turn.Turn.TheVariants.{Settled}
 use Rattle.jvm_machine.specs.Several.{Passes, RunsOn, none, more}
 use Rattle.jvm_machine.specs.Turns.{Settles, Turns}
-use Rattle.jvm_machine.specs.View.{View, events_left, has_ended, is_resting, step_begun, to_come, world}
+use Rattle.jvm_machine.specs.View.{View, events_left, to_come, world}
 use Rattle.profile_session.specs.declared.parts.Parts.{Parts}
-use Rattle.profile_session.specs.Advances.{After, Finished, FinishedBy, Goes, Ran, RanOn, Stays, at_once, ended_by, later}
+use Rattle.profile_session.specs.Advances.{Finished, RanOn, at_once, later}
 use Rattle.profile_session.specs.Keeping.{is_idle}
-use Rattle.profile_session.specs.Parts.{Hears, IsBusy, IsHearable, IsSameRun, kept_in}
+use Rattle.profile_session.specs.Parts.{Hears, IsBusy, IsHearable, kept_in}
 use Rattle.profile_session.specs.Standing.{next_step}
 use Rattle.profile_session.specs.Turned.{is_telling}
 use Rattle.profile_session.proofs.Hearing.{hears-still}
-use Rattle.profile_session.proofs.Slices.{busy-clock, ran, ran-hearable, rest-clock, rest-going, then-stays, turn-after, turn-hearable}
-use Rattle.profile_session.proofs.Turning.{begun-busy}
+use Rattle.profile_session.proofs.Slices.{busy-clock, ran, ran-hearable, rest-going, turn-after, turn-hearable}
 
 -- ---- the first of several steps
 
@@ -58,7 +55,7 @@ runs-from old new most n between t passes turns within all = record {
   all = λ settled. let e = all settled in omega (arith, e);
 }
 
-mid-clock : (x mid : Parts) → IsBusy x → Finished x false mid → (mid.vm.clock ≡ x.vm.clock) × (next_step mid.vm ≡ x.vm.clock + 1)
+pub mid-clock : (x mid : Parts) → IsBusy x → Finished x false mid → (mid.vm.clock ≡ x.vm.clock) × (next_step mid.vm ≡ x.vm.clock + 1)
 mid-clock x mid busy f =
     let same : mid.vm.clock ≡ x.vm.clock = f.clock ∙ busy-clock x busy in (same, ap (λ b. if b then mid.vm.clock + 1 else 0) f.started ∙ ap (λ n. n + 1) same)
 
@@ -89,12 +86,6 @@ module _ (x : Parts) (most : ℕ) (t : Turn) (v : View) (busy : IsBusy x) (profi
 
   pub busy-ran : (new : Parts) → RunsOn x.vm most t v → Hears (record x { vm = v }) t new → RanOn x most t new
   busy-ran new r h = ran-by new h r.steps r.between r.passes r.last r.within r.all
-
--- one turn of it, whatever it is
-pub turn-ran : {E : Type 0} (x new : Parts) (most : ℕ) (result : Result Turn E) → MatchResult result (λ t. After x t new) (λ e. IsSameRun x new)
-    → MatchResult result (λ t. RanOn x most t new) (λ e. IsSameRun x new)
-turn-ran x new most (Ok t) h = at_once h
-turn-ran x new most (Err e) h = h
 
 -- ---- how much is left to be told
 
@@ -135,10 +126,10 @@ from-short marks step true live (c ∷ others) =
     let whole : length (c ∷ others) ≡ length others + 1 = omega arith in
     omega (arith, rest, whole)
 
-abbrev changes_of : World → ℕ → ℕ
+abbrev pub changes_of : World → ℕ → ℕ
 changes_of w n = length (turn w n).changes
 
-left-short : (v : View) → length (events_left v) ≤ changes_of (world v) v.clock
+pub left-short : (v : View) → length (events_left v) ≤ changes_of (world v) v.clock
 left-short v =
     let told = from-short (mark_at v.marks) v.clock v.delivered v.live (to_come v) in
     let some = length-drop v.passed (turn (world v) v.clock).changes in
@@ -149,7 +140,7 @@ abbrev pub left_of : World → ℕ → ℕ → ℕ
 left_of w n zero = 0
 left_of w n (suc k) = suc (changes_of w (n + 1)) + left_of w (n + 1) k
 
-left-later : (w : World) (n d k : ℕ) → suc (changes_of w (n + 1 + d)) + left_of w (n + 1 + d) k ≤ left_of w n (suc (d + k))
+pub left-later : (w : World) (n d k : ℕ) → suc (changes_of w (n + 1 + d)) + left_of w (n + 1 + d) k ≤ left_of w n (suc (d + k))
 left-later w n zero k =
     let same : n + 1 ≡ n + 1 + 0 = omega arith in
     subst (λ m. suc (changes_of w m) + left_of w m k ≤ left_of w n (suc (0 + k))) same (subst (λ j. suc (changes_of w (n + 1)) + left_of w (n + 1) k ≤ left_of w n (suc j)) (let e : k ≡ 0 + k = omega arith in e) (omega arith))
@@ -166,7 +157,7 @@ abbrev pub left_in : ℕ → View → ℕ
 left_in last v = length (events_left v) + left_of (world v) v.clock (last - v.clock)
 
 -- a later step is in hand
-left-falls : (old new : View) (last : ℕ) → world new ≡ world old → old.clock < new.clock → new.clock ≤ last → left_in last new < left_in last old
+pub left-falls : (old new : View) (last : ℕ) → world new ≡ world old → old.clock < new.clock → new.clock ≤ last → left_in last new < left_in last old
 left-falls old new last same up high =
     let d : ℕ = new.clock - (old.clock + 1) in
     let k : ℕ = last - new.clock in
@@ -179,116 +170,3 @@ left-falls old new last same up high =
     let short : length (events_left new) ≤ changes_of (world old) new.clock = subst (λ w. length (events_left new) ≤ changes_of w new.clock) same (left-short new) in
     let rest : left_of (world new) new.clock k ≡ left_of (world old) new.clock k = ap (λ w. left_of w new.clock k) same in
     omega (arith, there, short, rest)
-
--- ---- from turn to turn
-
-pub record Along (first : Parts) (last : ℕ) (x : Parts) : Type 0 where
-  pub busy : IsBusy x
-  pub stays : Stays first x
-  pub low : first.vm.clock ≤ x.vm.clock
-  pub high : x.vm.clock ≤ last
-
-pub first-along : (x : Parts) (last : ℕ) → IsBusy x → x.vm.clock ≤ last → Along x last x
-first-along x last busy within = record { busy = busy; stays = record { world_is = refl; acts = refl; started = refl }; low = omega arith; high = within }
-
-pub record Onward (first : Parts) (last : ℕ) (x new : Parts) : Type 0 where
-  pub along : Along first last new
-  pub down : left_in last new.vm < left_in last x.vm
-
-module _ (first : Parts) (last : ℕ) (x new : Parts) (a : Along first last x) where
-  same-step : Goes x new → new.vm.clock ≡ x.vm.clock
-  same-step g = g.clock ∙ busy-clock x a.busy
-
-  -- a later step
-  later-goes : (mid : Parts) (t : Turn) → Finished x false mid → (r : Ran mid (last + 1 - x.vm.clock - 1) t new) → Goes r.between new → Onward first last x new
-  later-goes mid t f r g =
-      let at : new.vm.clock ≡ next_step r.between.vm = g.clock ∙ rest-clock r.between r.rests in
-      let next = (mid-clock x mid a.busy f).1 in
-      let low = r.low in
-      let high = r.high in
-      let up : x.vm.clock < new.vm.clock = omega (arith, at, next, low) in
-      let within : new.vm.clock ≤ last = (let le = a.high in omega (arith, at, next, high, le)) in
-      let stays = then-stays x mid new f.stays (then-stays mid r.between new r.stays g.stays) in
-      record {
-        along = record { busy = g.busy; stays = then-stays first x new a.stays stays; low = (let from = a.low in omega (arith, from, up)); high = within };
-        down = left-falls x.vm new.vm last stays.world_is up within;
-      }
-
-  onward-probe : (e : Event) → RanOn x (last + 1 - x.vm.clock) (Probe e) new → Onward first last x new
-  onward-probe e (at_once t) =
-      let at = same-step t.goes in
-      let fewer : suc (length (events_left new.vm)) ≡ length (events_left x.vm) = t.fewer ∙ ap (λ (v : View). length (events_left v)) (begun-busy x.vm a.busy.busy) in
-      let rest : left_of (world new.vm) new.vm.clock (last - new.vm.clock) ≡ left_of (world x.vm) x.vm.clock (last - x.vm.clock) =
-      ap (λ w. left_of w new.vm.clock (last - new.vm.clock)) t.goes.stays.world_is ∙ ap (λ c. left_of (world x.vm) c (last - c)) at in
-      record {
-        along = record {
-          busy = t.goes.busy;
-          stays = then-stays first x new a.stays t.goes.stays;
-          low = (let from = a.low in omega (arith, from, at));
-          high = (let to = a.high in omega (arith, to, at));
-        };
-        down = omega (arith, fewer, rest);
-      }
-  onward-probe e (later mid f r) = later-goes mid (Probe e) f r r.last.goes
-
-  onward-loaded : (classes : List ℕ) → RanOn x (last + 1 - x.vm.clock) (Loaded classes) new → Onward first last x new
-  onward-loaded classes (at_once t) = absurd (let h : true ≡ false = sym t.first ∙ a.busy.busy in cc)
-  onward-loaded classes (later mid f r) = later-goes mid (Loaded classes) f r r.last.goes
-
-  -- and where no step is in hand any more
-  now-finished : (ended : Bool) → Finished x ended new → FinishedBy first last ended new
-  now-finished ended f =
-      let at : new.vm.clock ≡ x.vm.clock = f.clock ∙ busy-clock x a.busy in
-      let low = a.low in
-      let high = a.high in
-      record {
-        stays = then-stays first x new a.stays f.stays;
-        rests = f.rests;
-        ended_is = f.ended_is;
-        started = f.started;
-        low = omega (arith, at, low);
-        high = omega (arith, at, high);
-      }
-
-  later-finished : (mid : Parts) (t : Turn) (ended : Bool) → Finished x false mid → (r : Ran mid (last + 1 - x.vm.clock - 1) t new) → Finished r.between ended new → FinishedBy first last ended new
-  later-finished mid t ended f r done =
-      let at : new.vm.clock ≡ next_step r.between.vm = done.clock ∙ rest-clock r.between r.rests in
-      let next = (mid-clock x mid a.busy f).1 in
-      let from = a.low in
-      let to = a.high in
-      let low = r.low in
-      let high = r.high in
-      record {
-        stays = then-stays first x new a.stays (then-stays x mid new f.stays (then-stays mid r.between new r.stays done.stays));
-        rests = done.rests;
-        ended_is = done.ended_is;
-        started = done.started;
-        low = omega (arith, at, next, from, low);
-        high = omega (arith, at, next, high, to);
-      }
-
-  settled-by : RanOn x (last + 1 - x.vm.clock) Settled new → FinishedBy first last false new
-  settled-by (at_once f) = now-finished false f
-  settled-by (later mid f r) = later-finished mid Settled false f r r.last
-
-  run-ended-by : RanOn x (last + 1 - x.vm.clock) Ended new → FinishedBy first last true new
-  run-ended-by (at_once f) = now-finished true f
-  run-ended-by (later mid f r) = later-finished mid Ended true f r r.last
-
-  pub finished-by : (t : Turn) (ended : Bool) → ended_by t ≡ Some ended → RanOn x (last + 1 - x.vm.clock) t new → FinishedBy first last ended new
-  finished-by Settled ended e r = let is : false ≡ ended = cc in subst (λ b. FinishedBy first last b new) is (settled-by r)
-  finished-by Ended ended e r = let is : true ≡ ended = cc in subst (λ b. FinishedBy first last b new) is (run-ended-by r)
-  finished-by (Loaded classes) ended e r = absurd cc
-  finished-by (Probe event) ended e r = absurd cc
-  finished-by Broken ended e r = absurd cc
-  finished-by NoMemory ended e r = absurd cc
-
-  pub onward-by : (t : Turn) → ended_by t ≡ None → RanOn x (last + 1 - x.vm.clock) t new → Onward first last x new
-  onward-by Settled e r = absurd cc
-  onward-by Ended e r = absurd cc
-  onward-by (Loaded classes) e r = onward-loaded classes r
-  onward-by (Probe event) e r = onward-probe event r
-  onward-by Broken e (at_once impossible) = absurd impossible
-  onward-by Broken e (later mid f r) = absurd r.last
-  onward-by NoMemory e (at_once impossible) = absurd impossible
-  onward-by NoMemory e (later mid f r) = absurd r.last

@@ -21,3 +21,4 @@ pub mod FirstParts
 pub mod SwapImages
 pub mod Sessions
 pub mod Busy
+pub mod Slicing

@@ -1,16 +1,15 @@
 -- Steps that tell nothing, slices, and as many steps as are asked for.
-use Rattle.std.proofs.Common.{◌≡◌, ℕ, suc, ◌+◌, ◌-◌, ◌<◌, ◌≤◌, Bool, true, false, ◌&&◌, length, Result, Ok, Err, if◌then◌else◌, refl, sym, ap, subst, ◌∙◌, arith}
+use Rattle.std.proofs.Common.{◌≡◌, ℕ, suc, ◌+◌, ◌-◌, ◌<◌, ◌≤◌, Bool, true, false, ◌&&◌, if◌then◌else◌, refl, sym, ap, subst, ◌∙◌, arith}
 use Rattle.jvm_model.specs.Profiling.Revealed.{marks_of}
 use Rattle.jvm_model.specs.Soundness.Whole.{IsWhole}
 use Rattle.jvm_machine.specs.declared.turn.Turn.{Turn}
 use Rattle.jvm_machine.specs.declared.turn.Turn.TheVariants.{Settled}
 use Rattle.jvm_machine.specs.Several.{Passes, RunsOn, none, more}
 use Rattle.jvm_machine.specs.Turns.{Turns}
-use Rattle.jvm_machine.specs.View.{View, IsGoingOn, clock_advanced, step_begun, has_ended, is_resting, world, events_left}
+use Rattle.jvm_machine.specs.View.{View, IsGoingOn, clock_advanced, step_begun, has_ended, is_resting, world}
 use Rattle.profile_session.specs.declared.parts.Parts.{Parts}
-use Rattle.profile_session.specs.Advances.{After, Finished, FinishedBy, Goes, Makes, Ran, Sliced, Stays}
-use Rattle.std.specs.Prelude.{MatchResult}
-use Rattle.profile_session.specs.Parts.{Hears, IsBusy, IsHearable, IsSameRun, Rests, kept_in, revealed_in}
+use Rattle.profile_session.specs.Advances.{After, Makes, Ran, Sliced, Stays}
+use Rattle.profile_session.specs.Parts.{Hears, IsBusy, IsHearable, Rests, kept_in, revealed_in}
 use Rattle.profile_session.specs.Standing.{AtRest, next_step, rests, within}
 use Rattle.profile_session.specs.Turned.{is_telling}
 use Rattle.profile_session.proofs.Advancing.{after, clock-rises, fits, hearable, same-world, still-of}
@@ -126,49 +125,6 @@ ran x new most turn v r on runs tells h =
 
 pub then-stays : (a b c : Parts) → Stays a b → Stays b c → Stays a c
 then-stays a b c s t = record { world_is = t.world_is ∙ s.world_is; acts = t.acts ∙ s.acts; started = t.started ∙ s.started }
-
--- ---- a slice
-
-pub sliced-done : (x new : Parts) (most : ℕ) (turn : Turn) (ended : Bool) (r : Ran x most turn new) → Finished r.between ended new → Sliced x most ended new
-sliced-done x new most turn ended r f =
-    let at : new.vm.clock ≡ next_step r.between.vm = f.clock ∙ rest-clock r.between r.rests in
-    let low = r.low in
-    let high = r.high in
-    record {
-      stays = then-stays x r.between new r.stays f.stays;
-      rests = f.rests;
-      ended_is = f.ended_is;
-      started = f.started;
-      low = omega (arith, at, low);
-      high = omega (arith, at, high);
-    }
-
-pub sliced-within : (x mid : Parts) (most last : ℕ) (turn : Turn) (r : Ran x most turn mid) → Goes r.between mid → next_step x.vm + most ≡ last + 1 → mid.vm.clock ≤ last
-sliced-within x mid most last turn r g sum =
-    let at : mid.vm.clock ≡ next_step r.between.vm = g.clock ∙ rest-clock r.between r.rests in
-    let high = r.high in
-    omega (arith, at, high, sum)
-
-sliced-on : (x mid new : Parts) (most last : ℕ) (turn : Turn) (ended : Bool) (r : Ran x most turn mid) → Goes r.between mid → next_step x.vm + most ≡ last + 1 → FinishedBy mid last ended new
-    → Sliced x most ended new
-sliced-on x mid new most last turn ended r g sum f =
-    let at : mid.vm.clock ≡ next_step r.between.vm = g.clock ∙ rest-clock r.between r.rests in
-    let first = r.low in
-    let low = f.low in
-    let high = f.high in
-    record {
-      stays = then-stays x mid new (then-stays x r.between mid r.stays g.stays) f.stays;
-      rests = f.rests;
-      ended_is = f.ended_is;
-      started = f.started;
-      low = omega (arith, at, first, low);
-      high = omega (arith, high, sum);
-    }
-
-pub sliced-finish : {E : Type 0} (x mid new : Parts) (most last : ℕ) (turn : Turn) (result : Result Bool E) (r : Ran x most turn mid) → Goes r.between mid → next_step x.vm + most ≡ last + 1
-    → MatchResult result (λ ended. FinishedBy mid last ended new) (λ e. IsSameRun mid new) → MatchResult result (λ ended. Sliced x most ended new) (λ e. IsSameRun x new)
-sliced-finish x mid new most last turn (Ok ended) r g sum f = sliced-on x mid new most last turn ended r g sum f
-sliced-finish x mid new most last turn (Err e) r g sum f = f ∙ (g.stays.world_is ∙ r.stays.world_is)
 
 -- ---- many slices
 

@@ -2,9 +2,10 @@
 use Rattle.std.specs.Prelude.{◌≡◌, ℕ, suc, ◌+◌, ◌-◌, ◌≤◌, ◌<◌, Bool, true, false, length, Option, Some, None}
 use Rattle.jvm_machine.specs.declared.turn.Turn.{Turn}
 use Rattle.jvm_machine.specs.declared.turn.Turn.TheVariants.{Settled, Loaded, Probe, Ended, Broken, NoMemory}
-use Rattle.jvm_machine.specs.View.{step_begun, has_ended, is_resting, world, events_left}
+use Rattle.jvm_machine.specs.View.{IsGoingOn, step_begun, has_ended, is_resting, world, events_left}
 use Rattle.profile_session.specs.declared.parts.Parts.{Parts}
-use Rattle.profile_session.specs.Parts.{IsBusy, Rests}
+use Rattle.profile_session.specs.Keeping.{is_idle}
+use Rattle.profile_session.specs.Parts.{IsBusy, Rests, kept_in}
 use Rattle.profile_session.specs.Standing.{next_step}
 
 pub record Stays (old new : Parts) : Type 0 where
@@ -67,14 +68,26 @@ ended_by (Probe e) = None
 ended_by Broken = None
 ended_by NoMemory = None
 
--- no step is in hand any more, and none was made behind the last one
-pub record FinishedBy (old : Parts) (last : ℕ) (ended : Bool) (new : Parts) : Type 0 where
-  pub stays : Stays old new
-  pub rests : Rests new
-  pub ended_is : has_ended new.vm ≡ ended
-  pub started : new.vm.started ≡ true
-  pub low : old.vm.clock ≤ new.vm.clock
-  pub high : new.vm.clock ≤ last
+-- Several steps can be made at once: none is in hand and the run goes on; or one is, and something is selected or a path is open, so that nothing is done behind it.
+pub data IsReady (x : Parts) : Type 0 where
+  at_rest : Rests x → IsGoingOn x.vm → IsReady x
+  in_step : IsBusy x → is_idle (kept_in x).seen ≡ false → IsReady x
+
+-- from either
+pub data RanFrom (old : Parts) (most : ℕ) (turn : Turn) (new : Parts) : Type 0 where
+  from_rest : Rests old → Ran old most turn new → RanFrom old most turn new
+  from_step : IsBusy old → RanOn old most turn new → RanFrom old most turn new
+
+-- the step in hand goes on where something is selected or a path is open
+pub record GoesBusily (old new : Parts) : Type 0 where
+  pub goes : Goes old new
+  pub profiles : is_idle (kept_in new).seen ≡ false
+  pub left : length (events_left new.vm) ≤ length (events_left old.vm)
+
+-- turns of the step in hand: it is done, and the run has ended in it or has not; or it goes on there
+abbrev pub TurnedTo : Parts → Option Bool → Parts → Type 0
+TurnedTo old (Some ended) new = Finished old ended new
+TurnedTo old None new = GoesBusily old new
 
 -- one step or several, no more than this
 pub record Sliced (old : Parts) (most : ℕ) (ended : Bool) (new : Parts) : Type 0 where

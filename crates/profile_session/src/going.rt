@@ -2,9 +2,8 @@
 
 ghost use Rattle.std.specs.Prelude.{◌≡◌, ◌+◌, ◌-◌, ◌^◌, ◌<◌, ◌≤◌, true, false, MatchResult, if◌then◌else◌};
 ghost use Rattle.jvm_machine.specs.View.{IsGoingOn, has_ended};
-ghost use Rattle.profile_session.specs.Advances.{After, FinishedBy, Makes, Ran, RanOn, Sliced, ended_by};
-ghost use Rattle.profile_session.specs.Keeping.{is_idle};
-ghost use Rattle.profile_session.specs.Parts.{IsBusy, IsSameRun, Rests, kept_in};
+ghost use Rattle.profile_session.specs.Advances.{After, IsReady, Makes, RanFrom, Sliced, TurnedTo, ended_by};
+ghost use Rattle.profile_session.specs.Parts.{IsBusy, IsSameRun, Rests};
 ghost use Rattle.profile_session.specs.Standing.{next_step};
 ghost use Rattle.profile_session.specs.Turned.{is_telling};
 
@@ -62,15 +61,14 @@ impl Parts {
         }
     }
 
-    /// Steps that tell nothing, the turn behind them, and what the session does behind that.
+    /// Steps that tell nothing, the turn behind them, and what the session does behind that; a step in hand is ended first.
     #[inline(always)]
     fn run(&mut self, most: u64) -> Result<Turn, NoMemory>
-        requires rests { Rests self.old }
-        requires going { IsGoingOn self.old.vm }
+        requires ready { IsReady self.old }
         requires some { 0 < most }
         requires below { self.old.vm.clock + most < 2 ^ 63 }
         ensures { MatchResult result
-            (λ turn. Ran self.old most turn self.new)
+            (λ turn. RanFrom self.old most turn self.new)
             (λ e. IsSameRun self.old self.new) }
     {
         let turn = self.vm.run_on(most);
@@ -83,66 +81,45 @@ impl Parts {
         }
     }
 
-    /// The rest of the step in hand and steps that tell nothing, the turn behind them, and what the session does behind that. Something is
-    /// selected or a path is open, so it does nothing behind the other turns.
-    #[inline(always)]
-    fn run_busy(&mut self, most: u64) -> Result<Turn, NoMemory>
+    /// Turns of the step in hand while nothing is selected and no path is open: the session may do something behind each. Says whether the
+    /// run has ended where the step is done, and nothing where a path is open now.
+    #[inline(never)]
+    fn turn_while_idle(&mut self) -> Result<Option<bool>, NoMemory>
         requires busy { IsBusy self.old }
-        requires profiles { is_idle (kept_in self.old).seen ≡ false }
-        requires some { 0 < most }
-        requires below { self.old.vm.clock + most < 2 ^ 63 }
+        requires below { self.old.vm.clock < 2 ^ 63 }
         ensures { MatchResult result
-            (λ turn. RanOn self.old most turn self.new)
-            (λ e. IsSameRun self.old self.new) }
-    {
-        let turn = self.vm.run_on(most);
-        if !is_telling(&turn) {
-            return Err(NoMemory);
-        }
-        match self.hear(&turn) {
-            Ok(()) => Ok(turn),
-            Err(error) => Err(error),
-        }
-    }
-
-    /// The next turn of the step in hand, or several, also of steps behind it, but of none behind the last one.
-    #[inline(always)]
-    fn go_on(&mut self, last: u64) -> Result<Turn, NoMemory>
-        requires busy { IsBusy self.old }
-        requires within { self.old.vm.clock ≤ last }
-        requires below { last < 2 ^ 62 }
-        ensures { MatchResult result
-            (λ turn. RanOn self.old (last + 1 - self.old.vm.clock) turn self.new)
-            (λ e. IsSameRun self.old self.new) }
-    {
-        if self.is_idle() {
-            return self.turn();
-        }
-        let most = last + 1 - self.vm.clock();
-        self.run_busy(most)
-    }
-
-    /// The rest of the step in hand and more steps, but none behind the last one, up to where no step is in hand. Says whether the run has
-    /// ended.
-    #[inline(always)]
-    fn finish(&mut self, last: u64) -> Result<bool, NoMemory>
-        requires busy { IsBusy self.old }
-        requires within { self.old.vm.clock ≤ last }
-        requires below { last < 2 ^ 62 }
-        ensures { MatchResult result
-            (λ ended. FinishedBy self.old last ended self.new)
+            (λ done. TurnedTo self.old done self.new)
             (λ e. IsSameRun self.old self.new) }
     {
         loop {
-            let turn = self.go_on(last)?;
+            if !self.is_idle() {
+                return Ok(None);
+            }
+            let turn = self.turn()?;
             match ended_by(&turn) {
-                Some(ended) => return Ok(ended),
+                Some(ended) => return Ok(Some(ended)),
                 None => {}
             }
         }
     }
 
-    /// One step or several, none behind the last one. Says whether the run has ended.
+    /// The same, and quickly where something is selected or a path is open: there it does nothing.
+    #[inline(always)]
+    fn turn_if_idle(&mut self) -> Result<Option<bool>, NoMemory>
+        requires busy { IsBusy self.old }
+        requires below { self.old.vm.clock < 2 ^ 63 }
+        ensures { MatchResult result
+            (λ done. TurnedTo self.old done self.new)
+            (λ e. IsSameRun self.old self.new) }
+    {
+        if !self.is_idle() {
+            return Ok(None);
+        }
+        self.turn_while_idle()
+    }
+
+    /// One step or several, none behind the last one. Says whether the run has ended. The machine is called in one place, so that what it
+    /// does becomes part of this loop.
     #[inline(always)]
     fn slice(&mut self, next: u64, last: u64) -> Result<bool, NoMemory>
         requires rests { Rests self.old }
@@ -154,14 +131,18 @@ impl Parts {
             (λ ended. Sliced self.old (last + 1 - next) ended self.new)
             (λ e. IsSameRun self.old self.new) }
     {
-        match self.run(last + 1 - next)? {
-            Turn::Settled => return Ok(false),
-            Turn::Ended => return Ok(true),
-            Turn::Probe(_) => return self.finish(last),
-            Turn::Loaded(_) => return self.finish(last),
-            // There was memory.
-            Turn::Broken => unreachable!(),
-            Turn::NoMemory => unreachable!(),
+        let mut most = last + 1 - next;
+        loop {
+            let turn = self.run(most)?;
+            match ended_by(&turn) {
+                Some(ended) => return Ok(ended),
+                None => {}
+            }
+            match self.turn_if_idle()? {
+                Some(ended) => return Ok(ended),
+                None => {}
+            }
+            most = last + 1 - self.vm.clock();
         }
     }
 

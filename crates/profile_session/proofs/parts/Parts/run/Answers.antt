@@ -1,5 +1,5 @@
 use Rattle.std.proofs.Common.{sym, ◌∙◌}
-use Rattle.profile_session.proofs.Slices.{ran, ran-hearable}
+use Rattle.profile_session.proofs.Slicing.{ready-hearable, ready-ran}
 use Rattle.profile_session.proofs.Worlds.{run-world}
 use Rattle.profile_session.proofs.parts.Parts.run.Goals as goal
 
@@ -8,11 +8,11 @@ returns-then-not-is_telling c = run-world c.args.self.now.vm c.run_on-turn.new.s
 
 pub hear-requires-clause-hearable : goal.hear-requires-clause-hearable
 hear-requires-clause-hearable c =
-    ran-hearable c.args.self.now c.args.most c.run_on-turn.result c.run_on-turn.new.self c.requires.rests c.requires.going c.run_on-turn.ensures (sym c.if-not-is_telling.ensures) c.requires.below
+    ready-hearable c.args.self.now c.args.most c.run_on-turn.result c.run_on-turn.new.self c.requires.ready (sym c.if-not-is_telling.ensures) c.requires.below c.run_on-turn.ensures
 
 pub returns-in-Ok : goal.returns-in-Ok
 returns-in-Ok c =
-    ran c.args.self.now c.hear.new.self c.args.most c.run_on-turn.result c.run_on-turn.new.self c.requires.rests c.requires.going c.run_on-turn.ensures (sym c.if-not-is_telling.ensures) c.in-Ok.ensures
+    ready-ran c.args.self.now c.hear.new.self c.args.most c.run_on-turn.result c.run_on-turn.new.self c.requires.ready (sym c.if-not-is_telling.ensures) c.requires.below c.run_on-turn.ensures c.in-Ok.ensures
 
 pub returns-in-Err : goal.returns-in-Err
 returns-in-Err c = c.in-Err.ensures ∙ run-world c.args.self.now.vm c.run_on-turn.new.self c.args.most c.run_on-turn.result c.run_on-turn.ensures
