@@ -1,71 +1,47 @@
 -- The class file that is made of a declaration. Its pool has an entry for each use, in the order of the class file: first
 -- the parts of an entry, then the entry.
-use Rattle.std.specs.Prelude.{◌≡◌, ℕ, ◌-◌, ◌%◌, List, [], ◌∷◌, ◌++◌, length, min, Option, Some, None, Result, IfOk, OnOk, codes, Bool, nat_lt, ◌&&◌, ◌==◌, if◌then◌else◌}
+use Rattle.std.specs.Prelude.{◌≡◌, ℕ, ◌-◌, ◌%◌, List, [], ◌∷◌, ◌++◌, length, Option, Some, None, Result, IfOk, codes, Bool, nat_lt, ◌&&◌}
 use Rattle.std.specs.Int.{w16, to_be_bytes}
 use Rattle.jf_bytes.specs.declared.error.NoMemory.{NoMemory}
 use Rattle.const_pool.specs.declared.pool.Const.{Const}
-use Rattle.const_pool.specs.declared.pool.Const.TheVariants.{Gap, Utf8, Class, Text, Field, Method, NameType}
+use Rattle.const_pool.specs.declared.pool.Const.TheVariants.{Gap, Utf8, Class, Text, NameType}
 use Rattle.const_pool.specs.declared.class.ClassFile.{ClassFile}
 use Rattle.const_pool.specs.declared.class.Member.{Member}
 use Rattle.const_pool.specs.declared.class.Attribute.{Attribute}
-use Rattle.const_pool.specs.declared.class.Attribute.TheVariants.{Code}
 use Rattle.const_pool.specs.Pool.{has_gaps}
 use Rattle.const_pool.specs.References.{Reference}
+use Rattle.class_making.specs.Making.{EntryMade, CodeMade, MemberMade, MembersMade, code_alone, member_entry, short_of}
 use Rattle.base_classes.specs.Declarations.{NamedInstruction, CodeDeclaration, MemberDeclaration, ClassDeclaration}
 use Rattle.base_classes.specs.Declarations.NamedInstruction.{plain, jump, load_text, on_member}
 
--- the number of two bytes; no pool and no code here is as long
-abbrev pub short_of : ℕ → ℕ
-short_of n = min n 65535
-
 -- ---- entries
 
-pub record Added : Type 0 where
-  pub pool : List Const
-  pub index : ℕ
-
--- the call gave the index of what was added, and this is the pool behind it; or memory ran out
-abbrev pub Adds : Result ℕ NoMemory → List Const → Added → Type 0
-Adds result pool made = IfOk result (λ index. (index ≡ made.index) × (pool ≡ made.pool))
-
-unfoldable pub entry_added : List Const → Const → Added
+unfoldable pub entry_added : List Const → Const → EntryMade
 entry_added pool entry = record { pool = pool ++ entry ∷ []; index = short_of (length pool) }
 
 -- an ASCII text
-unfoldable pub text_added : List Const → List ℕ → Added
+unfoldable pub text_added : List Const → List ℕ → EntryMade
 text_added pool text = entry_added pool (Utf8 text)
 
-unfoldable pub string_added : List Const → List ℕ → Added
+unfoldable pub string_added : List Const → List ℕ → EntryMade
 string_added pool text = let t = text_added pool text in entry_added t.pool (Text t.index)
 
-unfoldable pub class_added : List Const → List ℕ → Added
+unfoldable pub class_added : List Const → List ℕ → EntryMade
 class_added pool name = let t = text_added pool name in entry_added t.pool (Class t.index)
 
-unfoldable pub name_type_added : List Const → List ℕ → List ℕ → Added
+unfoldable pub name_type_added : List Const → List ℕ → List ℕ → EntryMade
 name_type_added pool name descriptor =
     let n = text_added pool name in
     let d = text_added n.pool descriptor in
     entry_added d.pool (NameType n.index d.index)
 
--- getstatic names a field, and the others a method
-abbrev pub member_entry : ℕ → ℕ → ℕ → Const
-member_entry op class member = if op == 178 then Field class member else Method class member
-
-unfoldable pub reference_added : List Const → ℕ → Reference → Added
+unfoldable pub reference_added : List Const → ℕ → Reference → EntryMade
 reference_added pool op r =
     let c = class_added pool r.class in
     let m = name_type_added c.pool r.member.name r.member.descriptor in
     entry_added m.pool (member_entry op c.index m.index)
 
 -- ---- code
-
-pub record CodeMade : Type 0 where
-  pub pool : List Const
-  pub bytes : List ℕ
-
--- behind the call, this is the pool and these are the bytes; or memory ran out
-abbrev pub AddsCode : {A : Type 0} → Result A NoMemory → List Const → List ℕ → CodeMade → Type 0
-AddsCode result pool bytes made = OnOk result ((pool ≡ made.pool) × (bytes ≡ made.bytes))
 
 unfoldable pub instruction_added : List Const → List ℕ → NamedInstruction → CodeMade
 instruction_added pool bytes (plain op) = record { pool = pool; bytes = bytes ++ op ∷ [] }
@@ -95,7 +71,7 @@ code_added pool code =
     let c = code_from n.pool [] code.instructions in
     record {
       pool = c.pool;
-      attributes = Code n.index (record { max_stack = code.max_stack; max_locals = code.max_locals; code = c.bytes; handlers = []; attributes = [] }) ∷ [];
+      attributes = code_alone n.index code.max_stack code.max_locals c.bytes;
     }
 
 unfoldable pub attributes_added : List Const → Option CodeDeclaration → AttributesMade
@@ -104,13 +80,6 @@ attributes_added pool (Some code) = code_added pool code
 
 -- ---- members
 
-pub record MemberMade : Type 0 where
-  pub pool : List Const
-  pub member : Member
-
-abbrev pub AddsMember : Result Member NoMemory → List Const → MemberMade → Type 0
-AddsMember result pool made = IfOk result (λ member. (member ≡ made.member) × (pool ≡ made.pool))
-
 unfoldable pub member_added : List Const → MemberDeclaration → MemberMade
 member_added pool d =
     let n = text_added pool d.name in
@@ -118,20 +87,13 @@ member_added pool d =
     let a = attributes_added t.pool d.code in
     record { pool = a.pool; member = record { access = d.access; name = n.index; descriptor = t.index; attributes = a.attributes } }
 
-pub record MembersMade : Type 0 where
-  pub pool : List Const
-  pub members : List Member
-
-abbrev pub AddsMembers : Result (List Member) NoMemory → List Const → MembersMade → Type 0
-AddsMembers result pool made = IfOk result (λ members. (members ≡ made.members) × (pool ≡ made.pool))
-
 unfoldable pub members_from : List Const → List Member → List MemberDeclaration → MembersMade
 members_from pool done [] = record { pool = pool; members = done }
 members_from pool done (d ∷ rest) = let made = member_added pool d in members_from made.pool (done ++ made.member ∷ []) rest
 
 -- ---- classes
 
-unfoldable pub superclass_added : List Const → Option (List ℕ) → Added
+unfoldable pub superclass_added : List Const → Option (List ℕ) → EntryMade
 superclass_added pool None = record { pool = pool; index = 0 }
 superclass_added pool (Some name) = class_added pool name
 

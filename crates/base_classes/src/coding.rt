@@ -1,25 +1,18 @@
 //! Making the Code attribute of a method (JVM Specification 4.7.3).
 
-ghost use Rattle.std.specs.Prelude.{◌≡◌, ◌++◌, ◌∷◌, OnOk, IfOk, map, []};
-ghost use Rattle.std.specs.Int.{w16, to_be_bytes};
+ghost use Rattle.std.specs.Prelude.{IfOk, map, []};
 ghost use Rattle.std.specs.Option.{option_map};
-ghost use Rattle.base_classes.specs.Making.{AddsCode, AddsAttributes, instruction_added, code_from, attributes_added, code_added};
+ghost use Rattle.base_classes.specs.Making.{AddsAttributes, instruction_added, code_from, attributes_added, code_added};
 ghost use Rattle.base_classes.specs.RowViews.{instruction_view, code_view};
+ghost use Rattle.class_making.specs.Making.{AddsCode};
 
-use crate::entries::{add_reference, add_string, add_text, short_of};
-use crate::opcode::LDC;
+use crate::entries::{add_reference, add_string, add_text};
 use crate::rows::{CodeRow, InstructionRow};
-use const_pool::{Attribute, CodeAttribute, Const};
+use class_making::{add_short, code_alone, short_of};
+use const_pool::{Attribute, Const};
 use jf_bytes::{NoMemory, Seq};
-use std::alloc::{AllocError, Global};
-
-/// Adds an opcode and two bytes of an operand.
-fn add_short(code: &mut Vec<u8>, op: u8, operand: u16) -> Result<(), AllocError>
-    ensures { OnOk result (code.new.items ≡ code.old.items ++ op ∷ to_be_bytes w16 operand) }
-{
-    let [high, low] = operand.to_be_bytes();
-    code.extend_from_slice(&[op, high, low])
-}
+use op_table::LDC;
+use std::alloc::Global;
 
 /// Adds an instruction, and the entries that it names. The index of a string is a byte.
 #[tactic(auto, unfolding(crate::specs::Making::instruction_added))]
@@ -72,18 +65,7 @@ fn add_code(alloc: Global, pool: &mut Vec<Const>, row: &CodeRow) -> Result<Seq<A
 {
     let name = add_text(alloc, pool, "Code")?;
     let code = add_code_bytes(alloc, pool, row.instructions)?;
-    let mut attributes = Seq::new(alloc);
-    attributes.push(Attribute::Code(
-        name,
-        CodeAttribute {
-            max_stack: row.max_stack,
-            max_locals: row.max_locals,
-            code: Seq::from_vec(code),
-            handlers: Seq::new(alloc),
-            attributes: Seq::new(alloc),
-        },
-    ))?;
-    Ok(attributes)
+    code_alone(alloc, name, row.max_stack, row.max_locals, code)
 }
 
 /// The attributes of a member that may have a code.

@@ -1,48 +1,30 @@
 //! Making entries of a constant pool (JVM Specification 4.4): each text, class and member that is named gets entries of its
 //! own, at the pool's end.
 
-ghost use Rattle.std.specs.Prelude.{◌≡◌, IfOk};
-ghost use Rattle.base_classes.specs.Making.{Adds, short_of, entry_added, text_added, string_added, class_added, name_type_added, reference_added, member_entry};
+ghost use Rattle.base_classes.specs.Making.{entry_added, text_added, string_added, class_added, name_type_added, reference_added};
+ghost use Rattle.class_making.specs.Making.{GivesEntry};
 ghost use Rattle.base_classes.specs.RowViews.{reference_view};
 
-use crate::opcode::GETSTATIC;
 use crate::rows::MemberName;
+use class_making::{member_entry, short_of, text_of};
 use const_pool::Const;
-use jf_bytes::{NoMemory, Text16};
+use jf_bytes::NoMemory;
 use std::alloc::Global;
-
-/// A length as a number of two bytes. Nothing that is made here is longer.
-pub(crate) fn short_of(length: usize) -> u16
-    ensures { result ≡ short_of length }
-{
-    u16::try_from(length).unwrap_or(u16::MAX)
-}
 
 /// Adds an entry, and gives its index.
 #[tactic(auto, unfolding(crate::specs::Making::entry_added))]
 fn add(pool: &mut Vec<Const>, entry: Const) -> Result<u16, NoMemory>
-    ensures { Adds result pool.new.items (entry_added pool.old.items entry) }
+    ensures { GivesEntry result pool.new.items (entry_added pool.old.items entry) }
 {
     let index = short_of(pool.len());
     pool.push(entry)?;
     Ok(index)
 }
 
-/// The text of an ASCII string, whose bytes are the units.
-fn text_of(alloc: Global, text: &str) -> Result<Text16, NoMemory>
-    ensures { IfOk result (λ units. units ≡ text.now) }
-{
-    let mut units = Vec::with_capacity(alloc, text.len())?;
-    for byte in text.as_bytes() {
-        units.push(u16::from(*byte))?;
-    }
-    Ok(Text16::new(units))
-}
-
 /// Adds an ASCII text (4.4.7).
 #[tactic(auto, unfolding(crate::specs::Making::text_added))]
 pub(crate) fn add_text(alloc: Global, pool: &mut Vec<Const>, text: &str) -> Result<u16, NoMemory>
-    ensures { Adds result pool.new.items (text_added pool.old.items text.now) }
+    ensures { GivesEntry result pool.new.items (text_added pool.old.items text.now) }
 {
     add(pool, Const::Utf8(text_of(alloc, text)?))
 }
@@ -50,7 +32,7 @@ pub(crate) fn add_text(alloc: Global, pool: &mut Vec<Const>, text: &str) -> Resu
 /// Adds a string that code loads (4.4.3).
 #[tactic(auto, unfolding(crate::specs::Making::string_added))]
 pub(crate) fn add_string(alloc: Global, pool: &mut Vec<Const>, text: &str) -> Result<u16, NoMemory>
-    ensures { Adds result pool.new.items (string_added pool.old.items text.now) }
+    ensures { GivesEntry result pool.new.items (string_added pool.old.items text.now) }
 {
     let text = add_text(alloc, pool, text)?;
     add(pool, Const::Text(text))
@@ -58,7 +40,7 @@ pub(crate) fn add_string(alloc: Global, pool: &mut Vec<Const>, text: &str) -> Re
 
 #[tactic(auto, unfolding(crate::specs::Making::class_added))]
 pub(crate) fn add_class(alloc: Global, pool: &mut Vec<Const>, name: &str) -> Result<u16, NoMemory>
-    ensures { Adds result pool.new.items (class_added pool.old.items name.now) }
+    ensures { GivesEntry result pool.new.items (class_added pool.old.items name.now) }
 {
     let name = add_text(alloc, pool, name)?;
     add(pool, Const::Class(name))
@@ -71,22 +53,11 @@ fn add_name_type(
     name: &str,
     descriptor: &str,
 ) -> Result<u16, NoMemory>
-    ensures { Adds result pool.new.items (name_type_added pool.old.items name.now descriptor.now) }
+    ensures { GivesEntry result pool.new.items (name_type_added pool.old.items name.now descriptor.now) }
 {
     let name = add_text(alloc, pool, name)?;
     let descriptor = add_text(alloc, pool, descriptor)?;
     add(pool, Const::NameType(name, descriptor))
-}
-
-/// The entry of a member that an instruction with this opcode names.
-fn member_entry(op: u8, class: u16, member: u16) -> Const
-    ensures { result ≡ member_entry op class member }
-{
-    if op == GETSTATIC {
-        Const::Field(class, member)
-    } else {
-        Const::Method(class, member)
-    }
 }
 
 /// Adds the member that an instruction with this opcode names (4.4.2).
@@ -97,7 +68,7 @@ pub(crate) fn add_reference(
     op: u8,
     member: &MemberName,
 ) -> Result<u16, NoMemory>
-    ensures { Adds result pool.new.items
+    ensures { GivesEntry result pool.new.items
         (reference_added pool.old.items op (reference_view member.now)) }
 {
     let class = add_class(alloc, pool, member.class)?;

@@ -18,7 +18,7 @@ mod entries;
 mod making;
 mod names;
 mod natives;
-mod opcode;
+mod places;
 mod rows;
 mod tables;
 
@@ -27,6 +27,12 @@ use jf_bytes::NoMemory;
 use making::class_of;
 pub use names::{built_in_name, is_built_in, position_of};
 pub use natives::native_of;
+pub use places::{
+    ARITHMETIC_EXCEPTION, ARRAY_INDEX_OUT_OF_BOUNDS_EXCEPTION, ARRAY_STORE_EXCEPTION,
+    BUILT_IN_CLASSES, CLASS_CAST_EXCEPTION, CLONE_NOT_SUPPORTED_EXCEPTION,
+    NEGATIVE_ARRAY_SIZE_EXCEPTION, NULL_POINTER_EXCEPTION, NUMBER_FORMAT_EXCEPTION,
+    OUT_OF_MEMORY_ERROR, STRING_INDEX_OUT_OF_BOUNDS_EXCEPTION,
+};
 use rows::ClassRow;
 use std::alloc::Global;
 use tables::groups;

@@ -2,22 +2,21 @@
 
 ghost use Rattle.std.specs.Prelude.{◌≡◌, ◌<◌, ◌^◌, IfOk, IsTrue, map, [], length};
 ghost use Rattle.std.specs.Option.{option_map};
-ghost use Rattle.base_classes.specs.Making.{AddsMember, AddsMembers, AddsIndices, Adds, member_added, members_from, interfaces_from, superclass_added, class_file_of, has_pool};
+ghost use Rattle.base_classes.specs.Making.{AddsIndices, member_added, members_from, interfaces_from, superclass_added, class_file_of, has_pool};
 ghost use Rattle.base_classes.specs.RowViews.{member_view, class_view};
+ghost use Rattle.class_making.specs.Making.{GivesEntry, GivesMember, GivesMembers};
 
 use crate::coding::add_attributes;
 use crate::entries::{add_class, add_text};
 use crate::rows::{ClassRow, MemberRow};
+use class_making::MAJOR;
 use const_pool::{ClassFile, Const, Member, Pool};
 use jf_bytes::{NoMemory, Seq};
 use std::alloc::Global;
 
-/// The major version of the built-in classes.
-const MAJOR: u16 = 49;
-
 #[tactic(auto, unfolding(crate::specs::Making::member_added))]
 fn add_member(alloc: Global, pool: &mut Vec<Const>, row: &MemberRow) -> Result<Member, NoMemory>
-    ensures { AddsMember result pool.new.items (member_added pool.old.items (member_view row.now)) }
+    ensures { GivesMember result pool.new.items (member_added pool.old.items (member_view row.now)) }
 {
     let name = add_text(alloc, pool, row.name)?;
     let descriptor = add_text(alloc, pool, row.descriptor)?;
@@ -36,7 +35,7 @@ fn add_members(
     pool: &mut Vec<Const>,
     rows: &[MemberRow],
 ) -> Result<Seq<Member>, NoMemory>
-    ensures { AddsMembers result pool.new.items
+    ensures { GivesMembers result pool.new.items
         (members_from pool.old.items [] (map member_view rows.now)) }
 {
     let mut members = Seq::new(alloc);
@@ -65,7 +64,7 @@ fn add_interfaces(
 /// Adds a superclass, where there is one. The index is 0 where there is none.
 #[tactic(auto, unfolding(crate::specs::Making::superclass_added))]
 fn add_superclass(alloc: Global, pool: &mut Vec<Const>, name: Option<&str>) -> Result<u16, NoMemory>
-    ensures { Adds result pool.new.items
+    ensures { GivesEntry result pool.new.items
         (superclass_added pool.old.items (option_map (λ s. s.now) name.entry)) }
 {
     match name {

@@ -9,12 +9,13 @@ ghost use Rattle.base_classes.specs.RowViews.{member_view};
 
 use crate::access::NATIVE;
 use crate::names::position_of;
+use crate::places::BUILT_IN_CLASSES;
 use crate::rows::MemberRow;
 use crate::tables::class_row;
 use jf_bytes::Text16;
 
 /// How many native methods stand before those of each class.
-static STARTS: [u16; 53] = [
+static STARTS: [u16; BUILT_IN_CLASSES as usize] = [
     0, 6, 6, 6, 6, 6, 6, 8, 32, 47, 62, 64, 78, 81, 82, 92, 101, 110, 116, 122, 130, 136, 140, 144,
     148, 152, 156, 160, 164, 168, 172, 176, 180, 184, 188, 192, 196, 200, 204, 208, 213, 217, 221,
     225, 229, 233, 237, 241, 245, 249, 253, 257, 261,

@@ -8,11 +8,9 @@ ghost use Rattle.jvm_model.specs.Basis.Programs.{name_at};
 ghost use Rattle.jvm_model.specs.Basis.SharedState.{class_of_kind};
 
 use crate::index::Index;
+use base_classes::BUILT_IN_CLASSES;
 use jf_bytes::Text16;
 use jvm_model::Program;
-
-/// How many built-in classes there are.
-pub const BUILT_IN_CLASSES: u16 = 53;
 
 /// The number from which on kinds are arrays': one dimension in a kind.
 pub const FIRST_ARRAY: u32 = 16_777_216;

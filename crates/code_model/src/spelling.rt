@@ -20,10 +20,8 @@ use crate::instr::{Arg, Instr};
 use crate::laying::{Group, Homes};
 use crate::sizes::{NumberSize, group_end, padding_len, place_of, size_of_number};
 use jf_bytes::{NoMemory, Seq};
+use op_table::WIDE;
 use std::alloc::Global;
-
-/// The prefix of instructions whose slots have two bytes.
-const WIDE: u8 = 196;
 
 /// Adds an unsigned number.
 fn put_number(out: &mut Seq<u8>, size: NumberSize, n: u16) -> Result<(), NoMemory>

@@ -9,9 +9,10 @@ ghost use Rattle.jvm_basic.specs.Rules.{compares_longs, divides_ints};
 ghost use Rattle.jvm_basic.specs.Rules.{calculates, calculates_long, shifts};
 ghost use Rattle.jvm_basic.specs.Rules.{divides_longs, converts_int, converts_long};
 
-use crate::effect::{ARITHMETIC_EXCEPTION, Effect};
+use crate::effect::Effect;
 use crate::moving::{exchange_two, replace, replace_two};
 use crate::reading::{int_of, ints_of, long_and_int_of, long_of, longs_of};
+use base_classes::ARITHMETIC_EXCEPTION;
 use frame_stack::Frames;
 use heap_objects::Value;
 use int_ops::{

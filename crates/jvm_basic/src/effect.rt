@@ -12,6 +12,3 @@ pub enum Effect {
     /// The instruction needs more than its frame, or is none. The frame is as it was.
     Other,
 }
-
-/// The position of java/lang/ArithmeticException among the built-in classes.
-pub const ARITHMETIC_EXCEPTION: u16 = 27;

@@ -1,22 +1,10 @@
-//! The numbers of the built-in classes that rules speak of.
+//! The numbers of the built-in classes that rules speak of: their places, and their kinds.
 
-pub const CLONE_NOT_SUPPORTED_EXCEPTION: u16 = 24;
-
-pub const ARRAY_STORE_EXCEPTION: u16 = 28;
-
-pub const CLASS_CAST_EXCEPTION: u16 = 29;
-
-pub const NEGATIVE_ARRAY_SIZE_EXCEPTION: u16 = 33;
-
-pub const NULL_POINTER_EXCEPTION: u16 = 34;
-
-pub const NUMBER_FORMAT_EXCEPTION: u16 = 36;
-
-pub const ARRAY_INDEX_OUT_OF_BOUNDS_EXCEPTION: u16 = 37;
-
-pub const STRING_INDEX_OUT_OF_BOUNDS_EXCEPTION: u16 = 38;
-
-pub const OUT_OF_MEMORY_ERROR: u16 = 51;
+pub use base_classes::{
+    ARRAY_INDEX_OUT_OF_BOUNDS_EXCEPTION, ARRAY_STORE_EXCEPTION, CLASS_CAST_EXCEPTION,
+    CLONE_NOT_SUPPORTED_EXCEPTION, NEGATIVE_ARRAY_SIZE_EXCEPTION, NULL_POINTER_EXCEPTION,
+    NUMBER_FORMAT_EXCEPTION, OUT_OF_MEMORY_ERROR, STRING_INDEX_OUT_OF_BOUNDS_EXCEPTION,
+};
 
 pub const CLONEABLE_KIND: u32 = 17;
 

@@ -6,8 +6,14 @@ ghost use Rattle.std.specs.Prelude.{◌≡◌, ◌↔◌, ◌<◌, IsTrue, false
 ghost use Rattle.op_table.specs.Opcodes.{row_of, wide_row_of};
 ghost use Rattle.op_table.specs.Opcodes.{HasNoFixedSize, NeverGoesOn, IsReturn};
 
+mod opcodes;
 mod tables;
 
+pub use opcodes::{
+    ALOAD_0, ALOAD_1, ALOAD_2, ARETURN, ASTORE_1, ASTORE_2, ATHROW, BIPUSH, DUP, GETSTATIC, IADD,
+    ICONST_1, IFGT, IFNONNULL, ILOAD_1, ILOAD_2, IMUL, INVOKESPECIAL, INVOKESTATIC, INVOKEVIRTUAL,
+    IRETURN, ISUB, IXOR, LDC, NEW, RETURN, SIPUSH, WIDE,
+};
 pub use tables::{OPS, WIDE_OPS};
 
 /// How an instruction's operands lie after its opcode.

@@ -10,6 +10,7 @@ use code_model::{Arg, instr_at};
 use const_pool::{ClassFile, MemberRef};
 use jf_bytes::NoMemory;
 use jvm_model::{EventKind, Mark};
+use op_table::INVOKESTATIC;
 use std::alloc::Global;
 
 /// The class whose methods the probes invoke.
@@ -17,9 +18,6 @@ const PROBE_CLASS: &[u8] = b"jfluid/Probe";
 
 /// Their descriptor.
 const PROBE_DESCRIPTOR: &[u8] = b"(I)V";
-
-/// The opcode of invokestatic.
-const INVOKESTATIC: u8 = 184;
 
 /// Where the entry probe invokes: behind sipush, which pushes the method's number.
 const INVOKED_AT: u16 = 3;

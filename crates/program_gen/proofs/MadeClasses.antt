@@ -10,7 +10,8 @@ use Rattle.const_pool.specs.Pool.{is_class, has_gaps, pool_bytes, u2}
 use Rattle.const_pool.specs.ClassFile.{IsMember, IsMethodAttribute, IsClassFile, member_bytes}
 use Rattle.program_gen.specs.declared.rows.ClassRow.{ClassRow}
 use Rattle.program_gen.specs.declared.rows.MethodRow.{MethodRow}
-use Rattle.program_gen.specs.Making.{MethodsMade, class_shared, methods_from, class_file_of}
+use Rattle.class_making.specs.Making.{MembersMade}
+use Rattle.program_gen.specs.Making.{class_shared, methods_from, class_file_of}
 use Rattle.program_gen.specs.Generated.{IsShortFile, IsNamedBy, HasOwnPool}
 use Rattle.program_gen.specs.Members.{HasCodeOf, HasCodesOf, HasMembersOf, IsMethodOf}
 use Rattle.program_gen.specs.Names.{class_text}
@@ -21,7 +22,7 @@ use Rattle.program_gen.proofs.SpelledCode.{class-named}
 use Rattle.program_gen.proofs.MadeMethods.{IsMade, is-member, members-bytes, methods-grow, length-methods_from, has-method, has-code}
 
 -- the class file of a pool, methods and the indices of its name and its superclass
-abbrev file_with : MethodsMade → ℕ → ℕ → ClassFile
+abbrev file_with : MembersMade → ℕ → ℕ → ClassFile
 file_with made this above = record {
   minor = 0;
   major = 49;
@@ -46,7 +47,7 @@ pub record IsWell (row : ClassRow) : Type 0 where
   pub own_pool : HasOwnPool (class_file_of row)
 
 -- a class with this pool and these methods has few bytes
-short-file : (rows : List MethodRow) (made : MethodsMade) → length rows ≤ 2 → length (pool_bytes made.pool) ≤ 2 + 258 * (((1 + 2) + 2) + 159 * length rows)
+short-file : (rows : List MethodRow) (made : MembersMade) → length rows ≤ 2 → length (pool_bytes made.pool) ≤ 2 + 258 * (((1 + 2) + 2) + 159 * length rows)
     → length made.members ≡ length rows → AllZip (IsMade made.pool) rows made.members → (this above : ℕ) → IsShortFile (file_with made this above)
 short-file rows made few pool same each this above =
     let members = members-bytes made.pool rows made.members each in

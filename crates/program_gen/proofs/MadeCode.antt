@@ -8,7 +8,8 @@ use Rattle.const_pool.specs.declared.pool.Const.{Const}
 use Rattle.const_pool.specs.ClassFile.{IsByte}
 use Rattle.program_gen.specs.declared.rows.Instruction.{Instruction}
 use Rattle.program_gen.specs.declared.rows.Instruction.TheVariants.{Plain, Byte, Short, OfClass, OfMember}
-use Rattle.program_gen.specs.Making.{class_shared, member_shared, CodeMade, instruction_added, code_from}
+use Rattle.class_making.specs.Making.{CodeMade}
+use Rattle.program_gen.specs.Making.{class_shared, member_shared, instruction_added, code_from}
 use Rattle.program_gen.specs.Fits.{FitsInstruction}
 use Rattle.program_gen.proofs.Pools.{each-append, IsGood, good-wider}
 use Rattle.program_gen.proofs.SharedNames.{Grows, then-grows, class-added, member-added}

@@ -13,7 +13,8 @@ use Rattle.const_pool.specs.Pool.{is_utf8}
 use Rattle.const_pool.specs.ClassFile.{IsByte, IsCode, IsMember, IsMethodAttribute, code_bytes, code_name, member_bytes}
 use Rattle.program_gen.specs.declared.rows.MethodRow.{MethodRow}
 use Rattle.program_gen.specs.Names.{member_text, member_descriptor}
-use Rattle.program_gen.specs.Making.{entry_shared, code_from, MethodMade, method_added, MethodsMade, methods_from}
+use Rattle.class_making.specs.Making.{MemberMade, MembersMade}
+use Rattle.program_gen.specs.Making.{entry_shared, code_from, method_added, methods_from}
 use Rattle.program_gen.specs.Fits.{FitsMethod}
 use Rattle.program_gen.specs.Members.{HasCodeOf, IsMethodOf}
 use Rattle.program_gen.proofs.Pools.{zip-push, zip-by, names-at, text-named, IsGood}
@@ -105,7 +106,7 @@ is-member pool row m h = record {
 
 -- ---- making it
 
-pub record MethodGrows (n : ℕ) (pool : List Const) (row : MethodRow) (made : MethodMade) : Type 0 where
+pub record MethodGrows (n : ℕ) (pool : List Const) (row : MethodRow) (made : MemberMade) : Type 0 where
   pub grows : Grows n 159 pool made.pool
   pub is : IsMade made.pool row made.member
 
@@ -154,7 +155,7 @@ method-grows n pool row g h fits =
       };
     }
 
-pub record MethodsGrow (n added : ℕ) (pool : List Const) (rows : List MethodRow) (made : MethodsMade) : Type 0 where
+pub record MethodsGrow (n added : ℕ) (pool : List Const) (rows : List MethodRow) (made : MembersMade) : Type 0 where
   pub grows : Grows n added pool made.pool
   pub each : AllZip (IsMade made.pool) rows made.members
 

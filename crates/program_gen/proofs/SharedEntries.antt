@@ -7,7 +7,8 @@ use Rattle.std.proofs.lemmas.Option.{slice_get_within}
 use Rattle.std.proofs.lemmas.Slice.Eq.{bytes_eq-Decides}
 use Rattle.const_pool.specs.declared.pool.Const.{Const}
 use Rattle.const_pool.specs.declared.pool.Const.TheVariants.{Gap, Utf8, Integer, Float, Long, Double, Class, Text, Field, Method, InterfaceMethod, NameType}
-use Rattle.program_gen.specs.Making.{short_of, is_text, is_class, is_field, is_method, is_name_type, is_same, Shared, shared_at, entry_shared}
+use Rattle.class_making.specs.Making.{EntryMade, short_of}
+use Rattle.program_gen.specs.Making.{is_text, is_class, is_field, is_method, is_name_type, is_same, shared_at, entry_shared}
 use Rattle.program_gen.proofs.Pools.{seam, IsNarrow, IsGood, good-push, good-wider}
 
 text-is : (text : List ℕ) (other : Const) → is_text text other ≡ true → Utf8 text ≡ other
@@ -114,7 +115,7 @@ position_found test (x ∷ xs) first n h = by_test (test x) refl h (λ e. later 
     by_test true is e rest = record { place = zero; item = x; number = let same : first ≡ n = cc in let end : n ≡ first + zero = omega arith in end; at = refl; passed = is }
     by_test false is e rest = rest e
 
-pub record IsShared (n : ℕ) (pool : List Const) (entry : Const) (s : Shared) : Type 0 where
+pub record IsShared (n : ℕ) (pool : List Const) (entry : Const) (s : EntryMade) : Type 0 where
   pub more : List Const
   pub grown : s.pool ≡ pool ++ more
   pub good : IsGood (suc n) s.pool

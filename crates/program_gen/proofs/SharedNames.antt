@@ -14,7 +14,8 @@ use Rattle.program_gen.specs.declared.rows.ClassName.TheVariants.{Object, System
 use Rattle.program_gen.specs.declared.rows.MemberName.{MemberName}
 use Rattle.program_gen.specs.declared.rows.MemberName.TheVariants.{Initializer, Entry, Run, Out, Println}
 use Rattle.program_gen.specs.Names.{class_text, member_text, member_descriptor}
-use Rattle.program_gen.specs.Making.{Shared, entry_shared, class_shared, name_type_shared, member_entry, member_shared}
+use Rattle.class_making.specs.Making.{EntryMade, member_entry}
+use Rattle.program_gen.specs.Making.{entry_shared, class_shared, name_type_shared, member_shared}
 use Rattle.program_gen.specs.Fits.{FitsName}
 use Rattle.program_gen.proofs.Pools.{front, names-at, IsNarrow, IsGood}
 use Rattle.program_gen.proofs.SharedEntries.{shared-holds}
@@ -97,7 +98,7 @@ pub at-grown : (n a : ℕ) (p q : List Const) (i : ℕ) (c : Const) → Grows n 
 at-grown n a p q i c g h = ap (λ (x : List Const). slice_get x i) g.grown ∙ front p g.more i c h
 
 -- the entry that the index names, behind what was added
-pub record HasAdded (n added : ℕ) (pool : List Const) (entry : Const) (s : Shared) : Type 0 where
+pub record HasAdded (n added : ℕ) (pool : List Const) (entry : Const) (s : EntryMade) : Type 0 where
   pub grows : Grows n added pool s.pool
   pub at : slice_get s.pool s.index ≡ Some entry
   pub small : s.index < 2 ^ 16
@@ -123,7 +124,7 @@ class_text-other Main e = let same : ◌≡◌ {A = ℕ} 101 102 = ap (λ (x : L
 class_text-other (Numbered number) e = let same : ◌≡◌ {A = ℕ} 101 102 = ap (λ (x : List ℕ). get_or x 1 0) e in omega arith
 
 -- a class has its text's index
-pub record HasClass (n : ℕ) (pool : List Const) (text : List ℕ) (s : Shared) : Type 0 where
+pub record HasClass (n : ℕ) (pool : List Const) (text : List ℕ) (s : EntryMade) : Type 0 where
   pub name : ℕ
   pub named : slice_get s.pool name ≡ Some (Utf8 text)
   pub added : HasAdded n 2 pool (Class name) s
@@ -146,7 +147,7 @@ class-added n pool name g h fits =
       added = record { grows = then-grows n 1 1 _ _ _ t.grows c.grows; at = c.at; small = c.small };
     }
 
-pub record HasNameType (n : ℕ) (pool : List Const) (member : MemberName) (s : Shared) : Type 0 where
+pub record HasNameType (n : ℕ) (pool : List Const) (member : MemberName) (s : EntryMade) : Type 0 where
   pub name : ℕ
   pub named : slice_get s.pool name ≡ Some (Utf8 (member_text member))
   pub descriptor : ℕ
@@ -194,7 +195,7 @@ pub record StandsMember (pool : List Const) (op : ℕ) (class : ClassName) (memb
   pub named : slice_get pool name ≡ Some (Utf8 (member_text member))
   pub described : slice_get pool descriptor ≡ Some (Utf8 (member_descriptor member))
 
-pub record HasMember (n : ℕ) (pool : List Const) (op : ℕ) (class : ClassName) (member : MemberName) (s : Shared) : Type 0 where
+pub record HasMember (n : ℕ) (pool : List Const) (op : ℕ) (class : ClassName) (member : MemberName) (s : EntryMade) : Type 0 where
   pub entry : Const
   pub added : HasAdded n 6 pool entry s
   pub stands : StandsMember s.pool op class member s.index

@@ -17,7 +17,8 @@ use Rattle.program_gen.specs.declared.rows.MemberName.{MemberName}
 use Rattle.program_gen.specs.declared.rows.Instruction.{Instruction}
 use Rattle.program_gen.specs.declared.rows.Instruction.TheVariants.{Plain, Byte, Short, OfClass, OfMember}
 use Rattle.program_gen.specs.Names.{class_text}
-use Rattle.program_gen.specs.Making.{class_shared, member_shared, CodeMade, instruction_added, code_from}
+use Rattle.class_making.specs.Making.{CodeMade}
+use Rattle.program_gen.specs.Making.{class_shared, member_shared, instruction_added, code_from}
 use Rattle.program_gen.specs.Fits.{FitsInstruction}
 use Rattle.program_gen.specs.Members.{IsCodeOf, IsSpelled, named_by, reference_of}
 use Rattle.program_gen.proofs.Pools.{IsGood, zip-by}

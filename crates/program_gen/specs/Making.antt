@@ -1,15 +1,14 @@
 -- The class file that is made of a row. It is walked as it is written: each text, class and member gets its entry where it
 -- is needed first, behind the entries of its parts, and one that is equal to an earlier one is not made again.
-use Rattle.std.specs.Prelude.{◌≡◌, ℕ, List, [], ◌∷◌, ◌++◌, length, min, Option, Some, None, Result, IfOk, OnOk, codes, Bool, false, ◌&&◌, ◌==◌, if◌then◌else◌}
+use Rattle.std.specs.Prelude.{ℕ, List, [], ◌∷◌, ◌++◌, length, Option, Some, None, codes, Bool, false, ◌&&◌, ◌==◌}
 use Rattle.std.specs.Int.{w16, to_be_bytes}
 use Rattle.std.specs.List.{position_from}
 use Rattle.std.specs.Str.{bytes_eq}
-use Rattle.jf_bytes.specs.declared.error.NoMemory.{NoMemory}
 use Rattle.const_pool.specs.declared.pool.Const.{Const}
 use Rattle.const_pool.specs.declared.pool.Const.TheVariants.{Gap, Utf8, Class, Field, Method, NameType}
 use Rattle.const_pool.specs.declared.class.ClassFile.{ClassFile}
 use Rattle.const_pool.specs.declared.class.Member.{Member}
-use Rattle.const_pool.specs.declared.class.Attribute.TheVariants.{Code}
+use Rattle.class_making.specs.Making.{EntryMade, CodeMade, MemberMade, MembersMade, code_alone, member_entry, short_of}
 use Rattle.program_gen.specs.declared.rows.ClassName.{ClassName}
 use Rattle.program_gen.specs.declared.rows.MemberName.{MemberName}
 use Rattle.program_gen.specs.declared.rows.Instruction.{Instruction}
@@ -17,10 +16,6 @@ use Rattle.program_gen.specs.declared.rows.Instruction.TheVariants.{Plain, Byte,
 use Rattle.program_gen.specs.declared.rows.MethodRow.{MethodRow}
 use Rattle.program_gen.specs.declared.rows.ClassRow.{ClassRow}
 use Rattle.program_gen.specs.Names.{class_text, member_text, member_descriptor}
-
--- the number of two bytes; no pool here is as long
-abbrev pub short_of : ℕ → ℕ
-short_of n = min n 65535
 
 -- ---- entries
 
@@ -53,49 +48,29 @@ is_same (Method class member) other = is_method class member other
 is_same (NameType name descriptor) other = is_name_type name descriptor other
 is_same _ other = false
 
-pub record Shared : Type 0 where
-  pub pool : List Const
-  pub index : ℕ
-
--- the call gave the index of the entry, and this is the pool behind it; or memory ran out
-abbrev pub Shares : Result ℕ NoMemory → List Const → Shared → Type 0
-Shares result pool made = IfOk result (λ index. (index ≡ made.index) × (pool ≡ made.pool))
-
-abbrev pub shared_at : List Const → Const → Option ℕ → Shared
+abbrev pub shared_at : List Const → Const → Option ℕ → EntryMade
 shared_at pool entry (Some place) = record { pool = pool; index = short_of place }
 shared_at pool entry None = record { pool = pool ++ entry ∷ []; index = short_of (length pool) }
 
-unfoldable pub entry_shared : List Const → Const → Shared
+unfoldable pub entry_shared : List Const → Const → EntryMade
 entry_shared pool entry = shared_at pool entry (position_from (is_same entry) 0 pool)
 
-unfoldable pub class_shared : List Const → ClassName → Shared
+unfoldable pub class_shared : List Const → ClassName → EntryMade
 class_shared pool name = let t = entry_shared pool (Utf8 (class_text name)) in entry_shared t.pool (Class t.index)
 
-unfoldable pub name_type_shared : List Const → MemberName → Shared
+unfoldable pub name_type_shared : List Const → MemberName → EntryMade
 name_type_shared pool member =
     let n = entry_shared pool (Utf8 (member_text member)) in
     let d = entry_shared n.pool (Utf8 (member_descriptor member)) in
     entry_shared d.pool (NameType n.index d.index)
 
--- getstatic names a field, and the others a method
-abbrev pub member_entry : ℕ → ℕ → ℕ → Const
-member_entry op class member = if op == 178 then Field class member else Method class member
-
-unfoldable pub member_shared : List Const → ℕ → ClassName → MemberName → Shared
+unfoldable pub member_shared : List Const → ℕ → ClassName → MemberName → EntryMade
 member_shared pool op class member =
     let c = class_shared pool class in
     let m = name_type_shared c.pool member in
     entry_shared m.pool (member_entry op c.index m.index)
 
 -- ---- code
-
-pub record CodeMade : Type 0 where
-  pub pool : List Const
-  pub bytes : List ℕ
-
--- behind the call, this is the pool and these are the bytes; or memory ran out
-abbrev pub AddsCode : {A : Type 0} → Result A NoMemory → List Const → List ℕ → CodeMade → Type 0
-AddsCode result pool bytes made = OnOk result ((pool ≡ made.pool) × (bytes ≡ made.bytes))
 
 unfoldable pub instruction_added : List Const → List ℕ → Instruction → CodeMade
 instruction_added pool bytes (Plain op) = record { pool = pool; bytes = bytes ++ op ∷ [] }
@@ -114,14 +89,7 @@ code_from pool bytes (i ∷ rest) = let made = instruction_added pool bytes i in
 
 -- ---- methods
 
-pub record MethodMade : Type 0 where
-  pub pool : List Const
-  pub member : Member
-
-abbrev pub AddsMethod : Result Member NoMemory → List Const → MethodMade → Type 0
-AddsMethod result pool made = IfOk result (λ member. (member ≡ made.member) × (pool ≡ made.pool))
-
-unfoldable pub method_added : List Const → MethodRow → MethodMade
+unfoldable pub method_added : List Const → MethodRow → MemberMade
 method_added pool row =
     let n = entry_shared pool (Utf8 (member_text row.name)) in
     let d = entry_shared n.pool (Utf8 (member_descriptor row.name)) in
@@ -133,18 +101,11 @@ method_added pool row =
         access = row.access;
         name = n.index;
         descriptor = d.index;
-        attributes = Code a.index (record { max_stack = row.max_stack; max_locals = row.max_locals; code = c.bytes; handlers = []; attributes = [] }) ∷ [];
+        attributes = code_alone a.index row.max_stack row.max_locals c.bytes;
       };
     }
 
-pub record MethodsMade : Type 0 where
-  pub pool : List Const
-  pub members : List Member
-
-abbrev pub AddsMethods : Result (List Member) NoMemory → List Const → MethodsMade → Type 0
-AddsMethods result pool made = IfOk result (λ members. (members ≡ made.members) × (pool ≡ made.pool))
-
-unfoldable pub methods_from : List Const → List Member → List MethodRow → MethodsMade
+unfoldable pub methods_from : List Const → List Member → List MethodRow → MembersMade
 methods_from pool done [] = record { pool = pool; members = done }
 methods_from pool done (row ∷ rest) = let made = method_added pool row in methods_from made.pool (done ++ made.member ∷ []) rest
 

@@ -1,23 +1,16 @@
 //! Making a method with its Code attribute (JVM Specification 4.6, 4.7.3).
 
-ghost use Rattle.std.specs.Prelude.{◌≡◌, ◌++◌, ◌∷◌, OnOk, IfOk, []};
-ghost use Rattle.std.specs.Int.{w16, to_be_bytes};
-ghost use Rattle.program_gen.specs.Making.{AddsCode, AddsMethod, instruction_added, code_from, method_added};
+ghost use Rattle.std.specs.Prelude.{IfOk, []};
+ghost use Rattle.class_making.specs.Making.{AddsCode, GivesMember};
+ghost use Rattle.program_gen.specs.Making.{instruction_added, code_from, method_added};
 
 use crate::entries::{share_class, share_member, share_text};
 use crate::names::{member_descriptor, member_text};
 use crate::rows::{Instruction, MethodRow};
-use const_pool::{Attribute, CodeAttribute, Const, Member};
-use jf_bytes::{NoMemory, Seq};
-use std::alloc::{AllocError, Global};
-
-/// Adds an opcode and two bytes of an operand.
-fn add_short(code: &mut Vec<u8>, op: u8, operand: u16) -> Result<(), AllocError>
-    ensures { OnOk result (code.new.items ≡ code.old.items ++ op ∷ to_be_bytes w16 operand) }
-{
-    let [high, low] = operand.to_be_bytes();
-    code.extend_from_slice(&[op, high, low])
-}
+use class_making::{add_short, code_alone};
+use const_pool::{Const, Member};
+use jf_bytes::NoMemory;
+use std::alloc::Global;
 
 /// Adds an instruction, and the entries that it needs.
 #[tactic(auto, unfolding(crate::specs::Making::instruction_added))]
@@ -68,23 +61,13 @@ pub(crate) fn add_method(
     pool: &mut Vec<Const>,
     row: &MethodRow,
 ) -> Result<Member, NoMemory>
-    ensures { AddsMethod result pool.new.items (method_added pool.old.items row.now) }
+    ensures { GivesMember result pool.new.items (method_added pool.old.items row.now) }
 {
     let name = share_text(alloc, pool, member_text(row.name))?;
     let descriptor = share_text(alloc, pool, member_descriptor(row.name))?;
     let attribute = share_text(alloc, pool, "Code")?;
     let code = add_code_bytes(alloc, pool, row.code.as_slice())?;
-    let mut attributes = Seq::new(alloc);
-    attributes.push(Attribute::Code(
-        attribute,
-        CodeAttribute {
-            max_stack: row.max_stack,
-            max_locals: row.max_locals,
-            code: Seq::from_vec(code),
-            handlers: Seq::new(alloc),
-            attributes: Seq::new(alloc),
-        },
-    ))?;
+    let attributes = code_alone(alloc, attribute, row.max_stack, row.max_locals, code)?;
     Ok(Member {
         access: row.access,
         name,

@@ -1,25 +1,18 @@
 //! Making entries of a constant pool (JVM Specification 4.4): each at its first need, behind its parts, and none twice.
 
-ghost use Rattle.std.specs.Prelude.{◌≡◌, ◌<◌, ◌^◌, length, IfOk};
+ghost use Rattle.std.specs.Prelude.{◌≡◌};
 ghost use Rattle.std.specs.List.{position_from};
 ghost use Rattle.const_pool.specs.declared.pool.Const.TheVariants.{Utf8};
 ghost use Rattle.program_gen.specs.Names.{class_text, member_text, member_descriptor};
-ghost use Rattle.program_gen.specs.Making.{Shares, short_of, is_text, is_class, is_field, is_method, is_name_type, is_same, entry_shared, class_shared, name_type_shared, member_entry, member_shared};
+ghost use Rattle.program_gen.specs.Making.{is_text, is_class, is_field, is_method, is_name_type, is_same, entry_shared, class_shared, name_type_shared, member_shared};
+ghost use Rattle.class_making.specs.Making.{GivesEntry};
 
-use crate::names::{class_text, member_descriptor, member_text, text_of};
+use crate::names::{class_text, member_descriptor, member_text};
 use crate::rows::{ClassName, MemberName};
+use class_making::{member_entry, short_of, text_of};
 use const_pool::Const;
 use jf_bytes::{NoMemory, Text16};
 use std::alloc::Global;
-
-const GETSTATIC: u8 = 178;
-
-/// A length as a number of two bytes. Nothing that is made here is longer.
-fn short_of(length: usize) -> u16
-    ensures { result ≡ short_of length }
-{
-    u16::try_from(length).unwrap_or(u16::MAX)
-}
 
 fn is_text(text: &Text16, other: &Const) -> bool
     ensures { result ≡ is_text text.now other.now }
@@ -97,7 +90,7 @@ fn place_of(pool: &[Const], entry: &Const) -> Option<usize>
 /// The index of an entry, which is added where there is none that is equal.
 #[tactic(auto, unfolding(crate::specs::Making::entry_shared))]
 fn share(pool: &mut Vec<Const>, entry: Const) -> Result<u16, NoMemory>
-    ensures { Shares result pool.new.items (entry_shared pool.old.items entry) }
+    ensures { GivesEntry result pool.new.items (entry_shared pool.old.items entry) }
 {
     match place_of(pool, &entry) {
         Some(place) => Ok(short_of(place)),
@@ -111,7 +104,7 @@ fn share(pool: &mut Vec<Const>, entry: Const) -> Result<u16, NoMemory>
 
 /// The index of an ASCII text (4.4.7).
 pub(crate) fn share_text(alloc: Global, pool: &mut Vec<Const>, text: &str) -> Result<u16, NoMemory>
-    ensures { Shares result pool.new.items (entry_shared pool.old.items (Utf8 text.now)) }
+    ensures { GivesEntry result pool.new.items (entry_shared pool.old.items (Utf8 text.now)) }
 {
     share(pool, Const::Utf8(text_of(alloc, text)?))
 }
@@ -123,7 +116,7 @@ pub(crate) fn share_class(
     pool: &mut Vec<Const>,
     name: ClassName,
 ) -> Result<u16, NoMemory>
-    ensures { Shares result pool.new.items (class_shared pool.old.items name) }
+    ensures { GivesEntry result pool.new.items (class_shared pool.old.items name) }
 {
     let text = share(pool, Const::Utf8(class_text(alloc, name)?))?;
     share(pool, Const::Class(text))
@@ -135,22 +128,11 @@ fn share_name_type(
     pool: &mut Vec<Const>,
     member: MemberName,
 ) -> Result<u16, NoMemory>
-    ensures { Shares result pool.new.items (name_type_shared pool.old.items member) }
+    ensures { GivesEntry result pool.new.items (name_type_shared pool.old.items member) }
 {
     let name = share_text(alloc, pool, member_text(member))?;
     let descriptor = share_text(alloc, pool, member_descriptor(member))?;
     share(pool, Const::NameType(name, descriptor))
-}
-
-/// The entry of a member that an instruction with this opcode names.
-fn member_entry(op: u8, class: u16, member: u16) -> Const
-    ensures { result ≡ member_entry op class member }
-{
-    if op == GETSTATIC {
-        Const::Field(class, member)
-    } else {
-        Const::Method(class, member)
-    }
 }
 
 /// The index of the member that an instruction with this opcode names (4.4.2).
@@ -162,7 +144,7 @@ pub(crate) fn share_member(
     class: ClassName,
     member: MemberName,
 ) -> Result<u16, NoMemory>
-    ensures { Shares result pool.new.items (member_shared pool.old.items op class member) }
+    ensures { GivesEntry result pool.new.items (member_shared pool.old.items op class member) }
 {
     let class = share_class(alloc, pool, class)?;
     let name_type = share_name_type(alloc, pool, member)?;

@@ -3,18 +3,17 @@
 ghost use Rattle.std.specs.Prelude.{◌≡◌, ◌<◌, ◌^◌, IfOk, IsTrue, [], length};
 ghost use Rattle.const_pool.specs.Pool.{has_gaps};
 ghost use Rattle.const_pool.specs.ClassFile.{IsClassFile};
-ghost use Rattle.program_gen.specs.Making.{AddsMethods, methods_from, class_file_of};
+ghost use Rattle.program_gen.specs.Making.{methods_from, class_file_of};
+ghost use Rattle.class_making.specs.Making.{GivesMembers};
 ghost use Rattle.program_gen.specs.Fits.{FitsClass};
 
 use crate::coding::add_method;
 use crate::entries::share_class;
 use crate::rows::{ClassRow, MethodRow};
+use class_making::MAJOR;
 use const_pool::{ClassFile, Const, Member, Pool};
 use jf_bytes::{NoMemory, Seq};
 use std::alloc::Global;
-
-/// The major version of the classes.
-const MAJOR: u16 = 49;
 
 /// ACC_PUBLIC and ACC_SUPER.
 const ACCESS: u16 = 0x0021;
@@ -25,7 +24,7 @@ fn add_methods(
     pool: &mut Vec<Const>,
     rows: &[MethodRow],
 ) -> Result<Seq<Member>, NoMemory>
-    ensures { AddsMethods result pool.new.items (methods_from pool.old.items [] rows.now) }
+    ensures { GivesMembers result pool.new.items (methods_from pool.old.items [] rows.now) }
 {
     let mut members = Seq::new(alloc);
     for row in rows {

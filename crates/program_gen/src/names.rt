@@ -4,19 +4,9 @@ ghost use Rattle.std.specs.Prelude.{◌≡◌, IfOk};
 ghost use Rattle.program_gen.specs.Names.{class_text, member_text, member_descriptor};
 
 use crate::rows::{ClassName, MemberName};
+use class_making::text_of;
 use jf_bytes::{NoMemory, Text16};
 use std::alloc::Global;
-
-/// The text of an ASCII string, whose bytes are the units.
-pub(crate) fn text_of(alloc: Global, text: &str) -> Result<Text16, NoMemory>
-    ensures { IfOk result (λ units. units ≡ text.now) }
-{
-    let mut units = Vec::with_capacity(alloc, text.len())?;
-    for byte in text.as_bytes() {
-        units.push(u16::from(*byte))?;
-    }
-    Ok(Text16::new(units))
-}
 
 /// The name of a class, with slashes.
 pub fn class_text(alloc: Global, name: ClassName) -> Result<Text16, NoMemory>

@@ -12,38 +12,46 @@ use jf_bytes::{NoMemory, Seq};
 use std::alloc::Global;
 
 /// Opcodes (JVM Specification 6.5).
-const ICONST_1: Instruction = Instruction::Plain(4);
+const ICONST_1: Instruction = Instruction::Plain(op_table::ICONST_1);
 
-const ILOAD_1: Instruction = Instruction::Plain(27);
+const ILOAD_1: Instruction = Instruction::Plain(op_table::ILOAD_1);
 
-const ILOAD_2: Instruction = Instruction::Plain(28);
+const ILOAD_2: Instruction = Instruction::Plain(op_table::ILOAD_2);
 
-const ALOAD_0: Instruction = Instruction::Plain(42);
+const ALOAD_0: Instruction = Instruction::Plain(op_table::ALOAD_0);
 
-const DUP: Instruction = Instruction::Plain(89);
+const DUP: Instruction = Instruction::Plain(op_table::DUP);
 
-const IADD: Instruction = Instruction::Plain(96);
+const IADD: Instruction = Instruction::Plain(op_table::IADD);
 
-const ISUB: Instruction = Instruction::Plain(100);
+const ISUB: Instruction = Instruction::Plain(op_table::ISUB);
 
-const IMUL: Instruction = Instruction::Plain(104);
+const IMUL: Instruction = Instruction::Plain(op_table::IMUL);
 
-const IXOR: Instruction = Instruction::Plain(130);
+const IXOR: Instruction = Instruction::Plain(op_table::IXOR);
 
-const IRETURN: Instruction = Instruction::Plain(172);
+const IRETURN: Instruction = Instruction::Plain(op_table::IRETURN);
 
-const RETURN: Instruction = Instruction::Plain(177);
+const RETURN: Instruction = Instruction::Plain(op_table::RETURN);
 
 /// ifgt over the two instructions behind it, which have one byte each.
-const IFGT: Instruction = Instruction::Short(157, 5);
+const IFGT: Instruction = Instruction::Short(op_table::IFGT, 5);
 
-const GETSTATIC_OUT: Instruction = Instruction::OfMember(178, ClassName::System, MemberName::Out);
+const GETSTATIC_OUT: Instruction = Instruction::OfMember(
+    op_table::GETSTATIC,
+    ClassName::System,
+    MemberName::Out,
+);
 
 /// Gen0.run.
-const RUN: Instruction = Instruction::OfMember(182, ClassName::Numbered(0), MemberName::Run);
+const RUN: Instruction = Instruction::OfMember(
+    op_table::INVOKEVIRTUAL,
+    ClassName::Numbered(0),
+    MemberName::Run,
+);
 
 const PRINTLN: Instruction = Instruction::OfMember(
-    182,
+    op_table::INVOKEVIRTUAL,
     ClassName::PrintStream,
     MemberName::Println,
 );
@@ -51,25 +59,25 @@ const PRINTLN: Instruction = Instruction::OfMember(
 fn new(class: u32) -> Instruction
     ensures { result ≡ OfClass 187 (Numbered class) }
 {
-    Instruction::OfClass(187, ClassName::Numbered(class))
+    Instruction::OfClass(op_table::NEW, ClassName::Numbered(class))
 }
 
 fn initialize(class: ClassName) -> Instruction
     ensures { result ≡ OfMember 183 class Initializer }
 {
-    Instruction::OfMember(183, class, MemberName::Initializer)
+    Instruction::OfMember(op_table::INVOKESPECIAL, class, MemberName::Initializer)
 }
 
 fn sipush(number: u16) -> Instruction
     ensures { result ≡ Short 17 number }
 {
-    Instruction::Short(17, number)
+    Instruction::Short(op_table::SIPUSH, number)
 }
 
 fn bipush(number: u8) -> Instruction
     ensures { result ≡ Byte 16 number }
 {
-    Instruction::Byte(16, number)
+    Instruction::Byte(op_table::BIPUSH, number)
 }
 
 fn constructor(alloc: Global, superclass: ClassName) -> Result<MethodRow, NoMemory>

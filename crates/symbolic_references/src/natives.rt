@@ -27,8 +27,7 @@ use crate::creation::RESERVED;
 use crate::declared_member::DeclaredMember;
 use crate::moving::{drop_operands, replace_operands};
 use crate::passing::{NativeCall, went_on};
-use base_classes::native_of;
-use class_index::BUILT_IN_CLASSES;
+use base_classes::{BUILT_IN_CLASSES, OUT_OF_MEMORY_ERROR, native_of};
 use class_linker::Linker;
 use const_pool::MemberRef;
 use frame_stack::Frames;
@@ -39,9 +38,6 @@ use jvm_model::{Exception, Program, Shared};
 use jvm_natives::LinkedKinds;
 use native_ops::{Native, call};
 use std::alloc::Global;
-
-/// The place of java/lang/OutOfMemoryError among the built-in classes.
-const OUT_OF_MEMORY_ERROR: u16 = 51;
 
 // ---- which method it is
 

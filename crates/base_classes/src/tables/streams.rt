@@ -4,10 +4,10 @@ ghost use Rattle.std.specs.Prelude.{◌≡◌, map};
 ghost use Rattle.base_classes.specs.RowViews.{class_view};
 ghost use Rattle.base_classes.specs.StreamClasses.{stream_classes};
 
-use crate::opcode::{ALOAD_0, ALOAD_1, INVOKESTATIC, INVOKEVIRTUAL, RETURN};
 use crate::rows::InstructionRow::{OnMember, Plain};
 use crate::rows::{ClassRow, CodeRow, MemberName, MemberRow};
 use crate::tables::PLAIN_CLASS;
+use op_table::{ALOAD_0, ALOAD_1, INVOKESTATIC, INVOKEVIRTUAL, RETURN};
 
 const STRING_VALUE_OF: MemberName = MemberName {
     class: "java/lang/String",

@@ -4,10 +4,10 @@ ghost use Rattle.std.specs.Prelude.{◌≡◌, map};
 ghost use Rattle.base_classes.specs.RowViews.{class_view};
 ghost use Rattle.base_classes.specs.TextClasses.{text_classes};
 
-use crate::opcode::{ALOAD_0, ALOAD_1, ARETURN, IFNONNULL, INVOKESTATIC, INVOKEVIRTUAL};
 use crate::rows::InstructionRow::{Jump, LoadText, OnMember, Plain};
 use crate::rows::{ClassRow, CodeRow, MemberName, MemberRow};
 use crate::tables::FINAL_CLASS;
+use op_table::{ALOAD_0, ALOAD_1, ARETURN, IFNONNULL, INVOKESTATIC, INVOKEVIRTUAL};
 
 const OBJECT_TO_STRING: MemberName = MemberName {
     class: "java/lang/Object",

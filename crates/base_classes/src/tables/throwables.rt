@@ -4,13 +4,13 @@ ghost use Rattle.std.specs.Prelude.{◌≡◌, map};
 ghost use Rattle.base_classes.specs.RowViews.{class_view};
 ghost use Rattle.base_classes.specs.ThrowableClasses.{throwable_classes};
 
-use crate::opcode::{
-    ALOAD_0, ALOAD_1, ALOAD_2, ARETURN, ASTORE_1, ASTORE_2, GETSTATIC, IFNONNULL, INVOKEVIRTUAL,
-    RETURN,
-};
 use crate::rows::InstructionRow::{Jump, LoadText, OnMember, Plain};
 use crate::rows::{ClassRow, CodeRow, MemberName, MemberRow};
 use crate::tables::PLAIN_CLASS;
+use op_table::{
+    ALOAD_0, ALOAD_1, ALOAD_2, ARETURN, ASTORE_1, ASTORE_2, GETSTATIC, IFNONNULL, INVOKEVIRTUAL,
+    RETURN,
+};
 
 const GET_CLASS: MemberName = MemberName {
     class: "java/lang/Object",

@@ -1,6 +1,6 @@
 -- The units are the bytes so far.
 use Rattle.std.proofs.Common.{◌≡◌, take}
-use Rattle.program_gen.proofs.names.text_of.Given as goal
+use Rattle.class_making.proofs.text_of.Given as goal
 
 abbrev pub invariant-loop-byte : goal.invariant-loop-byte
 invariant-loop-byte l = l.units.items ≡ take l.byte-index l.byte-items

@@ -1,6 +1,0 @@
--- The units are the bytes so far.
-use Rattle.std.proofs.Common.{◌≡◌, take}
-use Rattle.base_classes.proofs.entries.text_of.Given as goal
-
-abbrev pub invariant-loop-byte : goal.invariant-loop-byte
-invariant-loop-byte l = l.units.items ≡ take l.byte-index l.byte-items

@@ -1,0 +1,24 @@
+//! The places of built-in classes that rules speak of, in the order of the table.
+
+/// How many built-in classes there are.
+pub const BUILT_IN_CLASSES: u16 = 53;
+
+pub const CLONE_NOT_SUPPORTED_EXCEPTION: u16 = 24;
+
+pub const ARITHMETIC_EXCEPTION: u16 = 27;
+
+pub const ARRAY_STORE_EXCEPTION: u16 = 28;
+
+pub const CLASS_CAST_EXCEPTION: u16 = 29;
+
+pub const NEGATIVE_ARRAY_SIZE_EXCEPTION: u16 = 33;
+
+pub const NULL_POINTER_EXCEPTION: u16 = 34;
+
+pub const NUMBER_FORMAT_EXCEPTION: u16 = 36;
+
+pub const ARRAY_INDEX_OUT_OF_BOUNDS_EXCEPTION: u16 = 37;
+
+pub const STRING_INDEX_OUT_OF_BOUNDS_EXCEPTION: u16 = 38;
+
+pub const OUT_OF_MEMORY_ERROR: u16 = 51;
