@@ -136,7 +136,8 @@ impl Cells {
     #[inline(always)]
     pub fn int(&self, slot: usize) -> Option<i32>
         ensures ints { IfSome result (λ _. element_in self.now ≡ Element.Int) }
-        ensures found { IfSome result (λ n. slice_get (data_in self.now) slot ≡ Some (Datum.Int n)) }
+        ensures found { IfSome result
+            (λ n. slice_get (data_in self.now) slot ≡ Some (Datum.Int n)) }
     {
         match self {
             Cells::Ints(v) => item(v, slot),
@@ -148,7 +149,8 @@ impl Cells {
     #[inline(always)]
     pub fn reference(&self, slot: usize) -> Option<u32>
         ensures references { IfSome result (λ _. element_in self.now ≡ Element.Reference) }
-        ensures found { IfSome result (λ n. slice_get (data_in self.now) slot ≡ Some (Datum.Ref n)) }
+        ensures found { IfSome result
+            (λ n. slice_get (data_in self.now) slot ≡ Some (Datum.Ref n)) }
     {
         match self {
             Cells::References(v) => item(v, slot),

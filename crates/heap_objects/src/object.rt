@@ -62,7 +62,8 @@ impl Object {
     #[inline(always)]
     pub fn int(&self, slot: usize) -> Option<i32>
         ensures ints { IfSome result (λ _. element_of (kind_of self.now) ≡ Element.Int) }
-        ensures found { IfSome result (λ n. slice_get (slots_of self.now) slot ≡ Some (Datum.Int n)) }
+        ensures found { IfSome result
+            (λ n. slice_get (slots_of self.now) slot ≡ Some (Datum.Int n)) }
     {
         match self {
             Object::Instance(_, _) => None,
@@ -76,7 +77,8 @@ impl Object {
     pub fn reference(&self, slot: usize) -> Option<u32>
         ensures references { IfSome result
             (λ _. element_of (kind_of self.now) ≡ Element.Reference) }
-        ensures found { IfSome result (λ n. slice_get (slots_of self.now) slot ≡ Some (Datum.Ref n)) }
+        ensures found { IfSome result
+            (λ n. slice_get (slots_of self.now) slot ≡ Some (Datum.Ref n)) }
     {
         match self {
             Object::Instance(_, _) => None,

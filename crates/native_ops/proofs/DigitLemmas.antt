@@ -1,7 +1,7 @@
 -- Numbers that digits write.
 use Rattle.std.proofs.Common.{◌≡◌, ℕ, ◌+◌, ◌-◌, ◌*◌, ◌<◌, List, [], ◌∷◌, Bool, true, false, if◌then◌else◌, length, refl, ap, ◌∙◌, arith, get_or, drop}
 use Rattle.std.specs.Prelude.{Some, None, nat_le}
-use Rattle.native_ops.specs.Parsing.{is_digit, read_digits, up_to}
+use Rattle.native_ops.specs.Inputs.Parsing.{is_digit, read_digits, up_to}
 use Rattle.native_ops.proofs.ListLemmas.{drop_is}
 
 beyond : (greatest n : ℕ) → greatest < n → nat_le n greatest ≡ false

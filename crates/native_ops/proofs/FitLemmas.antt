@@ -3,10 +3,10 @@ use Rattle.std.proofs.Common.{◌≡◌, ℕ, ◌<◌, ◌≤◌, List, [], fals
 use Rattle.std.proofs.lemmas.List.{drop_all}
 use Rattle.heap_objects.specs.declared.datum.Datum.{Datum}
 use Rattle.heap_objects.specs.Heaps.{HeapView}
-use Rattle.native_ops.specs.declared.signature.Parameter.{Parameter}
-use Rattle.native_ops.specs.declared.signature.Parameter.TheVariants as parameter
-use Rattle.native_ops.specs.KindsViews.{KindsView}
-use Rattle.native_ops.specs.Signatures.{fit_all}
+use Rattle.native_ops.specs.declared.methods.signature.Parameter.{Parameter}
+use Rattle.native_ops.specs.declared.methods.signature.Parameter.TheVariants as parameter
+use Rattle.native_ops.specs.Inputs.KindsViews.{KindsView}
+use Rattle.native_ops.specs.Methods.Signatures.{fit_all}
 use Rattle.native_ops.proofs.ListLemmas.{drop_is}
 
 -- a parameter is left and no argument

@@ -3,7 +3,7 @@ use Rattle.std.proofs.Common.{◌≡◌, ℕ, suc, ◌+◌, ◌-◌, ◌<◌, �
 use Rattle.std.specs.Prelude.{Option, Some, ◌==◌}
 use Rattle.std.specs.Option.{option_map_or}
 use Rattle.std.proofs.lemmas.Bool.{ne_eqb}
-use Rattle.native_ops.specs.KindsViews.{is_among}
+use Rattle.native_ops.specs.Inputs.KindsViews.{is_among}
 
 step : (above : ℕ → Option ℕ) (n lower upper : ℕ) → is_among above (suc n) lower upper
     ≡ (if lower == upper then true else option_map_or (λ k. is_among above n k upper) (above lower) false)

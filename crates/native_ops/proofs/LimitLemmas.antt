@@ -6,13 +6,13 @@ use Rattle.heap_objects.specs.declared.datum.Datum.TheVariants.{Int}
 use Rattle.heap_objects.specs.Changes.{changed_if}
 use Rattle.heap_objects.specs.Interning.{number_of, with_number}
 use Rattle.heap_objects.specs.Heaps.{HeapView, has_slot_at, with_slot_at, has_unit_at, with_unit_at, units_at, growth_of, with_units_added, with_units_replaced, with_interned, with_text, with_instance, with_array, next_number}
-use Rattle.native_ops.specs.declared.effect.Effect.{Effect}
-use Rattle.native_ops.specs.declared.effect.Effect.TheVariants.{Answers, MakesText, MakesArray, MakesInstance, Appends, Replaces, PutsUnit, Resizes, Interns, Prints, Reads, Stores, SetsFields, GivesClass, GivesBox}
-use Rattle.native_ops.specs.Numbers.{string_kind, class_kind}
-use Rattle.native_ops.specs.Objects.{size_at, text_at}
-use Rattle.native_ops.specs.MadeViews.{object_of_class, object_of_box}
-use Rattle.native_ops.specs.Making.{is_full, put_at, with_values, heap_with_append, heap_with_replace, heap_with_interned, units_resized}
-use Rattle.native_ops.specs.Worlds.{World, after}
+use Rattle.native_ops.specs.declared.effects.effect.Effect.{Effect}
+use Rattle.native_ops.specs.declared.effects.effect.Effect.TheVariants.{Answers, MakesText, MakesArray, MakesInstance, Appends, Replaces, PutsUnit, Resizes, Interns, Prints, Reads, Stores, SetsFields, GivesClass, GivesBox}
+use Rattle.native_ops.specs.Inputs.Numbers.{string_kind, class_kind}
+use Rattle.native_ops.specs.Inputs.Objects.{size_at, text_at}
+use Rattle.native_ops.specs.Inputs.MadeViews.{object_of_class, object_of_box}
+use Rattle.native_ops.specs.Effects.Making.{is_full, put_at, with_values, heap_with_append, heap_with_replace, heap_with_interned, units_resized}
+use Rattle.native_ops.specs.Effects.Worlds.{World, after}
 
 -- either heap has the limit
 either : (b : Bool) (limit : ℕ) (one other : HeapView) → one.limit ≡ limit → other.limit ≡ limit → (if b then one else other).limit ≡ limit

@@ -12,11 +12,11 @@ use Rattle.base_classes.specs.StreamClasses.{stream_classes}
 use Rattle.base_classes.specs.ValueClasses.{value_classes}
 use Rattle.base_classes.specs.ThrowableClasses.{throwable_classes}
 use Rattle.base_classes.specs.Natives.{native_methods}
-use Rattle.native_ops.specs.declared.rows.Row.{Row}
-use Rattle.native_ops.specs.Rows.{rows}
-use Rattle.native_ops.specs.Signatures.{parameters_of}
-use Rattle.native_ops.specs.Described.{parameters_in, is_static, native_members, is_absent}
-use Rattle.native_ops.specs.Named.{reference_of}
+use Rattle.native_ops.specs.declared.methods.rows.Row.{Row}
+use Rattle.native_ops.specs.Methods.Rows.{rows}
+use Rattle.native_ops.specs.Methods.Signatures.{parameters_of}
+use Rattle.native_ops.specs.Methods.Described.{parameters_in, is_static, native_members, is_absent}
+use Rattle.native_ops.specs.Methods.Named.{reference_of}
 
 pub rows_named : map reference_of rows ≡ native_methods
 unfolding rows native_methods built_in_classes object_classes text_classes stream_classes value_classes throwable_classes

@@ -8,8 +8,8 @@ use Rattle.heap_objects.specs.declared.object.Object.{Object}
 use Rattle.heap_objects.specs.declared.object.Object.TheVariants.{Instance, Array, Text}
 use Rattle.heap_objects.specs.Objects.{slots_of, length_of, object_at}
 use Rattle.heap_objects.specs.Heaps.{HeapView, slot_at}
-use Rattle.native_ops.specs.Objects.{values_at, size_at, chars_at, char_in_datum}
-use Rattle.native_ops.specs.Places.{between}
+use Rattle.native_ops.specs.Inputs.Objects.{values_at, size_at, chars_at, char_in_datum}
+use Rattle.native_ops.specs.Inputs.Places.{between}
 
 slot_of : (o : Option Object) (slot : ℕ) → option_and_then (λ o. slice_get (slots_of o) slot) o ≡ slice_get (option_map_or slots_of o []) slot
 slot_of None slot = refl

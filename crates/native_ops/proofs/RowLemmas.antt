@@ -1,9 +1,9 @@
 -- The table of the native methods is the definition's.
 use Rattle.std.proofs.Common.{◌≡◌, ℕ, Some, subst, refl}
 use Rattle.std.specs.Prelude.{slice_get}
-use Rattle.native_ops.specs.declared.rows.Row.{Row}
-use Rattle.native_ops.specs.declared.rows.TheConstants.{ROWS}
-use Rattle.native_ops.specs.Rows.{rows}
+use Rattle.native_ops.specs.declared.methods.rows.Row.{Row}
+use Rattle.native_ops.specs.declared.methods.rows.TheConstants.{ROWS}
+use Rattle.native_ops.specs.Methods.Rows.{rows}
 
 rows_are : ROWS ≡ rows
 unfolding rows

@@ -4,8 +4,8 @@ use Rattle.std.specs.Prelude.{Some, slice_get, nat_lt}
 use Rattle.heap_objects.specs.declared.datum.Datum.{Datum}
 use Rattle.heap_objects.specs.Changes.{changed_if}
 use Rattle.heap_objects.specs.Heaps.{HeapView, has_slot_at, with_slot_at}
-use Rattle.native_ops.specs.Objects.{size_at}
-use Rattle.native_ops.specs.Making.{put_at, with_values}
+use Rattle.native_ops.specs.Inputs.Objects.{size_at}
+use Rattle.native_ops.specs.Effects.Making.{put_at, with_values}
 use Rattle.native_ops.proofs.ListLemmas.{drop_found}
 
 not_below : (n m : ℕ) → m ≤ n → nat_lt n m ≡ false

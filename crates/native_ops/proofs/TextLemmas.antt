@@ -5,8 +5,8 @@ use Rattle.std.proofs.Math.Nat.{add-mul, mod-add-mod, pow-succ'}
 use Rattle.std.proofs.lemmas.Nat.{mul-mod_first}
 use Rattle.std.proofs.lemmas.List.{drop_all, length-drop}
 use Rattle.native_ops.proofs.ListLemmas.{drop_is}
-use Rattle.native_ops.specs.Texts.{units_weighted, first_difference}
-use Rattle.native_ops.specs.Places.{pair_from}
+use Rattle.native_ops.specs.Inputs.Texts.{units_weighted, first_difference}
+use Rattle.native_ops.specs.Inputs.Places.{pair_from}
 
 reduced : (a w r m : ℕ) → (a % m * w + r) % m ≡ (a * w + r) % m
 reduced a w r m =

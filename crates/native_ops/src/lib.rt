@@ -3,39 +3,12 @@
 //! make.
 #![tactic(auto)]
 
-mod answer;
-mod arguments;
-mod boxes;
-mod builders;
-mod calls;
-mod carrying;
-mod characters;
-mod copying;
-mod effect;
-mod enums;
-mod fitting;
-mod integers;
-mod kept;
-mod kinds;
-mod longs;
-mod made;
-mod making;
-mod method;
-mod numbers;
-mod parsing;
-mod places;
-mod ports;
-mod reading;
-mod roots;
-mod rows;
-mod shown;
-mod signature;
-mod streams;
-mod strings;
-mod texts;
-mod throwables;
+mod classes;
+mod effects;
+mod inputs;
+mod methods;
 
-pub use answer::Native;
-pub use calls::call;
-pub use kinds::Kinds;
-pub use made::Made;
+pub use effects::answer::Native;
+pub use methods::calls::call;
+pub use inputs::kinds::Kinds;
+pub use effects::made::Made;

@@ -7,74 +7,74 @@ use Rattle.int_ops.specs.Arithmetic.{comparison}
 use Rattle.heap_objects.specs.declared.datum.Datum.{Datum}
 use Rattle.heap_objects.specs.declared.datum.Datum.TheVariants as datum
 use Rattle.heap_objects.specs.Heaps.{HeapView}
-use Rattle.native_ops.specs.declared.answer.Answer.TheVariants as answer
-use Rattle.native_ops.specs.declared.effect.Effect.{Effect}
-use Rattle.native_ops.specs.declared.effect.Effect.TheVariants.{Answers, MakesText, MakesArray, MakesInstance, Appends, Replaces, PutsUnit, Resizes, Interns, Prints, Reads, Stores, SetsFields, GivesClass, GivesBox}
-use Rattle.native_ops.specs.declared.method.Method.{Method}
-use Rattle.native_ops.specs.declared.method.Method.TheVariants as method
-use Rattle.native_ops.specs.declared.method.ObjectMethod.{ObjectMethod}
-use Rattle.native_ops.specs.declared.method.ObjectMethod.TheVariants as object
-use Rattle.native_ops.specs.declared.method.ClassMethod.{ClassMethod}
-use Rattle.native_ops.specs.declared.method.ClassMethod.TheVariants as class
-use Rattle.native_ops.specs.declared.method.StringMethod.{StringMethod}
-use Rattle.native_ops.specs.declared.method.StringMethod.TheVariants as string
-use Rattle.native_ops.specs.declared.method.BuilderMethod.{BuilderMethod}
-use Rattle.native_ops.specs.declared.method.BuilderMethod.TheVariants as builder
-use Rattle.native_ops.specs.declared.method.InputMethod.{InputMethod}
-use Rattle.native_ops.specs.declared.method.InputMethod.TheVariants as input
-use Rattle.native_ops.specs.declared.method.PrintMethod.{PrintMethod}
-use Rattle.native_ops.specs.declared.method.PrintMethod.TheVariants as output
-use Rattle.native_ops.specs.declared.method.SystemMethod.{SystemMethod}
-use Rattle.native_ops.specs.declared.method.SystemMethod.TheVariants as system
-use Rattle.native_ops.specs.declared.method.IntegerMethod.{IntegerMethod}
-use Rattle.native_ops.specs.declared.method.IntegerMethod.TheVariants as integer
-use Rattle.native_ops.specs.declared.method.LongMethod.{LongMethod}
-use Rattle.native_ops.specs.declared.method.LongMethod.TheVariants as long
-use Rattle.native_ops.specs.declared.method.CharacterMethod.{CharacterMethod}
-use Rattle.native_ops.specs.declared.method.CharacterMethod.TheVariants as character
-use Rattle.native_ops.specs.declared.method.BooleanMethod.{BooleanMethod}
-use Rattle.native_ops.specs.declared.method.BooleanMethod.TheVariants as boolean
-use Rattle.native_ops.specs.declared.method.MathMethod.{MathMethod}
-use Rattle.native_ops.specs.declared.method.MathMethod.TheVariants as math
-use Rattle.native_ops.specs.declared.method.EnumMethod.{EnumMethod}
-use Rattle.native_ops.specs.declared.method.EnumMethod.TheVariants as enum
-use Rattle.native_ops.specs.declared.method.ThrowableMethod.{ThrowableMethod}
-use Rattle.native_ops.specs.declared.method.ThrowableMethod.TheVariants as throwable
-use Rattle.native_ops.specs.declared.rows.Row.{Row}
-use Rattle.native_ops.specs.Numbers.{string_kind, integer_kind, long_kind, character_kind, cloneable_kind, enum_kind, first_array_kind, clone_not_supported_exception, class_cast_exception, null_pointer_exception, string_index_out_of_bounds_exception}
-use Rattle.native_ops.specs.Arguments.{int_in, long_in, reference_in, char_in}
-use Rattle.native_ops.specs.Objects.{text_at, size_at, kind_or_none, values_at, has_kind, int_field, long_field}
-use Rattle.native_ops.specs.KindsViews.{KindsView, is_instance}
-use Rattle.native_ops.specs.MadeViews.{MadeView}
-use Rattle.native_ops.specs.Effects.{gives_int, gives_long, gives_reference, throws, unless_null}
-use Rattle.native_ops.specs.Places.{place_in, range_in, range_from, counted_range, between}
-use Rattle.native_ops.specs.Shown.{is_null_array}
-use Rattle.native_ops.specs.Parsing.{number_parsed}
-use Rattle.native_ops.specs.Boxes.{small_place, char_place, box_of, compared_if}
-use Rattle.native_ops.specs.Roots.{clone, object_effect, class_effect}
-use Rattle.native_ops.specs.Strings.{init_text, char_at, part_of, substring, string_effect}
-use Rattle.native_ops.specs.Builders.{init_capacity, set_length, builder_effect}
-use Rattle.native_ops.specs.Streams.{input_effect, print_effect}
-use Rattle.native_ops.specs.Copying.{system_effect}
-use Rattle.native_ops.specs.Integers.{integer_effect}
-use Rattle.native_ops.specs.Longs.{long_effect}
-use Rattle.native_ops.specs.Characters.{character_effect, boolean_effect, math_effect}
-use Rattle.native_ops.specs.Enums.{declaring_class, compare_constants, enum_effect}
-use Rattle.native_ops.specs.Throwables.{throwable_effect}
-use Rattle.native_ops.specs.Signatures.{parameters_of, fit}
-use Rattle.native_ops.specs.Rows.{rows}
-use Rattle.native_ops.specs.Worlds.{World}
-use Rattle.native_ops.specs.Calls.{method_effect, row_effect, effect_of}
+use Rattle.native_ops.specs.declared.effects.answer.Answer.TheVariants as answer
+use Rattle.native_ops.specs.declared.effects.effect.Effect.{Effect}
+use Rattle.native_ops.specs.declared.effects.effect.Effect.TheVariants.{Answers, MakesText, MakesArray, MakesInstance, Appends, Replaces, PutsUnit, Resizes, Interns, Prints, Reads, Stores, SetsFields, GivesClass, GivesBox}
+use Rattle.native_ops.specs.declared.methods.method.Method.{Method}
+use Rattle.native_ops.specs.declared.methods.method.Method.TheVariants as method
+use Rattle.native_ops.specs.declared.methods.method.ObjectMethod.{ObjectMethod}
+use Rattle.native_ops.specs.declared.methods.method.ObjectMethod.TheVariants as object
+use Rattle.native_ops.specs.declared.methods.method.ClassMethod.{ClassMethod}
+use Rattle.native_ops.specs.declared.methods.method.ClassMethod.TheVariants as class
+use Rattle.native_ops.specs.declared.methods.method.StringMethod.{StringMethod}
+use Rattle.native_ops.specs.declared.methods.method.StringMethod.TheVariants as string
+use Rattle.native_ops.specs.declared.methods.method.BuilderMethod.{BuilderMethod}
+use Rattle.native_ops.specs.declared.methods.method.BuilderMethod.TheVariants as builder
+use Rattle.native_ops.specs.declared.methods.method.InputMethod.{InputMethod}
+use Rattle.native_ops.specs.declared.methods.method.InputMethod.TheVariants as input
+use Rattle.native_ops.specs.declared.methods.method.PrintMethod.{PrintMethod}
+use Rattle.native_ops.specs.declared.methods.method.PrintMethod.TheVariants as output
+use Rattle.native_ops.specs.declared.methods.method.SystemMethod.{SystemMethod}
+use Rattle.native_ops.specs.declared.methods.method.SystemMethod.TheVariants as system
+use Rattle.native_ops.specs.declared.methods.method.IntegerMethod.{IntegerMethod}
+use Rattle.native_ops.specs.declared.methods.method.IntegerMethod.TheVariants as integer
+use Rattle.native_ops.specs.declared.methods.method.LongMethod.{LongMethod}
+use Rattle.native_ops.specs.declared.methods.method.LongMethod.TheVariants as long
+use Rattle.native_ops.specs.declared.methods.method.CharacterMethod.{CharacterMethod}
+use Rattle.native_ops.specs.declared.methods.method.CharacterMethod.TheVariants as character
+use Rattle.native_ops.specs.declared.methods.method.BooleanMethod.{BooleanMethod}
+use Rattle.native_ops.specs.declared.methods.method.BooleanMethod.TheVariants as boolean
+use Rattle.native_ops.specs.declared.methods.method.MathMethod.{MathMethod}
+use Rattle.native_ops.specs.declared.methods.method.MathMethod.TheVariants as math
+use Rattle.native_ops.specs.declared.methods.method.EnumMethod.{EnumMethod}
+use Rattle.native_ops.specs.declared.methods.method.EnumMethod.TheVariants as enum
+use Rattle.native_ops.specs.declared.methods.method.ThrowableMethod.{ThrowableMethod}
+use Rattle.native_ops.specs.declared.methods.method.ThrowableMethod.TheVariants as throwable
+use Rattle.native_ops.specs.declared.methods.rows.Row.{Row}
+use Rattle.native_ops.specs.Inputs.Numbers.{string_kind, integer_kind, long_kind, character_kind, cloneable_kind, enum_kind, first_array_kind, clone_not_supported_exception, class_cast_exception, null_pointer_exception, string_index_out_of_bounds_exception}
+use Rattle.native_ops.specs.Inputs.Arguments.{int_in, long_in, reference_in, char_in}
+use Rattle.native_ops.specs.Inputs.Objects.{text_at, size_at, kind_or_none, values_at, has_kind, int_field, long_field}
+use Rattle.native_ops.specs.Inputs.KindsViews.{KindsView, is_instance}
+use Rattle.native_ops.specs.Inputs.MadeViews.{MadeView}
+use Rattle.native_ops.specs.Effects.Answers.{gives_int, gives_long, gives_reference, throws, unless_null}
+use Rattle.native_ops.specs.Inputs.Places.{place_in, range_in, range_from, counted_range, between}
+use Rattle.native_ops.specs.Inputs.Shown.{is_null_array}
+use Rattle.native_ops.specs.Inputs.Parsing.{number_parsed}
+use Rattle.native_ops.specs.Classes.Boxes.{small_place, char_place, box_of, compared_if}
+use Rattle.native_ops.specs.Classes.Roots.{clone, object_effect, class_effect}
+use Rattle.native_ops.specs.Classes.Strings.{init_text, char_at, part_of, substring, string_effect}
+use Rattle.native_ops.specs.Classes.Builders.{init_capacity, set_length, builder_effect}
+use Rattle.native_ops.specs.Classes.Streams.{input_effect, print_effect}
+use Rattle.native_ops.specs.Classes.Copying.{system_effect}
+use Rattle.native_ops.specs.Classes.Integers.{integer_effect}
+use Rattle.native_ops.specs.Classes.Longs.{long_effect}
+use Rattle.native_ops.specs.Classes.Characters.{character_effect, boolean_effect, math_effect}
+use Rattle.native_ops.specs.Classes.Enums.{declaring_class, compare_constants, enum_effect}
+use Rattle.native_ops.specs.Classes.Throwables.{throwable_effect}
+use Rattle.native_ops.specs.Methods.Signatures.{parameters_of, fit}
+use Rattle.native_ops.specs.Methods.Rows.{rows}
+use Rattle.native_ops.specs.Effects.Worlds.{World}
+use Rattle.native_ops.specs.Methods.Calls.{method_effect, row_effect, effect_of}
 use Rattle.std.specs.Bool.{beq}
 use Rattle.std.proofs.lemmas.Bool.{false≢true}
-use Rattle.native_ops.specs.declared.answer.Answer.{Answer}
+use Rattle.native_ops.specs.declared.effects.answer.Answer.{Answer}
 use Rattle.heap_objects.specs.Heaps.{growth_of, has_unit_at, units_at}
 use Rattle.heap_objects.specs.Interning.{number_of}
-use Rattle.native_ops.specs.Making.{is_full, units_resized}
-use Rattle.native_ops.specs.MadeViews.{object_of_box, object_of_class}
-use Rattle.native_ops.specs.Numbers.{out_of_memory_error}
-use Rattle.native_ops.specs.Worlds.{after, answer_of}
-use Rattle.native_ops.specs.Calls.{answer_by, world_by}
+use Rattle.native_ops.specs.Effects.Making.{is_full, units_resized}
+use Rattle.native_ops.specs.Inputs.MadeViews.{object_of_box, object_of_class}
+use Rattle.native_ops.specs.Inputs.Numbers.{out_of_memory_error}
+use Rattle.native_ops.specs.Effects.Worlds.{after, answer_of}
+use Rattle.native_ops.specs.Methods.Calls.{answer_by, world_by}
 
 -- ---- answers that have room in place of an argument
 

@@ -2,7 +2,7 @@
 
 ghost use Rattle.std.specs.Prelude.{◌≡◌, IfOk, OnOk};
 ghost use Rattle.jvm_model.specs.Instructions.ConstantRules.{pushes_object_of};
-ghost use Rattle.native_ops.specs.Making.{answer_of_class, heap_after_class, made_after_class};
+ghost use Rattle.native_ops.specs.Effects.Making.{answer_of_class, heap_after_class, made_after_class};
 ghost use Rattle.symbolic_references.specs.Answers.{Answers, Moves, Shares};
 ghost use Rattle.symbolic_references.specs.Natives.{HasBuiltIn, object_or_full};
 ghost use Rattle.symbolic_references.specs.Objects.{AreLoaded};

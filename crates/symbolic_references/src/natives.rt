@@ -12,7 +12,7 @@ ghost use Rattle.jvm_model.specs.Basis.Data.{GoesOn, Next};
 ghost use Rattle.jvm_model.specs.Instructions.InvocationRules.{reference_to};
 ghost use Rattle.jvm_model.specs.Instructions.NativeRules.{runs_native, runs_number, thrown_by};
 ghost use Rattle.jvm_model.specs.Basis.Values.{as_value, with_value};
-ghost use Rattle.native_ops.specs.Calls.{is_done};
+ghost use Rattle.native_ops.specs.Methods.Calls.{is_done};
 ghost use Rattle.symbolic_references.specs.Answers.{answer_of, answer_view, frames_of, abrupt_view};
 ghost use Rattle.symbolic_references.specs.Attempts.{world_over};
 ghost use Rattle.symbolic_references.specs.Does.{Does, parts_changed};

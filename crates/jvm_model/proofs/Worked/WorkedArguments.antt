@@ -11,8 +11,8 @@ use Rattle.base_classes.specs.StreamClasses.{stream_classes}
 use Rattle.base_classes.specs.ValueClasses.{value_classes}
 use Rattle.base_classes.specs.ThrowableClasses.{throwable_classes}
 use Rattle.base_classes.specs.Natives.{native_methods}
-use Rattle.native_ops.specs.KindsViews.{is_among}
-use Rattle.native_ops.specs.Rows.{rows}
+use Rattle.native_ops.specs.Inputs.KindsViews.{is_among}
+use Rattle.native_ops.specs.Methods.Rows.{rows}
 use Rattle.jvm_model.specs.Basis.Data.{Arraylength, Returned, State, Loads, Began, Turn, World}
 use Rattle.jvm_model.specs.Running.Run.{turn_in}
 use Rattle.jvm_model.specs.Basis.SharedState.{out_of_memory, strings_kind}

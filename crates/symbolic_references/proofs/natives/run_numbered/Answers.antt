@@ -1,7 +1,7 @@
 use Rattle.std.proofs.Common.{◌∙◌, sym, subst}
 use Rattle.frame_stack.specs.FrameLists.{top_operands}
 use Rattle.jvm_model.specs.Instructions.NativeRules.{kinds_in, seen_by_natives}
-use Rattle.native_ops.specs.Calls.{is_done}
+use Rattle.native_ops.specs.Methods.Calls.{is_done}
 use Rattle.symbolic_references.specs.Attempts.{world_over}
 use Rattle.symbolic_references.specs.Objects.{AreLoaded}
 use Rattle.symbolic_references.specs.Targets.{data_in}

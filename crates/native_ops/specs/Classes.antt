@@ -1,0 +1,11 @@
+pub mod Strings
+pub mod Builders
+pub mod Streams
+pub mod Roots
+pub mod Copying
+pub mod Boxes
+pub mod Integers
+pub mod Longs
+pub mod Characters
+pub mod Enums
+pub mod Throwables

@@ -1,0 +1,9 @@
+pub mod Numbers
+pub mod KindsViews
+pub mod Arguments
+pub mod Objects
+pub mod Texts
+pub mod Places
+pub mod Shown
+pub mod MadeViews
+pub mod Parsing

@@ -1,0 +1,5 @@
+pub mod Signatures
+pub mod Rows
+pub mod Named
+pub mod Described
+pub mod Calls

@@ -1,0 +1,48 @@
+//! java/lang/Throwable and the classes below it.
+
+ghost use Rattle.std.specs.Prelude.{◌≡◌};
+ghost use Rattle.native_ops.specs.Classes.Throwables.{sets_both, message_of_detail, throwable_effect};
+
+use crate::inputs::arguments::reference_in;
+use crate::effects::effect::{Effect, gives_reference};
+use crate::methods::method::ThrowableMethod;
+use crate::inputs::numbers::STRING_KIND;
+use crate::inputs::reading::{has_kind, reference_field};
+use heap_objects::{Datum, Heap};
+
+fn sets_both(object: u32, message: u32, cause: u32) -> Effect
+    ensures { result ≡ sets_both object message cause }
+{
+    Effect::SetsFields(object, Datum::Ref(message), Datum::Ref(cause))
+}
+
+/// The message of an AssertionError with this detail.
+fn message_of_detail(detail: u32, heap: &Heap) -> u32
+    ensures { result ≡ message_of_detail detail heap.now }
+{
+    if has_kind(STRING_KIND, detail, heap) {
+        detail
+    } else {
+        0
+    }
+}
+
+/// What a method does.
+pub fn throwable_effect(method: ThrowableMethod, args: &[Datum], heap: &Heap) -> Effect
+    ensures { result ≡ throwable_effect method args.now heap.now }
+{
+    let this = reference_in(args, 0);
+    match method {
+        ThrowableMethod::Init => sets_both(this, 0, 0),
+        ThrowableMethod::InitMessage => sets_both(this, reference_in(args, 1), 0),
+        ThrowableMethod::InitMessageCause => {
+            sets_both(this, reference_in(args, 1), reference_in(args, 2))
+        }
+        ThrowableMethod::InitCause => sets_both(this, 0, reference_in(args, 1)),
+        ThrowableMethod::InitDetail => {
+            sets_both(this, message_of_detail(reference_in(args, 1), heap), 0)
+        }
+        ThrowableMethod::GetMessage => gives_reference(reference_field(this, 0, heap)),
+        ThrowableMethod::GetCause => gives_reference(reference_field(this, 1, heap)),
+    }
+}
