@@ -3,7 +3,6 @@ pub mod Helds
 pub mod Order
 pub mod Chains
 pub mod Traces
-pub mod TracesEvents
 pub mod TracesFrames
 pub mod TracesEntries
 pub mod ToldTraces

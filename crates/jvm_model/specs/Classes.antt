@@ -4,5 +4,3 @@ pub mod Layouts
 pub mod Kinds
 pub mod Load
 pub mod SuperCalls
-pub mod Starting
-pub mod Meanings

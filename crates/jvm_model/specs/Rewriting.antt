@@ -4,5 +4,3 @@ pub mod ImageTables
 pub mod Images
 pub mod StandsFor
 pub mod Agreement
-pub mod Installed
-pub mod Attempts

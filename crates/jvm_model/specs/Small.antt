@@ -1,4 +1,3 @@
 pub mod Resolved
 pub mod SmallClass
 pub mod PlainShape
-pub mod Quiet

@@ -9,6 +9,6 @@ mod inputs;
 mod methods;
 
 pub use effects::answer::Native;
-pub use methods::calls::call;
-pub use inputs::kinds::Kinds;
 pub use effects::made::Made;
+pub use inputs::kinds::Kinds;
+pub use methods::calls::call;

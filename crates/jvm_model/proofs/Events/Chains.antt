@@ -1,14 +1,13 @@
 -- Paths of activations: each goes on from the path of the activation that invoked it, and does not change later.
-use Rattle.std.proofs.Common.{◌≡◌, ℕ, zero, suc, ◌+◌, ◌<◌, true, false, not, ◌||◌, List, [], ◌∷◌, ◌++◌, length, map, filter, Option, Some, None, unwrap_or, option_map, option_and_then, slice_get, slice_set, if◌then◌else◌, refl, sym, ap, subst, ◌∙◌, arith}
+use Rattle.std.proofs.Common.{◌≡◌, ℕ, zero, suc, ◌+◌, ◌<◌, true, false, not, ◌||◌, List, [], ◌∷◌, ◌++◌, length, map, Option, Some, None, unwrap_or, option_map, option_and_then, slice_get, slice_set, if◌then◌else◌, refl, sym, ap, subst, ◌∙◌, arith}
 use Rattle.std.specs.Option.{IfSome}
 use Rattle.std.proofs.lemmas.Bool.{cond-true, or_right, ne_eqb}
 use Rattle.std.proofs.lemmas.List.{map_push, length_push}
 use Rattle.std.proofs.lemmas.Option.{slice_get-map, same_Some, none-some}
 use Rattle.jvm_model.specs.declared.event.Act.{Act}
-use Rattle.jvm_model.specs.Basis.Data.{World}
-use Rattle.jvm_model.specs.Profiling.Paths.{is_inside, distinct, context_of}
-use Rattle.jvm_model.specs.Profiling.Activations.{Activation, trace}
-use Rattle.jvm_model.specs.Profiling.Projection.{is_root, chain_of, chains_after, chains_of, from_root, path_of, paths_of, path_at, paths_made, projection}
+use Rattle.jvm_model.specs.Profiling.Paths.{is_inside}
+use Rattle.jvm_model.specs.Profiling.Activations.{Activation}
+use Rattle.jvm_model.specs.Profiling.Projection.{is_root, chain_of, chains_after, from_root, path_of, paths_of, path_at}
 
 -- ---- look-ups in a list that grows
 
@@ -172,16 +171,3 @@ path_at-found acts activations i a found below =
     ∙ ap (λ paths. path_below acts a (path_in paths a.parent)) (sym recursion))
 
 -- ---- no selection
-
-from_root-none : (chain : List Activation) → from_root [] chain ≡ []
-from_root-none [] = refl
-from_root-none (a ∷ rest) = from_root-none rest
-
-outside-each : (chains : List (List Activation)) → filter is_inside (map (path_of []) chains) ≡ []
-outside-each [] = refl
-outside-each (chain ∷ chains) = ap (λ rest. filter is_inside (map (λ (a : Activation). a.method) rest ∷ map (path_of []) chains)) (from_root-none chain) ∙ outside-each chains
-
--- Where nothing is ever selected, no activation is profiled, and the projection is empty.
-pub projection-none : (w : World) (n : ℕ) → projection [] w n ≡ []
-projection-none w n =
-    ap (λ paths. map (context_of (paths_of [] (trace w n).activations) (paths_made [] w n)) (distinct paths)) (outside-each (chains_of (trace w n).activations))

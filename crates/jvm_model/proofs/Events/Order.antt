@@ -206,18 +206,12 @@ on-ordered w t u s (Some e) stack open' stop = tt
 pub step-ordered : (w : World) (t u : Listing) (s : State) → move w t s ≡ None → AreOrdered (step w u s).changes
 step-ordered w t u s stop = on-ordered w t u s s.ending s.stack refl stop
 
-pub step-begins : (w : World) (t u : Listing) (s : State) → move w t s ≡ None → begun_count (step w u s).changes ≤ 1
-step-begins w t u s stop = ordered-once (step w u s).changes (step-ordered w t u s stop)
-
 -- behind what the start loads
 pub started-begins : (w : World) (t : Listing) → EndThenBegin (turn_settled w t (still (starts_with w))).changes
 started-begins w t = settled-begins w t (still (starts_with w)) (inl tt)
 
 pub start-ordered : (w : World) (t : Listing) → AreOrdered (start w t).changes
 start-ordered w t = loaded-ordered (main_loads w) (turn_settled w t (still (starts_with w))) (started-begins w t)
-
-pub start-begins : (w : World) (t : Listing) → begun_count (start w t).changes ≤ 1
-start-begins w t = ordered-once (start w t).changes (start-ordered w t)
 
 -- ---- a step ends in a normal state
 
@@ -251,16 +245,6 @@ on-stops w t u s None (Active f ∷ below) same stop = at-stops w u (record s { 
 on-stops w t u s None [] same stop = absurd (moving w t s s.thrown stop)
 on-stops w t u s None (Initializing c part ∷ below) same stop = absurd (initializing w t s s.thrown c part below stop)
 on-stops w t u s (Some e) stack same stop = ap (λ x. moves w u s x s.thrown s.stack) same
-
--- whether a state is normal does not depend on the text
-pub normal-anywhere : (w : World) (t u : Listing) (s : State) → move w t s ≡ None → move w u s ≡ None
-normal-anywhere w t u s = by s.ending s.thrown s.stack where
-  by : (ending : Option Ending) (thrown : Option ℕ) (stack : List Entry) → moves w t s ending thrown stack ≡ None → moves w u s ending thrown stack ≡ None
-  by (Some e) thrown stack stop = refl
-  by None None (Active f ∷ below) stop = refl
-  by None (Some r) (Active f ∷ below) stop = absurd (none-some _ (sym stop))
-  by None thrown [] stop = absurd (moving w t s thrown stop)
-  by None thrown (Initializing c part ∷ below) stop = absurd (initializing w t s thrown c part below stop)
 
 pub step-stops : (w : World) (t u : Listing) (s : State) → move w t s ≡ None → move w u (step w u s).after ≡ None
 step-stops w t u s stop = on-stops w t u s s.ending s.stack refl stop

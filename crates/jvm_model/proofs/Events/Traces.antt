@@ -1,17 +1,14 @@
 -- What holds of every trace: which activations are live, and that their methods are changed as told. Each change keeps it,
 -- so all changes of a step do, and the trace of a run has it.
-use Rattle.std.proofs.Common.{◌≡◌, ℕ, zero, suc, ◌<◌, List, [], ◌∷◌, ◌++◌, length, map, Option, Some, None, option_and_then, slice_get, slice_set, refl, sym, ap, ap₂, subst, ◌∙◌, inl, inr, arith}
+use Rattle.std.proofs.Common.{◌≡◌, ℕ, zero, suc, ◌<◌, List, [], ◌∷◌, ◌++◌, length, map, Some, None, slice_get, slice_set, refl, sym, ap, ap₂, subst, ◌∙◌, inl, inr, arith}
 use Rattle.std.specs.Bool.{⊤}
 use Rattle.std.specs.Option.{option_map_or}
 use Rattle.std.proofs.lemmas.Bool.{cases_eq}
 use Rattle.std.proofs.lemmas.Option.{slice_get_within, same_Some}
-use Rattle.jvm_model.specs.declared.event.EventKind.{EventKind}
-use Rattle.jvm_model.specs.declared.event.Mark.{Mark}
 use Rattle.jvm_model.specs.Basis.Data.{Listing, World, Change, Loads, Began, Left, Unwound, State}
 use Rattle.jvm_model.specs.Running.Run.{start, step, turn_in, turn_in-zero, turn_in-suc}
 use Rattle.jvm_model.specs.Running.Changes.{methods, without_first, after_change, after_changes}
 use Rattle.jvm_model.specs.Profiling.Activations.{Activation, Trace, no_trace, current, with_begin, ended_at, without_current, with_end, trace_changed, all_changed, trace_in, trace_in-zero, trace_in-suc}
-use Rattle.jvm_model.specs.Profiling.EventLists.{Marking, end_events, current_activation, end_of}
 use Rattle.jvm_model.proofs.Events.Chains.{slice_get-append_left, slice_get_at, IsBelow}
 
 -- ---- live activations
@@ -205,41 +202,3 @@ live-follow w t follow (suc n) =
     ∙ subst (λ next. after_changes (methods (turn_in w t n).after.stack) next.changes ≡ methods next.after.stack) (sym (turn_in-suc w t n)) (sym (follow.steps (turn_in w t n).after))))
 
 -- ---- what is told of an end
-
--- the step in which the current activation began
-abbrev pub current_begin : Trace → ℕ
-current_begin t = option_map_or (λ (a : Activation). a.begin) (current_activation t) 0
-
--- It is told with the mark that its method had when it began.
-pub end_of-live : (marking : Marking) (k : EventKind) (step : ℕ) (t : Trace) (method : ℕ) (more : List ℕ) → IsTrace t → live_methods t ≡ method ∷ more
-    → end_of marking k step t ≡ end_events k step method (marking (current_begin t) method)
-end_of-live marking k step t method more is front = ends t.live is front where
-  found_in : List ℕ → Option Activation
-  found_in live = option_and_then (slice_get t.activations) (current live)
-
-  ends : (live : List ℕ) → AreLive t.activations live → map (method_at t.activations) live ≡ method ∷ more
-      → option_map_or (λ (a : Activation). end_events k step a.method (marking a.begin a.method)) (found_in live) []
-      ≡ end_events k step method (marking (option_map_or (λ (a : Activation). a.begin) (found_in live) 0) method)
-  ends [] are e = absurd (cc)
-  ends (number ∷ rest) are e =
-      let a = are.0.activation in
-      let at_method : method_at t.activations number ≡ a.method = ap (λ o. option_map_or (λ (b : Activation). b.method) o 0) are.0.found in
-      let at_begin : option_map_or (λ (b : Activation). b.begin) (slice_get t.activations number) 0 ≡ a.begin = ap (λ o. option_map_or (λ (b : Activation). b.begin) o 0) are.0.found in
-      let first : a.method ≡ method = cc in
-      ap (λ o. option_map_or (λ (b : Activation). end_events k step b.method (marking b.begin b.method)) o []) are.0.found
-      ∙ (ap (λ m. end_events k step m (marking a.begin m)) first ∙ ap (λ b. end_events k step method (marking b method)) (sym at_begin))
-
--- the same for a marking that is the same in every step
-pub end_of-always : (marking : Marking) (mark : ℕ → Mark) → ((step method : ℕ) → marking step method ≡ mark method)
-    → (k : EventKind) (step : ℕ) (t : Trace) (method : ℕ) (more : List ℕ) → IsTrace t → live_methods t ≡ method ∷ more
-    → end_of marking k step t ≡ end_events k step method (mark method)
-end_of-always marking mark always k step t method more is front =
-    end_of-live marking k step t method more is front ∙ ap (end_events k step method) (always (current_begin t) method)
-
--- and where none is live, nothing is told
-pub end_of-none : (marking : Marking) (k : EventKind) (step : ℕ) (t : Trace) → live_methods t ≡ [] → end_of marking k step t ≡ []
-end_of-none marking k step t none = ends t.live none where
-  ends : (live : List ℕ) → map (method_at t.activations) live ≡ []
-      → option_map_or (λ (a : Activation). end_events k step a.method (marking a.begin a.method)) (option_and_then (slice_get t.activations) (current live)) [] ≡ []
-  ends [] e = refl
-  ends (number ∷ rest) e = absurd (cc)

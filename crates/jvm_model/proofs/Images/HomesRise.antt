@@ -1,5 +1,5 @@
 -- Homes rise strictly with the offsets whose homes they are.
-use Rattle.std.proofs.Common.{◌≡◌, ◌≤◌, ◌<◌, ◌+◌, ℕ, Bool, true, false, cond, List, [], ◌∷◌, map, length, Option, Some, refl, ap, arith}
+use Rattle.std.proofs.Common.{◌≡◌, ◌≤◌, ◌<◌, ◌+◌, ℕ, Bool, true, false, cond, List, [], ◌∷◌, map, length, Some, refl, ap, arith}
 use Rattle.std.specs.Prelude.{◌==◌, unwrap_or}
 use Rattle.std.proofs.lemmas.Bool.{eqb-true}
 use Rattle.std.proofs.lemmas.Option.{same_Some, none-some}
@@ -9,10 +9,6 @@ use Rattle.code_model.specs.Instructions.{Reads}
 use Rattle.code_model.specs.Layout.{Spot, all_spots, found_beside, home_in, home_of, homes_of}
 use Rattle.code_model.proofs.Among.{homes_rise, starts_rise}
 use Rattle.code_model.proofs.Lookups.{Rises}
-
-chosen-some : {A : Type 0} (b : Bool) (x y : A) (o : Option A) → cond b (Some x) o ≡ Some y → b ≡ true → x ≡ y
-chosen-some true x y o e is = same_Some x y e
-chosen-some false x y o e is = absurd cc
 
 -- what is found stands among the numbers, and what stands beside it among theirs
 found-low : (fs ks : List ℕ) (low a x : ℕ) → Rises low fs → found_beside fs ks a ≡ Some x → low ≤ a

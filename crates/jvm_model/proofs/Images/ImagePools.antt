@@ -20,9 +20,6 @@ use Rattle.const_pool.specs.Tail.{tail_entries, with_tail, root_index, enter_ind
 abbrev pub Keeps : {A : Type 0} → Result A PoolError → Result A PoolError → Type 0
 Keeps {A} old new = (x : A) → old ≡ Ok x → new ≡ Ok x
 
-same_Ok : {A : Type 0} (x y : A) → (let r : Result A PoolError = Ok x in r ≡ Ok y) → x ≡ y
-same_Ok x y e = cc
-
 err-ok : {A : Type 0} (e : PoolError) (x : A) → (let r : Result A PoolError = Err e in r ≡ Ok x) → ⊥
 err-ok e x is = cc
 

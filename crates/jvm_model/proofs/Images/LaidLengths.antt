@@ -17,7 +17,7 @@ use Rattle.code_model.proofs.Lengths.{size_at-some, size_at-near}
 use Rattle.code_model.proofs.Walks.{length-laid_of}
 use Rattle.jvm_model.specs.declared.event.Mark.{Mark}
 use Rattle.jvm_model.specs.declared.event.Mark.TheVariants.{Off, Plain, Root}
-use Rattle.jvm_model.specs.Rewriting.Images.{all_off, IsMarkedMember, IsMemberImage, next_number, AreMemberImages, IsOriginal, IsRewritten, IsImage}
+use Rattle.jvm_model.specs.Rewriting.Images.{IsMarkedMember, IsMemberImage, next_number, AreMemberImages, IsOriginal, IsRewritten}
 use Rattle.jvm_model.specs.Basis.Methods.{code_of}
 use Rattle.jvm_model.specs.Rewriting.StandsFor.{IsBuilt}
 use Rattle.jvm_model.specs.Rewriting.Versions.{is_return_opcode, group_of}
@@ -115,6 +115,3 @@ by_test : (c : ClassFile) (marks : List Mark) (image : ClassFile) (homes : List 
     → MatchBool b (IsOriginal c image homes) (IsRewritten c 0 marks image homes) → IsMeasuredImage c.methods image.methods homes
 by_test c marks image homes true built is = measured-original c image homes built is
 by_test c marks image homes false built is = members-measured c 0 marks c.methods image.methods homes built.plain.methods is.methods
-
-pub IsMeasuredImage-image : (c : ClassFile) (marks : List Mark) (image : ClassFile) (homes : List (Option Homes)) → IsBuilt c → IsImage c 0 marks image homes → IsMeasuredImage c.methods image.methods homes
-IsMeasuredImage-image c marks image homes built is = by_test c marks image homes (all_off marks) built is

@@ -1,17 +1,17 @@
 -- What an image has of each method of its class.
 use Rattle.std.proofs.Common.{◌≡◌, ℕ, zero, suc, ◌+◌, Bool, true, false, List, [], ◌∷◌, ◌++◌, length, slice_get, Option, Some, None, refl, sym, ap, subst, ◌∙◌, arith}
 use Rattle.std.specs.Prelude.{map, MatchBool}
-use Rattle.std.specs.Option.{option_and_then, option_flatten}
+use Rattle.std.specs.Option.{option_and_then}
 use Rattle.std.proofs.lemmas.Option.{same_Some, none-some}
 use Rattle.const_pool.specs.declared.class.ClassFile.{ClassFile}
 use Rattle.const_pool.specs.declared.class.CodeAttribute.{CodeAttribute}
 use Rattle.const_pool.specs.declared.class.Member.{Member}
 use Rattle.const_pool.specs.declared.pool.Const.{Const}
-use Rattle.const_pool.specs.Tail.{tail_entries, with_tail}
+use Rattle.const_pool.specs.Tail.{tail_entries}
 use Rattle.code_model.specs.declared.laying.Homes.{Homes}
 use Rattle.jvm_model.specs.declared.event.Mark.{Mark}
 use Rattle.jvm_model.specs.declared.event.Mark.TheVariants.{Off, Plain, Root}
-use Rattle.jvm_model.specs.Rewriting.Images.{is_off, all_off, IsMarkedMember, IsMemberImage, next_number, number_behind, AreMemberImages, IsOriginal, IsRewritten, IsImage}
+use Rattle.jvm_model.specs.Rewriting.Images.{all_off, IsMarkedMember, IsMemberImage, next_number, number_behind, AreMemberImages, IsOriginal, IsRewritten, IsImage}
 use Rattle.jvm_model.specs.Basis.Methods.{code_of, method_code}
 use Rattle.jvm_model.specs.Rewriting.Versions.{IsVersion}
 use Rattle.jvm_model.proofs.Images.ImageMethods.{code_of-marked}
@@ -115,22 +115,6 @@ pub record IsSameMethod (old new : Member) : Type 0 where
   pub name : new.name ≡ old.name
   pub descriptor : new.descriptor ≡ old.descriptor
   pub access : new.access ≡ old.access
-
-marked-same : (c : ClassFile) (number : ℕ) (mark : Mark) (old new : Member) (homes : Homes) → IsMarkedMember c number mark old new homes → IsSameMethod old new
-marked-same c number mark old new homes is = record {
-  name = ap (λ (m : Member). m.name) is.replaced;
-  descriptor = ap (λ (m : Member). m.descriptor) is.replaced;
-  access = ap (λ (m : Member). m.access) is.replaced;
-}
-
-pub member-same : (c : ClassFile) (number : ℕ) (mark : Mark) (old new : Member) (home : Option Homes) → IsMemberImage c number mark old new home → IsSameMethod old new
-member-same c number Off old new home is = record {
-  name = ap (λ (m : Member). m.name) is.0;
-  descriptor = ap (λ (m : Member). m.descriptor) is.0;
-  access = ap (λ (m : Member). m.access) is.0;
-}
-member-same c number Plain old new home is = marked-same c number Plain old new is.0 is.1
-member-same c number Root old new home is = marked-same c number Root old new is.0 is.1
 
 -- ---- the versions of methods with Code
 

@@ -1,11 +1,11 @@
 -- A run's output only grows, and a run that has ended stays as it is. What an instruction writes is appended, and nothing else
 -- touches the output.
-use Rattle.std.proofs.Common.{◌≡◌, ℕ, zero, suc, ◌≤◌, Bool, true, false, List, [], ◌∷◌, ◌++◌, length, take, Option, Some, None, is_some, nat_le, nat_lt, if◌then◌else◌, refl, sym, ap, subst, ◌∙◌, inl, inr, append_assoc, arith}
+use Rattle.std.proofs.Common.{◌≡◌, ℕ, zero, suc, ◌≤◌, Bool, true, false, List, [], ◌∷◌, ◌++◌, Option, Some, None, is_some, nat_le, nat_lt, if◌then◌else◌, refl, sym, ap, subst, ◌∙◌, inl, inr, append_assoc, arith}
 use Rattle.std.specs.List.{slice_get}
 use Rattle.std.specs.Option.{IfSome, option_map}
 use Rattle.std.proofs.lemmas.Option.{IfSome_then}
-use Rattle.std.proofs.lemmas.Bool.{both_ways, cases_lt, false_from_ne_true}
-use Rattle.std.proofs.lemmas.List.{append-nil, take_at}
+use Rattle.std.proofs.lemmas.Bool.{cases_lt}
+use Rattle.std.proofs.lemmas.List.{append-nil}
 use Rattle.heap_objects.specs.declared.Value.TheVariants.{Ref, Addr}
 use Rattle.jvm_model.specs.Basis.Data.{Datum, Locals, Operands, Frame, Entry, Active, Initializing, Constants, Superclass, Initializer, Finish, Phase, Fresh, Erroneous, Ending, State, Turn, Instruction, Listing, Outcome, GoesOn, Subroutine, Invokes, Returns, Throws, Raises, Initializes, Exits, Breaks, Done, World}
 use Rattle.frame_stack.specs.Widths.{height_of}
@@ -165,12 +165,6 @@ run-grows w t m n le = from_on (λ k. Extends (turn_in w t m).after.output (turn
     (λ k so_far. subst (λ (x : Turn). Extends (turn_in w t m).after.output x.after.output) (sym (turn_in-suc w t k))
     (Extends-trans so_far (step-grows w t (turn_in w t k).after))) n le
 
--- what was written first stays in front
-pub output-is-front : (w : World) (t : Listing) (m n : ℕ) → m ≤ n → take (length (turn_in w t m).after.output) (turn_in w t n).after.output ≡ (turn_in w t m).after.output
-output-is-front w t m n le =
-    let grown = run-grows w t m n le in
-    ap (take (length (turn_in w t m).after.output)) grown.longer ∙ take_at (turn_in w t m).after.output grown.more (length (turn_in w t m).after.output) refl
-
 -- ---- the end
 
 on-ended : (w : World) (t : Listing) (s : State) (ending : Option Ending) → is_some ending ≡ true → steps_on w t s ending s.stack ≡ still s
@@ -184,13 +178,3 @@ step-ended w t s ended = on-ended w t s s.ending ended
 pub run-stays : (w : World) (t : Listing) (m n : ℕ) → m ≤ n → is_some (turn_in w t m).after.ending ≡ true → (turn_in w t n).after ≡ (turn_in w t m).after
 run-stays w t m n le ended = from_on (λ k. (turn_in w t k).after ≡ (turn_in w t m).after) m refl
     (λ k so_far. ap (λ (x : Turn). x.after) (turn_in-suc w t k) ∙ (ap (λ s. (step w t s).after) so_far ∙ ap (λ (x : Turn). x.after) (step-ended w t (turn_in w t m).after ended))) n le
-
--- and tells of no change
-pub run-quiet : (w : World) (t : Listing) (m n : ℕ) → m ≤ n → is_some (turn_in w t m).after.ending ≡ true → (turn_in w t (suc n)).changes ≡ []
-run-quiet w t m n le ended =
-    ap (λ (x : Turn). x.changes) (turn_in-suc w t n)
-    ∙ (ap (λ s. (step w t s).changes) (run-stays w t m n le ended) ∙ ap (λ (x : Turn). x.changes) (step-ended w t (turn_in w t m).after ended))
-
-pub ending-earlier : (w : World) (t : Listing) (m n : ℕ) → m ≤ n → is_some (turn_in w t n).after.ending ≡ false → is_some (turn_in w t m).after.ending ≡ false
-ending-earlier w t m n le on = false_from_ne_true (is_some (turn_in w t m).after.ending)
-    (λ ended. both_ways (is_some (turn_in w t n).after.ending) on (ap (λ (s : State). is_some s.ending) (run-stays w t m n le ended) ∙ ended))

@@ -1,14 +1,9 @@
 -- What a loop of moves needs: a move makes `left` less and keeps the normal form, and where none applies it is reached.
-use Rattle.std.proofs.Common.{◌≡◌, ◌<◌, Some, None, sym, subst}
-use Rattle.std.specs.Option.{IfSome}
+use Rattle.std.proofs.Common.{◌≡◌, Some, None, sym}
 use Rattle.jvm_model.specs.Basis.Data.{Turn, Listing, World}
-use Rattle.jvm_model.specs.Running.Moves.{move, moves_left, then_turn, turn_settled}
+use Rattle.jvm_model.specs.Running.Moves.{move, then_turn, turn_settled}
 use Rattle.jvm_model.specs.Running.Normal.{here, by_move}
-use Rattle.jvm_model.proofs.Running.Settles.{move-less}
 use Rattle.jvm_model.proofs.Running.NormalForms.{settled-normal, one-normal-form}
-
-pub moved-less : (w : World) (t : Listing) (a next : Turn) → move w t a.after ≡ Some next → moves_left (then_turn a next).after < moves_left a.after
-moved-less w t a next e = subst (λ found. IfSome found (λ (x : Turn). moves_left x.after < moves_left a.after)) e (move-less w t a.after)
 
 pub moved-same : (w : World) (t : Listing) (a next : Turn) → move w t a.after ≡ Some next → turn_settled w t (then_turn a next) ≡ turn_settled w t a
 moved-same w t a next e =

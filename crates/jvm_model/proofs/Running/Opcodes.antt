@@ -447,15 +447,3 @@ sipush-size bytes at i stands is =
     size_at-is i.at i ∙ subst P (sym is) (sipush-three i.at i.wide i.arg) known.1.shape
 
 -- ---- invokestatic
-
-invokestatic-three : (at : ℕ) (wide : Bool) (a : Arg) → HasShape (form_of wide 184) a → length (opcode_bytes wide 184) + operand_len at (operand_width wide (form_of wide 184)) a ≡ 3
-unfolding row_of groups wide_row_of wide_groups
-invokestatic-three at true a s = absurd s
-invokestatic-three at false a s = ap (λ b. 1 + operand_len at w16 b) s.1
-
--- so has it
-pub invokestatic-size : (bytes : List ℕ) (at : ℕ) (i : Instr) → instruction_at bytes at ≡ Some i → i.op ≡ 184 → size_at i.at i ≡ 3
-invokestatic-size bytes at i stands is =
-    let known = known_at bytes at i stands in
-    let P : ℕ → Type 0 = λ op. HasShape (form_of i.wide op) i.arg → length (opcode_bytes i.wide op) + operand_len i.at (operand_width i.wide (form_of i.wide op)) i.arg ≡ 3 in
-    size_at-is i.at i ∙ subst P (sym is) (invokestatic-three i.at i.wide i.arg) known.1.shape

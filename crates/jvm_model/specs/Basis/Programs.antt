@@ -1,5 +1,5 @@
 -- Looking up classes and methods of a program by their names and numbers (JVM Specification 4.1, 4.6, 5.4.3).
-use Rattle.std.specs.Prelude.{ℕ, ◌+◌, Bool, false, List, [], ◌∷◌, ◌++◌, length, Option, Some, None, is_some, position, slice_get, unwrap_or, codes, ◌==◌, ◌&&◌, if◌then◌else◌}
+use Rattle.std.specs.Prelude.{ℕ, ◌+◌, Bool, false, List, [], ◌∷◌, ◌++◌, Option, Some, None, is_some, position, slice_get, unwrap_or, codes, ◌==◌, ◌&&◌, if◌then◌else◌}
 use Rattle.std.specs.List.{list_any}
 use Rattle.std.specs.Option.{option_and_then, option_map_or}
 use Rattle.const_pool.specs.declared.class.ClassFile.{ClassFile}
@@ -7,7 +7,7 @@ use Rattle.const_pool.specs.declared.class.Member.{Member}
 use Rattle.const_pool.specs.declared.class.CodeAttribute.{CodeAttribute}
 use Rattle.const_pool.specs.declared.descriptor.Kind.{Kind}
 use Rattle.const_pool.specs.BuiltIn.{built_in_names}
-use Rattle.const_pool.specs.References.{NameAndType, Reference, named_class}
+use Rattle.const_pool.specs.References.{NameAndType, named_class}
 use Rattle.jvm_model.specs.Basis.Data.{MethodPlace, Program, World}
 use Rattle.jvm_model.specs.Basis.Descriptors.{same_text}
 use Rattle.jvm_model.specs.Basis.Methods.{code_of, method_code, method_named, method_params}
@@ -114,13 +114,6 @@ max_locals_of w method = option_map_or (λ (code : CodeAttribute). code.max_loca
 abbrev pub declared_method : Program → NameAndType → ℕ → Option ℕ
 declared_method p wanted class =
     option_and_then (λ c. option_and_then (number_of_method p class) (method_named c wanted)) (class_at p class)
-
--- the class and the method that a reference names
-abbrev pub class_of_reference : Program → Reference → Option ℕ
-class_of_reference p r = class_named p r.class
-
-abbrev pub method_of_reference : Program → Reference → Option ℕ
-method_of_reference p r = option_and_then (declared_method p r.member) (class_of_reference p r)
 
 abbrev pub initializer_name : NameAndType
 initializer_name = record { name = codes "<clinit>"; descriptor = codes "()V" }

@@ -1,18 +1,18 @@
 -- What all activations share: phases and static fields of classes, objects (JVM Specification 2.5.3, 5.5), and the exceptions
 -- that the machine makes (2.10).
-use Rattle.std.specs.Prelude.{ℕ, ◌+◌, Bool, List, [], ◌∷◌, ◌++◌, length, map, Option, Some, None, unwrap_or, position, pos, slice_get, slice_set, nat_le, nat_lt, codes, ◌==◌, ◌||◌, if◌then◌else◌}
+use Rattle.std.specs.Prelude.{ℕ, ◌+◌, Bool, List, [], ◌∷◌, length, map, Option, Some, None, unwrap_or, position, pos, slice_get, slice_set, nat_le, nat_lt, codes, ◌==◌, ◌||◌, if◌then◌else◌}
 use Rattle.std.specs.Option.{option_and_then, option_map, option_map_or}
 use Rattle.heap_objects.specs.declared.datum.Datum.TheVariants as datum
 use Rattle.const_pool.specs.declared.class.ClassFile.{ClassFile}
 use Rattle.const_pool.specs.declared.class.Member.{Member}
-use Rattle.const_pool.specs.References.{NameAndType, Reference, named_text}
+use Rattle.const_pool.specs.References.{NameAndType, named_text}
 use Rattle.heap_objects.specs.Heaps.{HeapView, empty_heap, kind_at, with_instance, with_array, with_text, with_slot_at, next_number}
 use Rattle.native_ops.specs.Inputs.MadeViews.{nothing_made}
 use Rattle.jvm_model.specs.Basis.Data.{Datum, Phase, Fresh, Ready, Program, Shared, World}
 use Rattle.jvm_model.specs.Basis.KindNumbers.{user_count, base_of_class, class_of_base, first_array, kind_number}
 use Rattle.jvm_model.specs.Basis.Descriptors.{same_text}
 use Rattle.jvm_model.specs.Basis.Methods.{is_member}
-use Rattle.jvm_model.specs.Basis.Programs.{class_at, class_named, class_of_reference, has_built_in_name, has_name}
+use Rattle.jvm_model.specs.Basis.Programs.{class_at, class_named, has_built_in_name, has_name}
 
 -- ---- classes
 
@@ -33,9 +33,6 @@ pub record Field : Type 0 where
 
 abbrev pub field_in : Program → NameAndType → ℕ → Option Field
 field_in p wanted class = option_and_then (λ c. option_map (λ at. record { class = class; position = at }) (field_named wanted c)) (class_at p class)
-
-abbrev pub field_of_reference : Program → Reference → Option Field
-field_of_reference p r = option_and_then (field_in p r.member) (class_of_reference p r)
 
 abbrev pub static_at : Shared → Field → Option Datum
 static_at s f = option_and_then (λ (fields : List Datum). slice_get fields f.position) (slice_get s.statics f.class)

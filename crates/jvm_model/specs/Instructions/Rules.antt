@@ -1,13 +1,10 @@
 -- What the rules of instructions have in common (JVM Specification 2.6, 2.11, 5.4.3, 5.5, 6.5): a class that is initialized before, an
 -- invocation, and the members that are known by name.
-use Rattle.std.specs.Prelude.{ℕ, Bool, false, List, ◌++◌, length, drop, Option, Some, None, ℤ, ◌==◌, ◌||◌, ◌&&◌, codes}
-use Rattle.std.specs.Fmt.{signed_decimal}
-use Rattle.const_pool.specs.declared.descriptor.Kind.{Kind}
+use Rattle.std.specs.Prelude.{ℕ, Bool, false, List, drop, Option, Some, None, ◌&&◌, codes}
 use Rattle.const_pool.specs.References.{Reference}
 use Rattle.jvm_model.specs.Basis.Data.{Datum, Operands, Phase, Fresh, Running, Ready, Erroneous, Program, Shared, Outcome, Invokes, Raises, Initializes, Breaks, Done}
 use Rattle.jvm_model.specs.Basis.Descriptors.{same_text}
 use Rattle.jvm_model.specs.Instructions.ObjectRules.{done}
-use Rattle.jvm_model.specs.Basis.Values.{arguments}
 use Rattle.jvm_model.specs.Basis.SharedState.{phase_of, no_class_definition}
 use Rattle.jvm_model.specs.Basis.Programs.{name_at}
 
@@ -38,21 +35,8 @@ is_out = is_reference (codes "java/lang/System") (codes "out") (codes "Ljava/io/
 abbrev pub is_println : Reference → Bool
 is_println = is_reference (codes "java/io/PrintStream") (codes "println") (codes "(I)V")
 
--- System.out is object 3, and System.err object 4
-abbrev pub is_print_stream : ℕ → Bool
-is_print_stream r = r == 3 || r == 4
-
 -- ---- invocation
 
 abbrev pub invokes : ℕ → ℕ → Option (List Datum) → Operands → Outcome
 invokes method count None o = Breaks false
 invokes method count (Some args) o = Invokes method args (drop count o)
-
--- with the arguments that the method takes
-abbrev pub invokes_with : ℕ → Option (List Kind) → Operands → Outcome
-invokes_with method None o = Breaks false
-invokes_with method (Some params) o = invokes method (length params) (arguments params o) o
-
--- println writes the number in decimal, and ends the line with byte 10
-abbrev pub line_text : ℤ → List ℕ
-line_text n = signed_decimal n ++ codes "\n"

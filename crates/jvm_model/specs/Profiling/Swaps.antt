@@ -104,14 +104,6 @@ pub record HasBytes (p : Program) (entry : Swapped) (bytes : List ℕ) : Type 0 
 
 -- ---- the last point before an activation begins
 
--- the points of a step up to its begin
-abbrev pub points_to_begin : List Act → ℕ → Standing → List Change → List Point
-points_to_begin acts step s [] = []
-points_to_begin acts step s (Began method ∷ more) = []
-points_to_begin acts step s (Loads classes ∷ more) = let next = after_change acts step s (Loads classes) in point step next ∷ points_to_begin acts step next more
-points_to_begin acts step s (Left ∷ more) = points_to_begin acts step (after_change acts step s Left) more
-points_to_begin acts step s (Unwound ∷ more) = points_to_begin acts step (after_change acts step s Unwound) more
-
 -- all points before a step
 abbrev pub points_before : List Act → World → Listing → ℕ → List Point
 points_before acts w t zero = act_points acts 0 (nothing w) (acts_at 0 acts)

@@ -81,28 +81,14 @@ pub record Agrees (c : ClassFile) (marks : List Mark) (image : ClassFile) (homes
 
 -- ---- the rewritten class as a listing
 
--- whether a probe stands at a method's entry, or before a return
-abbrev pub is_entry_kind : EventKind → Bool
-is_entry_kind kind.Root = true
-is_entry_kind kind.Enter = true
-is_entry_kind kind.Leave = false
-is_entry_kind kind.Unwind = false
-
 abbrev pub is_leave_kind : EventKind → Bool
 is_leave_kind kind.Root = false
 is_leave_kind kind.Enter = false
 is_leave_kind kind.Leave = true
 is_leave_kind kind.Unwind = false
 
-abbrev pub is_entry : Option ProbeCall → Bool
-is_entry probe = option_map_or (λ (p : ProbeCall). is_entry_kind p.kind) probe false
-
 abbrev pub is_leave : Option ProbeCall → Bool
 is_leave probe = option_map_or (λ (p : ProbeCall). is_leave_kind p.kind) probe false
-
--- where a frame begins: behind the entry probe, if one stands there
-abbrev pub first_place : ClassFile → ℕ → ℕ
-first_place image method = if is_entry (probe_at image method 0) then 6 else 0
 
 -- the instruction that goes with a place is behind the leave probe, if one stands there
 abbrev pub behind_leave : ClassFile → ℕ → ℕ → ℕ

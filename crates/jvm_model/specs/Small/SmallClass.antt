@@ -154,7 +154,3 @@ main_member = record { name = main_name; descriptor = main_descriptor }
 -- the method, if it is public and static
 abbrev pub public_static : ClassFile → ℕ → Option ℕ
 public_static c k = if option_map_or (λ m. is_public_static m.access) (slice_get c.methods k) false then Some k else None
-
--- the number of the main method of the class with this name
-abbrev pub main_of : ClassFile → List ℕ → Option ℕ
-main_of c name = if option_map_or (same_text name) (named_class c.pool c.this_class) false then option_and_then (public_static c) (method_named c main_member) else None

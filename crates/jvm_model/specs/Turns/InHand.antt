@@ -1,8 +1,8 @@
 -- What is in hand between two turns of a step, over versions: the machine's state stands for a state of the original code from which the rest of
 -- the step goes on. So many of the step's changes are behind it; the probe of the end that comes next has told, or has not.
-use Rattle.std.specs.Prelude.{◌≡◌, ℕ, suc, Bool, true, false, List, [], ◌∷◌, drop, nat_lt}
+use Rattle.std.specs.Prelude.{◌≡◌, ℕ, suc, Bool, true, false, List, [], ◌∷◌, drop}
 use Rattle.jvm_model.specs.declared.event.Mark.{Mark}
-use Rattle.jvm_model.specs.Basis.Data.{Entry, Active, Initializing, State, Turn, Listing, World}
+use Rattle.jvm_model.specs.Basis.Data.{State, Turn, Listing, World}
 use Rattle.jvm_model.specs.Codes.Moved.{state_moved, IsPlaced}
 use Rattle.jvm_model.specs.Rewriting.StandsForRun.{StandsFor, versions_forgotten, at_homes, norm_by}
 use Rattle.jvm_model.specs.Turns.Rest.{Todo, Attempt, Moves, rest}
@@ -62,9 +62,3 @@ behind_load (c ∷ more) = 1
 -- without the current frame
 abbrev pub frame_popped : State → State
 frame_popped s = record s { stack = drop 1 s.stack }
-
--- every frame runs one of the versions with numbers below this
-abbrev pub AreHeld : ℕ → List Entry → Type 0
-AreHeld n [] = Unit {0}
-AreHeld n (Active f ∷ below) = (nat_lt f.version n ≡ true) × AreHeld n below
-AreHeld n (Initializing c part ∷ below) = AreHeld n below

@@ -3,17 +3,17 @@
 ghost use Rattle.std.specs.Prelude.{◌≡◌, ◌<◌, IfOk, length};
 ghost use Rattle.native_ops.specs.Classes.Builders.{init_capacity, append, set_char_at, set_length, without, delete_char_at, builder_effect};
 
-use crate::inputs::arguments::{char_in, int_in, reference_in};
+use crate::classes::strings::{char_at, init_text, own_units};
 use crate::effects::effect::{Effect, gives_int, throws};
-use crate::methods::method::{BuilderMethod, Printable};
+use crate::inputs::arguments::{char_in, int_in, reference_in};
 use crate::inputs::numbers::{
     NEGATIVE_ARRAY_SIZE_EXCEPTION, NULL_POINTER_EXCEPTION, STRING_INDEX_OUT_OF_BOUNDS_EXCEPTION,
 };
 use crate::inputs::places::{place_in, small_place_in};
 use crate::inputs::reading::{number_as_int, size_at, text_at};
 use crate::inputs::shown::{argument_shown, is_null_array};
-use crate::classes::strings::{char_at, init_text, own_units};
 use crate::inputs::texts::units_joined;
+use crate::methods::method::{BuilderMethod, Printable};
 use heap_objects::{Datum, Heap};
 use jf_bytes::{NoMemory, Seq};
 use std::alloc::Global;

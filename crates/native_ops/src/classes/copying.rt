@@ -7,16 +7,16 @@ ghost use Rattle.native_ops.specs.declared.methods.method.SystemMethod.TheVarian
 ghost use Rattle.native_ops.specs.Classes.Copying.{sort_of_array, can_copy, may_store, storable, store, copy_ranges, arraycopy, system_effect};
 
 use crate::effects::answer::Answer;
-use crate::inputs::arguments::{int_in, reference_in};
 use crate::effects::effect::{Effect, gives_int, throws};
+use crate::inputs::arguments::{int_in, reference_in};
 use crate::inputs::kinds::Kinds;
-use crate::methods::method::SystemMethod;
 use crate::inputs::numbers::{
     ARRAY_INDEX_OUT_OF_BOUNDS_EXCEPTION, ARRAY_STORE_EXCEPTION, FIRST_ARRAY_KIND,
     FIRST_REFERENCE_ARRAY_KIND, NULL_POINTER_EXCEPTION,
 };
 use crate::inputs::places::counted_range;
 use crate::inputs::reading::{kind_or_none, number_as_int, size_at, values_between};
+use crate::methods::method::SystemMethod;
 use heap_objects::{Datum, Heap};
 use jf_bytes::{NoMemory, Seq};
 use std::alloc::Global;

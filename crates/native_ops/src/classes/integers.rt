@@ -3,16 +3,16 @@
 ghost use Rattle.std.specs.Prelude.{◌≡◌, IfOk};
 ghost use Rattle.native_ops.specs.Classes.Integers.{parse_int, same_integers, compare_integers, integer_effect};
 
-use crate::inputs::arguments::{int_in, reference_in};
 use crate::classes::boxes::{box_of, compared_if, gives_parsed_int, small_place};
+use crate::classes::roots::hex_of;
 use crate::effects::effect::{Effect, gives_boolean, gives_int, gives_long};
+use crate::inputs::arguments::{int_in, reference_in};
 use crate::inputs::kinds::{Kinds, is_instance};
-use crate::methods::method::IntegerMethod;
 use crate::inputs::numbers::INTEGER_KIND;
 use crate::inputs::parsing::parsed_int;
 use crate::inputs::reading::{int_field, text_at};
-use crate::classes::roots::hex_of;
 use crate::inputs::texts::text_of_int;
+use crate::methods::method::IntegerMethod;
 use heap_objects::{Datum, Heap};
 use int_ops::cmp_i64;
 use jf_bytes::NoMemory;

@@ -6,14 +6,14 @@ ghost use Rattle.std.specs.Fmt.{digits};
 ghost use Rattle.native_ops.specs.Classes.Roots.{with_dot, class_name, letter_of, element_name, array_name, name_of_kind};
 ghost use Rattle.native_ops.specs.Classes.Roots.{object_text, clone, object_effect, class_effect};
 
-use crate::inputs::arguments::reference_in;
 use crate::effects::effect::{Effect, gives_boolean, gives_int, gives_nothing, throws};
-use crate::inputs::kinds::Kinds;
 use crate::effects::made::Made;
-use crate::methods::method::{ClassMethod, ObjectMethod};
+use crate::inputs::arguments::reference_in;
+use crate::inputs::kinds::Kinds;
 use crate::inputs::numbers::{CLONE_NOT_SUPPORTED_EXCEPTION, CLONEABLE_KIND, FIRST_ARRAY_KIND};
 use crate::inputs::reading::{kind_or_none, number_as_int, values_at};
 use crate::inputs::texts::units_of;
+use crate::methods::method::{ClassMethod, ObjectMethod};
 use heap_objects::{Datum, Heap};
 use jf_bytes::{NoMemory, Seq};
 use std::alloc::Global;

@@ -4,9 +4,9 @@ ghost use Rattle.std.specs.Prelude.{◌≡◌, IfOk};
 ghost use Rattle.native_ops.specs.Classes.Streams.{input_effect, prints, print_effect};
 
 use crate::effects::effect::{Effect, gives_nothing, throws};
-use crate::methods::method::{InputMethod, PrintMethod, Printable};
 use crate::inputs::numbers::NULL_POINTER_EXCEPTION;
 use crate::inputs::shown::{argument_shown, is_null_array, unit_alone};
+use crate::methods::method::{InputMethod, PrintMethod, Printable};
 use heap_objects::{Datum, Heap};
 use jf_bytes::NoMemory;
 use std::alloc::Global;

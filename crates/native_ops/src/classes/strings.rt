@@ -7,9 +7,8 @@ ghost use Rattle.heap_objects.specs.Cells.{char_datum};
 ghost use Rattle.native_ops.specs.Classes.Strings.{init_text, init_chars, init_range, init_part, char_at, equals, compare_to, compare_to_object};
 ghost use Rattle.native_ops.specs.Classes.Strings.{index_of, starts_with, concat, part_of, substring, substring_from, substring_to, to_char_array, value_of, string_effect};
 
-use crate::inputs::arguments::{int_in, reference_in};
 use crate::effects::effect::{Effect, gives_boolean, gives_int, gives_reference, throws};
-use crate::methods::method::{Printable, StringMethod};
+use crate::inputs::arguments::{int_in, reference_in};
 use crate::inputs::numbers::{
     CHARS_KIND, CLASS_CAST_EXCEPTION, NULL_POINTER_EXCEPTION, STRING_INDEX_OUT_OF_BOUNDS_EXCEPTION,
     STRING_KIND,
@@ -18,6 +17,7 @@ use crate::inputs::places::{counted_range, place_in, place_of_character, range_f
 use crate::inputs::reading::{chars_at, chars_between, has_kind, number_as_int, size_at, text_at};
 use crate::inputs::shown::{argument_shown, is_null_array};
 use crate::inputs::texts::{begins_with, compared_texts, hash_of_text, same_units, units_joined};
+use crate::methods::method::{Printable, StringMethod};
 use heap_objects::{Datum, Heap};
 use jf_bytes::{NoMemory, Seq};
 use std::alloc::Global;

@@ -4,9 +4,9 @@ ghost use Rattle.std.specs.Prelude.{◌≡◌, ◌∷◌, [], IfOk};
 ghost use Rattle.native_ops.specs.Inputs.Shown.{is_null_array, argument_shown};
 
 use crate::inputs::arguments::{boolean_in, char_in, int_in, long_in, reference_in};
-use crate::methods::method::Printable;
 use crate::inputs::reading::chars_at;
 use crate::inputs::texts::{text_of_boolean, text_of_int, text_of_long, text_or_null};
+use crate::methods::method::Printable;
 use heap_objects::{Datum, Heap};
 use jf_bytes::{NoMemory, Seq};
 use std::alloc::Global;
