@@ -90,9 +90,9 @@ module _ (p : Program) (codes : Codes) (waiting calls : List (List Use)) (book :
   -- an instruction of an entered method, and what it gives
   pub record IsEntered (f : SymbolicReference → List ℕ) (u : Use) (m : ℕ) : Type 0 where
     pub caller : is_among u.caller entered ≡ true
-    pub naming : SymbolicReference
-    pub there : slice_get (symbolic_references_of (operations_of p u.caller)) u.at ≡ Some naming
-    pub within : is_among m (f naming) ≡ true
+    pub reference : SymbolicReference
+    pub there : slice_get (symbolic_references_of (operations_of p u.caller)) u.at ≡ Some reference
+    pub within : is_among m (f reference) ≡ true
 
   pub read-at : (u : Use) (o : Option (List SymbolicReference)) (n : SymbolicReference) → code_at codes u.caller ≡ o → option_and_then (λ (ns : List SymbolicReference). slice_get ns u.at) o ≡ Some n
       → slice_get (symbolic_references_of (operations_of p u.caller)) u.at ≡ Some n
@@ -105,7 +105,7 @@ module _ (p : Program) (codes : Codes) (waiting calls : List (List Use)) (book :
       at : (o : Option SymbolicReference) → symbolic_reference_at codes u ≡ o → is_among u.caller entered ≡ true
           → is_among m (option_map_or (λ (n : SymbolicReference). f n) o []) ≡ true → IsEntered f u m
       at None e c h = absurd (false_true h)
-      at (Some n) e c h = record { caller = c; naming = n; there = read-at u (code_at codes u.caller) n refl e; within = h }
+      at (Some n) e c h = record { caller = c; reference = n; there = read-at u (code_at codes u.caller) n refl e; within = h }
 
       by : (b : Bool) → is_among u.caller entered ≡ b
           → is_among m (if b then option_map_or (λ (n : SymbolicReference). f n) (symbolic_reference_at codes u) [] else []) ≡ true → IsEntered f u m
@@ -150,7 +150,7 @@ module _ (p : Program) (codes : Codes) (waiting calls : List (List Use)) (book :
     from-waiting h =
         let one = some-of (of_entered entered codes (begun_by p all)) (list_at waiting new) m h in
         let e = entered-at (begun_by p all) one.item m one.within in
-        is-targeted one.item.caller e.caller (target-of p all (operations_of p one.item.caller) m one.item.at e.naming e.there e.within)
+        is-targeted one.item.caller e.caller (target-of p all (operations_of p one.item.caller) m one.item.at e.reference e.there e.within)
 
     -- a call that names this class, which is loaded
     named-loaded : (n : SymbolicReference) (class : ℕ) → is_among class loaded ≡ true → is_named p class (resolved_name n) ≡ true
@@ -166,16 +166,16 @@ module _ (p : Program) (codes : Codes) (waiting calls : List (List Use)) (book :
 
     called-there : (class : ℕ) (u : Use) → is_among class loaded ≡ true → IsEntered (called_by p new class) u m
         → is_target p (operations_of p) all entered m ≡ true
-    called-there class u there e = by (is_named p class (resolved_name e.naming)) refl e.within
+    called-there class u there e = by (is_named p class (resolved_name e.reference)) refl e.within
       where
-        by : (b : Bool) → is_named p class (resolved_name e.naming) ≡ b → is_among m (if b then called_on p new class e.naming else []) ≡ true
+        by : (b : Bool) → is_named p class (resolved_name e.reference) ≡ b → is_among m (if b then called_on p new class e.reference else []) ≡ true
             → is_target p (operations_of p) all entered m ≡ true
         by false k h = absurd (false_true h)
         by true k h =
             is-targeted u.caller e.caller
             (gained-targets p loaded new above fresh (operations_of p u.caller) m
-            (gain-of p loaded new (operations_of p u.caller) m u.at e.naming e.there
-            (called-gains p loaded new e.naming m class (named-loaded e.naming class there k) h)))
+            (gain-of p loaded new (operations_of p u.caller) m u.at e.reference e.there
+            (called-gains p loaded new e.reference m class (named-loaded e.reference class there k) h)))
 
     from-called : is_among m called ≡ true → is_target p (operations_of p) all entered m ≡ true
     from-called h =
@@ -269,21 +269,21 @@ module _ (p : Program) (codes : Codes) (waiting calls : List (List Use)) (book :
         (ap (λ b. is_among m (if b then called_on p new it.class n else [])) (is-named n it.class k.named) ∙ it.called))))
 
     record HasCode (caller : ℕ) : Type 0 where
-      namings : List SymbolicReference
-      there : code_at codes caller ≡ Some namings
+      references : List SymbolicReference
+      there : code_at codes caller ≡ Some references
 
     has-code : (caller : ℕ) (o : Option (List SymbolicReference)) → code_at codes caller ≡ o → is_some o ≡ true → HasCode caller
     has-code caller None c h = absurd (false_true h)
-    has-code caller (Some ns) c h = record { namings = ns; there = c }
+    has-code caller (Some ns) c h = record { references = ns; there = c }
 
     gained-gathered : is_gained p (operations_of p) loaded new entered m ≡ true → (is_among m called || is_among m waited) ≡ true
     gained-gathered h =
         let any = from-any (λ caller. is_among m (gained_in p loaded new (operations_of p caller))) entered h in
         let has = has-code any.item (code_at codes any.item) refl (booked any.item any.there) in
         let one = gain-from p loaded new (operations_of p any.item) m any.holds in
-        let read : slice_get has.namings one.index ≡ Some one.naming =
-        ap (λ l. slice_get l one.index) (book.read any.item has.namings has.there) ∙ one.there in
-        is-gathered any.item one.index has.namings one.naming any.there has.there read (gained-either p loaded new one.naming m one.within)
+        let read : slice_get has.references one.index ≡ Some one.reference =
+        ap (λ l. slice_get l one.index) (book.read any.item has.references has.there) ∙ one.there in
+        is-gathered any.item one.index has.references one.reference any.there has.there read (gained-either p loaded new one.reference m one.within)
 
     -- ---- both
 

@@ -87,14 +87,14 @@ module _ (p : Program) (loaded : List ℕ) where
 -- one of these, and what it gives
 pub record IsOne (f : SymbolicReference → List ℕ) (ns : List SymbolicReference) (m : ℕ) : Type 0 where
   pub index : ℕ
-  pub naming : SymbolicReference
-  pub there : slice_get ns index ≡ Some naming
-  pub within : is_among m (f naming) ≡ true
+  pub reference : SymbolicReference
+  pub there : slice_get ns index ≡ Some reference
+  pub within : is_among m (f reference) ≡ true
 
 module _ (of_operation : Operation → List ℕ) (f : SymbolicReference → List ℕ) (sees : (op : Operation) → SeesReference of_operation f op (symbolic_reference_in op)) where
   pub one-behind : (o : Option SymbolicReference) (ns : List SymbolicReference) (m : ℕ) → IsOne f ns m → IsOne f (cons_option o ns) m
   one-behind None ns m one = one
-  one-behind (Some n) ns m one = record { index = suc one.index; naming = one.naming; there = one.there; within = one.within }
+  one-behind (Some n) ns m one = record { index = suc one.index; reference = one.reference; there = one.there; within = one.within }
 
   abbrev all_of : List Operation → List ℕ
   all_of [] = []
@@ -110,7 +110,7 @@ module _ (of_operation : Operation → List ℕ) (f : SymbolicReference → List
     where
       first : (o : Option SymbolicReference) → SeesReference of_operation f op o → is_among m (of_operation op) ≡ true → IsOne f (cons_option o (symbolic_references_of rest)) m
       first None e a = absurd (false_true (sym (ap (is_among m) e) ∙ a))
-      first (Some n) e a = record { index = 0; naming = n; there = refl; within = sym (ap (is_among m) e) ∙ a }
+      first (Some n) e a = record { index = 0; reference = n; there = refl; within = sym (ap (is_among m) e) ∙ a }
 
   pub to-all : (ops : List Operation) (m i : ℕ) (n : SymbolicReference) → slice_get (symbolic_references_of ops) i ≡ Some n → is_among m (f n) ≡ true → is_among m (all_of ops) ≡ true
   to-all [] m i n e h = absurd (none-some n e)

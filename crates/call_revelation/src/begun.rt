@@ -273,16 +273,16 @@ fn add_begun_at(
     numbers: &MethodNumbers,
     lineage: &Lineage,
     class: u32,
-    naming: &SymbolicReference,
+    reference: &SymbolicReference,
     found: &mut Order,
 ) -> Result<(), NoMemory>
     requires known { AreKnown linker.now numbers.now lineage.now }
     requires class { class < length linker.now.program.classes }
     requires loaded { is_among class lineage.now.loaded ≡ true }
     ensures { OnOk result (Adds found.old found.new (begun_at linker.now.program
-        lineage.now.loaded naming.now class)) }
+        lineage.now.loaded reference.now class)) }
 {
-    match naming {
+    match reference {
         SymbolicReference::New(_) => add_initializers(
             alloc, linker, numbers, lineage, class, found,
         ),
@@ -314,15 +314,15 @@ fn add_begun_named(
     linker: &Linker,
     numbers: &MethodNumbers,
     lineage: &Lineage,
-    naming: &SymbolicReference,
+    reference: &SymbolicReference,
     found: &mut Order,
 ) -> Result<(), NoMemory>
     requires known { AreKnown linker.now numbers.now lineage.now }
     ensures { OnOk result (Adds found.old found.new (begun_named linker.now.program
-        lineage.now.loaded naming.now)) }
+        lineage.now.loaded reference.now)) }
 {
-    match loaded_class(linker, lineage, resolved_name(naming)) {
-        Some(class) => add_begun_at(alloc, linker, numbers, lineage, class, naming, found),
+    match loaded_class(linker, lineage, resolved_name(reference)) {
+        Some(class) => add_begun_at(alloc, linker, numbers, lineage, class, reference, found),
         None => Ok(()),
     }
 }
@@ -333,20 +333,20 @@ pub fn add_begun(
     linker: &Linker,
     numbers: &MethodNumbers,
     lineage: &Lineage,
-    naming: &SymbolicReference,
+    reference: &SymbolicReference,
     found: &mut Order,
 ) -> Result<(), NoMemory>
     requires known { AreKnown linker.now numbers.now lineage.now }
     requires caller { HasLoadedCaller linker.now.program linker.now.loaded
-        naming.now }
+        reference.now }
     ensures { OnOk result (Adds found.old found.new
-        (begun_by linker.now.program lineage.now.loaded naming.now)) }
+        (begun_by linker.now.program lineage.now.loaded reference.now)) }
 {
-    match naming {
+    match reference {
         SymbolicReference::Invokespecial(caller, method, interface) => {
             let member = method.member();
             add_special(linker, numbers, lineage, caller, *interface, member, found)
         }
-        _ => add_begun_named(alloc, linker, numbers, lineage, naming, found),
+        _ => add_begun_named(alloc, linker, numbers, lineage, reference, found),
     }
 }

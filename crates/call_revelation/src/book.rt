@@ -31,28 +31,28 @@ pub struct Book {
 }
 
 /// The class that an instruction names, where the program has one.
-pub fn class_of(linker: &Linker, naming: &SymbolicReference) -> Option<u32>
-    ensures { result ≡ class_named linker.now.program (resolved_name naming.now) }
+pub fn class_of(linker: &Linker, reference: &SymbolicReference) -> Option<u32>
+    ensures { result ≡ class_named linker.now.program (resolved_name reference.now) }
 {
-    linker.index().class_named(resolved_name(naming).units())
+    linker.index().class_named(resolved_name(reference).units())
 }
 
 /// Whether it names this class.
-pub fn names(linker: &Linker, naming: &SymbolicReference, class: u32) -> bool
+pub fn names(linker: &Linker, reference: &SymbolicReference, class: u32) -> bool
     ensures { result ≡ is_named linker.now.program class
-        (resolved_name naming.now) }
+        (resolved_name reference.now) }
 {
-    match class_of(linker, naming) {
+    match class_of(linker, reference) {
         Some(found) => found == class,
         None => false,
     }
 }
 
 /// Whether an instruction is noted, where calls alone are: those that select by their receiver's class.
-fn is_noted(calls: bool, naming: &SymbolicReference) -> bool
-    ensures { result ≡ is_noted calls naming.now }
+fn is_noted(calls: bool, reference: &SymbolicReference) -> bool
+    ensures { result ≡ is_noted calls reference.now }
 {
-    match naming {
+    match reference {
         SymbolicReference::Invokevirtual(_) => true,
         SymbolicReference::Invokeinterface(_) => true,
         _ => !calls,
@@ -63,13 +63,13 @@ fn is_noted(calls: bool, naming: &SymbolicReference) -> bool
 fn note_use(
     linker: &Linker,
     lists: &mut [Seq<Use>],
-    naming: &SymbolicReference,
+    reference: &SymbolicReference,
     u: Use,
 ) -> Result<(), NoMemory>
     ensures { lists.new ≡ (if is_ok result
-        then with_use linker.now.program u naming.now lists.old else lists.old) }
+        then with_use linker.now.program u reference.now lists.old else lists.old) }
 {
-    match class_of(linker, naming) {
+    match class_of(linker, reference) {
         Some(class) => add_item(lists, class as usize, u),
         None => Ok(()),
     }
@@ -80,15 +80,15 @@ fn note_one(
     linker: &Linker,
     lists: &mut [Seq<Use>],
     calls: bool,
-    naming: &SymbolicReference,
+    reference: &SymbolicReference,
     u: Use,
 ) -> Result<(), NoMemory>
     ensures { lists.new ≡ (if is_ok result
-        then with_noted linker.now.program calls u naming.now lists.old
+        then with_noted linker.now.program calls u reference.now lists.old
         else lists.old) }
 {
-    if is_noted(calls, naming) {
-        note_use(linker, lists, naming, u)
+    if is_noted(calls, reference) {
+        note_use(linker, lists, reference, u)
     } else {
         Ok(())
     }
@@ -100,14 +100,14 @@ fn note_uses(
     lists: &mut [Seq<Use>],
     calls: bool,
     caller: u32,
-    namings: &[SymbolicReference],
+    references: &[SymbolicReference],
 ) -> Result<(), NoMemory>
     ensures noted { OnOk result (lists.new ≡ with_uses linker.now.program calls caller 0
-        namings.now lists.old) }
+        references.now lists.old) }
     ensures more { HasMore lists.old lists.new }
 {
-    for (at, naming) in namings.iter().enumerate() {
-        note_one(linker, lists, calls, naming, Use { caller, at })?;
+    for (at, reference) in references.iter().enumerate() {
+        note_one(linker, lists, calls, reference, Use { caller, at })?;
     }
     Ok(())
 }
@@ -141,17 +141,17 @@ impl Book {
     }
 
     /// What was read of a method.
-    pub fn namings(&self, method: u32) -> Option<&Seq<SymbolicReference>>
+    pub fn references(&self, method: u32) -> Option<&Seq<SymbolicReference>>
         ensures { option_copied result ≡ code_at self.now.codes method }
     {
         self.codes.get(method as usize)?.as_ref()
     }
 
     /// What an instruction names.
-    pub fn naming(&self, u: Use) -> Option<&SymbolicReference>
+    pub fn reference(&self, u: Use) -> Option<&SymbolicReference>
         ensures { option_copied result ≡ symbolic_reference_at self.now.codes u }
     {
-        self.namings(u.caller)?.get(u.at)
+        self.references(u.caller)?.get(u.at)
     }
 
     /// The instructions that name a class.
@@ -184,14 +184,14 @@ impl Book {
         ensures kept { (m : ℕ) → is_some (code_at self.old.codes m) ≡ true →
             is_some (code_at self.new.codes m) ≡ true }
     {
-        if self.namings(method).is_some() {
+        if self.references(method).is_some() {
             return Ok(());
         }
-        let namings = symbolic_references_of(alloc, linker.program(), method)?;
-        let named = namings.as_slice();
+        let references = symbolic_references_of(alloc, linker.program(), method)?;
+        let named = references.as_slice();
         note_uses(linker, self.waiting.as_mut_slice(), false, method, named)?;
         note_uses(linker, self.calls.as_mut_slice(), true, method, named)?;
-        self.codes.set(method as usize, Some(namings));
+        self.codes.set(method as usize, Some(references));
         Ok(())
     }
 }

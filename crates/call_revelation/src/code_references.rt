@@ -22,10 +22,10 @@ use std::alloc::Global;
 fn beginning(action: Action) -> Option<SymbolicReference>
     ensures { result ≡ begins_by action }
 {
-    let Action::Named(naming) = action else {
+    let Action::Named(reference) = action else {
         return None;
     };
-    match naming {
+    match reference {
         SymbolicReference::New(name) => Some(SymbolicReference::New(name)),
         SymbolicReference::Getstatic(field) => Some(SymbolicReference::Getstatic(field)),
         SymbolicReference::Putstatic(field) => Some(SymbolicReference::Putstatic(field)),
@@ -74,19 +74,19 @@ fn references_in_code(
     requires { length code.now < 2 ^ 16 }
     ensures { IfOk result (λ ns. ns ≡ references_in_code class.now code.now) }
 {
-    let mut namings = Seq::new(alloc);
+    let mut references = Seq::new(alloc);
     let mut at = 0;
     let mut left = code.len();
     while left > 0 {
         let Some(instr) = instr_at(alloc, code, at)? else {
-            return Ok(namings);
+            return Ok(references);
         };
         at = instr.next_offset();
         left -= 1;
-        let naming = symbolic_reference_of(alloc, class, instr)?;
-        add_some(&mut namings, naming)?;
+        let reference = symbolic_reference_of(alloc, class, instr)?;
+        add_some(&mut references, reference)?;
     }
-    Ok(namings)
+    Ok(references)
 }
 
 /// Those of a method.

@@ -44,16 +44,16 @@ impl Reveal {
             (operations_of linker.now.program method))) }
     {
         let mut found = Order::new(alloc);
-        let Some(namings) = self.book.namings(method) else {
+        let Some(references) = self.book.references(method) else {
             return Ok(found);
         };
-        let namings = namings.as_slice();
+        let references = references.as_slice();
         add_all_begun(
             alloc,
             linker,
             &self.numbers,
             &self.lineage,
-            namings,
+            references,
             &mut found,
         )?;
         Ok(found)

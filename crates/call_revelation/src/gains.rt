@@ -48,16 +48,16 @@ fn add_called_reference(
     numbers: &MethodNumbers,
     new: u32,
     class: u32,
-    naming: &SymbolicReference,
+    reference: &SymbolicReference,
     found: &mut Order,
 ) -> Result<(), NoMemory>
     requires numbers { AreNumbers linker.now.program numbers.now }
     requires loaded { IsLoaded linker.now class }
     requires new { IsLoaded linker.now new }
     ensures { OnOk result (Adds found.old found.new
-        (called_on linker.now.program new class naming.now)) }
+        (called_on linker.now.program new class reference.now)) }
 {
-    match naming {
+    match reference {
         SymbolicReference::Invokevirtual(method) => {
             add_called_on(linker, numbers, false, new, class, method.member(), found)
         }
@@ -74,17 +74,17 @@ pub fn add_called(
     numbers: &MethodNumbers,
     new: u32,
     class: u32,
-    naming: &SymbolicReference,
+    reference: &SymbolicReference,
     found: &mut Order,
 ) -> Result<(), NoMemory>
     requires numbers { AreNumbers linker.now.program numbers.now }
     requires loaded { IsLoaded linker.now class }
     requires new { IsLoaded linker.now new }
     ensures { OnOk result (Adds found.old found.new
-        (called_by linker.now.program new class naming.now)) }
+        (called_by linker.now.program new class reference.now)) }
 {
-    if names(linker, naming, class) {
-        add_called_reference(linker, numbers, new, class, naming, found)
+    if names(linker, reference, class) {
+        add_called_reference(linker, numbers, new, class, reference, found)
     } else {
         Ok(())
     }

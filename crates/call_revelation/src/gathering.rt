@@ -55,18 +55,18 @@ pub fn add_all_begun(
     linker: &Linker,
     numbers: &MethodNumbers,
     lineage: &Lineage,
-    namings: &[SymbolicReference],
+    references: &[SymbolicReference],
     found: &mut Order,
 ) -> Result<(), NoMemory>
     requires known { AreKnown linker.now numbers.now lineage.now }
     requires callers { AllByRecursion (λ n. HasLoadedCaller linker.now.program linker.now.loaded
-        n) namings.now }
+        n) references.now }
     ensures { OnOk result (Adds found.old found.new
         (flat_map (begun_by linker.now.program lineage.now.loaded)
-        namings.now)) }
+        references.now)) }
 {
-    for naming in namings {
-        add_begun(alloc, linker, numbers, lineage, naming, found)?;
+    for reference in references {
+        add_begun(alloc, linker, numbers, lineage, reference, found)?;
     }
     Ok(())
 }
@@ -114,10 +114,10 @@ fn methods_gathered(alloc: Global, method: u32, linker: &Linker) -> Result<Order
 {
     let numbers = MethodNumbers::new(alloc, linker.program())?;
     let lineage = lineage_of(alloc, linker)?;
-    let namings = symbolic_references_of(alloc, linker.program(), method)?;
+    let references = symbolic_references_of(alloc, linker.program(), method)?;
     let mut found = Order::new(alloc);
-    let namings = namings.as_slice();
-    add_all_begun(alloc, linker, &numbers, &lineage, namings, &mut found)?;
+    let references = references.as_slice();
+    add_all_begun(alloc, linker, &numbers, &lineage, references, &mut found)?;
     Ok(found)
 }
 

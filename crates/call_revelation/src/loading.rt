@@ -46,11 +46,11 @@ impl Reveal {
         ensures begins { (f : Begins) → of_entered self.now.entered self.now.book.codes f u
             ≡ option_map_or (λ n. f n) (option_copied result) [] }
         ensures entered { IfSome result (λ n. is_among u.caller self.now.entered ≡ true) }
-        ensures naming { IfSome result
+        ensures reference { IfSome result
             (λ n. symbolic_reference_at self.now.book.codes u ≡ Some n.now) }
     {
         if self.is_entered(u.caller) {
-            self.book.naming(u)
+            self.book.reference(u)
         } else {
             None
         }
@@ -74,7 +74,7 @@ impl Reveal {
             self.now.book.codes (called_by linker.now.program new class) u)) }
     {
         match self.entered_reference(u) {
-            Some(naming) => add_called(linker, &self.numbers, new, class, naming, found),
+            Some(reference) => add_called(linker, &self.numbers, new, class, reference, found),
             None => Ok(()),
         }
     }
@@ -159,8 +159,15 @@ impl Reveal {
             self.now.book.codes (begun_by linker.now.program self.now.lineage.loaded) u)) }
     {
         match self.entered_reference(u) {
-            Some(naming) => {
-                add_begun(alloc, linker, &self.numbers, &self.lineage, naming, found)
+            Some(reference) => {
+                add_begun(
+                    alloc,
+                    linker,
+                    &self.numbers,
+                    &self.lineage,
+                    reference,
+                    found,
+                )
             }
             None => Ok(()),
         }

@@ -27,10 +27,10 @@ pub struct Named {
 }
 
 /// Whether an instruction selects by its receiver's class.
-fn is_call(naming: &SymbolicReference) -> bool
-    ensures { result ≡ is_call naming.now }
+fn is_call(reference: &SymbolicReference) -> bool
+    ensures { result ≡ is_call reference.now }
 {
-    match naming {
+    match reference {
         SymbolicReference::Invokevirtual(_) => true,
         SymbolicReference::Invokeinterface(_) => true,
         _ => false,
@@ -38,11 +38,11 @@ fn is_call(naming: &SymbolicReference) -> bool
 }
 
 /// The class that an instruction names, where it selects by its receiver's class.
-fn called_class(linker: &Linker, naming: &SymbolicReference) -> Option<u32>
-    ensures { option_to_list result ≡ called_class linker.now.program naming.now }
+fn called_class(linker: &Linker, reference: &SymbolicReference) -> Option<u32>
+    ensures { option_to_list result ≡ called_class linker.now.program reference.now }
 {
-    if is_call(naming) {
-        class_of(linker, naming)
+    if is_call(reference) {
+        class_of(linker, reference)
     } else {
         None
     }
@@ -85,16 +85,16 @@ impl Named {
         alloc: Global,
         linker: &Linker,
         lineage: &Lineage,
-        naming: &SymbolicReference,
+        reference: &SymbolicReference,
     ) -> Result<(), NoMemory>
         ensures classes { OnOk result (self.new.classes ≡ with_classes self.old.classes
-            (called_class linker.now.program naming.now)) }
+            (called_class linker.now.program reference.now)) }
         ensures more { (class : ℕ) → is_among class self.old.classes ≡ true →
             is_among class self.new.classes ≡ true }
         ensures handed { (p : Program) → IsLineage p lineage.now →
             AreHanded p lineage.now.loaded self.old → AreHanded p lineage.now.loaded self.new }
     {
-        match called_class(linker, naming) {
+        match called_class(linker, reference) {
             Some(class) => self.add(alloc, lineage, class),
             None => Ok(()),
         }
@@ -106,17 +106,17 @@ impl Named {
         alloc: Global,
         linker: &Linker,
         lineage: &Lineage,
-        namings: &[SymbolicReference],
+        references: &[SymbolicReference],
     ) -> Result<(), NoMemory>
         ensures called { OnOk result (Adds self.old.classes self.new.classes
-            (flat_map (called_class linker.now.program) namings.now)) }
+            (flat_map (called_class linker.now.program) references.now)) }
         ensures more { (class : ℕ) → is_among class self.old.classes ≡ true →
             is_among class self.new.classes ≡ true }
         ensures handed { (p : Program) → IsLineage p lineage.now →
             AreHanded p lineage.now.loaded self.old → AreHanded p lineage.now.loaded self.new }
     {
-        for naming in namings {
-            self.add_called(alloc, linker, lineage, naming)?;
+        for reference in references {
+            self.add_called(alloc, linker, lineage, reference)?;
         }
         Ok(())
     }
@@ -138,11 +138,11 @@ impl Named {
         ensures handed { (p : Program) → IsLineage p lineage.now →
             AreHanded p lineage.now.loaded self.old → AreHanded p lineage.now.loaded self.new }
     {
-        let Some(namings) = book.namings(method) else {
+        let Some(references) = book.references(method) else {
             return Ok(());
         };
-        let namings = namings.as_slice();
-        self.add_all_called(alloc, linker, lineage, namings)
+        let references = references.as_slice();
+        self.add_all_called(alloc, linker, lineage, references)
     }
 
     // ---- a class more

@@ -112,23 +112,23 @@ both true b h = (refl, h)
 both false b h = absurd cc
 
 -- as the format asks
-fits-naming : (n : SymbolicReference) → has_dimensions n ≡ true → HasDimensions n
-fits-naming (Anewarray name) h = ltb-true (meaning_of name).dimensions 255 h
-fits-naming (Multianewarray name dimensions) h =
+fits-reference : (n : SymbolicReference) → has_dimensions n ≡ true → HasDimensions n
+fits-reference (Anewarray name) h = ltb-true (meaning_of name).dimensions 255 h
+fits-reference (Multianewarray name dimensions) h =
     let parts = both (nat_le 1 dimensions) (nat_le dimensions (meaning_of name).dimensions) h in
     (leb-true 1 dimensions parts.0, leb-true dimensions (meaning_of name).dimensions parts.1)
-fits-naming (New name) h = tt
-fits-naming (Getfield r) h = tt
-fits-naming (Putfield r) h = tt
-fits-naming (Getstatic r) h = tt
-fits-naming (Putstatic r) h = tt
-fits-naming (Invokevirtual r) h = tt
-fits-naming (Invokespecial caller r interface) h = tt
-fits-naming (Invokestatic r) h = tt
-fits-naming (Invokeinterface r) h = tt
-fits-naming (Checkcast name) h = tt
-fits-naming (Instanceof name) h = tt
-fits-naming (LdcClass name) h = tt
+fits-reference (New name) h = tt
+fits-reference (Getfield r) h = tt
+fits-reference (Putfield r) h = tt
+fits-reference (Getstatic r) h = tt
+fits-reference (Putstatic r) h = tt
+fits-reference (Invokevirtual r) h = tt
+fits-reference (Invokespecial caller r interface) h = tt
+fits-reference (Invokestatic r) h = tt
+fits-reference (Invokeinterface r) h = tt
+fits-reference (Checkcast name) h = tt
+fits-reference (Instanceof name) h = tt
+fits-reference (LdcClass name) h = tt
 
 abbrev FitsBy : ℕ → Operation → Type 0
 FitsBy next o = IfNamedBy (action_of o) next (λ n place. HasDimensions n)
@@ -138,7 +138,7 @@ local next (Return k) = tt
 local next i = tt
 
 fits-operation : (next : ℕ) (o : Operation) → Dimensioned o → FitsBy next o
-fits-operation next (Named n) h = fits-naming n h
+fits-operation next (Named n) h = fits-reference n h
 fits-operation next (Within i) h = local next i
 fits-operation next Athrow h = tt
 fits-operation next Monitor h = tt
@@ -176,7 +176,7 @@ pub line-fits : (v : Versions) → HasLines v → (version place : ℕ) (l : Bor
     → IfNamedBy l.now.action l.now.next (λ n next. HasDimensions n)
 line-fits v lines version place l found = seen l (versions.line_at v version place) found (lines.dimensions version place)
 
--- ---- what holds of the naming of the line that stands there
+-- ---- what holds of the reference of the line that stands there
 
 pub line-named : (o : Option Line) (l : Line) (Holds : SymbolicReference → ℕ → Type 0) → Some l ≡ o → IfNamedBy l.action l.next Holds → IfNamed o Holds
 line-named o l Holds found h = subst (λ (x : Option Line). IfNamed x Holds) found h

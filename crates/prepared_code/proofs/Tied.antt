@@ -191,9 +191,9 @@ module _ (c : ClassFile) (i : Instr) where
   either true x y tx ty = tx
   either false x y tx ty = ty
 
-  tied-naming : family_of i.op ≡ family.NotLocal → (o : Option SymbolicReference) → TiedOperation (option_and_then named_by o)
-  tied-naming is None = tt
-  tied-naming is (Some n) =
+  tied-reference : family_of i.op ≡ family.NotLocal → (o : Option SymbolicReference) → TiedOperation (option_and_then named_by o)
+  tied-reference is None = tt
+  tied-reference is (Some n) =
       either (has_dimensions n) (Some (Named n)) None
       (record { op = Named n; is = refl; tied = record { action = refl; next = behind is; alone = λ k same. absurd cc; within = λ k same. absurd cc } }) tt
 
@@ -217,9 +217,9 @@ module _ (c : ClassFile) (i : Instr) where
       either (i.op == r.op) _ _ (tied-object is r.operation all.0) (tied-rows is rest all.1)
 
   tied-other : family_of i.op ≡ family.NotLocal → (a : Arg) → TiedOperation (other_operation c i.op a)
-  tied-other is (arg.Pool index) = tied-naming is (symbolic_reference_of c i.op index)
-  tied-other is (arg.Interface index count zero) = tied-naming is (interface_reference c i.op index)
-  tied-other is (arg.Multi index dimensions) = tied-naming is (array_reference c i.op index dimensions)
+  tied-other is (arg.Pool index) = tied-reference is (symbolic_reference_of c i.op index)
+  tied-other is (arg.Interface index count zero) = tied-reference is (interface_reference c i.op index)
+  tied-other is (arg.Multi index dimensions) = tied-reference is (array_reference c i.op index dimensions)
   tied-other is (arg.Array code) = either (i.op == 188 && is_in_range 4 11 code) _ _ (tied-object is (Newarray code) refl) tt
   tied-other is arg.Plain = tied-rows is object_rows refl
   tied-other is _ = tt

@@ -77,7 +77,7 @@ method_line at c method = option_and_then (λ code. option_and_then (line_of c) 
 abbrev pub line_at : Program → ℕ → ℕ → Option Line
 line_at p method at = by_number p (method_line at) method
 
--- ---- what holds of the naming of a line, and of the place behind it
+-- ---- what holds of the reference of a line, and of the place behind it
 
 abbrev pub IfNamedBy : Action → ℕ → (SymbolicReference → ℕ → Type 0) → Type 0
 IfNamedBy (action.Named n) next Holds = Holds n next

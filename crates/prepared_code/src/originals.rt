@@ -184,8 +184,8 @@ fn attempt_line(
         IfNamedBy line.now.action line.now.next (λ n next. IsKnown linker.new n k))) }
 {
     match &line.action {
-        Action::Named(naming) => attempt(
-            alloc, linker, numbers, shared, frames, input, output, naming, line.next, learnt,
+        Action::Named(reference) => attempt(
+            alloc, linker, numbers, shared, frames, input, output, reference, line.next, learnt,
         ),
         _ => {
             *learnt = None;
@@ -247,8 +247,8 @@ fn attempt_line_loaded(
 {
     let next = line.next;
     match &line.action {
-        Action::Named(naming) => attempt_loaded(
-            alloc, linker, numbers, shared, frames, input, output, naming, next, learnt,
+        Action::Named(reference) => attempt_loaded(
+            alloc, linker, numbers, shared, frames, input, output, reference, next, learnt,
         ),
         _ => {
             *learnt = None;
@@ -303,14 +303,14 @@ fn attempt_line_known(
 {
     let next = line.next;
     match &line.action {
-        Action::Named(naming) => {
+        Action::Named(reference) => {
             // Mostly a method that has Code is invoked.
-            let called = known_code(linker, selections, shared, frames, naming, known);
+            let called = known_code(linker, selections, shared, frames, reference, known);
             if let Some(call) = called {
                 return Ok(Asked::Invokes(call.method, call.count));
             }
             attempt_known(
-                alloc, linker, numbers, shared, frames, input, output, naming, next, known,
+                alloc, linker, numbers, shared, frames, input, output, reference, next, known,
             )
         }
         _ => Ok(Asked::Refused(AbruptCompletion::Breaks)),
@@ -332,7 +332,7 @@ fn keep_selected(
         return;
     }
     match &line.action {
-        Action::Named(naming) => selections.keep(alloc, naming, &known),
+        Action::Named(reference) => selections.keep(alloc, reference, &known),
         _ => {}
     }
 }

@@ -206,10 +206,10 @@ pub fn class_action(name: Option<Text16>) -> Option<Action>
 // ---- dimensions of array types
 
 /// Whether an array type that is named has the dimensions that the format asks (4.9.1).
-fn has_dimensions(naming: &SymbolicReference) -> bool
-    ensures { result ≡ has_dimensions naming.now }
+fn has_dimensions(reference: &SymbolicReference) -> bool
+    ensures { result ≡ has_dimensions reference.now }
 {
-    match naming {
+    match reference {
         SymbolicReference::Anewarray(name) => meaning_of(name.units()).dimensions < 255,
         SymbolicReference::Multianewarray(name, dimensions) => {
             *dimensions >= 1 && *dimensions <= meaning_of(name.units()).dimensions
@@ -219,12 +219,12 @@ fn has_dimensions(naming: &SymbolicReference) -> bool
 }
 
 /// What an instruction with names does; none where it is none for its dimensions.
-pub fn named_action(naming: Option<SymbolicReference>) -> Option<Action>
-    ensures { result ≡ option_and_then named_action naming }
+pub fn named_action(reference: Option<SymbolicReference>) -> Option<Action>
+    ensures { result ≡ option_and_then named_action reference }
 {
-    let naming = naming?;
-    if has_dimensions(&naming) {
-        Some(Action::Named(naming))
+    let reference = reference?;
+    if has_dimensions(&reference) {
+        Some(Action::Named(reference))
     } else {
         None
     }

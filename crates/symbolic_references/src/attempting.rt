@@ -44,10 +44,10 @@ fn is_null(frames: &Frames) -> bool
 }
 
 /// Whether the instruction resolves what it names: checkcast and instanceof of null do not.
-fn resolves(frames: &Frames, naming: &SymbolicReference) -> bool
-    ensures { result ≡ resolves naming.now (top_operands frames.now.frames) }
+fn resolves(frames: &Frames, reference: &SymbolicReference) -> bool
+    ensures { result ≡ resolves reference.now (top_operands frames.now.frames) }
 {
-    match naming {
+    match reference {
         SymbolicReference::Checkcast(_) => !is_null(frames),
         SymbolicReference::Instanceof(_) => !is_null(frames),
         _ => true,
@@ -55,10 +55,10 @@ fn resolves(frames: &Frames, naming: &SymbolicReference) -> bool
 }
 
 /// The name of the class, or of the array type, that is resolved: of a member its class's.
-pub fn resolved_name(naming: &SymbolicReference) -> &Text16
-    ensures { result.now ≡ resolved_name naming.now }
+pub fn resolved_name(reference: &SymbolicReference) -> &Text16
+    ensures { result.now ≡ resolved_name reference.now }
 {
-    match naming {
+    match reference {
         SymbolicReference::New(name) => name,
         SymbolicReference::Getfield(member) => member.class(),
         SymbolicReference::Putfield(member) => member.class(),
@@ -81,21 +81,21 @@ fn find(
     linker: &mut Linker,
     loaded: &mut Seq<u32>,
     frames: &Frames,
-    naming: &SymbolicReference,
+    reference: &SymbolicReference,
 ) -> Result<Option<Result<u32, AbruptCompletion>>, NoMemory>
     requires linked { linker.old.loaded ≡ loaded.old }
     requires root { IsLoaded linker.old (user_count linker.old.program) }
-    ensures found { IfOk result (λ found. IsFound linker.new naming.now
+    ensures found { IfOk result (λ found. IsFound linker.new reference.now
         (top_operands frames.now.frames) found) }
     ensures loaded { OnOk result (loaded.new ≡ loaded.old ++ newly_loaded linker.old.program
-        loaded.old naming.now (top_operands frames.now.frames)) }
+        loaded.old reference.now (top_operands frames.now.frames)) }
     ensures linker { OnOk result (linker.new ≡ linker_with linker.old loaded.new) }
     ensures program { linker.new.program ≡ linker.old.program }
 {
-    if !resolves(frames, naming) {
+    if !resolves(frames, reference) {
         return Ok(None);
     }
-    let found = resolve(linker, loaded, resolved_name(naming))?;
+    let found = resolve(linker, loaded, resolved_name(reference))?;
     Ok(Some(found))
 }
 
@@ -104,22 +104,22 @@ fn find_loaded(
     linker: &mut Linker,
     loaded: &mut Seq<u32>,
     frames: &Frames,
-    naming: &SymbolicReference,
+    reference: &SymbolicReference,
 ) -> Result<Option<Option<Result<u32, AbruptCompletion>>>, NoMemory>
     requires linked { linker.old.loaded ≡ loaded.old }
     requires root { IsLoaded linker.old (user_count linker.old.program) }
     ensures some { IfOk result (λ o. is_some o ≡ loads_nothing linker.old.program loaded.old
-        naming.now (top_operands frames.now.frames)) }
+        reference.now (top_operands frames.now.frames)) }
     ensures found { IfOk result
-        (λ o. IfSome o (λ found. IsFound linker.new naming.now
+        (λ o. IfSome o (λ found. IsFound linker.new reference.now
         (top_operands frames.now.frames) found)) }
     ensures loaded { OnOk result (loaded.new ≡ loaded.old ++ newly_loaded linker.old.program
-        loaded.old naming.now (top_operands frames.now.frames)) }
+        loaded.old reference.now (top_operands frames.now.frames)) }
     ensures linker { OnOk result (linker.new ≡ linker_with linker.old loaded.new) }
     ensures program { linker.new.program ≡ linker.old.program }
 {
     let count = loaded.len();
-    let found = find(linker, loaded, frames, naming)?;
+    let found = find(linker, loaded, frames, reference)?;
     if loaded.len() != count {
         return Ok(None);
     }
@@ -129,11 +129,11 @@ fn find_loaded(
 // ---- what is done then
 
 /// checkcast and instanceof of null.
-fn skip(frames: &mut Frames, naming: &SymbolicReference, next: u16) -> Asked
-    ensures answer { answer_view result ≡ answer_of (skips naming.now) frames.old }
-    ensures frames { frames.new ≡ frames_of (skips naming.now) next frames.old }
+fn skip(frames: &mut Frames, reference: &SymbolicReference, next: u16) -> Asked
+    ensures answer { answer_view result ≡ answer_of (skips reference.now) frames.old }
+    ensures frames { frames.new ≡ frames_of (skips reference.now) next frames.old }
 {
-    match naming {
+    match reference {
         SymbolicReference::Instanceof(_) => replace(frames, Value::Int(0), next),
         _ => keep(frames, next),
     }
@@ -149,41 +149,41 @@ fn do_found(
     frames: &mut Frames,
     input: &[u8],
     output: &mut Seq<u8>,
-    naming: &SymbolicReference,
+    reference: &SymbolicReference,
     found: Option<Result<u32, AbruptCompletion>>,
     next: u16,
     learnt: &mut Option<Known>,
 ) -> Result<Asked, NoMemory>
     requires linked { linker.now.loaded ≡ shared.old.loaded }
-    requires found { IsFound linker.now naming.now
+    requires found { IsFound linker.now reference.now
         (top_operands frames.old.frames) found }
-    requires loads { resolves naming.now (top_operands frames.old.frames) ≡ true →
-        LoadsNothing linker.now naming.now }
+    requires loads { resolves reference.now (top_operands frames.old.frames) ≡ true →
+        LoadsNothing linker.now reference.now }
     requires numbers { AreNumbers linker.now.program numbers.now }
     requires built_in { HasBuiltIn linker.now }
     requires objects { AreLoaded linker.now shared.old.heap }
-    requires caller { HasLoadedCaller linker.now naming.now }
-    requires dimensions { HasDimensions naming.now }
+    requires caller { HasLoadedCaller linker.now reference.now }
+    requires dimensions { HasDimensions reference.now }
     ensures answer { Answers result (does_named (world_over linker.now input.now)
-        naming.now shared.old) frames.old }
+        reference.now shared.old) frames.old }
     ensures frames { Moves result frames.new (does_named (world_over linker.now input.now)
-        naming.now shared.old) next frames.old }
+        reference.now shared.old) next frames.old }
     ensures shared { Shares result shared.new (does_named (world_over linker.now input.now)
-        naming.now shared.old) frames.old }
+        reference.now shared.old) frames.old }
     ensures output { OnOk result (output.new ≡ output.old ++ wrote_by (does_named (world_over
-        linker.now input.now) naming.now shared.old) frames.old) }
+        linker.now input.now) reference.now shared.old) frames.old) }
     ensures objects { OnOk result (AreLoaded linker.now shared.new.heap) }
     ensures learnt { OnOk result (IfSome learnt.new
-        (λ known. IsKnown linker.now naming.now known)) }
+        (λ known. IsKnown linker.now reference.now known)) }
 {
     *learnt = None;
     match found {
-        None => Ok(skip(frames, naming, next)),
+        None => Ok(skip(frames, reference, next)),
         Some(Err(refusal)) => Ok(Asked::Refused(refusal)),
         Some(Ok(kind)) => {
             let mut found = Found::Nothing;
             let asked = do_resolved(
-                alloc, linker, numbers, shared, frames, input, output, naming, kind, &mut found,
+                alloc, linker, numbers, shared, frames, input, output, reference, kind, &mut found,
                 next,
             )?;
             *learnt = Some(Known { kind, found });
@@ -204,7 +204,7 @@ pub fn attempt(
     frames: &mut Frames,
     input: &[u8],
     output: &mut Seq<u8>,
-    naming: &SymbolicReference,
+    reference: &SymbolicReference,
     next: u16,
     learnt: &mut Option<Known>,
 ) -> Result<Asked, NoMemory>
@@ -212,27 +212,27 @@ pub fn attempt(
     requires numbers { AreNumbers linker.old.program numbers.now }
     requires built_in { HasBuiltIn linker.old }
     requires objects { AreLoaded linker.old shared.old.heap }
-    requires caller { HasLoadedCaller linker.old naming.now }
-    requires dimensions { HasDimensions naming.now }
+    requires caller { HasLoadedCaller linker.old reference.now }
+    requires dimensions { HasDimensions reference.now }
     ensures answer { Answers result (attempts (world_over linker.old input.now)
-        naming.now shared.old frames.old) frames.old }
+        reference.now shared.old frames.old) frames.old }
     ensures frames { Moves result frames.new (attempts (world_over linker.old input.now)
-        naming.now shared.old frames.old) next frames.old }
+        reference.now shared.old frames.old) next frames.old }
     ensures shared { Shares result shared.new (attempts (world_over linker.old input.now)
-        naming.now shared.old frames.old) frames.old }
+        reference.now shared.old frames.old) frames.old }
     ensures output { OnOk result (output.new ≡ output.old ++ wrote_by (attempts (world_over
-        linker.old input.now) naming.now shared.old frames.old) frames.old) }
+        linker.old input.now) reference.now shared.old frames.old) frames.old) }
     ensures linker { OnOk result (linker.new
-        ≡ linker_loaded naming.now shared.old linker.old frames.old) }
+        ≡ linker_loaded reference.now shared.old linker.old frames.old) }
     ensures program { linker.new.program ≡ linker.old.program }
     ensures built_in { OnOk result (HasBuiltIn linker.new) }
     ensures objects { OnOk result (AreLoaded linker.new shared.new.heap) }
     ensures learnt { OnOk result (IfSome learnt.new
-        (λ known. IsKnown linker.new naming.now known)) }
+        (λ known. IsKnown linker.new reference.now known)) }
 {
-    let found = find(linker, &mut shared.loaded, frames, naming)?;
+    let found = find(linker, &mut shared.loaded, frames, reference)?;
     do_found(
-        alloc, linker, numbers, shared, frames, input, output, naming, found, next, learnt,
+        alloc, linker, numbers, shared, frames, input, output, reference, found, next, learnt,
     )
 }
 
@@ -246,7 +246,7 @@ pub fn attempt_loaded(
     frames: &mut Frames,
     input: &[u8],
     output: &mut Seq<u8>,
-    naming: &SymbolicReference,
+    reference: &SymbolicReference,
     next: u16,
     learnt: &mut Option<Known>,
 ) -> Result<Option<Asked>, NoMemory>
@@ -254,40 +254,40 @@ pub fn attempt_loaded(
     requires numbers { AreNumbers linker.old.program numbers.now }
     requires built_in { HasBuiltIn linker.old }
     requires objects { AreLoaded linker.old shared.old.heap }
-    requires caller { HasLoadedCaller linker.old naming.now }
-    requires dimensions { HasDimensions naming.now }
+    requires caller { HasLoadedCaller linker.old reference.now }
+    requires dimensions { HasDimensions reference.now }
     ensures some { let w = world_over linker.old input.now in IfOk result
-        (λ a. is_some a ≡ is_loaded w naming.now shared.old frames.old) }
+        (λ a. is_some a ≡ is_loaded w reference.now shared.old frames.old) }
     ensures answer { let w = world_over linker.old input.now in
-        let rule = attempts w naming.now shared.old frames.old in
+        let rule = attempts w reference.now shared.old frames.old in
         IfOk result (λ a. IfSome a (λ a. answer_view a ≡ answer_by rule frames.old)) }
     ensures frames { let w = world_over linker.old input.now in
-        let rule = attempts w naming.now shared.old frames.old in
+        let rule = attempts w reference.now shared.old frames.old in
         IfOk result (λ a. IfSome a (λ _. frames.new ≡ frames_by rule next frames.old)) }
     ensures shared { let w = world_over linker.old input.now in
-        let rule = attempts w naming.now shared.old frames.old in
+        let rule = attempts w reference.now shared.old frames.old in
         IfOk result (λ a. IfSome a (λ _. shared.new ≡ shared_by rule frames.old)) }
     ensures output { let w = world_over linker.old input.now in
-        let rule = attempts w naming.now shared.old frames.old in
+        let rule = attempts w reference.now shared.old frames.old in
         IfOk result (λ a. IfSome a (λ _. output.new ≡ output.old ++ wrote_by rule frames.old)) }
     ensures same_frames { IfOk result (λ a. IfNone a (frames.new ≡ frames.old)) }
     ensures same_output { IfOk result (λ a. IfNone a (output.new ≡ output.old)) }
-    ensures loads { let n = naming.now in let p = linker.old.program in
+    ensures loads { let n = reference.now in let p = linker.old.program in
         IfOk result (λ a. IfNone a (shared.new ≡ shared_loaded p n shared.old frames.old)) }
     ensures linker { OnOk result (linker.new
-        ≡ linker_loaded naming.now shared.old linker.old frames.old) }
+        ≡ linker_loaded reference.now shared.old linker.old frames.old) }
     ensures program { linker.new.program ≡ linker.old.program }
     ensures built_in { OnOk result (HasBuiltIn linker.new) }
     ensures objects { OnOk result (AreLoaded linker.new shared.new.heap) }
     ensures learnt { OnOk result (IfSome learnt.new
-        (λ known. IsKnown linker.new naming.now known)) }
+        (λ known. IsKnown linker.new reference.now known)) }
 {
-    let Some(found) = find_loaded(linker, &mut shared.loaded, frames, naming)? else {
+    let Some(found) = find_loaded(linker, &mut shared.loaded, frames, reference)? else {
         *learnt = None;
         return Ok(None);
     };
     let asked = do_found(
-        alloc, linker, numbers, shared, frames, input, output, naming, found, next, learnt,
+        alloc, linker, numbers, shared, frames, input, output, reference, found, next, learnt,
     )?;
     Ok(Some(asked))
 }
@@ -305,38 +305,38 @@ pub fn attempt_known(
     frames: &mut Frames,
     input: &[u8],
     output: &mut Seq<u8>,
-    naming: &SymbolicReference,
+    reference: &SymbolicReference,
     next: u16,
     known: &mut Known,
 ) -> Result<Asked, NoMemory>
     requires linked { linker.now.loaded ≡ shared.old.loaded }
-    requires known { IsKnown linker.now naming.now known.old }
+    requires known { IsKnown linker.now reference.now known.old }
     requires numbers { AreNumbers linker.now.program numbers.now }
     requires built_in { HasBuiltIn linker.now }
     requires objects { AreLoaded linker.now shared.old.heap }
-    requires caller { HasLoadedCaller linker.now naming.now }
-    requires dimensions { HasDimensions naming.now }
+    requires caller { HasLoadedCaller linker.now reference.now }
+    requires dimensions { HasDimensions reference.now }
     ensures answer { Answers result (attempts (world_over linker.now input.now)
-        naming.now shared.old frames.old) frames.old }
+        reference.now shared.old frames.old) frames.old }
     ensures frames { Moves result frames.new (attempts (world_over linker.now input.now)
-        naming.now shared.old frames.old) next frames.old }
+        reference.now shared.old frames.old) next frames.old }
     ensures shared { Shares result shared.new (attempts (world_over linker.now input.now)
-        naming.now shared.old frames.old) frames.old }
+        reference.now shared.old frames.old) frames.old }
     ensures output { OnOk result (output.new ≡ output.old ++ wrote_by (attempts (world_over
-        linker.now input.now) naming.now shared.old frames.old) frames.old) }
+        linker.now input.now) reference.now shared.old frames.old) frames.old) }
     ensures loaded { linker.now.loaded
-        ≡ loaded_for linker.now.program naming.now shared.old frames.old }
+        ≡ loaded_for linker.now.program reference.now shared.old frames.old }
     ensures loads { let w = world_over linker.now input.now in
-        is_loaded w naming.now shared.old frames.old ≡ true }
+        is_loaded w reference.now shared.old frames.old ≡ true }
     ensures objects { OnOk result (AreLoaded linker.now shared.new.heap) }
-    ensures known { IsKnown linker.now naming.now known.new }
+    ensures known { IsKnown linker.now reference.now known.new }
 {
-    if !resolves(frames, naming) {
-        return Ok(skip(frames, naming, next));
+    if !resolves(frames, reference) {
+        return Ok(skip(frames, reference, next));
     }
     let kind = known.kind;
     let found = &mut known.found;
     do_resolved(
-        alloc, linker, numbers, shared, frames, input, output, naming, kind, found, next,
+        alloc, linker, numbers, shared, frames, input, output, reference, kind, found, next,
     )
 }

@@ -38,31 +38,31 @@ pub fn do_resolved(
     frames: &mut Frames,
     input: &[u8],
     output: &mut Seq<u8>,
-    naming: &SymbolicReference,
+    reference: &SymbolicReference,
     kind: u32,
     found: &mut Found,
     next: u16,
 ) -> Result<Asked, NoMemory>
     requires linked { linker.now.loaded ≡ shared.old.loaded }
-    requires resolved { IsResolved linker.now (resolved_name naming.now) kind }
-    requires found { IsFoundAs found.old linker.now.program kind naming.now }
+    requires resolved { IsResolved linker.now (resolved_name reference.now) kind }
+    requires found { IsFoundAs found.old linker.now.program kind reference.now }
     requires numbers { AreNumbers linker.now.program numbers.now }
     requires built_in { HasBuiltIn linker.now }
     requires objects { AreLoaded linker.now shared.old.heap }
-    requires caller { HasLoadedCaller linker.now naming.now }
-    requires dimensions { HasDimensions naming.now }
+    requires caller { HasLoadedCaller linker.now reference.now }
+    requires dimensions { HasDimensions reference.now }
     ensures answer { Answers result (does_resolved (world_over linker.now input.now) kind
-        naming.now shared.old) frames.old }
+        reference.now shared.old) frames.old }
     ensures frames { Moves result frames.new (does_resolved (world_over linker.now input.now) kind
-        naming.now shared.old) next frames.old }
+        reference.now shared.old) next frames.old }
     ensures shared { Shares result shared.new (does_resolved (world_over linker.now input.now) kind
-        naming.now shared.old) frames.old }
+        reference.now shared.old) frames.old }
     ensures output { OnOk result (output.new ≡ output.old ++ wrote_by (does_resolved (world_over
-        linker.now input.now) kind naming.now shared.old) frames.old) }
+        linker.now input.now) kind reference.now shared.old) frames.old) }
     ensures objects { OnOk result (AreLoaded linker.now shared.new.heap) }
-    ensures found { IsFoundAs found.new linker.now.program kind naming.now }
+    ensures found { IsFoundAs found.new linker.now.program kind reference.now }
 {
-    match naming {
+    match reference {
         SymbolicReference::New(_) => make_new(alloc, linker, shared, frames, kind, found, next),
         SymbolicReference::Getfield(member) => get_field(
             linker, shared, frames, member, kind, found, next,

@@ -393,21 +393,21 @@ pub fn known_call(
     selections: &Selections,
     shared: &Shared,
     frames: &Frames,
-    naming: &SymbolicReference,
+    reference: &SymbolicReference,
     known: &Known,
 ) -> Option<Invoked>
     requires linked { linker.now.loaded ≡ shared.now.loaded }
-    requires known { IsKnown linker.now naming.now known.now }
+    requires known { IsKnown linker.now reference.now known.now }
     requires selections { AreSelections linker.now.program selections.now }
     requires objects { AreLoaded linker.now shared.now.heap }
     ensures called { (input : List ℕ) → let w = world_over linker.now input in
-        let d = done_on (attempts w naming.now shared.now frames.now) frames.now in
+        let d = done_on (attempts w reference.now shared.now frames.now) frames.now in
         IfSome result (λ c. IsInvoked w c d shared.now frames.now.frames) }
-    ensures loads { let n = naming.now in loads_nothing linker.now.program
+    ensures loads { let n = reference.now in loads_nothing linker.now.program
         shared.now.loaded n (top_operands frames.now.frames) ≡ true }
 {
     let kind = known.kind;
-    match naming {
+    match reference {
         SymbolicReference::Invokestatic(method) => {
             static_call(linker, shared, frames, method, kind, known.found)
         }
@@ -436,20 +436,20 @@ pub fn known_code(
     selections: &Selections,
     shared: &Shared,
     frames: &Frames,
-    naming: &SymbolicReference,
+    reference: &SymbolicReference,
     known: &Known,
 ) -> Option<Call>
     requires linked { linker.now.loaded ≡ shared.now.loaded }
-    requires known { IsKnown linker.now naming.now known.now }
+    requires known { IsKnown linker.now reference.now known.now }
     requires selections { AreSelections linker.now.program selections.now }
     requires objects { AreLoaded linker.now shared.now.heap }
     ensures called { (input : List ℕ) → let w = world_over linker.now input in
-        let d = done_on (attempts w naming.now shared.now frames.now) frames.now in
+        let d = done_on (attempts w reference.now shared.now frames.now) frames.now in
         IfSome result (λ c. IsCall c d shared.now) }
-    ensures loads { let n = naming.now in loads_nothing linker.now.program
+    ensures loads { let n = reference.now in loads_nothing linker.now.program
         shared.now.loaded n (top_operands frames.now.frames) ≡ true }
 {
-    let Some(invoked) = known_call(linker, selections, shared, frames, naming, known) else {
+    let Some(invoked) = known_call(linker, selections, shared, frames, reference, known) else {
         return None;
     };
     match invoked {
@@ -467,23 +467,23 @@ pub fn pass_field(
     linker: &Linker,
     shared: &mut Shared,
     frames: &mut Frames,
-    naming: &SymbolicReference,
+    reference: &SymbolicReference,
     next: u16,
     known: &Known,
 ) -> bool
     requires linked { linker.now.loaded ≡ shared.old.loaded }
-    requires known { IsKnown linker.now naming.now known.now }
+    requires known { IsKnown linker.now reference.now known.now }
     requires objects { AreLoaded linker.now shared.old.heap }
     ensures passed { (input : List ℕ) →
-        let rule = attempts (world_over linker.now input) naming.now shared.old
+        let rule = attempts (world_over linker.now input) reference.now shared.old
         frames.old in
         IfPassed result (done_on rule frames.old) next frames.old shared.old frames.new shared.new }
-    ensures loads { let n = naming.now in loads_nothing linker.now.program
+    ensures loads { let n = reference.now in loads_nothing linker.now.program
         shared.old.loaded n (top_operands frames.old.frames) ≡ true }
 {
     let kind = known.kind;
     let found = known.found;
-    match naming {
+    match reference {
         SymbolicReference::Getfield(member) => {
             pass_getfield(linker, shared, frames, member, kind, found, next)
         }

@@ -241,15 +241,15 @@ impl Selections {
     }
 
     /// Keeps what an instruction's names came to, where that is of a receiver.
-    pub fn keep(&mut self, alloc: Global, naming: &SymbolicReference, known: &Known)
+    pub fn keep(&mut self, alloc: Global, reference: &SymbolicReference, known: &Known)
         ensures { (l : LinkerView) → AreSelections l.program self.old
-            → IsKnown l naming.now known.now → AreSelections l.program self.new }
+            → IsKnown l reference.now known.now → AreSelections l.program self.new }
     {
         let Found::Selected(site) = known.found else {
             return;
         };
         let kind = known.kind;
-        match naming {
+        match reference {
             SymbolicReference::Invokevirtual(_) => self.put(
                 alloc,
                 Selection {

@@ -132,7 +132,7 @@ fn pass_call(
     initializing: &Stack<Initialization>,
     here: Here,
     line: &Line,
-    naming: &SymbolicReference,
+    reference: &SymbolicReference,
     known: &Known,
 ) -> Option<Due>
     requires run { CanRun originals.now.setup }
@@ -142,15 +142,15 @@ fn pass_call(
         (length parts.old.frames.frames) initializing.now parts.old }
     requires here { here_of parts.old.frames.frames ≡ Some here }
     requires line { line_at originals.now.setup.versions here.version here.place ≡ Some line.now }
-    requires named { line.now.action ≡ action.Named naming.now }
-    requires known { IsKnown (linker_in originals.now) naming.now known.now }
+    requires named { line.now.action ≡ action.Named reference.now }
+    requires known { IsKnown (linker_in originals.now) reference.now known.now }
     ensures { GoesOnward originals.now.setup initializing.now parts.old result parts.new }
 {
     let linker = originals.linker();
     let selections = originals.selections();
     let shared = &parts.shared;
     let frames = &parts.frames;
-    let Some(invoked) = known_call(linker, selections, shared, frames, naming, known) else {
+    let Some(invoked) = known_call(linker, selections, shared, frames, reference, known) else {
         return None;
     };
     match invoked {
@@ -171,7 +171,7 @@ fn pass_access(
     initializing: &Stack<Initialization>,
     here: Here,
     line: &Line,
-    naming: &SymbolicReference,
+    reference: &SymbolicReference,
     known: &Known,
 ) -> bool
     requires run { CanRun originals.now.setup }
@@ -181,8 +181,8 @@ fn pass_access(
         (length parts.old.frames.frames) initializing.now parts.old }
     requires here { here_of parts.old.frames.frames ≡ Some here }
     requires line { line_at originals.now.setup.versions here.version here.place ≡ Some line.now }
-    requires named { line.now.action ≡ action.Named naming.now }
-    requires known { IsKnown (linker_in originals.now) naming.now known.now }
+    requires named { line.now.action ≡ action.Named reference.now }
+    requires known { IsKnown (linker_in originals.now) reference.now known.now }
     ensures { Passes originals.now.setup initializing.now parts.old (steps_if result) parts.new }
 {
     let linker = originals.linker();
@@ -191,7 +191,7 @@ fn pass_access(
         linker,
         &mut parts.shared,
         &mut parts.frames,
-        naming,
+        reference,
         line.next,
         known,
     )
@@ -411,7 +411,7 @@ fn pass_named(
     initializing: &Stack<Initialization>,
     here: Here,
     line: &Line,
-    naming: &SymbolicReference,
+    reference: &SymbolicReference,
 ) -> Option<Due>
     requires run { CanRun originals.now.setup }
     requires linked { originals.now.loaded ≡ parts.old.shared.loaded }
@@ -420,7 +420,7 @@ fn pass_named(
         (length parts.old.frames.frames) initializing.now parts.old }
     requires here { here_of parts.old.frames.frames ≡ Some here }
     requires line { line_at originals.now.setup.versions here.version here.place ≡ Some line.now }
-    requires named { line.now.action ≡ action.Named naming.now }
+    requires named { line.now.action ≡ action.Named reference.now }
     ensures { GoesOnward originals.now.setup initializing.now parts.old result parts.new }
 {
     let Some(known) = originals.known(here.version, here.place) else {
@@ -434,7 +434,7 @@ fn pass_named(
             initializing,
             here,
             line,
-            naming,
+            reference,
             known,
         );
     }
@@ -445,7 +445,7 @@ fn pass_named(
         initializing,
         here,
         line,
-        naming,
+        reference,
         known,
     ))
 }
@@ -474,14 +474,14 @@ fn pass_line(
         return None;
     };
     match &line.action {
-        Action::Named(naming) => pass_named(
+        Action::Named(reference) => pass_named(
             alloc,
             originals,
             parts,
             initializing,
             here,
             line,
-            naming,
+            reference,
         ),
         Action::Return(kind) => pass_return(
             originals,

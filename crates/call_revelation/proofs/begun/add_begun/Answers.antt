@@ -13,6 +13,6 @@ returns-in-Invokespecial c =
 
 pub returns-in_default : goal.returns-in_default
 returns-in_default c =
-    let other : is_special c.args.naming.now ≡ false = search rules in
+    let other : is_special c.args.reference.now ≡ false = search rules in
     subst (λ ms. OnOk c.add_begun_named.result (Adds c.args.found.now c.add_begun_named.new.found ms))
-    (sym (begun-by-name c.args.linker.now.program c.args.lineage.now.loaded c.args.naming.now other)) c.add_begun_named.ensures
+    (sym (begun-by-name c.args.linker.now.program c.args.lineage.now.loaded c.args.reference.now other)) c.add_begun_named.ensures

@@ -5,6 +5,6 @@ use Rattle.call_revelation.proofs.book.note_uses.Given as goal
 
 abbrev pub invariant-loop-at : goal.invariant-loop-at
 invariant-loop-at l =
-    (with_uses l.linker.program l.calls l.caller l.at (drop l.at l.namings) l.lists
-    ≡ with_uses l.linker.program l.calls l.caller 0 l.namings l.initial.lists)
+    (with_uses l.linker.program l.calls l.caller l.at (drop l.at l.references) l.lists
+    ≡ with_uses l.linker.program l.calls l.caller 0 l.references l.initial.lists)
     × HasMore l.initial.lists l.lists

@@ -14,8 +14,8 @@ loop-left-preserved c =
     let class = c.args.class.now in
     let code = c.args.code.now in
     let n = c.loop-left.left - 1 in
-    let ns = c.loop-left.namings in
+    let ns = c.loop-left.references in
     ap (λ l. l ++ symbolic_references_from class n code c.next_offset-at.result) c.in_ok-add_some.ensures
-    ∙ (ap (λ k. (ns ++ option_to_list c.in_ok-naming.naming) ++ symbolic_references_from class n code k) c.next_offset-at.ensures
+    ∙ (ap (λ k. (ns ++ option_to_list c.in_ok-reference.reference) ++ symbolic_references_from class n code k) c.next_offset-at.ensures
     ∙ one-more class code ns (references_in_code class code) c.loop-left.at n c.loop-left.left c.in-Some.instr (sym c.in_ok-instr.ensures ∙ c.in-Some.is)
-    (omega (arith, c.loop-left-test.true)) c.loop-left.invariant c.in_ok-naming.naming c.in_ok-naming.ensures)
+    (omega (arith, c.loop-left-test.true)) c.loop-left.invariant c.in_ok-reference.reference c.in_ok-reference.ensures)

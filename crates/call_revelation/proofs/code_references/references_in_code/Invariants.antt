@@ -7,4 +7,4 @@ abbrev pub decreases-loop-left : goal.decreases-loop-left
 decreases-loop-left l = l.left
 
 abbrev pub invariant-loop-left : goal.invariant-loop-left
-invariant-loop-left l = l.namings ++ symbolic_references_from l.class l.left l.code l.at ≡ references_in_code l.class l.code
+invariant-loop-left l = l.references ++ symbolic_references_from l.class l.left l.code l.at ≡ references_in_code l.class l.code

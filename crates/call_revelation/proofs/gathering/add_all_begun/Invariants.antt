@@ -7,8 +7,8 @@ use Rattle.jvm_model.specs.Soundness.Sound.{HasLoadedCaller}
 use Rattle.jvm_model.specs.Profiling.Targets.{begun_by}
 use Rattle.call_revelation.proofs.gathering.add_all_begun.Given as goal
 
-abbrev pub invariant-loop-naming : goal.invariant-loop-naming
-invariant-loop-naming l =
-    ((m : ℕ) → (is_among m l.found || is_among m (flat_map (begun_by l.linker.program l.lineage.loaded) (drop l.naming-index l.namings)))
-    ≡ (is_among m l.initial.found || is_among m (flat_map (begun_by l.linker.program l.lineage.loaded) l.namings)))
-    × AllByRecursion (λ n. HasLoadedCaller l.linker.program l.linker.loaded n) (drop l.naming-index l.namings)
+abbrev pub invariant-loop-reference : goal.invariant-loop-reference
+invariant-loop-reference l =
+    ((m : ℕ) → (is_among m l.found || is_among m (flat_map (begun_by l.linker.program l.lineage.loaded) (drop l.reference-index l.references)))
+    ≡ (is_among m l.initial.found || is_among m (flat_map (begun_by l.linker.program l.lineage.loaded) l.references)))
+    × AllByRecursion (λ n. HasLoadedCaller l.linker.program l.linker.loaded n) (drop l.reference-index l.references)

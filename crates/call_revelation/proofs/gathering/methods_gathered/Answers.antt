@@ -26,9 +26,9 @@ pub add_all_begun-requires-clause-callers : goal.add_all_begun-requires-clause-c
 add_all_begun-requires-clause-callers c =
     let p = c.args.linker.now.program in
     let loaded = c.args.linker.now.loaded in
-    subst (AllByRecursion (λ n. HasLoadedCaller p loaded n)) (sym c.as_slice-namings.ensures)
+    subst (AllByRecursion (λ n. HasLoadedCaller p loaded n)) (sym c.as_slice-references.ensures)
     (subst (AllByRecursion (λ n. HasLoadedCaller p loaded n))
-    (sym (c.in_ok-namings.ensures ∙ ap (λ q. symbolic_references_of (operations_of q c.args.method)) c.program-2.ensures))
+    (sym (c.in_ok-references.ensures ∙ ap (λ q. symbolic_references_of (operations_of q c.args.method)) c.program-2.ensures))
     (callers-loaded p loaded c.requires.fit c.args.method c.requires.class))
 
 pub returns : goal.returns
@@ -36,8 +36,8 @@ returns c =
     let p = c.args.linker.now.program in
     let loaded = c.args.linker.now.loaded in
     let kept = c.in_ok-lineage.lineage.loaded in
-    let ns = c.as_slice-namings.result.now in
+    let ns = c.as_slice-references.result.now in
     gathered-are p kept loaded c.args.method ns c.add_all_begun.new.found
     (λ x. ap (is_among x) c.in_ok-lineage.ensures.loaded ∙ adds-all [] loaded x)
-    (c.as_slice-namings.ensures ∙ (c.in_ok-namings.ensures ∙ ap (λ q. symbolic_references_of (operations_of q c.args.method)) c.program-2.ensures))
+    (c.as_slice-references.ensures ∙ (c.in_ok-references.ensures ∙ ap (λ q. symbolic_references_of (operations_of q c.args.method)) c.program-2.ensures))
     (subst (λ l. Adds l c.add_all_begun.new.found (flat_map (begun_by p kept) ns)) c.new-found.ensures c.in_ok-add_all_begun.ensures)

@@ -7,13 +7,13 @@ use Rattle.symbolic_references.proofs.attempting.attempt.Goals as goal
 pub do_found-requires-clause-objects : goal.do_found-requires-clause-objects
 do_found-requires-clause-objects c =
     objects_later c.args.linker.now c.find.new.linker
-    (newly_loaded c.args.linker.now.program c.args.shared.now.loaded c.args.naming.now (top_operands c.args.frames.now.frames))
+    (newly_loaded c.args.linker.now.program c.args.shared.now.loaded c.args.reference.now (top_operands c.args.frames.now.frames))
     (is_more c.args.linker.now c.find.new.linker c.args.shared.now.loaded c.find.new.loaded
-    (newly_loaded c.args.linker.now.program c.args.shared.now.loaded c.args.naming.now (top_operands c.args.frames.now.frames))
+    (newly_loaded c.args.linker.now.program c.args.shared.now.loaded c.args.reference.now (top_operands c.args.frames.now.frames))
     c.requires.linked c.in_ok-found.ensures.loaded c.in_ok-found.ensures.linker)
     c.args.shared.now.heap c.requires.objects
 
 pub do_found-requires-clause-loads : goal.do_found-requires-clause-loads
 do_found-requires-clause-loads c =
-    loads-in c.args.linker.now c.find.new.linker c.args.shared.now.loaded c.find.new.loaded c.args.naming.now
+    loads-in c.args.linker.now c.find.new.linker c.args.shared.now.loaded c.find.new.loaded c.args.reference.now
     (top_operands c.args.frames.now.frames) c.in_ok-found.ensures.linker c.in_ok-found.ensures.loaded

@@ -10,9 +10,9 @@ use Rattle.symbolic_references.proofs.attempting.attempt_known.Goals as goal
 pub returns-clause-answer : goal.returns-clause-answer
 returns-clause-answer c =
     let w = world_over c.args.linker.now c.args.input.now in
-    let n = c.args.naming.now in
+    let n = c.args.reference.now in
     let f = c.args.frames.now in
-    let does : resolves c.args.naming.now (top_operands c.args.frames.now.frames) ≡ true = search rules in
+    let does : resolves c.args.reference.now (top_operands c.args.frames.now.frames) ≡ true = search rules in
     answers_by c.do_resolved.result (does_resolved w c.args.known.now.kind n c.args.shared.now) (attempts w n c.args.shared.now f) f
     (done_again c.args.linker.now c.args.input.now n c.args.known.now c.args.shared.now f c.requires.linked c.requires.known does)
     c.do_resolved.ensures.answer
@@ -20,9 +20,9 @@ returns-clause-answer c =
 pub returns-clause-frames : goal.returns-clause-frames
 returns-clause-frames c =
     let w = world_over c.args.linker.now c.args.input.now in
-    let n = c.args.naming.now in
+    let n = c.args.reference.now in
     let f = c.args.frames.now in
-    let does : resolves c.args.naming.now (top_operands c.args.frames.now.frames) ≡ true = search rules in
+    let does : resolves c.args.reference.now (top_operands c.args.frames.now.frames) ≡ true = search rules in
     moves_by c.do_resolved.result (does_resolved w c.args.known.now.kind n c.args.shared.now) (attempts w n c.args.shared.now f) f
     (done_again c.args.linker.now c.args.input.now n c.args.known.now c.args.shared.now f c.requires.linked c.requires.known does)
     c.do_resolved.new.frames c.args.next c.do_resolved.ensures.frames
@@ -30,9 +30,9 @@ returns-clause-frames c =
 pub returns-clause-shared : goal.returns-clause-shared
 returns-clause-shared c =
     let w = world_over c.args.linker.now c.args.input.now in
-    let n = c.args.naming.now in
+    let n = c.args.reference.now in
     let f = c.args.frames.now in
-    let does : resolves c.args.naming.now (top_operands c.args.frames.now.frames) ≡ true = search rules in
+    let does : resolves c.args.reference.now (top_operands c.args.frames.now.frames) ≡ true = search rules in
     shares_by c.do_resolved.result (does_resolved w c.args.known.now.kind n c.args.shared.now) (attempts w n c.args.shared.now f) f
     (done_again c.args.linker.now c.args.input.now n c.args.known.now c.args.shared.now f c.requires.linked c.requires.known does)
     c.do_resolved.new.shared c.do_resolved.ensures.shared
@@ -40,9 +40,9 @@ returns-clause-shared c =
 pub returns-clause-output : goal.returns-clause-output
 returns-clause-output c =
     let w = world_over c.args.linker.now c.args.input.now in
-    let n = c.args.naming.now in
+    let n = c.args.reference.now in
     let f = c.args.frames.now in
-    let does : resolves c.args.naming.now (top_operands c.args.frames.now.frames) ≡ true = search rules in
+    let does : resolves c.args.reference.now (top_operands c.args.frames.now.frames) ≡ true = search rules in
     writes_by c.do_resolved.result (does_resolved w c.args.known.now.kind n c.args.shared.now) (attempts w n c.args.shared.now f) f
     (done_again c.args.linker.now c.args.input.now n c.args.known.now c.args.shared.now f c.requires.linked c.requires.known does)
     c.do_resolved.new.output c.args.output.now c.do_resolved.ensures.output

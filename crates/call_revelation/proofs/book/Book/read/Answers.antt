@@ -14,8 +14,8 @@ returns-clause-book c =
     let book = c.args.self.now in
     let waiting = c.note_uses.new.lists in
     let calls = c.note_uses-2.new.lists in
-    book-kept c.args.linker.now.program book.codes book.waiting.items book.calls.items c.requires.book c.args.method c.in_ok-namings.namings
-    (subst (λ n. c.args.method < n) (sym c.requires.book.methods) c.requires.method) (c.in_ok-namings.ensures ∙ ap (λ q. symbolic_references_of (operations_of q c.args.method)) c.program.ensures)
+    book-kept c.args.linker.now.program book.codes book.waiting.items book.calls.items c.requires.book c.args.method c.in_ok-references.references
+    (subst (λ n. c.args.method < n) (sym c.requires.book.methods) c.requires.method) (c.in_ok-references.ensures ∙ ap (λ q. symbolic_references_of (operations_of q c.args.method)) c.program.ensures)
     c.set.new.self (with_items book.waiting waiting).items (with_items book.calls calls).items c.set.ensures
     (with_items_is book.waiting waiting (omega (arith, c.in_ok-note_uses.ensures.more.places, ap length c.as_mut_slice.ensures.value, book.waiting.ok.0))
     ∙ (c.in_ok-note_uses.ensures.noted
@@ -28,12 +28,12 @@ pub returns-clause-has : goal.returns-clause-has
 returns-clause-has c =
     let book = c.args.self.now in
     ap (λ codes. is_some (code_at codes c.args.method)) c.set.ensures
-    ∙ has-read c.args.linker.now.program book.codes book.waiting.items book.calls.items c.requires.book c.args.method c.in_ok-namings.namings
-    (subst (λ n. c.args.method < n) (sym c.requires.book.methods) c.requires.method) (c.in_ok-namings.ensures ∙ ap (λ q. symbolic_references_of (operations_of q c.args.method)) c.program.ensures)
+    ∙ has-read c.args.linker.now.program book.codes book.waiting.items book.calls.items c.requires.book c.args.method c.in_ok-references.references
+    (subst (λ n. c.args.method < n) (sym c.requires.book.methods) c.requires.method) (c.in_ok-references.ensures ∙ ap (λ q. symbolic_references_of (operations_of q c.args.method)) c.program.ensures)
 
 pub returns-clause-kept : goal.returns-clause-kept
 returns-clause-kept c = λ m h.
     let book = c.args.self.now in
     ap (λ codes. is_some (code_at codes m)) c.set.ensures
-    ∙ still-read c.args.linker.now.program book.codes book.waiting.items book.calls.items c.requires.book c.args.method c.in_ok-namings.namings
-    (subst (λ n. c.args.method < n) (sym c.requires.book.methods) c.requires.method) (c.in_ok-namings.ensures ∙ ap (λ q. symbolic_references_of (operations_of q c.args.method)) c.program.ensures) m h
+    ∙ still-read c.args.linker.now.program book.codes book.waiting.items book.calls.items c.requires.book c.args.method c.in_ok-references.references
+    (subst (λ n. c.args.method < n) (sym c.requires.book.methods) c.requires.method) (c.in_ok-references.ensures ∙ ap (λ q. symbolic_references_of (operations_of q c.args.method)) c.program.ensures) m h

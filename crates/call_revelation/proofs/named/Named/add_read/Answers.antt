@@ -12,9 +12,9 @@ returns-clause-called c =
     let p = c.args.linker.now.program in
     let old = c.args.self.now.classes in
     let new = c.add_all_called.new.self in
-    let made = flat_map (called_class p) c.as_slice-namings.result.now in
+    let made = flat_map (called_class p) c.as_slice-references.result.now in
     let to : Adds old new.classes made → HasCalled p new c.args.method =
     λ adds class h. adds class ∙ or-later (is_among class old) (is_among class made)
     (ap (λ l. is_among class (flat_map (called_class p) l))
-    (c.as_slice-namings.ensures ∙ c.requires.book.read c.args.method c.in-Some.namings.now (sym c.in-Some.ensures)) ∙ h) in
+    (c.as_slice-references.ensures ∙ c.requires.book.read c.args.method c.in-Some.references.now (sym c.in-Some.ensures)) ∙ h) in
     on_ok_weaker c.add_all_called.result to c.add_all_called.ensures.called

@@ -10,7 +10,7 @@ pub add_begun-requires-clause-caller : goal.add_begun-requires-clause-caller
 add_begun-requires-clause-caller c =
     let r = c.args.self.now in
     caller-there c.args.linker.now.program c.args.linker.now.loaded r.book.codes r.book.waiting.items r.book.calls.items c.requires.kept.book c.requires.kept.fit
-    c.args.u c.in-Some.naming.now c.in-Some.ensures.naming
+    c.args.u c.in-Some.reference.now c.in-Some.ensures.reference
     (λ place e. c.requires.ahead.loaded place.class (c.requires.kept.callers c.args.u.caller c.in-Some.ensures.entered place e))
 
 pub returns-in-Some : goal.returns-in-Some

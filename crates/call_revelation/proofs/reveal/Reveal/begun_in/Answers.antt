@@ -14,15 +14,15 @@ add_all_begun-requires-clause-callers c =
     let p = c.args.linker.now.program in
     let loaded = c.args.linker.now.loaded in
     let book = c.args.self.now.book in
-    subst (AllByRecursion (λ (n : SymbolicReference). HasLoadedCaller p loaded n)) (sym c.as_slice-namings.ensures)
-    (callers-there p loaded book.codes book.waiting.items book.calls.items c.requires.kept.book c.requires.kept.fit c.args.method c.in-Some.namings.now
+    subst (AllByRecursion (λ (n : SymbolicReference). HasLoadedCaller p loaded n)) (sym c.as_slice-references.ensures)
+    (callers-there p loaded book.codes book.waiting.items book.calls.items c.requires.kept.book c.requires.kept.fit c.args.method c.in-Some.references.now
     (sym c.in-Some.ensures) (λ place e. c.requires.ahead.loaded place.class (c.requires.class place e)))
 
 pub returns : goal.returns
 returns c =
     let p = c.args.linker.now.program in
     let loaded = c.args.self.now.lineage.loaded in
-    let ns = c.as_slice-namings.result.now in
+    let ns = c.as_slice-references.result.now in
     gathered-are p loaded loaded c.args.method ns c.add_all_begun.new.found (λ x. refl)
-    (c.as_slice-namings.ensures ∙ c.requires.kept.book.read c.args.method c.in-Some.namings.now (sym c.in-Some.ensures))
+    (c.as_slice-references.ensures ∙ c.requires.kept.book.read c.args.method c.in-Some.references.now (sym c.in-Some.ensures))
     (subst (λ l. Adds l c.add_all_begun.new.found (flat_map (begun_by p loaded) ns)) c.new-found.ensures c.in_ok-add_all_begun.ensures)

@@ -21,7 +21,7 @@ pub known_call-requires-clause-linked : goal.known_call-requires-clause-linked
 known_call-requires-clause-linked c = ap (λ (v : LinkerView). v.loaded) c.linker-linker.ensures ∙ c.requires.linked
 
 pub known_call-requires-clause-known : goal.known_call-requires-clause-known
-known_call-requires-clause-known c = subst (λ v. IsKnown v c.args.naming.now c.args.known.now) (sym c.linker-linker.ensures) c.requires.known
+known_call-requires-clause-known c = subst (λ v. IsKnown v c.args.reference.now c.args.known.now) (sym c.linker-linker.ensures) c.requires.known
 
 pub known_call-requires-clause-objects : goal.known_call-requires-clause-objects
 known_call-requires-clause-objects c =
@@ -35,28 +35,28 @@ known_call-requires-clause-selections c =
 pub do_native-requires-clause-stands : goal.do_native-requires-clause-stands
 do_native-requires-clause-stands c =
     (native-there (c.known_call.result) c.in-Some.invoked c.in-Native.native c.in-Some.is c.in-Native.is
-    (λ x. IsInvoked (world_over c.linker-linker.result.now []) x (done_on (attempts (world_over c.linker-linker.result.now []) c.args.naming.now c.args.parts.now.shared
+    (λ x. IsInvoked (world_over c.linker-linker.result.now []) x (done_on (attempts (world_over c.linker-linker.result.now []) c.args.reference.now c.args.parts.now.shared
     c.args.parts.now.frames) c.args.parts.now.frames) c.args.parts.now.shared c.args.parts.now.frames.frames) (c.known_call.ensures.called [])).stands
 
 pub do_native-requires-clause-within : goal.do_native-requires-clause-within
 do_native-requires-clause-within c =
     (native-there (c.known_call.result) c.in-Some.invoked c.in-Native.native c.in-Some.is c.in-Native.is
-    (λ x. IsInvoked (world_over c.linker-linker.result.now []) x (done_on (attempts (world_over c.linker-linker.result.now []) c.args.naming.now c.args.parts.now.shared
+    (λ x. IsInvoked (world_over c.linker-linker.result.now []) x (done_on (attempts (world_over c.linker-linker.result.now []) c.args.reference.now c.args.parts.now.shared
     c.args.parts.now.frames) c.args.parts.now.frames) c.args.parts.now.shared c.args.parts.now.frames.frames) (c.known_call.ensures.called [])).within
 
 pub returns-in-Code : goal.returns-in-Code
 returns-in-Code c =
     let w = c.args.originals.now.setup in
     let p = c.args.parts.now in
-    let n = c.args.naming.now in
+    let n = c.args.reference.now in
     let said = subst (λ o. IfSome o (λ x. IsInvoked (world_over c.linker-linker.result.now w.world.input) x (done_on (attempts (world_over c.linker-linker.result.now w.world.input) n p.shared p.frames) p.frames) p.shared
     p.frames.frames)) c.in-Some.is (c.known_call.ensures.called w.world.input) in
     let code = subst (λ x. IsInvoked (world_over c.linker-linker.result.now w.world.input) x (done_on (attempts (world_over c.linker-linker.result.now w.world.input) n p.shared p.frames) p.frames) p.shared
     p.frames.frames) c.in-Code.is said in
     let call = subst (λ v. IsCall c.in-Code.call (done_on (attempts (world_over v w.world.input) n p.shared p.frames) p.frames) p.shared) c.linker-linker.ensures code in
     let silent = subst (λ (v : LinkerView). loads_nothing v.program p.shared.loaded n (top_operands p.frames.frames) ≡ true) c.linker-linker.ensures c.known_call.ensures.loads in
-    let nothing = nothing-new w c.requires.run c.args.initializing.now c.args.here c.args.line.now c.args.naming.now p c.requires.here c.requires.line c.requires.named c.requires.at_instruction silent in
-    called-onward w c.requires.run c.args.initializing.now c.args.here c.args.line.now c.args.naming.now p c.requires.here c.requires.line c.requires.named c.requires.at_instruction nothing
+    let nothing = nothing-new w c.requires.run c.args.initializing.now c.args.here c.args.line.now c.args.reference.now p c.requires.here c.requires.line c.requires.named c.requires.at_instruction silent in
+    called-onward w c.requires.run c.args.initializing.now c.args.here c.args.line.now c.args.reference.now p c.requires.here c.requires.line c.requires.named c.requires.at_instruction nothing
     c.in-Code.call c.begin_call.result c.begin_call.new.parts call c.begin_call.ensures.few c.begin_call.ensures.fits c.begin_call.ensures.due c.begin_call.ensures.frames
     c.begin_call.ensures.same
 
@@ -64,7 +64,7 @@ pub returns-in-Native : goal.returns-in-Native
 returns-in-Native c =
     let w = c.args.originals.now.setup in
     let p = c.args.parts.now in
-    let n = c.args.naming.now in
+    let n = c.args.reference.now in
     let said = subst (λ o. IfSome o (λ x. IsInvoked (world_over c.linker-linker.result.now w.world.input) x (done_on (attempts (world_over c.linker-linker.result.now w.world.input) n p.shared p.frames) p.frames) p.shared
     p.frames.frames)) c.in-Some.is (c.known_call.ensures.called w.world.input) in
     let native = subst (λ x. IsInvoked (world_over c.linker-linker.result.now w.world.input) x (done_on (attempts (world_over c.linker-linker.result.now w.world.input) n p.shared p.frames) p.frames) p.shared
@@ -73,7 +73,7 @@ returns-in-Native c =
     c.linker-linker.ensures native in
     let silent = subst (λ (v : LinkerView). loads_nothing v.program p.shared.loaded n (top_operands p.frames.frames) ≡ true) c.linker-linker.ensures c.known_call.ensures.loads in
     let passes =
-    native-passes w c.requires.run c.args.initializing.now c.args.here c.args.line.now c.args.naming.now p c.requires.here c.requires.line c.requires.named c.requires.at_instruction silent
+    native-passes w c.requires.run c.args.initializing.now c.args.here c.args.line.now c.args.reference.now p c.requires.here c.requires.line c.requires.named c.requires.at_instruction silent
     c.do_native.result c.do_native.new.parts
     (subst (λ d. IfRan c.do_native.result d c.args.line.now.next (changed_in p) (changed_in c.do_native.new.parts)) (sym call.runs) c.do_native.ensures.ran)
     c.do_native.ensures.same in
