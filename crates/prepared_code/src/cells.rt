@@ -39,7 +39,7 @@ fn lengthen(row: &mut Seq<Option<Known>>, place: u16) -> Result<(), NoMemory>
 }
 
 /// Writes what is known at a place of a row that is long enough.
-#[tactic(auto, using(crate::proofs::CellLemmas::item_put, crate::proofs::CellLemmas::item_same))]
+#[tactic(auto, using(crate::proofs::Lines::CellLemmas::item_put, crate::proofs::Lines::CellLemmas::item_same))]
 fn set_item(row: &mut Seq<Option<Known>>, place: u16, known: Known)
     ensures { KeepsItem place known row.old row.new }
 {
@@ -49,7 +49,7 @@ fn set_item(row: &mut Seq<Option<Known>>, place: u16, known: Known)
 }
 
 /// Keeps what is known at a place of a row, unless memory runs out.
-#[tactic(auto, using(crate::proofs::CellLemmas::item_behind, crate::proofs::CellLemmas::item_kept))]
+#[tactic(auto, using(crate::proofs::Lines::CellLemmas::item_behind, crate::proofs::Lines::CellLemmas::item_kept))]
 fn put_item(row: &mut Seq<Option<Known>>, place: u16, known: Known)
     ensures { KeepsItem place known row.old row.new }
 {
@@ -98,7 +98,7 @@ fn add_rows(
 }
 
 /// Keeps what is known at a place of a version that has a row.
-#[tactic(auto, using(crate::proofs::CellLemmas::cell_put, crate::proofs::CellLemmas::keeps_same))]
+#[tactic(auto, using(crate::proofs::Lines::CellLemmas::cell_put, crate::proofs::Lines::CellLemmas::keeps_same))]
 fn put_cell(rows: &mut [Seq<Option<Known>>], version: usize, place: u16, known: Known)
     ensures { Keeps version place known rows.old rows.new }
 {
@@ -135,7 +135,7 @@ impl Cells {
 
     /// Keeps what is known at a place of a version. Where memory runs out it is not kept.
     #[inline(never)]
-    #[tactic(auto, using(crate::proofs::CellLemmas::cells_same, crate::proofs::CellLemmas::keeps_behind))]
+    #[tactic(auto, using(crate::proofs::Lines::CellLemmas::cells_same, crate::proofs::Lines::CellLemmas::keeps_behind))]
     fn put(&mut self, alloc: Global, version: usize, place: u16, known: Known)
         ensures { Keeps version place known self.old self.new }
     {
@@ -156,7 +156,7 @@ impl Cells {
 
     /// The same, where this was known before.
     #[inline(always)]
-    #[tactic(auto, using(crate::proofs::CellLemmas::keeps_same))]
+    #[tactic(auto, using(crate::proofs::Lines::CellLemmas::keeps_same))]
     pub fn renew(&mut self, alloc: Global, version: usize, place: u16, before: Known, known: Known)
         ensures { Keeps version place known self.old self.new }
     {

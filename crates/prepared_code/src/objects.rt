@@ -37,7 +37,7 @@ pub fn kind_for(program: &Program, name: &[u8]) -> u32
 }
 
 /// The position of the class of this name, found by hashing; 0 where there is none.
-#[tactic(auto, using(crate::proofs::Positions::position_within))]
+#[tactic(auto, using(crate::proofs::Lines::Positions::position_within))]
 fn position_named(index: &Index, name: &[u16]) -> u32
     requires { length index.now.classes < 2 ^ 24 }
     ensures class { result ≡ unwrap_or (class_named index.now name.now) 0 }

@@ -143,7 +143,7 @@ fn built_in_named(place: u16) -> &'static str
 
 /// Attempts a line that names something, and tells what its names came to; another one does nothing.
 #[inline(never)]
-#[tactic(auto, using(crate::proofs::CellLemmas::later_same, crate::proofs::CellLemmas::later_loaded))]
+#[tactic(auto, using(crate::proofs::Lines::CellLemmas::later_same, crate::proofs::Lines::CellLemmas::later_loaded))]
 fn attempt_line(
     alloc: Global,
     linker: &mut Linker,
@@ -196,7 +196,7 @@ fn attempt_line(
 
 /// The same in two parts: where it loads classes nothing else is done, and None is the answer.
 #[inline(never)]
-#[tactic(auto, using(crate::proofs::CellLemmas::later_same, crate::proofs::CellLemmas::later_loaded))]
+#[tactic(auto, using(crate::proofs::Lines::CellLemmas::later_same, crate::proofs::Lines::CellLemmas::later_loaded))]
 fn attempt_line_loaded(
     alloc: Global,
     linker: &mut Linker,

@@ -173,7 +173,7 @@ fn object_action(op: u8) -> Option<Action>
 }
 
 /// What an instruction of no family does, by the form of its operand.
-#[tactic(auto, using(crate::proofs::Actions::named_acted))]
+#[tactic(auto, using(crate::proofs::Lines::Actions::named_acted))]
 fn other_action(
     alloc: Global,
     class: &ClassFile,

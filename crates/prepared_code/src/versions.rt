@@ -172,7 +172,7 @@ pub fn current_of(versions: &Versions, method: u32) -> usize
 
 /// Whether a version is held, and its method begins in it.
 #[inline(always)]
-#[tactic(auto, using(crate::proofs::Superseded::is_current))]
+#[tactic(auto, using(crate::proofs::Tables::Superseded::is_current))]
 pub fn is_current(versions: &Versions, version: usize) -> bool
     ensures { result ≡ true
         → is_superseded_in versions.now.slots versions.now.current version ≡ false }

@@ -28,7 +28,7 @@ use Rattle.jvm_model.specs.Rewriting.Images.{is_off}
 use Rattle.jvm_model.proofs.Turns.GoesOn.{drop-passed}
 use Rattle.jvm_model.proofs.Events.Order.{run-ordered}
 use Rattle.jvm_model.proofs.Turns.Stops.{stop_from-is}
-use Rattle.jvm_machine.proofs.SeenLaws.{stop-tells, stop-lives, end-tells, end-lives, all-events, all-lives, first-loads}
+use Rattle.jvm_machine.proofs.Probes.SeenLaws.{stop-tells, stop-lives, end-tells, end-lives, all-events, all-lives, first-loads}
 use Rattle.jvm_model.specs.Soundness.Whole.{IsWhole}
 use Rattle.jvm_model.proofs.Revealing.Revealable.{calls-told, revealable}
 use Rattle.context_tree.proofs.Headline.{session-whole}

@@ -30,7 +30,7 @@ use Rattle.profile_session.specs.Turned.{events_in, is_telling, kept_turned}
 use Rattle.profile_session.proofs.Begun.{AllBegin, called-begin, drop-begin, from-stop}
 use Rattle.profile_session.proofs.Joins.{load-seen}
 use Rattle.profile_session.proofs.Steps.{begins, loads, opened, settles, told-clock, told-of, unopened}
-use Rattle.jvm_machine.proofs.SeenLaws.{stop-tells, stopped-busy}
+use Rattle.jvm_machine.proofs.Probes.SeenLaws.{stop-tells, stopped-busy}
 
 abbrev pub begun-is : (v : View) → is_resting v ≡ true → step_begun v ≡ clock_advanced v
 begun-is v e = ap (λ b. let r : View = if b then clock_advanced v else v in r) e

@@ -21,8 +21,8 @@ use Rattle.program_fit.specs.Runnable.{IsAdmitted}
 use Rattle.program_fit.proofs.Runs.{runnable}
 use Rattle.call_revelation.specs.declared.reveal.Reveal.{Reveal}
 use Rattle.call_revelation.specs.Reveals.{IsAhead, IsPrefix, IsRevelation, nothing_revealed, now_of}
-use Rattle.prepared_code.proofs.BuiltInLoads.{few-coded}
-use Rattle.call_revelation.proofs.Fronts.{front-among, front-more, front-self, front-then}
+use Rattle.prepared_code.proofs.Initializing.BuiltInLoads.{few-coded}
+use Rattle.call_revelation.proofs.Numbers.Fronts.{front-among, front-more, front-self, front-then}
 use Rattle.revelation_rows.specs.Scenes.{IsAlong, IsLinked, IsReady}
 
 -- ---- what is loaded more

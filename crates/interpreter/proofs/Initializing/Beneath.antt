@@ -20,9 +20,9 @@ use Rattle.prepared_code.specs.Initializations.{initializing_entry, initializati
 use Rattle.prepared_code.specs.States.{active, frame_in, here_of, state_in, state_with}
 use Rattle.interpreter.proofs.Loads.ActsLoad.{attempts-keep}
 use Rattle.interpreter.proofs.Initializing.Carried.{end-carried, goes_within, line-carried}
-use Rattle.prepared_code.proofs.InitializingStacks.{length-active}
+use Rattle.prepared_code.proofs.Initializing.InitializingStacks.{length-active}
 use Rattle.interpreter.proofs.Moves.LineSteps.{top-frame}
-use Rattle.prepared_code.proofs.InitializingStacks.{none-left, stack-empty, stack-on}
+use Rattle.prepared_code.proofs.Initializing.InitializingStacks.{none-left, stack-empty, stack-on}
 use Rattle.prepared_code.specs.Versions.{Setup, line_at}
 
 module _ (w : Setup) (line : Line) (ms : List Initialization) (p new : Parts) (method : ℕ) where

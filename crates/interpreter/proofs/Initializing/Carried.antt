@@ -35,7 +35,7 @@ use Rattle.prepared_code.specs.Initializations.{initializing_entry, initializati
 use Rattle.interpreter.specs.Moves.Settling.{after_move}
 use Rattle.prepared_code.specs.States.{active, frame_in, state_in}
 use Rattle.interpreter.proofs.Instructions.LineActs.{stays, throws-stays, watches-stays, measures-stays, loads-stays, makes-silent, stores-silent, string-silent}
-use Rattle.prepared_code.proofs.InitializingStacks.{length-active, none-more, none-left, stack-empty, stack-plain, stack-frame, live-stack}
+use Rattle.prepared_code.proofs.Initializing.InitializingStacks.{length-active, none-more, none-left, stack-empty, stack-plain, stack-frame, live-stack}
 use Rattle.prepared_code.specs.Tables.{Versions}
 use Rattle.prepared_code.specs.Versions.{Setup, listing_of, line_at, next_in}
 

@@ -27,7 +27,7 @@ use Rattle.interpreter.specs.Moves.Settling.{own_of}
 use Rattle.prepared_code.specs.States.{frame_in, here_of, state_in, state_with}
 use Rattle.interpreter.proofs.Instructions.Callees.{calls-is}
 use Rattle.interpreter.proofs.Initializing.Carried.{applies-carried}
-use Rattle.prepared_code.proofs.InitializingStacks.{length-active}
+use Rattle.prepared_code.proofs.Initializing.InitializingStacks.{length-active}
 use Rattle.interpreter.proofs.Instructions.LineActs.{starts-some, stays}
 use Rattle.interpreter.proofs.Moves.LineSteps.{top-frame}
 use Rattle.interpreter.proofs.Instructions.NamedLaws.{Asks, IsNamed, is-named}

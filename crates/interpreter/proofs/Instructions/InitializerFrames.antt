@@ -20,8 +20,8 @@ use Rattle.prepared_code.specs.Initializations.{initialization_on, stack_of, sta
 use Rattle.prepared_code.specs.States.{active, state_in}
 use Rattle.interpreter.specs.Moves.Turning.{begun_in}
 use Rattle.interpreter.proofs.Instructions.Callees.{live-is}
-use Rattle.prepared_code.proofs.InitializingStacks.{length-active}
-use Rattle.prepared_code.proofs.InitializingStacks.{live-stack, stack-frame}
+use Rattle.prepared_code.proofs.Initializing.InitializingStacks.{length-active}
+use Rattle.prepared_code.proofs.Initializing.InitializingStacks.{live-stack, stack-frame}
 use Rattle.interpreter.specs.Instructions.Arguments.{frame_begun as placed, with_version_frame}
 use Rattle.prepared_code.specs.Versions.{Setup, listing_of}
 

@@ -25,7 +25,7 @@ use Rattle.interpreter.proofs.Moves.Followed.{paused-loaded}
 use Rattle.interpreter.proofs.Moves.PausesSound.{loaded-sound, moved-sound, tried-sound}
 use Rattle.interpreter.proofs.Loads.StartSound.{starts-sound}
 use Rattle.interpreter.proofs.Moves.TriedSteps.{no-classes}
-use Rattle.prepared_code.proofs.VersionsAgree.{versions-agree}
+use Rattle.prepared_code.proofs.Tables.VersionsAgree.{versions-agree}
 
 -- ---- the rest of the same step is in hand
 

@@ -30,12 +30,12 @@ use Rattle.prepared_code.specs.declared.parts.Parts.{Parts}
 use Rattle.interpreter.specs.Instructions.Acts.{acts, acts_asked, acts_by, acts_named, attempts_line, attempts_on, class_awaited, awaited_by, awaited_in, awaited_on, is_at_rest, goes_on_in, named_done, ready_for, with_done}
 use Rattle.prepared_code.specs.Initializations.{initializing_entry, initialization_on, stack_of, state_of}
 use Rattle.prepared_code.specs.States.{active, frame_in}
-use Rattle.prepared_code.proofs.InitializingStacks.{length-active}
+use Rattle.prepared_code.proofs.Initializing.InitializingStacks.{length-active}
 use Rattle.interpreter.proofs.Instructions.Initializations.{IsReadyAgain, ready-again, set-there}
 use Rattle.interpreter.proofs.Instructions.LineActs.{awaits-named, done_there, readied, starts-some, steps-as}
-use Rattle.prepared_code.proofs.InitializingStacks.{stack-empty, stack-frame, stack-on}
+use Rattle.prepared_code.proofs.Initializing.InitializingStacks.{stack-empty, stack-frame, stack-on}
 use Rattle.interpreter.proofs.Instructions.NamedLaws.{Asks, IsNamed, is-named}
-use Rattle.prepared_code.proofs.Tied.{Tie, tied-there}
+use Rattle.prepared_code.proofs.Lines.Tied.{Tie, tied-there}
 use Rattle.prepared_code.specs.Ready.{CanRun, IsTied}
 use Rattle.prepared_code.specs.Versions.{Setup, listing_of, line_at, instruction_by}
 

@@ -40,7 +40,7 @@ use Rattle.prepared_code.specs.Initializations.{initialization_on, stack_of, sta
 use Rattle.prepared_code.specs.States.{active, here_of}
 use Rattle.interpreter.proofs.Instructions.LineActs.{readied, done_there, steps-as, with-loaded}
 use Rattle.interpreter.proofs.Moves.LineSteps.{IsGoing, top-frame}
-use Rattle.prepared_code.proofs.Tied.{Tie, tied-there}
+use Rattle.prepared_code.proofs.Lines.Tied.{Tie, tied-there}
 use Rattle.prepared_code.specs.Versions.{Setup, listing_of, line_at, instruction_by}
 
 -- ---- what the linker asks for

@@ -49,13 +49,13 @@ use Rattle.interpreter.specs.Moves.Trying.{is_return_line, leaves_at, leaves_in,
 use Rattle.prepared_code.specs.Versions.{Setup, instruction_by, line_at, listing_of, mark_of}
 use Rattle.interpreter.proofs.Loads.ActsLoad.{named-loads}
 use Rattle.interpreter.proofs.Initializing.Behind.{sound-again, executing-again}
-use Rattle.prepared_code.proofs.InitializingStacks.{length-active}
+use Rattle.prepared_code.proofs.Initializing.InitializingStacks.{length-active}
 use Rattle.interpreter.proofs.Moves.Followed.{followed-loaded}
 use Rattle.interpreter.proofs.Instructions.InitializerFrames.{live-of}
 use Rattle.interpreter.proofs.Instructions.LineActs.{awaits-named, readied, steps-as}
 use Rattle.interpreter.proofs.Moves.LineSteps.{IsGoing, behind, going-on, stack-again, none-of, top-frame}
-use Rattle.prepared_code.proofs.InitializingStacks.{stack-empty, stack-on}
-use Rattle.prepared_code.proofs.Tied.{Tie, tied-there}
+use Rattle.prepared_code.proofs.Initializing.InitializingStacks.{stack-empty, stack-on}
+use Rattle.prepared_code.proofs.Lines.Tied.{Tie, tied-there}
 
 -- ---- what an operation loads
 

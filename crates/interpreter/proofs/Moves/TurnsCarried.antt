@@ -28,9 +28,9 @@ use Rattle.prepared_code.specs.States.{active, frame_in, here_of, state_in}
 use Rattle.interpreter.specs.Moves.Turning.{changes_of, due_by, found_move, moved_as, moved_if, moved_to, state_by}
 use Rattle.prepared_code.specs.Versions.{Setup, listing_of, mark_of}
 use Rattle.interpreter.proofs.Initializing.Carried.{IsCarried, move-carried}
-use Rattle.prepared_code.proofs.InitializingStacks.{length-active}
+use Rattle.prepared_code.proofs.Initializing.InitializingStacks.{length-active}
 use Rattle.interpreter.proofs.Moves.LineSteps.{top-frame}
-use Rattle.prepared_code.proofs.InitializingStacks.{none-left, stack-empty, stack-frame}
+use Rattle.prepared_code.proofs.Initializing.InitializingStacks.{none-left, stack-empty, stack-frame}
 
 -- ---- the live activations do not see the initializations
 

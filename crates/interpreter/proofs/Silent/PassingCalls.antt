@@ -57,7 +57,7 @@ use Rattle.interpreter.proofs.Instructions.Arguments.{height-reverse, length-slo
 use Rattle.interpreter.proofs.Instructions.Callees.{live-is, same-length}
 use Rattle.interpreter.proofs.Silent.Leading.{leads-one}
 use Rattle.interpreter.proofs.Moves.LineSteps.{top-frame}
-use Rattle.prepared_code.proofs.InitializingStacks.{live-stack, none-more}
+use Rattle.prepared_code.proofs.Initializing.InitializingStacks.{live-stack, none-more}
 use Rattle.interpreter.proofs.Instructions.NamedLaws.{Asks, Takes, is-named}
 use Rattle.interpreter.proofs.Silent.PassingSteps.{follows, is-attempt, is-awaited, is-step, reached, step-turn, under}
 use Rattle.interpreter.proofs.Silent.PlainSteps.{at-rest, framed}

@@ -25,7 +25,7 @@ use Rattle.interpreter.proofs.Instructions.Alone.{goes-next}
 use Rattle.interpreter.proofs.Silent.Leading.{leads-one, quiet-one}
 use Rattle.interpreter.proofs.Silent.QuietLines.{quiet-step}
 use Rattle.interpreter.proofs.Initializing.Carried.{comes-carried}
-use Rattle.prepared_code.proofs.InitializingStacks.{length-active}
+use Rattle.prepared_code.proofs.Initializing.InitializingStacks.{length-active}
 use Rattle.interpreter.proofs.Moves.LineSteps.{going-on, rests, step-attempts, top-frame}
 use Rattle.prepared_code.specs.Versions.{Setup, listing_of, line_at, line_in}
 use Rattle.prepared_code.specs.Ready.{CanRun}

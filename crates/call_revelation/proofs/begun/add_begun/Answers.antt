@@ -3,7 +3,7 @@ use Rattle.std.specs.Prelude.{OnOk}
 use Rattle.jvm_model.specs.declared.instruction.SymbolicReference.TheVariants.{Invokespecial}
 use Rattle.jvm_model.specs.Profiling.Targets.{begun_by}
 use Rattle.call_revelation.specs.Tables.{Adds}
-use Rattle.call_revelation.proofs.BegunLemmas.{begun-by-name, is_special}
+use Rattle.call_revelation.proofs.References.BegunLemmas.{begun-by-name, is_special}
 use Rattle.call_revelation.proofs.begun.add_begun.Goals as goal
 
 pub returns-in-Invokespecial : goal.returns-in-Invokespecial

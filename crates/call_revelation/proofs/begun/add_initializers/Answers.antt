@@ -6,8 +6,8 @@ use Rattle.jvm_model.specs.Profiling.Targets.{initializers}
 use Rattle.class_index.specs.Orders.{with_classes}
 use Rattle.call_revelation.specs.Lineages.{initializer_in}
 use Rattle.call_revelation.specs.Tables.{Adds}
-use Rattle.call_revelation.proofs.Adding.{adds-alike, adds-equal}
-use Rattle.call_revelation.proofs.BegunLemmas.{initializers-of}
+use Rattle.call_revelation.proofs.Numbers.Adding.{adds-alike, adds-equal}
+use Rattle.call_revelation.proofs.References.BegunLemmas.{initializers-of}
 use Rattle.const_pool.specs.References.{NameAndType}
 use Rattle.call_revelation.proofs.begun.add_initializers.Goals as goal
 

@@ -6,8 +6,8 @@ use Rattle.class_index.specs.Orders.{with_classes}
 use Rattle.symbolic_references.specs.Members.{at_place}
 use Rattle.call_revelation.specs.Lineages.{selecting, selection_of}
 use Rattle.call_revelation.specs.Tables.{Adds}
-use Rattle.call_revelation.proofs.Adding.{adds-alike, adds-equal}
-use Rattle.call_revelation.proofs.BegunLemmas.{selections-of}
+use Rattle.call_revelation.proofs.Numbers.Adding.{adds-alike, adds-equal}
+use Rattle.call_revelation.proofs.References.BegunLemmas.{selections-of}
 use Rattle.call_revelation.proofs.begun.add_selections.Goals as goal
 
 pub returns : goal.returns

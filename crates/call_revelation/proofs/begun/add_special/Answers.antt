@@ -4,7 +4,7 @@ use Rattle.std.specs.Option.{option_map_or}
 use Rattle.jvm_model.specs.Instructions.InvocationRules.{Special}
 use Rattle.jvm_model.specs.Profiling.Targets.{begun_on, class_with_methods}
 use Rattle.call_revelation.specs.Tables.{Adds}
-use Rattle.call_revelation.proofs.Adding.{adds-nothing}
+use Rattle.call_revelation.proofs.Numbers.Adding.{adds-nothing}
 use Rattle.call_revelation.proofs.begun.add_special.Goals as goal
 
 pub returns-in-Some : goal.returns-in-Some

@@ -1,7 +1,7 @@
 use Rattle.std.proofs.Common.{◌≡◌, ◌+◌, ◌∷◌, drop, map, ap, sym, subst, ◌∙◌}
 use Rattle.std.proofs.lemmas.List.{drop_more}
 use Rattle.call_revelation.specs.Books.{HasMore, use_of, with_noted, with_uses}
-use Rattle.call_revelation.proofs.BookLemmas.{more-then, noted-more}
+use Rattle.call_revelation.proofs.References.BookLemmas.{more-then, noted-more}
 use Rattle.call_revelation.proofs.book.note_uses.Goals as goal
 
 pub loop-at-preserved : goal.loop-at-preserved

@@ -2,7 +2,7 @@ use Rattle.std.proofs.Common.{◌-◌, ◌++◌, map, sym, ap, ◌∙◌, arith}
 use Rattle.std.specs.Option.{option_to_list}
 use Rattle.code_model.proofs.Readings.{end_of-within}
 use Rattle.call_revelation.specs.CodeReferences.{references_in_code, symbolic_references_from}
-use Rattle.call_revelation.proofs.ReferenceSteps.{one-more}
+use Rattle.call_revelation.proofs.References.ReferenceSteps.{one-more}
 use Rattle.call_revelation.proofs.code_references.references_in_code.Goals as goal
 
 pub next_offset-at-requires : goal.next_offset-at-requires

@@ -1,5 +1,5 @@
 use Rattle.std.proofs.Common.{sym, ◌∙◌}
-use Rattle.call_revelation.proofs.LineReferences.{line-begins}
+use Rattle.call_revelation.proofs.References.LineReferences.{line-begins}
 use Rattle.call_revelation.proofs.code_references.symbolic_reference_of.Goals as goal
 
 pub returns-in-Some : goal.returns-in-Some

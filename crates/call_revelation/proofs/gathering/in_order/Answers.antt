@@ -1,6 +1,6 @@
 use Rattle.std.proofs.Common.{sym, ◌∙◌}
 use Rattle.jvm_model.specs.Classes.Load.{is_among}
-use Rattle.call_revelation.proofs.Rising.{one-kept, one-left}
+use Rattle.call_revelation.proofs.Numbers.Rising.{one-kept, one-left}
 use Rattle.call_revelation.proofs.gathering.in_order.Goals.{else-has, then-has+in_ok-push}
 use Rattle.call_revelation.proofs.gathering.in_order.Goals as goal
 

@@ -3,8 +3,8 @@ use Rattle.std.specs.Prelude.{replicate}
 use Rattle.jvm_model.specs.declared.program.Program.{Program}
 use Rattle.std.specs.List.{AllByRecursion}
 use Rattle.class_linker.specs.Linkers.{IsLoaded}
-use Rattle.call_revelation.proofs.LineageLemmas.{nothing-loaded}
-use Rattle.call_revelation.proofs.TargetLemmas.{all-among}
+use Rattle.call_revelation.proofs.Classes.LineageLemmas.{nothing-loaded}
+use Rattle.call_revelation.proofs.References.TargetLemmas.{all-among}
 use Rattle.call_revelation.proofs.gathering.lineage_of.Goals as goal
 
 pub add_classes-requires : goal.add_classes-requires

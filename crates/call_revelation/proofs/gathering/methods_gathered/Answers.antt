@@ -7,9 +7,9 @@ use Rattle.jvm_model.specs.Profiling.Targets.{begun_by, operations_of}
 use Rattle.jvm_model.specs.Profiling.Revelation.{symbolic_references_of}
 use Rattle.symbolic_references.specs.Numbers.{AreNumbers}
 use Rattle.call_revelation.specs.Tables.{Adds}
-use Rattle.call_revelation.proofs.Adding.{adds-all}
-use Rattle.call_revelation.proofs.CallerLemmas.{callers-loaded}
-use Rattle.call_revelation.proofs.TargetLemmas.{gathered-are}
+use Rattle.call_revelation.proofs.Numbers.Adding.{adds-all}
+use Rattle.call_revelation.proofs.References.CallerLemmas.{callers-loaded}
+use Rattle.call_revelation.proofs.References.TargetLemmas.{gathered-are}
 use Rattle.call_revelation.proofs.gathering.methods_gathered.Goals as goal
 
 pub add_all_begun-requires-clause-known : goal.add_all_begun-requires-clause-known

@@ -1,7 +1,7 @@
 use Rattle.std.proofs.Common.{◌∙◌, subst, sym, ap}
 use Rattle.jvm_model.specs.Classes.Load.{is_among}
 use Rattle.call_revelation.specs.Tables.{IsRising}
-use Rattle.call_revelation.proofs.Rising.{among-range, rising-filter}
+use Rattle.call_revelation.proofs.Numbers.Rising.{among-range, rising-filter}
 use Rattle.call_revelation.proofs.gathering.targets.Goals as goal
 
 pub returns-clause-rising : goal.returns-clause-rising

@@ -2,7 +2,7 @@ use Rattle.std.proofs.Common.{◌≡◌, ◌+◌, drop, get_or, ap, sym, subst, 
 use Rattle.std.proofs.lemmas.List.{drop_more}
 use Rattle.call_revelation.specs.Lineages.{IsNoted, class_noted}
 use Rattle.call_revelation.specs.Tables.{with_item}
-use Rattle.call_revelation.proofs.LineageLemmas.{among-get, noted-more}
+use Rattle.call_revelation.proofs.Classes.LineageLemmas.{among-get, noted-more}
 use Rattle.call_revelation.proofs.lineage.note.Goals as goal
 
 pub loop-above-preserved : goal.loop-above-preserved

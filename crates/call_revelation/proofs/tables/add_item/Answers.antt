@@ -1,5 +1,5 @@
 use Rattle.std.proofs.Common.{arith}
-use Rattle.call_revelation.proofs.TableLemmas.{is_with_item, nothing_past}
+use Rattle.call_revelation.proofs.Numbers.TableLemmas.{is_with_item, nothing_past}
 use Rattle.call_revelation.proofs.tables.add_item.Goals as goal
 
 pub returns-in_ok-push : goal.returns-in_ok-push

@@ -1,4 +1,4 @@
-use Rattle.call_revelation.proofs.RankLemmas.{padded-more}
+use Rattle.call_revelation.proofs.Classes.RankLemmas.{padded-more}
 use Rattle.call_revelation.proofs.tables.make_room.Goals as goal
 
 pub loop-item-preserved : goal.loop-item-preserved

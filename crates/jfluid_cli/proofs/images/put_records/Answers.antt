@@ -3,8 +3,8 @@ use Rattle.std.proofs.lemmas.Option.{slice_get_read}
 use Rattle.std.specs.Io.KnownBytes.{append_known}
 use Rattle.jf_bytes.proofs.StreamLemmas.{append_known-append, PutsPrefix-second}
 use Rattle.jfluid_cli.specs.Images.{swap_record, swap_records}
-use Rattle.jfluid_cli.proofs.Outputs.{PutsPrefix-longer}
-use Rattle.jfluid_cli.proofs.Records.{records-front, records-more}
+use Rattle.jfluid_cli.proofs.Reports.Outputs.{PutsPrefix-longer}
+use Rattle.jfluid_cli.proofs.Reports.Records.{records-front, records-more}
 use Rattle.jfluid_cli.proofs.images.put_records.Goals as goal
 
 pub loop-swap-preserved : goal.loop-swap-preserved

@@ -9,10 +9,10 @@ use Rattle.jfluid_cli.specs.declared.refusal.Refusal.{Refusal}
 use Rattle.jfluid_cli.specs.Refusals.{status_of}
 use Rattle.jfluid_cli.specs.Stages.{IsBeforeTheRun}
 use Rattle.jfluid_cli.specs.Words.{Command, command_with}
-use Rattle.jfluid_cli.proofs.Admitted.{acts-in-order}
-use Rattle.jfluid_cli.proofs.Alternating.{acts-alternating}
-use Rattle.jfluid_cli.proofs.Early.{admission-calm, due-mainless, made-command}
-use Rattle.jfluid_cli.proofs.Generating.{due-generated, generation-fits, loaded-generated, made-generated}
+use Rattle.jfluid_cli.proofs.Runs.Admitted.{acts-in-order}
+use Rattle.jfluid_cli.proofs.Actions.Alternating.{acts-alternating}
+use Rattle.jfluid_cli.proofs.Runs.Early.{admission-calm, due-mainless, made-command}
+use Rattle.jfluid_cli.proofs.Files.Generating.{due-generated, generation-fits, loaded-generated, made-generated}
 use Rattle.jfluid_cli.proofs.loading.load_generated.Goals as goal
 
 pub admit_generated-requires-clause-some : goal.admit_generated-requires-clause-some

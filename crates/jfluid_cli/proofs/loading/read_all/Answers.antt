@@ -3,8 +3,8 @@ use Rattle.std.specs.List.{AllByRecursion}
 use Rattle.const_pool.specs.ClassFile.{IsClassFile}
 use Rattle.jfluid_cli.specs.Contents.{SpellsAlone, SpellAlone}
 use Rattle.jfluid_cli.specs.Stages.{IsUnread}
-use Rattle.jfluid_cli.proofs.Pairs.{zip-more, all-push}
-use Rattle.jfluid_cli.proofs.Spelled.{unread-at}
+use Rattle.jfluid_cli.proofs.Reports.Pairs.{zip-more, all-push}
+use Rattle.jfluid_cli.proofs.Files.Spelled.{unread-at}
 use Rattle.jfluid_cli.proofs.loading.read_all.Goals as goal
 
 pub returns-in-Err-clause-errors : goal.returns-in-Err-clause-errors

@@ -5,11 +5,11 @@ use Rattle.jfluid_cli.specs.Refusals.{status_of}
 use Rattle.jfluid_cli.specs.Stages.{IsBeforeTheRun}
 use Rattle.jfluid_cli.specs.Asking.{asked_for}
 use Rattle.jfluid_cli.specs.Contents.{SpellsAlone}
-use Rattle.jfluid_cli.proofs.Early.{admission-calm, due-admission, due-unread}
-use Rattle.jfluid_cli.proofs.Admitted.{acts-in-order, first-classes}
-use Rattle.jfluid_cli.proofs.Alternating.{acts-alternating}
-use Rattle.jfluid_cli.proofs.Pairs.{zip-length}
-use Rattle.jfluid_cli.proofs.Spelled.{spelled-program, spelled-alone}
+use Rattle.jfluid_cli.proofs.Runs.Early.{admission-calm, due-admission, due-unread}
+use Rattle.jfluid_cli.proofs.Runs.Admitted.{acts-in-order, first-classes}
+use Rattle.jfluid_cli.proofs.Actions.Alternating.{acts-alternating}
+use Rattle.jfluid_cli.proofs.Reports.Pairs.{zip-length}
+use Rattle.jfluid_cli.proofs.Files.Spelled.{spelled-program, spelled-alone}
 use Rattle.jfluid_cli.proofs.loading.read_program.Goals as goal
 
 pub admit-requires-clause-count : goal.admit-requires-clause-count

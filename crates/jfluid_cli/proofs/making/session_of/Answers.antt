@@ -2,7 +2,7 @@ use Rattle.std.proofs.Common.{◌≡◌, ℕ, List, ap, sym, subst, ◌∙◌}
 use Rattle.jvm_machine.specs.View.{View, machine_made}
 use Rattle.jvm_model.specs.declared.program.Program.{Program}
 use Rattle.profile_session.specs.Beginning.{CanBeProfiled}
-use Rattle.jfluid_cli.proofs.Profiled.{profiled}
+use Rattle.jfluid_cli.proofs.Runs.Profiled.{profiled}
 use Rattle.jfluid_cli.proofs.making.session_of.Goals as goal
 
 made-again : (v : View) (p : Program) (input : List ℕ) → v ≡ machine_made p input → v ≡ machine_made v.program v.input

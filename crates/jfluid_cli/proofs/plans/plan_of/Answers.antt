@@ -1,6 +1,6 @@
 use Rattle.std.proofs.lemmas.Result.{IfOk-weaker}
 use Rattle.command_line.specs.Words.{text}
-use Rattle.jfluid_cli.proofs.Alternating.{own-fine, plan-fine}
+use Rattle.jfluid_cli.proofs.Actions.Alternating.{own-fine, plan-fine}
 use Rattle.jfluid_cli.proofs.plans.plan_of.Goals as goal
 
 pub returns-in-Some-clause-alternate : goal.returns-in-Some-clause-alternate

@@ -2,7 +2,7 @@ use Rattle.std.proofs.Common.{List, ℕ, Ok, subst}
 use Rattle.plan_text.specs.Lines.{IsPlanRead}
 use Rattle.jfluid_cli.specs.Sinks.{files_view}
 use Rattle.jfluid_cli.specs.Stages.{IsTextRefusal}
-use Rattle.jfluid_cli.proofs.ToldPlans.{told-plan, told-fault, told-unfetched}
+use Rattle.jfluid_cli.proofs.Files.ToldPlans.{told-plan, told-fault, told-unfetched}
 use Rattle.jfluid_cli.proofs.plans.told_plan.Goals as goal
 
 pub returns-in-Err-clause-refused : goal.returns-in-Err-clause-refused

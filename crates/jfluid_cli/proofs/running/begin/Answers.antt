@@ -1,4 +1,4 @@
-use Rattle.jfluid_cli.proofs.Underway.{first-slice, taken-acts}
+use Rattle.jfluid_cli.proofs.Runs.Underway.{first-slice, taken-acts}
 use Rattle.jfluid_cli.proofs.running.begin.Goals as goal
 
 pub returns-clause-ok : goal.returns-clause-ok

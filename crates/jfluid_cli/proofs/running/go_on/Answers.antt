@@ -1,7 +1,7 @@
 use Rattle.std.proofs.Common.{subst}
 use Rattle.jf_bytes.specs.Streams.{PutsPrefix}
-use Rattle.jfluid_cli.proofs.Outputs.{front-longer}
-use Rattle.jfluid_cli.proofs.Underway.{one-slice, taken-acts, taken-written}
+use Rattle.jfluid_cli.proofs.Reports.Outputs.{front-longer}
+use Rattle.jfluid_cli.proofs.Runs.Underway.{one-slice, taken-acts, taken-written}
 use Rattle.jfluid_cli.proofs.running.go_on.Goals as goal
 
 pub returns-clause-ok : goal.returns-clause-ok

@@ -2,8 +2,8 @@ use Rattle.std.proofs.Common.{length, ap, arith, refl, sym, subst, ◌∙◌}
 use Rattle.jvm_model.specs.declared.program.Program.{Program}
 use Rattle.profile_session.specs.Sessions.{Profiling}
 use Rattle.jfluid_cli.specs.Actions.{CanBeTaken}
-use Rattle.jfluid_cli.proofs.ActionLemmas.{can-take, takes-one, takes-all, takes-end}
-use Rattle.jfluid_cli.proofs.Chosen.{due-fits}
+use Rattle.jfluid_cli.proofs.Actions.ActionLemmas.{can-take, takes-one, takes-all, takes-end}
+use Rattle.jfluid_cli.proofs.Actions.Chosen.{due-fits}
 use Rattle.jfluid_cli.proofs.running.take_due.Goals as goal
 
 pub take_act-requires-clause-can : goal.take_act-requires-clause-can

@@ -2,8 +2,8 @@ use Rattle.std.proofs.Common.{ap, refl, sym}
 use Rattle.std.specs.Prelude.{Ok}
 use Rattle.std.proofs.lemmas.Bool.{false≢true}
 use Rattle.command_line.specs.Words.{read_in, texts}
-use Rattle.jfluid_cli.proofs.Finished.{answered-run, answered-told, answered-words, called-line}
-use Rattle.jfluid_cli.proofs.OnDevices.{answered-from, carried-on}
+use Rattle.jfluid_cli.proofs.Reports.Finished.{answered-run, answered-told, answered-words, called-line}
+use Rattle.jfluid_cli.proofs.Reports.OnDevices.{answered-from, carried-on}
 use Rattle.jfluid_cli.proofs.top.answer_texts.Goals as goal
 
 pub returns-in-Err-clause-answered : goal.returns-in-Err-clause-answered

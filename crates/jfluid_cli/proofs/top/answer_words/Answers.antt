@@ -1,6 +1,6 @@
 use Rattle.std.proofs.lemmas.Bool.{false≢true}
-use Rattle.jfluid_cli.proofs.Finished.{answered-words}
-use Rattle.jfluid_cli.proofs.OnDevices.{answered-from}
+use Rattle.jfluid_cli.proofs.Reports.Finished.{answered-words}
+use Rattle.jfluid_cli.proofs.Reports.OnDevices.{answered-from}
 use Rattle.jfluid_cli.proofs.top.answer_words.Goals as goal
 
 pub returns-in-Err-clause-answered : goal.returns-in-Err-clause-answered

@@ -8,8 +8,8 @@ use Rattle.jfluid_cli.specs.Actions.{CanBeTaken}
 use Rattle.jfluid_cli.specs.Causes.{Given}
 use Rattle.jfluid_cli.specs.Runs.{RunsProgram}
 use Rattle.jfluid_cli.specs.Stages.{IsPrepared}
-use Rattle.jfluid_cli.proofs.Carried.{carried-refused, carried-input, carried-memory, carried-run, of-program, rest-of-input}
-use Rattle.jfluid_cli.proofs.OnDevices.{carried-from, carried-on}
+use Rattle.jfluid_cli.proofs.Runs.Carried.{carried-refused, carried-input, carried-memory, carried-run, of-program, rest-of-input}
+use Rattle.jfluid_cli.proofs.Reports.OnDevices.{carried-from, carried-on}
 use Rattle.jfluid_cli.proofs.top.carry_out.Goals as goal
 
 pub returns-in-Err-clause-carried : goal.returns-in-Err-clause-carried

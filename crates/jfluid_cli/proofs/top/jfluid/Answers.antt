@@ -3,8 +3,8 @@ use Rattle.std.proofs.Common.{◌≡◌, refl, sym, ap, ◌∙◌, inl, inr}
 use Rattle.std.specs.Prelude.{◌⊎◌, Ok}
 use Rattle.jfluid_cli.specs.declared.refusal.Refusal.{Refusal}
 use Rattle.jfluid_cli.specs.declared.refusal.Refusal.TheVariants.{NoMemory}
-use Rattle.jfluid_cli.proofs.Finished.{answered-words}
-use Rattle.jfluid_cli.proofs.OnDevices.{answered-of, answered-from}
+use Rattle.jfluid_cli.proofs.Reports.Finished.{answered-words}
+use Rattle.jfluid_cli.proofs.Reports.OnDevices.{answered-of, answered-from}
 use Rattle.jfluid_cli.proofs.top.jfluid.Goals as goal
 
 of-memory : (told : Refusal) → (told ≡ NoMemory) ⊎ (told ≡ NoMemory) → told ≡ NoMemory

@@ -3,8 +3,8 @@ use Rattle.profile_session.specs.Sessions.{Profiling}
 use Rattle.jfluid_cli.specs.declared.kept.Kept.{Kept}
 use Rattle.jfluid_cli.specs.Runs.{PutsAtMost}
 use Rattle.jfluid_cli.specs.Sinks.{DevicesView, Streams}
-use Rattle.jfluid_cli.proofs.Answered.{run-answer}
-use Rattle.jfluid_cli.proofs.OnDevices.{ran-from}
+use Rattle.jfluid_cli.proofs.Reports.Answered.{run-answer}
+use Rattle.jfluid_cli.proofs.Reports.OnDevices.{ran-from}
 use Rattle.jfluid_cli.proofs.top.run_made.Goals as goal
 
 pub returns-clause-run : goal.returns-clause-run

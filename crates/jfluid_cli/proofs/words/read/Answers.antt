@@ -1,7 +1,7 @@
 use Rattle.std.proofs.Common.{Err, subst}
 use Rattle.command_line.specs.declared.words.WordsError.{WordsError}
 use Rattle.command_line.specs.Words.{IsRead, read_in, texts}
-use Rattle.jfluid_cli.proofs.Accepted.{accepted-read, refused-rule}
+use Rattle.jfluid_cli.proofs.Commands.Accepted.{accepted-read, refused-rule}
 use Rattle.jfluid_cli.proofs.words.read.Goals as goal
 
 pub returns-in-Ok-clause-read : goal.returns-in-Ok-clause-read

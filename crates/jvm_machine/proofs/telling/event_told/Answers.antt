@@ -1,7 +1,7 @@
 use Rattle.std.proofs.Common.{Some, None, sym, ap, ◌∙◌}
 use Rattle.jvm_model.specs.Turns.Pauses.{begin_kind}
 use Rattle.prepared_code.specs.Versions.{mark_of}
-use Rattle.jvm_machine.proofs.ToldFrames.{told-by, told_here}
+use Rattle.jvm_machine.proofs.Probes.ToldFrames.{told-by, told_here}
 use Rattle.jvm_machine.proofs.telling.event_told.Goals as goal
 
 pub returns-in_err-here : goal.returns-in_err-here

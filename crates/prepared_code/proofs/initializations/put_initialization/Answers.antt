@@ -1,4 +1,4 @@
-use Rattle.prepared_code.proofs.InitializingParts.{marked-at, marked-below}
+use Rattle.prepared_code.proofs.Initializing.InitializingParts.{marked-at, marked-below}
 use Rattle.prepared_code.proofs.initializations.put_initialization.Goals as goal
 
 pub returns-clause-state : goal.returns-clause-state

@@ -1,6 +1,6 @@
 use Rattle.std.proofs.Common.{sym, ap, ◌∙◌}
 use Rattle.prepared_code.specs.Initializations.{initialization_on}
-use Rattle.prepared_code.proofs.InitializingParts.{taken}
+use Rattle.prepared_code.proofs.Initializing.InitializingParts.{taken}
 use Rattle.prepared_code.proofs.initializations.take_initialization.Goals as goal
 
 pub returns : goal.returns

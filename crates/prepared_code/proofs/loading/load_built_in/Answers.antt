@@ -1,5 +1,5 @@
 use Rattle.std.proofs.Common.{◌<◌, ◌∙◌, length, rules}
-use Rattle.prepared_code.proofs.BuiltInLoads.{loads-more}
+use Rattle.prepared_code.proofs.Initializing.BuiltInLoads.{loads-more}
 use Rattle.prepared_code.proofs.loading.load_built_in.Goals as goal
 
 pub loop-class-preserved : goal.loop-class-preserved

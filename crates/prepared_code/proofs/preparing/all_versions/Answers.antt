@@ -1,6 +1,6 @@
 use Rattle.std.proofs.Common.{Some, ap}
 use Rattle.prepared_code.specs.Making.{bare_slot}
-use Rattle.prepared_code.proofs.Tabled.{tabled-more}
+use Rattle.prepared_code.proofs.Tables.Tabled.{tabled-more}
 use Rattle.prepared_code.proofs.preparing.all_versions.Goals as goal
 
 pub loop-method-preserved : goal.loop-method-preserved

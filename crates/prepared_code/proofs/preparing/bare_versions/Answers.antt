@@ -4,7 +4,7 @@ use Rattle.method_versions.specs.Tables.{IsFirst}
 use Rattle.prepared_code.specs.Entries.{own_number}
 use Rattle.prepared_code.specs.Making.{bare_versions}
 use Rattle.prepared_code.specs.Tables.{Version}
-use Rattle.prepared_code.proofs.Made.{bare-first}
+use Rattle.prepared_code.proofs.Tables.Made.{bare-first}
 use Rattle.prepared_code.proofs.preparing.bare_versions.Goals as goal
 
 pub of-requires : goal.of-requires

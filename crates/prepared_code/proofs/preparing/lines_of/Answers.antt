@@ -1,5 +1,5 @@
 use Rattle.prepared_code.specs.Entries.{code_line}
-use Rattle.prepared_code.proofs.Tabled.{tabled-more}
+use Rattle.prepared_code.proofs.Tables.Tabled.{tabled-more}
 use Rattle.prepared_code.proofs.preparing.lines_of.Goals as goal
 
 pub loop-at-preserved : goal.loop-at-preserved

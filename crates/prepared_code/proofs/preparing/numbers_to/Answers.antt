@@ -1,6 +1,6 @@
 use Rattle.std.proofs.Common.{refl}
 use Rattle.prepared_code.specs.Entries.{own_number}
-use Rattle.prepared_code.proofs.Tabled.{tabled-more}
+use Rattle.prepared_code.proofs.Tables.Tabled.{tabled-more}
 use Rattle.prepared_code.proofs.preparing.numbers_to.Goals as goal
 
 pub loop-method-preserved : goal.loop-method-preserved

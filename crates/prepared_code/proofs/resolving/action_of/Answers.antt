@@ -2,7 +2,7 @@ use Rattle.std.proofs.Common.{ap, ◌∙◌}
 use Rattle.std.specs.Option.{option_map}
 use Rattle.jvm_model.specs.Codes.Lines.{operation_by}
 use Rattle.prepared_code.specs.Lines.{action_of}
-use Rattle.prepared_code.proofs.Actions.{family-acted}
+use Rattle.prepared_code.proofs.Lines.Actions.{family-acted}
 use Rattle.prepared_code.proofs.resolving.action_of.Goals as goal
 
 pub returns-in_default : goal.returns-in_default

@@ -1,5 +1,5 @@
 use Rattle.prepared_code.specs.Rewritten.{homed_line}
-use Rattle.prepared_code.proofs.Tabled.{tabled-more}
+use Rattle.prepared_code.proofs.Tables.Tabled.{tabled-more}
 use Rattle.prepared_code.proofs.rewritten.homed_lines.Goals as goal
 
 pub loop-home-preserved : goal.loop-home-preserved

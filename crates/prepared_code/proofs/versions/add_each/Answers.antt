@@ -3,7 +3,7 @@ use Rattle.std.proofs.lemmas.Iterator.Adapters.{YieldsList-from_vec}
 use Rattle.std.proofs.lemmas.Iterator.Consumers.{YieldsList-turn}
 use Rattle.std.proofs.lemmas.List.{length-append}
 use Rattle.prepared_code.specs.Tables.{table_seen}
-use Rattle.prepared_code.proofs.Added.{adds-count, adds-more, of-methods-at}
+use Rattle.prepared_code.proofs.Tables.Added.{adds-count, adds-more, of-methods-at}
 use Rattle.prepared_code.proofs.versions.add_each.Goals as goal
 
 pub add-requires-clause-method : goal.add-requires-clause-method

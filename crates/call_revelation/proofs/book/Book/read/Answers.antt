@@ -5,7 +5,7 @@ use Rattle.std.proofs.lemmas.List.{with_items_is}
 use Rattle.jvm_model.specs.Profiling.Revelation.{symbolic_references_of}
 use Rattle.jvm_model.specs.Profiling.Targets.{operations_of}
 use Rattle.call_revelation.specs.Books.{code_at, with_uses}
-use Rattle.call_revelation.proofs.BookLemmas.{book-kept, has-read, still-read}
+use Rattle.call_revelation.proofs.References.BookLemmas.{book-kept, has-read, still-read}
 use Rattle.call_revelation.proofs.book.Book.read.Goals as goal
 
 pub returns-clause-book : goal.returns-clause-book

@@ -2,7 +2,7 @@ use Rattle.std.proofs.Common.{◌≡◌, ◌∙◌, ap, sym, subst, arith}
 use Rattle.std.specs.Vec.{with_items}
 use Rattle.std.proofs.lemmas.List.{with_items_is}
 use Rattle.call_revelation.specs.Lineages.{IsNoted, class_noted}
-use Rattle.call_revelation.proofs.LineageLemmas.{lineage-more}
+use Rattle.call_revelation.proofs.Classes.LineageLemmas.{lineage-more}
 use Rattle.call_revelation.proofs.lineage.Lineage.add.Goals as goal
 
 pub returns-clause-lineage : goal.returns-clause-lineage

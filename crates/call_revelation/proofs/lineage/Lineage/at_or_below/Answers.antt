@@ -2,9 +2,9 @@ use Rattle.std.proofs.Common.{◌<◌, ap, get_or, length, subst, sym, ◌∙◌
 use Rattle.std.proofs.lemmas.Bool.{ltb-true}
 use Rattle.class_index.specs.Orders.{with_classes}
 use Rattle.call_revelation.specs.Tables.{list_at}
-use Rattle.call_revelation.proofs.Adding.{adds-equal}
-use Rattle.call_revelation.proofs.Fronts.{front-among}
-use Rattle.call_revelation.proofs.LineageLemmas.{followed-next}
+use Rattle.call_revelation.proofs.Numbers.Adding.{adds-equal}
+use Rattle.call_revelation.proofs.Numbers.Fronts.{front-among}
+use Rattle.call_revelation.proofs.Classes.LineageLemmas.{followed-next}
 use Rattle.call_revelation.proofs.lineage.Lineage.at_or_below.Goals as goal
 
 pub loop-at-preserved : goal.loop-at-preserved

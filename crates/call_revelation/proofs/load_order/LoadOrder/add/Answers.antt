@@ -2,7 +2,7 @@ use Rattle.std.proofs.Common.{◌≡◌, false, length, rules, subst, sym}
 use Rattle.std.specs.Prelude.{slice_set}
 use Rattle.jvm_model.specs.Classes.Load.{is_among}
 use Rattle.call_revelation.specs.Ranks.{IsRanked}
-use Rattle.call_revelation.proofs.RankLemmas.{ranked-more, ranked-padded}
+use Rattle.call_revelation.proofs.Classes.RankLemmas.{ranked-more, ranked-padded}
 use Rattle.call_revelation.proofs.load_order.LoadOrder.add.Goals as goal
 
 pub invariant_of-self : goal.invariant_of-self

@@ -1,6 +1,6 @@
 use Rattle.std.proofs.Common.{subst}
 use Rattle.call_revelation.specs.Ranks.{AreDistinct}
-use Rattle.call_revelation.proofs.RankLemmas.{distinct}
+use Rattle.call_revelation.proofs.Classes.RankLemmas.{distinct}
 use Rattle.call_revelation.proofs.load_order.LoadOrder.as_slice.Goals as goal
 
 pub returns-clause-distinct : goal.returns-clause-distinct

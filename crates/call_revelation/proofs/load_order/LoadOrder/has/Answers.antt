@@ -1,7 +1,7 @@
 use Rattle.std.proofs.Common.{◌≡◌, rules, ◌∙◌}
 use Rattle.std.specs.Prelude.{is_some}
 use Rattle.call_revelation.specs.Ranks.{rank_of}
-use Rattle.call_revelation.proofs.RankLemmas.{among-rank}
+use Rattle.call_revelation.proofs.Classes.RankLemmas.{among-rank}
 use Rattle.call_revelation.proofs.load_order.LoadOrder.has.Goals as goal
 
 pub returns : goal.returns

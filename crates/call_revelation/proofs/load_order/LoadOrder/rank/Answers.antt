@@ -1,7 +1,7 @@
 use Rattle.std.proofs.Common.{◌≡◌, false, ap, rules, sym, ◌∙◌}
 use Rattle.std.specs.Prelude.{Some, None, slice_get, ◌==◌}
 use Rattle.call_revelation.specs.Ranks.{rank_of}
-use Rattle.call_revelation.proofs.RankLemmas.{no-rank, not-that, other-rank, this-rank}
+use Rattle.call_revelation.proofs.Classes.RankLemmas.{no-rank, not-that, other-rank, this-rank}
 use Rattle.call_revelation.proofs.load_order.LoadOrder.rank.Goals as goal
 
 pub returns-in_err-rank : goal.returns-in_err-rank

@@ -3,7 +3,7 @@ use Rattle.std.specs.Vec.{with_items}
 use Rattle.std.proofs.lemmas.List.{with_items_is}
 use Rattle.jvm_model.specs.Classes.Load.{is_among}
 use Rattle.call_revelation.specs.Lineages.{IsClosed, IsNoted, class_noted}
-use Rattle.call_revelation.proofs.CalledLemmas.{handed-kept, handed-noted}
+use Rattle.call_revelation.proofs.References.CalledLemmas.{handed-kept, handed-noted}
 use Rattle.call_revelation.proofs.named.Named.add.Goals as goal
 
 pub returns-in_err-note-clause-handed : goal.returns-in_err-note-clause-handed

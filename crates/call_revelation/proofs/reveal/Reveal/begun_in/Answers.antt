@@ -5,8 +5,8 @@ use Rattle.jvm_model.specs.Soundness.Sound.{HasLoadedCaller}
 use Rattle.jvm_model.specs.Profiling.Targets.{begun_by}
 use Rattle.jvm_model.specs.declared.instruction.SymbolicReference.{SymbolicReference}
 use Rattle.call_revelation.specs.Tables.{Adds}
-use Rattle.call_revelation.proofs.Callers.{callers-there}
-use Rattle.call_revelation.proofs.TargetLemmas.{gathered-are}
+use Rattle.call_revelation.proofs.References.Callers.{callers-there}
+use Rattle.call_revelation.proofs.References.TargetLemmas.{gathered-are}
 use Rattle.call_revelation.proofs.reveal.Reveal.begun_in.Goals as goal
 
 pub add_all_begun-requires-clause-callers : goal.add_all_begun-requires-clause-callers

@@ -1,7 +1,7 @@
 use Rattle.std.proofs.Common.{ap, ap₂, ◌∙◌}
 use Rattle.std.specs.Prelude.{filter_map, slice_get}
 use Rattle.jvm_model.specs.Classes.Load.{is_among}
-use Rattle.call_revelation.proofs.Shown.{classes-changed}
+use Rattle.call_revelation.proofs.Revelations.Shown.{classes-changed}
 use Rattle.call_revelation.proofs.reveal.Reveal.changed.Goals as goal
 
 pub returns : goal.returns

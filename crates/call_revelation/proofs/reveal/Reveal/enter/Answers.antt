@@ -1,10 +1,10 @@
 use Rattle.std.proofs.Common.{◌∷◌, ap, subst, sym, ◌∙◌}
 use Rattle.class_index.specs.Orders.{with_classes}
 use Rattle.call_revelation.specs.Reveals.{IsGrown, IsRevelation}
-use Rattle.call_revelation.proofs.Adding.{adds-equal}
-use Rattle.call_revelation.proofs.Fronts.{front-self}
-use Rattle.call_revelation.proofs.Grown.{grown-more, grown-read, if-err}
-use Rattle.call_revelation.proofs.Marking.{entered-more, kept-named, kept-read, named-more}
+use Rattle.call_revelation.proofs.Numbers.Adding.{adds-equal}
+use Rattle.call_revelation.proofs.Numbers.Fronts.{front-self}
+use Rattle.call_revelation.proofs.Revelations.Grown.{grown-more, grown-read, if-err}
+use Rattle.call_revelation.proofs.Revelations.Marking.{entered-more, kept-named, kept-read, named-more}
 use Rattle.call_revelation.proofs.reveal.Reveal.enter.Goals as goal
 
 pub begun_in-requires-clause-kept : goal.begun_in-requires-clause-kept

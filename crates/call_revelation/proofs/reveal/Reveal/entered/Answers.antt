@@ -1,4 +1,4 @@
-use Rattle.call_revelation.proofs.Grown.{went-back}
+use Rattle.call_revelation.proofs.Revelations.Grown.{went-back}
 use Rattle.call_revelation.proofs.reveal.Reveal.entered.Goals as goal
 
 pub returns-in-Err-clause-revelation : goal.returns-in-Err-clause-revelation

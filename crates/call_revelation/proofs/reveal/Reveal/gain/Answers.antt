@@ -3,10 +3,10 @@ use Rattle.std.specs.Prelude.{flat_map}
 use Rattle.jvm_model.specs.Profiling.Targets.{begun_by}
 use Rattle.call_revelation.specs.Books.{called_from, of_entered}
 use Rattle.call_revelation.specs.Tables.{Adds, list_at}
-use Rattle.call_revelation.proofs.Callers.{gathered-both}
-use Rattle.call_revelation.proofs.CalledLemmas.{handed-with}
-use Rattle.call_revelation.proofs.Fronts.{fresh-with, front-if}
-use Rattle.call_revelation.proofs.Marking.{ahead-more, kept-loaded}
+use Rattle.call_revelation.proofs.References.Callers.{gathered-both}
+use Rattle.call_revelation.proofs.References.CalledLemmas.{handed-with}
+use Rattle.call_revelation.proofs.Numbers.Fronts.{fresh-with, front-if}
+use Rattle.call_revelation.proofs.Revelations.Marking.{ahead-more, kept-loaded}
 use Rattle.call_revelation.proofs.reveal.Reveal.gain.Goals as goal
 
 pub returns-in_err-add-clause-lineage : goal.returns-in_err-add-clause-lineage

@@ -1,5 +1,5 @@
-use Rattle.call_revelation.proofs.Grown.{grown-then}
-use Rattle.call_revelation.proofs.InTurn.{loading-first, loading-next, next-above, next-all, next-fresh, next-linked}
+use Rattle.call_revelation.proofs.Revelations.Grown.{grown-then}
+use Rattle.call_revelation.proofs.Classes.InTurn.{loading-first, loading-next, next-above, next-all, next-fresh, next-linked}
 use Rattle.call_revelation.proofs.reveal.Reveal.load_all.Goals as goal
 
 pub loop-class-init : goal.loop-class-init

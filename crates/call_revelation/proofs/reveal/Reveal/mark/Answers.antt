@@ -1,5 +1,5 @@
 use Rattle.std.proofs.Common.{◌∙◌}
-use Rattle.call_revelation.proofs.Marking.{mark-is}
+use Rattle.call_revelation.proofs.Revelations.Marking.{mark-is}
 use Rattle.call_revelation.proofs.reveal.Reveal.mark.Goals as goal
 
 pub returns : goal.returns

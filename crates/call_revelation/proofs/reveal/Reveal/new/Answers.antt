@@ -3,11 +3,11 @@ use Rattle.std.specs.Prelude.{None, replicate}
 use Rattle.jvm_model.specs.declared.event.Mark.TheVariants.{Off}
 use Rattle.jvm_model.specs.declared.program.MethodPlace.{MethodPlace}
 use Rattle.call_revelation.specs.Reveals.{owned_from}
-use Rattle.prepared_code.proofs.BuiltInLoads.{few-coded}
-use Rattle.call_revelation.proofs.BookLemmas.{nothing-read}
-use Rattle.call_revelation.proofs.CalledLemmas.{nothing-named}
-use Rattle.call_revelation.proofs.First.{first-revelation}
-use Rattle.call_revelation.proofs.LineageLemmas.{nothing-loaded}
+use Rattle.prepared_code.proofs.Initializing.BuiltInLoads.{few-coded}
+use Rattle.call_revelation.proofs.References.BookLemmas.{nothing-read}
+use Rattle.call_revelation.proofs.References.CalledLemmas.{nothing-named}
+use Rattle.call_revelation.proofs.Revelations.First.{first-revelation}
+use Rattle.call_revelation.proofs.Classes.LineageLemmas.{nothing-loaded}
 use Rattle.call_revelation.proofs.reveal.Reveal.new.Goals as goal
 
 pub new-requires-clause-few : goal.new-requires-clause-few

@@ -1,8 +1,8 @@
 use Rattle.std.proofs.Common.{[], ap, subst, sym, ◌∙◌}
 use Rattle.class_index.specs.Orders.{with_classes}
 use Rattle.call_revelation.specs.Reveals.{IsRevelation}
-use Rattle.call_revelation.proofs.Adding.{adds-equal}
-use Rattle.call_revelation.proofs.Marking.{quieted, staler}
+use Rattle.call_revelation.proofs.Numbers.Adding.{adds-equal}
+use Rattle.call_revelation.proofs.Revelations.Marking.{quieted, staler}
 use Rattle.call_revelation.proofs.reveal.Reveal.quiet.Goals as goal
 
 pub returns-in_err-add_more-clause-revelation : goal.returns-in_err-add_more-clause-revelation

@@ -1,7 +1,7 @@
 use Rattle.std.proofs.Common.{◌≡◌, is_ok, rules, subst, sym}
 use Rattle.call_revelation.specs.Reveals.{IsRevelation}
-use Rattle.call_revelation.proofs.Fronts.{front-if}
-use Rattle.call_revelation.proofs.Marking.{others-with, selected-more, staler}
+use Rattle.call_revelation.proofs.Numbers.Fronts.{front-if}
+use Rattle.call_revelation.proofs.Revelations.Marking.{others-with, selected-more, staler}
 use Rattle.call_revelation.proofs.reveal.Reveal.selected.Goals as goal
 
 pub returns-in_err-add-clause-revelation : goal.returns-in_err-add-clause-revelation

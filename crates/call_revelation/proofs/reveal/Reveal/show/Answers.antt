@@ -1,7 +1,7 @@
 use Rattle.std.proofs.Common.{ap, subst, sym, ◌∙◌}
 use Rattle.call_revelation.specs.declared.reveal.Reveal.{Reveal}
 use Rattle.call_revelation.specs.Reveals.{IsRevelation, with_marks}
-use Rattle.call_revelation.proofs.Shown.{all-shown, reshown}
+use Rattle.call_revelation.proofs.Revelations.Shown.{all-shown, reshown}
 use Rattle.call_revelation.proofs.reveal.Reveal.show.Goals as goal
 
 pub returns-clause-revelation : goal.returns-clause-revelation

@@ -1,5 +1,5 @@
 use Rattle.std.proofs.lemmas.Result.{on_ok_weaker}
-use Rattle.prepared_code.proofs.InitializingParts.{not-taken}
+use Rattle.prepared_code.proofs.Initializing.InitializingParts.{not-taken}
 use Rattle.interpreter.proofs.Moves.TurnsCarried.{carried-as, carried-to}
 use Rattle.interpreter.proofs.turns.turning.make_move.Goals as goal
 

@@ -4,15 +4,15 @@ use Rattle.prepared_code.specs.Initializations.{state_of}
 use Rattle.interpreter.specs.Moves.Turning.{loads_in}
 use Rattle.prepared_code.specs.Versions.{Setup}
 use Rattle.prepared_code.specs.Tables.{Releases}
-use Rattle.prepared_code.proofs.StandingSteps.{parts-pinned}
+use Rattle.prepared_code.proofs.Tables.StandingSteps.{parts-pinned}
 use Rattle.jvm_machine.specs.declared.advancing.Telling.TheVariants as telling
 use Rattle.jvm_machine.specs.Advances.{Stops, TellsClasses}
 use Rattle.jvm_machine.specs.Machine.{IsMachine, state_seen}
 use Rattle.jvm_machine.specs.Probes.{IfLeaves}
 use Rattle.jvm_machine.specs.View.{View}
-use Rattle.jvm_machine.proofs.BeforeReturns.{leaves-by, some-left}
-use Rattle.jvm_machine.proofs.Exits.{broken-machine, broken-seen, can-run, goes-there, is-attempted, on-err, one_passed, tells-start, tells-step}
-use Rattle.jvm_machine.proofs.HeldVersions.{as-viewed, seen-is, tidy-loaded, tidy-released, tidy-seen, tidy-taken, unless-some}
+use Rattle.jvm_machine.proofs.Probes.BeforeReturns.{leaves-by, some-left}
+use Rattle.jvm_machine.proofs.Steps.Exits.{broken-machine, broken-seen, can-run, goes-there, is-attempted, on-err, one_passed, tells-start, tells-step}
+use Rattle.jvm_machine.proofs.Versions.HeldVersions.{as-viewed, seen-is, tidy-loaded, tidy-released, tidy-seen, tidy-taken, unless-some}
 use Rattle.jvm_machine.proofs.machine.Vm.advance.Goals as goal
 
 pub take_up-requires-clause-at_start : goal.take_up-requires-clause-at_start

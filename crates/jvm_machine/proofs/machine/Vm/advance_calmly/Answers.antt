@@ -5,14 +5,14 @@ use Rattle.jvm_model.specs.Running.Run.{starts_with}
 use Rattle.prepared_code.specs.Initializations.{state_of}
 use Rattle.prepared_code.specs.Ready.{IsSoundIn}
 use Rattle.interpreter.specs.Moves.Calmly.{GoesCalmly}
-use Rattle.prepared_code.proofs.StandingSteps.{set-up-runs}
+use Rattle.prepared_code.proofs.Tables.StandingSteps.{set-up-runs}
 use Rattle.jvm_machine.specs.Advances.{Stops}
 use Rattle.jvm_machine.specs.declared.advancing.Telling.TheVariants as telling
 use Rattle.jvm_machine.specs.Machine.{Keeps}
 use Rattle.jvm_machine.specs.Probes.{IfLeaves}
-use Rattle.jvm_machine.proofs.Calmly.{calm-going, calm-leaves, calm-machine, calm-stops, calm-tidy}
-use Rattle.jvm_machine.proofs.Exits.{GoesOnFrom}
-use Rattle.jvm_machine.proofs.HeldVersions.{never-stale, plain-view, seen-is}
+use Rattle.jvm_machine.proofs.Steps.Calmly.{calm-going, calm-leaves, calm-machine, calm-stops, calm-tidy}
+use Rattle.jvm_machine.proofs.Steps.Exits.{GoesOnFrom}
+use Rattle.jvm_machine.proofs.Versions.HeldVersions.{never-stale, plain-view, seen-is}
 use Rattle.jvm_machine.proofs.machine.Vm.advance_calmly.Goals as goal
 
 pub returns-then-self-clause-held : goal.returns-then-self-clause-held

@@ -1,6 +1,6 @@
 use Rattle.prepared_code.specs.Initializations.{state_of}
-use Rattle.jvm_machine.proofs.Shown.{rest-shows}
-use Rattle.jvm_machine.proofs.HeldVersions.{seen-is}
+use Rattle.jvm_machine.proofs.States.Shown.{rest-shows}
+use Rattle.jvm_machine.proofs.Versions.HeldVersions.{seen-is}
 use Rattle.jvm_machine.proofs.machine.Vm.ending.Goals as goal
 
 pub returns : goal.returns

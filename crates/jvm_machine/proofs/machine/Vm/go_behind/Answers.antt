@@ -4,8 +4,8 @@ use Rattle.jvm_machine.specs.declared.advancing.Passage.{Passage}
 use Rattle.jvm_machine.specs.Several.{EndsUpTo, ReachesIf}
 use Rattle.jvm_machine.specs.Turns.{Turns}
 use Rattle.jvm_machine.specs.View.{View}
-use Rattle.jvm_machine.proofs.SeveralTurns.{passes-clock, settles-clock}
-use Rattle.jvm_machine.proofs.Turned.{rests-then, turned}
+use Rattle.jvm_machine.proofs.Steps.SeveralTurns.{passes-clock, settles-clock}
+use Rattle.jvm_machine.proofs.Steps.Turned.{rests-then, turned}
 use Rattle.jvm_machine.proofs.machine.Vm.go_behind.Goals as goal
 
 -- what is said of the passage

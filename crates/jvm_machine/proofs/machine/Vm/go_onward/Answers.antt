@@ -2,8 +2,8 @@ use Rattle.std.proofs.Common.{◌≡◌, ◌<◌, sym, subst, arith}
 use Rattle.jvm_machine.specs.Several.{ReachesIf}
 use Rattle.jvm_machine.specs.Turns.{Turns}
 use Rattle.jvm_machine.specs.View.{View}
-use Rattle.jvm_machine.proofs.SeveralTurns.{passes-clock}
-use Rattle.jvm_machine.proofs.Turned.{rests-then, turned}
+use Rattle.jvm_machine.proofs.Steps.SeveralTurns.{passes-clock}
+use Rattle.jvm_machine.proofs.Steps.Turned.{rests-then, turned}
 use Rattle.jvm_machine.proofs.machine.Vm.go_onward.Goals as goal
 
 pub turn-requires-clause-whole : goal.turn-requires-clause-whole

@@ -3,14 +3,14 @@ use Rattle.prepared_code.specs.ClassVersions.{class_versions}
 use Rattle.prepared_code.specs.Initializations.{state_of}
 use Rattle.prepared_code.specs.Tables.{Adds, AreOfMethods, Versions}
 use Rattle.prepared_code.specs.Versions.{Setup}
-use Rattle.prepared_code.proofs.ClassVersionLaws.{versions-below}
-use Rattle.prepared_code.proofs.StandingSteps.{parts-pinned}
+use Rattle.prepared_code.proofs.Images.ClassVersionLaws.{versions-below}
+use Rattle.prepared_code.proofs.Tables.StandingSteps.{parts-pinned}
 use Rattle.jvm_machine.specs.Installs.{IsFormed, IsImageOf, with_class}
 use Rattle.jvm_machine.specs.Machine.{IsMachine, IsTidy, state_seen, state_viewed}
 use Rattle.jvm_machine.specs.View.{View}
-use Rattle.jvm_machine.proofs.ImagedMethods.{class-fits}
-use Rattle.jvm_machine.proofs.Installed.{either-way, installed-machine, installed-seen, on-err-then, on-ok-then}
-use Rattle.jvm_machine.proofs.HeldVersions.{pinned-runs, plain-view, seen-is, tidy-added}
+use Rattle.jvm_machine.proofs.Versions.ImagedMethods.{class-fits}
+use Rattle.jvm_machine.proofs.Versions.Installed.{either-way, installed-machine, installed-seen, on-err-then, on-ok-then}
+use Rattle.jvm_machine.proofs.Versions.HeldVersions.{pinned-runs, plain-view, seen-is, tidy-added}
 use Rattle.jvm_machine.proofs.machine.Vm.install.Goals as goal
 
 pub install-requires : goal.install-requires

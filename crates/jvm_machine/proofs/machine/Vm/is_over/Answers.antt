@@ -1,7 +1,7 @@
 use Rattle.std.proofs.Common.{sym, ◌∙◌}
 use Rattle.prepared_code.specs.Initializations.{state_of}
-use Rattle.jvm_machine.proofs.Shown.{over-is}
-use Rattle.jvm_machine.proofs.HeldVersions.{seen-is}
+use Rattle.jvm_machine.proofs.States.Shown.{over-is}
+use Rattle.jvm_machine.proofs.Versions.HeldVersions.{seen-is}
 use Rattle.jvm_machine.proofs.machine.Vm.is_over.Goals as goal
 
 pub returns-then-is_resting : goal.returns-then-is_resting

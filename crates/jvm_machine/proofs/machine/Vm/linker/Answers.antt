@@ -1,8 +1,8 @@
 use Rattle.std.proofs.Common.{ap, ◌∙◌}
 use Rattle.class_linker.specs.Linkers.{LinkerView}
 use Rattle.prepared_code.specs.Initializations.{state_of}
-use Rattle.jvm_machine.proofs.Loaded.{run-loaded}
-use Rattle.jvm_machine.proofs.HeldVersions.{seen-is}
+use Rattle.jvm_machine.proofs.States.Loaded.{run-loaded}
+use Rattle.jvm_machine.proofs.Versions.HeldVersions.{seen-is}
 use Rattle.jvm_machine.proofs.machine.Vm.linker.Goals as goal
 
 pub returns-clause-loaded : goal.returns-clause-loaded

@@ -2,9 +2,9 @@ use Rattle.std.proofs.Common.{length, sym, ap, ◌∙◌}
 use Rattle.prepared_code.specs.Initializations.{state_of}
 use Rattle.prepared_code.specs.Versions.{mark_of}
 use Rattle.jvm_machine.specs.View.{View}
-use Rattle.jvm_machine.proofs.Shown.{rest-live}
-use Rattle.jvm_machine.proofs.ToldFrames.{live-frames}
-use Rattle.jvm_machine.proofs.HeldVersions.{seen-is}
+use Rattle.jvm_machine.proofs.States.Shown.{rest-live}
+use Rattle.jvm_machine.proofs.Probes.ToldFrames.{live-frames}
+use Rattle.jvm_machine.proofs.Versions.HeldVersions.{seen-is}
 use Rattle.jvm_machine.proofs.machine.Vm.live.Goals as goal
 
 pub returns-clause-live : goal.returns-clause-live

@@ -4,10 +4,10 @@ use Rattle.jvm_model.specs.Running.Run.{before}
 use Rattle.jvm_model.specs.Basis.SharedState.{built_in_from}
 use Rattle.prepared_code.specs.Initializations.{state_of}
 use Rattle.prepared_code.specs.Tables.{AreAllCurrent}
-use Rattle.prepared_code.proofs.InitializingParts.{plain-state}
-use Rattle.prepared_code.proofs.OriginalsRun.{original-current}
-use Rattle.jvm_machine.proofs.HeldVersions.{plain-view, tidy-current}
-use Rattle.jvm_machine.proofs.Fresh.{fresh-machine, fresh-seen}
+use Rattle.prepared_code.proofs.Initializing.InitializingParts.{plain-state}
+use Rattle.prepared_code.proofs.Tables.OriginalsRun.{original-current}
+use Rattle.jvm_machine.proofs.Versions.HeldVersions.{plain-view, tidy-current}
+use Rattle.jvm_machine.proofs.States.Fresh.{fresh-machine, fresh-seen}
 use Rattle.jvm_machine.proofs.machine.Vm.new.Goals as goal
 
 pub invariant_of-result : goal.invariant_of-result

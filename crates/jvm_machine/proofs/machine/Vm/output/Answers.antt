@@ -1,7 +1,7 @@
 use Rattle.std.proofs.Common.{◌∙◌}
 use Rattle.prepared_code.specs.Initializations.{state_of}
-use Rattle.jvm_machine.proofs.Shown.{rest-shows}
-use Rattle.jvm_machine.proofs.HeldVersions.{seen-is}
+use Rattle.jvm_machine.proofs.States.Shown.{rest-shows}
+use Rattle.jvm_machine.proofs.Versions.HeldVersions.{seen-is}
 use Rattle.jvm_machine.proofs.machine.Vm.output.Goals as goal
 
 pub returns : goal.returns

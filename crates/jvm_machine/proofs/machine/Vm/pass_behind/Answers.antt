@@ -8,11 +8,11 @@ use Rattle.jvm_model.specs.Running.Run.{starts_with}
 use Rattle.prepared_code.specs.Initializations.{state_of}
 use Rattle.prepared_code.specs.Ready.{IsSoundIn}
 use Rattle.prepared_code.specs.Runs.{IsAtInstruction}
-use Rattle.prepared_code.proofs.StandingSteps.{set-up-runs}
+use Rattle.prepared_code.proofs.Tables.StandingSteps.{set-up-runs}
 use Rattle.jvm_machine.specs.Machine.{Keeps}
 use Rattle.jvm_machine.specs.View.{View}
-use Rattle.jvm_machine.proofs.Exits.{GoesOnFrom}
-use Rattle.jvm_machine.proofs.InHand.{ends-none, ends-some, linked-behind, sound-behind}
+use Rattle.jvm_machine.proofs.Steps.Exits.{GoesOnFrom}
+use Rattle.jvm_machine.proofs.Steps.InHand.{ends-none, ends-some, linked-behind, sound-behind}
 use Rattle.jvm_machine.proofs.machine.Vm.pass_behind.Goals as goal
 
 pub go_calmly-gone-requires-clause-fit : goal.go_calmly-gone-requires-clause-fit

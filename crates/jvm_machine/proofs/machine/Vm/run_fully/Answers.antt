@@ -1,6 +1,6 @@
 use Rattle.std.proofs.Common.{true, false, ◌≡◌, sym, subst, ◌∙◌}
 use Rattle.jvm_machine.specs.Turns.{Turns}
-use Rattle.jvm_machine.proofs.SeveralTurns.{first-more, one-turn, settled-is}
+use Rattle.jvm_machine.proofs.Steps.SeveralTurns.{first-more, one-turn, settled-is}
 use Rattle.jvm_machine.proofs.machine.Vm.run_fully.Goals as goal
 
 pub returns-then-not-is_settled : goal.returns-then-not-is_settled

@@ -4,7 +4,7 @@ use Rattle.std.specs.Option.{IfSome}
 use Rattle.jvm_machine.specs.declared.advancing.Onward.{Onward}
 use Rattle.jvm_machine.specs.Several.{EndsBehind, RunsOn}
 use Rattle.jvm_machine.specs.View.{View}
-use Rattle.jvm_machine.proofs.SeveralTurns.{ends-clock, ends-more, ends-on, settled-is, settles-rests}
+use Rattle.jvm_machine.proofs.Steps.SeveralTurns.{ends-clock, ends-more, ends-on, settled-is, settles-rests}
 use Rattle.jvm_machine.proofs.machine.Vm.run_on.Goals as goal
 
 pub run_rested-requires-clause-resting : goal.run_rested-requires-clause-resting

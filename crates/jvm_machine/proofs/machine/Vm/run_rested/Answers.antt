@@ -1,6 +1,6 @@
 use Rattle.std.proofs.Common.{true, false, ◌≡◌, ◌+◌, sym, subst, ◌∙◌, arith}
 use Rattle.jvm_machine.specs.Several.{Passes, none}
-use Rattle.jvm_machine.proofs.SeveralTurns.{one-more, passes-clock, passes-more, runs-on, settles-clock, settles-rests}
+use Rattle.jvm_machine.proofs.Steps.SeveralTurns.{one-more, passes-clock, passes-more, runs-on, settles-clock, settles-rests}
 use Rattle.jvm_machine.proofs.machine.Vm.run_rested.Goals as goal
 
 pub loop-onward-init : goal.loop-onward-init

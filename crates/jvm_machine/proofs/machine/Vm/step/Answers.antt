@@ -5,7 +5,7 @@ use Rattle.jvm_machine.specs.declared.advancing.Telling.TheVariants as telling
 use Rattle.jvm_machine.specs.Probes.{IfLeaves}
 use Rattle.jvm_machine.specs.Turns.{Turns}
 use Rattle.jvm_machine.specs.View.{IsGoingOn, View}
-use Rattle.jvm_machine.proofs.Turned.{rests-then, turned}
+use Rattle.jvm_machine.proofs.Steps.Turned.{rests-then, turned}
 use Rattle.jvm_machine.proofs.machine.Vm.step.Goals as goal
 
 pub turn-requires-clause-whole : goal.turn-requires-clause-whole

@@ -3,9 +3,9 @@ use Rattle.jvm_machine.specs.Advances.{Advances}
 use Rattle.jvm_machine.specs.Probes.{IfLeaves}
 use Rattle.jvm_machine.specs.Turns.{Turns}
 use Rattle.jvm_machine.specs.View.{View}
-use Rattle.jvm_machine.proofs.HeldVersions.{never-stale}
-use Rattle.jvm_machine.proofs.Shown.{over-ends}
-use Rattle.jvm_machine.proofs.Turned.{rests-then, turned}
+use Rattle.jvm_machine.proofs.Versions.HeldVersions.{never-stale}
+use Rattle.jvm_machine.proofs.States.Shown.{over-ends}
+use Rattle.jvm_machine.proofs.Steps.Turned.{rests-then, turned}
 use Rattle.jvm_machine.proofs.machine.Vm.step_fully.Goals as goal
 
 pub returns-then-is_over : goal.returns-then-is_over

@@ -7,8 +7,8 @@ use Rattle.prepared_code.specs.Kept.{AreKnown}
 use Rattle.prepared_code.specs.Linked.{IsReady, linker_in}
 use Rattle.prepared_code.specs.Making.{AreBare, with_lines}
 use Rattle.prepared_code.specs.Prepared.{IsPrepared}
-use Rattle.prepared_code.proofs.CellLemmas.{known-at, learnt-kept, renewed}
-use Rattle.prepared_code.proofs.Dimensions.{line-fits}
+use Rattle.prepared_code.proofs.Lines.CellLemmas.{known-at, learnt-kept, renewed}
+use Rattle.prepared_code.proofs.Lines.Dimensions.{line-fits}
 use Rattle.prepared_code.proofs.originals.Originals.attempt_loaded.Goals as goal
 
 pub line_there-requires : goal.line_there-requires

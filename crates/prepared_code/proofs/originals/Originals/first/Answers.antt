@@ -1,7 +1,7 @@
 use Rattle.std.proofs.Common.{ap, ◌∙◌}
 use Rattle.prepared_code.specs.Linked.{Linked}
 use Rattle.prepared_code.specs.Versions.{first_of}
-use Rattle.prepared_code.proofs.Made.{first-made}
+use Rattle.prepared_code.proofs.Tables.Made.{first-made}
 use Rattle.prepared_code.proofs.originals.Originals.first.Goals as goal
 
 pub returns : goal.returns

@@ -2,7 +2,7 @@ use Rattle.std.proofs.Common.{◌≡◌, None, Some, sym, ap, ◌∙◌}
 use Rattle.std.specs.Option.{option_copied, option_map}
 use Rattle.prepared_code.specs.Linked.{Linked}
 use Rattle.prepared_code.specs.Tables.{Version, version_at}
-use Rattle.prepared_code.proofs.Made.{handlers-made}
+use Rattle.prepared_code.proofs.Tables.Made.{handlers-made}
 use Rattle.prepared_code.proofs.originals.Originals.handlers.Goals as goal
 
 pub returns-in-Some : goal.returns-in-Some

@@ -12,11 +12,11 @@ use Rattle.prepared_code.specs.Prepared.{IsPrepared, world_in}
 use Rattle.prepared_code.specs.Standing.{AreMethodImages, IsPinned, IsRunOf, IsSetUp}
 use Rattle.prepared_code.specs.Tables.{Adds, AreOfMethods, Version, Versions}
 use Rattle.prepared_code.specs.Versions.{HasOwnLines, Setup}
-use Rattle.prepared_code.proofs.Added.{adds-count, either, has-lines-all}
-use Rattle.prepared_code.proofs.CellLemmas.{nil-known}
-use Rattle.prepared_code.proofs.ClassVersionLaws.{versions-below, versions-have, versions-keep}
-use Rattle.prepared_code.proofs.Made.{adds-made, bare-adds}
-use Rattle.prepared_code.proofs.StandingSteps.{installed-set_up, installed-stands}
+use Rattle.prepared_code.proofs.Tables.Added.{adds-count, either, has-lines-all}
+use Rattle.prepared_code.proofs.Lines.CellLemmas.{nil-known}
+use Rattle.prepared_code.proofs.Images.ClassVersionLaws.{versions-below, versions-have, versions-keep}
+use Rattle.prepared_code.proofs.Tables.Made.{adds-made, bare-adds}
+use Rattle.prepared_code.proofs.Tables.StandingSteps.{installed-set_up, installed-stands}
 use Rattle.prepared_code.proofs.originals.Originals.install.Goals as goal
 
 pub add_all-requires : goal.add_all-requires

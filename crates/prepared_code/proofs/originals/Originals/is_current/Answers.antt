@@ -1,7 +1,7 @@
 use Rattle.std.proofs.Common.{◌≡◌, false, subst, ◌∙◌}
 use Rattle.method_versions.specs.Tables.{is_superseded_in}
 use Rattle.prepared_code.specs.Linked.{Linked}
-use Rattle.prepared_code.proofs.Made.{superseded-made}
+use Rattle.prepared_code.proofs.Tables.Made.{superseded-made}
 use Rattle.prepared_code.proofs.originals.Originals.is_current.Goals as goal
 
 pub returns : goal.returns

@@ -3,7 +3,7 @@ use Rattle.std.specs.Option.{IfSome, option_copied}
 use Rattle.jvm_model.specs.declared.event.Mark.TheVariants.{Off}
 use Rattle.prepared_code.specs.Linked.{Linked}
 use Rattle.prepared_code.specs.Versions.{line_at, mark_of}
-use Rattle.prepared_code.proofs.Made.{marked-lines, seen-family, seen-line}
+use Rattle.prepared_code.proofs.Tables.Made.{marked-lines, seen-family, seen-line}
 use Rattle.prepared_code.proofs.originals.Originals.line.Goals as goal
 
 pub returns-clause-line : goal.returns-clause-line

@@ -3,7 +3,7 @@ use Rattle.symbolic_references.specs.Selections.{AreSelections}
 use Rattle.prepared_code.specs.Kept.{AreKnown}
 use Rattle.prepared_code.specs.Making.{AreBare, with_lines}
 use Rattle.prepared_code.specs.Prepared.{IsPrepared, main_name}
-use Rattle.prepared_code.proofs.CellLemmas.{known-later, later-resolved, nil-known}
+use Rattle.prepared_code.proofs.Lines.CellLemmas.{known-later, later-resolved, nil-known}
 use Rattle.prepared_code.proofs.originals.Originals.link_main.Goals as goal
 
 pub invariant_of-self-2 : goal.invariant_of-self-2

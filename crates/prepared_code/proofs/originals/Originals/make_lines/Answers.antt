@@ -8,7 +8,7 @@ use Rattle.prepared_code.specs.Making.{with_lines}
 use Rattle.prepared_code.specs.Prepared.{IsPrepared, world_in}
 use Rattle.prepared_code.specs.Tables.{Version, Versions, version_at}
 use Rattle.prepared_code.specs.Versions.{Setup}
-use Rattle.prepared_code.proofs.Made.{lines-made, original-method, replaced-bare, replaced-lines, replaced-same}
+use Rattle.prepared_code.proofs.Tables.Made.{lines-made, original-method, replaced-bare, replaced-lines, replaced-same}
 use Rattle.prepared_code.proofs.originals.Originals.make_lines.Goals as goal
 
 pub replace-requires : goal.replace-requires

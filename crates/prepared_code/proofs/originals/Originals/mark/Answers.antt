@@ -1,7 +1,7 @@
 use Rattle.std.proofs.Common.{ap, ◌∙◌}
 use Rattle.prepared_code.specs.Linked.{Linked}
 use Rattle.prepared_code.specs.Versions.{mark_of}
-use Rattle.prepared_code.proofs.Made.{mark-made}
+use Rattle.prepared_code.proofs.Tables.Made.{mark-made}
 use Rattle.prepared_code.proofs.originals.Originals.mark.Goals as goal
 
 pub returns : goal.returns

@@ -5,13 +5,13 @@ use Rattle.jvm_model.specs.declared.program.Program.{Program}
 use Rattle.prepared_code.specs.Entries.{original_versions}
 use Rattle.prepared_code.specs.Kept.{AreKnown}
 use Rattle.prepared_code.specs.Making.{AreBare, with_lines}
-use Rattle.prepared_code.proofs.CellLemmas.{nil-known}
-use Rattle.prepared_code.proofs.Made.{first-bare, first-versions}
-use Rattle.prepared_code.proofs.BuiltInLoads.{few-coded}
-use Rattle.prepared_code.proofs.Entries.{IsPrepared-entries}
+use Rattle.prepared_code.proofs.Lines.CellLemmas.{nil-known}
+use Rattle.prepared_code.proofs.Tables.Made.{first-bare, first-versions}
+use Rattle.prepared_code.proofs.Initializing.BuiltInLoads.{few-coded}
+use Rattle.prepared_code.proofs.Lines.Entries.{IsPrepared-entries}
 use Rattle.prepared_code.specs.Prepared.{IsPrepared, world_in}
 use Rattle.prepared_code.specs.Versions.{Setup}
-use Rattle.prepared_code.proofs.StandingSteps.{made-set_up}
+use Rattle.prepared_code.proofs.Tables.StandingSteps.{made-set_up}
 use Rattle.prepared_code.proofs.originals.Originals.new.Goals as goal
 
 pub new-requires-clause-few : goal.new-requires-clause-few

@@ -6,7 +6,7 @@ use Rattle.prepared_code.specs.Linked.{Linked}
 use Rattle.prepared_code.specs.Making.{passage_of, with_lines}
 use Rattle.prepared_code.specs.Tables.{Version, version_at}
 use Rattle.prepared_code.specs.Versions.{line_at, line_in}
-use Rattle.prepared_code.proofs.Made.{are-prepared, original-made, version-made}
+use Rattle.prepared_code.proofs.Tables.Made.{are-prepared, original-made, version-made}
 use Rattle.prepared_code.proofs.originals.Originals.passage.Goals as goal
 
 pub passage_in-requires : goal.passage_in-requires

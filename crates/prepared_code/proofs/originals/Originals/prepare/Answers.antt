@@ -1,6 +1,6 @@
 use Rattle.std.proofs.Common.{subst, sym, ◌∙◌}
 use Rattle.prepared_code.specs.Linked.{Linked, IsReady}
-use Rattle.prepared_code.proofs.Made.{lines-made}
+use Rattle.prepared_code.proofs.Tables.Made.{lines-made}
 use Rattle.prepared_code.proofs.originals.Originals.prepare.Goals as goal
 
 pub returns-then-has_lines-clause-ready : goal.returns-then-has_lines-clause-ready

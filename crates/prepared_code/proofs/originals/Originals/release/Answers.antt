@@ -5,9 +5,9 @@ use Rattle.prepared_code.specs.Making.{with_lines}
 use Rattle.prepared_code.specs.Prepared.{world_in}
 use Rattle.prepared_code.specs.Tables.{AreAllCurrent, Releases, Versions}
 use Rattle.prepared_code.specs.Versions.{Setup}
-use Rattle.prepared_code.proofs.Added.{has-lines-left}
-use Rattle.prepared_code.proofs.CellLemmas.{known-left}
-use Rattle.prepared_code.proofs.Made.{bare-released, releases-made, superseded-made}
+use Rattle.prepared_code.proofs.Tables.Added.{has-lines-left}
+use Rattle.prepared_code.proofs.Lines.CellLemmas.{known-left}
+use Rattle.prepared_code.proofs.Tables.Made.{bare-released, releases-made, superseded-made}
 use Rattle.prepared_code.proofs.originals.Originals.release.Goals as goal
 
 pub invariant_of-self : goal.invariant_of-self

@@ -1,6 +1,6 @@
 use Rattle.std.proofs.Common.{sym, subst, ◌∙◌}
 use Rattle.prepared_code.specs.Tables.{AreAllCurrent, Releases, table_seen}
-use Rattle.prepared_code.proofs.Added.{none-released}
+use Rattle.prepared_code.proofs.Tables.Added.{none-released}
 use Rattle.prepared_code.proofs.versions.Versions.release.Goals as goal
 
 pub returns-clause-same : goal.returns-clause-same

@@ -1,0 +1,5 @@
+pub mod Adding
+pub mod Choosing
+pub mod TableLemmas
+pub mod Rising
+pub mod Fronts

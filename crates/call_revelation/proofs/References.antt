@@ -1,0 +1,9 @@
+pub mod BegunLemmas
+pub mod LineReferences
+pub mod ReferenceSteps
+pub mod CallerLemmas
+pub mod TargetLemmas
+pub mod ReferenceLemmas
+pub mod CalledLemmas
+pub mod BookLemmas
+pub mod Callers

@@ -1,0 +1,4 @@
+pub mod Grown
+pub mod Marking
+pub mod Shown
+pub mod First

@@ -1,0 +1,5 @@
+pub mod ActionLemmas
+pub mod Chosen
+pub mod NamedRoots
+pub mod Alternating
+pub mod Rootless

@@ -1,0 +1,4 @@
+pub mod ToldFiles
+pub mod ToldPlans
+pub mod Spelled
+pub mod Generating

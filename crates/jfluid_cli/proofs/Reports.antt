@@ -1,0 +1,9 @@
+pub mod Outputs
+pub mod Pairs
+pub mod OnDevices
+pub mod Answered
+pub mod Fixed
+pub mod Finished
+pub mod Reported
+pub mod Records
+pub mod Shown

@@ -1,0 +1,4 @@
+pub mod Machines
+pub mod Shown
+pub mod Fresh
+pub mod Loaded

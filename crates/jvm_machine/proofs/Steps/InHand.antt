@@ -1,0 +1,111 @@
+-- A machine that has ended the step in hand, and has passed steps behind it.
+use Rattle.std.proofs.Common.{◌≡◌, ℕ, ◌+◌, Bool, true, false, List, length, Option, Some, None, refl, sym, ap, ap₂, subst, ◌∙◌}
+use Rattle.std.specs.Prelude.{◌&&◌}
+use Rattle.interpreter.specs.declared.turns.hands.Gone.{Gone}
+use Rattle.interpreter.specs.declared.turns.hands.Hand.{Hand}
+use Rattle.interpreter.specs.Instructions.Passing.{Passes as Silent}
+use Rattle.interpreter.specs.Moves.Calmly.{GoesCalmly}
+use Rattle.interpreter.specs.Moves.Onward.{StopsIf}
+use Rattle.jvm_model.specs.declared.due.Due.{Due}
+use Rattle.jvm_model.specs.declared.due.Due.TheVariants.{Nothing}
+use Rattle.jvm_model.specs.Running.Run.{starts_with}
+use Rattle.jvm_model.specs.Turns.Pauses.{told_at}
+use Rattle.prepared_code.specs.declared.initializations.Initialization.{Initialization}
+use Rattle.prepared_code.specs.declared.parts.Parts.{Parts}
+use Rattle.prepared_code.specs.Initializations.{state_of}
+use Rattle.prepared_code.specs.Ready.{IsSoundIn}
+use Rattle.prepared_code.specs.Runs.{IsAtInstruction}
+use Rattle.prepared_code.specs.Versions.{Setup}
+use Rattle.jvm_machine.specs.declared.advancing.Telling.TheVariants as telling
+use Rattle.jvm_machine.specs.Advances.{Stops, left_in}
+use Rattle.jvm_machine.specs.Machine.{IsMachine, IsTidy, Keeps, state_seen, state_viewed}
+use Rattle.jvm_machine.specs.Probes.{IfLeaves}
+use Rattle.jvm_machine.specs.Several.{EndsUpTo}
+use Rattle.jvm_machine.specs.Turns.{Settles, Turns, turn_by}
+use Rattle.jvm_machine.specs.View.{View, has_ended, is_resting}
+use Rattle.jvm_machine.proofs.Steps.Calmly.{calm-going, calm-leaves, calm-machine, calm-stops, calm-tidy}
+use Rattle.jvm_machine.proofs.Steps.Exits.{GoesOnFrom}
+use Rattle.jvm_machine.proofs.Versions.HeldVersions.{plain-view, seen-is}
+use Rattle.jvm_machine.proofs.Steps.Onward.{behind-none, behind-some}
+use Rattle.jvm_machine.proofs.Steps.Turned.{rests-then, turned}
+
+-- what is not going on where no step is in hand has not ended
+not-ended : (rests ended : Bool) → rests ≡ true → (rests && ended) ≡ false → ended ≡ false
+not-ended true ended e going = going
+not-ended false ended e going = absurd (let h : false ≡ true = e in cc)
+
+module _ (w : Setup) (loaded : List ℕ) (hand : Hand) (started broken : Bool) (clock : ℕ) (ms : List Initialization) (p : Parts) (v : View)
+    (keeps : Keeps w loaded hand started broken clock (state_of ms p)) (viewed : state_viewed w (state_of ms p) started broken clock hand ≡ v)
+    (begun_is : started ≡ true) (whole : broken ≡ false) (in_hand : is_resting v ≡ false)
+    (after : Parts) (gone : Gone) (goes : GoesCalmly w ms hand p gone after) (hands : GoesOnFrom w hand (state_of ms p) gone (state_of ms after))
+    (sound : IsSoundIn w (state_of ms p) → IsSoundIn w (state_of ms after))
+    (starts : hand.moves ≡ true → hand.delivered ≡ false → state_of ms p ≡ starts_with w.world → IsSoundIn w (state_of ms after))
+    (done : gone.due ≡ Nothing) (calm : IsAtInstruction (length after.frames.frames) ms after) where
+  view : state_seen w (state_of ms p) started broken clock hand ≡ v
+  view = seen-is keeps viewed
+
+  abbrev first : View
+  first = state_seen w (state_of ms after) started broken clock (left_in gone)
+
+  machine : IsMachine w loaded (left_in gone) first (state_of ms after)
+  machine =
+      calm-machine w loaded hand started broken clock ms p keeps.machine v view begun_is whole false (sym in_hand) hand refl after gone goes hands sound starts clock refl (left_in gone) refl
+
+  tidy : IsTidy w.versions (state_of ms after).stack
+  tidy =
+      calm-tidy w loaded hand started broken clock ms p keeps.machine v view begun_is whole false (sym in_hand) hand refl after gone goes hands sound starts clock refl (left_in gone) refl
+      (keeps.tidy whole)
+
+  first-keeps : Keeps w loaded (left_in gone) started broken clock (state_of ms after)
+  first-keeps = record { machine = machine; tidy = λ same. tidy }
+
+  stops : Stops v gone.due first
+  stops =
+      calm-stops w loaded hand started broken clock ms p keeps.machine v view begun_is whole false (sym in_hand) hand refl after gone goes hands sound starts clock refl (left_in gone) refl
+
+  leaves : IfLeaves (telling.Due gone.due) first
+  leaves =
+      calm-leaves w loaded hand started broken clock ms p keeps.machine v view begun_is whole false (sym in_hand) hand refl after gone goes hands sound starts clock refl (left_in gone) refl
+
+  untold : told_at gone.due first.clock first.live ≡ None
+  untold = ap (λ d. told_at d first.clock first.live) done
+
+  rests : is_resting first ≡ true
+  rests = rests-then v first gone.due stops untold
+
+  runs : has_ended first ≡ false
+  runs =
+      not-ended (is_resting first) (has_ended first) rests
+      (calm-going w loaded (left_in gone) started broken clock ms after machine first refl begun_is whole true (sym rests) calm.ending)
+
+  ends : Settles v first
+  ends =
+      subst (λ t. Turns v t first) (ap₂ turn_by untold runs)
+      (turned v first gone.due (ap (λ (x : View). x.broken) (sym view) ∙ whole) (ap (λ b. b && has_ended v) in_hand) stops leaves)
+
+  -- what steps behind it ask
+  pub linked-behind : loaded ≡ after.shared.loaded
+  linked-behind = (machine.whole whole).linked
+
+  pub sound-behind : IsSoundIn w (state_of ms after)
+  sound-behind = (machine.whole whole).rests rests begun_is
+
+  module _ (n : ℕ) (between : Parts) (silent : Silent w ms after n between) where
+    -- what holds behind them
+    pub record Ended (h : Hand) (c : ℕ) (due : Option Due) (new : Parts) : Type 0 where
+      pub kept : Keeps w loaded h started broken c (state_of ms new)
+      pub passes : EndsUpTo v n due (state_viewed w (state_of ms new) started broken c h)
+
+    pub ends-none : (all : Option Gone) (new : Parts) → None ≡ all → StopsIf w ms between all new → (h : Hand) → h ≡ left_in gone → Ended h (clock + n) None new
+    ends-none all new e is h left =
+        let behind = behind-none w loaded (left_in gone) started broken clock ms after first first-keeps (plain-view w loaded (left_in gone) started broken clock (state_of ms after) (λ same. tidy)) begun_is
+        whole rests n between silent all new e is in
+        subst (λ x. Ended x (clock + n) None new) (sym left)
+        (record { kept = behind.kept; passes = record { first = first; ends = ends; behind = behind.passes } })
+
+    pub ends-some : (all : Option Gone) (next : Gone) (new : Parts) → Some next ≡ all → StopsIf w ms between all new → (c : ℕ) → c ≡ clock + n + 1 → (h : Hand) → h ≡ left_in next
+        → Ended h c (Some next.due) new
+    ends-some all next new e is c ticks h left =
+        let behind = behind-some w loaded (left_in gone) started broken clock ms after first first-keeps (plain-view w loaded (left_in gone) started broken clock (state_of ms after) (λ same. tidy)) begun_is
+        whole rests n between silent all next new e is c ticks h left in
+        record { kept = behind.kept; passes = record { first = first; ends = ends; behind = behind.passes } }

@@ -1,0 +1,84 @@
+-- A machine that has passed steps, and the next one up to where a probe tells of it.
+use Rattle.std.proofs.Common.{◌≡◌, ℕ, ◌+◌, Bool, true, false, List, Option, Some, None, sym, ap, subst, ◌∙◌, refl, arith}
+use Rattle.interpreter.specs.declared.turns.hands.Gone.{Gone}
+use Rattle.interpreter.specs.declared.turns.hands.Hand.{Hand}
+use Rattle.interpreter.specs.Instructions.Passing.{Passes as Silent}
+use Rattle.interpreter.specs.Moves.Onward.{StopsIf, empty_hand}
+use Rattle.jvm_model.specs.declared.due.Due.{Due}
+use Rattle.prepared_code.specs.declared.initializations.Initialization.{Initialization}
+use Rattle.prepared_code.specs.declared.parts.Parts.{Parts}
+use Rattle.prepared_code.specs.Initializations.{state_of}
+use Rattle.prepared_code.specs.Versions.{Setup}
+use Rattle.jvm_machine.specs.Advances.{left_in}
+use Rattle.jvm_machine.specs.Machine.{IsMachine, IsTidy, Keeps, state_seen, state_viewed}
+use Rattle.jvm_machine.specs.Several.{Passes, PassesUpTo}
+use Rattle.jvm_machine.specs.View.{View, is_resting}
+use Rattle.jvm_machine.proofs.Steps.Calmly.{calm-going, calm-leaves, calm-machine, calm-stops, calm-tidy}
+use Rattle.jvm_machine.proofs.Versions.HeldVersions.{plain-view, seen-is}
+use Rattle.jvm_machine.proofs.Steps.QuietSteps.{plain-machine, plain-passes, plain-tidy}
+
+module _ (w : Setup) (loaded : List ℕ) (hand : Hand) (started broken : Bool) (clock : ℕ) (ms : List Initialization) (p : Parts) (v : View)
+    (keeps : Keeps w loaded hand started broken clock (state_of ms p)) (viewed : state_viewed w (state_of ms p) started broken clock hand ≡ v)
+    (begun_is : started ≡ true) (whole : broken ≡ false) (rests : is_resting v ≡ true)
+    (n : ℕ) (between : Parts) (silent : Silent w ms p n between) where
+  view : state_seen w (state_of ms p) started broken clock hand ≡ v
+  view = seen-is keeps viewed
+
+  abbrev mid : View
+  mid = state_seen w (state_of ms between) started broken (clock + n) hand
+
+  mid-machine : IsMachine w loaded hand mid (state_of ms between)
+  mid-machine = plain-machine w loaded hand started broken clock ms p keeps.machine v view begun_is whole rests n between silent
+
+  mid-tidy : IsTidy w.versions (state_of ms between).stack
+  mid-tidy = plain-tidy w loaded hand started broken clock ms p keeps.machine v view begun_is whole rests n between silent (keeps.tidy whole)
+
+  mid-passes : Passes v n mid
+  mid-passes = plain-passes w loaded hand started broken clock ms p keeps.machine v view begun_is whole rests n between silent
+
+  mid-rests : true ≡ is_resting mid
+  mid-rests = sym (ap is_resting view ∙ rests)
+
+  -- what holds behind them
+  pub record Behind (h : Hand) (c : ℕ) (due : Option Due) (after : Parts) : Type 0 where
+    pub kept : Keeps w loaded h started broken c (state_of ms after)
+    pub passes : PassesUpTo v n due (state_viewed w (state_of ms after) started broken c h)
+
+  behind-seen : (h : Hand) (c : ℕ) (due : Option Due) (after : Parts) → IsMachine w loaded h (state_seen w (state_of ms after) started broken c h) (state_of ms after)
+      → IsTidy w.versions (state_of ms after).stack → PassesUpTo v n due (state_seen w (state_of ms after) started broken c h) → Behind h c due after
+  behind-seen h c due after machine tidy passes = record {
+    kept = record { machine = machine; tidy = λ same. tidy };
+    passes = subst (PassesUpTo v n due) (sym (plain-view w loaded h started broken c (state_of ms after) (λ same. tidy))) passes;
+  }
+
+  pub behind-none : (gone : Option Gone) (after : Parts) → None ≡ gone → StopsIf w ms between gone after → Behind hand (clock + n) None after
+  behind-none None after e same =
+      subst (Behind hand (clock + n) None) (sym same)
+      (behind-seen hand (clock + n) None between mid-machine mid-tidy (record { between = mid; passes = mid-passes; reaches = refl }))
+  behind-none (Some gone) after e stops = absurd cc
+
+  pub behind-some : (all : Option Gone) (gone : Gone) (after : Parts) → Some gone ≡ all → StopsIf w ms between all after → (c : ℕ) → c ≡ clock + n + 1 → (h : Hand) → h ≡ left_in gone
+      → Behind h c (Some gone.due) after
+  behind-some None gone after e stops c ticks h left = absurd cc
+  behind-some (Some other) gone after e stops c ticks h left =
+      let is : other ≡ gone = cc in
+      subst (λ (g : Gone). h ≡ left_in g → Behind h c (Some g.due) after) is
+      (λ left. behind-seen h c (Some other.due) after
+      (calm-machine w loaded hand started broken (clock + n) ms between mid-machine mid refl begun_is whole true mid-rests empty_hand refl after other stops.goes stops.hands stops.sound
+      (λ no. absurd (let e : false ≡ true = no in cc)) c ticks h left)
+      (calm-tidy w loaded hand started broken (clock + n) ms between mid-machine mid refl begun_is whole true mid-rests empty_hand refl after other stops.goes stops.hands stops.sound
+      (λ no. absurd (let e : false ≡ true = no in cc)) c ticks h left mid-tidy)
+      (record {
+        between = mid;
+        passes = mid-passes;
+        reaches = record {
+          whole = whole;
+          went_on = calm-going w loaded hand started broken (clock + n) ms between mid-machine mid refl begun_is whole true mid-rests silent.at_instruction.ending;
+          stops = calm-stops w loaded hand started broken (clock + n) ms between mid-machine mid refl begun_is whole true mid-rests empty_hand refl after other stops.goes stops.hands stops.sound
+              (λ no. absurd (let e : false ≡ true = no in cc)) c ticks h left;
+          leaves = calm-leaves w loaded hand started broken (clock + n) ms between mid-machine mid refl begun_is whole true mid-rests empty_hand refl after other stops.goes stops.hands stops.sound
+              (λ no. absurd (let e : false ≡ true = no in cc)) c ticks h left;
+          after = whole;
+        };
+      }))
+      left

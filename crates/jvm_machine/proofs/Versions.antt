@@ -1,0 +1,7 @@
+pub mod Kept
+pub mod HeldVersions
+pub mod Released
+pub mod Numbered
+pub mod MarkedClasses
+pub mod ImagedMethods
+pub mod Installed

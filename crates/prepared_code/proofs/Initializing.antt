@@ -1,0 +1,3 @@
+pub mod BuiltInLoads
+pub mod InitializingStacks
+pub mod InitializingParts

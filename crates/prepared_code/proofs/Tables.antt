@@ -1,0 +1,12 @@
+pub mod VersionsRun
+pub mod OriginalListings
+pub mod Tabled
+pub mod Added
+pub mod VersionsAgree
+pub mod Made
+pub mod OriginalVersions
+pub mod WorkedVersions
+pub mod Assembled
+pub mod OriginalsRun
+pub mod StandingSteps
+pub mod Superseded
