@@ -6,9 +6,9 @@ use Rattle.const_pool.specs.declared.class.ClassFile.{ClassFile}
 use Rattle.jvm_model.specs.declared.event.Act.{Act}
 use Rattle.jvm_model.specs.declared.program.Program.{Program}
 use Rattle.plan_text.specs.declared.plan.Plan.{Plan}
-use Rattle.admit_check.specs.declared.error.AdmitError.{AdmitError}
-use Rattle.admit_check.specs.declared.error.AdmitError.TheVariants.{TooManyMethods}
-use Rattle.admit_check.specs.Checks.{fault_if}
+use Rattle.code_admission.specs.declared.error.AdmitError.{AdmitError}
+use Rattle.code_admission.specs.declared.error.AdmitError.TheVariants.{TooManyMethods}
+use Rattle.code_admission.specs.Checks.{fault_if}
 use Rattle.jvm_model.specs.Soundness.SoundPrograms.{main_in}
 use Rattle.admit_check.specs.Admission.{acts_from, admission, classes_fault, program_completed, count_fault, program_with, unless_fault, with_acts, with_main}
 

@@ -19,8 +19,8 @@ use Rattle.base_classes.specs.ValueClasses.{value_classes}
 use Rattle.base_classes.specs.ThrowableClasses.{throwable_classes}
 use Rattle.base_classes.specs.Making.{entry_added, text_added, string_added, class_added, name_type_added, reference_added, instruction_added, code_from, code_added, attributes_added, member_added, members_from, superclass_added, interfaces_from, class_file_of}
 use Rattle.inject_events.specs.Rewriting.{instrs_from}
-use Rattle.admit_check.specs.Codes.{codes_fault, instructions_of}
-use Rattle.admit_check.specs.Floating.{floating_fault}
+use Rattle.code_admission.specs.Codes.{codes_fault, instructions_of}
+use Rattle.code_admission.specs.Floating.{floating_fault}
 use Rattle.admit_check.specs.Profiling.{profiling_fault}
 use Rattle.admit_check.specs.Shapes.{has_member_twice, has_wrong_code_count, has_wrong_constant, has_wrong_descriptor, has_wrong_name, has_wrong_super}
 use Rattle.admit_check.specs.SoundBuiltIn.{IsSoundBuiltIn}

@@ -15,30 +15,30 @@ use Rattle.code_model.specs.Instructions.{instruction_at}
 use Rattle.code_model.proofs.Readings.{Reads-each}
 use Rattle.jvm_model.specs.Basis.Methods.{code_of, method_code}
 use Rattle.inject_events.specs.Answers.{IsProfilable, IsReadableClass}
-use Rattle.admit_check.specs.declared.error.AdmitError.{AdmitError}
+use Rattle.code_admission.specs.declared.error.AdmitError.{AdmitError}
 use Rattle.base_classes.specs.BuiltInFiles.{built_in_files}
 use Rattle.base_classes.proofs.Computed.{all_formed}
 use Rattle.admit_check.specs.Admission.{class_fault, classes_fault}
-use Rattle.admit_check.specs.Checks.{fault_if, first_from, first_in, first_of}
+use Rattle.code_admission.specs.Checks.{fault_if, first_from, first_in, first_of}
 use Rattle.admit_check.specs.Profiling.{HaveSoundTables, profiling_fault}
 use Rattle.admit_check.specs.Shapes.{name_fault, shape_fault}
 use Rattle.admit_check.specs.SoundBuiltIn.{IsSoundBuiltIn}
 use Rattle.admit_check.proofs.BuiltInRules.{built-in-follow}
 use Rattle.admit_check.proofs.Profilable.{profilable-none}
 use Rattle.admit_check.proofs.SoundCodes.{tables-sound}
-use Rattle.admit_check.specs.Codes.{AreRead, Method, cause_of, code_fault, codes_fault, instr_fault, instructions_of, method_fault, method_with, reading_of, result_of, told_in}
-use Rattle.admit_check.specs.Floating.{first_floating, floating_body, floating_fault, floating_offset, is_floating_instr}
-use Rattle.admit_check.specs.Uses.{fits_locals, fits_pool, fits_return, fits_targets, fits_type}
-use Rattle.admit_check.specs.declared.error.CodeCause.{CodeCause}
-use Rattle.admit_check.specs.declared.error.CodeCause.TheVariants as cause
-use Rattle.admit_check.proofs.Decoded.{reading_is_read}
-use Rattle.admit_check.proofs.Readable.{IsReadableClass-read}
+use Rattle.code_admission.specs.Codes.{AreRead, Method, cause_of, code_fault, codes_fault, instr_fault, instructions_of, method_fault, method_with, reading_of, result_of, told_in}
+use Rattle.code_admission.specs.Floating.{first_floating, floating_body, floating_fault, floating_offset, is_floating_instr}
+use Rattle.code_admission.specs.Uses.{fits_locals, fits_pool, fits_return, fits_targets, fits_type}
+use Rattle.code_admission.specs.declared.error.CodeCause.{CodeCause}
+use Rattle.code_admission.specs.declared.error.CodeCause.TheVariants as cause
+use Rattle.code_admission.proofs.Decoded.{reading_is_read}
+use Rattle.code_admission.proofs.Readable.{IsReadableClass-read}
 use Rattle.jvm_model.specs.Soundness.SoundPrograms.{HaveOperations}
 use Rattle.jvm_model.specs.Soundness.Whole.{HasSoundCode, instrs_of}
 use Rattle.jvm_model.proofs.Soundness.PoolTexts.{have-texts, named-there}
-use Rattle.admit_check.proofs.Operations.{operation-there}
-use Rattle.admit_check.proofs.ReadCodes.{code-read}
-use Rattle.admit_check.proofs.CodeStarts.{code-sound, first-none, fits-of, mapped-none, read-as, rest-none}
+use Rattle.code_admission.proofs.Operations.{operation-there}
+use Rattle.code_admission.proofs.ReadCodes.{code-read}
+use Rattle.code_admission.proofs.CodeStarts.{code-sound, first-none, fits-of, mapped-none, read-as, rest-none}
 
 -- each code of the class leads to its own starts
 abbrev pub HaveSoundCodes : ClassFile → Type 0

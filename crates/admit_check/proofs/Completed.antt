@@ -4,8 +4,8 @@ use Rattle.std.specs.Prelude.{nat_lt}
 use Rattle.jvm_model.specs.declared.event.Act.{Act}
 use Rattle.jvm_model.specs.declared.program.Program.{Program}
 use Rattle.plan_text.specs.declared.plan.Plan.{Plan}
-use Rattle.admit_check.specs.declared.error.AdmitError.TheVariants.{TooManyMethods}
-use Rattle.admit_check.specs.Checks.{fault_if}
+use Rattle.code_admission.specs.declared.error.AdmitError.TheVariants.{TooManyMethods}
+use Rattle.code_admission.specs.Checks.{fault_if}
 use Rattle.jvm_model.specs.Soundness.SoundPrograms.{main_in}
 use Rattle.admit_check.specs.Admission.{acts_from, program_completed, unless_fault, with_acts, with_main}
 

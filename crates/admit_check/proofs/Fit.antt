@@ -26,7 +26,7 @@ use Rattle.jvm_model.specs.Soundness.SoundPrograms.{declared_main, main_in, main
 use Rattle.admit_check.proofs.BuiltInNames.{files-built_in}
 use Rattle.admit_check.proofs.FitNames.{IsOwnClass, own-classes, own-place}
 use Rattle.admit_check.proofs.FitPlaces.{files-ordered, is_before}
-use Rattle.admit_check.proofs.Readable.{nth}
+use Rattle.code_admission.proofs.Readable.{nth}
 use Rattle.admit_check.proofs.FitFiles
 
 -- ---- lists

@@ -18,7 +18,7 @@ use Rattle.jvm_model.specs.Basis.Programs.{class_at, class_named, has_built_in_n
 use Rattle.jvm_model.specs.Basis.SharedState.{built_in_from}
 use Rattle.admit_check.proofs.FitNames.{IsOwnClass}
 use Rattle.admit_check.proofs.FitPlaces.{AreOrdered, is_as_needed, is_before, is_first_at, is_named_at, stand_from, stands_at}
-use Rattle.admit_check.proofs.Positions.{position-behind}
+use Rattle.code_admission.proofs.Positions.{position-behind}
 
 -- ---- tests
 

@@ -11,10 +11,10 @@ use Rattle.jvm_model.specs.Basis.Descriptors.{same_text}
 use Rattle.jvm_model.specs.Classes.Kinds.{is_array_name}
 use Rattle.jvm_model.specs.Basis.Programs.{has_built_in_name, has_name, name_of}
 use Rattle.admit_check.specs.Admission.{class_fault, classes_fault}
-use Rattle.admit_check.specs.Checks.{fault_if}
+use Rattle.code_admission.specs.Checks.{fault_if}
 use Rattle.admit_check.specs.Shapes.{has_same_name, has_wrong_name, is_reserved, is_taken_name, name_fault, own_name, same_named, shape_fault}
-use Rattle.admit_check.specs.Texts as texts
-use Rattle.admit_check.proofs.Positions.{position-behind, position-first}
+use Rattle.code_admission.specs.Texts as texts
+use Rattle.code_admission.proofs.Positions.{position-behind, position-first}
 
 -- ---- tests
 

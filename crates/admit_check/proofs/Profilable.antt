@@ -5,10 +5,10 @@ use Rattle.const_pool.specs.declared.class.ClassFile.{ClassFile}
 use Rattle.inject_events.specs.Answers.{IsProfilable}
 use Rattle.inject_events.specs.Rewriting.{Refused, refused_of, all_plain}
 use Rattle.inject_events.proofs.Rooms.{neither}
-use Rattle.admit_check.specs.declared.error.AdmitError.{AdmitError}
-use Rattle.admit_check.specs.Checks.{first_of}
-use Rattle.admit_check.specs.Codes.{codes_fault}
-use Rattle.admit_check.specs.Floating.{floating_fault}
+use Rattle.code_admission.specs.declared.error.AdmitError.{AdmitError}
+use Rattle.code_admission.specs.Checks.{first_of}
+use Rattle.code_admission.specs.Codes.{codes_fault}
+use Rattle.code_admission.specs.Floating.{floating_fault}
 use Rattle.admit_check.specs.Shapes.{shape_fault}
 use Rattle.admit_check.specs.Profiling.{profiling_fault, refusal_told}
 

@@ -16,7 +16,7 @@ use Rattle.jvm_model.specs.Basis.Methods.{method_named}
 use Rattle.jvm_model.specs.Basis.Programs.{class_at, class_named, declared_method, has_built_in_name, number_from, number_of_method, same_place}
 use Rattle.plan_text.specs.declared.plan.Action.{Action}
 use Rattle.plan_text.specs.declared.plan.Plan.{Plan}
-use Rattle.admit_check.specs.declared.error.AdmitError.{AdmitError}
+use Rattle.code_admission.specs.declared.error.AdmitError.{AdmitError}
 use Rattle.jvm_model.specs.Soundness.SoundPrograms.{HasOperations, IsHeapLimit, declared_main, main_in, main_of_class}
 use Rattle.jvm_model.specs.Soundness.Whole.{HasSoundCodes}
 use Rattle.inject_events.specs.Answers.{IsProfilable, IsReadableClass}
@@ -27,7 +27,7 @@ use Rattle.admit_check.proofs.BuiltInRules.{built-in-follow}
 use Rattle.admit_check.proofs.ClassCodes.{IsFineClass, fine-built-in, fine-classes}
 use Rattle.admit_check.proofs.Fit.{fit}
 use Rattle.admit_check.proofs.FitNames.{IsOwnClass, own-classes}
-use Rattle.admit_check.proofs.Readable.{nth}
+use Rattle.code_admission.proofs.Readable.{nth}
 use Rattle.admit_check.proofs.Admitted.{admitted}
 
 -- ---- numbers of methods

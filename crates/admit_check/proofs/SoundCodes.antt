@@ -36,19 +36,19 @@ use Rattle.inject_events.specs.SoundTables.{starts_of, HasSoundFrames, IsSoundTa
 use Rattle.inject_events.specs.Tables.{is_named, table_of}
 use Rattle.inject_events.proofs.InstrsIn.{instrs_in-is}
 use Rattle.inject_events.proofs.Rooms.{neither}
-use Rattle.admit_check.specs.declared.codes.CodeFault.{CodeFault}
-use Rattle.admit_check.specs.declared.error.AdmitError.{AdmitError}
-use Rattle.admit_check.specs.declared.error.CodeCause.TheVariants as cause
-use Rattle.admit_check.specs.Checks.{fault_if, first_of, first_in, first_from}
-use Rattle.admit_check.specs.Codes.{instr_fault, falls, handler_fault, table_fault, read_fault, fault_by, code_fault, fault_at, method_with, result_of, told_in, method_fault, codes_fault}
-use Rattle.admit_check.specs.CodeTables.{fits_frame, fits_frame_kind, fits_frames, fits_raw, is_frame_name}
-use Rattle.admit_check.specs.Floating.{floating_fault}
+use Rattle.code_admission.specs.declared.codes.CodeFault.{CodeFault}
+use Rattle.code_admission.specs.declared.error.AdmitError.{AdmitError}
+use Rattle.code_admission.specs.declared.error.CodeCause.TheVariants as cause
+use Rattle.code_admission.specs.Checks.{fault_if, first_of, first_in, first_from}
+use Rattle.code_admission.specs.Codes.{instr_fault, falls, handler_fault, table_fault, read_fault, fault_by, code_fault, fault_at, method_with, result_of, told_in, method_fault, codes_fault}
+use Rattle.code_admission.specs.CodeTables.{fits_frame, fits_frame_kind, fits_frames, fits_raw, is_frame_name}
+use Rattle.code_admission.specs.Floating.{floating_fault}
 use Rattle.admit_check.specs.Profiling.{HaveSoundTables, profiling_fault}
 use Rattle.admit_check.specs.Shapes.{shape_fault}
-use Rattle.admit_check.specs.Uses.{is_start}
-use Rattle.admit_check.proofs.Decoded.{reading_is_read}
+use Rattle.code_admission.specs.Uses.{is_start}
+use Rattle.code_admission.proofs.Decoded.{reading_is_read}
 use Rattle.stackmap_shift.proofs.FramesRead.{frames_of-writable}
-use Rattle.admit_check.proofs.Readable.{code-formed, nth}
+use Rattle.code_admission.proofs.Readable.{code-formed, nth}
 
 -- ---- starts
 

@@ -6,12 +6,12 @@ use Rattle.std.specs.Option.{option_or, option_map_or}
 use Rattle.std.proofs.lemmas.List.{append-nil, drop_more, length-append}
 use Rattle.const_pool.specs.declared.class.ClassFile.{ClassFile}
 use Rattle.jvm_model.specs.Basis.Descriptors.{same_text}
-use Rattle.admit_check.specs.declared.error.AdmitError.{AdmitError}
-use Rattle.admit_check.specs.declared.error.AdmitError.TheVariants.{ReservedName, Duplicate}
-use Rattle.admit_check.specs.Checks.{fault_if, first_of}
+use Rattle.code_admission.specs.declared.error.AdmitError.{AdmitError}
+use Rattle.code_admission.specs.declared.error.AdmitError.TheVariants.{ReservedName, Duplicate}
+use Rattle.code_admission.specs.Checks.{fault_if, first_of}
 use Rattle.admit_check.specs.Shapes.{has_same_name, is_reserved, own_name, same_named, shape_fault}
-use Rattle.admit_check.specs.Codes.{codes_fault}
-use Rattle.admit_check.specs.Floating.{floating_fault}
+use Rattle.code_admission.specs.Codes.{codes_fault}
+use Rattle.code_admission.specs.Floating.{floating_fault}
 use Rattle.admit_check.specs.Profiling.{profiling_fault}
 use Rattle.admit_check.specs.Admission.{class_fault, classes_fault}
 use Rattle.admit_check.specs.Stages.{names_of, has_name_among, class_fault_among, classes_fault_among, with_name, with_name_of}

@@ -12,12 +12,12 @@ use Rattle.jvm_model.specs.declared.event.Act.{Act}
 use Rattle.jvm_model.specs.declared.program.Program.{Program}
 use Rattle.jvm_model.specs.Basis.Programs.{class_named, declared_method, methods_numbered}
 use Rattle.jvm_model.specs.Soundness.SoundPrograms.{IsSoundProgram, main_in}
-use Rattle.admit_check.specs.declared.error.AdmitError.{AdmitError}
-use Rattle.admit_check.specs.declared.error.AdmitError.TheVariants.{TooManyMethods, NoMain, NoSuchRoot}
-use Rattle.admit_check.specs.Checks.{fault_if, first_of}
+use Rattle.code_admission.specs.declared.error.AdmitError.{AdmitError}
+use Rattle.code_admission.specs.declared.error.AdmitError.TheVariants.{TooManyMethods, NoMain, NoSuchRoot}
+use Rattle.code_admission.specs.Checks.{fault_if, first_of}
 use Rattle.admit_check.specs.Shapes.{name_fault, shape_fault}
-use Rattle.admit_check.specs.Codes.{codes_fault}
-use Rattle.admit_check.specs.Floating.{floating_fault}
+use Rattle.code_admission.specs.Codes.{codes_fault}
+use Rattle.code_admission.specs.Floating.{floating_fault}
 use Rattle.inject_events.specs.Answers.{IsProfilable, IsReadableClass}
 use Rattle.admit_check.specs.Profiling.{HaveSoundTables, profiling_fault}
 use Rattle.admit_check.specs.SoundBuiltIn.{IsSoundBuiltIn}

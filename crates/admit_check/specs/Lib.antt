@@ -1,13 +1,6 @@
-pub mod Checks
-pub mod Texts
 pub mod Shapes
 pub mod Stages
 pub mod Twins
-pub mod Uses
-pub mod CodeTables
-pub mod Codes
-pub mod Floating
 pub mod Admission
-pub mod FloatingFrames
 pub mod Profiling
 pub mod SoundBuiltIn

@@ -9,8 +9,8 @@ use Rattle.jvm_model.specs.Basis.Methods.{code_of}
 use Rattle.inject_events.specs.Rewriting.{Refused, refused_of, all_plain}
 use Rattle.inject_events.specs.Settings.{setting_of}
 use Rattle.inject_events.specs.SoundTables.{HasSoundTables}
-use Rattle.admit_check.specs.declared.error.AdmitError.{AdmitError}
-use Rattle.admit_check.specs.declared.error.AdmitError.TheVariants.{NotProfilable}
+use Rattle.code_admission.specs.declared.error.AdmitError.{AdmitError}
+use Rattle.code_admission.specs.declared.error.AdmitError.TheVariants.{NotProfilable}
 
 abbrev pub refusal_told : ℕ → Refused → AdmitError
 refusal_told k refused = NotProfilable k refused.0 refused.1

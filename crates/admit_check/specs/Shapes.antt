@@ -15,11 +15,11 @@ use Rattle.const_pool.specs.References.{named_class, named_text}
 use Rattle.const_pool.specs.BuiltIn.{probe_class, built_in_names}
 use Rattle.jvm_model.specs.Basis.Descriptors.{same_text}
 use Rattle.jvm_model.specs.Basis.Methods.{has_flag}
-use Rattle.admit_check.specs.declared.error.AdmitError.{AdmitError}
-use Rattle.admit_check.specs.declared.error.AdmitError.TheVariants.{ReservedName, Duplicate, BadShape}
-use Rattle.admit_check.specs.declared.error.ShapeCause.TheVariants as cause
-use Rattle.admit_check.specs.Checks.{fault_if, first_of}
-use Rattle.admit_check.specs.Texts.{field_kind, is_field_text, is_method_text, is_array_name}
+use Rattle.code_admission.specs.declared.error.AdmitError.{AdmitError}
+use Rattle.code_admission.specs.declared.error.AdmitError.TheVariants.{ReservedName, Duplicate, BadShape}
+use Rattle.code_admission.specs.declared.error.ShapeCause.TheVariants as cause
+use Rattle.code_admission.specs.Checks.{fault_if, first_of}
+use Rattle.code_admission.specs.Texts.{field_kind, is_field_text, is_method_text, is_array_name}
 
 -- ---- names of classes
 

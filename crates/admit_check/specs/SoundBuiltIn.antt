@@ -4,8 +4,8 @@ use Rattle.std.specs.Prelude.{◌≡◌, ℕ, false, None, codes}
 use Rattle.std.specs.List.{list_any}
 use Rattle.const_pool.specs.declared.class.ClassFile.{ClassFile}
 use Rattle.jvm_model.specs.Basis.Programs.{has_name}
-use Rattle.admit_check.specs.Codes.{codes_fault}
-use Rattle.admit_check.specs.Floating.{floating_fault}
+use Rattle.code_admission.specs.Codes.{codes_fault}
+use Rattle.code_admission.specs.Floating.{floating_fault}
 use Rattle.admit_check.specs.Profiling.{profiling_fault}
 use Rattle.admit_check.specs.Shapes.{has_member_twice, has_wrong_code_count, has_wrong_constant, has_wrong_descriptor, has_wrong_name, has_wrong_super}
 

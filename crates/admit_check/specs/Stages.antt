@@ -8,12 +8,12 @@ use Rattle.base_classes.specs.BuiltInClasses.{built_in_classes}
 use Rattle.base_classes.specs.Shown.{declaration_of}
 use Rattle.jvm_model.specs.declared.program.Program.{Program}
 use Rattle.jvm_model.specs.Basis.Descriptors.{same_text}
-use Rattle.admit_check.specs.declared.error.AdmitError.{AdmitError}
-use Rattle.admit_check.specs.declared.error.AdmitError.TheVariants.{ReservedName, Duplicate, NoMemory}
-use Rattle.admit_check.specs.Checks.{fault_if, first_of}
+use Rattle.code_admission.specs.declared.error.AdmitError.{AdmitError}
+use Rattle.code_admission.specs.declared.error.AdmitError.TheVariants.{ReservedName, Duplicate, NoMemory}
+use Rattle.code_admission.specs.Checks.{fault_if, first_of}
 use Rattle.admit_check.specs.Shapes.{is_reserved, own_name, shape_fault}
-use Rattle.admit_check.specs.Codes.{IsRefusal, codes_fault}
-use Rattle.admit_check.specs.Floating.{floating_fault}
+use Rattle.code_admission.specs.Codes.{IsRefusal, codes_fault}
+use Rattle.code_admission.specs.Floating.{floating_fault}
 use Rattle.admit_check.specs.Profiling.{profiling_fault}
 
 -- ---- answers

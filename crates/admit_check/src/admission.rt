@@ -13,14 +13,12 @@ ghost use Rattle.admit_check.specs.Profiling.{HaveSoundTables};
 ghost use Rattle.admit_check.specs.Stages.{code_fault_of, class_fault_among, with_name_of};
 ghost use Rattle.admit_check.specs.Admission.{program_with, program_completed, admission};
 
-use crate::codes::check_codes;
-use crate::error::AdmitError;
-use crate::floating::floating_fault;
 use crate::name_set::{NameSet, name_fault};
 use crate::profiling::profiling_fault;
 use crate::program::{acts_of, main_in, methods_numbered};
 use crate::shapes::shape_fault;
 use base_classes::built_in;
+use code_admission::{AdmitError, check_codes, floating_fault};
 use const_pool::ClassFile;
 use jf_bytes::{NoMemory, Seq, Text16};
 use jvm_model::{Act, Program};

@@ -5,8 +5,8 @@ ghost use Rattle.std.specs.List.{list_any};
 ghost use Rattle.jvm_model.specs.Basis.Descriptors.{same_text};
 ghost use Rattle.admit_check.specs.Stages.{name_fault_among, with_name};
 
-use crate::error::AdmitError;
 use crate::shapes::is_reserved;
+use code_admission::AdmitError;
 use const_pool::ClassFile;
 use indexmap::IndexSet;
 use jf_bytes::{NoMemory, Text16};

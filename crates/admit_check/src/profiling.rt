@@ -5,8 +5,7 @@ ghost use Rattle.inject_events.specs.Answers.{IsReadableClass};
 ghost use Rattle.inject_events.specs.Rewriting.{plain_mark, all_plain};
 ghost use Rattle.admit_check.specs.Profiling.{profiling_fault};
 
-use crate::codes::code_of;
-use crate::error::AdmitError;
+use code_admission::{AdmitError, code_of};
 use const_pool::{ClassFile, Member};
 use inject_events::{InjectError, instrument, is_surely_profilable};
 use jf_bytes::{NoMemory, Seq};

@@ -14,7 +14,7 @@ ghost use Rattle.admit_check.specs.Stages.{Answers, HasNumbers};
 ghost use Rattle.admit_check.specs.Admission.{root_in};
 ghost use Rattle.jvm_model.specs.Soundness.SoundPrograms.{declared_main, main_in, main_of_class};
 
-use crate::error::AdmitError;
+use code_admission::AdmitError;
 use const_pool::{Attribute, ClassFile, Member, Pool};
 use jf_bytes::{NoMemory, Seq, Text16};
 use jvm_model::{Act, MethodPlace, Program};

@@ -5,7 +5,7 @@ ghost use Rattle.std.specs.List.{list_any};
 ghost use Rattle.std.specs.Option.{option_map_or};
 ghost use Rattle.jvm_model.specs.Basis.Descriptors.{same_text};
 ghost use Rattle.jvm_model.specs.Basis.Methods.{has_flag};
-ghost use Rattle.admit_check.specs.Texts.{is_field_text, is_method_text};
+ghost use Rattle.code_admission.specs.Texts.{is_field_text, is_method_text};
 ghost use Rattle.admit_check.specs.Shapes.{is_taken_name, is_probe_entry, is_reserved, has_wrong_name};
 ghost use Rattle.admit_check.specs.Shapes.{final_names, is_no_super_name, has_wrong_super, has_no_body};
 ghost use Rattle.admit_check.specs.Shapes.{has_wrong_text, has_wrong_descriptor, is_code, code_count};
@@ -13,10 +13,11 @@ ghost use Rattle.admit_check.specs.Shapes.{has_wrong_code_count, fits_kind, take
 ghost use Rattle.admit_check.specs.Shapes.{constants_of, fits_constant, has_right_constants};
 ghost use Rattle.admit_check.specs.Shapes.{has_wrong_constant, shape_fault};
 
-use crate::error::{AdmitError, ShapeCause};
-use crate::texts::{field_kind, is_array_name, is_field_text, method_kinds};
 use crate::twins::has_member_twice;
 use base_classes::is_built_in;
+use code_admission::{
+    AdmitError, ShapeCause, field_kind, is_array_name, is_field_text, method_kinds,
+};
 use const_pool::{Attribute, ClassFile, Const, Kind, Member, Pool};
 use jf_bytes::{NoMemory, Seq, Text16};
 use std::alloc::Global;

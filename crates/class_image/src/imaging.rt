@@ -7,9 +7,10 @@ ghost use Rattle.inject_events.specs.Answers.{IsProfilable, IsReadableClass};
 ghost use Rattle.class_image.specs.Imaging.{IsAdmittedFile, IsImageOf, IsClassRefusal, IsRefusal, HasImage, IsFileRefusal, PutsImage, IsTold};
 
 use crate::words::{first_of, marks_of};
-use admit_check::{AdmitError, admit_class};
+use admit_check::admit_class;
 use class_reader::{MOST_BYTES, ReadError, read_class};
 use class_writer::write_fitting;
+use code_admission::AdmitError;
 use const_pool::ClassFile;
 use inject_events::{InjectError, instrument, marked_have_code};
 use jf_bytes::{FetchError, Files, Sink};

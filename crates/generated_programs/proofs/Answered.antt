@@ -6,7 +6,7 @@ use Rattle.jvm_model.specs.declared.program.Program.{Program}
 use Rattle.plan_text.specs.declared.plan.Plan.{Plan}
 use Rattle.program_gen.specs.Generated.{classes_generated}
 use Rattle.program_gen.proofs.GeneratedFacts.{generated-count}
-use Rattle.admit_check.specs.declared.error.AdmitError.{AdmitError}
+use Rattle.code_admission.specs.declared.error.AdmitError.{AdmitError}
 use Rattle.admit_check.specs.Admission.{IsAdmittedProgram, admission_of}
 use Rattle.admit_check.specs.Stages.{Answers}
 use Rattle.generated_programs.specs.Admitted.{IsRefusedFor, admission_of_generated, main_name}

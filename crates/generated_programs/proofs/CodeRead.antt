@@ -18,7 +18,7 @@ use Rattle.program_gen.specs.declared.rows.Instruction.{Instruction}
 use Rattle.program_gen.specs.declared.rows.Instruction.TheVariants.{Plain, Byte, Short, OfClass, OfMember}
 use Rattle.program_gen.specs.Names.{class_text}
 use Rattle.program_gen.specs.Members.{IsSpelled, named_by, reference_of}
-use Rattle.admit_check.specs.Codes.{instructions_from}
+use Rattle.code_admission.specs.Codes.{instructions_from}
 use Rattle.generated_programs.proofs.Forms.{size_of, instr_of, instrs_of}
 use Rattle.generated_programs.proofs.Readings.{read-plain, read-byte, read-short, read-jump, read-pool}
 

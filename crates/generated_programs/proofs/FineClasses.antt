@@ -22,14 +22,14 @@ use Rattle.program_gen.specs.declared.rows.ClassName.TheVariants.{Object, System
 use Rattle.program_gen.specs.declared.rows.ClassRow.{ClassRow}
 use Rattle.program_gen.specs.Names.{class_text}
 use Rattle.program_gen.specs.Generated.{IsNamedBy}
-use Rattle.admit_check.specs.declared.error.AdmitError.{AdmitError}
-use Rattle.admit_check.specs.Checks.{first_of, first_from}
-use Rattle.admit_check.specs.Codes as codes
-use Rattle.admit_check.specs.Floating.{floating_fault, floating_field, floating_method, floating_body}
-use Rattle.admit_check.specs.FloatingFrames.{floating_frames}
+use Rattle.code_admission.specs.declared.error.AdmitError.{AdmitError}
+use Rattle.code_admission.specs.Checks.{first_of, first_from}
+use Rattle.code_admission.specs.Codes as codes
+use Rattle.code_admission.specs.Floating.{floating_fault, floating_field, floating_method, floating_body}
+use Rattle.code_admission.specs.FloatingFrames.{floating_frames}
 use Rattle.admit_check.specs.Profiling.{profiling_fault, refusal_told}
 use Rattle.admit_check.specs.Shapes.{shape_fault, has_wrong_name, has_wrong_super, has_wrong_code_count, has_wrong_constant, has_wrong_text, has_twins, is_no_super_name}
-use Rattle.admit_check.specs.Texts.{is_array_name, is_field_text, is_method_text}
+use Rattle.code_admission.specs.Texts.{is_array_name, is_field_text, is_method_text}
 use Rattle.generated_programs.proofs.FineMethods.{IsFineMethod}
 use Rattle.generated_programs.proofs.FineRows.{plain_setting}
 

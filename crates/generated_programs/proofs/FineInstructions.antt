@@ -16,9 +16,9 @@ use Rattle.program_gen.specs.declared.rows.MemberName.TheVariants.{Initializer, 
 use Rattle.program_gen.specs.declared.rows.Instruction.TheVariants.{OfClass, OfMember}
 use Rattle.program_gen.specs.Names.{class_text}
 use Rattle.program_gen.specs.Members.{reference_of}
-use Rattle.admit_check.specs.Texts.{dimensions_of, is_class_name}
-use Rattle.admit_check.specs.Codes as codes
-use Rattle.admit_check.specs.Floating.{is_floating_entry, is_floating_index, is_floating_instr, is_floats_name, names_floats}
+use Rattle.code_admission.specs.Texts.{dimensions_of, is_class_name}
+use Rattle.code_admission.specs.Codes as codes
+use Rattle.code_admission.specs.Floating.{is_floating_entry, is_floating_index, is_floating_instr, is_floats_name, names_floats}
 use Rattle.generated_programs.proofs.Forms.{instr_of}
 
 -- an instruction without a fault, which uses no floats

@@ -17,12 +17,12 @@ use Rattle.inject_events.proofs.InstrsIn.{instrs_in-is}
 use Rattle.program_gen.specs.declared.rows.Instruction.{Instruction}
 use Rattle.program_gen.specs.declared.rows.MethodRow.{MethodRow}
 use Rattle.program_gen.specs.Members.{IsMethodOf, HasCodeOf, IsSpelled}
-use Rattle.admit_check.specs.Checks.{first_in}
-use Rattle.admit_check.specs.Codes as codes
-use Rattle.admit_check.specs.Floating.{describes_floats, first_floating, floating_body, has_floats}
+use Rattle.code_admission.specs.Checks.{first_in}
+use Rattle.code_admission.specs.Codes as codes
+use Rattle.code_admission.specs.Floating.{describes_floats, first_floating, floating_body, has_floats}
 use Rattle.admit_check.specs.Shapes.{code_count, has_wrong_code_count, has_wrong_text}
-use Rattle.admit_check.specs.Texts.{is_method_text, method_kinds}
-use Rattle.admit_check.proofs.Decoded.{reading_found}
+use Rattle.code_admission.specs.Texts.{is_method_text, method_kinds}
+use Rattle.code_admission.proofs.Decoded.{reading_found}
 use Rattle.generated_programs.proofs.Forms.{instrs_of}
 use Rattle.generated_programs.proofs.CodeRead.{IsFormed, AreRead, one-read, code-read}
 use Rattle.generated_programs.proofs.FineInstructions.{IsFine}

@@ -19,9 +19,9 @@ use Rattle.program_gen.specs.declared.rows.ClassName.{ClassName}
 use Rattle.program_gen.specs.declared.rows.MethodRow.{MethodRow}
 use Rattle.program_gen.specs.Names.{member_descriptor}
 use Rattle.program_gen.specs.Programs.{constructor_code, run_code, entry_code, constructor, run_method, entry_method}
-use Rattle.admit_check.specs.Codes.{method_with, falls}
-use Rattle.admit_check.specs.Floating.{has_floats}
-use Rattle.admit_check.specs.Texts.{is_method_text, method_kinds}
+use Rattle.code_admission.specs.Codes.{method_with, falls}
+use Rattle.code_admission.specs.Floating.{has_floats}
+use Rattle.code_admission.specs.Texts.{is_method_text, method_kinds}
 use Rattle.generated_programs.proofs.Forms.{instrs_of}
 use Rattle.generated_programs.proofs.CodeRead.{IsFormed, HaveNamed}
 use Rattle.generated_programs.proofs.FineInstructions.{IsFine}

@@ -14,8 +14,8 @@ use Rattle.program_gen.specs.Generated.{classes_generated}
 use Rattle.program_gen.specs.Making.{class_file_of}
 use Rattle.program_gen.specs.Programs.{main_row, program_rows, rows_below}
 use Rattle.program_gen.proofs.GeneratedFacts.{generated-count}
-use Rattle.admit_check.specs.declared.error.AdmitError.{AdmitError}
-use Rattle.admit_check.specs.declared.error.AdmitError.TheVariants as admit
+use Rattle.code_admission.specs.declared.error.AdmitError.{AdmitError}
+use Rattle.code_admission.specs.declared.error.AdmitError.TheVariants as admit
 use Rattle.admit_check.specs.Admission.{acts_from, act_of, act_with, admission_of, count_fault, with_acts}
 use Rattle.generated_programs.specs.Admitted.{IsRefusedFor, NamesNoMethod, admission_of_generated, generated_program, main_name}
 use Rattle.generated_programs.proofs.FewMethods.{HasFewMethods, built_in-count, built_in-few, numbered-few}

@@ -8,7 +8,7 @@ use Rattle.program_gen.specs.declared.rows.Choices.{Choices}
 use Rattle.program_gen.specs.declared.rows.ClassName.{ClassName}
 use Rattle.program_gen.specs.declared.rows.ClassName.TheVariants.{System, PrintStream, Numbered}
 use Rattle.program_gen.specs.Programs.{constructor_code, run_code, entry_code}
-use Rattle.admit_check.specs.Codes as codes
+use Rattle.code_admission.specs.Codes as codes
 use Rattle.generated_programs.proofs.Forms.{instrs_of}
 use Rattle.generated_programs.proofs.CodeRead.{IsFormed, HaveNamed}
 use Rattle.generated_programs.proofs.FineInstructions.{IsFine, new-fine, initializer-fine, run-fine, println-fine, out-fine}

@@ -7,8 +7,8 @@ use Rattle.base_classes.specs.BuiltInFiles.{built_in_files}
 use Rattle.plan_text.specs.declared.plan.Plan.{Plan}
 use Rattle.program_gen.specs.Generated.{classes_generated}
 use Rattle.jvm_model.specs.declared.program.Program.{Program}
-use Rattle.admit_check.specs.declared.error.AdmitError.{AdmitError}
-use Rattle.admit_check.specs.declared.error.AdmitError.TheVariants.{NoSuchRoot, NoMemory}
+use Rattle.code_admission.specs.declared.error.AdmitError.{AdmitError}
+use Rattle.code_admission.specs.declared.error.AdmitError.TheVariants.{NoSuchRoot, NoMemory}
 use Rattle.admit_check.specs.Admission.{acts_from, program_with, with_acts}
 
 -- the class with the entry

@@ -10,8 +10,9 @@ ghost use Rattle.generated_programs.specs.Admitted.{AreGeneratedFiles, NamesNoMe
 ghost use Rattle.generated_programs.specs.Admitted.{admission_of_generated, generated_contents};
 ghost use Rattle.generated_programs.specs.Admitted.{main_name};
 
-use admit_check::{AdmitError, admit};
+use admit_check::admit;
 use class_writer::write_class;
+use code_admission::AdmitError;
 use const_pool::ClassFile;
 use jf_bytes::{NoMemory, Seq};
 use jvm_model::Program;

@@ -6,7 +6,7 @@ use Rattle.command_line.specs.Input.{most_input}
 use Rattle.command_line.specs.Words.{Read}
 use Rattle.jfluid_cli.specs.declared.refusal.Refusal.{Refusal}
 use Rattle.jfluid_cli.specs.declared.refusal.Refusal.TheVariants as refusal
-use Rattle.admit_check.specs.declared.error.AdmitError.{AdmitError}
+use Rattle.code_admission.specs.declared.error.AdmitError.{AdmitError}
 use Rattle.admit_check.specs.Admission.{root_in}
 use Rattle.generated_programs.specs.Admitted.{generated_program}
 use Rattle.command_line.specs.declared.words.Generation.{Generation}

@@ -4,14 +4,14 @@ use Rattle.std.specs.String.{string_bytes}
 use Rattle.std.specs.Fmt.{decimal}
 use Rattle.class_reader.specs.declared.error.ReadError.{ReadError}
 use Rattle.class_reader.specs.declared.error.ReadError.TheVariants as fault
-use Rattle.admit_check.specs.declared.error.AdmitError.{AdmitError}
-use Rattle.admit_check.specs.declared.error.AdmitError.TheVariants as admit
-use Rattle.admit_check.specs.declared.error.CodeCause.{CodeCause}
-use Rattle.admit_check.specs.declared.error.CodeCause.TheVariants as code
-use Rattle.admit_check.specs.declared.error.FloatingPointUse.{FloatingPointUse}
-use Rattle.admit_check.specs.declared.error.FloatingPointUse.TheVariants as place
-use Rattle.admit_check.specs.declared.error.ShapeCause.{ShapeCause}
-use Rattle.admit_check.specs.declared.error.ShapeCause.TheVariants as shape
+use Rattle.code_admission.specs.declared.error.AdmitError.{AdmitError}
+use Rattle.code_admission.specs.declared.error.AdmitError.TheVariants as admit
+use Rattle.code_admission.specs.declared.error.CodeCause.{CodeCause}
+use Rattle.code_admission.specs.declared.error.CodeCause.TheVariants as code
+use Rattle.code_admission.specs.declared.error.FloatingPointUse.{FloatingPointUse}
+use Rattle.code_admission.specs.declared.error.FloatingPointUse.TheVariants as place
+use Rattle.code_admission.specs.declared.error.ShapeCause.{ShapeCause}
+use Rattle.code_admission.specs.declared.error.ShapeCause.TheVariants as shape
 use Rattle.inject_events.specs.declared.error.Cause.{Cause}
 use Rattle.inject_events.specs.declared.error.Cause.TheVariants as limit
 use Rattle.plan_text.specs.declared.plan.LineCause.{LineCause}

@@ -6,7 +6,7 @@ use Rattle.const_pool.specs.declared.class.ClassFile.{ClassFile}
 use Rattle.jvm_model.specs.declared.ending.Ending.{Ending}
 use Rattle.jvm_model.specs.declared.ending.Ending.TheVariants.{Returned, Exited, Uncaught, Unverifiable}
 use Rattle.jvm_model.specs.declared.program.Program.{Program}
-use Rattle.admit_check.specs.declared.error.AdmitError.{AdmitError}
+use Rattle.code_admission.specs.declared.error.AdmitError.{AdmitError}
 use Rattle.admit_check.specs.Admission.{admission_of}
 use Rattle.jfluid_cli.specs.Asking.{Asked}
 use Rattle.profile_session.specs.Sessions.{Profiling}

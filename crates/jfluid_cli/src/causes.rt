@@ -6,7 +6,7 @@ ghost use Rattle.jfluid_cli.specs.Refusals.{admission_cause as cause_told, class
 ghost use Rattle.jfluid_cli.specs.Refusals.{place_text as place_told, shape_word as shape_told};
 ghost use Rattle.jfluid_cli.specs.Refusals.{limit_word as limit_told};
 
-use admit_check::{AdmitError, CodeCause, FloatingPointUse, ShapeCause};
+use code_admission::{AdmitError, CodeCause, FloatingPointUse, ShapeCause};
 use inject_events::Cause;
 use std::alloc::{AllocError, Global};
 

@@ -20,8 +20,9 @@ ghost use Rattle.program_fit.specs.Runnable.{IsAdmitted};
 
 use crate::plans::plan_of;
 use crate::refusal::{Refusal, word_at};
-use admit_check::{AdmitError, admit};
+use admit_check::admit;
 use class_reader::{MOST_BYTES, ReadError, read_class};
+use code_admission::AdmitError;
 use command_line::{Generation, Words, command_of};
 use const_pool::ClassFile;
 use generated_programs::admit_generated;

@@ -10,8 +10,8 @@ ghost use Rattle.jfluid_cli.specs.Refusals.{line_word as line_told, plan_cause a
 ghost use Rattle.jfluid_cli.specs.Sinks.{PutsOrRose, sink_view};
 
 use crate::causes::{admission_cause, class_in};
-use admit_check::AdmitError;
 use class_reader::ReadError;
+use code_admission::AdmitError;
 use jf_bytes::Sink;
 use plan_text::{LineCause, PlanError};
 use std::alloc::{AllocError, Global};

@@ -53,21 +53,22 @@ pub record IsReturn (p : Program) (method at : ℕ) : Type 0 where
   pub place : IsPlace (places_of p) method at
   pub returns : option_map_or (λ (i : Instruction). is_return i.operation) ((original p).at method at) false ≡ true
 
--- the current activation stands at one
-pub record StandsAtReturn (v : View) : Type 0 where
+-- The method of the current activation has one. What is seen of a machine has no places, so which one is not said.
+pub record HasReturn (v : View) : Type 0 where
   pub current : Held
   pub others : List Held
   pub live : v.live ≡ current ∷ others
   pub at : ℕ
   pub returns : IsReturn v.program current.method at
 
--- where a return is told next
+-- where a return is told next: the method that is left has a return
 abbrev pub IfLeaves : Telling → View → Type 0
-IfLeaves (telling.Due (Ends Leave)) v = StandsAtReturn v
+IfLeaves (telling.Due (Ends Leave)) v = HasReturn v
 IfLeaves _ v = Unit {0}
 
--- The current activation's version has probes. At a leave event its frame stands at a return. In the version that the method's original code has for
--- that mark the probe of this kind, with the method's number, stands at that place.
+-- The current activation's version has probes. At a leave event its method has a return at the place that is told of.
+-- In the version that the method's original code has for that mark the probe of this kind, with the method's number,
+-- stands at that place.
 pub record ComesFromProbe (v : View) (event : Event) : Type 0 where
   pub mark : Mark
   pub others : List Held

@@ -327,8 +327,9 @@ impl Vm {
         }
     }
 
-    /// Makes steps from a state of rest, at most so many, while they tell nothing; the answer is the turn of the last one. It is a call of
-    /// its own, so that `run_on`, which has it three times, stays small enough to be inlined.
+    /// Makes steps from a state of rest, at most so many, while they tell nothing; the answer is the
+    /// turn of the last one. It is a call of its own, so that `run_on`, which has it three times,
+    /// stays small enough to be inlined.
     #[inline(never)]
     fn run_rested(&mut self, most: u64) -> Turn
         requires some { 0 < most }

@@ -7,8 +7,9 @@ ghost use Rattle.machine_rows.specs.Ready.{IsFresh};
 ghost use Rattle.program_fit.specs.Runnable.{IsAdmitted};
 
 use crate::parts::{RowError, fetch_file, line_parted};
-use admit_check::{AdmitError, admit};
+use admit_check::admit;
 use class_reader::{ReadError, read_class};
+use code_admission::AdmitError;
 use const_pool::ClassFile;
 use jf_bytes::{Files, NoMemory, Seq, from_utf8};
 use jvm_machine::Vm;

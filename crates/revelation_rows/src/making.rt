@@ -6,8 +6,9 @@ ghost use Rattle.const_pool.specs.ClassFile.{IsClassFile};
 ghost use Rattle.program_fit.specs.Runnable.{IsAdmitted};
 
 use crate::parts::RowError;
-use admit_check::{AdmitError, admit};
+use admit_check::admit;
 use class_reader::{ReadError, read_class};
+use code_admission::AdmitError;
 use const_pool::ClassFile;
 use jf_bytes::{Seq, from_utf8};
 use jvm_model::Program;

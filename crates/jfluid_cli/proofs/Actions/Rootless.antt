@@ -10,7 +10,7 @@ use Rattle.plan_text.specs.declared.plan.Action.{Action}
 use Rattle.program_gen.specs.Generated.{classes_generated}
 use Rattle.jvm_model.specs.declared.event.Act.{Act}
 use Rattle.jvm_model.specs.declared.program.Program.{Program}
-use Rattle.admit_check.specs.declared.error.AdmitError.{AdmitError}
+use Rattle.code_admission.specs.declared.error.AdmitError.{AdmitError}
 use Rattle.admit_check.specs.Admission.{act_of, act_with, acts_from, root_in, with_acts}
 use Rattle.generated_programs.specs.Admitted.{admission_of_generated, generated_contents, generated_program}
 use Rattle.generated_programs.proofs.GeneratedFiles.{generated-files}

@@ -8,7 +8,7 @@ use Rattle.class_reader.specs.Files.{IsFile}
 use Rattle.plan_text.specs.declared.plan.Plan.{Plan}
 use Rattle.program_gen.specs.Generated.{classes_generated}
 use Rattle.jvm_model.specs.declared.program.Program.{Program}
-use Rattle.admit_check.specs.declared.error.AdmitError.{AdmitError}
+use Rattle.code_admission.specs.declared.error.AdmitError.{AdmitError}
 use Rattle.admit_check.specs.Admission.{IsAdmittedProgram, admission_of}
 use Rattle.generated_programs.specs.Admitted.{IsRefusedFor, admission_of_generated, generated_contents}
 use Rattle.generated_programs.proofs.GeneratedAdmitted.{generated-admitted}

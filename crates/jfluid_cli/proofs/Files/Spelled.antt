@@ -6,7 +6,7 @@ use Rattle.class_reader.specs.declared.error.ReadError.{ReadError}
 use Rattle.class_reader.specs.Files.{IsFile}
 use Rattle.class_reader.proofs.Files.{one_class, no_first_fault}
 use Rattle.jvm_model.specs.declared.program.Program.{Program}
-use Rattle.admit_check.specs.declared.error.AdmitError.{AdmitError}
+use Rattle.code_admission.specs.declared.error.AdmitError.{AdmitError}
 use Rattle.jfluid_cli.specs.declared.refusal.Refusal.{Refusal}
 use Rattle.jfluid_cli.specs.Asking.{Asked}
 use Rattle.jfluid_cli.specs.Stages.{IsUnread, IsReadRefusal}

@@ -12,7 +12,7 @@ use Rattle.jvm_model.specs.declared.event.Act.{Act}
 use Rattle.jvm_model.specs.declared.program.Program.{Program}
 use Rattle.jvm_model.specs.Soundness.Calls.{AreFrom}
 use Rattle.jvm_model.specs.Soundness.SoundPrograms.{main_in}
-use Rattle.admit_check.specs.declared.error.AdmitError.{AdmitError}
+use Rattle.code_admission.specs.declared.error.AdmitError.{AdmitError}
 use Rattle.admit_check.specs.Admission.{IsAdmittedProgram, act_of, act_with, acts_from, admission_of, classes_fault, program_completed, count_fault, program_with, root_in, unless_fault, with_acts, with_main}
 
 -- its first classes are those that were given

@@ -4,7 +4,7 @@ use Rattle.std.specs.Prelude.{min, Result, Ok}
 use Rattle.jf_bytes.specs.Streams.{Rose, greatest}
 use Rattle.jvm_model.specs.declared.program.Program.{Program}
 use Rattle.jvm_model.specs.declared.state.State.{State}
-use Rattle.admit_check.specs.declared.error.AdmitError.{AdmitError}
+use Rattle.code_admission.specs.declared.error.AdmitError.{AdmitError}
 use Rattle.jvm_model.specs.Codes.Originals.{original}
 use Rattle.jvm_model.specs.Running.Run.{ending_of}
 use Rattle.jvm_model.proofs.Running.Growth.{run-stays}

@@ -1,4 +1,4 @@
--- Where the probe of a return has told, the current frame stands at the return.
+-- Where the probe of a return has told, the current frame stands at a return of its method.
 use Rattle.std.proofs.Common.{◌≡◌, ℕ, Bool, true, false, not, List, [], ◌∷◌, Option, Some, None, refl, sym, ap, subst, ◌∙◌, inl, inr}
 use Rattle.std.specs.Prelude.{◌==◌, ◌&&◌}
 use Rattle.std.specs.List.{AllByRecursion}
@@ -29,7 +29,7 @@ use Rattle.prepared_code.specs.Versions.{Setup, mark_of, method_of}
 use Rattle.jvm_machine.specs.declared.advancing.Telling.TheVariants as telling
 use Rattle.jvm_machine.specs.Advances.{left_in}
 use Rattle.jvm_machine.specs.Machine.{IsMachine, IsSoundOnce, state_seen}
-use Rattle.jvm_machine.specs.Probes.{IfLeaves, IsReturn, StandsAtReturn}
+use Rattle.jvm_machine.specs.Probes.{IfLeaves, IsReturn, HasReturn}
 use Rattle.jvm_machine.specs.View.{is_resting}
 
 told-busy : (b : Bool) → (b && not true) ≡ false
@@ -70,7 +70,7 @@ module _ (w : Setup) (loaded : List ℕ) (hand : Hand) (clock : ℕ) (s : State)
     same-active x y same = ap (frame_or f) same
 
   by : (ending : Option Ending) (stack : List Entry) → in_hand.between.stack ≡ stack
-      → is_at_return (original w.world.program) ending (moved_stack (versions_forgotten (method_of w.versions)) stack) ≡ true → StandsAtReturn (state_seen w s true false clock hand)
+      → is_at_return (original w.world.program) ending (moved_stack (versions_forgotten (method_of w.versions)) stack) ≡ true → HasReturn (state_seen w s true false clock hand)
   by None [] e back = absurd (let h : false ≡ true = back in cc)
   by None (Initializing class part ∷ below) e back = absurd (let h : false ≡ true = back in cc)
   by (Some ended) stack e back = absurd (let h : false ≡ true = back in cc)
@@ -92,8 +92,8 @@ module _ (w : Setup) (loaded : List ℕ) (hand : Hand) (clock : ℕ) (s : State)
       IsSoundStack : List Entry → Type 0
       IsSoundStack z = AllByRecursion (IsSoundEntryIn w s.shared.loaded) z
 
-  pub stands-at-return : StandsAtReturn (state_seen w s true false clock hand)
-  stands-at-return =
+  pub has-return : HasReturn (state_seen w s true false clock hand)
+  has-return =
       let there : State = original_of (versioned_in w is.homes) in_hand.between in
       let awaits : Awaits w.world (original w.world.program) Attempt there = subst (λ (t : Todo). Awaits w.world (original w.world.program) t there) todo (in_hand.awaits delivered) in
       by in_hand.between.ending in_hand.between.stack refl awaits
@@ -113,5 +113,5 @@ leaves-by w loaded hand clock s gone handed left is = by gone.due refl where
   by (Ends kind.Enter) e = tt
   by (Ends kind.Unwind) e = tt
   by (Ends kind.Leave) e =
-      stands-at-return w loaded hand clock s is (ap (λ (h : Hand). h.delivered) handed ∙ (left.delivered ∙ ap is_end e))
+      has-return w loaded hand clock s is (ap (λ (h : Hand). h.delivered) handed ∙ (left.delivered ∙ ap is_end e))
       (ap (λ (h : Hand). todo_of h.moves) handed ∙ (left.moves ∙ ap later_of e))

@@ -39,7 +39,7 @@ use Rattle.jvm_model.proofs.Running.Starts.{Reads-nth}
 use Rattle.code_model.proofs.Readings.{instruction_at_within}
 use Rattle.jvm_machine.specs.declared.advancing.Telling.TheVariants as telling
 use Rattle.jvm_machine.specs.Advances.{Stops, told_in}
-use Rattle.jvm_machine.specs.Probes.{ComesFromProbe, HasBytes, IfLeaves, IsReturn, StandsAtReturn, probe_index, probe_place}
+use Rattle.jvm_machine.specs.Probes.{ComesFromProbe, HasBytes, IfLeaves, IsReturn, HasReturn, probe_index, probe_place}
 use Rattle.jvm_machine.specs.View.{View, step_begun, next_stop, to_come}
 use Rattle.jvm_machine.proofs.Probes.ReturnCodes.{return-opcode}
 use Rattle.jvm_machine.proofs.Probes.VersionProbes.{entry-there, leave-there, unwind-there}
@@ -215,7 +215,7 @@ module _ (v : View) (clock : ℕ) where
     by : (k ≡ kind.Leave) ⊎ (k ≡ kind.Unwind) → ComesFromProbe v (record { kind = k; method = h.method; clock = clock })
     by (inr unwinds) = whole 0 (λ leaves. absurd (let e : kind.Leave ≡ kind.Unwind = sym leaves ∙ unwinds in cc))
     by (inl leaves_it) =
-        let stands : StandsAtReturn v = subst (λ x. IfLeaves (telling.Due (Ends x)) v) leaves_it leaves in
+        let stands : HasReturn v = subst (λ x. IfLeaves (telling.Due (Ends x)) v) leaves_it leaves in
         let same : stands.current ≡ h = first-same stands.current h stands.others more (sym stands.live ∙ is) in
         whole stands.at (λ again. subst (λ (x : Held). IsReturn v.program x.method stands.at) same stands.returns)
 

@@ -5,8 +5,9 @@ ghost use Rattle.std.specs.List.{AllByRecursion};
 ghost use Rattle.const_pool.specs.ClassFile.{IsClassFile};
 ghost use Rattle.jvm_model.specs.Soundness.SoundPrograms.{IsHeapLimit};
 
-use admit_check::{AdmitError, admit};
+use admit_check::admit;
 use class_reader::read_class;
+use code_admission::AdmitError;
 use const_pool::ClassFile;
 use jf_bytes::{NoMemory, Seq, Text16};
 use jvm_model::Program;

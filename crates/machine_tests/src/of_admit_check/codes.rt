@@ -1,7 +1,7 @@
 //! Each cause, with its numbers: the method at position 2 of the class at position 1 has one local and gives nothing.
 
 use super::classes::{answer, put};
-use admit_check::{AdmitError, CodeCause};
+use code_admission::{AdmitError, CodeCause};
 use jf_bytes::NoMemory;
 use std::alloc::Global;
 use std::test::Fail;

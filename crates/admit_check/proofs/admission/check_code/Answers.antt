@@ -1,7 +1,7 @@
 -- each code was decoded
 use Rattle.inject_events.specs.Answers.{IsReadableClass}
-use Rattle.admit_check.proofs.CodesRead.{AreRead-codes, OnOk-always}
-use Rattle.admit_check.proofs.Readable.{IsReadableClass-read}
+use Rattle.code_admission.proofs.CodesRead.{AreRead-codes, OnOk-always}
+use Rattle.code_admission.proofs.Readable.{IsReadableClass-read}
 use Rattle.admit_check.proofs.admission.check_code.Goals as goal
 
 pub profiling_fault-requires : goal.profiling_fault-requires

@@ -1,8 +1,0 @@
--- what is left of the attributes decides
-use Rattle.std.proofs.Common.{◌≡◌, drop}
-use Rattle.admit_check.specs.Checks.{first_in}
-use Rattle.admit_check.specs.FloatingFrames.{floating_raw}
-use Rattle.admit_check.proofs.floating_frames.floating_raws.Given as goal
-
-abbrev pub invariant-loop-raw : goal.invariant-loop-raw
-invariant-loop-raw l = first_in (floating_raw l.pool) (drop l.raw-index l.raws) ≡ first_in (floating_raw l.pool) l.raws

@@ -1,6 +1,0 @@
-use Rattle.std.proofs.Common.{◌∙◌}
-use Rattle.admit_check.proofs.Grammar.{field_answered}
-use Rattle.admit_check.proofs.texts.field_kind.Goals as goal
-
-pub returns : goal.returns
-returns c = c.ok.ensures.value ∙ field_answered c.args.text.now c.parse_field.result c.parse_field.ensures.found c.parse_field.ensures.only

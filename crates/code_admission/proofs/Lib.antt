@@ -1,0 +1,11 @@
+pub mod CodeLengths
+pub mod CodesRead
+pub mod Decoded
+pub mod Grammar
+pub mod Tables
+pub mod Readable
+pub mod Positions
+pub mod ReadCodes
+pub mod CodeStarts
+pub mod ArrayNames
+pub mod Operations
