@@ -6,12 +6,14 @@ use Rattle.std.specs.Option.{option_map}
 use Rattle.heap_objects.specs.declared.datum.Datum.{Datum}
 use Rattle.heap_objects.specs.declared.object.Object.{Object}
 use Rattle.heap_objects.specs.declared.object.Object.TheVariants.{Instance, Array, Text}
+use Rattle.heap_objects.specs.Changes.{changed_if}
 use Rattle.heap_objects.specs.Heaps.{HeapView, kind_at, with_object, with_slot_at}
 use Rattle.heap_objects.specs.Objects.{changed_at, kind_of, with_slot}
 use Rattle.jvm_model.specs.Basis.KindNumbers.{user_count}
 use Rattle.jvm_model.specs.Classes.Load.{is_among}
 use Rattle.jvm_model.specs.Basis.SharedState.{class_of_kind}
 use Rattle.class_linker.specs.Linkers.{IsLoaded, LinkerView}
+use Rattle.symbolic_references.specs.Attempts.{with_more}
 use Rattle.symbolic_references.specs.Objects.{IsUsable}
 use Rattle.symbolic_references.specs.Objects.{AreLoaded, IsOfLoaded}
 
@@ -24,9 +26,6 @@ among-front class (x ∷ xs) ys is = by (class == x) is (among-front class xs ys
     by : (b : Bool) → (b || is_among class xs) ≡ true → (is_among class xs ≡ true → is_among class (xs ++ ys) ≡ true) → (b || is_among class (xs ++ ys)) ≡ true
     by true is rest = refl
     by false is rest = rest is
-
-abbrev pub with_more : LinkerView → List ℕ → LinkerView
-with_more l more = record l { loaded = l.loaded ++ more }
 
 module _ (l : LinkerView) (more : List ℕ) where
   pub loaded_more : (class : ℕ) → IsLoaded l class → IsLoaded (with_more l more) class
@@ -80,3 +79,7 @@ module _ (l : LinkerView) where
 
   pub objects_slot : (h : HeapView) (object slot : ℕ) (v : Datum) → AreLoaded l h → AreLoaded l (with_slot_at object slot v h)
   objects_slot h object slot v are = record { objects = each-slot slot v (object - 1) h.objects are.objects; root = are.root }
+
+pub objects_if : (l : LinkerView) (b : Bool) (h : HeapView) (o : Object) → AreLoaded l h → IsOfLoaded l o → AreLoaded l (changed_if b (with_object o) h)
+objects_if l true h o are is = objects_with l h o are is
+objects_if l false h o are is = are

@@ -17,7 +17,7 @@ use Rattle.jvm_model.specs.declared.state.Phase.TheVariants.{Erroneous, Fresh, R
 use Rattle.jvm_model.specs.declared.state.Shared.{Shared}
 use Rattle.jvm_model.specs.Basis.Data.{Back, Breaks, Done, Exits, GoesOn, Initializes, Invokes, Locals, Next, Operands, Outcome, Raises, Returns, Subroutine, Target, Throws, World}
 use Rattle.jvm_model.specs.Instructions.Rules.{when_ready}
-use Rattle.symbolic_references.specs.Answers.{Answer, Calls, Continues, Exceeds, Stops, answer_in, frames_in}
+use Rattle.symbolic_references.specs.Answers.{Answer, Continues, Exceeds, Stops, answer_in, frames_in}
 use Rattle.symbolic_references.specs.Fields.{writes}
 use Rattle.jvm_model.specs.Instructions.InvocationRules.{invokes_selected}
 use Rattle.symbolic_references.specs.declared.known.Callee.TheVariants as callee
@@ -25,6 +25,7 @@ use Rattle.symbolic_references.specs.declared.known.Chosen.{Chosen}
 use Rattle.symbolic_references.specs.declared.targets.Target.{Target as TheTarget}
 use Rattle.symbolic_references.specs.Callees.{HasCallee, IsCallee, IsCode, IsNative, chosen_place}
 use Rattle.symbolic_references.specs.Passing.{IfPassed, IsCall, IsNativeCall, is_next, is_usable}
+use Rattle.symbolic_references.specs.Runtimes.{RuntimeView, after}
 use Rattle.symbolic_references.specs.Resolved.{field_found, puts_instance}
 use Rattle.symbolic_references.specs.Targets.{data_in}
 use Rattle.symbolic_references.proofs.CalleeLemmas.{code-invoked, native-invoked}
@@ -33,7 +34,6 @@ use Rattle.symbolic_references.proofs.TargetLemmas.{length-data}
 pub next-is : (a : Answer) → is_next a ≡ true → a ≡ Continues
 next-is Continues is = refl
 next-is Exceeds is = absurd (false≢true is)
-next-is (Calls m n) is = absurd (false≢true is)
 next-is (Stops q) is = absurd (false≢true is)
 
 stays : (q : Outcome) (next : ℕ) (fs : List PlacedFrame) → is_next (answer_in q fs) ≡ false → frames_in q next fs ≡ fs
@@ -56,19 +56,19 @@ either : {A : Type 0} (b : Bool) → (b ≡ true → A) → (b ≡ false → A) 
 either true on off = on refl
 either false on off = off refl
 
-module _ (d : Done) (old new : FramesView) (next : ℕ) (s after : Shared) (wrote : d.wrote ≡ []) where
+module _ (d : Done) (old new : FramesView) (next : ℕ) (before left : RuntimeView) where
   -- it has gone on
-  pub passed-on : answer_in d.outcome old.frames ≡ Continues → new ≡ with_frames (frames_in d.outcome next old.frames) old → after ≡ d.shared
-      → IfPassed true d next old s new after
-  passed-on answer moved same = record { answer = answer; frames = moved; shared = same; wrote = wrote }
+  pub passed-on : answer_in d.outcome old.frames ≡ Continues → new ≡ with_frames (frames_in d.outcome next old.frames) old → left ≡ after d before
+      → IfPassed true d next old before new left
+  passed-on answer moved same = record { answer = answer; frames = moved; runtime = same }
 
   -- by what it answers, where nothing that is shared changes
-  pub passed-by : (a : Answer) → a ≡ answer_in d.outcome old.frames → new ≡ with_frames (frames_in d.outcome next old.frames) old → d.shared ≡ s → after ≡ s
-      → IfPassed (is_next a) d next old s new after
+  pub passed-by : (a : Answer) → a ≡ answer_in d.outcome old.frames → new ≡ with_frames (frames_in d.outcome next old.frames) old → before ≡ after d before
+      → left ≡ before → IfPassed (is_next a) d next old before new left
   passed-by a told moved same kept = either (is_next a)
-      (λ on. subst (λ b. IfPassed b d next old s new after) (sym on) (passed-on (sym told ∙ next-is a on) moved (kept ∙ sym same)))
+      (λ on. subst (λ b. IfPassed b d next old before new left) (sym on) (passed-on (sym told ∙ next-is a on) moved (kept ∙ same)))
       (λ off.
-      subst (λ b. IfPassed b d next old s new after) (sym off)
+      subst (λ b. IfPassed b d next old before new left) (sym off)
       (moved ∙ ap (λ fs. with_frames fs old) (stays d.outcome next old.frames (sym (ap is_next told) ∙ off)), kept))
 
 -- where a frame has not gone on without the operands

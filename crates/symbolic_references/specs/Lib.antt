@@ -7,10 +7,13 @@ pub mod Held
 pub mod Numbers
 pub mod Fields
 pub mod Targets
-pub mod Does
 pub mod Natives
 pub mod Arrays
 pub mod Known
 pub mod Callees
 pub mod Passing
 pub mod Selections
+pub mod Runtimes
+pub mod Outcomes
+pub mod Going
+pub mod NativeCalls

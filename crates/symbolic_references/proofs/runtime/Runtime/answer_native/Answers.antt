@@ -1,0 +1,18 @@
+use Rattle.std.proofs.Common.{subst, sym}
+use Rattle.jvm_model.specs.Instructions.NativeRules.{kinds_in}
+use Rattle.native_ops.specs.Calls.{is_done}
+use Rattle.symbolic_references.specs.Objects.{AreLoaded}
+use Rattle.symbolic_references.proofs.NativeLemmas.{left-loaded}
+use Rattle.symbolic_references.proofs.runtime.Runtime.answer_native.Goals as goal
+
+pub invariant_of-self : goal.invariant_of-self
+invariant_of-self c = record {
+  numbers = c.self.invariant.numbers;
+  built_in = c.self.invariant.built_in;
+  selections = c.self.invariant.selections;
+  objects =
+      let l = c.self.inside.linker in
+      subst (AreLoaded l) (sym c.call.ensures.heap)
+      (left-loaded l c.self.invariant.built_in (kinds_in l.program l.loaded) c.args.args.now _
+      c.self.invariant.objects (is_done c.call.result) c.args.number);
+}

@@ -1,0 +1,9 @@
+use Rattle.symbolic_references.proofs.runtime.Runtime.keep_selection.Goals as goal
+
+pub invariant_of-self : goal.invariant_of-self
+invariant_of-self c = record {
+  numbers = c.self.invariant.numbers;
+  built_in = c.self.invariant.built_in;
+  selections = c.keep.ensures c.self.inside.linker c.self.invariant.selections c.requires;
+  objects = c.self.invariant.objects;
+}

@@ -1,0 +1,9 @@
+use Rattle.symbolic_references.proofs.runtime.Runtime.set_constants.Goals as goal
+
+pub invariant_of-self : goal.invariant_of-self
+invariant_of-self c = record {
+  numbers = c.self.invariant.numbers;
+  built_in = c.self.invariant.built_in;
+  selections = c.self.invariant.selections;
+  objects = c.set_fields.ensures.loaded c.self.inside.linker c.requires.usable c.self.invariant.objects;
+}
