@@ -12,7 +12,6 @@ use Rattle.jvm_model.specs.declared.program.Program.{Program}
 use Rattle.jvm_model.specs.Basis.Methods.{code_of, method_code, method_params, member_shape}
 use Rattle.jvm_model.specs.Basis.Programs.{class_at}
 use Rattle.jvm_model.specs.Basis.SharedState.{kind_for, string}
-use Rattle.symbolic_references.specs.Numbers.{AreNumbers, Row}
 use Rattle.jvm_model.specs.declared.exception.Exception.{Exception}
 use Rattle.prepared_code.specs.declared.originals.Exceptions.{Exceptions}
 use Rattle.prepared_code.specs.declared.originals.Method.{Method}
@@ -72,9 +71,9 @@ locals-place p (Some place) = (limits-class place (class_at p place.class)).loca
 
 -- ---- all of them
 
-pub IsPrepared-entries : (p : Program) (methods : List Method) (v : Versions) (x : Exceptions) (numbers : List Row) → FitsOriginals p → length p.classes < 2 ^ 24 → length p.methods < 2 ^ 32 → methods ≡ map (entry_at p) p.methods → v ≡ original_versions p
-    → ((e : Exception) → exception_in p x e ≡ exception_kind p e) → x.string ≡ kind_for p string → AreNumbers p numbers → IsPrepared p methods v x numbers
-IsPrepared-entries p methods v x rows fits few numbered is made raised text numbers =
+pub IsPrepared-entries : (p : Program) (methods : List Method) (v : Versions) (x : Exceptions) → FitsOriginals p → length p.classes < 2 ^ 24 → length p.methods < 2 ^ 32 → methods ≡ map (entry_at p) p.methods → v ≡ original_versions p
+    → ((e : Exception) → exception_in p x e ≡ exception_kind p e) → x.string ≡ kind_for p string → IsPrepared p methods v x
+IsPrepared-entries p methods v x fits few numbered is made raised text =
     let entry : (k : ℕ) → slice_get methods k ≡ option_map (entry_at p) (slice_get p.methods k) = λ k. ap (λ ms. slice_get ms k) is ∙ slice_get-map (entry_at p) p.methods k in
     record {
       fits = fits;
@@ -87,9 +86,4 @@ IsPrepared-entries p methods v x rows fits few numbered is made raised text numb
       count = ap (λ (w : Versions). length w.current) made ∙ length-map-range_with_len own_number 0 (length p.methods);
       raised = raised;
       string = text;
-      numbers = numbers;
     }
-
--- of the program that a linker has
-pub IsPrepared-same : (p q : Program) (methods : List Method) (v : Versions) (x : Exceptions) (rows : List Row) → q ≡ p → IsPrepared p methods v x rows → IsPrepared q methods v x rows
-IsPrepared-same p q methods v x rows same h = subst (λ r. IsPrepared r methods v x rows) (sym same) h

@@ -1,18 +1,21 @@
--- What a clause sees of a prepared program: what is run, which of its classes are loaded, in order, and the versions as they are kept, some
--- still without their lines.
-use Rattle.std.specs.Prelude.{◌≡◌, ℕ, List}
+-- What a clause sees of a prepared program: what is run, the versions as they are kept, some still without their lines, and what is kept
+-- of the names of lines.
+use Rattle.std.specs.Prelude.{◌≡◌, ℕ}
+use Rattle.prepared_code.specs.Cells.{Rows}
+use Rattle.prepared_code.specs.Kept.{AreKnown}
 use Rattle.prepared_code.specs.Tables.{Versions}
 use Rattle.prepared_code.specs.Versions.{Setup, line_at}
-use Rattle.class_linker.specs.Linkers.{LinkerView}
+use Rattle.symbolic_references.specs.Runtimes.{RuntimeView, linker_in}
 
 pub record Linked : Type 0 where
   pub setup : Setup
-  pub loaded : List ℕ
   pub kept : Versions
+  pub rows : Rows
 
--- what its linker is seen as
-abbrev pub linker_in : Linked → LinkerView
-linker_in o = record { program = o.setup.world.program; loaded = o.loaded }
+-- a runtime is of what is run, and what is kept of names is what they come to by what it has loaded
+pub record IsLinked (o : Linked) (r : RuntimeView) : Type 0 where
+  pub world : r.world ≡ o.setup.world
+  pub known : AreKnown (linker_in r) o.setup.versions o.rows
 
 -- what is kept of a version has each of its lines
 abbrev pub IsReady : Linked → ℕ → Type 0

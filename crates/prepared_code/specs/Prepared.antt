@@ -18,7 +18,6 @@ use Rattle.jvm_model.specs.Basis.Methods.{code_of}
 use Rattle.jvm_model.specs.Basis.Programs.{class_at, has_built_in_name, name_at, name_of, methods_numbered, params_of_method, max_stack_of, max_locals_of}
 use Rattle.jvm_model.specs.Running.Run.{main_class}
 use Rattle.jvm_model.specs.Basis.SharedState.{built_in_from, kind_for, string, array_store, in_initializer, index_outside, negative_array_size, no_class_definition, no_such_field, no_such_method, null_pointer, stack_overflow}
-use Rattle.symbolic_references.specs.Numbers.{AreNumbers, Row}
 use Rattle.prepared_code.specs.declared.originals.Method.{Method}
 use Rattle.jvm_model.specs.declared.exception.Exception.{Exception}
 use Rattle.jvm_model.specs.declared.exception.Exception.TheVariants.{AbstractMethod, Arithmetic, ArrayStore, ClassCast, ClassCircularity, IncompatibleClassChange, InInitializer, IndexOutside, Instantiation, NegativeArraySize, NoClassDefinition, NoSuchField, NoSuchMethod, NullPointer, StackOverflow, UnsatisfiedLink, BuiltIn}
@@ -103,7 +102,7 @@ IsKeptKind _ = Unit {0}
 
 -- ---- what is kept
 
-pub record IsPrepared (p : Program) (methods : List Method) (versions : Versions) (exceptions : Exceptions) (rows : List Row) : Type 0 where
+pub record IsPrepared (p : Program) (methods : List Method) (versions : Versions) (exceptions : Exceptions) : Type 0 where
   pub fits : FitsOriginals p
   pub few : length p.classes < 2 ^ 24
   pub numbered : length p.methods < 2 ^ 32
@@ -114,4 +113,3 @@ pub record IsPrepared (p : Program) (methods : List Method) (versions : Versions
   pub count : length versions.current ≡ length p.methods
   pub raised : (e : Exception) → exception_in p exceptions e ≡ exception_kind p e
   pub string : exceptions.string ≡ kind_for p string
-  pub numbers : AreNumbers p rows

@@ -1,33 +1,20 @@
 //! The original code of a program, prepared: what stands at each offset is looked up once, and is
 //! found by its offset from then on.
 
-ghost use Rattle.std.specs.Prelude.{ℕ, ◌≡◌, ◌≢◌, Some, ◌<◌, ◌^◌, ◌++◌, length, slice_get, is_some, false, true};
-ghost use Rattle.std.specs.Prelude.{IfNone, IfOk, OnErr, OnOk};
+ghost use Rattle.std.specs.Prelude.{ℕ, [], ◌≡◌, ◌≢◌, Some, ◌<◌, ◌^◌, ◌++◌, length, slice_get, is_some, false, true};
+ghost use Rattle.std.specs.Prelude.{IfOk, OnErr, OnOk};
 ghost use Rattle.std.specs.Option.{option_and_then, option_copied, option_map, IfSome};
-ghost use Rattle.class_linker.specs.Linkers.{IsLoaded, LinkerView};
 ghost use Rattle.jvm_model.specs.Basis.Families.{family_of};
-ghost use Rattle.jvm_model.specs.Basis.KindNumbers.{user_count};
-ghost use Rattle.jvm_model.specs.Classes.Load.{load_of};
-ghost use Rattle.jvm_model.specs.Instructions.SymbolicReference.{resolved_kind};
 ghost use Rattle.jvm_model.specs.Basis.Programs.{max_stack_of, max_locals_of, params_of_method};
-ghost use Rattle.jvm_model.specs.Basis.SharedState.{built_in_from, kind_for, string};
-ghost use Rattle.symbolic_references.specs.Answers.{Answers, Moves, Shares, found_view, wrote_by};
-ghost use Rattle.symbolic_references.specs.Answers.{answer_by, answer_view, frames_by, shared_by};
-ghost use Rattle.symbolic_references.specs.Attempts.{attempts, is_loaded, loaded_for};
-ghost use Rattle.symbolic_references.specs.Attempts.{shared_loaded, world_over};
-ghost use Rattle.symbolic_references.specs.Known.{IsKnown};
-ghost use Rattle.symbolic_references.specs.Natives.{HasBuiltIn};
+ghost use Rattle.jvm_model.specs.Basis.SharedState.{kind_for, string};
 ghost use Rattle.symbolic_references.specs.Numbers.{AreNumbers};
-ghost use Rattle.symbolic_references.specs.Objects.{AreLoaded, HasDimensions, HasLoadedCaller};
-ghost use Rattle.symbolic_references.specs.Selections.{AreSelections};
+ghost use Rattle.symbolic_references.specs.Runtimes.{RuntimeView};
 ghost use Rattle.prepared_code.specs.Tables.{Adds, AreAllCurrent, Releases, version_at};
 ghost use Rattle.method_versions.specs.Tables.{is_superseded_in};
-ghost use Rattle.prepared_code.specs.Kept.{IsLater};
-ghost use Rattle.prepared_code.specs.Lines.{IfNamed, IfNamedBy};
-ghost use Rattle.prepared_code.specs.Linked.{IsReady, linker_in};
+ghost use Rattle.prepared_code.specs.Cells.{cell_at};
+ghost use Rattle.prepared_code.specs.Linked.{IsLinked, IsReady};
 ghost use Rattle.prepared_code.specs.Making.{passage_of};
 ghost use Rattle.prepared_code.specs.Prepared.{FitsOriginals, IsKeptKind, built_in_named, exception_kind};
-ghost use Rattle.prepared_code.specs.Prepared.{main_name};
 ghost use Rattle.prepared_code.specs.Entries.{original_versions};
 ghost use Rattle.prepared_code.specs.Versions.{ArePrepared, current_of, first_of, mark_of};
 ghost use Rattle.jvm_model.specs.declared.event.Mark.TheVariants.{Off};
@@ -38,32 +25,31 @@ ghost use Rattle.jvm_model.specs.Codes.ProgramPlaces.{HasClosedCodes};
 ghost use Rattle.prepared_code.specs.Standing.{AreMethodImages, IsPinned, IsRunOf, IsSetUp};
 ghost use Rattle.prepared_code.specs.Versions.{line_at};
 
+mod attempting;
+mod beginning;
+
 use crate::cells::Cells;
 use crate::class_versions::class_versions;
-use crate::line::{Action, Line};
-use crate::loading::{link_main, load_built_in, main_name};
+use crate::line::Line;
 use crate::objects::kind_named;
 use crate::passage::{Passage, passage_in};
 use crate::preparing::{bare_versions, exceptions_of, original_version, prepare_methods};
 use crate::symbolic_reference::units_of;
 use crate::versions::{
-    Catching, Version, Versions, current_of, first_of, has_lines, is_current, line_at, line_there,
-    mark_of, version_at,
+    Catching, Version, Versions, current_of, first_of, has_lines, is_current, line_at, mark_of,
+    version_at,
 };
 use base_classes::built_in_name;
-use class_linker::Linker;
+use class_index::Index;
 use code_model::Homes;
 use const_pool::{ClassFile, Kind};
 use frame_stack::Frames;
 use jf_bytes::{NoMemory, Seq};
-use jvm_model::{Exception, Mark, Program, Shared};
+use jvm_model::{Exception, Mark, Program};
 use std::alloc::Global;
 use std::marker::Model;
-use std::mem;
-use symbolic_references::{
-    AbruptCompletion, Asked, Known, MethodNumbers, Selections, attempt, attempt_known,
-    attempt_loaded, known_code, resolve,
-};
+use std::rc::Rc;
+use symbolic_references::{Known, MethodNumbers};
 
 /// What is kept of a method: what it takes, and its limits.
 #[derive(Drop)]
@@ -95,18 +81,16 @@ pub struct Exceptions {
     pub string: u32,
 }
 
-/// A program on an input, with the versions of its methods, its linker, the numbers of its methods and what the names of its lines
-/// came to. The lines of a method's original code are made when it is first run; a clause sees the versions with all their lines,
-/// and those that are kept beside them.
+/// A program on an input, with the versions of its methods and what the names of its lines came to. The lines of a method's original
+/// code are made when it is first run; a clause sees the versions with all their lines, those that are kept beside them, and what is
+/// kept of names. The program and the input are the runtime's too.
 #[derive(Drop)]
 pub struct Originals {
-    linker: Linker,
-    numbers: MethodNumbers,
-    input: Seq<u8>,
+    index: Rc<Index>,
+    input: Rc<Seq<u8>>,
     methods: Seq<Method>,
     versions: Versions,
     cells: Cells,
-    selections: Selections,
     exceptions: Exceptions,
 }
 
@@ -120,15 +104,14 @@ impl Model for Originals {
 
     ghost view = { λ o. record {
       setup = record {
-        world = world_in o.linker.program o.input;
-        versions = with_lines o.linker.program o.versions;
+        world = world_in o.index.value o.input.value;
+        versions = with_lines o.index.value o.versions;
       };
-      loaded = o.linker.loaded;
       kept = o.versions;
+      rows = o.cells;
     } };
 
-    ghost invariant = { λ o.
-        IsKept o.linker o.methods o.versions o.cells o.selections o.exceptions o.numbers };
+    ghost invariant = { λ o. IsKept o.index.value o.methods o.versions o.exceptions };
 }
 
 /// The name of the built-in class at this place of their order; none has an empty one.
@@ -141,229 +124,32 @@ fn built_in_named(place: u16) -> &'static str
     }
 }
 
-/// Attempts a line that names something, and tells what its names came to; another one does nothing.
-#[inline(never)]
-#[tactic(auto, using(crate::proofs::CellLemmas::later_same, crate::proofs::CellLemmas::later_loaded))]
-fn attempt_line(
-    alloc: Global,
-    linker: &mut Linker,
-    numbers: &MethodNumbers,
-    line: &Line,
-    shared: &mut Shared,
-    frames: &mut Frames,
-    input: &[u8],
-    output: &mut Seq<u8>,
-    learnt: &mut Option<Known>,
-) -> Result<Asked, NoMemory>
-    requires linked { linker.old.loaded ≡ shared.old.loaded }
-    requires numbers { AreNumbers linker.old.program numbers.now }
-    requires built_in { HasBuiltIn linker.old }
-    requires objects { AreLoaded linker.old shared.old.heap }
-    requires caller { IfNamedBy line.now.action line.now.next
-        (λ n next. HasLoadedCaller linker.old n) }
-    requires dimensions { IfNamedBy line.now.action line.now.next (λ n next. HasDimensions n) }
-    ensures answer { let w = world_over linker.old input.now in
-        IfNamedBy line.now.action line.now.next (λ n next.
-        Answers result (attempts w n shared.old frames.old) frames.old) }
-    ensures frames { let w = world_over linker.old input.now in
-        IfNamedBy line.now.action line.now.next (λ n next.
-        Moves result frames.new (attempts w n shared.old frames.old) next frames.old) }
-    ensures shared { let w = world_over linker.old input.now in
-        IfNamedBy line.now.action line.now.next (λ n next.
-        Shares result shared.new (attempts w n shared.old frames.old) frames.old) }
-    ensures output { let w = world_over linker.old input.now in
-        IfNamedBy line.now.action line.now.next (λ n next. OnOk result (output.new
-        ≡ output.old ++ wrote_by (attempts w n shared.old frames.old) frames.old)) }
-    ensures loaded { IfNamedBy line.now.action line.now.next (λ n next. OnOk result
-        (linker.new.loaded ≡ loaded_for linker.old.program n shared.old frames.old)) }
-    ensures built_in { OnOk result (HasBuiltIn linker.new) }
-    ensures objects { OnOk result (AreLoaded linker.new shared.new.heap) }
-    ensures program { linker.new.program ≡ linker.old.program }
-    ensures later { OnOk result (IsLater linker.old linker.new) }
-    ensures learnt { OnOk result (IfSome learnt.new (λ k.
-        IfNamedBy line.now.action line.now.next (λ n next. IsKnown linker.new n k))) }
-{
-    match &line.action {
-        Action::Named(naming) => attempt(
-            alloc, linker, numbers, shared, frames, input, output, naming, line.next, learnt,
-        ),
-        _ => {
-            *learnt = None;
-            Ok(Asked::Refused(AbruptCompletion::Breaks))
-        }
-    }
-}
-
-/// The same in two parts: where it loads classes nothing else is done, and None is the answer.
-#[inline(never)]
-#[tactic(auto, using(crate::proofs::CellLemmas::later_same, crate::proofs::CellLemmas::later_loaded))]
-fn attempt_line_loaded(
-    alloc: Global,
-    linker: &mut Linker,
-    numbers: &MethodNumbers,
-    line: &Line,
-    shared: &mut Shared,
-    frames: &mut Frames,
-    input: &[u8],
-    output: &mut Seq<u8>,
-    learnt: &mut Option<Known>,
-) -> Result<Option<Asked>, NoMemory>
-    requires linked { linker.old.loaded ≡ shared.old.loaded }
-    requires numbers { AreNumbers linker.old.program numbers.now }
-    requires built_in { HasBuiltIn linker.old }
-    requires objects { AreLoaded linker.old shared.old.heap }
-    requires caller { IfNamedBy line.now.action line.now.next
-        (λ n next. HasLoadedCaller linker.old n) }
-    requires dimensions { IfNamedBy line.now.action line.now.next (λ n next. HasDimensions n) }
-    ensures some { let w = world_over linker.old input.now in
-        IfNamedBy line.now.action line.now.next (λ n next.
-        IfOk result (λ a. is_some a ≡ is_loaded w n shared.old frames.old)) }
-    ensures answer { let w = world_over linker.old input.now in
-        IfNamedBy line.now.action line.now.next (λ n next. IfOk result (λ a.
-        IfSome a (λ a. answer_view a
-        ≡ answer_by (attempts w n shared.old frames.old) frames.old))) }
-    ensures frames { let w = world_over linker.old input.now in
-        IfNamedBy line.now.action line.now.next (λ n next. IfOk result (λ a. IfSome a (λ _.
-        frames.new ≡ frames_by (attempts w n shared.old frames.old) next frames.old))) }
-    ensures shared { let w = world_over linker.old input.now in
-        IfNamedBy line.now.action line.now.next (λ n next. IfOk result (λ a. IfSome a (λ _.
-        shared.new ≡ shared_by (attempts w n shared.old frames.old) frames.old))) }
-    ensures output { let w = world_over linker.old input.now in
-        IfNamedBy line.now.action line.now.next (λ n next. IfOk result (λ a. IfSome a (λ _.
-        output.new ≡ output.old ++ wrote_by (attempts w n shared.old frames.old) frames.old))) }
-    ensures same_frames { IfNamedBy line.now.action line.now.next (λ n next.
-        IfOk result (λ a. IfNone a (frames.new ≡ frames.old))) }
-    ensures same_output { IfNamedBy line.now.action line.now.next (λ n next.
-        IfOk result (λ a. IfNone a (output.new ≡ output.old))) }
-    ensures loads { let p = linker.old.program in
-        IfNamedBy line.now.action line.now.next (λ n next. IfOk result (λ a. IfNone a
-        (shared.new ≡ shared_loaded p n shared.old frames.old))) }
-    ensures loaded { IfNamedBy line.now.action line.now.next (λ n next. OnOk result
-        (linker.new.loaded ≡ loaded_for linker.old.program n shared.old frames.old)) }
-    ensures program { linker.new.program ≡ linker.old.program }
-    ensures later { OnOk result (IsLater linker.old linker.new) }
-    ensures learnt { OnOk result (IfSome learnt.new (λ k.
-        IfNamedBy line.now.action line.now.next (λ n next. IsKnown linker.new n k))) }
-{
-    let next = line.next;
-    match &line.action {
-        Action::Named(naming) => attempt_loaded(
-            alloc, linker, numbers, shared, frames, input, output, naming, next, learnt,
-        ),
-        _ => {
-            *learnt = None;
-            Ok(None)
-        }
-    }
-}
-
-/// Attempts a line of whose names it is known what they come to; one that names nothing does nothing.
-fn attempt_line_known(
-    alloc: Global,
-    linker: &Linker,
-    numbers: &MethodNumbers,
-    selections: &Selections,
-    line: &Line,
-    known: &mut Known,
-    shared: &mut Shared,
-    frames: &mut Frames,
-    input: &[u8],
-    output: &mut Seq<u8>,
-) -> Result<Asked, NoMemory>
-    requires linked { linker.now.loaded ≡ shared.old.loaded }
-    requires known { IfNamedBy line.now.action line.now.next
-        (λ n next. IsKnown linker.now n known.old) }
-    requires numbers { AreNumbers linker.now.program numbers.now }
-    requires selections { AreSelections linker.now.program selections.now }
-    requires built_in { HasBuiltIn linker.now }
-    requires objects { AreLoaded linker.now shared.old.heap }
-    requires caller { IfNamedBy line.now.action line.now.next
-        (λ n next. HasLoadedCaller linker.now n) }
-    requires dimensions { IfNamedBy line.now.action line.now.next (λ n next. HasDimensions n) }
-    ensures answer { let w = world_over linker.now input.now in
-        IfNamedBy line.now.action line.now.next (λ n next.
-        Answers result (attempts w n shared.old frames.old) frames.old) }
-    ensures frames { let w = world_over linker.now input.now in
-        IfNamedBy line.now.action line.now.next (λ n next.
-        Moves result frames.new (attempts w n shared.old frames.old) next frames.old) }
-    ensures shared { let w = world_over linker.now input.now in
-        IfNamedBy line.now.action line.now.next (λ n next.
-        Shares result shared.new (attempts w n shared.old frames.old) frames.old) }
-    ensures output { let w = world_over linker.now input.now in
-        IfNamedBy line.now.action line.now.next (λ n next. OnOk result (output.new
-        ≡ output.old ++ wrote_by (attempts w n shared.old frames.old) frames.old)) }
-    ensures loaded { IfNamedBy line.now.action line.now.next (λ n next. OnOk result
-        (linker.now.loaded ≡ loaded_for linker.now.program n shared.old frames.old)) }
-    ensures loads { let w = world_over linker.now input.now in
-        IfNamedBy line.now.action line.now.next (λ n next.
-        is_loaded w n shared.old frames.old ≡ true) }
-    ensures objects { OnOk result (AreLoaded linker.now shared.new.heap) }
-    ensures known { IfNamedBy line.now.action line.now.next
-        (λ n next. IsKnown linker.now n known.new) }
-{
-    let next = line.next;
-    match &line.action {
-        Action::Named(naming) => {
-            // Mostly a method that has Code is invoked.
-            let called = known_code(linker, selections, shared, frames, naming, known);
-            if let Some(call) = called {
-                return Ok(Asked::Invokes(call.method, call.count));
-            }
-            attempt_known(
-                alloc, linker, numbers, shared, frames, input, output, naming, next, known,
-            )
-        }
-        _ => Ok(Asked::Refused(AbruptCompletion::Breaks)),
-    }
-}
-
-/// Keeps what a line's names came to, where that is of another receiver than what was known before.
-fn keep_selected(
-    selections: &mut Selections,
-    alloc: Global,
-    line: &Line,
-    before: Known,
-    known: Known,
-)
-    ensures { (l : LinkerView) → AreSelections l.program selections.old → IfNamedBy line.now.action
-        line.now.next (λ n next. IsKnown l n known) → AreSelections l.program selections.new }
-{
-    if known == before {
-        return;
-    }
-    match &line.action {
-        Action::Named(naming) => selections.keep(alloc, naming, &known),
-        _ => {}
-    }
-}
-
 impl Originals {
-    /// Prepares a program: its methods get their versions, still without lines, and the built-in classes are loaded.
-    pub fn new(alloc: Global, program: Program, input: Seq<u8>) -> Result<Originals, NoMemory>
-        requires { FitsOriginals program }
-        ensures program { IfOk result (λ o. o.setup.world.program ≡ program) }
-        ensures input { IfOk result (λ o. o.setup.world.input ≡ input) }
-        ensures versions { IfOk result (λ o. o.setup.versions ≡ original_versions program) }
+    /// Prepares a program: its methods get their versions, still without lines.
+    pub fn new(
+        alloc: Global,
+        index: Rc<Index>,
+        input: Rc<Seq<u8>>,
+    ) -> Result<Originals, NoMemory>
+        requires { FitsOriginals index.value }
+        ensures program { IfOk result (λ o. o.setup.world.program ≡ index.value) }
+        ensures input { IfOk result (λ o. o.setup.world.input ≡ input.value) }
+        ensures versions { IfOk result (λ o. o.setup.versions ≡ original_versions index.value) }
         ensures set_up { IfOk result
-            (λ o. IsFit program → HasClosedCodes program → IsSetUp o.setup) }
-        ensures loaded { IfOk result (λ o. o.loaded ≡ built_in_from 0 program.classes) }
+            (λ o. IsFit index.value → HasClosedCodes index.value → IsSetUp o.setup) }
+        ensures rows { IfOk result (λ o. o.rows ≡ []) }
     {
-        let methods = prepare_methods(alloc, &program)?;
-        let versions = bare_versions(alloc, &program)?;
-        let exceptions = exceptions_of(&program);
-        let numbers = MethodNumbers::new(alloc, &program)?;
-        let mut linker = Linker::new(alloc, program)?;
-        load_built_in(alloc, &mut linker)?;
+        let program = index.as_ref().program();
+        let methods = prepare_methods(alloc, program)?;
+        let versions = bare_versions(alloc, program)?;
+        let exceptions = exceptions_of(program);
         let cells = Cells::new(alloc);
-        let selections = Selections::new(alloc);
         Ok(Originals {
-            linker,
-            numbers,
+            index,
             input,
             methods,
             versions,
             cells,
-            selections,
             exceptions,
         })
     }
@@ -374,29 +160,7 @@ impl Originals {
         ensures few { length result.now.classes < 2 ^ 24 }
         ensures numbered { length result.now.methods < 2 ^ 32 }
     {
-        self.linker.program()
-    }
-
-    /// Its linker.
-    pub fn linker(&self) -> &Linker
-        ensures { result.now ≡ linker_in self.now }
-    {
-        &self.linker
-    }
-
-    /// The numbers of its methods.
-    pub fn numbers(&self) -> &MethodNumbers
-        ensures { AreNumbers self.now.setup.world.program result.now }
-    {
-        &self.numbers
-    }
-
-    /// What was selected for receivers.
-    #[inline(always)]
-    pub fn selections(&self) -> &Selections
-        ensures { AreSelections self.now.setup.world.program result.now }
-    {
-        &self.selections
+        self.index.as_ref().program()
     }
 
     /// The version with this number. None where its lines are still to be made.
@@ -442,7 +206,7 @@ impl Originals {
         if held.prepared.has_lines {
             return Ok(passage_in(held, place));
         }
-        let made = original_version(alloc, self.linker.program(), held.method)?;
+        let made = original_version(alloc, self.index.as_ref().program(), held.method)?;
         Ok(passage_in(&made, place))
     }
 
@@ -451,7 +215,7 @@ impl Originals {
     fn make_lines(&mut self, alloc: Global, version: usize) -> Result<(), NoMemory>
         ensures ready { OnOk result (IsReady self.new version) }
         ensures setup { self.new.setup ≡ self.old.setup }
-        ensures loaded { self.new.loaded ≡ self.old.loaded }
+        ensures linked { (r : RuntimeView) → IsLinked self.old r → IsLinked self.new r }
     {
         let Some(held) = version_at(&self.versions, version) else {
             return Ok(());
@@ -459,7 +223,7 @@ impl Originals {
         if held.prepared.has_lines {
             return Ok(());
         }
-        let made = original_version(alloc, self.linker.program(), held.method)?;
+        let made = original_version(alloc, self.index.as_ref().program(), held.method)?;
         self.versions.replace(version, made);
         Ok(())
     }
@@ -469,7 +233,7 @@ impl Originals {
     pub fn prepare(&mut self, alloc: Global, version: usize) -> Result<(), NoMemory>
         ensures ready { OnOk result (IsReady self.new version) }
         ensures setup { self.new.setup ≡ self.old.setup }
-        ensures loaded { self.new.loaded ≡ self.old.loaded }
+        ensures linked { (r : RuntimeView) → IsLinked self.old r → IsLinked self.new r }
     {
         if has_lines(&self.versions, version) {
             return Ok(());
@@ -581,7 +345,7 @@ impl Originals {
             IfOk result (λ kind. kind ≡ kind_for self.now.setup.world.program name) }
     {
         let name = units_of(alloc, built_in_named(place).as_bytes())?;
-        Ok(kind_named(self.linker.index(), name.as_slice()))
+        Ok(kind_named(self.index.as_ref(), name.as_slice()))
     }
 
     /// The kind of texts.
@@ -599,18 +363,20 @@ impl Originals {
     pub fn install(
         &mut self,
         alloc: Global,
+        numbers: &MethodNumbers,
         class: u32,
         image: &ClassFile,
         homes: &[Option<Homes>],
         frames: &Frames,
     ) -> Result<(), NoMemory>
-        requires { FitsImage image.now homes.now }
+        requires image { FitsImage image.now homes.now }
+        requires numbers { AreNumbers self.old.setup.world.program numbers.now }
         ensures ok { let w = self.old.setup in OnOk result (Adds frames.now.frames
             (class_versions w.world.program class image.now homes.now) w.versions
             self.new.setup.versions) }
         ensures err { OnErr result (self.new.setup.versions ≡ self.old.setup.versions) }
         ensures world { self.new.setup.world ≡ self.old.setup.world }
-        ensures loaded { self.new.loaded ≡ self.old.loaded }
+        ensures linked { (r : RuntimeView) → IsLinked self.old r → IsLinked self.new r }
         // The versions are of the program, and what stood for the run stands for it.
         ensures set_up { let w = self.old.setup in OnOk result (AreMethodImages w.world.program
             class image.now homes.now → IsSetUp w → IsSetUp self.new.setup) }
@@ -618,8 +384,8 @@ impl Originals {
             class image.now homes.now → (clock : ℕ) (s : State) → IsPinned frames.now.frames s.stack
             → IsRunOf w clock s → IsRunOf self.new.setup clock s) }
     {
-        let program = self.linker.program();
-        let more = class_versions(alloc, program, &self.numbers, class, image, homes)?;
+        let program = self.index.as_ref().program();
+        let more = class_versions(alloc, program, numbers, class, image, homes)?;
         // A number may be given again.
         let none = Cells::new(alloc);
         self.cells = none;
@@ -633,222 +399,16 @@ impl Originals {
             self.new.setup.versions }
         ensures same { AreAllCurrent self.old.setup.versions → self.new.setup ≡ self.old.setup }
         ensures world { self.new.setup.world ≡ self.old.setup.world }
-        ensures loaded { self.new.loaded ≡ self.old.loaded }
+        ensures linked { (r : RuntimeView) → IsLinked self.old r → IsLinked self.new r }
     {
         self.versions.release(frames);
-    }
-
-    // ---- loading
-
-    /// Loads the main class by its name, with what it needs, and gives its kind, or what its fault raises. What was loaded before a
-    /// fault stays loaded.
-    pub fn load_main(
-        &mut self,
-        alloc: Global,
-        loaded: &mut Seq<u32>,
-    ) -> Result<Result<u32, AbruptCompletion>, NoMemory>
-        requires linked { self.old.loaded ≡ loaded.old }
-        requires root { IsLoaded (linker_in self.old) (user_count self.old.setup.world.program) }
-        ensures found { let p = self.old.setup.world.program in IfOk result
-            (λ r. found_view r ≡ resolved_kind p self.old.loaded (main_name p)) }
-        ensures loaded { let p = self.old.setup.world.program in OnOk result
-            (loaded.new ≡ (load_of p self.old.loaded (main_name p)).loaded) }
-        ensures linked { OnOk result (self.new.loaded ≡ loaded.new) }
-        ensures world { self.new.setup ≡ self.old.setup }
-    {
-        let name = main_name(alloc, self.linker.program())?;
-        // Where memory runs out nothing is known any more.
-        let cells = mem::replace(&mut self.cells, Cells::new(alloc));
-        let found = resolve(&mut self.linker, loaded, &name)?;
-        self.cells = cells;
-        Ok(found)
-    }
-
-    /// Loads the main class, where nothing but the linker asks for it.
-    pub fn link_main(&mut self, alloc: Global) -> Result<(), NoMemory>
-        ensures loaded { let p = self.old.setup.world.program in OnOk result
-            (self.new.loaded ≡ (load_of p self.old.loaded (main_name p)).loaded) }
-        ensures world { self.new.setup ≡ self.old.setup }
-    {
-        let cells = mem::replace(&mut self.cells, Cells::new(alloc));
-        link_main(alloc, &mut self.linker)?;
-        self.cells = cells;
-        Ok(())
-    }
-
-    /// Attempts the line at a place of a version, where it names something. Where it doesn't nothing is done.
-    pub fn attempt_named(
-        &mut self,
-        alloc: Global,
-        version: usize,
-        place: u16,
-        shared: &mut Shared,
-        frames: &mut Frames,
-        output: &mut Seq<u8>,
-    ) -> Result<Asked, NoMemory>
-        requires ready { IsReady self.old version }
-        requires linked { self.old.loaded ≡ shared.old.loaded }
-        requires built_in { HasBuiltIn (linker_in self.old) }
-        requires objects { AreLoaded (linker_in self.old) shared.old.heap }
-        requires caller { IfNamed (line_at self.old.setup.versions version place)
-            (λ n next. HasLoadedCaller (linker_in self.old) n) }
-        ensures answer { let w = self.old.setup in IfNamed (line_at w.versions version place)
-            (λ n next. Answers result (attempts w.world n shared.old frames.old) frames.old) }
-        ensures frames { let w = self.old.setup in IfNamed (line_at w.versions version place)
-            (λ n next. Moves result frames.new (attempts w.world n shared.old frames.old) next
-            frames.old) }
-        ensures shared { let w = self.old.setup in IfNamed (line_at w.versions version place)
-            (λ n next. Shares result shared.new (attempts w.world n shared.old frames.old)
-            frames.old) }
-        ensures output { let w = self.old.setup in IfNamed (line_at w.versions version place)
-            (λ n next. OnOk result (output.new
-            ≡ output.old ++ wrote_by (attempts w.world n shared.old frames.old) frames.old)) }
-        ensures loaded { let w = self.old.setup in let p = w.world.program in
-            IfNamed (line_at w.versions version place) (λ n next.
-            OnOk result (self.new.loaded ≡ loaded_for p n shared.old frames.old)) }
-        ensures built_in { OnOk result (HasBuiltIn (linker_in self.new)) }
-        ensures objects { OnOk result (AreLoaded (linker_in self.new) shared.new.heap) }
-        ensures world { self.new.setup ≡ self.old.setup }
-    {
-        let Some(line) = line_there(&self.linker, &self.versions, version, place) else {
-            return Ok(Asked::Refused(AbruptCompletion::Breaks));
-        };
-        if let Some(before) = self.cells.get(version, place) {
-            let mut known = before;
-            let done = attempt_line_known(
-                alloc,
-                &self.linker,
-                &self.numbers,
-                &self.selections,
-                line,
-                &mut known,
-                shared,
-                frames,
-                self.input.as_slice(),
-                output,
-            )?;
-            self.cells.renew(alloc, version, place, before, known);
-            keep_selected(&mut self.selections, alloc, line, before, known);
-            return Ok(done);
-        }
-        // Where memory runs out nothing is known any more.
-        let mut cells = mem::replace(&mut self.cells, Cells::new(alloc));
-        let mut learnt = None;
-        let asked = attempt_line(
-            alloc,
-            &mut self.linker,
-            &self.numbers,
-            line,
-            shared,
-            frames,
-            self.input.as_slice(),
-            output,
-            &mut learnt,
-        )?;
-        cells.learn(alloc, version, place, learnt);
-        self.cells = cells;
-        Ok(asked)
-    }
-
-    /// The same in two parts: where it loads classes nothing else is done, and None is the answer.
-    pub fn attempt_loaded(
-        &mut self,
-        alloc: Global,
-        version: usize,
-        place: u16,
-        shared: &mut Shared,
-        frames: &mut Frames,
-        output: &mut Seq<u8>,
-    ) -> Result<Option<Asked>, NoMemory>
-        requires ready { IsReady self.old version }
-        requires linked { self.old.loaded ≡ shared.old.loaded }
-        requires built_in { HasBuiltIn (linker_in self.old) }
-        requires objects { AreLoaded (linker_in self.old) shared.old.heap }
-        requires caller { IfNamed (line_at self.old.setup.versions version place)
-            (λ n next. HasLoadedCaller (linker_in self.old) n) }
-        ensures some { let w = self.old.setup in IfNamed (line_at w.versions version place)
-            (λ n next. IfOk result (λ a. is_some a ≡ is_loaded w.world n shared.old frames.old)) }
-        ensures answer { let w = self.old.setup in IfNamed (line_at w.versions version place)
-            (λ n next. IfOk result (λ a. IfSome a (λ a. answer_view a
-            ≡ answer_by (attempts w.world n shared.old frames.old) frames.old))) }
-        ensures frames { let w = self.old.setup in IfNamed (line_at w.versions version place)
-            (λ n next. IfOk result (λ a. IfSome a (λ _. frames.new
-            ≡ frames_by (attempts w.world n shared.old frames.old) next frames.old))) }
-        ensures shared { let w = self.old.setup in IfNamed (line_at w.versions version place)
-            (λ n next. IfOk result (λ a. IfSome a (λ _. shared.new
-            ≡ shared_by (attempts w.world n shared.old frames.old) frames.old))) }
-        ensures output { let w = self.old.setup in IfNamed (line_at w.versions version place)
-            (λ n next. IfOk result (λ a. IfSome a (λ _. output.new
-            ≡ output.old ++ wrote_by (attempts w.world n shared.old frames.old) frames.old))) }
-        ensures same_frames { IfNamed (line_at self.old.setup.versions version place)
-            (λ n next. IfOk result (λ a. IfNone a (frames.new ≡ frames.old))) }
-        ensures same_output { IfNamed (line_at self.old.setup.versions version place)
-            (λ n next. IfOk result (λ a. IfNone a (output.new ≡ output.old))) }
-        ensures loads { let p = self.old.setup.world.program in
-            IfNamed (line_at self.old.setup.versions version place) (λ n next. IfOk result
-            (λ a. IfNone a (shared.new ≡ shared_loaded p n shared.old frames.old))) }
-        ensures loaded { let p = self.old.setup.world.program in
-            IfNamed (line_at self.old.setup.versions version place)
-            (λ n next. OnOk result (self.new.loaded ≡ loaded_for p n shared.old frames.old)) }
-        ensures world { self.new.setup ≡ self.old.setup }
-    {
-        let Some(line) = line_there(&self.linker, &self.versions, version, place) else {
-            return Ok(None);
-        };
-        if let Some(before) = self.cells.get(version, place) {
-            let mut known = before;
-            let done = attempt_line_known(
-                alloc,
-                &self.linker,
-                &self.numbers,
-                &self.selections,
-                line,
-                &mut known,
-                shared,
-                frames,
-                self.input.as_slice(),
-                output,
-            )?;
-            self.cells.renew(alloc, version, place, before, known);
-            keep_selected(&mut self.selections, alloc, line, before, known);
-            return Ok(Some(done));
-        }
-        // Where memory runs out nothing is known any more.
-        let mut cells = mem::replace(&mut self.cells, Cells::new(alloc));
-        let mut learnt = None;
-        let asked = attempt_line_loaded(
-            alloc,
-            &mut self.linker,
-            &self.numbers,
-            line,
-            shared,
-            frames,
-            self.input.as_slice(),
-            output,
-            &mut learnt,
-        )?;
-        cells.learn(alloc, version, place, learnt);
-        self.cells = cells;
-        Ok(asked)
-    }
-
-    /// The bytes of the input.
-    #[inline(always)]
-    pub fn input(&self) -> &[u8]
-        ensures { result.now ≡ self.now.setup.world.input }
-    {
-        self.input.as_slice()
     }
 
     /// What is known of the names of the line at a place of a version.
     #[inline(always)]
     pub fn known(&self, version: usize, place: u16) -> Option<&Known>
-        ensures { IfSome result (λ k. IfNamed (line_at self.now.setup.versions version place)
-            (λ n next. IsKnown (linker_in self.now) n k.now)) }
+        ensures { option_copied result ≡ cell_at self.now.rows version place }
     {
-        let Some(known) = self.cells.at(version, place) else {
-            return None;
-        };
-        Some(known)
+        self.cells.at(version, place)
     }
 }

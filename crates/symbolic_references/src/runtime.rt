@@ -34,6 +34,7 @@ use jvm_model::{Phase, SymbolicReference};
 use native_ops::Made;
 use std::alloc::Global;
 use std::marker::Model;
+use std::rc::Rc;
 
 /// The classes of a run and the numbers of their methods, its input, what all activations share, what was selected for receivers, and
 /// what was written. A clause sees the world, what the definitions call shared, and the output.
@@ -42,7 +43,7 @@ pub struct Runtime {
     alloc: Global,
     linker: Linker,
     numbers: MethodNumbers,
-    input: Seq<u8>,
+    input: Rc<Seq<u8>>,
     selections: Selections,
     phases: Seq<Phase>,
     statics: Seq<Seq<Datum>>,
@@ -58,7 +59,7 @@ impl Model for Runtime {
     ghost Value = { RuntimeView };
 
     ghost view = { λ r. record {
-      world = record { program = r.linker.program; input = r.input };
+      world = record { program = r.linker.program; input = r.input.value };
       shared = record {
         loaded = r.linker.loaded;
         phases = r.phases;
@@ -89,13 +90,13 @@ impl Runtime {
         alloc: Global,
         linker: Linker,
         numbers: MethodNumbers,
-        input: Seq<u8>,
+        input: Rc<Seq<u8>>,
         beginning: Beginning,
     ) -> Runtime
         requires numbers { AreNumbers linker.program numbers }
         requires built_in { HasBuiltIn linker }
         requires objects { AreLoaded linker beginning.heap }
-        ensures world { result.world ≡ record { program = linker.program; input = input } }
+        ensures world { result.world ≡ record { program = linker.program; input = input.value } }
         ensures shared { result.shared ≡ record {
           loaded = linker.loaded;
           phases = beginning.phases;

@@ -16,16 +16,16 @@ line_there-requires c = subst (λ o. IsReady o c.args.version) (sym c.self.view_
 
 pub attempt_line-requires-clause-dimensions : goal.attempt_line-requires-clause-dimensions
 attempt_line-requires-clause-dimensions c =
-    line-fits (with_lines c.self.inside.linker.program c.self.inside.versions) c.self.invariant.prepared.lines c.args.version c.args.place c.in-Some.line (sym (ap option_copied c.in-Some.is) ∙ c.line_there.ensures)
+    line-fits (with_lines c.self.inside.index.value c.self.inside.versions) c.self.invariant.prepared.lines c.args.version c.args.place c.in-Some.line (sym (ap option_copied c.in-Some.is) ∙ c.line_there.ensures)
 
 pub attempt_line_known-requires-clause-dimensions : goal.attempt_line_known-requires-clause-dimensions
 attempt_line_known-requires-clause-dimensions c =
-    line-fits (with_lines c.self.inside.linker.program c.self.inside.versions) c.self.invariant.prepared.lines c.args.version c.args.place c.in-Some.line (sym (ap option_copied c.in-Some.is) ∙ c.line_there.ensures)
+    line-fits (with_lines c.self.inside.index.value c.self.inside.versions) c.self.invariant.prepared.lines c.args.version c.args.place c.in-Some.line (sym (ap option_copied c.in-Some.is) ∙ c.line_there.ensures)
 
 pub attempt_line_known-requires-clause-known : goal.attempt_line_known-requires-clause-known
 attempt_line_known-requires-clause-known c =
     let there : cell_at c.self.inside.cells c.args.version c.args.place ≡ Some c.in-Some-get.before = search rules in
-    known-at c.self.inside.linker (with_lines c.self.inside.linker.program c.self.inside.versions) c.self.inside.cells c.args.version c.args.place c.in-Some-get.before c.in-Some.line.now
+    known-at c.self.inside.linker (with_lines c.self.inside.index.value c.self.inside.versions) c.self.inside.cells c.args.version c.args.place c.in-Some-get.before c.in-Some.line.now
     c.self.invariant.known there (sym (sym (ap option_copied c.in-Some.is) ∙ c.line_there.ensures))
 
 pub attempt_line_known-requires-clause-objects : goal.attempt_line_known-requires-clause-objects
@@ -39,20 +39,12 @@ attempt_line-requires-clause-objects c =
 pub invariant_of-self : goal.invariant_of-self
 invariant_of-self c = record {
   prepared = c.self.invariant.prepared;
-  known = renewed c.self.inside.linker (with_lines c.self.inside.linker.program c.self.inside.versions) c.self.inside.cells c.renew.new.self c.args.version c.args.place c.attempt_line_known.new.known c.in-Some.line.now
-      (sym (sym (ap option_copied c.in-Some.is) ∙ c.line_there.ensures)) c.renew.ensures c.self.invariant.known c.attempt_line_known.ensures.known;
   bare = c.self.invariant.bare;
-  selected = c.keep_selected.ensures c.self.inside.linker c.self.invariant.selected c.attempt_line_known.ensures.known;
 }
 
 pub invariant_of-self-2 : goal.invariant_of-self-2
 invariant_of-self-2 c = record {
-  prepared = subst (λ p. IsPrepared p c.self.inside.methods (with_lines p c.self.inside.versions) c.self.inside.exceptions c.self.inside.numbers)
+  prepared = subst (λ p. IsPrepared p c.self.inside.methods (with_lines p c.self.inside.versions) c.self.inside.exceptions)
       (sym c.in_ok-asked.ensures.program) c.self.invariant.prepared;
-  known = subst (λ p. AreKnown c.attempt_line.new.linker (with_lines p c.self.inside.versions) c.learn.new.self) (sym c.in_ok-asked.ensures.program)
-      (learnt-kept c.self.inside.linker c.attempt_line.new.linker (with_lines c.self.inside.linker.program c.self.inside.versions) c.replace-cells.result c.learn.new.self c.args.version c.args.place
-      c.attempt_line.new.learnt c.in-Some.line.now (sym (sym (ap option_copied c.in-Some.is) ∙ c.line_there.ensures)) c.in_ok-asked.ensures.later
-      (subst (AreKnown c.self.inside.linker (with_lines c.self.inside.linker.program c.self.inside.versions)) (sym c.replace-cells.ensures.value) c.self.invariant.known) c.learn.ensures c.in_ok-asked.ensures.learnt);
   bare = subst (λ p. AreBare p c.self.inside.versions) (sym c.in_ok-asked.ensures.program) c.self.invariant.bare;
-  selected = subst (λ p. AreSelections p c.self.inside.selections) (sym c.in_ok-asked.ensures.program) c.self.invariant.selected;
 }

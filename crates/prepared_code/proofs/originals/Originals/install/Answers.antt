@@ -21,7 +21,7 @@ use Rattle.prepared_code.proofs.originals.Originals.install.Goals as goal
 
 pub add_all-requires : goal.add_all-requires
 add_all-requires c =
-    let p : Program = c.self.inside.linker.program in
+    let p : Program = c.self.inside.index.value in
     let made : c.in_ok-more.more ≡ class_versions p c.args.class c.args.image.now c.args.homes.now =
     c.in_ok-more.ensures ∙ ap (λ (q : Program). class_versions q c.args.class c.args.image.now c.args.homes.now) c.program-program.ensures in
     subst (λ n. AreOfMethods n c.in_ok-more.more) (sym c.self.invariant.prepared.count)
@@ -29,7 +29,7 @@ add_all-requires c =
 
 pub invariant_of-self : goal.invariant_of-self
 invariant_of-self c =
-    let p : Program = c.self.inside.linker.program in
+    let p : Program = c.self.inside.index.value in
     let made : c.in_ok-more.more ≡ class_versions p c.args.class c.args.image.now c.args.homes.now =
     c.in_ok-more.ensures ∙ ap (λ (q : Program). class_versions q c.args.class c.args.image.now c.args.homes.now) c.program-program.ensures in
     let was = c.self.invariant.prepared in
@@ -52,18 +52,15 @@ invariant_of-self c =
             count = adds-count fs c.in_ok-more.more old new adds ∙ was.count;
             raised = was.raised;
             string = was.string;
-            numbers = was.numbers;
           })
-          (λ same. subst (λ (v : Versions). IsPrepared p c.self.inside.methods (with_lines p v) c.self.inside.exceptions c.self.inside.numbers) (sym same) was);
-      known = subst (AreKnown c.self.inside.linker (with_lines p new)) (sym c.new-none.ensures) (nil-known c.self.inside.linker (with_lines p new));
-      selected = c.self.invariant.selected;
+          (λ same. subst (λ (v : Versions). IsPrepared p c.self.inside.methods (with_lines p v) c.self.inside.exceptions) (sym same) was);
       bare = either c.add_all.result c.add_all.ensures.ok c.add_all.ensures.err (λ adds. bare-adds p fs c.in_ok-more.more old new have adds c.self.invariant.bare)
           (λ same. subst (AreBare p) (sym same) c.self.invariant.bare);
     }
 
 pub returns-clause-ok : goal.returns-clause-ok
 returns-clause-ok c =
-    let p : Program = c.self.inside.linker.program in
+    let p : Program = c.self.inside.index.value in
     let made : c.in_ok-more.more ≡ class_versions p c.args.class c.args.image.now c.args.homes.now =
     c.in_ok-more.ensures ∙ ap (λ (q : Program). class_versions q c.args.class c.args.image.now c.args.homes.now) c.program-program.ensures in
     let old = c.self.inside.versions in
@@ -77,15 +74,15 @@ returns-clause-ok c =
 
 pub returns-clause-set_up : goal.returns-clause-set_up
 returns-clause-set_up c =
-    let p : Program = c.self.inside.linker.program in
+    let p : Program = c.self.inside.index.value in
     let made : c.in_ok-more.more ≡ class_versions p c.args.class c.args.image.now c.args.homes.now =
     c.in_ok-more.ensures ∙ ap (λ (q : Program). class_versions q c.args.class c.args.image.now c.args.homes.now) c.program-program.ensures in
     let fs = c.args.frames.now.frames in
     let old = c.self.inside.versions in
     let new = c.add_all.new.self in
     let have = subst (λ xs. AllByRecursion (λ (x : Version). x.prepared.has_lines ≡ true) xs) (sym made) (versions-have p c.args.class c.args.image.now c.args.homes.now) in
-    let before : Setup = record { world = world_in p c.self.inside.input; versions = with_lines p old } in
-    let after : Setup = record { world = world_in p c.self.inside.input; versions = with_lines p new } in
+    let before : Setup = record { world = world_in p c.self.inside.input.value; versions = with_lines p old } in
+    let after : Setup = record { world = world_in p c.self.inside.input.value; versions = with_lines p new } in
     let same : before ≡ c.args.self.now.setup = ap (λ (o : Linked). o.setup) c.self.view_is in
     on_ok_weaker c.add_all.result
     (λ adds. subst (λ (w : Setup). AreMethodImages w.world.program c.args.class c.args.image.now c.args.homes.now → IsSetUp w → IsSetUp after) same
@@ -95,15 +92,15 @@ returns-clause-set_up c =
 
 pub returns-clause-stands : goal.returns-clause-stands
 returns-clause-stands c =
-    let p : Program = c.self.inside.linker.program in
+    let p : Program = c.self.inside.index.value in
     let made : c.in_ok-more.more ≡ class_versions p c.args.class c.args.image.now c.args.homes.now =
     c.in_ok-more.ensures ∙ ap (λ (q : Program). class_versions q c.args.class c.args.image.now c.args.homes.now) c.program-program.ensures in
     let fs = c.args.frames.now.frames in
     let old = c.self.inside.versions in
     let new = c.add_all.new.self in
     let have = subst (λ xs. AllByRecursion (λ (x : Version). x.prepared.has_lines ≡ true) xs) (sym made) (versions-have p c.args.class c.args.image.now c.args.homes.now) in
-    let before : Setup = record { world = world_in p c.self.inside.input; versions = with_lines p old } in
-    let after : Setup = record { world = world_in p c.self.inside.input; versions = with_lines p new } in
+    let before : Setup = record { world = world_in p c.self.inside.input.value; versions = with_lines p old } in
+    let after : Setup = record { world = world_in p c.self.inside.input.value; versions = with_lines p new } in
     let same : before ≡ c.args.self.now.setup = ap (λ (o : Linked). o.setup) c.self.view_is in
     on_ok_weaker c.add_all.result
     (λ adds. subst (λ (w : Setup). AreMethodImages w.world.program c.args.class c.args.image.now c.args.homes.now → (clock : ℕ) (s : State) → IsPinned fs s.stack → IsRunOf w clock s → IsRunOf after clock s) same

@@ -13,7 +13,7 @@ use Rattle.prepared_code.proofs.originals.Originals.make_lines.Goals as goal
 
 pub replace-requires : goal.replace-requires
 replace-requires c =
-    let p : Program = c.self.inside.linker.program in
+    let p : Program = c.self.inside.index.value in
     let x : Version = c.in-Some.held.now in
     let there : version_at c.self.inside.versions c.args.version ≡ Some x = sym c.version_at.ensures ∙ ap option_copied c.in-Some.is in
     let is : c.in_ok-made.made ≡ original_version p x.method = c.in_ok-made.ensures ∙ ap (λ (q : Program). original_version q x.method) c.program.ensures in
@@ -21,7 +21,7 @@ replace-requires c =
 
 pub invariant_of-self : goal.invariant_of-self
 invariant_of-self c =
-    let p : Program = c.self.inside.linker.program in
+    let p : Program = c.self.inside.index.value in
     let x : Version = c.in-Some.held.now in
     let old = c.self.inside.versions in
     let new = c.replace.new.self in
@@ -30,21 +30,19 @@ invariant_of-self c =
     let is : y ≡ original_version p x.method = c.in_ok-made.ensures ∙ ap (λ (q : Program). original_version q x.method) c.program.ensures in
     let same : with_lines p new ≡ with_lines p old = replaced-same p c.args.version x y old new there c.if-held.false is c.replace.ensures in
     record {
-      prepared = subst (λ (v : Versions). IsPrepared p c.self.inside.methods v c.self.inside.exceptions c.self.inside.numbers) (sym same) c.self.invariant.prepared;
-      known = subst (λ (v : Versions). AreKnown c.self.inside.linker v c.self.inside.cells) (sym same) c.self.invariant.known;
-      selected = c.self.invariant.selected;
+      prepared = subst (λ (v : Versions). IsPrepared p c.self.inside.methods v c.self.inside.exceptions) (sym same) c.self.invariant.prepared;
       bare = replaced-bare p c.args.version x y old new there c.if-held.false is c.replace.ensures c.self.invariant.bare;
     }
 
 pub returns-clause-setup : goal.returns-clause-setup
 returns-clause-setup c =
-    let p : Program = c.self.inside.linker.program in
+    let p : Program = c.self.inside.index.value in
     let x : Version = c.in-Some.held.now in
     let old = c.self.inside.versions in
     let new = c.replace.new.self in
     let y = c.in_ok-made.made in
     let there : version_at old c.args.version ≡ Some x = sym c.version_at.ensures ∙ ap option_copied c.in-Some.is in
     let is : y ≡ original_version p x.method = c.in_ok-made.ensures ∙ ap (λ (q : Program). original_version q x.method) c.program.ensures in
-    ap (λ (v : Versions). let w : Setup = record { world = world_in p c.self.inside.input; versions = v } in w)
+    ap (λ (v : Versions). let w : Setup = record { world = world_in p c.self.inside.input.value; versions = v } in w)
     (replaced-same p c.args.version x y old new there c.if-held.false is c.replace.ensures)
     ∙ ap (λ (o : Linked). o.setup) c.self.view_is
