@@ -8,6 +8,7 @@ pub mod Numbers
 pub mod Fields
 pub mod Targets
 pub mod Natives
+pub mod MadeObjects
 pub mod Arrays
 pub mod Known
 pub mod Callees

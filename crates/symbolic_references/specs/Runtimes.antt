@@ -34,6 +34,10 @@ after d r = record r { shared = d.shared; output = r.output ++ d.wrote }
 abbrev pub with_shared : Shared → RuntimeView → RuntimeView
 with_shared s r = record r { shared = s }
 
+-- with these objects
+abbrev pub with_heap : HeapView → RuntimeView → RuntimeView
+with_heap heap r = record r { shared = record r.shared { heap = heap } }
+
 -- with these objects and static fields
 abbrev pub with_fields : HeapView → List (List Datum) → Shared → Shared
 with_fields heap statics s = record s { heap = heap; statics = statics }

@@ -19,6 +19,7 @@ mod doing;
 mod fields;
 mod multi_arrays;
 mod natives;
+mod objects;
 mod passing;
 mod selecting;
 mod statics;

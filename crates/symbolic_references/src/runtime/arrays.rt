@@ -42,7 +42,7 @@ impl Runtime {
     }
 
     /// The same, of as many elements as the topmost operand says.
-    fn make_counted(&mut self, frames: &Frames, kind: u32) -> Result<Outcome, NoMemory>
+    pub fn make_counted(&mut self, frames: &Frames, kind: u32) -> Result<Outcome, NoMemory>
         requires usable { IsUsable (linker_in self.old) kind }
         ensures answer { Asks result (λ l o. makes kind (int_of o) self.old.shared l o) frames.now }
         ensures runtime { Sets result self.new (λ l o. makes kind (int_of o) self.old.shared l o)
