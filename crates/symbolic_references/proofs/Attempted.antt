@@ -24,11 +24,13 @@ use Rattle.symbolic_references.specs.Outcomes.{Asks, Leaves, asked}
 use Rattle.symbolic_references.specs.Attempts.{attempts, linker_with, loaded_for, with_more}
 use Rattle.symbolic_references.specs.Natives.{HasBuiltIn}
 use Rattle.symbolic_references.specs.Objects.{HasLoadedCaller}
-use Rattle.symbolic_references.specs.Numbers.{Row}
+use Rattle.symbolic_references.specs.declared.program_tables.ProgramTables.{ProgramTables}
+use Rattle.jvm_model.specs.Basis.SharedState.{kind_for, string}
+use Rattle.symbolic_references.specs.ProgramFacts.{HasExceptions, exception_kind}
 use Rattle.symbolic_references.specs.Runtimes.{IsRuntime, RuntimeView, after, with_loaded}
 use Rattle.symbolic_references.specs.Resolved.{does_resolved, skips}
 use Rattle.symbolic_references.proofs.Behind.{behind, skipped}
-use Rattle.symbolic_references.proofs.ObjectLemmas.{loaded_more, objects_more}
+use Rattle.symbolic_references.proofs.ObjectLemmas.{loaded_more, objects_more, usable_more}
 use Rattle.std.proofs.Common.{Bool, drop-length}
 use Rattle.std.specs.Prelude.{IfOk}
 use Rattle.symbolic_references.specs.Attempts.{IsFound}
@@ -79,11 +81,23 @@ module _ (l new : LinkerView) (more : List ℕ) (is : new ≡ with_more l more) 
   built_in_more : HasBuiltIn l → HasBuiltIn (with_more l more)
   built_in_more has = record { whole = has.whole; each = λ class above within. loaded_more l more class (has.each class above within) }
 
+  exceptions_more : HasExceptions l → HasExceptions (with_more l more)
+  exceptions_more has = record {
+    each = λ e machines. usable_more l more (exception_kind l.program e) (has.each e machines);
+    text = usable_more l more (kind_for l.program string) has.text;
+  }
+
   -- what a runtime keeps to
-  pub runtime_later : (rows : List Row) (kept : Slots) (h : HeapView) → IsRuntime l rows kept h → IsRuntime new rows kept h
-  runtime_later rows kept h has =
-      subst (λ v. IsRuntime v rows kept h) (sym is)
-      (record { numbers = has.numbers; built_in = built_in_more has.built_in; selections = has.selections; objects = objects_more l more h has.objects })
+  pub runtime_later : (t : ProgramTables) (kept : Slots) (h : HeapView) → IsRuntime l t kept h → IsRuntime new t kept h
+  runtime_later t kept h has =
+      subst (λ v. IsRuntime v t kept h) (sym is)
+      (record {
+        tables = has.tables;
+        built_in = built_in_more has.built_in;
+        exceptions = exceptions_more has.exceptions;
+        selections = has.selections;
+        objects = objects_more l more h has.objects;
+      })
 
 pub more-loaded : (l : LinkerView) (name : List ℕ)
     → linker_with l (load_of l.program l.loaded name).loaded ≡ with_more l (drop (length l.loaded) (load_of l.program l.loaded name).loaded)

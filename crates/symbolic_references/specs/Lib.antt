@@ -5,6 +5,7 @@ pub mod Resolved
 pub mod Attempts
 pub mod Held
 pub mod Numbers
+pub mod ProgramFacts
 pub mod Fields
 pub mod Targets
 pub mod Natives

@@ -6,8 +6,9 @@ use Rattle.jvm_model.specs.declared.state.Shared.{Shared}
 use Rattle.jvm_model.specs.Basis.Data.{World, Done}
 use Rattle.class_linker.specs.Linkers.{LinkerView}
 use Rattle.symbolic_references.specs.Natives.{HasBuiltIn}
-use Rattle.symbolic_references.specs.Numbers.{AreNumbers, Row}
 use Rattle.symbolic_references.specs.Objects.{AreLoaded}
+use Rattle.symbolic_references.specs.declared.program_tables.ProgramTables.{ProgramTables}
+use Rattle.symbolic_references.specs.ProgramFacts.{AreTablesOf, HasExceptions}
 use Rattle.symbolic_references.specs.Selections.{AreSelections, Slots}
 
 pub record RuntimeView : Type 0 where
@@ -18,11 +19,12 @@ pub record RuntimeView : Type 0 where
 abbrev pub linker_in : RuntimeView → LinkerView
 linker_in r = record { program = r.world.program; loaded = r.shared.loaded }
 
--- what it keeps to: the numbers are the program's, the built-in classes are loaded, the class of each object is, and what was
--- selected for receivers is what is selected for them
-pub record IsRuntime (l : LinkerView) (rows : List Row) (kept : Slots) (h : HeapView) : Type 0 where
-  pub numbers : AreNumbers l.program rows
+-- what it keeps to: the tables are the program's, the built-in classes are loaded, those of exceptions among them, the class of each
+-- object is, and what was selected for receivers is what is selected for them
+pub record IsRuntime (l : LinkerView) (t : ProgramTables) (kept : Slots) (h : HeapView) : Type 0 where
+  pub tables : AreTablesOf l.program t
   pub built_in : HasBuiltIn l
+  pub exceptions : HasExceptions l
   pub selections : AreSelections l.program kept
   pub objects : AreLoaded l h
 

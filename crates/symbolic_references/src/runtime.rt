@@ -4,8 +4,8 @@ ghost use Rattle.std.specs.Prelude.{◌≡◌, [], option_copied};
 ghost use Rattle.class_linker.specs.Linkers.{LinkerView};
 ghost use Rattle.symbolic_references.specs.Known.{IsKnown};
 ghost use Rattle.symbolic_references.specs.Natives.{HasBuiltIn};
-ghost use Rattle.symbolic_references.specs.Numbers.{AreNumbers};
 ghost use Rattle.symbolic_references.specs.Objects.{AreLoaded};
+ghost use Rattle.symbolic_references.specs.ProgramFacts.{AreTablesOf, HasExceptions};
 ghost use Rattle.symbolic_references.specs.Runtimes.{linker_in};
 
 mod arrays;
@@ -21,11 +21,12 @@ mod multi_arrays;
 mod natives;
 mod objects;
 mod passing;
+mod program;
 mod selecting;
 mod statics;
 
 use crate::known::Known;
-use crate::numbers::MethodNumbers;
+use crate::program_tables::ProgramTables;
 use crate::selections::Selections;
 pub use attempting::resolved_name;
 use class_linker::Linker;
@@ -35,16 +36,15 @@ use jvm_model::{Phase, SymbolicReference};
 use native_ops::Made;
 use std::alloc::Global;
 use std::marker::Model;
-use std::rc::Rc;
 
-/// The classes of a run and the numbers of their methods, its input, what all activations share, what was selected for receivers, and
+/// The classes of a run and what tables tell of its program, its input, what all activations share, what was selected for receivers, and
 /// what was written. A clause sees the world, what the definitions call shared, and the output.
 #[derive(Drop)]
 pub struct Runtime {
     alloc: Global,
     linker: Linker,
-    numbers: MethodNumbers,
-    input: Rc<Seq<u8>>,
+    tables: ProgramTables,
+    input: Seq<u8>,
     selections: Selections,
     phases: Seq<Phase>,
     statics: Seq<Seq<Datum>>,
@@ -60,7 +60,7 @@ impl Model for Runtime {
     ghost Value = { RuntimeView };
 
     ghost view = { λ r. record {
-      world = record { program = r.linker.program; input = r.input.value };
+      world = record { program = r.linker.program; input = r.input };
       shared = record {
         loaded = r.linker.loaded;
         phases = r.phases;
@@ -72,7 +72,7 @@ impl Model for Runtime {
       output = r.output;
     } };
 
-    ghost invariant = { λ r. IsRuntime r.linker r.numbers r.selections r.heap };
+    ghost invariant = { λ r. IsRuntime r.linker r.tables r.selections r.heap };
 }
 
 /// What all share at the start: how far the classes are initialized, their static fields, and the objects that are there.
@@ -85,19 +85,20 @@ pub struct Beginning {
 }
 
 impl Runtime {
-    /// A runtime of these parts: the numbers are the program's, the built-in classes are loaded, and so is the class of each object.
+    /// A runtime of these parts: the tables are the program's, the built-in classes are loaded, and so is the class of each object.
     #[tactic(auto, using(crate::proofs::SelectionLemmas::no_selections))]
     pub fn new(
         alloc: Global,
         linker: Linker,
-        numbers: MethodNumbers,
-        input: Rc<Seq<u8>>,
+        tables: ProgramTables,
+        input: Seq<u8>,
         beginning: Beginning,
     ) -> Runtime
-        requires numbers { AreNumbers linker.program numbers }
+        requires tables { AreTablesOf linker.program tables }
         requires built_in { HasBuiltIn linker }
+        requires exceptions { HasExceptions linker }
         requires objects { AreLoaded linker beginning.heap }
-        ensures world { result.world ≡ record { program = linker.program; input = input.value } }
+        ensures world { result.world ≡ record { program = linker.program; input = input } }
         ensures shared { result.shared ≡ record {
           loaded = linker.loaded;
           phases = beginning.phases;
@@ -111,7 +112,7 @@ impl Runtime {
         Runtime {
             alloc,
             linker,
-            numbers,
+            tables,
             input,
             selections: Selections::new(alloc),
             phases: beginning.phases,

@@ -74,7 +74,7 @@ impl Runtime {
         if is_abstract(self.linker.program(), m) {
             return Ok(Outcome::Refused(AbruptCompletion::Raises(Exception::AbstractMethod, None)));
         }
-        match self.numbers.number(m.class, m.position) {
+        match self.tables.numbers.number(m.class, m.position) {
             Some(number) => Ok(Outcome::Invokes(number, count)),
             None => self.invoke_native(frames, m, count),
         }

@@ -169,11 +169,8 @@ fn set_fields(
 
 impl Runtime {
     /// Sets the static fields of a class that have a ConstantValue, in the order of the class file (4.7.2, 5.5). The answer is the
-    /// object that is thrown: object 1 where a String does not fit into the heap; what was set before stays. `string_kind` is the
-    /// kind of the objects of java/lang/String.
-    pub fn set_constants(&mut self, string_kind: u32, class: u32) -> Result<Option<u32>, NoMemory>
-        requires string { string_kind ≡ kind_for self.old.world.program string }
-        requires usable { IsUsable (linker_in self.old) string_kind }
+    /// object that is thrown: object 1 where a String does not fit into the heap; what was set before stays.
+    pub fn set_constants(&mut self, class: u32) -> Result<Option<u32>, NoMemory>
         ensures thrown { IfOk result (λ thrown. thrown
             ≡ (sets_constants self.old.world.program class self.old.shared).thrown) }
         ensures runtime { OnOk result (self.new ≡ with_shared
@@ -181,6 +178,7 @@ impl Runtime {
         ensures world { self.new.world ≡ self.old.world }
         ensures same_loaded { self.new.shared.loaded ≡ self.old.shared.loaded }
     {
+        let string_kind = self.string_kind();
         match self.linker.program().classes.get(class as usize) {
             Some(file) => set_fields(
                 self.alloc,

@@ -166,7 +166,7 @@ impl Runtime {
             &kinds,
             &mut self.heap,
             &mut self.made,
-            self.input.as_ref().as_slice(),
+            self.input.as_slice(),
             &mut self.read,
             &mut self.output,
         )

@@ -1,17 +1,19 @@
 //! Exceptions that the machine makes, strings of constants, elements of arrays, and how far classes are initialized (JVM Specification
 //! 2.10, 5.1, 5.5).
 
-ghost use Rattle.std.specs.Prelude.{◌≡◌, IfOk, OnOk};
+ghost use Rattle.std.specs.Prelude.{◌≡◌, IfOk, None, OnOk, Some};
 ghost use Rattle.class_linker.specs.Linkers.{LinkerView};
 ghost use Rattle.heap_objects.specs.Changes.{changed_if};
 ghost use Rattle.heap_objects.specs.Heaps.{has_slot_at, next_number, with_slot_at, with_text};
-ghost use Rattle.jvm_model.specs.Basis.SharedState.{kind_for, phase_of, string, with_phase};
+ghost use Rattle.heap_objects.specs.declared.datum.Datum.TheVariants.{Ref};
+ghost use Rattle.jvm_model.specs.Basis.SharedState.{exception_raised, made_with, phase_of, with_phase};
+ghost use Rattle.jvm_model.specs.Instructions.Exceptions.{exception_name};
 ghost use Rattle.jvm_model.specs.Instructions.ConstantRules.{pushes_string};
 ghost use Rattle.symbolic_references.specs.MadeObjects.{heap_made, heap_with_both, reference_made, reference_of_both};
 ghost use Rattle.symbolic_references.specs.MadeObjects.{with_both};
 ghost use Rattle.symbolic_references.specs.Objects.{AreLoaded, IsUsable};
 ghost use Rattle.symbolic_references.specs.Outcomes.{Asks, HaveOperands, Sets};
-ghost use Rattle.symbolic_references.specs.Runtimes.{linker_in, with_heap, with_shared};
+ghost use Rattle.symbolic_references.specs.Runtimes.{with_heap, with_shared};
 
 use crate::outcome::{AbruptCompletion, Outcome};
 use crate::runtime::Runtime;
@@ -19,7 +21,7 @@ use crate::runtime::creation::RESERVED;
 use frame_stack::Frames;
 use heap_objects::{Datum, Heap, HeapError, Value};
 use jf_bytes::{NoMemory, Text16};
-use jvm_model::Phase;
+use jvm_model::{Exception, Phase};
 
 /// Makes an exception of this kind without a message, with this cause, and gives its number. The class of each object stays loaded.
 #[tactic(auto, using(crate::proofs::ObjectLemmas::objects_with))]
@@ -65,47 +67,40 @@ fn make_with(heap: &mut Heap, string: u32, kind: u32, message: &[u16]) -> Result
 }
 
 impl Runtime {
-    /// Makes an exception of this kind without a message, with this cause, and gives its number.
-    pub fn make_exception(&mut self, kind: u32, cause: u32) -> Result<u32, NoMemory>
-        requires usable { IsUsable (linker_in self.old) kind }
-        ensures number { IfOk result (λ r. r ≡ reference_made self.old.shared.heap) }
-        ensures runtime { OnOk result
-            (self.new ≡ with_heap (heap_made kind cause self.old.shared.heap) self.old) }
+    /// Makes an exception that the machine raises, without a message and with this cause, and gives its number; object 1 where it does
+    /// not fit.
+    pub fn make_exception(&mut self, exception: Exception, cause: u32) -> Result<u32, NoMemory>
+        ensures number { let name = exception_name exception in IfOk result (λ r. r
+            ≡ (made_with self.old.world self.old.shared name None (Ref cause)).reference) }
+        ensures runtime { let name = exception_name exception in OnOk result (self.new ≡ with_shared
+            (made_with self.old.world self.old.shared name None (Ref cause)).shared self.old) }
         ensures world { self.new.world ≡ self.old.world }
         ensures same_loaded { self.new.shared.loaded ≡ self.old.shared.loaded }
     {
+        let kind = self.kind_of(exception)?;
         make(&mut self.heap, kind, cause)
     }
 
-    /// Makes an exception of this kind behind its message, a text of the kind of strings, and gives its number.
+    /// The same behind its message.
     pub fn make_exception_with(
         &mut self,
-        string: u32,
-        kind: u32,
+        exception: Exception,
         message: &[u16],
     ) -> Result<u32, NoMemory>
-        requires string { IsUsable (linker_in self.old) string }
-        requires usable { IsUsable (linker_in self.old) kind }
-        ensures number { IfOk result
-            (λ r. r ≡ reference_of_both string message.now self.old.shared.heap) }
-        ensures runtime { OnOk result (self.new
-            ≡ with_heap (heap_with_both string kind message.now self.old.shared.heap) self.old) }
+        ensures number { let name = exception_name exception in IfOk result (λ r. r
+            ≡ (exception_raised self.old.world self.old.shared name (Some message.now)).reference) }
+        ensures runtime { let name = exception_name exception in OnOk result (self.new ≡ with_shared
+            (exception_raised self.old.world self.old.shared name (Some message.now)).shared self.old) }
         ensures world { self.new.world ≡ self.old.world }
         ensures same_loaded { self.new.shared.loaded ≡ self.old.shared.loaded }
     {
+        let kind = self.kind_of(exception)?;
+        let string = self.string_kind();
         make_with(&mut self.heap, string, kind, message)
     }
 
-    /// ldc of a String: the one of these units, which is made where there is none yet. `string_kind` is the kind of the objects of
-    /// java/lang/String.
-    pub fn push_string(
-        &mut self,
-        frames: &Frames,
-        string_kind: u32,
-        units: &Text16,
-    ) -> Result<Outcome, NoMemory>
-        requires kind { string_kind ≡ kind_for self.old.world.program string }
-        requires usable { IsUsable (linker_in self.old) string_kind }
+    /// ldc of a String: the one of these units, which is made where there is none yet.
+    pub fn push_string(&mut self, frames: &Frames, units: &Text16) -> Result<Outcome, NoMemory>
         ensures answer { Asks result
             (pushes_string self.old.world.program units.now self.old.shared) frames.now }
         ensures runtime { Sets result self.new
@@ -114,7 +109,8 @@ impl Runtime {
         ensures same_loaded { self.new.shared.loaded ≡ self.old.shared.loaded }
         ensures enough { HaveOperands result frames.now }
     {
-        match self.heap.intern(string_kind, units.units()) {
+        let kind = self.string_kind();
+        match self.heap.intern(kind, units.units()) {
             Ok(number) => Ok(Outcome::Goes(0, Some(Value::Ref(number)))),
             Err(HeapError::HeapFull) => Ok(Outcome::Refused(AbruptCompletion::Throws(RESERVED))),
             Err(HeapError::NoMemory) => Err(NoMemory),

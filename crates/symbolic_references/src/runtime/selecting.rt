@@ -82,7 +82,7 @@ impl Runtime {
             (symbolic_reference_by (selecting_view by.entry) method.now) }
     {
         let place = selected_by(&self.linker, by, m, self.linker.index().class_of_kind(lower))?;
-        let callee = callee_of(&self.linker, &self.numbers, place);
+        let callee = callee_of(&self.linker, &self.tables.numbers, place);
         let chosen = Chosen { place, callee };
         *found = Found::Selected(Site {
             method: m,
@@ -276,7 +276,7 @@ impl Runtime {
         }
         match method_found(&self.linker, kind, false, true, method) {
             Ok(place) => {
-                let callee = callee_of(&self.linker, &self.numbers, place);
+                let callee = callee_of(&self.linker, &self.tables.numbers, place);
                 let m = Chosen { place, callee };
                 *found = Found::Fixed(m);
                 Ok(m)

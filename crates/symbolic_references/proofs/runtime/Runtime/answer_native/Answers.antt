@@ -7,8 +7,9 @@ use Rattle.symbolic_references.proofs.runtime.Runtime.answer_native.Goals as goa
 
 pub invariant_of-self : goal.invariant_of-self
 invariant_of-self c = record {
-  numbers = c.self.invariant.numbers;
+  tables = c.self.invariant.tables;
   built_in = c.self.invariant.built_in;
+  exceptions = c.self.invariant.exceptions;
   selections = c.self.invariant.selections;
   objects =
       let l = c.self.inside.linker in

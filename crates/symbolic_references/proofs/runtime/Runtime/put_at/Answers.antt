@@ -5,8 +5,9 @@ use Rattle.symbolic_references.proofs.runtime.Runtime.put_at.Goals as goal
 
 pub invariant_of-self : goal.invariant_of-self
 invariant_of-self c = record {
-  numbers = c.self.invariant.numbers;
+  tables = c.self.invariant.tables;
   built_in = c.self.invariant.built_in;
+  exceptions = c.self.invariant.exceptions;
   selections = c.self.invariant.selections;
   objects =
       subst (AreLoaded c.self.inside.linker) (sym c.put_slot.ensures)
