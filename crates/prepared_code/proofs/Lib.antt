@@ -1,5 +1,4 @@
-pub mod Positions
-pub mod LineFamilies
+pub pub mod LineFamilies
 pub mod Actions
 pub mod ImageVersions
 pub mod LaidRewritten

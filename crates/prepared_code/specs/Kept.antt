@@ -5,8 +5,6 @@ use Rattle.jvm_model.specs.declared.instruction.SymbolicReference.{SymbolicRefer
 use Rattle.jvm_model.specs.declared.program.Program.{Program}
 use Rattle.symbolic_references.specs.declared.known.Known.{Known}
 use Rattle.symbolic_references.specs.Known.{IsKnown}
-use Rattle.prepared_code.specs.declared.originals.Method.{Method}
-use Rattle.prepared_code.specs.declared.originals.Exceptions.{Exceptions}
 use Rattle.prepared_code.specs.Cells.{Rows, cell_at}
 use Rattle.prepared_code.specs.Lines.{IfNamed}
 use Rattle.prepared_code.specs.Making.{AreBare, with_lines}
@@ -22,6 +20,6 @@ pub record AreKnown (l : LinkerView) (v : Versions) (rows : Rows) : Type 0 where
 pub record IsLater (l new : LinkerView) : Type 0 where
   pub keeps : (n : SymbolicReference) (k : Known) → IsKnown l n k → IsKnown new n k
 
-pub record IsKept (p : Program) (methods : List Method) (versions : Versions) (exceptions : Exceptions) : Type 0 where
-  pub prepared : IsPrepared p methods (with_lines p versions) exceptions
+pub record IsKept (p : Program) (versions : Versions) : Type 0 where
+  pub prepared : IsPrepared p (with_lines p versions)
   pub bare : AreBare p versions

@@ -39,5 +39,4 @@ pub use originals::Originals;
 pub use parts::{Here, Parts, where_now};
 pub use passage::{Passage, next_in};
 pub use resolving::line_of;
-pub use symbolic_reference::units_of;
 pub use versions::{Catching, PreparedCode, Version, Versions, line_in};

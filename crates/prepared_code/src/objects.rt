@@ -9,7 +9,7 @@ ghost use Rattle.jvm_model.specs.Basis.SharedState.{heap_before, kind_for};
 ghost use Rattle.jvm_model.specs.Basis.SharedState.{with_arguments, with_text_in, with_texts};
 
 use crate::lookup::class_of_bytes;
-use class_index::{FIRST_ARRAY, Index, base_of_class};
+use class_index::{FIRST_ARRAY, base_of_class};
 use heap_objects::{Datum, Heap};
 use jf_bytes::{NoMemory, Text16};
 use jvm_model::Program;
@@ -34,27 +34,6 @@ pub fn kind_for(program: &Program, name: &[u8]) -> u32
     ensures most { result < 2 ^ 25 }
 {
     base_of_class(program, class_named(program, name))
-}
-
-/// The position of the class of this name, found by hashing; 0 where there is none.
-#[tactic(auto, using(crate::proofs::Positions::position_within))]
-fn position_named(index: &Index, name: &[u16]) -> u32
-    requires { length index.now.classes < 2 ^ 24 }
-    ensures class { result ≡ unwrap_or (class_named index.now name.now) 0 }
-    ensures most { result < 2 ^ 24 }
-{
-    match index.class_named(name) {
-        Some(class) => class,
-        None => 0,
-    }
-}
-
-/// The kind of the instances of the class of this name, found by hashing.
-pub fn kind_named(index: &Index, name: &[u16]) -> u32
-    requires { length index.now.classes < 2 ^ 24 }
-    ensures { result ≡ kind_for index.now name.now }
-{
-    base_of_class(index.program(), position_named(index, name))
 }
 
 /// Makes an object that there is room for.

@@ -5,16 +5,15 @@ ghost use Rattle.std.specs.Prelude.{ℕ, [], ◌≡◌, ◌≢◌, Some, ◌<◌
 ghost use Rattle.std.specs.Prelude.{IfOk, OnErr, OnOk};
 ghost use Rattle.std.specs.Option.{option_and_then, option_copied, option_map, IfSome};
 ghost use Rattle.jvm_model.specs.Basis.Families.{family_of};
-ghost use Rattle.jvm_model.specs.Basis.Programs.{max_stack_of, max_locals_of, params_of_method};
-ghost use Rattle.jvm_model.specs.Basis.SharedState.{kind_for, string};
 ghost use Rattle.symbolic_references.specs.Numbers.{AreNumbers};
 ghost use Rattle.symbolic_references.specs.Runtimes.{RuntimeView};
 ghost use Rattle.prepared_code.specs.Tables.{Adds, AreAllCurrent, Releases, version_at};
 ghost use Rattle.method_versions.specs.Tables.{is_superseded_in};
 ghost use Rattle.prepared_code.specs.Cells.{cell_at};
-ghost use Rattle.prepared_code.specs.Linked.{IsLinked, IsReady};
+ghost use Rattle.jvm_model.specs.Basis.Data.{World};
+ghost use Rattle.prepared_code.specs.Linked.{IsLinked, IsReady, setup_of};
 ghost use Rattle.prepared_code.specs.Making.{passage_of};
-ghost use Rattle.prepared_code.specs.Prepared.{FitsOriginals, IsKeptKind, built_in_named, exception_kind};
+ghost use Rattle.prepared_code.specs.Prepared.{FitsOriginals};
 ghost use Rattle.prepared_code.specs.Entries.{original_versions};
 ghost use Rattle.prepared_code.specs.Versions.{ArePrepared, current_of, first_of, mark_of};
 ghost use Rattle.jvm_model.specs.declared.event.Mark.TheVariants.{Off};
@@ -31,132 +30,72 @@ mod beginning;
 use crate::cells::Cells;
 use crate::class_versions::class_versions;
 use crate::line::Line;
-use crate::objects::kind_named;
 use crate::passage::{Passage, passage_in};
-use crate::preparing::{bare_versions, exceptions_of, original_version, prepare_methods};
-use crate::symbolic_reference::units_of;
+use crate::preparing::{bare_versions, original_version};
 use crate::versions::{
     Catching, Version, Versions, current_of, first_of, has_lines, is_current, line_at, mark_of,
     version_at,
 };
-use base_classes::built_in_name;
 use class_index::Index;
 use code_model::Homes;
-use const_pool::{ClassFile, Kind};
+use const_pool::ClassFile;
 use frame_stack::Frames;
 use jf_bytes::{NoMemory, Seq};
-use jvm_model::{Exception, Mark, Program};
+use jvm_model::{Mark, Program};
 use std::alloc::Global;
 use std::marker::Model;
 use std::rc::Rc;
 use symbolic_references::{Known, MethodNumbers};
 
-/// What is kept of a method: what it takes, and its limits.
-#[derive(Drop)]
-pub struct Method {
-    pub params: Option<Seq<Kind>>,
-    pub max_stack: u16,
-    pub max_locals: u16,
-}
-
-/// The kinds of the classes of exceptions that instructions raise, and of the texts of their messages.
-#[derive(Clone, Copy, Debug, PartialEq, Eq)]
-pub struct Exceptions {
-    pub abstract_method: u32,
-    pub arithmetic: u32,
-    pub array_store: u32,
-    pub class_cast: u32,
-    pub class_circularity: u32,
-    pub incompatible_change: u32,
-    pub in_initializer: u32,
-    pub index_outside: u32,
-    pub instantiation: u32,
-    pub negative_array_size: u32,
-    pub no_class_definition: u32,
-    pub no_such_field: u32,
-    pub no_such_method: u32,
-    pub null_pointer: u32,
-    pub stack_overflow: u32,
-    pub unsatisfied_link: u32,
-    pub string: u32,
-}
-
-/// A program on an input, with the versions of its methods and what the names of its lines came to. The lines of a method's original
-/// code are made when it is first run; a clause sees the versions with all their lines, those that are kept beside them, and what is
-/// kept of names. The program and the input are the runtime's too.
+/// A program with the versions of its methods and what the names of its lines came to. The lines of a method's original code are made
+/// when it is first run; a clause sees the versions with all their lines, those that are kept beside them, and what is kept of names.
+/// The program is the runtime's too.
 #[derive(Drop)]
 pub struct Originals {
     index: Rc<Index>,
-    input: Rc<Seq<u8>>,
-    methods: Seq<Method>,
     versions: Versions,
     cells: Cells,
-    exceptions: Exceptions,
 }
 
 impl Model for Originals {
     ghost use Rattle.prepared_code.specs.Kept.{IsKept};
     ghost use Rattle.prepared_code.specs.Linked.{Linked};
     ghost use Rattle.prepared_code.specs.Making.{with_lines};
-    ghost use Rattle.prepared_code.specs.Prepared.{world_in};
 
     ghost Value = { Linked };
 
     ghost view = { λ o. record {
-      setup = record {
-        world = world_in o.index.value o.input.value;
-        versions = with_lines o.index.value o.versions;
-      };
+      program = o.index.value;
+      versions = with_lines o.index.value o.versions;
       kept = o.versions;
       rows = o.cells;
     } };
 
-    ghost invariant = { λ o. IsKept o.index.value o.methods o.versions o.exceptions };
-}
-
-/// The name of the built-in class at this place of their order; none has an empty one.
-fn built_in_named(place: u16) -> &'static str
-    ensures { result.now ≡ built_in_named place }
-{
-    match built_in_name(place as usize) {
-        Some(name) => name,
-        None => "",
-    }
+    ghost invariant = { λ o. IsKept o.index.value o.versions };
 }
 
 impl Originals {
     /// Prepares a program: its methods get their versions, still without lines.
-    pub fn new(
-        alloc: Global,
-        index: Rc<Index>,
-        input: Rc<Seq<u8>>,
-    ) -> Result<Originals, NoMemory>
+    pub fn new(alloc: Global, index: Rc<Index>) -> Result<Originals, NoMemory>
         requires { FitsOriginals index.value }
-        ensures program { IfOk result (λ o. o.setup.world.program ≡ index.value) }
-        ensures input { IfOk result (λ o. o.setup.world.input ≡ input.value) }
-        ensures versions { IfOk result (λ o. o.setup.versions ≡ original_versions index.value) }
-        ensures set_up { IfOk result
-            (λ o. IsFit index.value → HasClosedCodes index.value → IsSetUp o.setup) }
+        ensures program { IfOk result (λ o. o.program ≡ index.value) }
+        ensures versions { IfOk result (λ o. o.versions ≡ original_versions index.value) }
+        ensures set_up { IfOk result (λ o. (w : World) → w.program ≡ index.value
+            → IsFit index.value → HasClosedCodes index.value → IsSetUp (setup_of w o)) }
         ensures rows { IfOk result (λ o. o.rows ≡ []) }
     {
-        let program = index.as_ref().program();
-        let methods = prepare_methods(alloc, program)?;
-        let versions = bare_versions(alloc, program)?;
-        let exceptions = exceptions_of(program);
+        let versions = bare_versions(alloc, index.as_ref().program())?;
         let cells = Cells::new(alloc);
         Ok(Originals {
             index,
-            input,
-            methods,
             versions,
             cells,
-            exceptions,
         })
     }
 
     /// The program that it was made of.
     pub fn program(&self) -> &Program
-        ensures program { result.now ≡ self.now.setup.world.program }
+        ensures program { result.now ≡ self.now.program }
         ensures few { length result.now.classes < 2 ^ 24 }
         ensures numbered { length result.now.methods < 2 ^ 32 }
     {
@@ -166,7 +105,7 @@ impl Originals {
     /// The version with this number. None where its lines are still to be made.
     pub fn version(&self, version: usize) -> Option<&Version>
         ensures version { IfSome result
-            (λ x. version_at self.now.setup.versions version ≡ Some x.now) }
+            (λ x. version_at self.now.versions version ≡ Some x.now) }
         ensures prepared { IfSome result (λ x. ArePrepared x.now) }
     {
         let held = version_at(&self.versions, version)?;
@@ -181,9 +120,9 @@ impl Originals {
     pub fn line(&self, version: usize, place: u16) -> Option<&Line>
         ensures kept { option_copied result ≡ line_at self.now.kept version place }
         ensures line { IfSome result
-            (λ l. line_at self.now.setup.versions version place ≡ Some l.now) }
-        ensures marked { mark_of self.now.setup.versions version ≢ Off
-            → option_copied result ≡ line_at self.now.setup.versions version place }
+            (λ l. line_at self.now.versions version place ≡ Some l.now) }
+        ensures marked { mark_of self.now.versions version ≢ Off
+            → option_copied result ≡ line_at self.now.versions version place }
         ensures family { IfSome result (λ l. l.now.family ≡ family_of l.now.instr.op) }
     {
         line_at(&self.versions, version, place)
@@ -198,7 +137,7 @@ impl Originals {
         place: u16,
     ) -> Result<Option<Passage>, NoMemory>
         ensures { IfOk result (λ o. o
-            ≡ option_map passage_of (line_at self.now.setup.versions version place)) }
+            ≡ option_map passage_of (line_at self.now.versions version place)) }
     {
         let Some(held) = version_at(&self.versions, version) else {
             return Ok(None);
@@ -214,7 +153,8 @@ impl Originals {
     #[inline(never)]
     fn make_lines(&mut self, alloc: Global, version: usize) -> Result<(), NoMemory>
         ensures ready { OnOk result (IsReady self.new version) }
-        ensures setup { self.new.setup ≡ self.old.setup }
+        ensures program { self.new.program ≡ self.old.program }
+        ensures versions { self.new.versions ≡ self.old.versions }
         ensures linked { (r : RuntimeView) → IsLinked self.old r → IsLinked self.new r }
     {
         let Some(held) = version_at(&self.versions, version) else {
@@ -232,7 +172,8 @@ impl Originals {
     #[inline(always)]
     pub fn prepare(&mut self, alloc: Global, version: usize) -> Result<(), NoMemory>
         ensures ready { OnOk result (IsReady self.new version) }
-        ensures setup { self.new.setup ≡ self.old.setup }
+        ensures program { self.new.program ≡ self.old.program }
+        ensures versions { self.new.versions ≡ self.old.versions }
         ensures linked { (r : RuntimeView) → IsLinked self.old r → IsLinked self.new r }
     {
         if has_lines(&self.versions, version) {
@@ -244,7 +185,7 @@ impl Originals {
     /// The version in which a method begins.
     #[inline(always)]
     pub fn current(&self, method: u32) -> usize
-        ensures { result ≡ current_of self.now.setup.versions method }
+        ensures { result ≡ current_of self.now.versions method }
     {
         current_of(&self.versions, method)
     }
@@ -252,7 +193,7 @@ impl Originals {
     /// Where a version begins.
     #[inline(always)]
     pub fn first(&self, version: usize) -> u16
-        ensures { result ≡ first_of self.now.setup.versions version }
+        ensures { result ≡ first_of self.now.versions version }
     {
         first_of(&self.versions, version)
     }
@@ -260,7 +201,7 @@ impl Originals {
     /// Whose probes a version has.
     #[inline(always)]
     pub fn mark(&self, version: usize) -> Mark
-        ensures { result ≡ mark_of self.now.setup.versions version }
+        ensures { result ≡ mark_of self.now.versions version }
     {
         mark_of(&self.versions, version)
     }
@@ -268,7 +209,7 @@ impl Originals {
     /// Whether a version is held, and its method begins in it.
     #[inline(always)]
     pub fn is_current(&self, version: usize) -> bool
-        ensures { let v = self.now.setup.versions in result ≡ true
+        ensures { let v = self.now.versions in result ≡ true
             → is_superseded_in v.slots v.current version ≡ false }
     {
         is_current(&self.versions, version)
@@ -277,82 +218,12 @@ impl Originals {
     /// The handlers of a version.
     pub fn handlers(&self, version: usize) -> Option<&Seq<Catching>>
         ensures { option_copied result ≡ option_map (λ x. x.prepared.handlers)
-            (version_at self.now.setup.versions version) }
+            (version_at self.now.versions version) }
     {
         match version_at(&self.versions, version) {
             Some(version) => Some(&version.prepared.handlers),
             None => None,
         }
-    }
-
-    /// The greatest depth of a method's operands; 0 where it has no code.
-    pub fn max_stack(&self, method: u32) -> u16
-        ensures { result ≡ max_stack_of self.now.setup.world method }
-    {
-        match self.methods.get(method as usize) {
-            Some(method) => method.max_stack,
-            None => 0,
-        }
-    }
-
-    /// The number of a method's locals; 0 where it has no code.
-    pub fn max_locals(&self, method: u32) -> u16
-        ensures { result ≡ max_locals_of self.now.setup.world method }
-    {
-        match self.methods.get(method as usize) {
-            Some(method) => method.max_locals,
-            None => 0,
-        }
-    }
-
-    /// What a method takes, where it has a method descriptor.
-    pub fn params(&self, method: u32) -> Option<&Seq<Kind>>
-        ensures { option_copied result ≡ params_of_method self.now.setup.world.program method }
-    {
-        self.methods.get(method as usize)?.params.as_ref()
-    }
-
-    /// The kind of the class of an exception that no native method throws.
-    pub fn kind_of(&self, exception: Exception) -> u32
-        requires { IsKeptKind exception }
-        ensures { result ≡ exception_kind self.now.setup.world.program exception }
-    {
-        match exception {
-            Exception::AbstractMethod => self.exceptions.abstract_method,
-            Exception::Arithmetic => self.exceptions.arithmetic,
-            Exception::ArrayStore => self.exceptions.array_store,
-            Exception::ClassCast => self.exceptions.class_cast,
-            Exception::ClassCircularity => self.exceptions.class_circularity,
-            Exception::IncompatibleClassChange => self.exceptions.incompatible_change,
-            Exception::InInitializer => self.exceptions.in_initializer,
-            Exception::IndexOutside => self.exceptions.index_outside,
-            Exception::Instantiation => self.exceptions.instantiation,
-            Exception::NegativeArraySize => self.exceptions.negative_array_size,
-            Exception::NoClassDefinition => self.exceptions.no_class_definition,
-            Exception::NoSuchField => self.exceptions.no_such_field,
-            Exception::NoSuchMethod => self.exceptions.no_such_method,
-            Exception::NullPointer => self.exceptions.null_pointer,
-            Exception::StackOverflow => self.exceptions.stack_overflow,
-            Exception::UnsatisfiedLink => self.exceptions.unsatisfied_link,
-            // It is none of those.
-            Exception::BuiltIn(_) => 0,
-        }
-    }
-
-    /// The kind of the class of this built-in name, by its place; found by the name.
-    pub fn built_in_kind(&self, alloc: Global, place: u16) -> Result<u32, NoMemory>
-        ensures { let name = built_in_named place in
-            IfOk result (λ kind. kind ≡ kind_for self.now.setup.world.program name) }
-    {
-        let name = units_of(alloc, built_in_named(place).as_bytes())?;
-        Ok(kind_named(self.index.as_ref(), name.as_slice()))
-    }
-
-    /// The kind of texts.
-    pub fn string_kind(&self) -> u32
-        ensures { result ≡ kind_for self.now.setup.world.program string }
-    {
-        self.exceptions.string
     }
 
     // ---- versions
@@ -370,19 +241,21 @@ impl Originals {
         frames: &Frames,
     ) -> Result<(), NoMemory>
         requires image { FitsImage image.now homes.now }
-        requires numbers { AreNumbers self.old.setup.world.program numbers.now }
-        ensures ok { let w = self.old.setup in OnOk result (Adds frames.now.frames
-            (class_versions w.world.program class image.now homes.now) w.versions
-            self.new.setup.versions) }
-        ensures err { OnErr result (self.new.setup.versions ≡ self.old.setup.versions) }
-        ensures world { self.new.setup.world ≡ self.old.setup.world }
+        requires numbers { AreNumbers self.old.program numbers.now }
+        ensures ok { OnOk result (Adds frames.now.frames
+            (class_versions self.old.program class image.now homes.now) self.old.versions
+            self.new.versions) }
+        ensures err { OnErr result (self.new.versions ≡ self.old.versions) }
+        ensures program { self.new.program ≡ self.old.program }
         ensures linked { (r : RuntimeView) → IsLinked self.old r → IsLinked self.new r }
         // The versions are of the program, and what stood for the run stands for it.
-        ensures set_up { let w = self.old.setup in OnOk result (AreMethodImages w.world.program
-            class image.now homes.now → IsSetUp w → IsSetUp self.new.setup) }
-        ensures stands { let w = self.old.setup in OnOk result (AreMethodImages w.world.program
-            class image.now homes.now → (clock : ℕ) (s : State) → IsPinned frames.now.frames s.stack
-            → IsRunOf w clock s → IsRunOf self.new.setup clock s) }
+        ensures set_up { (w : World) → w.program ≡ self.old.program → OnOk result
+            (AreMethodImages w.program class image.now homes.now
+            → IsSetUp (setup_of w self.old) → IsSetUp (setup_of w self.new)) }
+        ensures stands { (w : World) → w.program ≡ self.old.program → OnOk result
+            (AreMethodImages w.program class image.now homes.now → (clock : ℕ) (s : State)
+            → IsPinned frames.now.frames s.stack
+            → IsRunOf (setup_of w self.old) clock s → IsRunOf (setup_of w self.new) clock s) }
     {
         let program = self.index.as_ref().program();
         let more = class_versions(alloc, program, numbers, class, image, homes)?;
@@ -395,10 +268,10 @@ impl Originals {
     /// Drops each superseded version that no frame runs.
     #[inline(always)]
     pub fn release(&mut self, frames: &Frames)
-        ensures released { Releases frames.now.frames self.old.setup.versions
-            self.new.setup.versions }
-        ensures same { AreAllCurrent self.old.setup.versions → self.new.setup ≡ self.old.setup }
-        ensures world { self.new.setup.world ≡ self.old.setup.world }
+        ensures released { Releases frames.now.frames self.old.versions
+            self.new.versions }
+        ensures same { AreAllCurrent self.old.versions → self.new.versions ≡ self.old.versions }
+        ensures program { self.new.program ≡ self.old.program }
         ensures linked { (r : RuntimeView) → IsLinked self.old r → IsLinked self.new r }
     {
         self.versions.release(frames);

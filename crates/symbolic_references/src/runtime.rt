@@ -29,6 +29,7 @@ use crate::known::Known;
 use crate::program_tables::ProgramTables;
 use crate::selections::Selections;
 pub use attempting::resolved_name;
+pub use program::units_of;
 use class_linker::Linker;
 use heap_objects::{Datum, Heap};
 use jf_bytes::Seq;

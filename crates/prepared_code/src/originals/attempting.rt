@@ -163,18 +163,19 @@ impl Originals {
     ) -> Result<Outcome, NoMemory>
         requires ready { IsReady self.old version }
         requires linked { IsLinked self.old runtime.old }
-        requires caller { IfNamed (line_at self.old.setup.versions version place)
+        requires caller { IfNamed (line_at self.old.versions version place)
             (λ n next. HasLoadedCaller (linker_in runtime.old) n) }
-        ensures answer { let w = self.old.setup in let s = runtime.old.shared in
-            IfNamed (line_at w.versions version place) (λ n next.
-            Asks result (attempts w.world n s frames.now) frames.now) }
-        ensures runtime { let w = self.old.setup in let s = runtime.old.shared in
-            IfNamed (line_at w.versions version place) (λ n next.
-            Leaves result runtime.new (attempts w.world n s frames.now) frames.now runtime.old) }
+        ensures answer { let w = runtime.old.world in let s = runtime.old.shared in
+            IfNamed (line_at self.old.versions version place) (λ n next.
+            Asks result (attempts w n s frames.now) frames.now) }
+        ensures runtime { let w = runtime.old.world in let s = runtime.old.shared in
+            IfNamed (line_at self.old.versions version place) (λ n next.
+            Leaves result runtime.new (attempts w n s frames.now) frames.now runtime.old) }
         ensures enough { HaveOperands result frames.now }
         ensures linked { OnOk result (IsLinked self.new runtime.new) }
-        ensures world { self.new.setup ≡ self.old.setup }
-        ensures same_world { runtime.new.world ≡ runtime.old.world }
+        ensures program { self.new.program ≡ self.old.program }
+        ensures versions { self.new.versions ≡ self.old.versions }
+        ensures world { runtime.new.world ≡ runtime.old.world }
     {
         let index = self.index.as_ref();
         let Some(line) = line_there(index, &self.versions, version, place) else {
@@ -204,27 +205,28 @@ impl Originals {
     ) -> Result<Option<Outcome>, NoMemory>
         requires ready { IsReady self.old version }
         requires linked { IsLinked self.old runtime.old }
-        requires caller { IfNamed (line_at self.old.setup.versions version place)
+        requires caller { IfNamed (line_at self.old.versions version place)
             (λ n next. HasLoadedCaller (linker_in runtime.old) n) }
-        ensures some { let w = self.old.setup in let s = runtime.old.shared in
-            IfNamed (line_at w.versions version place) (λ n next.
-            IfOk result (λ a. is_some a ≡ is_loaded w.world n s frames.now)) }
-        ensures answer { let w = self.old.setup in let s = runtime.old.shared in
-            IfNamed (line_at w.versions version place) (λ n next. IfOk result (λ a.
+        ensures some { let w = runtime.old.world in let s = runtime.old.shared in
+            IfNamed (line_at self.old.versions version place) (λ n next.
+            IfOk result (λ a. is_some a ≡ is_loaded w n s frames.now)) }
+        ensures answer { let w = runtime.old.world in let s = runtime.old.shared in
+            IfNamed (line_at self.old.versions version place) (λ n next. IfOk result (λ a.
             IfSome a (λ a. asked a frames.now
-            ≡ ruled (attempts w.world n s frames.now) frames.now))) }
-        ensures runtime { let w = self.old.setup in let s = runtime.old.shared in
-            IfNamed (line_at w.versions version place) (λ n next. IfOk result (λ a.
+            ≡ ruled (attempts w n s frames.now) frames.now))) }
+        ensures runtime { let w = runtime.old.world in let s = runtime.old.shared in
+            IfNamed (line_at self.old.versions version place) (λ n next. IfOk result (λ a.
             IfSome a (λ _. runtime.new
-            ≡ after (done_on (attempts w.world n s frames.now) frames.now) runtime.old))) }
-        ensures loads { let p = self.old.setup.world.program in let s = runtime.old.shared in
-            IfNamed (line_at self.old.setup.versions version place) (λ n next. IfOk result
+            ≡ after (done_on (attempts w n s frames.now) frames.now) runtime.old))) }
+        ensures loads { let p = runtime.old.world.program in let s = runtime.old.shared in
+            IfNamed (line_at self.old.versions version place) (λ n next. IfOk result
             (λ a. IfNone a (runtime.new ≡ with_loaded (loaded_for p n s frames.now) runtime.old))) }
         ensures enough { IfOk result (λ a. IfSome a
             (λ a. HasOperands a (top_operands frames.now.frames))) }
         ensures linked { OnOk result (IsLinked self.new runtime.new) }
-        ensures world { self.new.setup ≡ self.old.setup }
-        ensures same_world { runtime.new.world ≡ runtime.old.world }
+        ensures program { self.new.program ≡ self.old.program }
+        ensures versions { self.new.versions ≡ self.old.versions }
+        ensures world { runtime.new.world ≡ runtime.old.world }
     {
         let index = self.index.as_ref();
         let Some(line) = line_there(index, &self.versions, version, place) else {

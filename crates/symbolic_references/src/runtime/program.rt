@@ -19,7 +19,7 @@ use jvm_model::{Exception, Program};
 use std::alloc::Global;
 
 /// The units of a text in ASCII.
-fn units_of(alloc: Global, bytes: &[u8]) -> Result<Seq<u16>, NoMemory>
+pub fn units_of(alloc: Global, bytes: &[u8]) -> Result<Seq<u16>, NoMemory>
     ensures { IfOk result (λ units. units ≡ bytes.now) }
 {
     let mut units = Seq::with_capacity(alloc, bytes.len())?;

@@ -1,8 +1,7 @@
-use Rattle.std.proofs.Common.{◌≡◌, ◌<◌, ◌≤◌, ◌^◌, length, subst, sym, ap, ◌∙◌, arith, refl}
+use Rattle.std.proofs.Common.{◌≡◌, ◌<◌, ◌≤◌, ◌^◌, length, subst, sym, ap, ◌∙◌, arith}
 use Rattle.jvm_model.specs.declared.program.Program.{Program}
 use Rattle.prepared_code.specs.Entries.{original_versions}
 use Rattle.prepared_code.specs.Making.{AreBare, with_lines}
-use Rattle.prepared_code.specs.Prepared.{world_in}
 use Rattle.prepared_code.specs.Versions.{Setup}
 use Rattle.prepared_code.proofs.Made.{first-bare, first-versions}
 use Rattle.prepared_code.proofs.Entries.{IsPrepared-entries}
@@ -13,11 +12,8 @@ pub invariant_of-result : goal.invariant_of-result
 invariant_of-result c =
     let p : Program = c.args.index.value in
     let few : length p.classes < 2 ^ 24 = omega (arith, c.requires.linkable.count) in
-    let made : with_lines p c.in_ok-versions.versions ≡ original_versions p = ap (with_lines p) c.in_ok-versions.ensures ∙ first-versions p in
     record {
-      prepared =
-          IsPrepared-entries p c.in_ok-methods.methods (with_lines p c.in_ok-versions.versions) c.exceptions_of-exceptions.result c.requires few c.requires.methods
-          c.in_ok-methods.ensures made c.exceptions_of-exceptions.ensures.raised c.exceptions_of-exceptions.ensures.string;
+      prepared = IsPrepared-entries p (with_lines p c.in_ok-versions.versions) c.requires few c.requires.methods (ap (with_lines p) c.in_ok-versions.ensures ∙ first-versions p);
       bare = subst (AreBare p) (sym c.in_ok-versions.ensures) (first-bare p);
     }
 
@@ -27,8 +23,8 @@ returns-clause-versions c =
     ap (with_lines p) c.in_ok-versions.ensures ∙ first-versions p
 
 pub returns-clause-set_up : goal.returns-clause-set_up
-returns-clause-set_up c = λ fit closed.
+returns-clause-set_up c = λ w same fit closed.
     let p : Program = c.args.index.value in
     let few : length p.methods ≤ 4294967296 = omega (arith, c.requires.methods) in
-    let made : Setup = record { world = world_in p c.args.input.value; versions = with_lines p c.in_ok-versions.versions } in
-    made-set_up made p refl (ap (with_lines p) c.in_ok-versions.ensures ∙ first-versions p) few fit closed
+    let made : Setup = record { world = w; versions = with_lines p c.in_ok-versions.versions } in
+    made-set_up made p same (ap (with_lines p) c.in_ok-versions.ensures ∙ first-versions p) few fit closed
