@@ -26,7 +26,7 @@ use symbolic_references::{AbruptCompletion, Invoked, Known, Outcome, Runtime};
 
 /// Attempts a line that names something, and tells what its names came to; another one does nothing.
 #[inline(never)]
-#[tactic(auto, using(crate::proofs::CellLemmas::later_same, crate::proofs::CellLemmas::later_loaded))]
+#[tactic(auto, using(crate::proofs::CellLemmas::later_same, crate::proofs::CellLemmas::later_more))]
 fn attempt_line(
     runtime: &mut Runtime,
     line: &Line,
@@ -59,7 +59,7 @@ fn attempt_line(
 
 /// The same in two parts: where it loads classes nothing else is done, and None is the answer.
 #[inline(never)]
-#[tactic(auto, using(crate::proofs::CellLemmas::later_same, crate::proofs::CellLemmas::later_loaded))]
+#[tactic(auto, using(crate::proofs::CellLemmas::later_same, crate::proofs::CellLemmas::later_more))]
 fn attempt_line_loaded(
     runtime: &mut Runtime,
     line: &Line,

@@ -191,6 +191,8 @@ impl Runtime {
             (attempts self.old.world naming.now self.old.shared frames.now) frames.now self.old }
         ensures learnt { OnOk result (IfSome learnt.new
             (λ known. IsKnown (linker_in self.new) naming.now known)) }
+        ensures more { linker_in self.new ≡ with_more (linker_in self.old)
+            (drop (length self.old.shared.loaded) self.new.shared.loaded) }
         ensures world { self.new.world ≡ self.old.world }
         ensures enough { HaveOperands result frames.now }
     {
@@ -220,6 +222,8 @@ impl Runtime {
             ≡ with_loaded (loaded_for p naming.now self.old.shared frames.now) self.old)) }
         ensures learnt { OnOk result (IfSome learnt.new
             (λ known. IsKnown (linker_in self.new) naming.now known)) }
+        ensures more { linker_in self.new ≡ with_more (linker_in self.old)
+            (drop (length self.old.shared.loaded) self.new.shared.loaded) }
         ensures world { self.new.world ≡ self.old.world }
         ensures enough { IfOk result (λ a. IfSome a
             (λ a. HasOperands a (top_operands frames.now.frames))) }

@@ -1,7 +1,7 @@
-use Rattle.std.proofs.Common.{ap, subst, sym, refl}
-use Rattle.std.specs.Prelude.{IfSome, OnOk}
+use Rattle.std.proofs.Common.{ap, subst, sym, refl, ◌∙◌}
+use Rattle.std.specs.Prelude.{IfSome, OnOk, drop, length}
 use Rattle.frame_stack.specs.FrameLists.{top_operands}
-use Rattle.symbolic_references.specs.Attempts.{loaded_for}
+use Rattle.symbolic_references.specs.Attempts.{loaded_for, with_more}
 use Rattle.symbolic_references.specs.Known.{IsKnown}
 use Rattle.symbolic_references.specs.Runtimes.{linker_in}
 use Rattle.symbolic_references.proofs.Again.{loads-in}
@@ -28,3 +28,9 @@ pub returns-clause-learnt : goal.returns-clause-learnt
 returns-clause-learnt c =
     subst (λ l. OnOk c.do_found.result (IfSome c.do_found.new.learnt (λ known. IsKnown l c.args.naming.now known)))
     (sym (same-linker c.do_found.new.self c.find.new.self c.do_found.ensures.world c.do_found.ensures.same_loaded)) c.do_found.ensures.learnt
+
+pub returns-clause-more : goal.returns-clause-more
+returns-clause-more c =
+    same-linker c.do_found.new.self c.find.new.self c.do_found.ensures.world c.do_found.ensures.same_loaded
+    ∙ (c.in_ok-found.ensures.more
+    ∙ ap (λ classes. with_more (linker_in c.args.self.now) (drop (length c.args.self.now.shared.loaded) classes)) (sym c.do_found.ensures.same_loaded))

@@ -1,8 +1,8 @@
-use Rattle.std.proofs.Common.{ap, subst, sym, refl}
-use Rattle.std.specs.Prelude.{IfOk, IfSome, OnOk, ◌≡◌}
+use Rattle.std.proofs.Common.{ap, subst, sym, refl, ◌∙◌}
+use Rattle.std.specs.Prelude.{IfOk, IfSome, OnOk, ◌≡◌, drop, length}
 use Rattle.frame_stack.specs.FrameLists.{top_operands}
 use Rattle.symbolic_references.specs.Answers.{done_on}
-use Rattle.symbolic_references.specs.Attempts.{attempts, loaded_for}
+use Rattle.symbolic_references.specs.Attempts.{attempts, loaded_for, with_more}
 use Rattle.symbolic_references.specs.Known.{IsKnown}
 use Rattle.symbolic_references.specs.Outcomes.{asked, ruled}
 use Rattle.symbolic_references.specs.Runtimes.{after, linker_in}
@@ -41,3 +41,15 @@ returns-in-Ok-clause-learnt c =
     subst (λ r. OnOk r (IfSome c.do_found.new.learnt (λ known. IsKnown (linker_in c.do_found.new.self) c.args.naming.now known))) c.in-Ok.is
     (subst (λ l. OnOk c.do_found.result (IfSome c.do_found.new.learnt (λ known. IsKnown l c.args.naming.now known)))
     (sym (same-linker c.do_found.new.self c.find.new.self c.do_found.ensures.world c.do_found.ensures.same_loaded)) c.do_found.ensures.learnt)
+
+pub returns-in-Ok-clause-more : goal.returns-in-Ok-clause-more
+returns-in-Ok-clause-more c =
+    same-linker c.do_found.new.self c.find.new.self c.do_found.ensures.world c.do_found.ensures.same_loaded
+    ∙ (c.in_ok-found.ensures.more
+    ∙ ap (λ classes. with_more (linker_in c.args.self.now) (drop (length c.args.self.now.shared.loaded) classes)) (sym c.do_found.ensures.same_loaded))
+
+pub returns-in-Err-clause-more : goal.returns-in-Err-clause-more
+returns-in-Err-clause-more c =
+    same-linker c.do_found.new.self c.find.new.self c.do_found.ensures.world c.do_found.ensures.same_loaded
+    ∙ (c.in_ok-found.ensures.more
+    ∙ ap (λ classes. with_more (linker_in c.args.self.now) (drop (length c.args.self.now.shared.loaded) classes)) (sym c.do_found.ensures.same_loaded))
