@@ -84,8 +84,8 @@ IsPrepared-entries p v fits few numbered made = record {
 }
 
 pub tables-entries : (p : Program) (t : ProgramTables) → length p.classes < 2 ^ 24 → length p.methods < 2 ^ 32 → t.methods ≡ map (entry_at p) p.methods
-    → ((e : Exception) → exception_in p t.exceptions e ≡ exception_kind p e) → t.exceptions.string ≡ kind_for p string → AreNumbers p t.numbers → AreTablesOf p t
-tables-entries p t few numbered is raised text numbers =
+    → ((e : Exception) → exception_in p t.exceptions e ≡ exception_kind p e) → t.exceptions.string ≡ kind_for p string → t.exceptions.string < 2 ^ 25 → AreNumbers p t.numbers → AreTablesOf p t
+tables-entries p t few numbered is raised text small numbers =
     let entry : (k : ℕ) → slice_get t.methods k ≡ option_map (entry_at p) (slice_get p.methods k) = λ k. ap (λ ms. slice_get ms k) is ∙ slice_get-map (entry_at p) p.methods k in
     record {
       few = few;
@@ -96,4 +96,5 @@ tables-entries p t few numbered is raised text numbers =
       max_locals = λ k. ap (λ (o : Option Method). option_map_or (λ m. m.max_locals) o 0) (entry k) ∙ locals-place p (slice_get p.methods k);
       raised = raised;
       string = text;
+      small = small;
     }

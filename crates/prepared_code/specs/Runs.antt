@@ -74,5 +74,6 @@ pub record LeadsAlone (w : Setup) (old : Parts) (n : ℕ) (new : Parts) : Type 0
   pub ending : new.ending ≡ old.ending
   pub thrown : new.thrown ≡ old.thrown
   pub loaded : new.runtime.shared.loaded ≡ old.runtime.shared.loaded
+  pub world : new.runtime.world ≡ old.runtime.world
   pub leads : (ms : List Initialization) → IsAtInstruction (length old.frames.frames) ms old → Leads w (state_of ms old) n (state_of ms new)
   pub quiet : (ms : List Initialization) → IsAtInstruction (length old.frames.frames) ms old → AreQuiet w (state_of ms old) n

@@ -64,53 +64,6 @@ pub fn heap_before(alloc: Global, program: &Program) -> Result<Heap, NoMemory>
     Ok(heap)
 }
 
-/// A text goes into an element of an array. There is room for it.
-fn put_text(kind: u32, array: u32, at: u32, units: &[u16], heap: &mut Heap) -> Result<(), NoMemory>
-    requires array { (array == 0) ≡ false }
-    requires room { heap.old.used + (1 + length units.now) ≤ heap.old.limit }
-    ensures { OnOk result (heap.new
-        ≡ with_text_in kind array at units.now heap.old) }
-{
-    match heap.text(kind, units) {
-        Ok(text) => {
-            heap.put(array, at, Datum::Ref(text));
-            Ok(())
-        }
-        Err(_) => Err(NoMemory),
-    }
-}
-
-/// The texts of the arguments of `main` go into their array. There is room for them.
-fn put_texts(program: &Program, array: u32, heap: &mut Heap) -> Result<(), NoMemory>
-    requires few { length program.now.classes < 2 ^ 24 }
-    requires array { (array == 0) ≡ false }
-    requires short { length program.now.args < 2 ^ 32 }
-    requires room { heap.old.used + texts_cost program.now.args ≤ heap.old.limit }
-    ensures { OnOk result (heap.new
-        ≡ with_texts program.now array 0 program.now.args heap.old) }
-{
-    let kind = kind_for(program, b"java/lang/String");
-    for (at, arg) in program.args.as_slice().iter().enumerate() {
-        put_text(kind, array, at as u32, arg.units(), heap)?;
-    }
-    Ok(())
-}
-
-/// The array of the arguments of `main`, and then their texts. There is room for them.
-pub fn make_arguments(program: &Program, heap: &mut Heap) -> Result<(), NoMemory>
-    requires few { length program.now.classes < 2 ^ 24 }
-    requires room { heap.old.used + arguments_cost program.now.args ≤ heap.old.limit }
-    requires limit { heap.old.limit ≡ program.now.heap }
-    ensures { OnOk result (heap.new ≡ with_arguments program.now heap.old) }
-{
-    let _limit = program.heap;
-    let kind = FIRST_ARRAY + kind_for(program, b"java/lang/String");
-    match heap.array(kind, Datum::Ref(0), program.args.len() as u32) {
-        Ok(array) => put_texts(program, array, heap),
-        Err(_) => Err(NoMemory),
-    }
-}
-
 /// How many slots the objects take that are there before the start.
 const BEFORE: usize = 6;
 

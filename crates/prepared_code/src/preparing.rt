@@ -352,6 +352,7 @@ pub fn exceptions_of(program: &Program) -> Exceptions
     requires { length program.now.classes < 2 ^ 24 }
     ensures raised { (e : TheException) → exception_in program.now result e ≡ exception_kind program.now e }
     ensures string { result.string ≡ kind_for program.now string }
+    ensures small { result.string < 2 ^ 25 }
 {
     Exceptions {
         abstract_method: kind_for(program, b"java/lang/AbstractMethodError"),

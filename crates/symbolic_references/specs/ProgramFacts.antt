@@ -51,6 +51,7 @@ pub record AreTablesOf (p : Program) (t : ProgramTables) : Type 0 where
   pub max_locals : (k : ℕ) → option_map_or (λ m. m.max_locals) (slice_get t.methods k) 0 ≡ max_locals_of (world_in p []) k
   pub raised : (e : Exception) → exception_in p t.exceptions e ≡ exception_kind p e
   pub string : t.exceptions.string ≡ kind_for p string
+  pub small : t.exceptions.string < 2 ^ 25
 
 -- exceptions that the machine makes: those that native methods throw are of built-in classes
 abbrev pub IsMachines : Exception → Type 0

@@ -8,6 +8,7 @@ ghost use Rattle.symbolic_references.specs.Objects.{AreLoaded};
 ghost use Rattle.symbolic_references.specs.ProgramFacts.{AreTablesOf, HasExceptions};
 ghost use Rattle.symbolic_references.specs.Runtimes.{linker_in};
 
+mod arguments;
 mod arrays;
 mod attempting;
 mod calls;

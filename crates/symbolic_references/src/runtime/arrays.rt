@@ -4,6 +4,7 @@ ghost use Rattle.std.specs.Prelude.{◌≡◌, ◌+◌, ◌<◌, ◌^◌, OnOk};
 ghost use Rattle.jvm_model.specs.Instructions.CreationRules.{array_over};
 ghost use Rattle.jvm_model.specs.Instructions.ObjectRules.{makes, makes_array};
 ghost use Rattle.jvm_model.specs.Basis.Values.{int_of};
+ghost use Rattle.symbolic_references.specs.Arrays.{IsPrimitiveArray};
 ghost use Rattle.symbolic_references.specs.Objects.{AreLoaded, IsUsable};
 ghost use Rattle.symbolic_references.specs.Answers.{asked_on, done_on, shared_by, wrote_by};
 ghost use Rattle.symbolic_references.specs.Outcomes.{Asks, HasOperands, HaveOperands, Leaves, Sets, asked, ruled};
@@ -42,7 +43,7 @@ impl Runtime {
     }
 
     /// The same, of as many elements as the topmost operand says.
-    pub fn make_counted(&mut self, frames: &Frames, kind: u32) -> Result<Outcome, NoMemory>
+    fn make_counted(&mut self, frames: &Frames, kind: u32) -> Result<Outcome, NoMemory>
         requires usable { IsUsable (linker_in self.old) kind }
         ensures answer { Asks result (λ l o. makes kind (int_of o) self.old.shared l o) frames.now }
         ensures runtime { Sets result self.new (λ l o. makes kind (int_of o) self.old.shared l o)
@@ -61,6 +62,20 @@ impl Runtime {
             )));
         }
         self.make_array(frames, kind, count as u32)
+    }
+
+    /// newarray.
+    #[tactic(auto, using(crate::proofs::KindLemmas::primitive))]
+    pub fn make_primitives(&mut self, frames: &Frames, kind: u32) -> Result<Outcome, NoMemory>
+        requires { IsPrimitiveArray kind }
+        ensures answer { Asks result (λ l o. makes kind (int_of o) self.old.shared l o) frames.now }
+        ensures runtime { Sets result self.new (λ l o. makes kind (int_of o) self.old.shared l o)
+            frames.now self.old }
+        ensures world { self.new.world ≡ self.old.world }
+        ensures same_loaded { self.new.shared.loaded ≡ self.old.shared.loaded }
+        ensures enough { HaveOperands result frames.now }
+    {
+        self.make_counted(frames, kind)
     }
 
     /// anewarray.

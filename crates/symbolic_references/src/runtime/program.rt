@@ -144,6 +144,7 @@ impl Runtime {
     pub fn string_kind(&self) -> u32
         ensures kind { result ≡ kind_for self.now.world.program string }
         ensures usable { IsUsable (linker_in self.now) result }
+        ensures most { result < 2 ^ 25 }
     {
         self.tables.exceptions.string
     }
