@@ -31,7 +31,8 @@ use Rattle.symbolic_references.specs.Runtimes.{IsRuntime, RuntimeView, after, wi
 use Rattle.symbolic_references.specs.Resolved.{does_resolved, skips}
 use Rattle.symbolic_references.proofs.Behind.{behind, skipped}
 use Rattle.symbolic_references.proofs.ObjectLemmas.{loaded_more, objects_more, usable_more}
-use Rattle.std.proofs.Common.{Bool, drop-length}
+use Rattle.std.proofs.Common.{Bool, Some}
+use Rattle.std.proofs.Math.Seq.{drop-length}
 use Rattle.std.specs.Prelude.{IfOk}
 use Rattle.symbolic_references.specs.Attempts.{IsFound}
 use Rattle.symbolic_references.specs.Answers.{found_view}

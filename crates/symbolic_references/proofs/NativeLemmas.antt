@@ -125,6 +125,10 @@ module _ (v : RuntimeView) (number : ℕ) (args : List Datum) (f : FramesView) (
   leaves-numbered native (Ok a) new enough is = is ∙ leaves native enough
   leaves-numbered native (Err e) new enough is = tt
 
+data-next : (o : Operands) (n : ℕ) (v : Value) → slice_get o n ≡ Some v → data_in (n + 1) o ≡ as_datum v ∷ data_in n o
+data-next o n v e =
+    ap (λ k. data_in k o) (let more : n + 1 ≡ suc n = omega arith in more) ∙ ap (map as_datum) (first-below o n v e)
+
 -- one argument more, of those that are left the deepest
 pub argument-taken : (o : Operands) (left : ℕ) (v : Value) (d : Datum) (args more all : List Datum) → 0 < left → Some v ≡ slice_get o (left - 1)
     → d ≡ as_datum v → more ≡ args ++ d ∷ [] → args ++ data_in left o ≡ all → more ++ data_in (left - 1) o ≡ all
