@@ -1,4 +1,4 @@
-pub pub mod LineFamilies
+pub mod LineFamilies
 pub mod Actions
 pub mod ImageVersions
 pub mod LaidRewritten

@@ -29,7 +29,6 @@ use Rattle.symbolic_references.specs.Runtimes.{RuntimeView, after}
 use Rattle.symbolic_references.specs.Resolved.{field_found, puts_instance}
 use Rattle.symbolic_references.specs.Targets.{data_in}
 use Rattle.symbolic_references.proofs.CalleeLemmas.{code-invoked, native-invoked}
-use Rattle.symbolic_references.proofs.TargetLemmas.{length-data}
 
 pub next-is : (a : Answer) → is_next a ≡ true → a ≡ Continues
 next-is Continues is = refl
@@ -96,18 +95,17 @@ puts-written p kind r m s l o x object slot is owned at named =
 
 -- ---- a call of code
 
-pub call-of : (w : World) (s : Shared) (l : Locals) (o : Operands) (t : TheTarget) (m : Chosen) (n : ℕ) → t.selected ≡ Some m → m.callee ≡ callee.Code n → t.count ≤ length o
-    → IfSome t.selected (HasCallee w.program)
-    → IsCall (record { method = n; count = t.count }) (invokes_selected w (option_map chosen_place t.selected) (data_in t.count o) s l (drop t.count o)) s
-call-of w s l o t m n selected code within has =
+pub call-of : (w : World) (s : Shared) (fs : List PlacedFrame) (t : TheTarget) (m : Chosen) (n : ℕ) → t.selected ≡ Some m → m.callee ≡ callee.Code n
+    → t.count ≤ length (top_operands fs) → IfSome t.selected (HasCallee w.program)
+    → IsCall (record { method = n; count = t.count })
+    (invokes_selected w (option_map chosen_place t.selected) (data_in t.count (top_operands fs)) s (top_locals fs) (drop t.count (top_operands fs))) s fs
+call-of w s fs t m n selected code within has =
     let is : IsCode w.program (chosen_place m) n =
     subst (λ x. IsCallee x w.program (chosen_place m)) code (subst (λ x. IfSome x (HasCallee w.program)) selected has) in
     record {
-      args = data_in t.count o;
-      below = drop t.count o;
-      invokes = ap (λ x. invokes_selected w (option_map chosen_place x) (data_in t.count o) s l (drop t.count o)) selected
-          ∙ code-invoked w (chosen_place m) (data_in t.count o) s l (drop t.count o) n is;
-      count = length-data t.count o within;
+      invokes = ap (λ x. invokes_selected w (option_map chosen_place x) (data_in t.count (top_operands fs)) s (top_locals fs) (drop t.count (top_operands fs))) selected
+          ∙ code-invoked w (chosen_place m) (data_in t.count (top_operands fs)) s (top_locals fs) (drop t.count (top_operands fs)) n is;
+      within = within;
     }
 
 -- a call of a native method

@@ -37,9 +37,10 @@ Leaves result new rule f old = OnOk result (new ≡ after (done_on rule f) old)
 abbrev pub Sets : Result Outcome NoMemory → RuntimeView → Rule → FramesView → RuntimeView → Type 0
 Sets result new rule f old = OnOk result (new ≡ with_shared (shared_by rule f) old)
 
--- a value takes the place of two operands or more only where there are as many
+-- a value takes the place of two operands or more only where there are as many, and so are arguments
 abbrev pub HasOperands : Outcome → Operands → Type 0
 HasOperands (outcome.Goes (suc (suc n)) (Some v)) o = suc (suc n) ≤ length o
+HasOperands (outcome.Invokes m n) o = n ≤ length o
 HasOperands _ o = Unit {0}
 
 abbrev pub HaveOperands : Result Outcome NoMemory → FramesView → Type 0

@@ -4,7 +4,7 @@ use Rattle.frame_stack.specs.FrameLists.{FramesView, with_frames}
 use Rattle.jvm_model.specs.declared.state.Phase.{Phase}
 use Rattle.jvm_model.specs.declared.state.Phase.TheVariants.{Ready, Running}
 use Rattle.jvm_model.specs.declared.state.Shared.{Shared}
-use Rattle.jvm_model.specs.Basis.Data.{Datum, Done, Invokes, Operands}
+use Rattle.jvm_model.specs.Basis.Data.{Done, Invokes}
 use Rattle.jvm_model.specs.Instructions.ObjectRules.{done}
 use Rattle.std.specs.Prelude.{Option, Some}
 use Rattle.symbolic_references.specs.declared.invoked.Call.{Call}
@@ -42,12 +42,10 @@ abbrev pub IfPassed : Bool → Done → ℕ → FramesView → RuntimeView → F
 IfPassed true d next old before new left = HasPassed d next old before new left
 IfPassed false d next old before new left = (new ≡ old) × (left ≡ before)
 
--- what a rule says is that this method is invoked, with so many arguments
-pub record IsCall (c : Call) (d : Done) (s : Shared) : Type 0 where
-  pub args : List Datum
-  pub below : Operands
-  pub invokes : d ≡ done s (Invokes c.method args below)
-  pub count : length args ≡ c.count
+-- what a rule says is that this method is invoked, with so many operands
+pub record IsCall (c : Call) (d : Done) (s : Shared) (fs : List PlacedFrame) : Type 0 where
+  pub invokes : d ≡ done s (Invokes c.method (data_in c.count (top_operands fs)) (drop c.count (top_operands fs)))
+  pub within : c.count ≤ length (top_operands fs)
 
 -- ---- native methods
 
@@ -62,5 +60,5 @@ pub record IsNativeCall (w : World) (n : NativeCall) (d : Done) (s : Shared) (fs
   pub runs : d ≡ runs_native_call w n s fs
 
 abbrev pub IsInvoked : World → Invoked → Done → Shared → List PlacedFrame → Type 0
-IsInvoked w (invoked.Code c) d s fs = IsCall c d s
+IsInvoked w (invoked.Code c) d s fs = IsCall c d s fs
 IsInvoked w (invoked.Native n) d s fs = IsNativeCall w n d s fs

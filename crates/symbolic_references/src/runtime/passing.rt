@@ -413,7 +413,7 @@ impl Runtime {
         requires known { IsKnown (linker_in self.now) naming.now known.now }
         ensures called { let w = self.now.world in
             let d = done_on (attempts w naming.now self.now.shared frames.now) frames.now in
-            IfSome result (λ c. IsCall c d self.now.shared) }
+            IfSome result (λ c. IsCall c d self.now.shared frames.now.frames) }
         ensures loads { let n = naming.now in loads_nothing self.now.world.program
             self.now.shared.loaded n (top_operands frames.now.frames) ≡ true }
     {

@@ -6,7 +6,7 @@ use Rattle.symbolic_references.proofs.runtime.Runtime.call_of.Goals as goal
 pub returns-in-Code : goal.returns-in-Code
 returns-in-Code c =
     let fs = c.args.frames.now.frames in
-    call-of c.args.self.now.world c.args.self.now.shared (top_locals fs) (top_operands fs) c.args.target c.in-Some.m c.in-Code.method c.in-Some.is c.in-Code.is
+    call-of c.args.self.now.world c.args.self.now.shared fs c.args.target c.in-Some.m c.in-Code.method c.in-Some.is c.in-Code.is
     c.requires.within c.requires.callee
 
 pub returns-in-Native : goal.returns-in-Native
