@@ -19,10 +19,6 @@ use Rattle.prepared_code.specs.declared.line.Action.{Action}
 use Rattle.prepared_code.specs.declared.line.Action.TheVariants as action
 use Rattle.prepared_code.specs.declared.line.Line.{Line}
 
--- with these classes loaded too
-abbrev with_more : LinkerView → List ℕ → LinkerView
-with_more l more = record l { loaded = l.loaded ++ more }
-
 no-known : {A : Type 0} (k : A) → None ≡ Some k → ⊥
 no-known k e = cc
 
