@@ -57,7 +57,7 @@ module _ (w : Setup) (line : Line) (callee : ℕ) (p : Parts) (f : PlacedFrame) 
   few_live = nat_lt (suc (live_in (map active fs))) most_live
 
   abbrev thrown : State
-  thrown = state_with (f ∷ fs) (raising w StackOverflow None p)
+  thrown = state_with (f ∷ fs) (raising w.world StackOverflow None p)
 
   -- the state where the callee begins with these locals, if they are so many at most
   abbrev state_by : ℕ → ℕ → Locals → State
@@ -106,7 +106,7 @@ module _ (w : Setup) (line : Line) (callee : ℕ) (p : Parts) (f : PlacedFrame) 
       split false few = refl
 
   -- as a method that was named takes them
-  pub calls-is : (here : Here) (args : List Datum) (below : Operands) → here.method ≡ f.method → own_of w here ≡ line.instr.at → Takes f.operands args below
+  pub calls-is : (here : Here) (args : List Datum) (below : Operands) → here.method ≡ f.method → own_of w.versions here ≡ line.instr.at → Takes f.operands args below
       → (applies w.world (listing_of w.versions) (placed_line line) (Invokes callee args below) (state_with fs p) (frame_in f)).after
       ≡ method_called w here callee (length args) (f ∷ fs) p (may_begin (f ∷ fs)) (can_begin w callee (length args) (f ∷ fs))
   calls-is here args below method own takes =
@@ -133,7 +133,7 @@ module _ (w : Setup) (line : Line) (callee : ℕ) (p : Parts) (f : PlacedFrame) 
           (state_with (f ∷ fs) (run_ended method own p))
 
       either : (b : Bool)
-          → cond b (cond (may_begin (f ∷ fs)) (state_with (with_begun true w callee (length args) (f ∷ fs)) p) thrown) (state_with (f ∷ fs) (run_ended here.method (own_of w here) p))
+          → cond b (cond (may_begin (f ∷ fs)) (state_with (with_begun true w callee (length args) (f ∷ fs)) p) thrown) (state_with (f ∷ fs) (run_ended here.method (own_of w.versions here) p))
           ≡ method_called w here callee (length args) (f ∷ fs) p (may_begin (f ∷ fs)) b
       either true = refl
       either false = refl

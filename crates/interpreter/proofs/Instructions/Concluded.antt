@@ -63,12 +63,12 @@ can-answer (asked.Refused r) = refusals-stop r
 
 -- ---- at the line where the frame stands
 
-pub own-there : (w : Setup) (here : Here) (line : Line) → line_at w.versions here.version here.place ≡ Some line → own_of w here ≡ line.instr.at
+pub own-there : (w : Setup) (here : Here) (line : Line) → line_at w.versions here.version here.place ≡ Some line → own_of w.versions here ≡ line.instr.at
 own-there w here line is = ap (λ (o : Option Line). option_map_or (λ (i : Instruction). i.own) (option_map instruction_in o) 0) is
 
 -- ---- the state that applies
 
-module _ (w : Setup) (line : Line) (here : Here) (own : own_of w here ≡ line.instr.at) (p : Parts) (f : PlacedFrame) (fs : List PlacedFrame)
+module _ (w : Setup) (line : Line) (here : Here) (own : own_of w.versions here ≡ line.instr.at) (p : Parts) (f : PlacedFrame) (fs : List PlacedFrame)
     (method : here.method ≡ f.method) where
   -- by the outcome, where nothing is initialized before
   abbrev asked_there : Outcome → State
@@ -77,9 +77,9 @@ module _ (w : Setup) (line : Line) (here : Here) (own : own_of w here ≡ line.i
   abbrev concluded_there : Outcome → State
   concluded_there q = answer_concluded w here (answer_in q (f ∷ fs)) (record p { frames = record p.frames { frames = frames_in q line.next (f ∷ fs) } })
 
-  ends-there : state_with (f ∷ fs) (run_ended here.method (own_of w here) p) ≡ breaks (state_with fs p) (frame_in f) line.instr.at
+  ends-there : state_with (f ∷ fs) (run_ended here.method (own_of w.versions here) p) ≡ breaks (state_with fs p) (frame_in f) line.instr.at
   ends-there =
-      ap (λ m. state_with (f ∷ fs) (run_ended m (own_of w here) p)) method ∙ ap (λ at. state_with (f ∷ fs) (run_ended f.method at p)) own
+      ap (λ m. state_with (f ∷ fs) (run_ended m (own_of w.versions here) p)) method ∙ ap (λ at. state_with (f ∷ fs) (run_ended f.method at p)) own
 
   goes-there : (l : Locals) (o : Operands) → concluded_there (GoesOn l o Next) ≡ asked_there (GoesOn l o Next)
   goes-there l o = by (nat_le (height_of o) f.max_stack) where
@@ -141,7 +141,7 @@ named_beneath w line n ms p [] = state_of ms p
 named_beneath w line n ms p (f ∷ fs) = acts_named w line n (with_initializations ms (state_with fs p)) (frame_in f)
 
 module _ (w : Setup) (line : Line) (n : SymbolicReference) (ms : List Initialization) (here : Here) (p : Parts) (found : line_at w.versions here.version here.place ≡ Some line) where
-  own : own_of w here ≡ line.instr.at
+  own : own_of w.versions here ≡ line.instr.at
   own = own-there w here line found
 
   -- where the parts have come to, on these frames

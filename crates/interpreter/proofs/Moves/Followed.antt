@@ -58,28 +58,28 @@ begins-unless Plain = refl
 begins-unless Root = refl
 
 -- no activation more
-pub enters_none : (w : Setup) (live : ℕ) (fs : List PlacedFrame) → length fs ≤ live → false ≡ enters_by w (changes_since live fs)
-enters_none w live fs few = by (nat_lt (length fs) live) ∙ ap (λ b. enters_by w (depths_compared (nat_lt (length fs) live) b (top_frame_method fs))) (sym (le-ltb live (length fs) few)) where
-  by : (b : Bool) → false ≡ enters_by w (depths_compared b false (top_frame_method fs))
+pub enters_none : (w : Setup) (live : ℕ) (fs : List PlacedFrame) → length fs ≤ live → false ≡ enters_by w.versions (changes_since live fs)
+enters_none w live fs few = by (nat_lt (length fs) live) ∙ ap (λ b. enters_by w.versions (depths_compared (nat_lt (length fs) live) b (top_frame_method fs))) (sym (le-ltb live (length fs) few)) where
+  by : (b : Bool) → false ≡ enters_by w.versions (depths_compared b false (top_frame_method fs))
   by true = refl
   by false = refl
 
 -- one more
 enters-one : (w : Setup) (live : ℕ) (f : PlacedFrame) (fs : List PlacedFrame) → live < length (f ∷ fs)
-    → not (is_off (mark_of w.versions (current_of w.versions f.method))) ≡ enters_by w (changes_since live (f ∷ fs))
+    → not (is_off (mark_of w.versions (current_of w.versions f.method))) ≡ enters_by w.versions (changes_since live (f ∷ fs))
 enters-one w live f fs more =
     begins-unless (mark_of w.versions (current_of w.versions f.method))
-    ∙ (ap (λ b. enters_by w (depths_compared false b f.method)) (sym (lt-ltb live (length (f ∷ fs)) more))
-    ∙ ap (λ b. enters_by w (depths_compared b (nat_lt live (length (f ∷ fs))) f.method)) (sym (le-ltb (length (f ∷ fs)) live (omega arith))))
+    ∙ (ap (λ b. enters_by w.versions (depths_compared false b f.method)) (sym (lt-ltb live (length (f ∷ fs)) more))
+    ∙ ap (λ b. enters_by w.versions (depths_compared b (nat_lt live (length (f ∷ fs))) f.method)) (sym (le-ltb (length (f ∷ fs)) live (omega arith))))
 
 pub enters_top : (w : Setup) (live : ℕ) (fs : List PlacedFrame) (version method : ℕ) → top_of fs ≡ Some (version, method) → live < length fs
-    → not (is_off (mark_of w.versions (current_of w.versions method))) ≡ enters_by w (changes_since live fs)
+    → not (is_off (mark_of w.versions (current_of w.versions method))) ≡ enters_by w.versions (changes_since live fs)
 enters_top w live [] version method top more = absurd (omega arith)
 enters_top w live (f ∷ fs) version method top more =
     let same : f.method ≡ method = ap (λ (x : ℕ × ℕ). x.1) (same_Some _ _ top) in
     ap (λ m. not (is_off (mark_of w.versions (current_of w.versions m)))) (sym same) ∙ enters-one w live f fs more
 
-pub enters_nothing : (w : Setup) (live : ℕ) (fs : List PlacedFrame) → top_of fs ≡ None → live < length fs → false ≡ enters_by w (changes_since live fs)
+pub enters_nothing : (w : Setup) (live : ℕ) (fs : List PlacedFrame) → top_of fs ≡ None → live < length fs → false ≡ enters_by w.versions (changes_since live fs)
 enters_nothing w live [] top more = absurd (omega arith)
 enters_nothing w live (f ∷ fs) top more = absurd cc
 
@@ -130,7 +130,7 @@ module _ (w : Setup) (live n : ℕ) (ms : List Initialization) (p : Parts) where
   same-followed = ap followed_by (since-between live ms p)
 
   -- a method has begun, which is told
-  pub follows-told : (passed : ℕ) → passed ≡ passed_by n cs → enters_by w cs ≡ true → pause_at s passed Begins ≡ pause_behind_attempt w live n s
+  pub follows-told : (passed : ℕ) → passed ≡ passed_by n cs → enters_by w.versions cs ≡ true → pause_at s passed Begins ≡ pause_behind_attempt w live n s
   follows-told passed counted is =
       ap (λ k. pause_at s k Begins) counted
       ∙ (sym (begins-pause (changes_due (mark_now (mark_of w.versions) (listing_of w.versions)) [] cs) (record { state = s; passed = passed_by n cs; due = Begins })
@@ -138,7 +138,7 @@ module _ (w : Setup) (live n : ℕ) (ms : List Initialization) (p : Parts) where
       ∙ same-followed)
 
   -- the moves follow
-  pub follows-on : (passed : ℕ) → passed ≡ passed_by n cs → enters_by w cs ≡ false → paused_in w passed s ≡ pause_behind_attempt w live n s
+  pub follows-on : (passed : ℕ) → passed ≡ passed_by n cs → enters_by w.versions cs ≡ false → paused_in w passed s ≡ pause_behind_attempt w live n s
   follows-on passed counted isnt =
       ap (λ k. paused_in w k s) counted
       ∙ (sym (goes-pause (changes_due (mark_now (mark_of w.versions) (listing_of w.versions)) [] cs) (record { state = s; passed = passed_by n cs; due = Begins })

@@ -6,6 +6,7 @@ use Rattle.const_pool.specs.declared.descriptor.Kind.TheVariants as kind
 use Rattle.frame_stack.specs.FrameLists.{FramesView, PlacedFrame, top_operands, arguments, without_arguments, can_enter, new_frame}
 use Rattle.frame_stack.specs.Widths.{height_of}
 use Rattle.jvm_model.specs.Basis.Data.{Operands}
+use Rattle.jvm_model.specs.Basis.Data.{World}
 use Rattle.jvm_model.specs.Basis.Programs.{max_stack_of, max_locals_of, params_of_method}
 use Rattle.jvm_model.specs.Basis.Values.{data_of}
 use Rattle.prepared_code.specs.Tables.{Versions}
@@ -15,8 +16,8 @@ use Rattle.prepared_code.specs.Versions.{Setup, current_of, first_of}
 abbrev pub arguments_of : ℕ → List PlacedFrame → List Value
 arguments_of count fs = reverse (take count (top_operands fs))
 
-abbrev pub can_begin : Setup → ℕ → ℕ → List PlacedFrame → Bool
-can_begin w method args fs = can_enter (max_locals_of w.world method) args fs
+abbrev pub can_begin : World → ℕ → ℕ → List PlacedFrame → Bool
+can_begin w method args fs = can_enter (max_locals_of w method) args fs
 
 -- a frame of the method's current version, at its first place
 abbrev pub frame_begun : Versions → ℕ → ℕ → ℕ → List Value → PlacedFrame
@@ -37,12 +38,12 @@ abbrev pub with_begun : Bool → Setup → ℕ → ℕ → List PlacedFrame → 
 with_begun b w method args fs = if b then begun_frame w method args fs ∷ without_arguments args fs else fs
 
 -- the operands are the method's arguments, and fit into its locals
-abbrev pub fits_with : Setup → ℕ → List PlacedFrame → Option (List Kind) → Bool
+abbrev pub fits_with : World → ℕ → List PlacedFrame → Option (List Kind) → Bool
 fits_with w method fs None = false
 fits_with w method fs (Some ks) = is_some (data_of ks (arguments_of (length ks) fs)) && can_begin w method (length ks) fs
 
-abbrev pub fits_params : Setup → ℕ → List PlacedFrame → Bool
-fits_params w method fs = fits_with w method fs (params_of_method w.world.program method)
+abbrev pub fits_params : World → ℕ → List PlacedFrame → Bool
+fits_params w method fs = fits_with w method fs (params_of_method w.program method)
 
 -- ---- the locals that arguments take
 

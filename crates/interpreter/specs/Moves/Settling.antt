@@ -13,6 +13,7 @@ use Rattle.jvm_model.specs.Basis.SharedState.{class_of}
 use Rattle.prepared_code.specs.declared.parts.Parts.{Parts}
 use Rattle.prepared_code.specs.declared.parts.Here.{Here}
 use Rattle.prepared_code.specs.States.{frame_in, state_in, state_with}
+use Rattle.prepared_code.specs.Tables.{Versions}
 use Rattle.prepared_code.specs.Versions.{Setup, listing_of}
 
 -- ---- the operands of the current frame
@@ -34,8 +35,8 @@ with_alone r (f ∷ fs) = if nat_le 1 f.max_stack then record f { operands = Ref
 -- ---- a throw meets the current frame
 
 -- the offset of the instruction at which it stands
-abbrev pub own_of : Setup → Here → ℕ
-own_of w here = option_map_or (λ (i : Instruction). i.own) ((listing_of w.versions).at here.version here.place) 0
+abbrev pub own_of : Versions → Here → ℕ
+own_of v here = option_map_or (λ (i : Instruction). i.own) ((listing_of v).at here.version here.place) 0
 
 -- it goes on at a handler's target, with the object alone on its operands
 abbrev pub caught_at : Setup → ℕ → ℕ → List PlacedFrame → Parts → State
@@ -48,7 +49,7 @@ abbrev pub caught_top : Setup → ℕ → List PlacedFrame → Parts → State
 caught_top w r [] p = state_in p
 caught_top w r (f ∷ fs) p =
     let t = listing_of w.versions in
-    (throw_caught w.world t (state_with fs p) r (frame_in f) (handler_for w.world (class_of w.world.program p.shared r) f.place (t.handlers f.version))).after
+    (throw_caught w.world t (state_with fs p) r (frame_in f) (handler_for w.world (class_of w.world.program p.runtime.shared r) f.place (t.handlers f.version))).after
 
 -- ---- `main` begins
 

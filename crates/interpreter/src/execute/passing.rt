@@ -16,7 +16,6 @@ ghost use Rattle.symbolic_references.specs.Passing.{IfRan, runs_native_call};
 ghost use Rattle.prepared_code.specs.declared.line.Action.TheVariants as action;
 ghost use Rattle.interpreter.specs.Instructions.Arguments.{can_begin, with_begun};
 ghost use Rattle.interpreter.specs.Instructions.Invoking.{may_begin};
-ghost use Rattle.prepared_code.specs.Linked.{linker_in};
 ghost use Rattle.prepared_code.specs.Initializations.{state_of};
 ghost use Rattle.interpreter.specs.Instructions.Passing.{Passes, is_method, on_frames};
 ghost use Rattle.interpreter.specs.Instructions.Passing.{changed_in, steps_if, with_changed};
@@ -27,6 +26,8 @@ ghost use Rattle.interpreter.specs.Moves.Calmly.{GoesBack, TriesIf, passed_there
 ghost use Rattle.interpreter.specs.Moves.Onward.{ComesTo, GoesOnward, PassesOnward};
 ghost use Rattle.interpreter.specs.Moves.Onward.{begun_due, is_telling, made_if};
 ghost use Rattle.prepared_code.specs.Versions.{current_of, line_at, mark_of};
+ghost use Rattle.prepared_code.specs.Linked.{IsLinked, setup_in};
+ghost use Rattle.symbolic_references.specs.Runtimes.{linker_in};
 
 use crate::execute::arrays::pass_length;
 use crate::execute::going::{top_datum, value_of};
@@ -45,10 +46,7 @@ use jvm_model::{Due, EventKind, SymbolicReference};
 use prepared_code::{
     Action, Here, Initialization, Line, Originals, Parts, initialization_on, next_in, where_now,
 };
-use std::alloc::Global;
-use symbolic_references::{
-    Call, Found, Invoked, Known, NativeCall, known_call, pass_field, pass_native,
-};
+use symbolic_references::{Call, Found, Invoked, Known};
 
 // ---- a call
 
@@ -66,51 +64,22 @@ fn begun_due(marked: bool) -> Due
 fn begin_call(originals: &Originals, parts: &mut Parts, call: Call) -> Option<Due>
     ensures few { is_some result ≡ true → may_begin parts.old.frames.frames ≡ true }
     ensures fits { is_some result ≡ true
-        → can_begin originals.now.setup call.method call.count parts.old.frames.frames ≡ true }
-    ensures due { let v = originals.now.setup.versions in IfSome result (λ due.
+        → can_begin parts.old.runtime.world call.method call.count parts.old.frames.frames ≡ true }
+    ensures due { let v = originals.now.versions in IfSome result (λ due.
         due ≡ begun_due (not (is_off (mark_of v (current_of v call.method))))) }
     ensures frames { parts.new.frames.frames ≡ with_begun
-        (is_some result) originals.now.setup call.method call.count parts.old.frames.frames }
+        (is_some result) (setup_in parts.old.runtime originals.now) call.method call.count parts.old.frames.frames }
     ensures same { parts.new ≡ on_frames parts.new.frames parts.old }
 {
     if !may_begin(&parts.frames) {
         return None;
     }
     let due = begun_due(is_marked(originals, originals.current(call.method)));
-    match begin_frame(originals, &mut parts.frames, call.method, call.count) {
+    match begin_frame(originals, &parts.runtime, &mut parts.frames, call.method, call.count) {
         Ok(true) => Some(due),
         Ok(false) => None,
         Err(_) => None,
     }
-}
-
-/// A native method of a built-in class. False, with nothing changed, where it raises anything.
-fn do_native(
-    alloc: Global,
-    originals: &Originals,
-    parts: &mut Parts,
-    native: NativeCall,
-    next: u16,
-) -> bool
-    requires stands { IsSome (slice_get native_methods native.number) }
-    requires within { native.count ≤ length (top_operands parts.old.frames.frames) }
-    requires linked { originals.now.loaded ≡ parts.old.shared.loaded }
-    ensures ran { let w = originals.now.setup.world in
-        let d = runs_native_call w native parts.old.shared parts.old.frames.frames in
-        IfRan result d next (changed_in parts.old) (changed_in parts.new) }
-    ensures same { parts.new ≡ with_changed (changed_in parts.new) parts.old }
-{
-    let linker = originals.linker();
-    pass_native(
-        alloc,
-        linker,
-        &mut parts.shared,
-        &mut parts.frames,
-        originals.input(),
-        &mut parts.output,
-        native,
-        next,
-    )
 }
 
 /// Whether a step was made, as what is due behind it.
@@ -123,7 +92,6 @@ fn made_if(done: bool) -> Option<Due>
 
 /// An invocation by what its names came to.
 fn pass_call(
-    alloc: Global,
     originals: &Originals,
     parts: &mut Parts,
     initializing: &Stack<Initialization>,
@@ -132,28 +100,24 @@ fn pass_call(
     naming: &SymbolicReference,
     known: &Known,
 ) -> Option<Due>
-    requires run { CanRun originals.now.setup }
-    requires linked { originals.now.loaded ≡ parts.old.shared.loaded }
-    requires sound { IsSoundIn originals.now.setup (state_of initializing.now parts.old) }
+    requires run { CanRun (setup_in parts.old.runtime originals.now) }
+    requires linked { IsLinked originals.now parts.old.runtime }
+    requires sound { IsSoundIn (setup_in parts.old.runtime originals.now) (state_of initializing.now parts.old) }
     requires at_instruction { IsAtInstruction
         (length parts.old.frames.frames) initializing.now parts.old }
     requires here { here_of parts.old.frames.frames ≡ Some here }
-    requires line { line_at originals.now.setup.versions here.version here.place ≡ Some line.now }
+    requires line { line_at originals.now.versions here.version here.place ≡ Some line.now }
     requires named { line.now.action ≡ action.Named naming.now }
-    requires known { IsKnown (linker_in originals.now) naming.now known.now }
-    ensures { GoesOnward originals.now.setup initializing.now parts.old result parts.new }
+    requires known { IsKnown (linker_in parts.old.runtime) naming.now known.now }
+    ensures { GoesOnward (setup_in parts.old.runtime originals.now) initializing.now parts.old result parts.new }
 {
-    let linker = originals.linker();
-    let selections = originals.selections();
-    let shared = &parts.shared;
-    let frames = &parts.frames;
-    let Some(invoked) = known_call(linker, selections, shared, frames, naming, known) else {
+    let Some(invoked) = parts.runtime.known_call(&parts.frames, naming, known) else {
         return None;
     };
     match invoked {
         Invoked::Code(call) => begin_call(originals, parts, call),
         Invoked::Native(native) => {
-            made_if(do_native(alloc, originals, parts, native, line.next))
+            made_if(parts.runtime.pass_native(&mut parts.frames, native, line.next))
         }
     }
 }
@@ -162,7 +126,6 @@ fn pass_call(
 
 /// An access of a field by what its names came to.
 fn pass_access(
-    alloc: Global,
     originals: &Originals,
     parts: &mut Parts,
     initializing: &Stack<Initialization>,
@@ -171,27 +134,20 @@ fn pass_access(
     naming: &SymbolicReference,
     known: &Known,
 ) -> bool
-    requires run { CanRun originals.now.setup }
-    requires linked { originals.now.loaded ≡ parts.old.shared.loaded }
-    requires sound { IsSoundIn originals.now.setup (state_of initializing.now parts.old) }
+    requires run { CanRun (setup_in parts.old.runtime originals.now) }
+    requires linked { IsLinked originals.now parts.old.runtime }
+    requires sound { IsSoundIn (setup_in parts.old.runtime originals.now) (state_of initializing.now parts.old) }
     requires at_instruction { IsAtInstruction
         (length parts.old.frames.frames) initializing.now parts.old }
     requires here { here_of parts.old.frames.frames ≡ Some here }
-    requires line { line_at originals.now.setup.versions here.version here.place ≡ Some line.now }
+    requires line { line_at originals.now.versions here.version here.place ≡ Some line.now }
     requires named { line.now.action ≡ action.Named naming.now }
-    requires known { IsKnown (linker_in originals.now) naming.now known.now }
-    ensures { Passes originals.now.setup initializing.now parts.old (steps_if result) parts.new }
+    requires known { IsKnown (linker_in parts.old.runtime) naming.now known.now }
+    ensures { Passes (setup_in parts.old.runtime originals.now) initializing.now parts.old (steps_if result) parts.new }
 {
-    let linker = originals.linker();
-    pass_field(
-        alloc,
-        linker,
-        &mut parts.shared,
-        &mut parts.frames,
-        naming,
-        line.next,
-        known,
-    )
+    parts
+        .runtime
+        .pass_field(&mut parts.frames, naming, line.next, known)
 }
 
 /// arraylength.
@@ -202,13 +158,13 @@ fn pass_measure(
     here: Here,
     line: &Line,
 ) -> bool
-    requires run { CanRun originals.now.setup }
+    requires run { CanRun (setup_in parts.old.runtime originals.now) }
     requires at_instruction { IsAtInstruction
         (length parts.old.frames.frames) initializing.now parts.old }
     requires here { here_of parts.old.frames.frames ≡ Some here }
-    requires line { line_at originals.now.setup.versions here.version here.place ≡ Some line.now }
+    requires line { line_at originals.now.versions here.version here.place ≡ Some line.now }
     requires measures { line.now.action ≡ action.Arraylength }
-    ensures { Passes originals.now.setup initializing.now parts.old (steps_if result) parts.new }
+    ensures { Passes (setup_in parts.old.runtime originals.now) initializing.now parts.old (steps_if result) parts.new }
 {
     pass_length(parts, line)
 }
@@ -247,7 +203,7 @@ pub fn goes_back(
     frames: &Frames,
     initializing: &Stack<Initialization>,
 ) -> Option<u16>
-    ensures { let w = originals.now.setup in
+    ensures { let w = setup_in runtime.now originals.now in
         IfSome result (λ next. GoesBack w initializing.now frames.now.frames next) }
 {
     let depth = frames.depth();
@@ -277,16 +233,16 @@ pub fn leave(
     line: &Line,
     kind: Option<Kind>,
 ) -> bool
-    requires run { CanRun originals.now.setup }
+    requires run { CanRun (setup_in parts.old.runtime originals.now) }
     requires at_instruction { IsAtInstruction
         (length parts.old.frames.frames) initializing.now parts.old }
     requires here { here_of parts.old.frames.frames ≡ Some here }
-    requires line { line_at originals.now.setup.versions here.version here.place ≡ Some line.now }
+    requires line { line_at originals.now.versions here.version here.place ≡ Some line.now }
     requires ends { line.now.action ≡ action.Return kind }
-    ensures delivered { let w = originals.now.setup in
+    ensures delivered { let w = setup_in parts.old.runtime originals.now in
         TriesIf result w initializing.now true parts.old due.Nothing parts.new }
     // Where the version has no probes nothing is told of it.
-    ensures silent { let w = originals.now.setup in is_off (mark_of w.versions here.version) ≡ true
+    ensures silent { let w = setup_in parts.old.runtime originals.now in is_off (mark_of w.versions here.version) ≡ true
         → Passes w initializing.now parts.old (steps_if result) parts.new }
 {
     if !originals.is_current(here.version) {
@@ -311,13 +267,13 @@ fn pass_return(
     line: &Line,
     kind: Option<Kind>,
 ) -> Option<Due>
-    requires run { CanRun originals.now.setup }
+    requires run { CanRun (setup_in parts.old.runtime originals.now) }
     requires at_instruction { IsAtInstruction
         (length parts.old.frames.frames) initializing.now parts.old }
     requires here { here_of parts.old.frames.frames ≡ Some here }
-    requires line { line_at originals.now.setup.versions here.version here.place ≡ Some line.now }
+    requires line { line_at originals.now.versions here.version here.place ≡ Some line.now }
     requires ends { line.now.action ≡ action.Return kind }
-    ensures { GoesOnward originals.now.setup initializing.now parts.old result parts.new }
+    ensures { GoesOnward (setup_in parts.old.runtime originals.now) initializing.now parts.old result parts.new }
 {
     if is_marked(originals, here.version) {
         return Some(Due::Ends(EventKind::Leave));
@@ -335,19 +291,19 @@ fn pass_throw(
     here: Here,
     line: &Line,
 ) -> bool
-    requires run { CanRun originals.now.setup }
+    requires run { CanRun (setup_in parts.old.runtime originals.now) }
     requires at_instruction { IsAtInstruction
         (length parts.old.frames.frames) initializing.now parts.old }
     requires here { here_of parts.old.frames.frames ≡ Some here }
-    requires line { line_at originals.now.setup.versions here.version here.place ≡ Some line.now }
+    requires line { line_at originals.now.versions here.version here.place ≡ Some line.now }
     requires throws { line.now.action ≡ action.Athrow }
-    ensures { Passes originals.now.setup initializing.now parts.old (steps_if result) parts.new }
+    ensures { Passes (setup_in parts.old.runtime originals.now) initializing.now parts.old (steps_if result) parts.new }
 {
-    let Some(object) = thrown_object(originals, &parts.shared, &parts.frames) else {
+    let Some(object) = thrown_object(&parts.runtime, &parts.frames) else {
         return false;
     };
-    let class = class_of(originals.program(), &parts.shared.heap, object) as usize;
-    let Some(target) = caught_below(originals, &parts.frames, initializing, here, class) else {
+    let class = class_of(&parts.runtime, object) as usize;
+    let Some(target) = caught_below(originals, &parts.runtime, &parts.frames, initializing, here, class) else {
         return false;
     };
     catch_below(&mut parts.frames, object, target)
@@ -369,7 +325,6 @@ pub fn is_method(known: &Known) -> bool
 
 /// A step by a line that names something. Nothing of the run is changed where the answer is None.
 fn pass_named(
-    alloc: Global,
     originals: &Originals,
     parts: &mut Parts,
     initializing: &Stack<Initialization>,
@@ -377,22 +332,21 @@ fn pass_named(
     line: &Line,
     naming: &SymbolicReference,
 ) -> Option<Due>
-    requires run { CanRun originals.now.setup }
-    requires linked { originals.now.loaded ≡ parts.old.shared.loaded }
-    requires sound { IsSoundIn originals.now.setup (state_of initializing.now parts.old) }
+    requires run { CanRun (setup_in parts.old.runtime originals.now) }
+    requires linked { IsLinked originals.now parts.old.runtime }
+    requires sound { IsSoundIn (setup_in parts.old.runtime originals.now) (state_of initializing.now parts.old) }
     requires at_instruction { IsAtInstruction
         (length parts.old.frames.frames) initializing.now parts.old }
     requires here { here_of parts.old.frames.frames ≡ Some here }
-    requires line { line_at originals.now.setup.versions here.version here.place ≡ Some line.now }
+    requires line { line_at originals.now.versions here.version here.place ≡ Some line.now }
     requires named { line.now.action ≡ action.Named naming.now }
-    ensures { GoesOnward originals.now.setup initializing.now parts.old result parts.new }
+    ensures { GoesOnward (setup_in parts.old.runtime originals.now) initializing.now parts.old result parts.new }
 {
     let Some(known) = originals.known(here.version, here.place) else {
         return None;
     };
     if is_method(known) {
         return pass_call(
-            alloc,
             originals,
             parts,
             initializing,
@@ -403,7 +357,6 @@ fn pass_named(
         );
     }
     made_if(pass_access(
-        alloc,
         originals,
         parts,
         initializing,
@@ -418,17 +371,16 @@ fn pass_named(
 /// is made. Nothing of the run is changed where the answer is None: the line does something else, or raises something, or nothing is
 /// known of its names.
 fn pass_line(
-    alloc: Global,
     originals: &Originals,
     parts: &mut Parts,
     initializing: &Stack<Initialization>,
 ) -> Option<Due>
-    requires run { CanRun originals.now.setup }
-    requires linked { originals.now.loaded ≡ parts.old.shared.loaded }
-    requires sound { IsSoundIn originals.now.setup (state_of initializing.now parts.old) }
+    requires run { CanRun (setup_in parts.old.runtime originals.now) }
+    requires linked { IsLinked originals.now parts.old.runtime }
+    requires sound { IsSoundIn (setup_in parts.old.runtime originals.now) (state_of initializing.now parts.old) }
     requires at_instruction { IsAtInstruction
         (length parts.old.frames.frames) initializing.now parts.old }
-    ensures { GoesOnward originals.now.setup initializing.now parts.old result parts.new }
+    ensures { GoesOnward (setup_in parts.old.runtime originals.now) initializing.now parts.old result parts.new }
 {
     let Some(here) = where_now(&parts.frames) else {
         return None;
@@ -438,7 +390,6 @@ fn pass_line(
     };
     match &line.action {
         Action::Named(naming) => pass_named(
-            alloc,
             originals,
             parts,
             initializing,
@@ -478,21 +429,20 @@ fn passed_there(due: Due) -> u64
 /// Steps from which nothing follows, and of which nothing is told, at most so many, and up to what a probe tells of the next one: what
 /// is due there, if it does. How many were made is put beside it, since a record would be copied with its gaps.
 fn pass_to(
-    alloc: Global,
     originals: &Originals,
     parts: &mut Parts,
     initializing: &Stack<Initialization>,
     most: u64,
     count: &mut u64,
 ) -> Option<Due>
-    requires run { CanRun originals.now.setup }
-    requires linked { originals.now.loaded ≡ parts.old.shared.loaded }
-    requires sound { IsSoundIn originals.now.setup (state_of initializing.now parts.old) }
+    requires run { CanRun (setup_in parts.old.runtime originals.now) }
+    requires linked { IsLinked originals.now parts.old.runtime }
+    requires sound { IsSoundIn (setup_in parts.old.runtime originals.now) (state_of initializing.now parts.old) }
     requires at_instruction { IsAtInstruction
         (length parts.old.frames.frames) initializing.now parts.old }
     ensures within { count.new ≤ most }
     ensures below { IfSome result (λ due. count.new < most) }
-    ensures made { let w = originals.now.setup in
+    ensures made { let w = setup_in parts.old.runtime originals.now in
         ComesTo w initializing.now parts.old count.new result parts.new }
 {
     let mut made = 0;
@@ -502,7 +452,7 @@ fn pass_to(
             *count = made;
             return None;
         }
-        let Some(due) = pass_line(alloc, originals, parts, initializing) else {
+        let Some(due) = pass_line(originals, parts, initializing) else {
             *count = made;
             return None;
         };
@@ -520,23 +470,22 @@ fn pass_to(
 /// them, and a probe tells of it, it goes on to there.
 #[inline(always)]
 pub fn pass_steps(
-    alloc: Global,
     originals: &Originals,
     parts: &mut Parts,
     initializing: &Stack<Initialization>,
     most: u64,
 ) -> Passed
-    requires run { CanRun originals.now.setup }
-    requires linked { originals.now.loaded ≡ parts.old.shared.loaded }
-    requires sound { IsSoundIn originals.now.setup (state_of initializing.now parts.old) }
+    requires run { CanRun (setup_in parts.old.runtime originals.now) }
+    requires linked { IsLinked originals.now parts.old.runtime }
+    requires sound { IsSoundIn (setup_in parts.old.runtime originals.now) (state_of initializing.now parts.old) }
     requires at_instruction { IsAtInstruction
         (length parts.old.frames.frames) initializing.now parts.old }
     ensures within { result.made ≤ most }
     ensures below { IfSome result.gone (λ gone. result.made < most) }
-    ensures made { PassesOnward originals.now.setup initializing.now parts.old result parts.new }
+    ensures made { PassesOnward (setup_in parts.old.runtime originals.now) initializing.now parts.old result parts.new }
 {
     let mut made = 0;
-    match pass_to(alloc, originals, parts, initializing, most, &mut made) {
+    match pass_to(originals, parts, initializing, most, &mut made) {
         Some(due) => Passed {
             made,
             gone: Some(gone_to(due, passed_there(due))),

@@ -14,6 +14,7 @@ ghost use Rattle.interpreter.specs.Instructions.Elements.{IsLoaded, IsPassed, Is
 ghost use Rattle.prepared_code.specs.Ready.{CanRun};
 ghost use Rattle.prepared_code.specs.Runs.{LeadsAlone, RunsVersion, IsLineIn, top_version};
 ghost use Rattle.prepared_code.specs.Versions.{ArePrepared, IsPrepared, Setup};
+ghost use Rattle.prepared_code.specs.Linked.{setup_in};
 
 use crate::execute::elements::{pass_load, pass_store};
 use const_pool::Kind;
@@ -156,9 +157,9 @@ fn plain_step(version: &Version, parts: &mut Parts) -> bool
 
 /// Such steps, at most so many: how many it has made. The frame's version is looked up once.
 pub fn plain_steps(originals: &Originals, parts: &mut Parts, most: u64) -> u64
-    requires { CanRun originals.now.setup }
+    requires { CanRun (setup_in parts.old.runtime originals.now) }
     ensures within { result ≤ most }
-    ensures made { LeadsAlone originals.now.setup parts.old result parts.new }
+    ensures made { LeadsAlone (setup_in parts.old.runtime originals.now) parts.old result parts.new }
 {
     let Some(here) = where_now(&parts.frames) else {
         return 0;

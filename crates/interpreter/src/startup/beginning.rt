@@ -1,25 +1,28 @@
 //! The start (JVM Specification 5.2, 5.3, 5.5): the main class is loaded and initialized, and then
 //! `main` begins.
 
-ghost use Rattle.std.specs.Prelude.{◌≡◌, ◌++◌, true, OnOk};
+ghost use Rattle.std.specs.Prelude.{◌≡◌, ◌++◌, ◌∷◌, [], true, OnOk};
+ghost use Rattle.jvm_model.specs.Classes.Load.{load_of};
+ghost use Rattle.prepared_code.specs.Prepared.{main_name};
 ghost use Rattle.jvm_model.specs.Running.Run.{main_class, main_loads, start, starts_if, starts_with};
 ghost use Rattle.jvm_model.specs.Basis.SharedState.{arguments_fit};
 ghost use Rattle.jvm_model.specs.Soundness.Sound.{IsFit};
 ghost use Rattle.jvm_model.specs.Classes.Starting.{ready_in, unmade_in};
 ghost use Rattle.symbolic_references.specs.Answers.{found_view};
-ghost use Rattle.interpreter.specs.Machine.Before.{IsAtStart, begun_by, with_first};
+ghost use Rattle.interpreter.specs.Machine.Before.{IsAtStart, begun_by};
 ghost use Rattle.prepared_code.specs.Initializations.{state_of};
 ghost use Rattle.prepared_code.specs.Standing.{IsRunOf, IsSetUp};
 ghost use Rattle.prepared_code.specs.States.{state_in};
 ghost use Rattle.prepared_code.specs.Versions.{listing_of};
+ghost use Rattle.prepared_code.specs.Linked.{IsLinked, setup_in};
 
 use crate::execute::asking::raise_named;
-use crate::initialize::initializing::{initialize, set_phase};
+use crate::initialize::initializing::initialize;
 use crate::unwind::handlers::class_of;
 use crate::unwind::settling::settle;
 use jf_bytes::{NoMemory, Stack};
-use jvm_model::{Ending, Phase, Shared};
-use prepared_code::{Initialization, Originals, Parts, arguments_fit, main_class, make_arguments};
+use jvm_model::{Ending, Phase};
+use prepared_code::{Initialization, Originals, Parts, arguments_fit, main_class};
 use std::alloc::Global;
 use symbolic_references::AbruptCompletion;
 
@@ -28,60 +31,58 @@ const OUT_OF_MEMORY: u32 = 1;
 
 // ---- the main class is ready by itself
 
-/// The main class, which is the first one, is loaded, and ready.
-fn load_first(shared: &mut Shared) -> Result<(), NoMemory>
-    ensures { OnOk result (shared.new ≡ with_first shared.old) }
+/// What comes before `main` where nothing else runs at the start: the arguments are made, for which
+/// there is room, and the main class, which is the first one and needs no other that is not loaded, is loaded, and ready.
+pub fn make_ready(
+    alloc: Global,
+    originals: &Originals,
+    parts: &mut Parts,
+) -> Result<(), NoMemory>
+    requires linked { IsLinked originals.now parts.old.runtime }
+    requires at_start { IsAtStart parts.old.runtime.world (state_in parts.old) }
+    requires fits { arguments_fit parts.old.runtime.world.program ≡ true }
+    requires alone { let p = parts.old.runtime.world.program in let loaded = parts.old.runtime.shared.loaded in
+        (load_of p loaded (main_name p)).loaded ≡ loaded ++ 0 ∷ [] }
+    ensures state { OnOk result (state_in parts.new ≡ ready_in parts.old.runtime.world) }
+    ensures linked { OnOk result (IsLinked originals.now parts.new.runtime) }
+    ensures world { parts.new.runtime.world ≡ parts.old.runtime.world }
 {
-    shared.loaded.push(0)?;
-    set_phase(shared, 0, Phase::Ready);
+    parts.runtime.make_arguments()?;
+    // It has no fault.
+    let _ = originals.load_main(alloc, &mut parts.runtime)?;
+    parts.runtime.set_phase(0, Phase::Ready);
     Ok(())
 }
 
-/// What comes before `main` where nothing else runs at the start: the arguments are made, for which
-/// there is room, and the main class is loaded, and ready.
-pub fn make_ready(originals: &Originals, parts: &mut Parts) -> Result<(), NoMemory>
-    requires at_start { IsAtStart originals.now.setup.world (state_in parts.old) }
-    requires fits { arguments_fit originals.now.setup.world.program ≡ true }
-    ensures { OnOk result (state_in parts.new ≡ ready_in originals.now.setup.world) }
-{
-    make_arguments(originals.program(), &mut parts.shared.heap)?;
-    load_first(&mut parts.shared)
-}
-
 /// There is no room for the arguments: object 1 is thrown, which nothing catches, and the run ends.
-pub fn end_unmade(originals: &Originals, parts: &mut Parts)
-    requires { IsAtStart originals.now.setup.world (state_in parts.old) }
-    ensures { state_in parts.new ≡ (unmade_in originals.now.setup.world).after }
+pub fn end_unmade(parts: &mut Parts)
+    requires { IsAtStart parts.old.runtime.world (state_in parts.old) }
+    ensures state { state_in parts.new ≡ (unmade_in parts.old.runtime.world).after }
+    ensures world { parts.new.runtime.world ≡ parts.old.runtime.world }
+    ensures same_loaded { parts.new.runtime.shared.loaded ≡ parts.old.runtime.shared.loaded }
 {
     parts.thrown = Some(OUT_OF_MEMORY);
-    parts.ending = Some(Ending::Uncaught(class_of(
-        originals.program(),
-        &parts.shared.heap,
-        OUT_OF_MEMORY,
-    )));
+    parts.ending = Some(Ending::Uncaught(class_of(&parts.runtime, OUT_OF_MEMORY)));
 }
 
 // ---- the main class is loaded
 
 /// The initialization of the main class begins, or what stopped its loading is raised.
 fn begin_class(
-    alloc: Global,
-    originals: &Originals,
     parts: &mut Parts,
     initializing: &mut Stack<Initialization>,
     class: u32,
     found: Result<u32, AbruptCompletion>,
 ) -> Result<(), NoMemory>
     ensures state { OnOk result (state_of initializing.new parts.new
-        ≡ begun_by originals.now.setup.world class (found_view found)
+        ≡ begun_by parts.old.runtime.world class (found_view found)
         (state_of initializing.old parts.old)) }
-    ensures loaded { OnOk result (parts.new.shared.loaded ≡ parts.old.shared.loaded) }
+    ensures world { parts.new.runtime.world ≡ parts.old.runtime.world }
+    ensures same_loaded { parts.new.runtime.shared.loaded ≡ parts.old.runtime.shared.loaded }
 {
     match found {
         Ok(_) => initialize(parts, initializing, class),
-        Err(AbruptCompletion::Raises(exception, message)) => {
-            raise_named(alloc, originals, parts, exception, message)
-        }
+        Err(AbruptCompletion::Raises(exception, message)) => raise_named(parts, exception, message),
         // These do not come.
         Err(AbruptCompletion::Throws(_)) => initialize(parts, initializing, class),
         Err(AbruptCompletion::Initializes(_)) => initialize(parts, initializing, class),
@@ -98,19 +99,20 @@ fn load_main(
     parts: &mut Parts,
     initializing: &mut Stack<Initialization>,
 ) -> Result<(), NoMemory>
-    requires at_start { IsAtStart originals.old.setup.world (state_of initializing.old parts.old) }
-    requires fits { arguments_fit originals.old.setup.world.program ≡ true }
-    requires linked { originals.old.loaded ≡ parts.old.shared.loaded }
-    requires fit { IsFit originals.old.setup.world.program }
-    ensures world { originals.new.setup ≡ originals.old.setup }
-    ensures linked { OnOk result (originals.new.loaded ≡ parts.new.shared.loaded) }
+    requires at_start { IsAtStart parts.old.runtime.world (state_of initializing.old parts.old) }
+    requires fits { arguments_fit parts.old.runtime.world.program ≡ true }
+    requires linked { IsLinked originals.old parts.old.runtime }
+    requires fit { IsFit parts.old.runtime.world.program }
+    ensures versions { originals.new.versions ≡ originals.old.versions }
+    ensures world { parts.new.runtime.world ≡ parts.old.runtime.world }
+    ensures linked { OnOk result (IsLinked originals.new parts.new.runtime) }
     ensures state { OnOk result
-        (state_of initializing.new parts.new ≡ starts_if originals.old.setup.world true) }
+        (state_of initializing.new parts.new ≡ starts_if parts.old.runtime.world true) }
 {
-    make_arguments(originals.program(), &mut parts.shared.heap)?;
-    let found = originals.load_main(alloc, &mut parts.shared.loaded)?;
-    let class = main_class(originals.program());
-    begin_class(alloc, originals, parts, initializing, class, found)
+    parts.runtime.make_arguments()?;
+    let found = originals.load_main(alloc, &mut parts.runtime)?;
+    let class = main_class(parts.runtime.program());
+    begin_class(parts, initializing, class, found)
 }
 
 /// What the start does before its moves: the same, or, where there is no room for the arguments, object 1 is thrown. The classes that
@@ -121,17 +123,18 @@ pub fn begin_start(
     parts: &mut Parts,
     initializing: &mut Stack<Initialization>,
 ) -> Result<(), NoMemory>
-    requires at_start { IsAtStart originals.old.setup.world (state_of initializing.old parts.old) }
-    requires linked { originals.old.loaded ≡ parts.old.shared.loaded }
-    requires fit { IsFit originals.old.setup.world.program }
-    ensures world { originals.new.setup ≡ originals.old.setup }
-    ensures linked { OnOk result (originals.new.loaded ≡ parts.new.shared.loaded) }
+    requires at_start { IsAtStart parts.old.runtime.world (state_of initializing.old parts.old) }
+    requires linked { IsLinked originals.old parts.old.runtime }
+    requires fit { IsFit parts.old.runtime.world.program }
+    ensures versions { originals.new.versions ≡ originals.old.versions }
+    ensures world { parts.new.runtime.world ≡ parts.old.runtime.world }
+    ensures linked { OnOk result (IsLinked originals.new parts.new.runtime) }
     ensures state { OnOk result
-        (state_of initializing.new parts.new ≡ starts_with originals.old.setup.world) }
-    ensures loads { let w = originals.old.setup.world in OnOk result
-        (parts.new.shared.loaded ≡ parts.old.shared.loaded ++ main_loads w) }
+        (state_of initializing.new parts.new ≡ starts_with parts.old.runtime.world) }
+    ensures loads { let w = parts.old.runtime.world in OnOk result
+        (parts.new.runtime.shared.loaded ≡ parts.old.runtime.shared.loaded ++ main_loads w) }
 {
-    if arguments_fit(originals.program()) {
+    if arguments_fit(parts.runtime.program()) {
         return load_main(alloc, originals, parts, initializing);
     }
     parts.thrown = Some(OUT_OF_MEMORY);
@@ -146,14 +149,15 @@ pub fn start(
     parts: &mut Parts,
     initializing: &mut Stack<Initialization>,
 ) -> Result<(), NoMemory>
-    requires at_start { IsAtStart originals.old.setup.world (state_of initializing.old parts.old) }
-    requires linked { originals.old.loaded ≡ parts.old.shared.loaded }
-    requires fit { IsFit originals.old.setup.world.program }
-    ensures world { originals.new.setup ≡ originals.old.setup }
-    ensures linked { OnOk result (originals.new.loaded ≡ parts.new.shared.loaded) }
-    ensures state { let w = originals.old.setup in OnOk result
+    requires at_start { IsAtStart parts.old.runtime.world (state_of initializing.old parts.old) }
+    requires linked { IsLinked originals.old parts.old.runtime }
+    requires fit { IsFit parts.old.runtime.world.program }
+    ensures versions { originals.new.versions ≡ originals.old.versions }
+    ensures world { parts.new.runtime.world ≡ parts.old.runtime.world }
+    ensures linked { OnOk result (IsLinked originals.new parts.new.runtime) }
+    ensures state { let w = setup_in parts.old.runtime originals.old in OnOk result
         (state_of initializing.new parts.new ≡ (start w.world (listing_of w.versions)).after) }
-    ensures stands { let w = originals.old.setup in
+    ensures stands { let w = setup_in parts.old.runtime originals.old in
         IsSetUp w → OnOk result (IsRunOf w 0 (state_of initializing.new parts.new)) }
 {
     begin_start(alloc, originals, parts, initializing)?;

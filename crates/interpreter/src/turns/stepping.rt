@@ -12,14 +12,16 @@ ghost use Rattle.prepared_code.specs.Runs.{Leads};
 ghost use Rattle.prepared_code.specs.Standing.{IsRunOf};
 ghost use Rattle.prepared_code.specs.Tables.{AreAllCurrent, Releases};
 ghost use Rattle.prepared_code.specs.Versions.{listing_of};
+ghost use Rattle.prepared_code.specs.Linked.{IsLinked, setup_in};
 
 use crate::execute::attempting::attempt;
 use crate::execute::plain::plain_steps;
 use crate::unwind::settling::settle;
 use jf_bytes::{NoMemory, Stack};
-use jvm_model::{Phase, Shared};
+use jvm_model::Phase;
 use prepared_code::{Initialization, Originals, Parts, initialization_on};
 use std::alloc::Global;
+use symbolic_references::Runtime;
 
 /// Whether no initialization stands on the current frame.
 #[inline(always)]
@@ -55,10 +57,12 @@ fn finish(
     parts: &mut Parts,
     initializing: &mut Stack<Initialization>,
 ) -> Result<(), NoMemory>
-    ensures { let w = originals.now.setup in
+    ensures state { let w = setup_in parts.old.runtime originals.now in
         let turn = still (state_of initializing.old parts.old) in OnOk result
         (state_of initializing.new parts.new
         ≡ (turn_settled w.world (listing_of w.versions) turn).after) }
+    ensures world { parts.new.runtime.world ≡ parts.old.runtime.world }
+    ensures same_loaded { parts.new.runtime.shared.loaded ≡ parts.old.runtime.shared.loaded }
 {
     if is_at_rest(parts, initializing) {
         return Ok(());
@@ -68,10 +72,10 @@ fn finish(
 
 /// Whether a class is initialized.
 #[inline(always)]
-pub fn is_ready(shared: &Shared, class: u32) -> bool
-    ensures { result ≡ is_ready (phase_of shared.now class) }
+pub fn is_ready(runtime: &Runtime, class: u32) -> bool
+    ensures { result ≡ is_ready (phase_of runtime.now.shared class) }
 {
-    match shared.phases.at(class as usize) {
+    match runtime.phase(class) {
         Some(Phase::Ready) => true,
         Some(Phase::Fresh | Phase::Running | Phase::Erroneous) => false,
         None => false,
@@ -87,12 +91,13 @@ fn step_once(
     parts: &mut Parts,
     initializing: &mut Stack<Initialization>,
 ) -> Result<(), NoMemory>
-    requires linked { originals.old.loaded ≡ parts.old.shared.loaded }
-    requires fit { CanRun originals.old.setup }
-    requires sound { IsSoundIn originals.old.setup (state_of initializing.old parts.old) }
-    ensures world { originals.new.setup ≡ originals.old.setup }
-    ensures linked { OnOk result (originals.new.loaded ≡ parts.new.shared.loaded) }
-    ensures state { let w = originals.old.setup in let s = state_of initializing.old parts.old in
+    requires linked { IsLinked originals.old parts.old.runtime }
+    requires fit { CanRun (setup_in parts.old.runtime originals.old) }
+    requires sound { IsSoundIn (setup_in parts.old.runtime originals.old) (state_of initializing.old parts.old) }
+    ensures versions { originals.new.versions ≡ originals.old.versions }
+    ensures world { parts.new.runtime.world ≡ parts.old.runtime.world }
+    ensures linked { OnOk result (IsLinked originals.new parts.new.runtime) }
+    ensures state { let w = setup_in parts.old.runtime originals.old in let s = state_of initializing.old parts.old in
         OnOk result (state_of initializing.new parts.new
         ≡ (step w.world (listing_of w.versions) s).after) }
 {
@@ -104,7 +109,7 @@ fn step_once(
     let Some(class) = awaited else {
         return Ok(());
     };
-    if !is_ready(&parts.shared, class) {
+    if !is_ready(&parts.runtime, class) {
         return Ok(());
     }
     attempt(alloc, originals, parts, initializing)?;
@@ -119,21 +124,21 @@ pub fn step(
     parts: &mut Parts,
     initializing: &mut Stack<Initialization>,
 ) -> Result<(), NoMemory>
-    requires linked { originals.old.loaded ≡ parts.old.shared.loaded }
-    requires fit { CanRun originals.old.setup }
-    requires sound { IsSoundIn originals.old.setup (state_of initializing.old parts.old) }
-    ensures world { originals.new.setup.world ≡ originals.old.setup.world }
-    ensures released { OnOk result (Releases parts.new.frames.frames originals.old.setup.versions
-        originals.new.setup.versions) }
-    ensures same { AreAllCurrent originals.old.setup.versions
-        → originals.new.setup ≡ originals.old.setup }
-    ensures linked { OnOk result (originals.new.loaded ≡ parts.new.shared.loaded) }
-    ensures state { let w = originals.old.setup in let s = state_of initializing.old parts.old in
+    requires linked { IsLinked originals.old parts.old.runtime }
+    requires fit { CanRun (setup_in parts.old.runtime originals.old) }
+    requires sound { IsSoundIn (setup_in parts.old.runtime originals.old) (state_of initializing.old parts.old) }
+    ensures world { parts.old.runtime.world ≡ parts.old.runtime.world }
+    ensures released { OnOk result (Releases parts.new.frames.frames originals.old.versions
+        originals.new.versions) }
+    ensures same { AreAllCurrent originals.old.versions
+        → (setup_in parts.old.runtime originals.new) ≡ (setup_in parts.old.runtime originals.old) }
+    ensures linked { OnOk result (IsLinked originals.new parts.new.runtime) }
+    ensures state { let w = setup_in parts.old.runtime originals.old in let s = state_of initializing.old parts.old in
         OnOk result (state_of initializing.new parts.new
         ≡ (step w.world (listing_of w.versions) s).after) }
-    ensures stands { let w = originals.old.setup in
+    ensures stands { let w = setup_in parts.old.runtime originals.old in
         (clock : ℕ) → IsRunOf w clock (state_of initializing.old parts.old)
-        → OnOk result (IsRunOf originals.new.setup (clock + 1)
+        → OnOk result (IsRunOf (setup_in parts.old.runtime originals.new) (clock + 1)
         (state_of initializing.new parts.new)) }
 {
     step_once(alloc, originals, parts, initializing)?;
@@ -148,15 +153,17 @@ fn step_plainly(
     initializing: &Stack<Initialization>,
     most: u64,
 ) -> u64
-    requires run { CanRun originals.now.setup }
-    requires linked { originals.now.loaded ≡ parts.old.shared.loaded }
-    requires sound { IsSoundIn originals.now.setup (state_of initializing.now parts.old) }
+    requires run { CanRun (setup_in parts.old.runtime originals.now) }
+    requires linked { IsLinked originals.now parts.old.runtime }
+    requires sound { IsSoundIn (setup_in parts.old.runtime originals.now) (state_of initializing.now parts.old) }
     requires ending { parts.old.ending ≡ None }
     ensures within { result ≤ most }
-    ensures made { Leads originals.now.setup (state_of initializing.now parts.old) result
+    ensures made { Leads (setup_in parts.old.runtime originals.now) (state_of initializing.now parts.old) result
         (state_of initializing.now parts.new) }
     ensures ending { parts.new.ending ≡ None }
-    ensures loaded { parts.new.shared.loaded ≡ parts.old.shared.loaded }
+    ensures loaded { parts.new.runtime.shared.loaded ≡ parts.old.runtime.shared.loaded }
+    ensures world { parts.new.runtime.world ≡ parts.old.runtime.world }
+    ensures same_loaded { parts.new.runtime.shared.loaded ≡ parts.old.runtime.shared.loaded }
 {
     if parts.thrown.is_some() || !is_executing(parts, initializing) {
         return 0;
@@ -174,15 +181,16 @@ fn step_on(
 ) -> Result<u64, NoMemory>
     requires some { 0 < most }
     requires ending { parts.old.ending ≡ None }
-    requires linked { originals.old.loaded ≡ parts.old.shared.loaded }
-    requires fit { CanRun originals.old.setup }
-    requires sound { IsSoundIn originals.old.setup (state_of initializing.old parts.old) }
-    ensures world { originals.new.setup ≡ originals.old.setup }
-    ensures linked { OnOk result (originals.new.loaded ≡ parts.new.shared.loaded) }
+    requires linked { IsLinked originals.old parts.old.runtime }
+    requires fit { CanRun (setup_in parts.old.runtime originals.old) }
+    requires sound { IsSoundIn (setup_in parts.old.runtime originals.old) (state_of initializing.old parts.old) }
+    ensures versions { originals.new.versions ≡ originals.old.versions }
+    ensures world { parts.new.runtime.world ≡ parts.old.runtime.world }
+    ensures linked { OnOk result (IsLinked originals.new parts.new.runtime) }
     ensures some { IfOk result (λ n. 0 < n) }
     ensures within { IfOk result (λ n. n ≤ most) }
     ensures made { IfOk result
-        (λ n. Leads originals.old.setup (state_of initializing.old parts.old) n
+        (λ n. Leads (setup_in parts.old.runtime originals.old) (state_of initializing.old parts.old) n
         (state_of initializing.new parts.new)) }
 {
     let plain = step_plainly(originals, parts, initializing, most);
@@ -201,14 +209,15 @@ fn steps_on(
     initializing: &mut Stack<Initialization>,
     most: u64,
 ) -> Result<u64, NoMemory>
-    requires linked { originals.old.loaded ≡ parts.old.shared.loaded }
-    requires fit { CanRun originals.old.setup }
-    requires sound { IsSoundIn originals.old.setup (state_of initializing.old parts.old) }
-    ensures world { originals.new.setup ≡ originals.old.setup }
-    ensures linked { OnOk result (originals.new.loaded ≡ parts.new.shared.loaded) }
+    requires linked { IsLinked originals.old parts.old.runtime }
+    requires fit { CanRun (setup_in parts.old.runtime originals.old) }
+    requires sound { IsSoundIn (setup_in parts.old.runtime originals.old) (state_of initializing.old parts.old) }
+    ensures versions { originals.new.versions ≡ originals.old.versions }
+    ensures world { parts.new.runtime.world ≡ parts.old.runtime.world }
+    ensures linked { OnOk result (IsLinked originals.new parts.new.runtime) }
     ensures within { IfOk result (λ n. n ≤ most) }
     ensures made { IfOk result
-        (λ n. Leads originals.old.setup (state_of initializing.old parts.old) n
+        (λ n. Leads (setup_in parts.old.runtime originals.old) (state_of initializing.old parts.old) n
         (state_of initializing.new parts.new)) }
     ensures ended { IfOk result (λ n. n < most → is_some parts.new.ending ≡ true) }
 {
@@ -228,23 +237,23 @@ pub fn run(
     initializing: &mut Stack<Initialization>,
     most: u64,
 ) -> Result<u64, NoMemory>
-    requires linked { originals.old.loaded ≡ parts.old.shared.loaded }
-    requires fit { CanRun originals.old.setup }
-    requires sound { IsSoundIn originals.old.setup (state_of initializing.old parts.old) }
-    ensures world { originals.new.setup.world ≡ originals.old.setup.world }
-    ensures released { OnOk result (Releases parts.new.frames.frames originals.old.setup.versions
-        originals.new.setup.versions) }
-    ensures same { AreAllCurrent originals.old.setup.versions
-        → originals.new.setup ≡ originals.old.setup }
-    ensures linked { OnOk result (originals.new.loaded ≡ parts.new.shared.loaded) }
+    requires linked { IsLinked originals.old parts.old.runtime }
+    requires fit { CanRun (setup_in parts.old.runtime originals.old) }
+    requires sound { IsSoundIn (setup_in parts.old.runtime originals.old) (state_of initializing.old parts.old) }
+    ensures world { parts.old.runtime.world ≡ parts.old.runtime.world }
+    ensures released { OnOk result (Releases parts.new.frames.frames originals.old.versions
+        originals.new.versions) }
+    ensures same { AreAllCurrent originals.old.versions
+        → (setup_in parts.old.runtime originals.new) ≡ (setup_in parts.old.runtime originals.old) }
+    ensures linked { OnOk result (IsLinked originals.new parts.new.runtime) }
     ensures within { IfOk result (λ n. n ≤ most) }
     ensures made { IfOk result
-        (λ n. Leads originals.old.setup (state_of initializing.old parts.old) n
+        (λ n. Leads (setup_in parts.old.runtime originals.old) (state_of initializing.old parts.old) n
         (state_of initializing.new parts.new)) }
     ensures ended { IfOk result (λ n. n < most → is_some parts.new.ending ≡ true) }
-    ensures stands { let w = originals.old.setup in IfOk result (λ n. (clock : ℕ)
+    ensures stands { let w = setup_in parts.old.runtime originals.old in IfOk result (λ n. (clock : ℕ)
         → IsRunOf w clock (state_of initializing.old parts.old)
-        → IsRunOf originals.new.setup (clock + n) (state_of initializing.new parts.new)) }
+        → IsRunOf (setup_in parts.old.runtime originals.new) (clock + n) (state_of initializing.new parts.new)) }
 {
     let made = steps_on(alloc, originals, parts, initializing, most)?;
     originals.release(&parts.frames);

@@ -12,6 +12,7 @@ ghost use Rattle.interpreter.specs.Moves.Settling.{frame_emptied, fits_alone, wi
 ghost use Rattle.interpreter.specs.Moves.Settling.{after_move, caught_at, caught_top, main_entries};
 ghost use Rattle.interpreter.specs.Moves.Turning.{begun_in};
 ghost use Rattle.prepared_code.specs.Versions.{listing_of};
+ghost use Rattle.prepared_code.specs.Linked.{setup_in};
 
 use crate::execute::entering::enter;
 use crate::initialize::initializing::{fail, go_on};
@@ -23,6 +24,7 @@ use jf_bytes::{NoMemory, Stack};
 use jvm_model::Ending;
 use prepared_code::{Here, Initialization, Originals, Parts, take_initialization, where_now};
 use std::alloc::Global;
+use symbolic_references::Runtime;
 
 /// The argument array's object.
 const ARGUMENTS: u32 = 5;
@@ -58,7 +60,9 @@ pub fn go_to_handler(
 ) -> Result<(), NoMemory>
     requires { here_of parts.old.frames.frames ≡ Some here }
     ensures state { OnOk result (state_in parts.new ≡
-        caught_at originals.now.setup object target parts.old.frames.frames parts.old) }
+        caught_at (setup_in parts.old.runtime originals.now) object target parts.old.frames.frames parts.old) }
+    ensures world { parts.new.runtime.world ≡ parts.old.runtime.world }
+    ensures same_loaded { parts.new.runtime.shared.loaded ≡ parts.old.runtime.shared.loaded }
 {
     parts.thrown = None;
     if !put_alone(&mut parts.frames, object) {
@@ -78,10 +82,12 @@ fn meet_frame(
 ) -> Result<(), NoMemory>
     requires { here_of parts.old.frames.frames ≡ Some here }
     ensures state { OnOk result (state_in parts.new ≡
-        caught_top originals.now.setup object parts.old.frames.frames parts.old) }
+        caught_top (setup_in parts.old.runtime originals.now) object parts.old.frames.frames parts.old) }
+    ensures world { parts.new.runtime.world ≡ parts.old.runtime.world }
+    ensures same_loaded { parts.new.runtime.shared.loaded ≡ parts.old.runtime.shared.loaded }
 {
-    let class = class_of(originals.program(), &parts.shared.heap, object) as usize;
-    match handler_for(originals, here.version, class, here.place) {
+    let class = class_of(&parts.runtime, object) as usize;
+    match handler_for(originals, &parts.runtime, here.version, class, here.place) {
         Some(target) => go_to_handler(alloc, originals, parts, object, here, target),
         None => {
             parts.frames.leave();
@@ -101,10 +107,12 @@ fn meet_throw(
     requires ending { parts.old.ending ≡ None }
     requires thrown { parts.old.thrown ≡ Some object }
     ensures state { OnOk result
-        (state_in parts.new ≡ after_move originals.now.setup (state_in parts.old)) }
+        (state_in parts.new ≡ after_move (setup_in parts.old.runtime originals.now) (state_in parts.old)) }
+    ensures world { parts.new.runtime.world ≡ parts.old.runtime.world }
+    ensures same_loaded { parts.new.runtime.shared.loaded ≡ parts.old.runtime.shared.loaded }
 {
     let Some(here) = where_now(&parts.frames) else {
-        let class = class_of(originals.program(), &parts.shared.heap, object);
+        let class = class_of(&parts.runtime, object);
         parts.ending = Some(Ending::Uncaught(class));
         return Ok(());
     };
@@ -114,15 +122,15 @@ fn meet_throw(
 // ---- nothing is left
 
 /// The frame of `main`, which has its argument array, if it has a local for it.
-fn begin_frame(originals: &Originals, frames: &mut Frames, main: u32) -> Result<bool, NoMemory>
+fn begin_frame(originals: &Originals, runtime: &Runtime, frames: &mut Frames, main: u32) -> Result<bool, NoMemory>
     requires none { frames.old.frames ≡ [] }
-    requires main { main ≡ originals.now.setup.world.program.main }
-    ensures answer { IfOk result (λ b. b ≡ has_room originals.now.setup.world main argument_array) }
+    requires main { main ≡ runtime.now.world.program.main }
+    ensures answer { IfOk result (λ b. b ≡ has_room runtime.now.world main argument_array) }
     ensures frames { IfOk result (λ b.
-        map active frames.new.frames ≡ main_entries b originals.now.setup) }
+        map active frames.new.frames ≡ main_entries b (setup_in runtime.now originals.now)) }
 {
-    let max_locals = originals.max_locals(main);
-    let max_stack = originals.max_stack(main);
+    let max_locals = runtime.max_locals(main);
+    let max_stack = runtime.max_stack(main);
     if max_locals == 0 {
         return Ok(false);
     }
@@ -135,13 +143,15 @@ fn begin_frame(originals: &Originals, frames: &mut Frames, main: u32) -> Result<
 /// `main` begins, or the run ends where it has no local for its argument. The answer is the method that has begun.
 pub fn begin_main(originals: &Originals, parts: &mut Parts) -> Result<Option<u32>, NoMemory>
     requires { parts.old.frames.frames ≡ [] }
-    ensures begun { let w = originals.now.setup in IfOk result (λ o. o ≡ begun_in
+    ensures begun { let w = setup_in parts.old.runtime originals.now in IfOk result (λ o. o ≡ begun_in
         (main_or_end w.world (listing_of w.versions) (state_in parts.old) false).changes) }
-    ensures state { let w = originals.now.setup in OnOk result (state_in parts.new ≡
+    ensures state { let w = setup_in parts.old.runtime originals.now in OnOk result (state_in parts.new ≡
         (main_or_end w.world (listing_of w.versions) (state_in parts.old) false).after) }
+    ensures world { parts.new.runtime.world ≡ parts.old.runtime.world }
+    ensures same_loaded { parts.new.runtime.shared.loaded ≡ parts.old.runtime.shared.loaded }
 {
-    let main = originals.program().main;
-    if begin_frame(originals, &mut parts.frames, main)? {
+    let main = parts.runtime.program().main;
+    if begin_frame(originals, &parts.runtime, &mut parts.frames, main)? {
         parts.begun = true;
         return Ok(Some(main));
     }
@@ -152,8 +162,10 @@ pub fn begin_main(originals: &Originals, parts: &mut Parts) -> Result<Option<u32
 /// With nothing thrown and no frame left the run has returned, or `main` begins.
 fn begin_or_end(originals: &Originals, parts: &mut Parts) -> Result<(), NoMemory>
     requires { parts.old.frames.frames ≡ [] }
-    ensures state { let w = originals.now.setup in OnOk result (state_in parts.new ≡
+    ensures state { let w = setup_in parts.old.runtime originals.now in OnOk result (state_in parts.new ≡
         (main_or_end w.world (listing_of w.versions) (state_in parts.old) parts.old.begun).after) }
+    ensures world { parts.new.runtime.world ≡ parts.old.runtime.world }
+    ensures same_loaded { parts.new.runtime.shared.loaded ≡ parts.old.runtime.shared.loaded }
 {
     if !parts.begun {
         begin_main(originals, parts)?;
@@ -168,10 +180,12 @@ fn begin_or_end(originals: &Originals, parts: &mut Parts) -> Result<(), NoMemory
 /// A move of the frames, where no initialization stands on the current one. False, with nothing changed,
 /// where none applies.
 fn move_frame(alloc: Global, originals: &Originals, parts: &mut Parts) -> Result<bool, NoMemory>
-    ensures answer { let w = originals.now.setup in
+    ensures answer { let w = setup_in parts.old.runtime originals.now in
         IfOk result (λ b. b ≡ is_some (move w.world (listing_of w.versions) (state_in parts.old))) }
     ensures state { OnOk result
-        (state_in parts.new ≡ after_move originals.now.setup (state_in parts.old)) }
+        (state_in parts.new ≡ after_move (setup_in parts.old.runtime originals.now) (state_in parts.old)) }
+    ensures world { parts.new.runtime.world ≡ parts.old.runtime.world }
+    ensures same_loaded { parts.new.runtime.shared.loaded ≡ parts.old.runtime.shared.loaded }
 {
     if parts.ending.is_some() {
         return Ok(false);
@@ -196,21 +210,22 @@ pub fn move_initialization(
     initializing: &mut Stack<Initialization>,
     initialization: Initialization,
 ) -> Result<Option<u32>, NoMemory>
-    ensures begun { IfOk result (λ o. o ≡ initialization_begins originals.now.setup
+    ensures begun { IfOk result (λ o. o ≡ initialization_begins (setup_in parts.old.runtime originals.now)
         (state_of initializing.old parts.old) parts.old.thrown initialization.class
         initialization.part) }
     ensures state { OnOk result (state_of initializing.new parts.new
-        ≡ after_initialization originals.now.setup
+        ≡ after_initialization (setup_in parts.old.runtime originals.now)
         (state_of initializing.old parts.old) parts.old.thrown
         initialization.class initialization.part) }
+    ensures world { parts.new.runtime.world ≡ parts.old.runtime.world }
+    ensures same_loaded { parts.new.runtime.shared.loaded ≡ parts.old.runtime.shared.loaded }
 {
     match parts.thrown {
         Some(object) => {
-            fail(originals, parts, initialization.class, object)?;
+            fail(parts, initialization.class, object)?;
             Ok(None)
         }
         None => go_on(
-            alloc,
             originals,
             parts,
             initializing,
@@ -227,10 +242,12 @@ fn make_move(
     parts: &mut Parts,
     initializing: &mut Stack<Initialization>,
 ) -> Result<bool, NoMemory>
-    ensures answer { let w = originals.now.setup in IfOk result (λ b.
+    ensures answer { let w = setup_in parts.old.runtime originals.now in IfOk result (λ b.
         b ≡ is_some (move w.world (listing_of w.versions) (state_of initializing.old parts.old))) }
     ensures state { OnOk result (state_of initializing.new parts.new
-        ≡ after_move originals.now.setup (state_of initializing.old parts.old)) }
+        ≡ after_move (setup_in parts.old.runtime originals.now) (state_of initializing.old parts.old)) }
+    ensures world { parts.new.runtime.world ≡ parts.old.runtime.world }
+    ensures same_loaded { parts.new.runtime.shared.loaded ≡ parts.old.runtime.shared.loaded }
 {
     if parts.ending.is_some() {
         return Ok(false);
@@ -249,10 +266,12 @@ pub fn settle(
     parts: &mut Parts,
     initializing: &mut Stack<Initialization>,
 ) -> Result<(), NoMemory>
-    ensures { let w = originals.now.setup in
+    ensures state { let w = setup_in parts.old.runtime originals.now in
         let turn = still (state_of initializing.old parts.old) in OnOk result
         (state_of initializing.new parts.new
         ≡ (turn_settled w.world (listing_of w.versions) turn).after) }
+    ensures world { parts.new.runtime.world ≡ parts.old.runtime.world }
+    ensures same_loaded { parts.new.runtime.shared.loaded ≡ parts.old.runtime.shared.loaded }
 {
     while make_move(alloc, originals, parts, initializing)? {}
     Ok(())

@@ -20,7 +20,7 @@ returns-in-Throws c = record {
   state =
       let w = c.args.originals.now.setup in
       let p = c.args.parts.now in
-      came-to c.raise_with.result c.raise_with.new.parts (raising w Arithmetic (Some by_zero) (record p { frames = c.basic_by-effect.new.frames })) (on_parts (acts_alone w c.args.line.now) p)
+      came-to c.raise_with.result c.raise_with.new.parts (raising w.world Arithmetic (Some by_zero) (record p { frames = c.basic_by-effect.new.frames })) (on_parts (acts_alone w c.args.line.now) p)
       (goes-throws w c.args.line.now p c.args.method c.in-Throws.field-0 c.basic_by-effect.new.frames c.requires.top
       (sym c.basic_by-effect.ensures.effect ∙ c.in-Throws.is) c.basic_by-effect.ensures.frames)
       c.raise_with.ensures;

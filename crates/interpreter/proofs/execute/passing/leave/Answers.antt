@@ -27,7 +27,7 @@ returns-clause-delivered c =
     c.in-Some-result_of.datum c.in-Some.next c.value_given.result c.give_back.new.self c.recall.ensures (c.is_current.ensures c.if-not-is_current.false)
     (subst (λ o. IfSome o (λ d. gives c.args.kind (top_operands p.frames.frames) ≡ Returns d)) c.in-Some-result_of.is c.result_of.ensures)
     c.value_given.ensures c.give_back.result
-    (subst (λ o. IfSome o (λ next. GoesBack w c.args.initializing.now p.frames.frames next)) c.in-Some.is c.goes_back.ensures)
+    (subst (λ o. IfSome o (λ next. GoesBack w.versions c.args.initializing.now p.frames.frames next)) c.in-Some.is c.goes_back.ensures)
     c.give_back.ensures.answer c.give_back.ensures.frames
 
 pub returns-clause-silent : goal.returns-clause-silent
@@ -38,5 +38,5 @@ returns-clause-silent c = λ off.
     c.in-Some-result_of.datum c.in-Some.next c.value_given.result c.give_back.new.self c.recall.ensures (c.is_current.ensures c.if-not-is_current.false)
     (subst (λ o. IfSome o (λ d. gives c.args.kind (top_operands p.frames.frames) ≡ Returns d)) c.in-Some-result_of.is c.result_of.ensures)
     c.value_given.ensures c.give_back.result
-    (subst (λ o. IfSome o (λ next. GoesBack w c.args.initializing.now p.frames.frames next)) c.in-Some.is c.goes_back.ensures)
+    (subst (λ o. IfSome o (λ next. GoesBack w.versions c.args.initializing.now p.frames.frames next)) c.in-Some.is c.goes_back.ensures)
     (off-by (mark_of w.versions c.args.here.version) off) c.give_back.ensures.answer c.give_back.ensures.frames
