@@ -4,6 +4,7 @@ ghost use Rattle.std.specs.Prelude.{◌≡◌, [], option_copied};
 ghost use Rattle.class_linker.specs.Linkers.{LinkerView};
 ghost use Rattle.symbolic_references.specs.Known.{IsKnown};
 ghost use Rattle.symbolic_references.specs.Natives.{HasBuiltIn};
+ghost use Rattle.symbolic_references.specs.Numbers.{AreNumbers};
 ghost use Rattle.symbolic_references.specs.Objects.{AreLoaded};
 ghost use Rattle.symbolic_references.specs.ProgramFacts.{AreTablesOf, HasExceptions};
 ghost use Rattle.symbolic_references.specs.Runtimes.{linker_in};
@@ -27,6 +28,7 @@ mod selecting;
 mod statics;
 
 use crate::known::Known;
+use crate::numbers::MethodNumbers;
 use crate::program_tables::ProgramTables;
 use crate::selections::Selections;
 pub use attempting::resolved_name;
@@ -132,6 +134,13 @@ impl Runtime {
         ensures { result.now ≡ linker_in self.now }
     {
         &self.linker
+    }
+
+    /// The numbers of the program's methods.
+    pub fn numbers(&self) -> &MethodNumbers
+        ensures { AreNumbers self.now.world.program result.now }
+    {
+        &self.tables.numbers
     }
 
     /// Its objects; the class of each is loaded.
