@@ -59,10 +59,10 @@ module _ (w : Setup) (run : CanRun w) (ms : List Initialization) (p : Parts) (go
   awaits : awaited_in w (state_of ms p) ≡ Some c
   awaits = sym answer ∙ some
 
-  pub not-ready : is_ready (phase_of then_there.shared c) ≡ false → state_of ms_then then_there ≡ (step w.world (listing_of w.versions) (state_of ms p)).after
+  pub not-ready : is_ready (phase_of then_there.runtime.shared c) ≡ false → state_of ms_then then_there ≡ (step w.world (listing_of w.versions) (state_of ms p)).after
   not-ready isnt = step-awaits w run (state_of ms p) going c awaits mid (state_of ms_then then_there) attempted settles isnt
 
-  module _ (ready : is_ready (phase_of then_there.shared c) ≡ true) where
+  module _ (ready : is_ready (phase_of then_there.runtime.shared c) ≡ true) where
     pub executing-again : initialization_on (length then_there.frames.frames) ms_then ≡ None
     executing-again =
         none-there ms_then then_there

@@ -89,7 +89,7 @@ module _ (w : Setup) (line : Line) (here : Here) (own : own_of w.versions here �
     by true = refl
     by false = ends-there
 
-  concludes-there : (q : Outcome) → Asks p.shared f.operands q → CanAnswer (answer_in q (f ∷ fs)) → starts q ≡ None → concluded_there q ≡ asked_there q
+  concludes-there : (q : Outcome) → Asks p.runtime.shared f.operands q → CanAnswer (answer_in q (f ∷ fs)) → starts q ≡ None → concluded_there q ≡ asked_there q
   concludes-there (GoesOn l o Next) asks can none = goes-there l o
   concludes-there (GoesOn l o (Target k)) asks can none = absurd can
   concludes-there (GoesOn l o (Back k)) asks can none = absurd can
@@ -146,21 +146,21 @@ module _ (w : Setup) (line : Line) (n : SymbolicReference) (ms : List Initializa
 
   -- where the parts have come to, on these frames
   abbrev reached : List PlacedFrame → Parts
-  reached all = let d = done_top w n p.shared all in record p {
+  reached all = let d = done_top w n p.runtime.shared all in record p {
     frames = record p.frames { frames = frames_in d.outcome line.next all };
     shared = d.shared;
-    output = p.output ++ d.wrote;
+    output = p.runtime.output ++ d.wrote;
   }
 
   abbrev answer_there : List PlacedFrame → Answer
-  answer_there all = answer_in (done_top w n p.shared all).outcome all
+  answer_there all = answer_in (done_top w n p.runtime.shared all).outcome all
 
   pub concludes-by : (all : List PlacedFrame) → here_of all ≡ Some here → initialization_on (length all) ms ≡ None → CanAnswer (answer_there all)
       → starts_in (answer_there all) ≡ None → with_initializations ms (answer_concluded w here (answer_there all) (reached all)) ≡ named_beneath w line n ms p all
   concludes-by [] is none can quiet = absurd (none-some here is)
   concludes-by (f ∷ fs) is none can quiet =
-      let d : Done = done_top w n p.shared (f ∷ fs) in
-      let mid : Parts = record p { shared = d.shared; output = p.output ++ d.wrote } in
+      let d : Done = done_top w n p.runtime.shared (f ∷ fs) in
+      let mid : Parts = record p { shared = d.shared; output = p.runtime.output ++ d.wrote } in
       let method : here.method ≡ f.method = ap (λ (h : Here). h.method) (sym (same_Some _ here is)) in
       let silent : starts d.outcome ≡ None = sym (starts-same d.outcome f fs can) ∙ quiet in
       let law : IsNamed _ f.operands d = is-named _ f.operands w n f.locals in
@@ -173,9 +173,9 @@ module _ (w : Setup) (line : Line) (n : SymbolicReference) (ms : List Initializa
       → begins_class c (with_initializations ms (answer_concluded w here (answer_there all) (reached all))) ≡ named_beneath w line n ms p all
   begins-by c [] is none can some = absurd (none-some here is)
   begins-by c (f ∷ fs) is none can some =
-      let d : Done = done_top w n p.shared (f ∷ fs) in
+      let d : Done = done_top w n p.runtime.shared (f ∷ fs) in
       let asks : d.outcome ≡ Initializes c = starts-some d.outcome c (sym (starts-same d.outcome f fs can) ∙ some) in
-      let mid : Parts = record p { shared = d.shared; output = p.output ++ d.wrote } in
+      let mid : Parts = record p { shared = d.shared; output = p.runtime.output ++ d.wrote } in
       ap (λ q. begins_class c (with_initializations ms (answer_concluded w here (answer_in q (f ∷ fs)) (record mid { frames = record p.frames { frames = frames_in q line.next (f ∷ fs) } })))) asks
       ∙ (ap (λ es. begins_class c (record (state_in mid) { stack = es })) (top-frame ms f fs none)
       ∙ sym (ap (acts_asked w line (with_initializations ms (state_with fs mid)) (frame_in f)) asks))

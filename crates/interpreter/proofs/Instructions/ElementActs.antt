@@ -69,15 +69,15 @@ no_place at e = cc
 
 module _ (w : Setup) (line : Line) (k : Kind) (p : Parts) (r : ℕ) (i : ℤ) where
   load-top : (d : Datum) (fs : List PlacedFrame) → Some (r, i) ≡ place_of (top_operands fs)
-      → Some d ≡ element_at (access_to k r i p.shared.heap) r p.shared.heap
+      → Some d ≡ element_at (access_to k r i p.runtime.shared.heap) r p.runtime.shared.heap
       → on_top (acts_loaded line d) p fs ≡ on_top (acts_load w line k) p fs
   load-top d [] at e = absurd (no_place (r, i) at)
   load-top d (f ∷ fs) at e =
-      ap (acts_asked w line (state_with fs p) (frame_in f)) (loads-at (access_to k r i p.shared.heap) r i d p.shared f.locals f.operands e)
-      ∙ ap (λ x. acts_asked w line (state_with fs p) (frame_in f) (loads_element k x p.shared f.locals f.operands)) at
+      ap (acts_asked w line (state_with fs p) (frame_in f)) (loads-at (access_to k r i p.runtime.shared.heap) r i d p.runtime.shared f.locals f.operands e)
+      ∙ ap (λ x. acts_asked w line (state_with fs p) (frame_in f) (loads_element k x p.runtime.shared f.locals f.operands)) at
 
   -- the element is loaded
   pub is-loaded : (d : Datum) → Some (r, i) ≡ place_of (top_operands p.frames.frames)
-      → Some d ≡ element_at (access_to k r i p.shared.heap) r p.shared.heap
+      → Some d ≡ element_at (access_to k r i p.runtime.shared.heap) r p.runtime.shared.heap
       → on_parts (acts_loaded line d) p ≡ on_parts (acts_load w line k) p
   is-loaded d at e = load-top d p.frames.frames at e

@@ -104,10 +104,10 @@ module _ (w : Setup) (run : CanRun w) (line : Line) where
     rule = replaces 2 (Some (as_value is.datum)) line.next
 
     load-asks : (fs : List PlacedFrame) → place_of (top_operands fs) ≡ Some (is.array, is.index) → (l : Locals)
-        → loads_element k (place_of (top_operands fs)) old.shared l (top_operands fs) ≡ GoesOn l (as_value is.datum ∷ drop 2 (top_operands fs)) Following
+        → loads_element k (place_of (top_operands fs)) old.runtime.shared l (top_operands fs) ≡ GoesOn l (as_value is.datum ∷ drop 2 (top_operands fs)) Following
     load-asks fs at l =
-        ap (λ x. loads_element k x old.shared l (top_operands fs)) at
-        ∙ sym (loads-at (access_to k is.array is.index old.shared.heap) is.array is.index is.datum old.shared l (top_operands fs) (sym is.there))
+        ap (λ x. loads_element k x old.runtime.shared l (top_operands fs)) at
+        ∙ sym (loads-at (access_to k is.array is.index old.runtime.shared.heap) is.array is.index is.datum old.runtime.shared l (top_operands fs) (sym is.there))
 
     load-quiet : (fs : List PlacedFrame) (ms : List Initialization) → place_of (top_operands fs) ≡ Some (is.array, is.index) → IsAtInstruction (length fs) ms old → StandsAt w fs line
         → (step w.world (listing_of w.versions) (with_initializations ms (state_with fs old))).changes ≡ []
@@ -132,10 +132,10 @@ module _ (w : Setup) (run : CanRun w) (line : Line) where
     own_rule = replaces 1 (Some (Int (pos is.count))) line.next
 
     length-asks : (fs : List PlacedFrame) → ref_of (top_operands fs) ≡ Some is.array → (l : Locals)
-        → measures (ref_of (top_operands fs)) old.shared l (top_operands fs) ≡ GoesOn l (Int (pos is.count) ∷ drop 1 (top_operands fs)) Following
+        → measures (ref_of (top_operands fs)) old.runtime.shared l (top_operands fs) ≡ GoesOn l (Int (pos is.count) ∷ drop 1 (top_operands fs)) Following
     length-asks fs at l =
-        ap (λ x. measures x old.shared l (top_operands fs)) at
-        ∙ (ap (λ b. if b then Raises null_pointer None else gives_way 1 (option_map (λ count. Int (pos count)) (array_length is.array old.shared.heap)) l (top_operands fs)) is.there
+        ap (λ x. measures x old.runtime.shared l (top_operands fs)) at
+        ∙ (ap (λ b. if b then Raises null_pointer None else gives_way 1 (option_map (λ count. Int (pos count)) (array_length is.array old.runtime.shared.heap)) l (top_operands fs)) is.there
         ∙ ap (λ n. gives_way 1 (option_map (λ count. Int (pos count)) n) l (top_operands fs)) is.long)
 
     length-quiet : (fs : List PlacedFrame) (ms : List Initialization) → ref_of (top_operands fs) ≡ Some is.array → IsAtInstruction (length fs) ms old → StandsAt w fs line
@@ -166,19 +166,19 @@ module _ (w : Setup) (run : CanRun w) (line : Line) where
     x = is.storing
 
     abbrev stored : Shared
-    stored = record old.shared { heap = with_slot_at x.array is.slot x.datum old.shared.heap }
+    stored = record old.runtime.shared { heap = with_slot_at x.array is.slot x.datum old.runtime.shared.heap }
 
-    stored-at : (l : Locals) (o : Operands) → stores_at w.world.program (access_to k x.array x.index old.shared.heap) x.array x.index x.datum old.shared l o
+    stored-at : (l : Locals) (o : Operands) → stores_at w.world.program (access_to k x.array x.index old.runtime.shared.heap) x.array x.index x.datum old.runtime.shared l o
         ≡ record { shared = stored; wrote = []; outcome = GoesOn l (drop 3 o) Following }
     stored-at l o =
-        ap (λ a. stores_at w.world.program a x.array x.index x.datum old.shared l o) is.there
-        ∙ ap (λ b. if b then record { shared = stored; wrote = []; outcome = GoesOn l (drop 3 o) Following } else done old.shared (Raises array_store None))
-        (fits-number w.world.program x.datum x.array old.shared.heap is.number)
+        ap (λ a. stores_at w.world.program a x.array x.index x.datum old.runtime.shared l o) is.there
+        ∙ ap (λ b. if b then record { shared = stored; wrote = []; outcome = GoesOn l (drop 3 o) Following } else done old.runtime.shared (Raises array_store None))
+        (fits-number w.world.program x.datum x.array old.runtime.shared.heap is.number)
 
     store-asks : (fs : List PlacedFrame) → storing_of k (top_operands fs) ≡ Some x → (l : Locals)
-        → stores_element w.world.program k (storing_of k (top_operands fs)) old.shared l (top_operands fs)
+        → stores_element w.world.program k (storing_of k (top_operands fs)) old.runtime.shared l (top_operands fs)
         ≡ record { shared = stored; wrote = []; outcome = GoesOn l (drop 3 (top_operands fs)) Following }
-    store-asks fs at l = ap (λ o. stores_element w.world.program k o old.shared l (top_operands fs)) at ∙ stored-at l (top_operands fs)
+    store-asks fs at l = ap (λ o. stores_element w.world.program k o old.runtime.shared l (top_operands fs)) at ∙ stored-at l (top_operands fs)
 
     store-quiet : (fs : List PlacedFrame) (ms : List Initialization) → storing_of k (top_operands fs) ≡ Some x → IsAtInstruction (length fs) ms old → StandsAt w fs line
         → (step w.world (listing_of w.versions) (with_initializations ms (state_with fs old))).changes ≡ []
@@ -238,7 +238,7 @@ still-has r (f ∷ fs) has = still-framed (r f.locals f.operands) f fs
 
 module _ (w : Setup) (run : CanRun w) (line : Line) (k : Kind) (old new : Parts) (stands : StandsAt w old.frames.frames line) where
   -- from what is changed, and what that is a step of
-  alone-by : (rule : Rule) (shared : Shared) → new ≡ record old { frames = after rule old.frames; shared = shared } → shared.loaded ≡ old.shared.loaded
+  alone-by : (rule : Rule) (shared : Shared) → new ≡ record old { frames = after rule old.frames; shared = shared } → shared.loaded ≡ old.runtime.shared.loaded
       → is_named line.action ≡ false → goes_within line.action ≡ true → state_in new ≡ on_parts (acts w line) old
       → ((ms : List Initialization) → IsAtInstruction (length old.frames.frames) ms old → (step w.world (listing_of w.versions) (state_of ms old)).changes ≡ [])
       → LeadsAlone w old 1 new
@@ -261,21 +261,21 @@ module _ (w : Setup) (run : CanRun w) (line : Line) (k : Kind) (old new : Parts)
 
   pub load-alone : line.action ≡ action.LoadElement k → IsLoaded line k old new → LeadsAlone w old 1 new
   load-alone loads is =
-      alone-by (replaces 2 (Some (as_value is.datum)) line.next) old.shared is.changed refl
+      alone-by (replaces 2 (Some (as_value is.datum)) line.next) old.runtime.shared is.changed refl
       (ap is_named loads) (ap goes_within loads)
       (ap state_in is.changed ∙ load-done w run line k loads old new is old.frames.frames stands is.at is.goes)
       (λ ms calm. load-quiet w run line k loads old new is old.frames.frames ms is.at calm stands)
 
   pub store-alone : line.action ≡ action.StoreElement k → IsStored line k old new → LeadsAlone w old 1 new
   store-alone stores is =
-      alone-by (drops_three line.next) (record old.shared { heap = with_slot_at is.storing.array is.slot is.storing.datum old.shared.heap }) is.changed refl
+      alone-by (drops_three line.next) (record old.runtime.shared { heap = with_slot_at is.storing.array is.slot is.storing.datum old.runtime.shared.heap }) is.changed refl
       (ap is_named stores) (ap goes_within stores)
       (ap state_in is.changed ∙ store-done w run line k stores old new is old.frames.frames stands is.at is.goes)
       (λ ms calm. store-quiet w run line k stores old new is old.frames.frames ms is.at calm stands)
 
   pub length-alone : line.action ≡ action.Arraylength → IsMeasured line old new → LeadsAlone w old 1 new
   length-alone length_of is =
-      alone-by (replaces 1 (Some (Int (pos is.count))) line.next) old.shared is.changed refl
+      alone-by (replaces 1 (Some (Int (pos is.count))) line.next) old.runtime.shared is.changed refl
       (ap is_named length_of) (ap goes_within length_of)
       (ap state_in is.changed ∙ length-done w run line length_of old new is old.frames.frames stands is.at is.goes)
       (λ ms calm. length-quiet w run line length_of old new is old.frames.frames ms is.at calm stands)

@@ -68,11 +68,11 @@ held lo names Holds if_named =
 module _ (w : Setup) (ms : List Initialization) (here : Here) (p : Parts) (is_named_there : named_in (line_at w.versions here.version here.place) ≡ true)
     (at : here_of p.frames.frames ≡ Some here) (none : initialization_on (length p.frames.frames) ms ≡ None)
     (frames : FramesView) (shared : Shared) (output loaded : List ℕ) (a : Asked)
-    (answers : IfNamed (line_at w.versions here.version here.place) (λ n next. answer_view a ≡ answer_by (attempts w.world n p.shared p.frames) p.frames))
-    (moves : IfNamed (line_at w.versions here.version here.place) (λ n next. frames ≡ frames_by (attempts w.world n p.shared p.frames) next p.frames))
-    (shares : IfNamed (line_at w.versions here.version here.place) (λ n next. shared ≡ shared_by (attempts w.world n p.shared p.frames) p.frames))
-    (writes : IfNamed (line_at w.versions here.version here.place) (λ n next. output ≡ p.output ++ wrote_by (attempts w.world n p.shared p.frames) p.frames))
-    (loads : IfNamed (line_at w.versions here.version here.place) (λ n next. loaded ≡ loaded_for w.world.program n p.shared p.frames)) where
+    (answers : IfNamed (line_at w.versions here.version here.place) (λ n next. answer_view a ≡ answer_by (attempts w.world n p.runtime.shared p.frames) p.frames))
+    (moves : IfNamed (line_at w.versions here.version here.place) (λ n next. frames ≡ frames_by (attempts w.world n p.runtime.shared p.frames) next p.frames))
+    (shares : IfNamed (line_at w.versions here.version here.place) (λ n next. shared ≡ shared_by (attempts w.world n p.runtime.shared p.frames) p.frames))
+    (writes : IfNamed (line_at w.versions here.version here.place) (λ n next. output ≡ p.runtime.output ++ wrote_by (attempts w.world n p.runtime.shared p.frames) p.frames))
+    (loads : IfNamed (line_at w.versions here.version here.place) (λ n next. loaded ≡ loaded_for w.world.program n p.runtime.shared p.frames)) where
   names : Names (line_at w.versions here.version here.place)
   names = names-there (line_at w.versions here.version here.place) is_named_there
 
@@ -86,27 +86,27 @@ module _ (w : Setup) (ms : List Initialization) (here : Here) (p : Parts) (is_na
   abbrev mid : Parts
   mid = record p { frames = frames; shared = shared; output = output }
 
-  answer-is : answer_view a ≡ answer_in (done_top w n p.shared p.frames.frames).outcome p.frames.frames
-  answer-is = held (line_at w.versions here.version here.place) names (λ n next. answer_view a ≡ answer_by (attempts w.world n p.shared p.frames) p.frames) answers
+  answer-is : answer_view a ≡ answer_in (done_top w n p.runtime.shared p.frames.frames).outcome p.frames.frames
+  answer-is = held (line_at w.versions here.version here.place) names (λ n next. answer_view a ≡ answer_by (attempts w.world n p.runtime.shared p.frames) p.frames) answers
 
-  can : CanAnswer (answer_in (done_top w n p.shared p.frames.frames).outcome p.frames.frames)
+  can : CanAnswer (answer_in (done_top w n p.runtime.shared p.frames.frames).outcome p.frames.frames)
   can = subst CanAnswer answer-is (can-answer a)
 
   abbrev due : Parts
   due = record p {
-    frames = frames_by (attempts w.world n p.shared p.frames) names.line.next p.frames;
-    shared = shared_by (attempts w.world n p.shared p.frames) p.frames;
-    output = p.output ++ wrote_by (attempts w.world n p.shared p.frames) p.frames;
+    frames = frames_by (attempts w.world n p.runtime.shared p.frames) names.line.next p.frames;
+    shared = shared_by (attempts w.world n p.runtime.shared p.frames) p.frames;
+    output = p.runtime.output ++ wrote_by (attempts w.world n p.runtime.shared p.frames) p.frames;
   }
 
   mid-is : mid ≡ due
   mid-is =
       ap (λ (x : FramesView). let q : Parts = record p { frames = x; shared = shared; output = output } in q)
-      (held (line_at w.versions here.version here.place) names (λ n next. frames ≡ frames_by (attempts w.world n p.shared p.frames) next p.frames) moves)
+      (held (line_at w.versions here.version here.place) names (λ n next. frames ≡ frames_by (attempts w.world n p.runtime.shared p.frames) next p.frames) moves)
       ∙ (ap (λ (x : Shared). let q : Parts = record p { frames = due.frames; shared = x; output = output } in q)
-      (held (line_at w.versions here.version here.place) names (λ n next. shared ≡ shared_by (attempts w.world n p.shared p.frames) p.frames) shares)
+      (held (line_at w.versions here.version here.place) names (λ n next. shared ≡ shared_by (attempts w.world n p.runtime.shared p.frames) p.frames) shares)
       ∙ ap (λ (x : List ℕ). let q : Parts = record p { frames = due.frames; shared = due.shared; output = x } in q)
-      (held (line_at w.versions here.version here.place) names (λ n next. output ≡ p.output ++ wrote_by (attempts w.world n p.shared p.frames) p.frames) writes))
+      (held (line_at w.versions here.version here.place) names (λ n next. output ≡ p.runtime.output ++ wrote_by (attempts w.world n p.runtime.shared p.frames) p.frames) writes))
 
   -- what the line does there
   attempted : named_beneath w names.line n ms p p.frames.frames ≡ attempts_on w s s.stack
@@ -132,8 +132,8 @@ module _ (w : Setup) (ms : List Initialization) (here : Here) (p : Parts) (is_na
 
   -- the class that it awaits
   awaits-by : (fs : List PlacedFrame) → here_of fs ≡ Some here → initialization_on (length fs) ms ≡ None
-      → CanAnswer (answer_in (done_top w n p.shared fs).outcome fs)
-      → awaited_on w s (stack_of (map active fs) ms) ≡ starts_in (answer_in (done_top w n p.shared fs).outcome fs)
+      → CanAnswer (answer_in (done_top w n p.runtime.shared fs).outcome fs)
+      → awaited_on w s (stack_of (map active fs) ms) ≡ starts_in (answer_in (done_top w n p.runtime.shared fs).outcome fs)
   awaits-by [] is free can_there = absurd (none-some here is)
   awaits-by (f ∷ fs) is free can_there =
       let same : record { version = f.version; method = f.method; place = f.place } ≡ here = same_Some _ here is in
@@ -142,7 +142,7 @@ module _ (w : Setup) (ms : List Initialization) (here : Here) (p : Parts) (is_na
       ∙ (ap (λ (h : Here). awaited_by w under (frame_in f) (line_at w.versions h.version h.place)) same
       ∙ (ap (awaited_by w under (frame_in f)) names.there
       ∙ (ap (class_awaited w under (frame_in f)) names.named
-      ∙ sym (starts-same (done_top w n p.shared (f ∷ fs)).outcome f fs can_there))))
+      ∙ sym (starts-same (done_top w n p.runtime.shared (f ∷ fs)).outcome f fs can_there))))
 
   pub awaits-told : (o : Option ℕ) → o ≡ starts_in (answer_view a) → o ≡ awaited_in w s
   awaits-told o delivered = delivered ∙ (ap starts_in answer-is ∙ sym (awaits-by p.frames.frames at none can))
@@ -150,11 +150,11 @@ module _ (w : Setup) (ms : List Initialization) (here : Here) (p : Parts) (is_na
   -- what is loaded then
   pub loads-told : (after : State) → after ≡ attempts_on w s s.stack → loaded ≡ after.shared.loaded
   loads-told after is =
-      held (line_at w.versions here.version here.place) names (λ n next. loaded ≡ loaded_for w.world.program n p.shared p.frames) loads
+      held (line_at w.versions here.version here.place) names (λ n next. loaded ≡ loaded_for w.world.program n p.runtime.shared p.frames) loads
       ∙ (by p.frames.frames at
       ∙ ap (λ (x : State). x.shared.loaded) (attempted ∙ sym is))
     where
       by : (fs : List PlacedFrame) → here_of fs ≡ Some here
-          → p.shared.loaded ++ newly_loaded w.world.program p.shared.loaded n (top_operands fs) ≡ (named_beneath w names.line n ms p fs).shared.loaded
+          → p.runtime.shared.loaded ++ newly_loaded w.world.program p.runtime.shared.loaded n (top_operands fs) ≡ (named_beneath w names.line n ms p fs).shared.loaded
       by [] is = absurd (none-some here is)
       by (f ∷ fs) is = sym (named-loads w names.line n (with_initializations ms (state_with fs p)) (frame_in f))

@@ -91,66 +91,66 @@ module _ (w : Setup) (ms : List Initialization) (p : Parts) (going : p.ending �
     abbrev n : SymbolicReference
     n = names.kept
 
-    named-loads : loads_in w s ≡ newly_loaded w.world.program p.shared.loaded n (top_operands p.frames.frames)
+    named-loads : loads_in w s ≡ newly_loaded w.world.program p.runtime.shared.loaded n (top_operands p.frames.frames)
     named-loads = loads-by p.frames.frames here at none ∙ by p.frames.frames at where
-      by : (fs : List PlacedFrame) → here_of fs ≡ Some here → loads_of w s fs (line_at w.versions here.version here.place) ≡ newly_loaded w.world.program p.shared.loaded n (top_operands fs)
+      by : (fs : List PlacedFrame) → here_of fs ≡ Some here → loads_of w s fs (line_at w.versions here.version here.place) ≡ newly_loaded w.world.program p.runtime.shared.loaded n (top_operands fs)
       by [] is = absurd (none-some here is)
       by (f ∷ fs) is =
           ap (λ lo. loads_at w.world s (frame_in f) (option_map instruction_in lo)) names.there
           ∙ ap (λ a. loads w.world (operation_as names.line a) s.shared f.operands) names.named
 
-    pub none-loads : (b : Bool) → IfNamed (line_at w.versions here.version here.place) (λ n next. b ≡ is_loaded w.world n p.shared p.frames) → b ≡ loads_none w s
+    pub none-loads : (b : Bool) → IfNamed (line_at w.versions here.version here.place) (λ n next. b ≡ is_loaded w.world n p.runtime.shared p.frames) → b ≡ loads_none w s
     none-loads b holds =
-        held (line_at w.versions here.version here.place) names (λ n next. b ≡ is_loaded w.world n p.shared p.frames) holds
+        held (line_at w.versions here.version here.place) names (λ n next. b ≡ is_loaded w.world n p.runtime.shared p.frames) holds
         ∙ ap (λ (classes : List ℕ). length classes == 0) (sym named-loads)
 
     -- the classes are loaded, and nothing else is done
     pub has-loaded : (frames : FramesView) (shared : Shared) (output : List ℕ)
         → IfNamed (line_at w.versions here.version here.place) (λ n next. frames ≡ p.frames)
-        → IfNamed (line_at w.versions here.version here.place) (λ n next. output ≡ p.output)
-        → IfNamed (line_at w.versions here.version here.place) (λ n next. shared ≡ shared_loaded w.world.program n p.shared p.frames)
+        → IfNamed (line_at w.versions here.version here.place) (λ n next. output ≡ p.runtime.output)
+        → IfNamed (line_at w.versions here.version here.place) (λ n next. shared ≡ shared_loaded w.world.program n p.runtime.shared p.frames)
         → state_of ms (record p { frames = frames; shared = shared; output = output }) ≡ with_loaded (loads_in w s) s
     has-loaded frames shared output same_frames same_output loaded =
         ap (λ (x : FramesView). state_of ms (record p { frames = x; shared = shared; output = output })) (held (line_at w.versions here.version here.place) names (λ n next. frames ≡ p.frames) same_frames)
-        ∙ (ap (λ (x : List ℕ). state_of ms (record p { shared = shared; output = x })) (held (line_at w.versions here.version here.place) names (λ n next. output ≡ p.output) same_output)
-        ∙ (ap (λ (x : Shared). state_of ms (record p { shared = x })) (held (line_at w.versions here.version here.place) names (λ n next. shared ≡ shared_loaded w.world.program n p.shared p.frames) loaded)
+        ∙ (ap (λ (x : List ℕ). state_of ms (record p { shared = shared; output = x })) (held (line_at w.versions here.version here.place) names (λ n next. output ≡ p.runtime.output) same_output)
+        ∙ (ap (λ (x : Shared). state_of ms (record p { shared = x })) (held (line_at w.versions here.version here.place) names (λ n next. shared ≡ shared_loaded w.world.program n p.runtime.shared p.frames) loaded)
         ∙ (ap (λ (classes : List ℕ). record s { shared = record s.shared { loaded = s.shared.loaded ++ classes } }) (sym named-loads)
         ∙ sym (with-loaded (loads_in w s) s))))
 
     -- what the linker has loaded then
     pub linked-then : (shared : Shared) (loaded : List ℕ)
-        → IfNamed (line_at w.versions here.version here.place) (λ n next. loaded ≡ loaded_for w.world.program n p.shared p.frames)
-        → IfNamed (line_at w.versions here.version here.place) (λ n next. shared ≡ shared_loaded w.world.program n p.shared p.frames)
+        → IfNamed (line_at w.versions here.version here.place) (λ n next. loaded ≡ loaded_for w.world.program n p.runtime.shared p.frames)
+        → IfNamed (line_at w.versions here.version here.place) (λ n next. shared ≡ shared_loaded w.world.program n p.runtime.shared p.frames)
         → loaded ≡ shared.loaded
     linked-then shared loaded linked delivered =
-        held (line_at w.versions here.version here.place) names (λ n next. loaded ≡ loaded_for w.world.program n p.shared p.frames) linked
-        ∙ ap (λ (x : Shared). x.loaded) (sym (held (line_at w.versions here.version here.place) names (λ n next. shared ≡ shared_loaded w.world.program n p.shared p.frames) delivered))
+        held (line_at w.versions here.version here.place) names (λ n next. loaded ≡ loaded_for w.world.program n p.runtime.shared p.frames) linked
+        ∙ ap (λ (x : Shared). x.loaded) (sym (held (line_at w.versions here.version here.place) names (λ n next. shared ≡ shared_loaded w.world.program n p.runtime.shared p.frames) delivered))
 
 -- ---- where it has answered, it has answered as in one part
 
 module _ (w : Setup) (ms : List Initialization) (here : Here) (p : Parts) (is_named_there : named_in (line_at w.versions here.version here.place) ≡ true)
     (at : here_of p.frames.frames ≡ Some here) (none : initialization_on (length p.frames.frames) ms ≡ None)
     (frames : FramesView) (shared : Shared) (output loaded : List ℕ) (o : Option Asked)
-    (answers : IfNamed (line_at w.versions here.version here.place) (λ n next. IfSome o (λ a. answer_view a ≡ answer_by (attempts w.world n p.shared p.frames) p.frames)))
-    (moves : IfNamed (line_at w.versions here.version here.place) (λ n next. IfSome o (λ a. frames ≡ frames_by (attempts w.world n p.shared p.frames) next p.frames)))
-    (shares : IfNamed (line_at w.versions here.version here.place) (λ n next. IfSome o (λ a. shared ≡ shared_by (attempts w.world n p.shared p.frames) p.frames)))
-    (writes : IfNamed (line_at w.versions here.version here.place) (λ n next. IfSome o (λ a. output ≡ p.output ++ wrote_by (attempts w.world n p.shared p.frames) p.frames)))
-    (loads : IfNamed (line_at w.versions here.version here.place) (λ n next. loaded ≡ loaded_for w.world.program n p.shared p.frames))
+    (answers : IfNamed (line_at w.versions here.version here.place) (λ n next. IfSome o (λ a. answer_view a ≡ answer_by (attempts w.world n p.runtime.shared p.frames) p.frames)))
+    (moves : IfNamed (line_at w.versions here.version here.place) (λ n next. IfSome o (λ a. frames ≡ frames_by (attempts w.world n p.runtime.shared p.frames) next p.frames)))
+    (shares : IfNamed (line_at w.versions here.version here.place) (λ n next. IfSome o (λ a. shared ≡ shared_by (attempts w.world n p.runtime.shared p.frames) p.frames)))
+    (writes : IfNamed (line_at w.versions here.version here.place) (λ n next. IfSome o (λ a. output ≡ p.runtime.output ++ wrote_by (attempts w.world n p.runtime.shared p.frames) p.frames)))
+    (loads : IfNamed (line_at w.versions here.version here.place) (λ n next. loaded ≡ loaded_for w.world.program n p.runtime.shared p.frames))
     (a : Asked) (is : o ≡ Some a) where
   abbrev lo : Option Line
   lo = line_at w.versions here.version here.place
 
-  told_answers : IfNamed lo (λ n next. answer_view a ≡ answer_by (attempts w.world n p.shared p.frames) p.frames)
-  told_answers = subst (λ x. IfNamed lo (λ n next. IfSome x (λ b. answer_view b ≡ answer_by (attempts w.world n p.shared p.frames) p.frames))) is answers
+  told_answers : IfNamed lo (λ n next. answer_view a ≡ answer_by (attempts w.world n p.runtime.shared p.frames) p.frames)
+  told_answers = subst (λ x. IfNamed lo (λ n next. IfSome x (λ b. answer_view b ≡ answer_by (attempts w.world n p.runtime.shared p.frames) p.frames))) is answers
 
-  told_moves : IfNamed lo (λ n next. frames ≡ frames_by (attempts w.world n p.shared p.frames) next p.frames)
-  told_moves = subst (λ x. IfNamed lo (λ n next. IfSome x (λ b. frames ≡ frames_by (attempts w.world n p.shared p.frames) next p.frames))) is moves
+  told_moves : IfNamed lo (λ n next. frames ≡ frames_by (attempts w.world n p.runtime.shared p.frames) next p.frames)
+  told_moves = subst (λ x. IfNamed lo (λ n next. IfSome x (λ b. frames ≡ frames_by (attempts w.world n p.runtime.shared p.frames) next p.frames))) is moves
 
-  told_shares : IfNamed lo (λ n next. shared ≡ shared_by (attempts w.world n p.shared p.frames) p.frames)
-  told_shares = subst (λ x. IfNamed lo (λ n next. IfSome x (λ b. shared ≡ shared_by (attempts w.world n p.shared p.frames) p.frames))) is shares
+  told_shares : IfNamed lo (λ n next. shared ≡ shared_by (attempts w.world n p.runtime.shared p.frames) p.frames)
+  told_shares = subst (λ x. IfNamed lo (λ n next. IfSome x (λ b. shared ≡ shared_by (attempts w.world n p.runtime.shared p.frames) p.frames))) is shares
 
-  told_writes : IfNamed lo (λ n next. output ≡ p.output ++ wrote_by (attempts w.world n p.shared p.frames) p.frames)
-  told_writes = subst (λ x. IfNamed lo (λ n next. IfSome x (λ b. output ≡ p.output ++ wrote_by (attempts w.world n p.shared p.frames) p.frames))) is writes
+  told_writes : IfNamed lo (λ n next. output ≡ p.runtime.output ++ wrote_by (attempts w.world n p.runtime.shared p.frames) p.frames)
+  told_writes = subst (λ x. IfNamed lo (λ n next. IfSome x (λ b. output ≡ p.runtime.output ++ wrote_by (attempts w.world n p.runtime.shared p.frames) p.frames))) is writes
 
   abbrev mid : Parts
   mid = record p { frames = frames; shared = shared; output = output }
@@ -180,23 +180,23 @@ module _ (w : Setup) (ms : List Initialization) (here : Here) (p : Parts) (is_na
 
 module _ (w : Setup) (ms : List Initialization) (p : Parts) (going : p.ending ≡ None) (here : Here) (is_named_there : named_in (line_at w.versions here.version here.place) ≡ true)
     (at : here_of p.frames.frames ≡ Some here) (none : initialization_on (length p.frames.frames) ms ≡ None) (o : Option Asked)
-    (some : IfNamed (line_at w.versions here.version here.place) (λ n next. is_some o ≡ is_loaded w.world n p.shared p.frames)) where
+    (some : IfNamed (line_at w.versions here.version here.place) (λ n next. is_some o ≡ is_loaded w.world n p.runtime.shared p.frames)) where
   -- whether it has
   pub apart-loads : is_some o ≡ loads_none w (state_of ms p)
   apart-loads = none-loads w ms p going here is_named_there at none (is_some o) some
 
   module _ (is : o ≡ None) (frames : FramesView) (shared : Shared) (output loaded : List ℕ)
       (same_frames : IfNamed (line_at w.versions here.version here.place) (λ n next. IfNone o (frames ≡ p.frames)))
-      (same_output : IfNamed (line_at w.versions here.version here.place) (λ n next. IfNone o (output ≡ p.output)))
-      (loads : IfNamed (line_at w.versions here.version here.place) (λ n next. IfNone o (shared ≡ shared_loaded w.world.program n p.shared p.frames))) where
-    told_loads : IfNamed (line_at w.versions here.version here.place) (λ n next. shared ≡ shared_loaded w.world.program n p.shared p.frames)
-    told_loads = subst (λ x. IfNamed (line_at w.versions here.version here.place) (λ n next. IfNone x (shared ≡ shared_loaded w.world.program n p.shared p.frames))) is loads
+      (same_output : IfNamed (line_at w.versions here.version here.place) (λ n next. IfNone o (output ≡ p.runtime.output)))
+      (loads : IfNamed (line_at w.versions here.version here.place) (λ n next. IfNone o (shared ≡ shared_loaded w.world.program n p.runtime.shared p.frames))) where
+    told_loads : IfNamed (line_at w.versions here.version here.place) (λ n next. shared ≡ shared_loaded w.world.program n p.runtime.shared p.frames)
+    told_loads = subst (λ x. IfNamed (line_at w.versions here.version here.place) (λ n next. IfNone x (shared ≡ shared_loaded w.world.program n p.runtime.shared p.frames))) is loads
 
     pub loaded-apart : state_of ms (record p { frames = frames; shared = shared; output = output }) ≡ with_loaded (loads_in w (state_of ms p)) (state_of ms p)
     loaded-apart =
         has-loaded w ms p going here is_named_there at none frames shared output
         (subst (λ x. IfNamed (line_at w.versions here.version here.place) (λ n next. IfNone x (frames ≡ p.frames))) is same_frames)
-        (subst (λ x. IfNamed (line_at w.versions here.version here.place) (λ n next. IfNone x (output ≡ p.output))) is same_output) told_loads
+        (subst (λ x. IfNamed (line_at w.versions here.version here.place) (λ n next. IfNone x (output ≡ p.runtime.output))) is same_output) told_loads
 
-    pub linked-apart : IfNamed (line_at w.versions here.version here.place) (λ n next. loaded ≡ loaded_for w.world.program n p.shared p.frames) → loaded ≡ shared.loaded
+    pub linked-apart : IfNamed (line_at w.versions here.version here.place) (λ n next. loaded ≡ loaded_for w.world.program n p.runtime.shared p.frames) → loaded ≡ shared.loaded
     linked-apart linked = linked-then w ms p going here is_named_there at none shared loaded linked told_loads

@@ -91,7 +91,7 @@ module _ (w : Setup) (m : ℕ) (args : List Datum) (below : Operands) (f : Place
 
 module _ (w : Setup) (run : CanRun w) (ms : List Initialization) (here : Here) (line : Line) (kept : SymbolicReference) (old : Parts) (stands : here_of old.frames.frames ≡ Some here)
     (found : line_at w.versions here.version here.place ≡ Some line) (named : line.action ≡ action.Named kept) (calm : IsAtInstruction (length old.frames.frames) ms old)
-    (nothing : newly_loaded w.world.program old.shared.loaded kept (top_operands old.frames.frames) ≡ []) (c : Call) where
+    (nothing : newly_loaded w.world.program old.runtime.shared.loaded kept (top_operands old.frames.frames) ≡ []) (c : Call) where
   abbrev n : SymbolicReference
   n = kept
 
@@ -102,7 +102,7 @@ module _ (w : Setup) (run : CanRun w) (ms : List Initialization) (here : Here) (
   marks = mark_of w.versions
 
   -- no class is loaded
-  loads-none : (fs : List PlacedFrame) → here_of fs ≡ Some here → initialization_on (length fs) ms ≡ None → newly_loaded w.world.program old.shared.loaded n (top_operands fs) ≡ []
+  loads-none : (fs : List PlacedFrame) → here_of fs ≡ Some here → initialization_on (length fs) ms ≡ None → newly_loaded w.world.program old.runtime.shared.loaded n (top_operands fs) ≡ []
       → step_loads w.world t (with_initializations ms (state_with fs old)) ≡ []
   loads-none [] is free none = absurd (none-some here is)
   loads-none (f ∷ fs) is free none =
@@ -113,13 +113,13 @@ module _ (w : Setup) (run : CanRun w) (ms : List Initialization) (here : Here) (
       ap (λ e. loads_on w.world t s e s.stack) calm.ending
       ∙ (ap (λ es. loads_on w.world t s None es) (top-frame ms f fs free)
       ∙ (ap (λ x. loads_at w.world u (frame_in f) (option_map instruction_in x)) at
-      ∙ (ap (λ a. loads w.world (operation_as line a) old.shared f.operands) named ∙ none)))
+      ∙ (ap (λ a. loads w.world (operation_as line a) old.runtime.shared f.operands) named ∙ none)))
 
   -- ---- the turn
 
   module _ (f : PlacedFrame) (fs : List PlacedFrame) (args : List Datum) (below : Operands) where
     abbrev u : State
-    u = record (under w run ms here line kept old stands found named calm nothing fs) { shared = old.shared; output = old.output ++ [] }
+    u = record (under w run ms here line kept old stands found named calm nothing fs) { shared = old.runtime.shared; output = old.runtime.output ++ [] }
 
     abbrev begun : Turn
     begun = begins w.world t u (frame_in f) c.method args below
@@ -136,13 +136,13 @@ module _ (w : Setup) (run : CanRun w) (ms : List Initialization) (here : Here) (
         stops w.world t (moves_left begun.after) begun
         (with-frame-rests w (with_frame u (record (frame_in f) { operands = below })) (new_frame w.world t c.method args) calm.ending calm.thrown)
 
-  call-changes : (fs : List PlacedFrame) → here_of fs ≡ Some here → initialization_on (length fs) ms ≡ None → newly_loaded w.world.program old.shared.loaded n (top_operands fs) ≡ []
-      → IsCall c (done_top w n old.shared fs) old.shared → may_begin fs ≡ true → can_begin w c.method c.count fs ≡ true
+  call-changes : (fs : List PlacedFrame) → here_of fs ≡ Some here → initialization_on (length fs) ms ≡ None → newly_loaded w.world.program old.runtime.shared.loaded n (top_operands fs) ≡ []
+      → IsCall c (done_top w n old.runtime.shared fs) old.runtime.shared → may_begin fs ≡ true → can_begin w c.method c.count fs ≡ true
       → (step w.world t (with_initializations ms (state_with fs old))).changes ≡ Began c.method ∷ []
   call-changes [] is free none call may can = absurd (none-some here is)
   call-changes (f ∷ fs) is free none call may can =
-      let d : Done = done_top w n old.shared (f ∷ fs) in
-      let ready : Shared = record old.shared { loaded = old.shared.loaded ++ newly_loaded w.world.program old.shared.loaded n f.operands } in
+      let d : Done = done_top w n old.runtime.shared (f ∷ fs) in
+      let ready : Shared = record old.runtime.shared { loaded = old.runtime.shared.loaded ++ newly_loaded w.world.program old.runtime.shared.loaded n f.operands } in
       let law = is-named ready f.operands w n f.locals in
       let takes : Takes f.operands call.args call.below = subst (λ (d : Done). Asks d.shared f.operands d.outcome) call.invokes law.asks in
       let room = has-room w c.method call.args call.below f fs takes c.count call.count can in
@@ -171,7 +171,7 @@ module _ (w : Setup) (run : CanRun w) (ms : List Initialization) (here : Here) (
   length-without [] = refl
   length-without (f ∷ fs) = refl
 
-  module _ (call : IsCall c (done_on (attempts w.world n old.shared old.frames) old.frames) old.shared) (may : may_begin old.frames.frames ≡ true)
+  module _ (call : IsCall c (done_on (attempts w.world n old.runtime.shared old.frames) old.frames) old.runtime.shared) (may : may_begin old.frames.frames ≡ true)
       (can : can_begin w c.method c.count old.frames.frames ≡ true) (frames : FramesView)
       (are : frames.frames ≡ with_begun true w c.method c.count old.frames.frames) where
     abbrev new : Parts
@@ -182,11 +182,11 @@ module _ (w : Setup) (run : CanRun w) (ms : List Initialization) (here : Here) (
 
     reached-is : there ≡ old
     reached-is =
-        ap (λ (d : Done). let p : Parts = record old { frames = with_frames (frames_in d.outcome line.next old.frames.frames) old.frames; shared = d.shared; output = old.output ++ d.wrote } in p)
+        ap (λ (d : Done). let p : Parts = record old { frames = with_frames (frames_in d.outcome line.next old.frames.frames) old.frames; shared = d.shared; output = old.runtime.output ++ d.wrote } in p)
         call.invokes
-        ∙ ap (λ o. let p : Parts = record old { output = o } in p) (append-nil old.output)
+        ∙ ap (λ o. let p : Parts = record old { output = o } in p) (append-nil old.runtime.output)
 
-    answers : Calls c.method c.count ≡ answer_in (done_on (attempts w.world n old.shared old.frames) old.frames).outcome old.frames.frames
+    answers : Calls c.method c.count ≡ answer_in (done_on (attempts w.world n old.runtime.shared old.frames) old.frames).outcome old.frames.frames
     answers = sym (ap (λ (d : Done). answer_in d.outcome old.frames.frames) call.invokes ∙ ap (Calls c.method) call.count)
 
     concludes : state_in new ≡ answer_concluded w here (Calls c.method c.count) there
@@ -256,7 +256,7 @@ module _ (w : Setup) (run : CanRun w) (ms : List Initialization) (here : Here) (
     silent = λ k less. absurd (omega arith);
   }
 
-  pub called-passes : (b : Bool) (new : Parts) → IsCall c (done_on (attempts w.world n old.shared old.frames) old.frames) old.shared
+  pub called-passes : (b : Bool) (new : Parts) → IsCall c (done_on (attempts w.world n old.runtime.shared old.frames) old.frames) old.runtime.shared
       → (b ≡ true → may_begin old.frames.frames ≡ true) → (b ≡ true → can_begin w c.method c.count old.frames.frames ≡ true)
       → (b ≡ true → marks (current_of w.versions c.method) ≡ Off) → new.frames.frames ≡ with_begun b w c.method c.count old.frames.frames → new ≡ on_frames new.frames old
       → Passes w ms old (steps_if b) new
@@ -264,7 +264,7 @@ module _ (w : Setup) (run : CanRun w) (ms : List Initialization) (here : Here) (
   called-passes false new call may can off are same = subst (Passes w ms old 0) (sym same) (passes-still new.frames are)
 
   -- in a version with probes
-  pub called-tries : (b : Bool) (new : Parts) → IsCall c (done_on (attempts w.world n old.shared old.frames) old.frames) old.shared
+  pub called-tries : (b : Bool) (new : Parts) → IsCall c (done_on (attempts w.world n old.runtime.shared old.frames) old.frames) old.runtime.shared
       → (b ≡ true → may_begin old.frames.frames ≡ true) → (b ≡ true → can_begin w c.method c.count old.frames.frames ≡ true)
       → (b ≡ true → is_off (marks (current_of w.versions c.method)) ≡ false) → new.frames.frames ≡ with_begun b w c.method c.count old.frames.frames
       → new ≡ on_frames new.frames old → (delivered : Bool) → TriesIf b w ms delivered old Begins new
@@ -277,7 +277,7 @@ module _ (w : Setup) (run : CanRun w) (ms : List Initialization) (here : Here) (
       ap (state_of ms) same ∙ ap (λ fs. with_initializations ms (state_with fs old)) are
 
   -- by what was due then
-  pub called-onward : (o : Option Due) (new : Parts) → IsCall c (done_on (attempts w.world n old.shared old.frames) old.frames) old.shared
+  pub called-onward : (o : Option Due) (new : Parts) → IsCall c (done_on (attempts w.world n old.runtime.shared old.frames) old.frames) old.runtime.shared
       → (is_some o ≡ true → may_begin old.frames.frames ≡ true) → (is_some o ≡ true → can_begin w c.method c.count old.frames.frames ≡ true)
       → IfSome o (λ due. due ≡ begun_due (not (is_off (marks (current_of w.versions c.method))))) → new.frames.frames ≡ with_begun (is_some o) w c.method c.count old.frames.frames
       → new ≡ on_frames new.frames old → GoesOnward w ms old o new

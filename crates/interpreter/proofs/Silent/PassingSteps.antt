@@ -83,7 +83,7 @@ same-many q next fs so = ap (λ x. length (frames_in x next fs)) so.is ∙ (ap (
 
 module _ (w : Setup) (run : CanRun w) (ms : List Initialization) (here : Here) (line : Line) (kept : SymbolicReference) (old : Parts) (stands : here_of old.frames.frames ≡ Some here)
     (found : line_at w.versions here.version here.place ≡ Some line) (named : line.action ≡ action.Named kept) (calm : IsAtInstruction (length old.frames.frames) ms old)
-    (nothing : newly_loaded w.world.program old.shared.loaded kept (top_operands old.frames.frames) ≡ []) where
+    (nothing : newly_loaded w.world.program old.runtime.shared.loaded kept (top_operands old.frames.frames) ≡ []) where
   abbrev n : SymbolicReference
   n = kept
 
@@ -91,7 +91,7 @@ module _ (w : Setup) (run : CanRun w) (ms : List Initialization) (here : Here) (
   t = listing_of w.versions
 
   abbrev pub d : Done
-  d = done_on (attempts w.world n old.shared old.frames) old.frames
+  d = done_on (attempts w.world n old.runtime.shared old.frames) old.frames
 
   there-by : (Holds : SymbolicReference → ℕ → Type 0) → Holds n line.next → IfNamed (line_at w.versions here.version here.place) Holds
   there-by Holds holds = subst (λ o. IfNamed o Holds) (sym found) (subst (λ a. IfNamedBy a line.next Holds) (sym named) holds)
@@ -110,29 +110,29 @@ module _ (w : Setup) (run : CanRun w) (ms : List Initialization) (here : Here) (
   -- ---- the state behind it
 
   abbrev pub reached : Parts
-  reached = record old { frames = frames_by (attempts w.world n old.shared old.frames) line.next old.frames; shared = d.shared; output = old.output ++ d.wrote }
+  reached = record old { frames = frames_by (attempts w.world n old.runtime.shared old.frames) line.next old.frames; shared = d.shared; output = old.runtime.output ++ d.wrote }
 
-  module _ (a : Asked) (answers : answer_view a ≡ answer_by (attempts w.world n old.shared old.frames) old.frames) (quiet : starts_in (answer_view a) ≡ None) where
+  module _ (a : Asked) (answers : answer_view a ≡ answer_by (attempts w.world n old.runtime.shared old.frames) old.frames) (quiet : starts_in (answer_view a) ≡ None) where
     pub is-attempt : (new : Parts) → state_in new ≡ answer_concluded w here (answer_view a) reached
         → state_of ms new ≡ attempts_on w (state_of ms old) (state_of ms old).stack
     is-attempt new concludes =
-        goes-on w ms here old named-there stands calm.executing reached.frames reached.shared reached.output (loaded_for w.world.program n old.shared old.frames) a
-        (there-by (λ n next. answer_view a ≡ answer_by (attempts w.world n old.shared old.frames) old.frames) answers)
-        (there-by (λ n next. reached.frames ≡ frames_by (attempts w.world n old.shared old.frames) next old.frames) refl)
-        (there-by (λ n next. reached.shared ≡ (done_on (attempts w.world n old.shared old.frames) old.frames).shared) refl)
-        (there-by (λ n next. reached.output ≡ old.output ++ wrote_by (attempts w.world n old.shared old.frames) old.frames) refl)
-        (there-by (λ n next. loaded_for w.world.program kept old.shared old.frames ≡ loaded_for w.world.program n old.shared old.frames) refl)
+        goes-on w ms here old named-there stands calm.executing reached.frames reached.shared reached.output (loaded_for w.world.program n old.runtime.shared old.frames) a
+        (there-by (λ n next. answer_view a ≡ answer_by (attempts w.world n old.runtime.shared old.frames) old.frames) answers)
+        (there-by (λ n next. reached.frames ≡ frames_by (attempts w.world n old.runtime.shared old.frames) next old.frames) refl)
+        (there-by (λ n next. reached.shared ≡ (done_on (attempts w.world n old.runtime.shared old.frames) old.frames).shared) refl)
+        (there-by (λ n next. reached.output ≡ old.runtime.output ++ wrote_by (attempts w.world n old.runtime.shared old.frames) old.frames) refl)
+        (there-by (λ n next. loaded_for w.world.program kept old.runtime.shared old.frames ≡ loaded_for w.world.program n old.runtime.shared old.frames) refl)
         None new (sym quiet) refl concludes
 
     -- no class is awaited
     pub is-awaited : awaited_in w (state_of ms old) ≡ None
     is-awaited =
-        sym (awaits-told w ms here old named-there stands calm.executing reached.frames reached.shared reached.output (loaded_for w.world.program n old.shared old.frames) a
-        (there-by (λ n next. answer_view a ≡ answer_by (attempts w.world n old.shared old.frames) old.frames) answers)
-        (there-by (λ n next. reached.frames ≡ frames_by (attempts w.world n old.shared old.frames) next old.frames) refl)
-        (there-by (λ n next. reached.shared ≡ (done_on (attempts w.world n old.shared old.frames) old.frames).shared) refl)
-        (there-by (λ n next. reached.output ≡ old.output ++ wrote_by (attempts w.world n old.shared old.frames) old.frames) refl)
-        (there-by (λ n next. loaded_for w.world.program kept old.shared old.frames ≡ loaded_for w.world.program n old.shared old.frames) refl)
+        sym (awaits-told w ms here old named-there stands calm.executing reached.frames reached.shared reached.output (loaded_for w.world.program n old.runtime.shared old.frames) a
+        (there-by (λ n next. answer_view a ≡ answer_by (attempts w.world n old.runtime.shared old.frames) old.frames) answers)
+        (there-by (λ n next. reached.frames ≡ frames_by (attempts w.world n old.runtime.shared old.frames) next old.frames) refl)
+        (there-by (λ n next. reached.shared ≡ (done_on (attempts w.world n old.runtime.shared old.frames) old.frames).shared) refl)
+        (there-by (λ n next. reached.output ≡ old.runtime.output ++ wrote_by (attempts w.world n old.runtime.shared old.frames) old.frames) refl)
+        (there-by (λ n next. loaded_for w.world.program kept old.runtime.shared old.frames ≡ loaded_for w.world.program n old.runtime.shared old.frames) refl)
         None (sym quiet))
 
     pub is-step : (new : Parts) → state_in new ≡ answer_concluded w here (answer_view a) reached → is_at_rest ms new ≡ true
@@ -150,26 +150,26 @@ module _ (w : Setup) (run : CanRun w) (ms : List Initialization) (here : Here) (
 
   -- its changes are those of what follows from what its rule says
   abbrev pub follows : Done → PlacedFrame → List PlacedFrame → Turn
-  follows d f fs = turn_settled w.world t (applies w.world t i d.outcome (record (under fs) { shared = d.shared; output = old.output ++ d.wrote }) (frame_in f))
+  follows d f fs = turn_settled w.world t (applies w.world t i d.outcome (record (under fs) { shared = d.shared; output = old.runtime.output ++ d.wrote }) (frame_in f))
 
-  named-turn : (f : PlacedFrame) (fs : List PlacedFrame) → newly_loaded w.world.program old.shared.loaded n f.operands ≡ []
-      → starts (does_named w.world n old.shared f.locals f.operands).outcome ≡ None
-      → step_by w i (Named n) (under fs) (frame_in f) ≡ follows (does_named w.world n old.shared f.locals f.operands) f fs
+  named-turn : (f : PlacedFrame) (fs : List PlacedFrame) → newly_loaded w.world.program old.runtime.shared.loaded n f.operands ≡ []
+      → starts (does_named w.world n old.runtime.shared f.locals f.operands).outcome ≡ None
+      → step_by w i (Named n) (under fs) (frame_in f) ≡ follows (does_named w.world n old.runtime.shared f.locals f.operands) f fs
   named-turn f fs none starts_none =
       ap (λ classes. let ready = with_loaded classes (under fs) in
       loaded_turn classes (steps_by w.world t i ready (frame_in f) (does_named w.world n ready.shared f.locals f.operands))) none
-      ∙ ap (λ o. goes_again w.world t i (under fs) (frame_in f) o (tries w.world t i (under fs) (frame_in f) (does_named w.world n old.shared f.locals f.operands))) starts_none
+      ∙ ap (λ o. goes_again w.world t i (under fs) (frame_in f) o (tries w.world t i (under fs) (frame_in f) (does_named w.world n old.runtime.shared f.locals f.operands))) starts_none
 
-  same-done : (fs : List PlacedFrame) → newly_loaded w.world.program old.shared.loaded n (top_operands fs) ≡ []
-      → (f : PlacedFrame) (gs : List PlacedFrame) → fs ≡ f ∷ gs → does_named w.world n old.shared f.locals f.operands ≡ done_top w n old.shared (f ∷ gs)
+  same-done : (fs : List PlacedFrame) → newly_loaded w.world.program old.runtime.shared.loaded n (top_operands fs) ≡ []
+      → (f : PlacedFrame) (gs : List PlacedFrame) → fs ≡ f ∷ gs → does_named w.world n old.runtime.shared f.locals f.operands ≡ done_top w n old.runtime.shared (f ∷ gs)
   same-done fs none f gs is =
-      let there : newly_loaded w.world.program old.shared.loaded n f.operands ≡ [] = subst (λ fs. newly_loaded w.world.program old.shared.loaded n (top_operands fs) ≡ []) is none in
+      let there : newly_loaded w.world.program old.runtime.shared.loaded n f.operands ≡ [] = subst (λ fs. newly_loaded w.world.program old.runtime.shared.loaded n (top_operands fs) ≡ []) is none in
       ap (λ (s : Shared). does_named w.world n s f.locals f.operands)
-      (sym (ap (λ more. record old.shared { loaded = old.shared.loaded ++ more }) there ∙ ap (λ classes. record old.shared { loaded = classes }) (append-nil old.shared.loaded)))
+      (sym (ap (λ more. record old.runtime.shared { loaded = old.runtime.shared.loaded ++ more }) there ∙ ap (λ classes. record old.runtime.shared { loaded = classes }) (append-nil old.runtime.shared.loaded)))
 
   pub step-turn : (f : PlacedFrame) (fs : List PlacedFrame) → here_of (f ∷ fs) ≡ Some here → initialization_on (length (f ∷ fs)) ms ≡ None
-      → newly_loaded w.world.program old.shared.loaded n f.operands ≡ [] → starts (done_top w n old.shared (f ∷ fs)).outcome ≡ None
-      → step w.world t (with_initializations ms (state_with (f ∷ fs) old)) ≡ follows (done_top w n old.shared (f ∷ fs)) f fs
+      → newly_loaded w.world.program old.runtime.shared.loaded n f.operands ≡ [] → starts (done_top w n old.runtime.shared (f ∷ fs)).outcome ≡ None
+      → step w.world t (with_initializations ms (state_with (f ∷ fs) old)) ≡ follows (done_top w n old.runtime.shared (f ∷ fs)) f fs
   step-turn f fs is free none starts_none =
       let s : State = with_initializations ms (state_with (f ∷ fs) old) in
       let same : record { version = f.version; method = f.method; place = f.place } ≡ here = same_Some _ here is in
@@ -186,17 +186,17 @@ module _ (w : Setup) (run : CanRun w) (ms : List Initialization) (here : Here) (
 
   goes-quiet : (f : PlacedFrame) (fs : List PlacedFrame) (d : Done) → GoesSo d.outcome (f ∷ fs) → (follows d f fs).changes ≡ []
   goes-quiet f fs d so =
-      let u : State = record (under fs) { shared = d.shared; output = old.output ++ d.wrote } in
+      let u : State = record (under fs) { shared = d.shared; output = old.runtime.output ++ d.wrote } in
       let is : IsQuiet w i d.outcome u (frame_in f) = goes-on-quiet w i d.outcome so.locals so.operands Following u (frame_in f) so.is calm.ending calm.thrown in
       is.quiet
 
-  step-quiet : (fs : List PlacedFrame) → here_of fs ≡ Some here → initialization_on (length fs) ms ≡ None → newly_loaded w.world.program old.shared.loaded n (top_operands fs) ≡ []
-      → GoesSo (done_top w n old.shared fs).outcome fs → (step w.world t (with_initializations ms (state_with fs old))).changes ≡ []
+  step-quiet : (fs : List PlacedFrame) → here_of fs ≡ Some here → initialization_on (length fs) ms ≡ None → newly_loaded w.world.program old.runtime.shared.loaded n (top_operands fs) ≡ []
+      → GoesSo (done_top w n old.runtime.shared fs).outcome fs → (step w.world t (with_initializations ms (state_with fs old))).changes ≡ []
   step-quiet [] is free none so = absurd (none-some here is)
   step-quiet (f ∷ fs) is free none so =
-      ap (λ (x : Turn). x.changes) (step-turn f fs is free none (ap starts so.is)) ∙ goes-quiet f fs (done_top w n old.shared (f ∷ fs)) so
+      ap (λ (x : Turn). x.changes) (step-turn f fs is free none (ap starts so.is)) ∙ goes-quiet f fs (done_top w n old.runtime.shared (f ∷ fs)) so
 
-  pub done-passes : (new : Changed) → IsDone d line.next (changed_in old) new asked.Next → new.shared.loaded ≡ old.shared.loaded → Passes w ms old 1 (with_changed new old)
+  pub done-passes : (new : Changed) → IsDone d line.next (changed_in old) new asked.Next → new.shared.loaded ≡ old.runtime.shared.loaded → Passes w ms old 1 (with_changed new old)
   done-passes is went loaded =
       let new : Parts = with_changed is old in
       let so = goes-so d.outcome old.frames.frames (sym went.answer) in
@@ -223,15 +223,15 @@ module _ (w : Setup) (run : CanRun w) (ms : List Initialization) (here : Here) (
       has-many [] [] many has = has
       has-many [] (f ∷ fs) many has = absurd cc
 
-  pub field-passes : (frames : FramesView) (shared : Shared) → HasPassed d line.next old.frames frames shared → shared.loaded ≡ old.shared.loaded
+  pub field-passes : (frames : FramesView) (shared : Shared) → HasPassed d line.next old.frames frames shared → shared.loaded ≡ old.runtime.shared.loaded
       → Passes w ms old 1 (record old { frames = frames; shared = shared })
   field-passes frames shared passed loaded =
-      done-passes (parts_changed frames shared old.output)
+      done-passes (parts_changed frames shared old.runtime.output)
       (record {
         answer = sym passed.answer;
         frames = passed.frames;
         shared = passed.shared;
-        output = sym (ap (λ o. old.output ++ o) passed.wrote ∙ append-nil old.output);
+        output = sym (ap (λ o. old.runtime.output ++ o) passed.wrote ∙ append-nil old.runtime.output);
       }) loaded
 
 -- ---- by what the code says of the line
@@ -247,19 +247,19 @@ none-new xs is = by xs (zero-is (length xs) is) where
 
 module _ (w : Setup) (run : CanRun w) (ms : List Initialization) (here : Here) (line : Line) (kept : SymbolicReference) (old : Parts) (stands : here_of old.frames.frames ≡ Some here)
     (found : line_at w.versions here.version here.place ≡ Some line) (named : line.action ≡ action.Named kept) (calm : IsAtInstruction (length old.frames.frames) ms old)
-    (silent : loads_nothing w.world.program old.shared.loaded kept (top_operands old.frames.frames) ≡ true) where
-  pub nothing-new : newly_loaded w.world.program old.shared.loaded kept (top_operands old.frames.frames) ≡ []
-  nothing-new = none-new (newly_loaded w.world.program old.shared.loaded kept (top_operands old.frames.frames)) silent
+    (silent : loads_nothing w.world.program old.runtime.shared.loaded kept (top_operands old.frames.frames) ≡ true) where
+  pub nothing-new : newly_loaded w.world.program old.runtime.shared.loaded kept (top_operands old.frames.frames) ≡ []
+  nothing-new = none-new (newly_loaded w.world.program old.runtime.shared.loaded kept (top_operands old.frames.frames)) silent
 
-  same-loaded : (shared : Shared) → shared ≡ (done_on (attempts w.world kept old.shared old.frames) old.frames).shared → shared.loaded ≡ old.shared.loaded
+  same-loaded : (shared : Shared) → shared ≡ (done_on (attempts w.world kept old.runtime.shared old.frames) old.frames).shared → shared.loaded ≡ old.runtime.shared.loaded
   same-loaded shared is =
-      let law = is-named (shared_loaded w.world.program kept old.shared old.frames) (top_operands old.frames.frames) w kept (top_locals old.frames.frames) in
+      let law = is-named (shared_loaded w.world.program kept old.runtime.shared old.frames) (top_operands old.frames.frames) w kept (top_locals old.frames.frames) in
       ap (λ (s : Shared). s.loaded) is
-      ∙ (law.loaded ∙ (ap (λ more. old.shared.loaded ++ more) nothing-new ∙ append-nil old.shared.loaded))
+      ∙ (law.loaded ∙ (ap (λ more. old.runtime.shared.loaded ++ more) nothing-new ∙ append-nil old.runtime.shared.loaded))
 
   -- a native method
   pub native-passes : (b : Bool) (new : Parts)
-      → IfRan b (done_on (attempts w.world kept old.shared old.frames) old.frames) line.next (changed_in old) (changed_in new)
+      → IfRan b (done_on (attempts w.world kept old.runtime.shared old.frames) old.frames) line.next (changed_in old) (changed_in new)
       → new ≡ with_changed (changed_in new) old → Passes w ms old (steps_if b) new
   native-passes true new went same =
       subst (Passes w ms old 1) (sym same)
@@ -268,7 +268,7 @@ module _ (w : Setup) (run : CanRun w) (ms : List Initialization) (here : Here) (
       subst (Passes w ms old 0) (sym (same ∙ ap (λ (x : Changed). with_changed x old) went)) (passes_none w ms old calm)
 
   pub access-passes : (b : Bool) (frames : FramesView) (shared : Shared)
-      → IfPassed b (done_on (attempts w.world kept old.shared old.frames) old.frames) line.next old.frames old.shared frames shared
+      → IfPassed b (done_on (attempts w.world kept old.runtime.shared old.frames) old.frames) line.next old.frames old.runtime.shared frames shared
       → Passes w ms old (steps_if b) (record old { frames = frames; shared = shared })
   access-passes true frames shared went =
       field-passes w run ms here line kept old stands found named calm nothing-new frames shared went (same-loaded shared went.shared)

@@ -6,11 +6,11 @@ use Rattle.interpreter.proofs.execute.attempting.attempt_name.Goals as goal
 
 pub attempt_named-requires-clause-built_in : goal.attempt_named-requires-clause-built_in
 attempt_named-requires-clause-built_in c =
-    built-in-linked c.args.originals.now.setup.world.program c.args.parts.now.shared c.args.originals.now.loaded c.requires.sound.shared c.requires.linked
+    built-in-linked c.args.originals.now.setup.world.program c.args.parts.now.runtime.shared c.args.originals.now.loaded c.requires.sound.shared c.requires.linked
 
 pub attempt_named-requires-clause-objects : goal.attempt_named-requires-clause-objects
 attempt_named-requires-clause-objects c =
-    objects-linked c.args.originals.now.setup.world.program c.args.parts.now.shared c.args.originals.now.loaded c.requires.fit.fit c.requires.sound.shared c.requires.linked
+    objects-linked c.args.originals.now.setup.world.program c.args.parts.now.runtime.shared c.args.originals.now.loaded c.requires.fit.fit c.requires.sound.shared c.requires.linked
 
 pub attempt_named-requires-clause-caller : goal.attempt_named-requires-clause-caller
 attempt_named-requires-clause-caller c =

@@ -7,11 +7,11 @@ use Rattle.interpreter.proofs.execute.attempting.attempt_name_loaded.Goals as go
 
 pub attempt_loaded-requires-clause-built_in : goal.attempt_loaded-requires-clause-built_in
 attempt_loaded-requires-clause-built_in c =
-    built-in-linked c.args.originals.now.setup.world.program c.args.parts.now.shared c.args.originals.now.loaded c.requires.sound.shared c.requires.linked
+    built-in-linked c.args.originals.now.setup.world.program c.args.parts.now.runtime.shared c.args.originals.now.loaded c.requires.sound.shared c.requires.linked
 
 pub attempt_loaded-requires-clause-objects : goal.attempt_loaded-requires-clause-objects
 attempt_loaded-requires-clause-objects c =
-    objects-linked c.args.originals.now.setup.world.program c.args.parts.now.shared c.args.originals.now.loaded c.requires.fit.fit c.requires.sound.shared c.requires.linked
+    objects-linked c.args.originals.now.setup.world.program c.args.parts.now.runtime.shared c.args.originals.now.loaded c.requires.fit.fit c.requires.sound.shared c.requires.linked
 
 pub attempt_loaded-requires-clause-caller : goal.attempt_loaded-requires-clause-caller
 attempt_loaded-requires-clause-caller c =

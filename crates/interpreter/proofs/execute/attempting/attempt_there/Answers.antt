@@ -7,7 +7,7 @@ use Rattle.interpreter.proofs.execute.attempting.attempt_there.Goals as goal
 
 pub attempt_line-requires-clause-objects : goal.attempt_line-requires-clause-objects
 attempt_line-requires-clause-objects c =
-    objects-linked c.args.originals.now.setup.world.program c.args.parts.now.shared c.args.originals.now.loaded c.requires.fit.fit c.requires.sound.shared c.requires.linked
+    objects-linked c.args.originals.now.setup.world.program c.args.parts.now.runtime.shared c.args.originals.now.loaded c.requires.fit.fit c.requires.sound.shared c.requires.linked
 
 pub returns-clause-answer : goal.returns-clause-answer
 returns-clause-answer c =

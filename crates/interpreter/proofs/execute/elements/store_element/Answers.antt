@@ -5,5 +5,5 @@ use Rattle.interpreter.proofs.execute.elements.store_element.Goals as goal
 
 pub store-requires-clause-slot : goal.store-requires-clause-slot
 store-requires-clause-slot c =
-    slot-there c.args.kind c.in-Some.storing.place.array c.in-Inside.slot c.args.parts.now.shared.heap c.in-Some.storing.place.index
+    slot-there c.args.kind c.in-Some.storing.place.array c.in-Inside.slot c.args.parts.now.runtime.shared.heap c.in-Some.storing.place.index
     (sym (ap access_of c.in-Inside.is) ∙ c.led_to-led.ensures)

@@ -18,8 +18,8 @@ pass_field-requires-clause-known c = subst (λ v. IsKnown v c.args.naming.now c.
 
 pub pass_field-requires-clause-objects : goal.pass_field-requires-clause-objects
 pass_field-requires-clause-objects c =
-    subst (λ v. AreLoaded v c.args.parts.now.shared.heap) (sym c.linker-linker.ensures)
-    (objects-linked c.args.originals.now.setup.world.program c.args.parts.now.shared c.args.originals.now.loaded c.requires.run.fit c.requires.sound.shared c.requires.linked)
+    subst (λ v. AreLoaded v c.args.parts.now.runtime.shared.heap) (sym c.linker-linker.ensures)
+    (objects-linked c.args.originals.now.setup.world.program c.args.parts.now.runtime.shared c.args.originals.now.loaded c.requires.run.fit c.requires.sound.shared c.requires.linked)
 
 pub returns : goal.returns
 returns c =

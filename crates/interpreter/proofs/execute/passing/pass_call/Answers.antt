@@ -25,8 +25,8 @@ known_call-requires-clause-known c = subst (λ v. IsKnown v c.args.naming.now c.
 
 pub known_call-requires-clause-objects : goal.known_call-requires-clause-objects
 known_call-requires-clause-objects c =
-    subst (λ v. AreLoaded v c.args.parts.now.shared.heap) (sym c.linker-linker.ensures)
-    (objects-linked c.args.originals.now.setup.world.program c.args.parts.now.shared c.args.originals.now.loaded c.requires.run.fit c.requires.sound.shared c.requires.linked)
+    subst (λ v. AreLoaded v c.args.parts.now.runtime.shared.heap) (sym c.linker-linker.ensures)
+    (objects-linked c.args.originals.now.setup.world.program c.args.parts.now.runtime.shared c.args.originals.now.loaded c.requires.run.fit c.requires.sound.shared c.requires.linked)
 
 pub known_call-requires-clause-selections : goal.known_call-requires-clause-selections
 known_call-requires-clause-selections c =
@@ -35,14 +35,14 @@ known_call-requires-clause-selections c =
 pub do_native-requires-clause-stands : goal.do_native-requires-clause-stands
 do_native-requires-clause-stands c =
     (native-there (c.known_call.result) c.in-Some.invoked c.in-Native.native c.in-Some.is c.in-Native.is
-    (λ x. IsInvoked (world_over c.linker-linker.result.now []) x (done_on (attempts (world_over c.linker-linker.result.now []) c.args.naming.now c.args.parts.now.shared
-    c.args.parts.now.frames) c.args.parts.now.frames) c.args.parts.now.shared c.args.parts.now.frames.frames) (c.known_call.ensures.called [])).stands
+    (λ x. IsInvoked (world_over c.linker-linker.result.now []) x (done_on (attempts (world_over c.linker-linker.result.now []) c.args.naming.now c.args.parts.now.runtime.shared
+    c.args.parts.now.frames) c.args.parts.now.frames) c.args.parts.now.runtime.shared c.args.parts.now.frames.frames) (c.known_call.ensures.called [])).stands
 
 pub do_native-requires-clause-within : goal.do_native-requires-clause-within
 do_native-requires-clause-within c =
     (native-there (c.known_call.result) c.in-Some.invoked c.in-Native.native c.in-Some.is c.in-Native.is
-    (λ x. IsInvoked (world_over c.linker-linker.result.now []) x (done_on (attempts (world_over c.linker-linker.result.now []) c.args.naming.now c.args.parts.now.shared
-    c.args.parts.now.frames) c.args.parts.now.frames) c.args.parts.now.shared c.args.parts.now.frames.frames) (c.known_call.ensures.called [])).within
+    (λ x. IsInvoked (world_over c.linker-linker.result.now []) x (done_on (attempts (world_over c.linker-linker.result.now []) c.args.naming.now c.args.parts.now.runtime.shared
+    c.args.parts.now.frames) c.args.parts.now.frames) c.args.parts.now.runtime.shared c.args.parts.now.frames.frames) (c.known_call.ensures.called [])).within
 
 pub returns-in-Code : goal.returns-in-Code
 returns-in-Code c =

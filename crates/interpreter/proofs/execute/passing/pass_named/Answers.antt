@@ -10,12 +10,12 @@ use Rattle.interpreter.proofs.execute.passing.pass_named.Goals as goal
 
 pub pass_call-requires-clause-known : goal.pass_call-requires-clause-known
 pass_call-requires-clause-known c =
-    held-there (line_at c.args.originals.now.setup.versions c.args.here.version c.args.here.place) c.args.line.now c.args.naming.now c.requires.line c.requires.named
+    held-there (line_at c.args.originals.now.versions c.args.here.version c.args.here.place) c.args.line.now c.args.naming.now c.requires.line c.requires.named
     (λ n next. IsKnown (linker_in c.args.originals.now) n c.in-Some.known.now) c.in-Some.ensures
 
 pub pass_access-requires-clause-known : goal.pass_access-requires-clause-known
 pass_access-requires-clause-known c =
-    held-there (line_at c.args.originals.now.setup.versions c.args.here.version c.args.here.place) c.args.line.now c.args.naming.now c.requires.line c.requires.named
+    held-there (line_at c.args.originals.now.versions c.args.here.version c.args.here.place) c.args.line.now c.args.naming.now c.requires.line c.requires.named
     (λ n next. IsKnown (linker_in c.args.originals.now) n c.in-Some.known.now) c.in-Some.ensures
 
 pub returns-in_default : goal.returns-in_default

@@ -29,5 +29,5 @@ returns c =
     caught-passes w c.requires.run c.args.initializing.now c.args.here c.args.line.now p c.requires.here c.requires.line c.requires.throws c.requires.at_instruction
     r c.in-Some-caught_below.target c.catch_below.result c.catch_below.new.frames
     (subst (λ class. CatchesBelow w c.args.initializing.now c.args.here p.frames.frames class c.in-Some-caught_below.target)
-    (c.class_of-class.ensures ∙ ap (λ (p : Program). option_map_or (class_of_kind p) (kind_at c.in-Some.object c.args.parts.now.shared.heap) 0) c.program.ensures.program) found)
+    (c.class_of-class.ensures ∙ ap (λ (p : Program). option_map_or (class_of_kind p) (kind_at c.in-Some.object c.args.parts.now.runtime.shared.heap) 0) c.program.ensures.program) found)
     thrown c.catch_below.ensures.fits c.catch_below.ensures.frames

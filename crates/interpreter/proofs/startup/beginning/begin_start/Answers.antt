@@ -13,5 +13,5 @@ returns-then-arguments_fit-clause-loads c =
 
 pub returns-clause-loads : goal.returns-clause-loads
 returns-clause-loads c =
-    begun-none c.args.originals.now.setup c.args.parts.now.shared.loaded
+    begun-none c.args.originals.now.setup c.args.parts.now.runtime.shared.loaded
     (sym (ap arguments_fit c.program.ensures.program) ∙ (sym c.arguments_fit.ensures ∙ c.if-arguments_fit.false))

@@ -9,7 +9,7 @@ use Rattle.interpreter.proofs.startup.beginning.load_main.Goals as goal
 
 pub make_arguments-requires-clause-room : goal.make_arguments-requires-clause-room
 make_arguments-requires-clause-room c =
-    subst (λ (p : Program). c.args.parts.now.shared.heap.used + arguments_cost p.args ≤ c.args.parts.now.shared.heap.limit) (sym c.program.ensures.program)
+    subst (λ (p : Program). c.args.parts.now.runtime.shared.heap.used + arguments_cost p.args ≤ c.args.parts.now.runtime.shared.heap.limit) (sym c.program.ensures.program)
     (fits-room c.args.originals.now.setup (state_of c.args.initializing.now c.args.parts.now) c.requires.at_start.before c.requires.fits)
 
 pub load_main-requires-clause-root : goal.load_main-requires-clause-root
@@ -21,4 +21,4 @@ returns-clause-state c =
     begins-all c.begin_class.result c.args.originals.now.setup c.load_main.new.self.setup c.main_class-class.result (state_of c.args.initializing.now c.args.parts.now)
     (state_of c.begin_class.new.initializing c.begin_class.new.parts) (found_view c.in_ok-found.found) c.make_arguments.new.heap c.args.originals.now.loaded c.load_main.new.loaded
     c.in_ok-found.ensures.world (c.main_class-class.ensures ∙ ap main_class c.program-2.ensures.program) c.requires.linked
-    (c.in_ok-make_arguments.ensures ∙ ap (λ (p : Program). with_arguments p c.args.parts.now.shared.heap) c.program.ensures.program) c.in_ok-found.ensures.loaded c.requires.at_start.before c.in_ok-found.ensures.found c.begin_class.ensures.state
+    (c.in_ok-make_arguments.ensures ∙ ap (λ (p : Program). with_arguments p c.args.parts.now.runtime.shared.heap) c.program.ensures.program) c.in_ok-found.ensures.loaded c.requires.at_start.before c.in_ok-found.ensures.found c.begin_class.ensures.state

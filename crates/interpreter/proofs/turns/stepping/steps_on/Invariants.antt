@@ -7,7 +7,7 @@ use Rattle.interpreter.proofs.turns.stepping.steps_on.Given as goal
 pub record Loops (l : goal.Live-loop-made) : Type 0 where
   pub within : l.made ≤ l.most
   pub world : l.originals.setup ≡ l.fn.originals.setup
-  pub linked : l.originals.loaded ≡ l.parts.shared.loaded
+  pub linked : l.originals.loaded ≡ l.parts.runtime.shared.loaded
   pub leads : Leads l.fn.originals.setup (state_of l.fn.initializing l.fn.parts) l.made (state_of l.initializing l.parts)
 
 abbrev pub invariant-loop-made : goal.invariant-loop-made

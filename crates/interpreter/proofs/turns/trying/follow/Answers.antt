@@ -23,4 +23,4 @@ returns-clause-loaded c =
     let w = c.args.originals.now.setup in
     let s = state_of c.args.initializing.now c.args.parts.now in
     left-loaded c.pause.result (state_of c.pause.new.initializing c.pause.new.parts) c.pause.new.passed (paused_in w c.in_ok-passed.field-0 s) s.shared.loaded
-    c.pause.ensures (paused-loaded w (listing_of w.versions) (mark_of c.args.originals.now.setup.versions) c.in_ok-passed.field-0 s)
+    c.pause.ensures (paused-loaded w (listing_of w.versions) (mark_of c.args.originals.now.versions) c.in_ok-passed.field-0 s)

@@ -15,5 +15,5 @@ loop-smaller c =
 
 pub loop-preserved : goal.loop-preserved
 loop-preserved c =
-    ap (λ (s : State). (turn_settled c.args.originals.now.setup.world (listing_of c.args.originals.now.setup.versions) (still s)).after) c.in_ok-make_move.ensures.state
+    ap (λ (s : State). (turn_settled c.args.originals.now.setup.world (listing_of c.args.originals.now.versions) (still s)).after) c.in_ok-make_move.ensures.state
     ∙ moved_on c.args.originals.now.setup (state_of c.loop.initializing c.loop.parts) ∙ c.loop.invariant
