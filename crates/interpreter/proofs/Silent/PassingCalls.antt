@@ -58,7 +58,8 @@ use Rattle.interpreter.proofs.Instructions.Callees.{live-is, same-length}
 use Rattle.interpreter.proofs.Silent.Leading.{leads-one}
 use Rattle.interpreter.proofs.Moves.LineSteps.{top-frame}
 use Rattle.prepared_code.proofs.InitializingStacks.{live-stack, none-more}
-use Rattle.interpreter.proofs.Instructions.NamedLaws.{Asks, Takes, is-named}
+use Rattle.interpreter.specs.Instructions.Asked.{Takes}
+use Rattle.interpreter.proofs.Instructions.NamedLaws.{Asks, is-named}
 use Rattle.interpreter.proofs.Silent.PassingSteps.{follows, is-attempt, is-awaited, is-step, reached, step-turn, under}
 use Rattle.interpreter.proofs.Silent.PlainSteps.{at-rest, framed}
 use Rattle.interpreter.proofs.Silent.QuietLines.{with-frame-rests}

@@ -1,13 +1,15 @@
 //! What follows from what an instruction asks for (JVM Specification 2.6, 2.10, 5.5, 6.5).
 
-ghost use Rattle.std.specs.Prelude.{◌≡◌, IfOk, OnOk};
-ghost use Rattle.std.specs.Option.{option_map};
+ghost use Rattle.std.specs.Prelude.{◌≡◌, IfNone, IfOk, OnOk};
+ghost use Rattle.std.specs.Option.{IfSome};
 ghost use Rattle.frame_stack.specs.FrameLists.{top_operands};
 ghost use Rattle.jvm_model.specs.Running.Run.{starts};
 ghost use Rattle.jvm_model.specs.Instructions.Exceptions.{exception_name};
 ghost use Rattle.symbolic_references.specs.Outcomes.{HasOperands, asked};
-ghost use Rattle.interpreter.specs.Instructions.Acts.{Becomes, IsTop, acts_asked, raised_in};
+ghost use Rattle.interpreter.specs.Instructions.Acts.{IsTop, acts_asked, on_parts, raised_in};
+ghost use Rattle.interpreter.specs.Instructions.Asked.{TakesArguments};
 ghost use Rattle.prepared_code.specs.Linked.{setup_in};
+ghost use Rattle.prepared_code.specs.States.{state_in};
 
 use crate::execute::invoking::call;
 use crate::unwind::raising::{break_off, raise, raise_with};
@@ -43,9 +45,13 @@ pub fn conclude(
 ) -> Result<Option<u32>, NoMemory>
     requires top { IsTop method parts.old.frames.frames }
     requires enough { HasOperands outcome (top_operands parts.old.frames.frames) }
+    requires takes { let f = parts.old.frames in
+        TakesArguments (asked outcome f) (top_operands f.frames) }
     ensures answer { IfOk result (λ o. o ≡ starts (asked outcome parts.old.frames)) }
-    ensures state { let w = setup_in parts.old.runtime originals.now in Becomes result parts.new
-        (λ s f. acts_asked w line.now s f (asked outcome parts.old.frames)) parts.old }
+    ensures state { let w = setup_in parts.old.runtime originals.now in IfOk result (λ o. IfNone o
+        (state_in parts.new ≡ on_parts
+        (λ s f. acts_asked w line.now s f (asked outcome parts.old.frames)) parts.old)) }
+    ensures begins { IfOk result (λ o. IfSome o (λ _. parts.new ≡ parts.old)) }
     ensures world { parts.new.runtime.world ≡ parts.old.runtime.world }
     ensures same_loaded { parts.new.runtime.shared.loaded ≡ parts.old.runtime.shared.loaded }
 {

@@ -288,7 +288,8 @@ fn attempt_name(
         break_off(parts, here.method, 0);
         return Ok(None);
     };
-    let Some(class) = conclude(originals, parts, here.method, line, outcome)? else {
+    let awaited = conclude(originals, parts, here.method, line, outcome)?;
+    let Some(class) = awaited else {
         return Ok(None);
     };
     initialize(parts, initializing, class)?;
@@ -405,7 +406,8 @@ fn attempt_name_loaded(
         break_off(parts, here.method, 0);
         return Ok(Some(None));
     };
-    let Some(class) = conclude(originals, parts, here.method, line, outcome)? else {
+    let awaited = conclude(originals, parts, here.method, line, outcome)?;
+    let Some(class) = awaited else {
         return Ok(Some(None));
     };
     initialize(parts, initializing, class)?;
