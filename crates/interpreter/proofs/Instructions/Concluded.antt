@@ -4,7 +4,7 @@ use Rattle.std.specs.Prelude.{ℤ}
 use Rattle.std.proofs.lemmas.Option.{none-some}
 use Rattle.heap_objects.specs.declared.datum.Datum.{Datum}
 use Rattle.frame_stack.specs.Widths.{height_of}
-use Rattle.frame_stack.specs.FrameLists.{PlacedFrame}
+use Rattle.frame_stack.specs.FrameLists.{PlacedFrame, top_operands}
 use Rattle.jvm_basic.specs.Outcomes.{can_hold, top_locals, with_top}
 use Rattle.jvm_model.specs.declared.state.State.{State}
 use Rattle.jvm_model.specs.Basis.Data.{Locals, Operands, Next, Outcome, GoesOn, Invokes, Throws, Raises, Exits, Breaks}
@@ -64,12 +64,12 @@ module _ (w : Setup) (line : Line) (method : ℕ) (p : Parts) where
 
   -- a method is invoked with so many arguments
   pub invokes-is : (callee count : ℕ) (args : List Datum) (below : Operands) (all : List PlacedFrame) → IsTop method all → length args ≡ count
-      → ((f : PlacedFrame) (fs : List PlacedFrame) → all ≡ f ∷ fs → Takes f.operands args below)
+      → Takes (top_operands all) args below
       → method_called w method line.instr.at callee count all p (may_begin all) (can_begin w.world callee count all) ≡ applied (Invokes callee args below) all
   invokes-is callee count args below [] top many takes = absurd top
   invokes-is callee count args below (f ∷ fs) top many takes =
       ap (λ n. method_called w method line.instr.at callee n (f ∷ fs) p (may_begin (f ∷ fs)) (can_begin w.world callee n (f ∷ fs))) (sym many)
-      ∙ sym (calls-is w line callee p f fs method args below top (takes f fs refl))
+      ∙ sym (calls-is w line callee p f fs method args below top takes)
 
 -- ---- what was given starts no initialization, or that alone
 

@@ -8,10 +8,9 @@ use Rattle.jvm_model.specs.declared.state.State.{State}
 use Rattle.jvm_model.specs.declared.instruction.SymbolicReference.{SymbolicReference}
 use Rattle.jvm_model.specs.Basis.Data.{Done, Initializes, Outcome, World}
 use Rattle.jvm_model.specs.Running.Run.{starts}
-use Rattle.symbolic_references.specs.declared.outcome.Outcome.{Outcome as Given}
 use Rattle.symbolic_references.specs.Answers.{done_on}
 use Rattle.symbolic_references.specs.Attempts.{attempts, shared_loaded}
-use Rattle.symbolic_references.specs.Outcomes.{asked, ruled}
+use Rattle.symbolic_references.specs.Outcomes.{ruled}
 use Rattle.symbolic_references.specs.Runtimes.{RuntimeView, after}
 use Rattle.prepared_code.specs.declared.line.Action.{Action}
 use Rattle.prepared_code.specs.declared.line.Action.TheVariants as action
@@ -31,7 +30,6 @@ use Rattle.prepared_code.specs.Versions.{Setup, line_at, listing_of}
 use Rattle.prepared_code.proofs.InitializingStacks.{length-active}
 use Rattle.interpreter.proofs.Initializing.Beneath.{does-there}
 use Rattle.interpreter.proofs.Initializing.Carried.{applies-carried}
-use Rattle.interpreter.proofs.Instructions.Concluded.{stays-given}
 use Rattle.interpreter.proofs.Instructions.LineActs.{starts-some, stays}
 use Rattle.interpreter.proofs.Instructions.NamedLaws.{asks-takes, is-named}
 use Rattle.interpreter.proofs.Moves.LineSteps.{top-frame}
@@ -85,8 +83,8 @@ held lo names Holds if_named =
 
 module _ (w : Setup) (ms : List Initialization) (here : Here) (line : Line) (p : Parts) (found : line_at w.versions here.version here.place ≡ Some line)
     (is : named_in (line_at w.versions here.version here.place) ≡ true) (at : here_of p.frames.frames ≡ Some here)
-    (none : initialization_on (length p.frames.frames) ms ≡ None) (a : Given) (left : RuntimeView)
-    (answers : IfNamed (line_at w.versions here.version here.place) (λ n next. asked a p.frames ≡ ruled (attempts w.world n p.runtime.shared p.frames) p.frames))
+    (none : initialization_on (length p.frames.frames) ms ≡ None) (q : Outcome) (left : RuntimeView)
+    (answers : IfNamed (line_at w.versions here.version here.place) (λ n next. q ≡ ruled (attempts w.world n p.runtime.shared p.frames) p.frames))
     (leaves : IfNamed (line_at w.versions here.version here.place) (λ n next. left ≡ after (done_on (attempts w.world n p.runtime.shared p.frames) p.frames) p.runtime)) where
   by_name : (n : SymbolicReference) × (line.action ≡ action.Named n)
   by_name = names-by line.action (sym (ap named_in found) ∙ is)
@@ -104,9 +102,9 @@ module _ (w : Setup) (ms : List Initialization) (here : Here) (line : Line) (p :
   abbrev mid : Parts
   mid = record p { runtime = left }
 
-  answer-is : asked a p.frames ≡ (done_top w n p.runtime.shared p.frames.frames).outcome
+  answer-is : q ≡ (done_top w n p.runtime.shared p.frames.frames).outcome
   answer-is =
-      held (line_at w.versions here.version here.place) names (λ n next. asked a p.frames ≡ ruled (attempts w.world n p.runtime.shared p.frames) p.frames) answers
+      held (line_at w.versions here.version here.place) names (λ n next. q ≡ ruled (attempts w.world n p.runtime.shared p.frames) p.frames) answers
 
   abbrev reached : List PlacedFrame → Parts
   reached all = record p { runtime = after (done_top w n p.runtime.shared all) p.runtime }
@@ -117,33 +115,33 @@ module _ (w : Setup) (ms : List Initialization) (here : Here) (line : Line) (p :
       (held (line_at w.versions here.version here.place) names (λ n next. left ≡ after (done_on (attempts w.world n p.runtime.shared p.frames) p.frames) p.runtime) leaves)
 
   -- the arguments of a method that it invokes
-  pub takes-there : TakesArguments (asked a p.frames) (top_operands p.frames.frames)
+  pub takes-there : TakesArguments q (top_operands p.frames.frames)
   takes-there =
       let l = top_locals p.frames.frames in
       let o = top_operands p.frames.frames in
       let d : Done = done_top w n p.runtime.shared p.frames.frames in
       let law = is-named (shared_loaded w.world.program n p.runtime.shared p.frames) o w n l in
-      subst (λ (q : Outcome). TakesArguments q o) (sym answer-is) (asks-takes d.shared o d.outcome law.asks)
+      subst (λ (x : Outcome). TakesArguments x o) (sym answer-is) (asks-takes d.shared o d.outcome law.asks)
 
   -- beneath the initializations
-  carried-by : (q : Outcome) (all : List PlacedFrame) → q ≡ (done_top w n p.runtime.shared all).outcome → stays q ≡ true → here_of all ≡ Some here
+  carried-by : (x : Outcome) (all : List PlacedFrame) → x ≡ (done_top w n p.runtime.shared all).outcome → stays x ≡ true → here_of all ≡ Some here
       → initialization_on (length all) ms ≡ None
-      → with_initializations ms (on_top (λ s f. acts_asked w line s f q) (reached all) all) ≡ becomes_beneath ms (acts w line) p all
-  carried-by q [] told kept is free = absurd (none-some here is)
-  carried-by q (f ∷ fs) told kept is free =
+      → with_initializations ms (on_top (λ s f. acts_asked w line s f x) (reached all) all) ≡ becomes_beneath ms (acts w line) p all
+  carried-by x [] told kept is free = absurd (none-some here is)
+  carried-by x (f ∷ fs) told kept is free =
       let mid : Parts = reached (f ∷ fs) in
-      applies-carried ms w (listing_of w.versions) (placed_line line) q kept (state_with fs mid) (frame_in f)
+      applies-carried ms w (listing_of w.versions) (placed_line line) x kept (state_with fs mid) (frame_in f)
       (ap (λ k. initialization_on (suc k) ms) (length-active fs) ∙ free)
       ∙ (ap (acts_asked w line (with_initializations ms (state_with fs mid)) (frame_in f)) told
       ∙ sym (ap (acts_by w line (with_initializations ms (state_with fs p)) (frame_in f)) names.named))
 
-  pub goes-on : (o : Option ℕ) (v : Setup) (new : Parts) → v ≡ w → o ≡ starts (asked a p.frames) → o ≡ None
-      → state_in new ≡ on_parts (λ s f. acts_asked v line s f (asked a p.frames)) mid → state_of ms new ≡ attempts_on w s s.stack
-  goes-on o v new same told quiet made =
+  pub goes-on : (v : Setup) (new : Parts) → v ≡ w → stays q ≡ true
+      → state_in new ≡ on_parts (λ s f. acts_asked v line s f q) mid → state_of ms new ≡ attempts_on w s s.stack
+  goes-on v new same kept made =
       ap (with_initializations ms)
-      (subst (λ (u : Setup). state_in new ≡ on_parts (λ s f. acts_asked u line s f (asked a p.frames)) mid) same made
-      ∙ ap (λ (m : Parts). on_parts (λ s f. acts_asked w line s f (asked a p.frames)) m) mid-is)
-      ∙ (carried-by (asked a p.frames) p.frames.frames answer-is (stays-given a (top_locals p.frames.frames) (top_operands p.frames.frames) (sym told ∙ quiet)) at none
+      (subst (λ (u : Setup). state_in new ≡ on_parts (λ s f. acts_asked u line s f q) mid) same made
+      ∙ ap (λ (m : Parts). on_parts (λ s f. acts_asked w line s f q) m) mid-is)
+      ∙ (carried-by q p.frames.frames answer-is kept at none
       ∙ does-there w ms p line here at none found)
 
   begins-by : (c : ℕ) (all : List PlacedFrame) → (done_top w n p.runtime.shared all).outcome ≡ Initializes c → here_of all ≡ Some here
@@ -155,11 +153,11 @@ module _ (w : Setup) (ms : List Initialization) (here : Here) (line : Line) (p :
       ∙ (sym (ap (acts_asked w line (with_initializations ms (state_with fs mid)) (frame_in f)) asks)
       ∙ sym (ap (acts_by w line (with_initializations ms (state_with fs p)) (frame_in f)) names.named))
 
-  pub begins-on : (o : Option ℕ) (c : ℕ) (new : Parts) → o ≡ starts (asked a p.frames) → o ≡ Some c → new ≡ mid
+  pub begins-on : (o : Option ℕ) (c : ℕ) (new : Parts) → o ≡ starts q → o ≡ Some c → new ≡ mid
       → begins_class c (state_of ms new) ≡ attempts_on w s s.stack
   begins-on o c new told some same =
       ap (λ (m : Parts). begins_class c (state_of ms m)) (same ∙ mid-is)
-      ∙ (begins-by c p.frames.frames (sym answer-is ∙ starts-some (asked a p.frames) c (sym told ∙ some)) at none
+      ∙ (begins-by c p.frames.frames (sym answer-is ∙ starts-some q c (sym told ∙ some)) at none
       ∙ does-there w ms p line here at none found)
 
   -- the class that it awaits
@@ -174,5 +172,5 @@ module _ (w : Setup) (ms : List Initialization) (here : Here) (line : Line) (p :
       ∙ (ap (awaited_by w under (frame_in f)) found
       ∙ ap (class_awaited w under (frame_in f)) names.named))
 
-  pub awaits-told : (o : Option ℕ) → o ≡ starts (asked a p.frames) → o ≡ awaited_in w s
+  pub awaits-told : (o : Option ℕ) → o ≡ starts q → o ≡ awaited_in w s
   awaits-told o told = told ∙ (ap starts answer-is ∙ sym (awaits-by p.frames.frames at none))

@@ -12,13 +12,13 @@ ghost use Rattle.jvm_model.specs.Basis.Values.{as_value};
 ghost use Rattle.jvm_model.specs.Rewriting.Images.{is_off};
 ghost use Rattle.jvm_model.specs.declared.due.Due.TheVariants as due;
 ghost use Rattle.symbolic_references.specs.Known.{IsKnown};
-ghost use Rattle.symbolic_references.specs.Passing.{IfRan, runs_native_call};
+ghost use Rattle.symbolic_references.specs.Passing.{runs_native_call};
 ghost use Rattle.prepared_code.specs.declared.line.Action.TheVariants as action;
 ghost use Rattle.interpreter.specs.Instructions.Arguments.{can_begin, with_begun};
 ghost use Rattle.interpreter.specs.Instructions.Invoking.{may_begin};
 ghost use Rattle.prepared_code.specs.Initializations.{state_of};
 ghost use Rattle.interpreter.specs.Instructions.Passing.{Passes, is_method, on_frames};
-ghost use Rattle.interpreter.specs.Instructions.Passing.{changed_in, steps_if, with_changed};
+ghost use Rattle.interpreter.specs.Instructions.Passing.{steps_if};
 ghost use Rattle.prepared_code.specs.Ready.{CanRun, IsSoundIn};
 ghost use Rattle.prepared_code.specs.Runs.{IsAtInstruction};
 ghost use Rattle.prepared_code.specs.States.{here_of};
@@ -203,8 +203,8 @@ pub fn goes_back(
     frames: &Frames,
     initializing: &Stack<Initialization>,
 ) -> Option<u16>
-    ensures { let w = setup_in runtime.now originals.now in
-        IfSome result (λ next. GoesBack w initializing.now frames.now.frames next) }
+    ensures { IfSome result (λ next.
+        GoesBack originals.now.versions initializing.now frames.now.frames next) }
 {
     let depth = frames.depth();
     if depth < 2 {

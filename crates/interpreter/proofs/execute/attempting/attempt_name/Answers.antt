@@ -1,9 +1,13 @@
 use Rattle.std.proofs.Common.{◌≡◌, None, Some, sym, ap, subst, ◌∙◌}
 use Rattle.std.specs.Prelude.{IfNone, is_some}
 use Rattle.std.specs.Option.{IfSome}
+use Rattle.frame_stack.specs.FrameLists.{top_operands}
+use Rattle.jvm_basic.specs.Outcomes.{top_locals}
+use Rattle.symbolic_references.specs.Outcomes.{asked}
 use Rattle.prepared_code.specs.Linked.{setup_in}
 use Rattle.prepared_code.specs.Tables.{Versions}
 use Rattle.prepared_code.specs.Versions.{line_at}
+use Rattle.interpreter.proofs.Instructions.Concluded.{stays-given}
 use Rattle.interpreter.proofs.Instructions.NamedAttempts.{awaits-told, begins-on, goes-on, linked-kept, same-setup, takes-there}
 use Rattle.interpreter.proofs.Moves.Sounded.{caller-linked}
 use Rattle.interpreter.proofs.execute.attempting.attempt_name.Goals as goal
@@ -17,20 +21,21 @@ attempt_named-requires-clause-caller c =
 pub conclude-requires-clause-takes : goal.conclude-requires-clause-takes
 conclude-requires-clause-takes c =
     takes-there (setup_in c.args.parts.now.runtime c.args.originals.now) c.args.initializing.now c.args.here c.in-Some.line.now c.args.parts.now (subst (λ (v : Versions). line_at v c.args.here.version c.args.here.place ≡ Some c.in-Some.line.now) c.in_ok-outcome.ensures.versions c.in-Some.ensures.line)
-    c.requires.named c.requires.here c.requires.executing c.in_ok-outcome.outcome c.attempt_named.new.runtime (c.in_ok-outcome.ensures.answer) (c.in_ok-outcome.ensures.runtime)
+    c.requires.named c.requires.here c.requires.executing (asked c.in_ok-outcome.outcome c.args.parts.now.frames) c.attempt_named.new.runtime (c.in_ok-outcome.ensures.answer) (c.in_ok-outcome.ensures.runtime)
 
 pub returns-in_default-awaited-clause-state : goal.returns-in_default-awaited-clause-state
 returns-in_default-awaited-clause-state c =
     goes-on (setup_in c.args.parts.now.runtime c.args.originals.now) c.args.initializing.now c.args.here c.in-Some.line.now c.args.parts.now (subst (λ (v : Versions). line_at v c.args.here.version c.args.here.place ≡ Some c.in-Some.line.now) c.in_ok-outcome.ensures.versions c.in-Some.ensures.line)
-    c.requires.named c.requires.here c.requires.executing c.in_ok-outcome.outcome c.attempt_named.new.runtime (c.in_ok-outcome.ensures.answer) (c.in_ok-outcome.ensures.runtime)
-    c.in_ok-awaited.awaited _ c.conclude.new.parts (same-setup c.args.parts.now.runtime c.attempt_named.new.runtime c.args.originals.now c.attempt_named.new.self c.in_ok-outcome.ensures.world c.in_ok-outcome.ensures.versions) c.in_ok-awaited.ensures.answer c.in_default-awaited.is
+    c.requires.named c.requires.here c.requires.executing (asked c.in_ok-outcome.outcome c.args.parts.now.frames) c.attempt_named.new.runtime (c.in_ok-outcome.ensures.answer) (c.in_ok-outcome.ensures.runtime)
+    _ c.conclude.new.parts (same-setup c.args.parts.now.runtime c.attempt_named.new.runtime c.args.originals.now c.attempt_named.new.self c.in_ok-outcome.ensures.world c.in_ok-outcome.ensures.versions)
+    (stays-given c.in_ok-outcome.outcome (top_locals c.args.parts.now.frames.frames) (top_operands c.args.parts.now.frames.frames) (sym c.in_ok-awaited.ensures.answer ∙ c.in_default-awaited.is))
     (subst (λ o. IfNone o _) c.in_default-awaited.is c.in_ok-awaited.ensures.state)
 
 pub returns-in_default-awaited-clause-answer : goal.returns-in_default-awaited-clause-answer
 returns-in_default-awaited-clause-answer c =
     sym c.in_default-awaited.is
     ∙ awaits-told (setup_in c.args.parts.now.runtime c.args.originals.now) c.args.initializing.now c.args.here c.in-Some.line.now c.args.parts.now (subst (λ (v : Versions). line_at v c.args.here.version c.args.here.place ≡ Some c.in-Some.line.now) c.in_ok-outcome.ensures.versions c.in-Some.ensures.line)
-    c.requires.named c.requires.here c.requires.executing c.in_ok-outcome.outcome c.attempt_named.new.runtime (c.in_ok-outcome.ensures.answer) (c.in_ok-outcome.ensures.runtime)
+    c.requires.named c.requires.here c.requires.executing (asked c.in_ok-outcome.outcome c.args.parts.now.frames) c.attempt_named.new.runtime (c.in_ok-outcome.ensures.answer) (c.in_ok-outcome.ensures.runtime)
     c.in_ok-awaited.awaited c.in_ok-awaited.ensures.answer
 
 pub returns-in_default-awaited-clause-linked : goal.returns-in_default-awaited-clause-linked
@@ -41,7 +46,7 @@ pub returns-clause-state : goal.returns-clause-state
 returns-clause-state c =
     c.in_ok-initialize.ensures.state
     ∙ begins-on (setup_in c.args.parts.now.runtime c.args.originals.now) c.args.initializing.now c.args.here c.in-Some.line.now c.args.parts.now (subst (λ (v : Versions). line_at v c.args.here.version c.args.here.place ≡ Some c.in-Some.line.now) c.in_ok-outcome.ensures.versions c.in-Some.ensures.line)
-    c.requires.named c.requires.here c.requires.executing c.in_ok-outcome.outcome c.attempt_named.new.runtime (c.in_ok-outcome.ensures.answer) (c.in_ok-outcome.ensures.runtime)
+    c.requires.named c.requires.here c.requires.executing (asked c.in_ok-outcome.outcome c.args.parts.now.frames) c.attempt_named.new.runtime (c.in_ok-outcome.ensures.answer) (c.in_ok-outcome.ensures.runtime)
     c.in_ok-awaited.awaited c.in-Some-awaited.class c.conclude.new.parts c.in_ok-awaited.ensures.answer c.in-Some-awaited.is
     (subst (λ o. IfSome o (λ _. c.conclude.new.parts ≡ _)) c.in-Some-awaited.is c.in_ok-awaited.ensures.begins)
 
@@ -49,7 +54,7 @@ pub returns-clause-answer : goal.returns-clause-answer
 returns-clause-answer c =
     sym c.in-Some-awaited.is
     ∙ awaits-told (setup_in c.args.parts.now.runtime c.args.originals.now) c.args.initializing.now c.args.here c.in-Some.line.now c.args.parts.now (subst (λ (v : Versions). line_at v c.args.here.version c.args.here.place ≡ Some c.in-Some.line.now) c.in_ok-outcome.ensures.versions c.in-Some.ensures.line)
-    c.requires.named c.requires.here c.requires.executing c.in_ok-outcome.outcome c.attempt_named.new.runtime (c.in_ok-outcome.ensures.answer) (c.in_ok-outcome.ensures.runtime)
+    c.requires.named c.requires.here c.requires.executing (asked c.in_ok-outcome.outcome c.args.parts.now.frames) c.attempt_named.new.runtime (c.in_ok-outcome.ensures.answer) (c.in_ok-outcome.ensures.runtime)
     c.in_ok-awaited.awaited c.in_ok-awaited.ensures.answer
 
 pub returns-clause-linked : goal.returns-clause-linked

@@ -6,7 +6,7 @@ use Rattle.interpreter.proofs.execute.passing.goes_back.Goals as goal
 
 pub returns : goal.returns
 returns c =
-    let w = c.args.originals.now.setup in
+    let w = c.args.originals.now.versions in
     let ms = c.args.initializing.now in
     let fs = c.args.frames.now.frames in
     goes-there w ms fs c.in-Some-line.line.now c.next_in.result c.next_in.ensures

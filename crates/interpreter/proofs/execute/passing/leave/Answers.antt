@@ -5,23 +5,24 @@ use Rattle.jvm_model.specs.Basis.Data.{Returns}
 use Rattle.jvm_model.specs.Instructions.LocalRules.{returns as gives}
 use Rattle.prepared_code.specs.Versions.{mark_of}
 use Rattle.interpreter.specs.Moves.Calmly.{GoesBack}
+use Rattle.prepared_code.specs.Linked.{setup_in}
 use Rattle.interpreter.proofs.Silent.GoingOnward.{off-by}
 use Rattle.interpreter.proofs.Silent.ReturnLemmas.{gives-passes, gives-tries}
 use Rattle.interpreter.proofs.Silent.SilentSteps.{passes_none}
 use Rattle.interpreter.proofs.execute.passing.leave.Goals as goal
 
 pub returns-then-not-is_current-clause-silent : goal.returns-then-not-is_current-clause-silent
-returns-then-not-is_current-clause-silent c = λ off. passes_none c.args.originals.now.setup c.args.initializing.now c.args.parts.now c.requires.at_instruction
+returns-then-not-is_current-clause-silent c = λ off. passes_none (setup_in c.args.parts.now.runtime c.args.originals.now) c.args.initializing.now c.args.parts.now c.requires.at_instruction
 
 pub returns-in_default-clause-silent : goal.returns-in_default-clause-silent
-returns-in_default-clause-silent c = λ off. passes_none c.args.originals.now.setup c.args.initializing.now c.args.parts.now c.requires.at_instruction
+returns-in_default-clause-silent c = λ off. passes_none (setup_in c.args.parts.now.runtime c.args.originals.now) c.args.initializing.now c.args.parts.now c.requires.at_instruction
 
 pub returns-in_default-result_of-clause-silent : goal.returns-in_default-result_of-clause-silent
-returns-in_default-result_of-clause-silent c = λ off. passes_none c.args.originals.now.setup c.args.initializing.now c.args.parts.now c.requires.at_instruction
+returns-in_default-result_of-clause-silent c = λ off. passes_none (setup_in c.args.parts.now.runtime c.args.originals.now) c.args.initializing.now c.args.parts.now c.requires.at_instruction
 
 pub returns-clause-delivered : goal.returns-clause-delivered
 returns-clause-delivered c =
-    let w = c.args.originals.now.setup in
+    let w = setup_in c.args.parts.now.runtime c.args.originals.now in
     let p = c.args.parts.now in
     gives-tries w c.requires.run c.args.initializing.now c.args.here c.args.line.now c.args.kind p c.requires.here c.requires.line c.requires.ends c.requires.at_instruction
     c.in-Some-result_of.datum c.in-Some.next c.value_given.result c.give_back.new.self c.recall.ensures (c.is_current.ensures c.if-not-is_current.false)
@@ -32,7 +33,7 @@ returns-clause-delivered c =
 
 pub returns-clause-silent : goal.returns-clause-silent
 returns-clause-silent c = λ off.
-    let w = c.args.originals.now.setup in
+    let w = setup_in c.args.parts.now.runtime c.args.originals.now in
     let p = c.args.parts.now in
     gives-passes w c.requires.run c.args.initializing.now c.args.here c.args.line.now c.args.kind p c.requires.here c.requires.line c.requires.ends c.requires.at_instruction
     c.in-Some-result_of.datum c.in-Some.next c.value_given.result c.give_back.new.self c.recall.ensures (c.is_current.ensures c.if-not-is_current.false)

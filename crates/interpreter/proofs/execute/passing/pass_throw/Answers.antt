@@ -9,19 +9,20 @@ use Rattle.heap_objects.specs.Heaps.{kind_at}
 use Rattle.std.specs.Option.{option_map_or}
 use Rattle.jvm_model.specs.Basis.Values.{ref_of}
 use Rattle.interpreter.specs.Instructions.Passing.{CatchesBelow}
+use Rattle.prepared_code.specs.Linked.{setup_in}
 use Rattle.interpreter.proofs.Silent.PassingThrows.{caught-passes}
 use Rattle.interpreter.proofs.Silent.SilentSteps.{passes_none}
 use Rattle.interpreter.proofs.execute.passing.pass_throw.Goals as goal
 
 pub returns-in_default : goal.returns-in_default
-returns-in_default c = passes_none c.args.originals.now.setup c.args.initializing.now c.args.parts.now c.requires.at_instruction
+returns-in_default c = passes_none (setup_in c.args.parts.now.runtime c.args.originals.now) c.args.initializing.now c.args.parts.now c.requires.at_instruction
 
 pub returns-in_default-caught_below : goal.returns-in_default-caught_below
-returns-in_default-caught_below c = passes_none c.args.originals.now.setup c.args.initializing.now c.args.parts.now c.requires.at_instruction
+returns-in_default-caught_below c = passes_none (setup_in c.args.parts.now.runtime c.args.originals.now) c.args.initializing.now c.args.parts.now c.requires.at_instruction
 
 pub returns : goal.returns
 returns c =
-    let w = c.args.originals.now.setup in
+    let w = setup_in c.args.parts.now.runtime c.args.originals.now in
     let p = c.args.parts.now in
     let r = c.in-Some.object in
     let thrown = subst (λ o. IfSome o (λ object. throws w.world p.shared (ref_of (top_operands p.frames.frames)) ≡ Throws object)) c.in-Some.is c.thrown_object.ensures in

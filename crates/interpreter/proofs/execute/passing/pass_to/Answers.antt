@@ -6,13 +6,14 @@ use Rattle.prepared_code.specs.Versions.{Setup}
 use Rattle.prepared_code.specs.Initializations.{state_of}
 use Rattle.interpreter.specs.Instructions.Passing.{Passes}
 use Rattle.interpreter.specs.Moves.Onward.{GoesOnward}
+use Rattle.prepared_code.specs.Linked.{setup_in}
 use Rattle.interpreter.proofs.Initializing.Behind.{leads-sound}
 use Rattle.interpreter.proofs.Silent.GoingOnward.{passes-still, silent-onward, told-onward}
 use Rattle.interpreter.proofs.Silent.SilentSteps.{passes-alone, passes-on, passes_none}
 use Rattle.interpreter.proofs.execute.passing.pass_to.Goals as goal
 
 pub loop-made-init : goal.loop-made-init
-loop-made-init c = (omega arith, passes_none c.args.originals.now.setup c.args.initializing.now c.args.parts.now c.requires.at_instruction)
+loop-made-init c = (omega arith, passes_none (setup_in c.args.parts.now.runtime c.args.originals.now) c.args.initializing.now c.args.parts.now c.requires.at_instruction)
 
 -- what was made before the line
 plainly : (w : Setup) (ms : List Initialization) (old mid new : Parts) (n m : ℕ) → Passes w ms old n mid → LeadsAlone w mid m new → Passes w ms old (n + m) new
@@ -21,12 +22,12 @@ plainly w ms old mid new n m first plain = passes-on w ms old mid new n m first 
 pub pass_line-requires-clause-linked : goal.pass_line-requires-clause-linked
 pass_line-requires-clause-linked c =
     c.requires.linked
-    ∙ sym (plainly c.args.originals.now.setup c.args.initializing.now c.args.parts.now c.loop-made.parts c.plain_steps-made.new.parts c.loop-made.made c.plain_steps-made.result
+    ∙ sym (plainly (setup_in c.args.parts.now.runtime c.args.originals.now) c.args.initializing.now c.args.parts.now c.loop-made.parts c.plain_steps-made.new.parts c.loop-made.made c.plain_steps-made.result
     c.loop-made.invariant.1 c.plain_steps-made.ensures.made).loaded
 
 pub pass_line-requires-clause-sound : goal.pass_line-requires-clause-sound
 pass_line-requires-clause-sound c =
-    let w = c.args.originals.now.setup in
+    let w = setup_in c.args.parts.now.runtime c.args.originals.now in
     let ms = c.args.initializing.now in
     let n = c.loop-made.made + c.plain_steps-made.result in
     leads-sound w c.requires.run (state_of ms c.args.parts.now) n (state_of ms c.plain_steps-made.new.parts)
@@ -35,13 +36,13 @@ pass_line-requires-clause-sound c =
 
 pub pass_line-requires-clause-at_instruction : goal.pass_line-requires-clause-at_instruction
 pass_line-requires-clause-at_instruction c =
-    (plainly c.args.originals.now.setup c.args.initializing.now c.args.parts.now c.loop-made.parts c.plain_steps-made.new.parts c.loop-made.made c.plain_steps-made.result
+    (plainly (setup_in c.args.parts.now.runtime c.args.originals.now) c.args.initializing.now c.args.parts.now c.loop-made.parts c.plain_steps-made.new.parts c.loop-made.made c.plain_steps-made.result
     c.loop-made.invariant.1 c.plain_steps-made.ensures.made).at_instruction
 
 -- one more is made
 pub loop-made-preserved : goal.loop-made-preserved
 loop-made-preserved c =
-    let w = c.args.originals.now.setup in
+    let w = setup_in c.args.parts.now.runtime c.args.originals.now in
     let ms = c.args.initializing.now in
     let mid = c.plain_steps-made.new.parts in
     let n = c.loop-made.made + c.plain_steps-made.result in
@@ -59,7 +60,7 @@ loop-made-preserved c =
 pub returns-then-made-most-clause-made : goal.returns-then-made-most-clause-made
 returns-then-made-most-clause-made c = record {
   between = c.plain_steps-made.new.parts;
-  passes = plainly c.args.originals.now.setup c.args.initializing.now c.args.parts.now c.loop-made.parts c.plain_steps-made.new.parts c.loop-made.made c.plain_steps-made.result
+  passes = plainly (setup_in c.args.parts.now.runtime c.args.originals.now) c.args.initializing.now c.args.parts.now c.loop-made.parts c.plain_steps-made.new.parts c.loop-made.made c.plain_steps-made.result
       c.loop-made.invariant.1 c.plain_steps-made.ensures.made;
   comes = refl;
 }
@@ -67,7 +68,7 @@ returns-then-made-most-clause-made c = record {
 -- the line is left to others
 pub returns-in_default-clause-made : goal.returns-in_default-clause-made
 returns-in_default-clause-made c =
-    let w = c.args.originals.now.setup in
+    let w = setup_in c.args.parts.now.runtime c.args.originals.now in
     let ms = c.args.initializing.now in
     let mid = c.plain_steps-made.new.parts in
     let first = plainly w ms c.args.parts.now c.loop-made.parts mid c.loop-made.made c.plain_steps-made.result c.loop-made.invariant.1 c.plain_steps-made.ensures.made in
@@ -81,7 +82,7 @@ returns-in_default-clause-made c =
 -- a probe tells of it
 pub returns-then-is_telling-clause-made : goal.returns-then-is_telling-clause-made
 returns-then-is_telling-clause-made c =
-    let w = c.args.originals.now.setup in
+    let w = setup_in c.args.parts.now.runtime c.args.originals.now in
     let ms = c.args.initializing.now in
     let mid = c.plain_steps-made.new.parts in
     let went = subst (λ o. GoesOnward w ms mid o c.pass_line.new.parts) c.in-Some.is c.pass_line.ensures in

@@ -1,5 +1,6 @@
 use Rattle.std.proofs.Common.{sym, ◌∙◌}
 use Rattle.prepared_code.specs.Initializations.{state_of}
+use Rattle.prepared_code.specs.Linked.{setup_in}
 use Rattle.interpreter.proofs.Initializing.Beneath.{not-some}
 use Rattle.interpreter.proofs.Silent.Leading.{leads-none}
 use Rattle.interpreter.proofs.Moves.LineSteps.{none-of}
@@ -7,7 +8,7 @@ use Rattle.interpreter.proofs.turns.stepping.step_plainly.Goals as goal
 use Rattle.std.proofs.Common.{length}
 
 pub returns-then-is_some-clause-made : goal.returns-then-is_some-clause-made
-returns-then-is_some-clause-made c = leads-none c.args.originals.now.setup (state_of c.args.initializing.now c.args.parts.now)
+returns-then-is_some-clause-made c = leads-none (setup_in c.args.parts.now.runtime c.args.originals.now) (state_of c.args.initializing.now c.args.parts.now)
 
 pub returns-clause-made : goal.returns-clause-made
 returns-clause-made c =

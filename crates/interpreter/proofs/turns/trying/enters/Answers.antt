@@ -9,5 +9,5 @@ pub returns-in-Some : goal.returns-in-Some
 returns-in-Some c =
     c.is_marked.ensures
     ∙ (ap (λ version. not (is_off (mark_of c.args.originals.now.versions version))) c.current.ensures
-    ∙ enters_top c.args.originals.now.setup c.args.depth c.args.frames.now.frames c.in-Some.field-0-0 c.in-Some.method (sym c.top.ensures ∙ c.in-Some.is)
+    ∙ enters_top c.args.originals.now.versions c.args.depth c.args.frames.now.frames c.in-Some.field-0-0 c.in-Some.method (sym c.top.ensures ∙ c.in-Some.is)
     (omega (arith, c.if-depth.false, c.depth.ensures)))

@@ -11,7 +11,7 @@ use Rattle.interpreter.proofs.unwind.catching.thrown_object.Goals as goal
 
 pub returns : goal.returns
 returns c =
-    let w = c.args.originals.now.setup.world in
+    let w = c.args.runtime.now.world in
     throws-so w c.args.shared.now (ref_of (top_operands c.args.frames.now.frames)) c.in-Some.object c.class_of-class.result (sym c.ref_of.ensures.found ∙ c.in-Some.is)
     c.if-object-eq0.false
     (c.class_of-class.ensures ∙ ap (λ (p : Program). option_map_or (class_of_kind p) (kind_at c.in-Some.object c.args.shared.now.heap) 0) c.program.ensures.program)
