@@ -72,7 +72,7 @@ module _ (w : Setup) (run : CanRun w) (ms : List Initialization) (old new : Part
       → length new.frames.frames ≡ suc (length old.frames.frames) → is_off (mark_of w.versions (current_of w.versions method)) ≡ false
       → TriesCalmly w ms delivered old Begins new
   begins-calmly delivered version method apart top more marked =
-      let enters = sym (enters_top w live new.frames.frames version method top (omega (arith, more))) ∙ ap not marked in
+      let enters = sym (enters_top w.versions live new.frames.frames version method top (omega (arith, more))) ∙ ap not marked in
       let counts = counts_one 0 live new.frames.frames (λ same. absurd (omega (arith, same, more))) in
       let once = tries-once w run ms old going 0 live refl none None (sym is.awaits) after is.made (pause_at after 1 Begins)
       (follows-told w live 0 ms new 1 counts enters) refl in
@@ -90,7 +90,7 @@ module _ (w : Setup) (run : CanRun w) (ms : List Initialization) (old new : Part
       (framed (length new.frames.frames) ms new.frames.frames is.at_instruction.executing refl framed_then) in
       let one : length old.frames.frames ≡ suc (length old.frames.frames - 1) = some-frame old.frames.frames has in
       let counts = counts_one 0 live new.frames.frames (λ same. absurd (omega (arith, same, fewer, one))) in
-      let enters = sym (enters_none w live new.frames.frames (omega (arith, fewer, one))) in
+      let enters = sym (enters_none w.versions live new.frames.frames (omega (arith, fewer, one))) in
       let paused : pause_at after 1 Nothing ≡ paused_in w 1 after = sym (rest-pauses w 1 after (rest-moves w (listing_of w.versions) ms new rests)) in
       record {
         loads = none;

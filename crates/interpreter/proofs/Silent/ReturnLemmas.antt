@@ -43,10 +43,10 @@ caller-there v (f ∷ g ∷ fs) version place line is found =
     let same : (g.version, g.place) ≡ (version, place) = same_Some (g.version, g.place) (version, place) is in
     ap (λ (at : ℕ × ℕ). line_at v at.0 at.1) same ∙ found
 
-pub goes-there : (w : Setup) (ms : List Initialization) (fs : List PlacedFrame) (line : Line) (o : Option ℕ) → o ≡ next_in line → caller_line w.versions fs ≡ Some line
-    → initialization_on (length fs - 1) ms ≡ None → IfSome o (λ next. GoesBack w.versions ms fs next)
-goes-there w ms fs line None is stands executing = tt
-goes-there w ms fs line (Some next) is stands executing = record { caller = line; stands = stands; goes_on = sym is; executing = executing }
+pub goes-there : (v : Versions) (ms : List Initialization) (fs : List PlacedFrame) (line : Line) (o : Option ℕ) → o ≡ next_in line → caller_line v fs ≡ Some line
+    → initialization_on (length fs - 1) ms ≡ None → IfSome o (λ next. GoesBack v ms fs next)
+goes-there v ms fs line None is stands executing = tt
+goes-there v ms fs line (Some next) is stands executing = record { caller = line; stands = stands; goes_on = sym is; executing = executing }
 
 -- the caller's operands are within its limit with the value, where they are without
 fits-by : (v : Option Value) (fs : List PlacedFrame) → AreSound fs → can_give v fs ≡ true → fits_given v fs ≡ true
