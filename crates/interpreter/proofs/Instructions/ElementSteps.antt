@@ -22,6 +22,7 @@ use Rattle.jvm_basic.specs.declared.effect.Effect.TheVariants.{Next}
 use Rattle.jvm_basic.specs.Outcomes.{GoesOn as Goes, Rule, after, outcome_asked, effect_of, frames_in}
 use Rattle.jvm_basic.specs.Rules.{replaces, rule_of}
 use Rattle.prepared_code.specs.declared.line.Action.TheVariants as action
+use Rattle.symbolic_references.specs.Runtimes.{with_shared}
 use Rattle.prepared_code.specs.declared.line.Line.{Line}
 use Rattle.prepared_code.specs.declared.initializations.Initialization.{Initialization}
 use Rattle.prepared_code.specs.declared.parts.Here.{Here}
@@ -190,10 +191,10 @@ module _ (w : Setup) (run : CanRun w) (line : Line) where
 
     store-done : (fs : List PlacedFrame) → StandsAt w fs line → storing_of k (top_operands fs) ≡ Some x
         → effect_of (drops_three line.next) (record { frames = fs; room = old.frames.room }) ≡ Next
-        → state_with (frames_in (outcome_asked (drops_three line.next) fs) fs) (record old { shared = stored }) ≡ on_top (acts w line) old fs
+        → state_with (frames_in (outcome_asked (drops_three line.next) fs) fs) (record old { runtime = with_shared stored old.runtime }) ≡ on_top (acts w line) old fs
     store-done [] stands at goes = absurd stands
     store-done (f ∷ fs) stands at goes =
-        next-is w line (record old { shared = stored }) (Goes f.locals (drop 3 f.operands) line.next) f fs goes
+        next-is w line (record old { runtime = with_shared stored old.runtime }) (Goes f.locals (drop 3 f.operands) line.next) f fs goes
         ∙ (sym (ap (acts_done w line (state_with fs old) (frame_in f)) (store-asks (f ∷ fs) at f.locals))
         ∙ sym (ap (acts_by w line (state_with fs old) (frame_in f)) stores))
 
@@ -210,6 +211,7 @@ plain-alone w run line old frames stands e made =
       ending = refl;
       thrown = refl;
       loaded = refl;
+      world = refl;
       leads = λ ms calm. plain.leads ms old calm;
       quiet = λ ms calm. plain.quiet ms old calm;
     }
@@ -238,7 +240,7 @@ still-has r (f ∷ fs) has = still-framed (r f.locals f.operands) f fs
 
 module _ (w : Setup) (run : CanRun w) (line : Line) (k : Kind) (old new : Parts) (stands : StandsAt w old.frames.frames line) where
   -- from what is changed, and what that is a step of
-  alone-by : (rule : Rule) (shared : Shared) → new ≡ record old { frames = after rule old.frames; shared = shared } → shared.loaded ≡ old.runtime.shared.loaded
+  alone-by : (rule : Rule) (shared : Shared) → new ≡ record old { frames = after rule old.frames; runtime = with_shared shared old.runtime } → shared.loaded ≡ old.runtime.shared.loaded
       → is_named line.action ≡ false → goes_within line.action ≡ true → state_in new ≡ on_parts (acts w line) old
       → ((ms : List Initialization) → IsAtInstruction (length old.frames.frames) ms old → (step w.world (listing_of w.versions) (state_of ms old)).changes ≡ [])
       → LeadsAlone w old 1 new
@@ -251,7 +253,8 @@ module _ (w : Setup) (run : CanRun w) (line : Line) (k : Kind) (old new : Parts)
         many = many;
         ending = ending;
         thrown = thrown;
-        loaded = ap (λ (p : Parts). p.shared.loaded) changed ∙ kept;
+        loaded = ap (λ (p : Parts). p.runtime.shared.loaded) changed ∙ kept;
+        world = ap (λ (p : Parts). p.runtime.world) changed;
         leads = λ ms calm.
             leads-one w (state_of ms old) (state_of ms new) (ap is_some calm.ending)
             (is-step w run line old new unnamed within does ending thrown many has (has-there w old.frames.frames line stands)

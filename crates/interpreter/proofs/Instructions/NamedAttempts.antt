@@ -89,11 +89,11 @@ module _ (w : Setup) (ms : List Initialization) (here : Here) (line : Line) (p :
   by_name : (n : SymbolicReference) × (line.action ≡ action.Named n)
   by_name = names-by line.action (sym (ap named_in found) ∙ is)
 
-  names : Names (line_at w.versions here.version here.place)
+  abbrev names : Names (line_at w.versions here.version here.place)
   names = record { line = line; kept = by_name.0; there = found; named = by_name.1 }
 
   abbrev n : SymbolicReference
-  n = names.kept
+  n = by_name.0
 
   -- the state before
   abbrev s : State
@@ -133,7 +133,7 @@ module _ (w : Setup) (ms : List Initialization) (here : Here) (line : Line) (p :
       applies-carried ms w (listing_of w.versions) (placed_line line) x kept (state_with fs mid) (frame_in f)
       (ap (λ k. initialization_on (suc k) ms) (length-active fs) ∙ free)
       ∙ (ap (acts_asked w line (with_initializations ms (state_with fs mid)) (frame_in f)) told
-      ∙ sym (ap (acts_by w line (with_initializations ms (state_with fs p)) (frame_in f)) names.named))
+      ∙ sym (ap (acts_by w line (with_initializations ms (state_with fs p)) (frame_in f)) by_name.1))
 
   pub goes-on : (v : Setup) (new : Parts) → v ≡ w → stays q ≡ true
       → state_in new ≡ on_parts (λ s f. acts_asked v line s f q) mid → state_of ms new ≡ attempts_on w s s.stack
@@ -151,7 +151,7 @@ module _ (w : Setup) (ms : List Initialization) (here : Here) (line : Line) (p :
       let mid : Parts = reached (f ∷ fs) in
       ap (λ es. begins_class c (record (state_with (f ∷ fs) mid) { stack = es })) (top-frame ms f fs free)
       ∙ (sym (ap (acts_asked w line (with_initializations ms (state_with fs mid)) (frame_in f)) asks)
-      ∙ sym (ap (acts_by w line (with_initializations ms (state_with fs p)) (frame_in f)) names.named))
+      ∙ sym (ap (acts_by w line (with_initializations ms (state_with fs p)) (frame_in f)) by_name.1))
 
   pub begins-on : (o : Option ℕ) (c : ℕ) (new : Parts) → o ≡ starts q → o ≡ Some c → new ≡ mid
       → begins_class c (state_of ms new) ≡ attempts_on w s s.stack
@@ -170,7 +170,7 @@ module _ (w : Setup) (ms : List Initialization) (here : Here) (line : Line) (p :
       ap (awaited_on w s) (top-frame ms f fs free)
       ∙ (ap (λ (h : Here). awaited_by w under (frame_in f) (line_at w.versions h.version h.place)) same
       ∙ (ap (awaited_by w under (frame_in f)) found
-      ∙ ap (class_awaited w under (frame_in f)) names.named))
+      ∙ ap (class_awaited w under (frame_in f)) by_name.1))
 
   pub awaits-told : (o : Option ℕ) → o ≡ starts q → o ≡ awaited_in w s
   awaits-told o told = told ∙ (ap starts answer-is ∙ sym (awaits-by p.frames.frames at none))

@@ -80,6 +80,7 @@ module _ (w : Setup) (run : CanRun w) (ms : List Initialization) (old new : Part
         loads = none;
         reaches = once ∙ tries-silently w delivered 0 ms old run going (not-and (not delivered) (leaves_in w.versions old.frames.frames) apart);
         loaded = is.loaded;
+        world = is.world;
         keeps = is.keeps;
       }
 
@@ -97,6 +98,7 @@ module _ (w : Setup) (run : CanRun w) (ms : List Initialization) (old new : Part
         reaches = tries-once w run ms old going 0 live refl none None (sym is.awaits) after is.made (pause_at after 1 Nothing)
             (paused ∙ follows-on w live 0 ms new 1 counts enters) refl;
         loaded = is.loaded;
+        world = is.world;
         keeps = is.keeps;
       }
     where
@@ -120,6 +122,7 @@ stops-calmly w run ms old here line stands calm found returns marked =
       loads = sym (leaves-loads w false 0 ms old run going leaves);
       reaches = leaves-pause w false 0 ms old run going leaves;
       loaded = refl;
+      world = refl;
       keeps = λ k superseded runs. runs;
     }
 

@@ -246,6 +246,7 @@ module _ (w : Setup) (run : CanRun w) (ms : List Initialization) (here : Here) (
     call-attempted = record {
       at_instruction = calm-then;
       loaded = refl;
+      world = refl;
       loads = loads-none old.frames.frames stands calm.executing nothing;
       awaits = is-awaited w run ms here line kept old stands found named calm nothing (Invokes c.method args below) answers refl;
       made = is-attempt w run ms here line kept old stands found named calm nothing (Invokes c.method args below) answers refl new concludes;
@@ -256,6 +257,7 @@ module _ (w : Setup) (run : CanRun w) (ms : List Initialization) (here : Here) (
     call-passes off = record {
       at_instruction = calm-then;
       loaded = refl;
+      world = refl;
       leads = leads-one w (state_of ms old) (state_of ms new) (ap is_some calm.ending) stepped;
       silent = silent-one w (state_of ms old) (record {
         loads = loads-none old.frames.frames stands calm.executing nothing;
@@ -272,6 +274,7 @@ module _ (w : Setup) (run : CanRun w) (ms : List Initialization) (here : Here) (
   passes-still frames same = record {
     at_instruction = record { ending = calm.ending; thrown = calm.thrown; executing = ap (λ fs. initialization_on (length fs) ms) same ∙ calm.executing };
     loaded = refl;
+    world = refl;
     leads = record {
       made = ap (λ fs. with_initializations ms (state_with fs old)) same ∙ sym (steps_from-zero w (state_of ms old));
       before = λ k less. absurd (omega arith);

@@ -239,6 +239,7 @@ module _ (w : Setup) (run : CanRun w) (ms : List Initialization) (here : Here) (
     return-attempted = record {
       at_instruction = calm-then;
       loaded = refl;
+      world = refl;
       loads = loads-none old.frames.frames stands calm.executing;
       awaits = awaits-unnamed w ms old here stands calm.executing (ap named_in found ∙ unnamed);
       made = attempted;
@@ -249,6 +250,7 @@ module _ (w : Setup) (run : CanRun w) (ms : List Initialization) (here : Here) (
     return-passes off = record {
       at_instruction = calm-then;
       loaded = refl;
+      world = refl;
       leads = leads-one w (state_of ms old) (state_of ms new) (ap is_some calm.ending) stepped;
       silent = silent-one w (state_of ms old) (record {
         loads = loads-none old.frames.frames stands calm.executing;

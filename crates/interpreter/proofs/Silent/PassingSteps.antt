@@ -225,6 +225,7 @@ module _ (w : Setup) (run : CanRun w) (ms : List Initialization) (here : Here) (
       record {
         at_instruction = record { ending = calm.ending; thrown = calm.thrown; executing = ap (λ k. initialization_on k ms) many ∙ calm.executing };
         loaded = loaded;
+        world = ap (λ (r : RuntimeView). r.world) went.runtime;
         leads = leads-one w (state_of ms old) (state_of ms new) (ap is_some calm.ending) stepped;
         silent = λ k less. quiet-silent w (steps_from w k (state_of ms old))
             (quiet-one w (state_of ms old) (step-quiet old.frames.frames stands calm.executing nothing so) k less);

@@ -262,6 +262,7 @@ module _ (w : Setup) (run : CanRun w) (ms : List Initialization) (here : Here) (
       record {
         at_instruction = record { ending = calm.ending; thrown = calm.thrown; executing = ap (λ n. initialization_on n ms) (ap length are ∙ one-less old.frames.frames fits) ∙ is.executing };
         loaded = refl;
+        world = refl;
         leads = leads-one w (state_of ms old) (state_of ms new) (ap is_some calm.ending) stepped;
         silent = silent-one w (state_of ms old) (record {
           loads = loads-none old.frames.frames stands calm.executing;
@@ -282,6 +283,7 @@ module _ (w : Setup) (run : CanRun w) (ms : List Initialization) (here : Here) (
   caught-passes false frames is thrown fits are = record {
     at_instruction = record { ending = calm.ending; thrown = calm.thrown; executing = ap (λ fs. initialization_on (length fs) ms) are ∙ calm.executing };
     loaded = refl;
+    world = refl;
     leads = record {
       made = ap (λ fs. with_initializations ms (state_with fs old)) are ∙ sym (steps_from-zero w (state_of ms old));
       before = λ k less. absurd (omega arith);

@@ -13,7 +13,7 @@ use Rattle.jvm_model.specs.declared.state.Frame.{Frame}
 use Rattle.jvm_model.specs.declared.state.State.{State}
 use Rattle.jvm_model.specs.declared.state.Shared.{Shared}
 use Rattle.jvm_model.specs.Basis.Data.{Instruction, Locals, Operands, Outcome, Returns, Done, World}
-use Rattle.jvm_model.specs.Basis.Data as data
+use Rattle.jvm_model.specs.Basis.Data as model
 use Rattle.jvm_model.specs.declared.instruction.SymbolicReference.{SymbolicReference}
 use Rattle.jvm_model.specs.declared.instruction.Local.TheVariants.{Nop}
 use Rattle.jvm_model.specs.declared.instruction.Operation.TheVariants.{Within}
@@ -149,7 +149,7 @@ sees_objects w (action.Newarray kind) s l o = makes kind (int_of o) s l o
 sees_objects w (action.LoadElement k) s l o = done s (loads_element k (place_of o) s l o)
 sees_objects w (action.StoreElement k) s l o = stores_element w.program k (storing_of k o) s l o
 sees_objects w (action.LdcString units) s l o = pushes_string w.program units s l o
-sees_objects w _ s l o = done s (data.Breaks false)
+sees_objects w _ s l o = done s (model.Breaks false)
 
 -- where it is a newarray, of its kind
 abbrev pub IfNewarray : Action → (ℕ → Type 0) → Type 0
