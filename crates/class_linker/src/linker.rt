@@ -32,13 +32,14 @@ use jf_bytes::{NoMemory, Seq, Text16};
 use jvm_model::Program;
 use std::alloc::Global;
 use std::marker::Model;
+use std::rc::Rc;
 
 /// A program's classes, and which of them are loaded, in order. A clause sees these two. Classes are named by their positions,
 /// for an array by that of java/lang/Object. Every call but `new` and `load` takes no memory.
 #[derive(Drop)]
 pub struct Linker {
     alloc: Global,
-    index: Index,
+    index: Rc<Index>,
     state: State,
 }
 
@@ -48,9 +49,9 @@ impl Model for Linker {
 
     ghost Value = { LinkerView };
 
-    ghost view = { λ l. record { program = l.index; loaded = l.state.loaded } };
+    ghost view = { λ l. record { program = l.index.value; loaded = l.state.loaded } };
 
-    ghost invariant = { λ l. IsState l.index l.state };
+    ghost invariant = { λ l. IsState l.index.value l.state };
 }
 
 /// A place for the row of each of so many classes.
@@ -70,8 +71,15 @@ impl Linker {
         requires { IsLinkable program }
         ensures { IfOk result (λ l. l ≡ linker_of program) }
     {
-        let rows = no_loaded_classes(alloc, program.classes.len())?;
         let index = Index::new(alloc, program)?;
+        Linker::over(alloc, Rc::new(alloc, index)?)
+    }
+
+    /// The same over an index that others keep too.
+    pub fn over(alloc: Global, index: Rc<Index>) -> Result<Linker, NoMemory>
+        ensures { IfOk result (λ l. l ≡ linker_of index.value) }
+    {
+        let rows = no_loaded_classes(alloc, index.as_ref().program().classes.len())?;
         Ok(Linker {
             alloc,
             index,
@@ -85,14 +93,14 @@ impl Linker {
     pub fn program(&self) -> &Program
         ensures { result.now ≡ self.now.program }
     {
-        self.index.program()
+        self.index.as_ref().program()
     }
 
     /// The program with its tables, by which names are found.
     pub fn index(&self) -> &Index
         ensures { result.now ≡ self.now.program }
     {
-        &self.index
+        self.index.as_ref()
     }
 
     /// The loaded classes, in order.
@@ -116,7 +124,7 @@ impl Linker {
         ensures loaded { self.new ≡ loaded_by result name.now self.old }
     {
         let before = self.state.loaded.len();
-        match answer(self.alloc, &self.index, &mut self.state, name.units()) {
+        match answer(self.alloc, self.index.as_ref(), &mut self.state, name.units()) {
             Ok(loaded) => loaded,
             Err(NoMemory) => {
                 self.state.loaded.truncate(before);
@@ -130,7 +138,7 @@ impl Linker {
         requires { IsKnown self.now lower }
         ensures { result ≡ is_subkind self.now.program (parts_of lower) (parts_of upper) }
     {
-        is_subkind(&self.index, self.state.rows.as_slice(), lower, upper)
+        is_subkind(self.index.as_ref(), self.state.rows.as_slice(), lower, upper)
     }
 
     /// Whether a class is the other one, or inherits from it.
@@ -138,7 +146,7 @@ impl Linker {
         requires { IsLoaded self.now lower }
         ensures { result ≡ is_among upper (superclasses self.now.program lower) }
     {
-        is_superclass(&self.index, self.state.rows.as_slice(), lower, upper)
+        is_superclass(self.index.as_ref(), self.state.rows.as_slice(), lower, upper)
     }
 
     /// Whether a class is the other one, or inherits from it, or implements it.
@@ -146,7 +154,7 @@ impl Linker {
         requires { IsLoaded self.now lower }
         ensures { result ≡ is_subtype self.now.program lower upper }
     {
-        is_subtype(&self.index, self.state.rows.as_slice(), lower, upper)
+        is_subtype(self.index.as_ref(), self.state.rows.as_slice(), lower, upper)
     }
 
     /// The class and all that it inherits from or implements, each once.
@@ -155,7 +163,7 @@ impl Linker {
         ensures { (upper : ℕ) →
             is_among upper result.now ≡ is_subtype self.now.program class upper }
     {
-        each_supertype(&self.index, self.state.rows.as_slice(), class)
+        each_supertype(self.index.as_ref(), self.state.rows.as_slice(), class)
     }
 
     /// The field that a reference stands for (5.4.3.2).
@@ -165,7 +173,7 @@ impl Linker {
             (resolved_field self.now.program class (name_type_of name.now descriptor.now)) }
     {
         let wanted = Wanted { name, descriptor };
-        resolved_field(&self.index, self.state.rows.as_slice(), class, &wanted)
+        resolved_field(self.index.as_ref(), self.state.rows.as_slice(), class, &wanted)
     }
 
     /// The method that a reference stands for (5.4.3.3), or an interface method's (5.4.3.4).
@@ -183,7 +191,7 @@ impl Linker {
     {
         let wanted = Wanted { name, descriptor };
         let rows = self.state.rows.as_slice();
-        resolved_method(&self.index, rows, class, interface, &wanted)
+        resolved_method(self.index.as_ref(), rows, class, interface, &wanted)
     }
 
     /// The method that an object of the receiver's class has for a method of a class: by class and position. With `interface` it is
@@ -203,7 +211,7 @@ impl Linker {
     {
         let rows = self.state.rows.as_slice();
         let m = DeclaredMethod { class, position };
-        let found = method_selected(&self.index, rows, receiver, interface, m)?;
+        let found = method_selected(self.index.as_ref(), rows, receiver, interface, m)?;
         Some((found.class, found.position))
     }
 
@@ -218,7 +226,7 @@ impl Linker {
     {
         let rows = self.state.rows.as_slice();
         let found = invoked_special(
-            &self.index,
+            self.index.as_ref(),
             rows,
             caller,
             DeclaredMethod { class, position },
@@ -239,7 +247,7 @@ impl Linker {
             class: above,
             position: above_position,
         };
-        overrides(&self.index, self.state.rows.as_slice(), m1, m2)
+        overrides(self.index.as_ref(), self.state.rows.as_slice(), m1, m2)
     }
 
     /// How many slots of its objects the fields of a class's superclasses take, where a loaded class is the class or inherits from it.
@@ -249,7 +257,7 @@ impl Linker {
         ensures { result ≡ length
             (flat_map (layout self.now.program) (superclass_of self.now.program class)) }
     {
-        slots_above(&self.index, self.state.rows.as_slice(), lower, class)
+        slots_above(self.index.as_ref(), self.state.rows.as_slice(), lower, class)
     }
 
     /// The kinds of the instance fields of the class's objects, those of its superclass first.
@@ -257,6 +265,6 @@ impl Linker {
         requires { IsLoaded self.now class }
         ensures { result.now ≡ layout self.now.program class }
     {
-        layout_of(&self.index, self.state.rows.as_slice(), class)
+        layout_of(self.index.as_ref(), self.state.rows.as_slice(), class)
     }
 }

@@ -12,5 +12,6 @@ pub mod NamedAttempts
 pub mod ElementLemmas
 pub mod QuickElements
 pub mod ElementActs
+pub mod ObjectActs
 pub mod ElementSteps
 pub mod Passages

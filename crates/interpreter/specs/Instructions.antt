@@ -5,6 +5,5 @@ pub mod Arguments
 pub mod Invoking
 pub mod Asked
 pub mod Initializing
-pub mod Raising
 pub mod Elements
 pub mod Passing

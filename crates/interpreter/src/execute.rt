@@ -11,5 +11,4 @@ pub mod monitors;
 pub mod passing;
 pub mod plain;
 pub mod returning;
-pub mod strings;
 pub mod throwing;

@@ -1,7 +1,6 @@
 //! A throw goes to its handler, or ends activations (JVM Specification 2.10).
 
 pub mod catching;
-pub mod exceptions;
 pub mod handlers;
 pub mod raising;
 pub mod settling;

@@ -12,10 +12,12 @@ use Rattle.interpreter.specs.declared.turns.hands.Hand.{Hand}
 use Rattle.interpreter.specs.Machine.Before.{IsAtStart}
 use Rattle.interpreter.specs.Moves.Hands.{HasInHand}
 use Rattle.interpreter.specs.Instructions.Passing.{runs}
+use Rattle.prepared_code.specs.Linked.{IsLinked, Linked, setup_in}
 use Rattle.prepared_code.specs.Ready.{IsSoundIn}
 use Rattle.prepared_code.specs.Standing.{HasVersions, places_of}
 use Rattle.prepared_code.specs.Tables.{Versions}
 use Rattle.prepared_code.specs.Versions.{Setup, mark_of, method_of}
+use Rattle.symbolic_references.specs.Runtimes.{RuntimeView}
 use Rattle.jvm_machine.specs.View.{View, is_resting, run_state}
 
 -- ---- what is seen
@@ -73,8 +75,7 @@ abbrev pub IsSoundOnce : Setup → Hand → State → Type 0
 IsSoundOnce w hand s = IsSoundIn w s ⊎ IsStarting w hand s
 
 -- Between steps it stands for the run's state, and in a step the rest of it is in hand. Before the start nothing was done.
-pub record IsWhole (w : Setup) (homes : ℕ → ℕ → ℕ) (loaded : List ℕ) (hand : Hand) (v : View) (s : State) : Type 0 where
-  pub linked : loaded ≡ s.shared.loaded
+pub record IsWhole (w : Setup) (homes : ℕ → ℕ → ℕ) (hand : Hand) (v : View) (s : State) : Type 0 where
   pub stands : is_resting v ≡ true → v.started ≡ true → Stands w homes s (run_state v)
   pub rests : is_resting v ≡ true → v.started ≡ true → IsSoundIn w s
   pub in_hand : is_resting v ≡ false → HasInHand w homes (turn w.world v.clock) hand v.live s
@@ -88,13 +89,15 @@ pub record IsBeforeTheRun (v : View) : Type 0 where
   pub delivered : v.delivered ≡ false
 
 -- unless memory has run out
-pub record IsMachine (w : Setup) (loaded : List ℕ) (hand : Hand) (v : View) (s : State) : Type 0 where
+pub record IsMachine (w : Setup) (hand : Hand) (v : View) (s : State) : Type 0 where
   pub homes : ℕ → ℕ → ℕ
   pub has : HasVersions w homes
   pub before_the_run : v.started ≡ false → IsBeforeTheRun v
-  pub whole : v.broken ≡ false → IsWhole w homes loaded hand v s
+  pub whole : v.broken ≡ false → IsWhole w homes hand v s
 
--- and no version is held needlessly
-pub record Keeps (w : Setup) (loaded : List ℕ) (hand : Hand) (started broken : Bool) (clock : ℕ) (s : State) : Type 0 where
-  pub machine : IsMachine w loaded hand (state_seen w s started broken clock hand) s
-  pub tidy : broken ≡ false → IsTidy w.versions s.stack
+-- its code and its runtime are of one program, and no version is held needlessly
+pub record Keeps (o : Linked) (r : RuntimeView) (hand : Hand) (started broken : Bool) (clock : ℕ) (s : State) : Type 0 where
+  pub machine : IsMachine (setup_in r o) hand (state_seen (setup_in r o) s started broken clock hand) s
+  pub program : r.world.program ≡ o.program
+  pub linked : broken ≡ false → IsLinked o r
+  pub tidy : broken ≡ false → IsTidy o.versions s.stack

@@ -1,5 +1,6 @@
 //! How a step is taken up, and what it has come to.
 
+ghost use Rattle.prepared_code.specs.Linked.{IsLinked};
 ghost use Rattle.std.specs.Prelude.{◌≡◌, ◌+◌, ◌++◌, ◌^◌, ◌<◌, drop, false, true, IfOk, OnErr, OnOk};
 ghost use Rattle.jvm_model.specs.Basis.Data.{World};
 ghost use Rattle.jvm_model.specs.Turns.InHand.{behind_load};
@@ -11,9 +12,10 @@ ghost use Rattle.jvm_machine.specs.Advances.{clock_in, left_in};
 ghost use Rattle.jvm_machine.specs.Advances.{taken_hand, taken_loads, taken_state};
 
 use crate::turn::Turn;
+use class_linker::Linker;
 use interpreter::{Gone, Hand, begin_start};
 use jf_bytes::{NoMemory, Seq, Stack};
-use jvm_model::{Due, Shared};
+use jvm_model::Due;
 use prepared_code::{Initialization, Originals, Parts};
 use std::alloc::Global;
 
@@ -78,10 +80,10 @@ pub fn hand_left(gone: Gone) -> Hand
 }
 
 /// The classes that were loaded since there were so many.
-pub fn loaded_since(alloc: Global, shared: &Shared, count: usize) -> Result<Seq<u32>, NoMemory>
-    ensures { IfOk result (λ classes. classes ≡ drop count shared.now.loaded) }
+pub fn loaded_since(alloc: Global, linker: &Linker, count: usize) -> Result<Seq<u32>, NoMemory>
+    ensures { IfOk result (λ classes. classes ≡ drop count linker.now.loaded) }
 {
-    let Some(classes) = shared.loaded.as_slice().get(count..) else {
+    let Some(classes) = linker.loaded().get(count..) else {
         return Ok(Seq::new(alloc));
     };
     Ok(Seq::from_slice(alloc, classes)?)
@@ -108,20 +110,21 @@ fn take_start(
     parts: &mut Parts,
     initializing: &mut Stack<Initialization>,
 ) -> Result<Taken, NoMemory>
-    requires at_start { IsAtStart originals.old.setup.world (state_of initializing.old parts.old) }
-    requires linked { originals.old.loaded ≡ parts.old.shared.loaded }
-    requires fit { IsFit originals.old.setup.world.program }
-    ensures world { originals.new.setup ≡ originals.old.setup }
-    ensures linked { OnOk result (originals.new.loaded ≡ parts.new.shared.loaded) }
-    ensures loads { IfOk result (λ t. t.loads ≡ main_loads originals.old.setup.world) }
-    ensures hand { let passed = behind_load (main_loads originals.old.setup.world) in
+    requires at_start { IsAtStart parts.old.runtime.world (state_of initializing.old parts.old) }
+    requires linked { IsLinked originals.old parts.old.runtime }
+    requires fit { IsFit parts.old.runtime.world.program }
+    ensures versions { originals.new.versions ≡ originals.old.versions }
+    ensures world { parts.new.runtime.world ≡ parts.old.runtime.world }
+    ensures linked { OnOk result (IsLinked originals.new parts.new.runtime) }
+    ensures loads { IfOk result (λ t. t.loads ≡ main_loads parts.old.runtime.world) }
+    ensures hand { let passed = behind_load (main_loads parts.old.runtime.world) in
         IfOk result (λ t. t.hand ≡ record { moves = true; delivered = false; passed = passed }) }
     ensures state { OnOk result
-        (state_of initializing.new parts.new ≡ starts_with originals.old.setup.world) }
+        (state_of initializing.new parts.new ≡ starts_with parts.old.runtime.world) }
 {
-    let count = parts.shared.loaded.len();
+    let count = parts.runtime.linker().loaded().len();
     begin_start(alloc, originals, parts, initializing)?;
-    let loads = loaded_since(alloc, &parts.shared, count)?;
+    let loads = loaded_since(alloc, parts.runtime.linker(), count)?;
     let passed = behind_load(loads.as_slice());
     Ok(Taken {
         loads,
@@ -145,18 +148,19 @@ pub fn take_up(
     hand: Hand,
 ) -> Result<Taken, NoMemory>
     requires at_start { started ≡ false → resting ≡ true
-        → IsAtStart originals.old.setup.world (state_of initializing.old parts.old) }
-    requires linked { originals.old.loaded ≡ parts.old.shared.loaded }
-    requires fit { IsFit originals.old.setup.world.program }
-    ensures world { originals.new.setup ≡ originals.old.setup }
-    ensures linked { OnOk result (originals.new.loaded ≡ parts.new.shared.loaded) }
-    ensures loads { let w = originals.old.setup.world in
+        → IsAtStart parts.old.runtime.world (state_of initializing.old parts.old) }
+    requires linked { IsLinked originals.old parts.old.runtime }
+    requires fit { IsFit parts.old.runtime.world.program }
+    ensures versions { originals.new.versions ≡ originals.old.versions }
+    ensures world { parts.new.runtime.world ≡ parts.old.runtime.world }
+    ensures linked { OnOk result (IsLinked originals.new parts.new.runtime) }
+    ensures loads { let w = parts.old.runtime.world in
         IfOk result (λ t. t.loads ≡ taken_loads w resting started) }
-    ensures hand { let w = originals.old.setup.world in
+    ensures hand { let w = parts.old.runtime.world in
         IfOk result (λ t. t.hand ≡ taken_hand w resting started hand) }
     ensures state { let s = state_of initializing.old parts.old in OnOk result
         (state_of initializing.new
-        parts.new ≡ taken_state originals.old.setup.world resting started s) }
+        parts.new ≡ taken_state parts.old.runtime.world resting started s) }
 {
     if !resting {
         return Ok(Taken {

@@ -23,6 +23,7 @@ use crate::advancing::{
 };
 use crate::telling::event_told;
 use crate::turn::Turn;
+use class_index::Index;
 use class_linker::Linker;
 use code_model::Homes;
 use const_pool::ClassFile;
@@ -32,6 +33,7 @@ use jvm_model::{Due, Ending, Event, Mark, Program};
 use prepared_code::{Initialization, Originals, Parts};
 use std::alloc::Global;
 use std::marker::Model;
+use std::rc::Rc;
 
 /// A machine that runs versions of a program's methods. A clause sees the program, how far it has come, what of the step in hand
 /// is behind it, and the marks of the versions in which methods begin and of those that are live.
@@ -49,15 +51,16 @@ pub struct Vm {
 
 impl Model for Vm {
     ghost use Rattle.prepared_code.specs.Initializations.{state_of};
+    ghost use Rattle.prepared_code.specs.Linked.{setup_in};
     ghost use Rattle.jvm_machine.specs.Machine.{Keeps, state_viewed};
     ghost use Rattle.jvm_machine.specs.View.{View};
 
     ghost Value = { View };
 
-    ghost view = { λ v. state_viewed v.originals.setup (state_of v.initializing v.parts) v.started
+    ghost view = { λ v. state_viewed (setup_in v.parts.runtime v.originals) (state_of v.initializing v.parts) v.started
         v.broken v.clock v.hand };
 
-    ghost invariant = { λ v. Keeps v.originals.setup v.originals.loaded v.hand v.started
+    ghost invariant = { λ v. Keeps v.originals v.parts.runtime v.hand v.started
         v.broken v.clock (state_of v.initializing v.parts) };
 }
 
@@ -94,8 +97,9 @@ impl Vm {
         requires starts { CanStart program }
         ensures { IfOk result (λ vm. vm ≡ machine_made program input.items) }
     {
-        let parts = parts_before(alloc, &program)?;
-        let originals = Originals::new(alloc, program, Seq::from_vec(input))?;
+        let index = Index::new(alloc, program)?;
+        let originals = Originals::new(alloc, Rc::new(alloc, index)?)?;
+        let parts = parts_before(alloc, &originals, Seq::from_vec(input))?;
         Ok(Vm {
             alloc,
             originals,
@@ -151,7 +155,7 @@ impl Vm {
             self.broken = false;
             return Ok(Telling::Classes(taken.loads));
         }
-        let count = self.parts.shared.loaded.len();
+        let count = self.parts.runtime.linker().loaded().len();
         let gone = go(
             self.alloc,
             &mut self.originals,
@@ -160,7 +164,7 @@ impl Vm {
             self.hand,
         )?;
         let Some(gone) = gone else {
-            let classes = loaded_since(self.alloc, &self.parts.shared, count)?;
+            let classes = loaded_since(self.alloc, self.parts.runtime.linker(), count)?;
             self.hand.passed = 1;
             self.broken = false;
             return Ok(Telling::Classes(classes));
@@ -285,7 +289,6 @@ impl Vm {
             return Passage { made: 0, due: None };
         }
         let passed = pass_steps(
-            self.alloc,
             &self.originals,
             &mut self.parts,
             &self.initializing,
@@ -475,9 +478,10 @@ impl Vm {
         ensures ok { OnOk result (self.new ≡ with_class class marks.now self.old) }
         ensures err { OnErr result (self.new ≡ self.old) }
     {
+        let numbers = self.parts.runtime.numbers();
         let frames = &self.parts.frames;
         self.originals
-            .install(self.alloc, class, &image, homes, frames)
+            .install(self.alloc, numbers, class, &image, homes, frames)
     }
 
     /// The number of steps that were begun after the start.
@@ -500,7 +504,7 @@ impl Vm {
         ensures loaded { self.now.broken ≡ false
             → result.now.loaded ≡ (run_state self.now).shared.loaded }
     {
-        self.originals.linker()
+        self.parts.runtime.linker()
     }
 
     /// What the program has written, where no step is in hand.
@@ -508,7 +512,7 @@ impl Vm {
         ensures { self.now.broken ≡ false → is_resting self.now ≡ true
             → result.now ≡ (run_state self.now).output }
     {
-        self.parts.output.as_slice()
+        self.parts.runtime.output()
     }
 
     /// How the run has ended, if it has, where no step is in hand.

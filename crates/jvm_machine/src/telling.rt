@@ -29,7 +29,7 @@ pub fn event_told(
     parts: &Parts,
     initializing: &Stack<Initialization>,
 ) -> Option<Event>
-    ensures { let s = state_of initializing.now parts.now in let v = originals.now.setup.versions in
+    ensures { let s = state_of initializing.now parts.now in let v = originals.now.versions in
         result ≡ told_at due clock (helds (mark_of v) s.stack) }
 {
     let _used = initializing.peek(0);

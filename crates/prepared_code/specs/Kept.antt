@@ -2,12 +2,9 @@
 use Rattle.std.specs.Prelude.{◌≡◌, ℕ, List, Some}
 use Rattle.class_linker.specs.Linkers.{LinkerView}
 use Rattle.jvm_model.specs.declared.instruction.SymbolicReference.{SymbolicReference}
+use Rattle.jvm_model.specs.declared.program.Program.{Program}
 use Rattle.symbolic_references.specs.declared.known.Known.{Known}
 use Rattle.symbolic_references.specs.Known.{IsKnown}
-use Rattle.symbolic_references.specs.Numbers.{Row}
-use Rattle.symbolic_references.specs.Selections.{AreSelections, Slots}
-use Rattle.prepared_code.specs.declared.originals.Method.{Method}
-use Rattle.prepared_code.specs.declared.originals.Exceptions.{Exceptions}
 use Rattle.prepared_code.specs.Cells.{Rows, cell_at}
 use Rattle.prepared_code.specs.Lines.{IfNamed}
 use Rattle.prepared_code.specs.Making.{AreBare, with_lines}
@@ -23,8 +20,6 @@ pub record AreKnown (l : LinkerView) (v : Versions) (rows : Rows) : Type 0 where
 pub record IsLater (l new : LinkerView) : Type 0 where
   pub keeps : (n : SymbolicReference) (k : Known) → IsKnown l n k → IsKnown new n k
 
-pub record IsKept (l : LinkerView) (methods : List Method) (versions : Versions) (rows : Rows) (selections : Slots) (exceptions : Exceptions) (numbers : List Row) : Type 0 where
-  pub prepared : IsPrepared l.program methods (with_lines l.program versions) exceptions numbers
-  pub known : AreKnown l (with_lines l.program versions) rows
-  pub selected : AreSelections l.program selections
-  pub bare : AreBare l.program versions
+pub record IsKept (p : Program) (versions : Versions) : Type 0 where
+  pub prepared : IsPrepared p (with_lines p versions)
+  pub bare : AreBare p versions

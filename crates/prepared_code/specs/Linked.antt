@@ -1,19 +1,33 @@
--- What a clause sees of a prepared program: what is run, which of its classes are loaded, in order, and the versions as they are kept, some
--- still without their lines.
-use Rattle.std.specs.Prelude.{◌≡◌, ℕ, List}
+-- What a clause sees of a prepared program: its versions, with all their lines and as they are kept, some still without them, and what
+-- is kept of the names of lines.
+use Rattle.std.specs.Prelude.{◌≡◌, ℕ}
+use Rattle.jvm_model.specs.declared.program.Program.{Program}
+use Rattle.jvm_model.specs.Basis.Data.{World}
+use Rattle.prepared_code.specs.Cells.{Rows}
+use Rattle.prepared_code.specs.Kept.{AreKnown}
 use Rattle.prepared_code.specs.Tables.{Versions}
 use Rattle.prepared_code.specs.Versions.{Setup, line_at}
-use Rattle.class_linker.specs.Linkers.{LinkerView}
+use Rattle.symbolic_references.specs.Runtimes.{RuntimeView, linker_in}
 
 pub record Linked : Type 0 where
-  pub setup : Setup
-  pub loaded : List ℕ
+  pub program : Program
+  pub versions : Versions
   pub kept : Versions
+  pub rows : Rows
 
--- what its linker is seen as
-abbrev pub linker_in : Linked → LinkerView
-linker_in o = record { program = o.setup.world.program; loaded = o.loaded }
+-- in this world
+abbrev pub setup_of : World → Linked → Setup
+setup_of w o = record { world = w; versions = o.versions }
+
+-- what a runtime runs by it
+abbrev pub setup_in : RuntimeView → Linked → Setup
+setup_in r o = setup_of r.world o
+
+-- a runtime is of its program, and what is kept of names is what they come to by what the runtime has loaded
+pub record IsLinked (o : Linked) (r : RuntimeView) : Type 0 where
+  pub program : r.world.program ≡ o.program
+  pub known : AreKnown (linker_in r) o.versions o.rows
 
 -- what is kept of a version has each of its lines
 abbrev pub IsReady : Linked → ℕ → Type 0
-IsReady o version = (place : ℕ) → line_at o.kept version place ≡ line_at o.setup.versions version place
+IsReady o version = (place : ℕ) → line_at o.kept version place ≡ line_at o.versions version place

@@ -73,6 +73,7 @@ pub record LeadsAlone (w : Setup) (old : Parts) (n : ℕ) (new : Parts) : Type 0
   pub many : length new.frames.frames ≡ length old.frames.frames
   pub ending : new.ending ≡ old.ending
   pub thrown : new.thrown ≡ old.thrown
-  pub loaded : new.shared.loaded ≡ old.shared.loaded
+  pub loaded : new.runtime.shared.loaded ≡ old.runtime.shared.loaded
+  pub world : new.runtime.world ≡ old.runtime.world
   pub leads : (ms : List Initialization) → IsAtInstruction (length old.frames.frames) ms old → Leads w (state_of ms old) n (state_of ms new)
   pub quiet : (ms : List Initialization) → IsAtInstruction (length old.frames.frames) ms old → AreQuiet w (state_of ms old) n

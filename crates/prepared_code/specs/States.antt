@@ -29,8 +29,8 @@ state_with fs p = record {
   stack = map active fs;
   thrown = p.thrown;
   begun = p.begun;
-  shared = p.shared;
-  output = p.output;
+  shared = p.runtime.shared;
+  output = p.runtime.output;
   ending = p.ending;
 }
 

@@ -34,10 +34,9 @@ pub use members::{
     code_of, field_at, initializer_in, is_initializer, is_out, is_println, is_reference, method_at,
     method_named,
 };
-pub use objects::{arguments_fit, heap_before, make_arguments};
+pub use objects::{arguments_fit, heap_before};
 pub use originals::Originals;
 pub use parts::{Here, Parts, where_now};
 pub use passage::{Passage, next_in};
 pub use resolving::line_of;
-pub use symbolic_reference::units_of;
 pub use versions::{Catching, PreparedCode, Version, Versions, line_in};

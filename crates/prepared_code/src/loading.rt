@@ -3,7 +3,6 @@
 ghost use Rattle.std.specs.Prelude.{◌≡◌, ◌<◌, ◌^◌, [], false, length, unwrap_or, IfOk, OnOk};
 ghost use Rattle.std.specs.Option.{option_map_or};
 ghost use Rattle.class_linker.specs.Linkers.{IsAnswer, load_answer, loaded_by};
-ghost use Rattle.jvm_model.specs.Classes.Load.{load_of};
 ghost use Rattle.jvm_model.specs.Basis.Programs.{class_at, has_built_in_name, name_at, name_of};
 ghost use Rattle.prepared_code.specs.Prepared.{built_in_then, load_built_in, main_name};
 
@@ -63,19 +62,6 @@ fn load_class(alloc: Global, linker: &mut Linker, class: u32) -> Result<Loaded, 
 {
     let name = name_at(alloc, linker.program(), class)?;
     Ok(linker.load(&name))
-}
-
-/// Loads the main class by its name, with what it needs; what was loaded before a fault stays.
-pub fn link_main(alloc: Global, linker: &mut Linker) -> Result<(), NoMemory>
-    ensures loaded { let p = linker.old.program in OnOk result
-        (linker.new.loaded ≡ (load_of p linker.old.loaded (main_name p)).loaded) }
-    ensures program { linker.new.program ≡ linker.old.program }
-{
-    let class = main_class(linker.program());
-    match load_class(alloc, linker, class)? {
-        Loaded::New(..) | Loaded::Already(_) | Loaded::Throws(..) => Ok(()),
-        Loaded::NoMemory => Err(NoMemory),
-    }
 }
 
 // ---- the built-in classes

@@ -9,7 +9,7 @@ ghost use Rattle.jvm_model.specs.Basis.SharedState.{heap_before, kind_for};
 ghost use Rattle.jvm_model.specs.Basis.SharedState.{with_arguments, with_text_in, with_texts};
 
 use crate::lookup::class_of_bytes;
-use class_index::{FIRST_ARRAY, Index, base_of_class};
+use class_index::{FIRST_ARRAY, base_of_class};
 use heap_objects::{Datum, Heap};
 use jf_bytes::{NoMemory, Text16};
 use jvm_model::Program;
@@ -34,27 +34,6 @@ pub fn kind_for(program: &Program, name: &[u8]) -> u32
     ensures most { result < 2 ^ 25 }
 {
     base_of_class(program, class_named(program, name))
-}
-
-/// The position of the class of this name, found by hashing; 0 where there is none.
-#[tactic(auto, using(crate::proofs::Lines::Positions::position_within))]
-fn position_named(index: &Index, name: &[u16]) -> u32
-    requires { length index.now.classes < 2 ^ 24 }
-    ensures class { result ≡ unwrap_or (class_named index.now name.now) 0 }
-    ensures most { result < 2 ^ 24 }
-{
-    match index.class_named(name) {
-        Some(class) => class,
-        None => 0,
-    }
-}
-
-/// The kind of the instances of the class of this name, found by hashing.
-pub fn kind_named(index: &Index, name: &[u16]) -> u32
-    requires { length index.now.classes < 2 ^ 24 }
-    ensures { result ≡ kind_for index.now name.now }
-{
-    base_of_class(index.program(), position_named(index, name))
 }
 
 /// Makes an object that there is room for.
@@ -83,53 +62,6 @@ pub fn heap_before(alloc: Global, program: &Program) -> Result<Heap, NoMemory>
     make(&mut heap, print, &[])?;
     make(&mut heap, print, &[])?;
     Ok(heap)
-}
-
-/// A text goes into an element of an array. There is room for it.
-fn put_text(kind: u32, array: u32, at: u32, units: &[u16], heap: &mut Heap) -> Result<(), NoMemory>
-    requires array { (array == 0) ≡ false }
-    requires room { heap.old.used + (1 + length units.now) ≤ heap.old.limit }
-    ensures { OnOk result (heap.new
-        ≡ with_text_in kind array at units.now heap.old) }
-{
-    match heap.text(kind, units) {
-        Ok(text) => {
-            heap.put(array, at, Datum::Ref(text));
-            Ok(())
-        }
-        Err(_) => Err(NoMemory),
-    }
-}
-
-/// The texts of the arguments of `main` go into their array. There is room for them.
-fn put_texts(program: &Program, array: u32, heap: &mut Heap) -> Result<(), NoMemory>
-    requires few { length program.now.classes < 2 ^ 24 }
-    requires array { (array == 0) ≡ false }
-    requires short { length program.now.args < 2 ^ 32 }
-    requires room { heap.old.used + texts_cost program.now.args ≤ heap.old.limit }
-    ensures { OnOk result (heap.new
-        ≡ with_texts program.now array 0 program.now.args heap.old) }
-{
-    let kind = kind_for(program, b"java/lang/String");
-    for (at, arg) in program.args.as_slice().iter().enumerate() {
-        put_text(kind, array, at as u32, arg.units(), heap)?;
-    }
-    Ok(())
-}
-
-/// The array of the arguments of `main`, and then their texts. There is room for them.
-pub fn make_arguments(program: &Program, heap: &mut Heap) -> Result<(), NoMemory>
-    requires few { length program.now.classes < 2 ^ 24 }
-    requires room { heap.old.used + arguments_cost program.now.args ≤ heap.old.limit }
-    requires limit { heap.old.limit ≡ program.now.heap }
-    ensures { OnOk result (heap.new ≡ with_arguments program.now heap.old) }
-{
-    let _limit = program.heap;
-    let kind = FIRST_ARRAY + kind_for(program, b"java/lang/String");
-    match heap.array(kind, Datum::Ref(0), program.args.len() as u32) {
-        Ok(array) => put_texts(program, array, heap),
-        Err(_) => Err(NoMemory),
-    }
 }
 
 /// How many slots the objects take that are there before the start.

@@ -4,17 +4,16 @@ ghost use Rattle.std.specs.Prelude.{◌≡◌};
 ghost use Rattle.prepared_code.specs.States.{here_of};
 
 use frame_stack::Frames;
-use jf_bytes::Seq;
-use jvm_model::{Ending, Shared};
+use jvm_model::Ending;
+use symbolic_references::Runtime;
 
-/// The frames of the live activations, and the rest of a run's state.
+/// The frames of the live activations, what they share, and the rest of a run's state.
 #[derive(Drop)]
 pub struct Parts {
     pub frames: Frames,
     pub thrown: Option<u32>,
     pub begun: bool,
-    pub shared: Shared,
-    pub output: Seq<u8>,
+    pub runtime: Runtime,
     pub ending: Option<Ending>,
 }
 

@@ -10,13 +10,12 @@ ghost use Rattle.prepared_code.specs.Entries.{catching_of, no_version, own_numbe
 ghost use Rattle.prepared_code.specs.Making.{bare, bare_versions, without_lines};
 ghost use Rattle.prepared_code.specs.Entries.{version_entry, version_of};
 ghost use Rattle.prepared_code.specs.Prepared.{FitsOriginals, HasShortCode};
-ghost use Rattle.prepared_code.specs.Prepared.{exception_kind, exception_in};
+ghost use Rattle.symbolic_references.specs.ProgramFacts.{AreTablesOf, exception_in, exception_kind};
 
 use crate::descriptor::shape_of;
 use crate::line::Line;
 use crate::members::code_of;
 use crate::objects::kind_for;
-use crate::originals::{Exceptions, Method};
 use crate::resolving::line_of;
 use crate::symbolic_reference::class_in;
 use crate::versions::{Catching, PreparedCode, Version, Versions};
@@ -26,6 +25,7 @@ use jf_bytes::{NoMemory, Seq, Text16};
 use jvm_model::{Mark, MethodPlace, Program};
 use method_versions::Held;
 use std::alloc::Global;
+use symbolic_references::{Exceptions, Method, MethodNumbers, ProgramTables};
 
 /// The line at an offset of a code.
 pub fn code_line(
@@ -353,6 +353,7 @@ pub fn exceptions_of(program: &Program) -> Exceptions
     ensures raised { (e : TheException) →
         exception_in program.now result e ≡ exception_kind program.now e }
     ensures string { result.string ≡ kind_for program.now string }
+    ensures small { result.string < 2 ^ 25 }
 {
     Exceptions {
         abstract_method: kind_for(program, b"java/lang/AbstractMethodError"),
@@ -373,4 +374,18 @@ pub fn exceptions_of(program: &Program) -> Exceptions
         unsatisfied_link: kind_for(program, b"java/lang/UnsatisfiedLinkError"),
         string: kind_for(program, b"java/lang/String"),
     }
+}
+
+/// What is asked of a program again and again, in tables.
+pub fn tables_of(alloc: Global, program: &Program) -> Result<ProgramTables, NoMemory>
+    requires { FitsOriginals program.now }
+    ensures { IfOk result (AreTablesOf program.now) }
+{
+    let numbers = MethodNumbers::new(alloc, program)?;
+    let methods = prepare_methods(alloc, program)?;
+    Ok(ProgramTables {
+        numbers,
+        methods,
+        exceptions: exceptions_of(program),
+    })
 }

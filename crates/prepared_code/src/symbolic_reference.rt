@@ -229,16 +229,3 @@ pub fn named_action(reference: Option<SymbolicReference>) -> Option<Action>
         None
     }
 }
-
-// ---- text in ASCII
-
-/// The units of a text in ASCII.
-pub fn units_of(alloc: Global, bytes: &[u8]) -> Result<Seq<u16>, NoMemory>
-    ensures { IfOk result (λ units. units ≡ bytes.now) }
-{
-    let mut units = Seq::with_capacity(alloc, bytes.len())?;
-    for byte in bytes {
-        units.push(u16::from(*byte))?;
-    }
-    Ok(units)
-}

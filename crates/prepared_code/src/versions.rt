@@ -9,7 +9,7 @@ ghost use Rattle.prepared_code.specs.Tables.{Adds, AreAllCurrent, AreOfMethods, 
 ghost use Rattle.prepared_code.specs.Versions.{current_of, first_of, line_at, line_in, mark_of};
 
 use crate::line::Line;
-use class_linker::Linker;
+use class_index::Index;
 use frame_stack::Frames;
 use jf_bytes::{NoMemory, Seq, Text16};
 use jvm_model::Mark;
@@ -147,14 +147,14 @@ pub fn has_lines(versions: &Versions, version: usize) -> bool
 /// The line at a place of a version that has its lines.
 #[inline(always)]
 pub fn line_there<'a>(
-    linker: &Linker,
+    index: &Index,
     versions: &'a Versions,
     version: usize,
     place: u16,
 ) -> Option<&'a Line>
-    requires { HasItsLines linker.now.program versions.now version }
+    requires { HasItsLines index.now versions.now version }
     ensures { option_copied result
-        ≡ line_at (with_lines linker.now.program versions.now) version place }
+        ≡ line_at (with_lines index.now versions.now) version place }
 {
     line_at(versions, version, place)
 }

@@ -19,13 +19,15 @@ use Rattle.class_linker.specs.Linkers.{LinkerView}
 use Rattle.symbolic_references.specs.declared.known.Known.{Known}
 use Rattle.jvm_basic.specs.Outcomes.{top_locals}
 use Rattle.symbolic_references.specs.Answers.{done_on}
-use Rattle.symbolic_references.specs.Attempts.{attempts, linker_with, loaded_for, loads_nothing, shared_loaded, world_over}
+use Rattle.symbolic_references.specs.Runtimes.{RuntimeView, linker_in}
+use Rattle.symbolic_references.specs.Attempts.{attempts, linker_with, loaded_for, loads_nothing, shared_loaded}
 use Rattle.symbolic_references.specs.Known.{IsFoundAs, IsKnown, LoadsNothing}
 use Rattle.symbolic_references.specs.Objects.{IsResolved}
 use Rattle.symbolic_references.specs.Resolved.{does_resolved, skips}
 use Rattle.symbolic_references.proofs.Attempted.{done_found, done_skipped}
 use Rattle.symbolic_references.proofs.Loads.{Loads, loads}
-use Rattle.symbolic_references.proofs.ObjectLemmas.{among-front, usable_more, with_more}
+use Rattle.symbolic_references.proofs.ObjectLemmas.{among-front, usable_more}
+use Rattle.symbolic_references.specs.Attempts.{with_more}
 
 nothing-by : (p : Program) (loaded : List ℕ) (n : SymbolicReference) (b : Bool) → load_of p loaded (resolved_name n) ≡ loading_done loaded
     → (if b then drop (length loaded) (load_of p loaded (resolved_name n)).loaded else []) ≡ []
@@ -45,22 +47,19 @@ pub kind-there : (p : Program) (loaded name : List ℕ) (kind : ℕ) → load_of
 kind-there p loaded name kind is named =
     sym (ap (λ (l : Loading). kind_unless l.fault (kind_named p name)) is ∙ ap (λ o. kind_unless None o) named)
 
-module _ (l : LinkerView) (input : List ℕ) (n : SymbolicReference) (k : Known) (s : Shared) (f : FramesView)
-    (linked : l.loaded ≡ s.loaded) (known : IsKnown l n k) where
-  loads-same : load_of l.program s.loaded (resolved_name n) ≡ loading_done s.loaded
-  loads-same = subst (λ classes. load_of l.program classes (resolved_name n) ≡ loading_done classes) linked known.loads
-
-  same : does_named (world_over l input) n s (top_locals f.frames) (top_operands f.frames) ≡ done_on (attempts (world_over l input) n s f) f
-  same = sym (ap (λ (t : Shared). does_named (world_over l input) n t (top_locals f.frames) (top_operands f.frames)) (same-shared l.program n s f loads-same))
+module _ (v : RuntimeView) (n : SymbolicReference) (k : Known) (f : FramesView) (known : IsKnown (linker_in v) n k) where
+  same : does_named v.world n v.shared (top_locals f.frames) (top_operands f.frames) ≡ done_on (attempts v.world n v.shared f) f
+  same =
+      sym (ap (λ (t : Shared). does_named v.world n t (top_locals f.frames) (top_operands f.frames)) (same-shared v.world.program n v.shared f known.loads))
 
   pub done_again : resolves n (top_operands f.frames) ≡ true
-      → done_on (does_resolved (world_over l input) k.kind n s) f ≡ done_on (attempts (world_over l input) n s f) f
+      → done_on (does_resolved v.world k.kind n v.shared) f ≡ done_on (attempts v.world n v.shared f) f
   done_again is =
-      done_found (world_over l input) n s f k.kind is (kind-there l.program s.loaded (resolved_name n) k.kind loads-same known.resolved.named) ∙ same
+      done_found v.world n v.shared f k.kind is (kind-there v.world.program v.shared.loaded (resolved_name n) k.kind known.loads known.resolved.named) ∙ same
 
   pub skipped_again : resolves n (top_operands f.frames) ≡ false
-      → done_with s (skips n (top_locals f.frames) (top_operands f.frames)) ≡ done_on (attempts (world_over l input) n s f) f
-  skipped_again is = done_skipped (world_over l input) n s f is ∙ same
+      → done_with v.shared (skips n (top_locals f.frames) (top_operands f.frames)) ≡ done_on (attempts v.world n v.shared f) f
+  skipped_again is = done_skipped v.world n v.shared f is ∙ same
 
 -- ---- behind a resolution there is nothing more to load
 

@@ -14,8 +14,7 @@ use Rattle.jvm_model.specs.Instructions.CreationRules.{counts_from, counts_of, l
 use Rattle.jvm_model.specs.Basis.KindNumbers.{first_array, user_count}
 use Rattle.class_linker.specs.Linkers.{IsLoaded, LinkerView}
 use Rattle.jvm_model.specs.Basis.Data.{Operands, GoesOn, Next}
-use Rattle.symbolic_references.specs.Answers.{frames_of}
-use Rattle.symbolic_references.specs.Arrays.{int_at, lengths_from}
+use Rattle.symbolic_references.specs.Arrays.{AreUsable, int_at, lengths_from}
 use Rattle.symbolic_references.specs.Objects.{AreLoaded, IsUsable}
 use Rattle.symbolic_references.proofs.Going.{height-dropped, within-limit}
 use Rattle.symbolic_references.proofs.KindLemmas.{under_usable}
@@ -103,42 +102,16 @@ counts_count n o counts e = counts-length n [] o counts e ∙ (let z : n + 0 ≡
 
 -- ---- the operands' room
 
-pub fits_below : (n object : ℕ) (counts : List ℤ) (fs : List PlacedFrame) → AreSound fs → 1 ≤ n → counts_of n (top_operands fs) ≡ Some counts
-    → can_hold (Ref object ∷ drop n (top_operands fs)) fs ≡ true
-fits_below zero object counts fs sound least e = absurd (let no : 1 ≤ 0 → ⊥ = λ h. omega arith in no least)
-fits_below (suc n) object counts [] sound least e = absurd (let no : None ≡ Some counts → ⊥ = λ e. cc in no e)
-fits_below (suc n) object counts (f ∷ fs) sound least e = by f.operands refl e
+pub enough_below : (n : ℕ) (o : Operands) (counts : List ℤ) → counts_of n o ≡ Some counts → n ≤ length o
+enough_below n o counts e = counted n [] o counts e
   where
-    by : (o : Operands) → f.operands ≡ o → counts_from (suc n) [] o ≡ Some counts
-        → nat_le (height_of (Ref object ∷ drop (suc n) f.operands)) f.max_stack ≡ true
-    by [] is e = absurd (let no : None ≡ Some counts → ⊥ = λ e. cc in no e)
-    by (Long c ∷ below) is e = absurd (let no : None ≡ Some counts → ⊥ = λ e. cc in no e)
-    by (Ref c ∷ below) is e = absurd (let no : None ≡ Some counts → ⊥ = λ e. cc in no e)
-    by (Addr c ∷ below) is e = absurd (let no : None ≡ Some counts → ⊥ = λ e. cc in no e)
-    by (Int c ∷ below) is e =
-        let all : height_of f.operands ≤ f.max_stack = sound.0.operands in
-        let top : 1 + height_of below ≤ f.max_stack = subst (λ o. height_of o ≤ f.max_stack) is all in
-        let rest : height_of (drop n below) ≤ height_of below = height-dropped n below in
-        let whole : 1 + height_of (drop n below) ≤ f.max_stack = omega arith in
-        ap (λ o. nat_le (height_of (Ref object ∷ drop (suc n) o)) f.max_stack) is ∙ within-limit (1 + height_of (drop n below)) f.max_stack whole
-
--- a value in place of operands that were taken off
-abbrev put_on : PlacedFrame → Value → ℕ → ℕ → PlacedFrame
-put_on f v count next = record f { place = next; operands = v ∷ drop count f.operands }
-
-frames-put : (v : Value) (count next : ℕ) (fs : List PlacedFrame) (room : Option ℕ) → can_hold (v ∷ drop count (top_operands fs)) fs ≡ true
-    → frames_of (λ l o. GoesOn l (v ∷ o) Next) next (record { frames = without_arguments count fs; room = room })
-    ≡ frames_of (λ l o. GoesOn l (v ∷ drop count o) Next) next (record { frames = fs; room = room })
-frames-put v count next [] room e = absurd (let no : false ≡ true → ⊥ = λ e. cc in no e)
-frames-put v count next (f ∷ fs) room e =
-    ap (λ b. let x : FramesView = record { frames = if b then put_on f v count next ∷ fs else record f { operands = drop count f.operands } ∷ fs; room = room } in x) e
-    ∙ sym (ap (λ b. let x : FramesView = record { frames = if b then put_on f v count next ∷ fs else f ∷ fs; room = room } in x) e)
-
-pub put_dropped : (v : Value) (count next : ℕ) (old new : FramesView) → can_hold (v ∷ drop count (top_operands old.frames)) old.frames ≡ true
-    → new ≡ with_frames (without_arguments count old.frames) old
-    → frames_of (λ l o. GoesOn l (v ∷ o) Next) next new ≡ frames_of (λ l o. GoesOn l (v ∷ drop count o) Next) next old
-put_dropped v count next old new e is =
-    ap (λ f. frames_of (λ l o. GoesOn l (v ∷ o) Next) next f) is ∙ frames-put v count next old.frames old.room e
+    counted : (n : ℕ) (above : List ℤ) (o : Operands) (counts : List ℤ) → counts_from n above o ≡ Some counts → n ≤ length o
+    counted zero above o counts e = omega arith
+    counted (suc n) above (Int c ∷ below) counts e = let rest = counted n (c ∷ above) below counts e in omega (arith, rest)
+    counted (suc n) above [] counts e = absurd (let no : None ≡ Some counts → ⊥ = λ e. cc in no e)
+    counted (suc n) above (Long c ∷ below) counts e = absurd (let no : None ≡ Some counts → ⊥ = λ e. cc in no e)
+    counted (suc n) above (Ref c ∷ below) counts e = absurd (let no : None ≡ Some counts → ⊥ = λ e. cc in no e)
+    counted (suc n) above (Addr c ∷ below) counts e = absurd (let no : None ≡ Some counts → ⊥ = λ e. cc in no e)
 
 -- ---- arrays and their parts
 
@@ -156,9 +129,15 @@ parts_step make array at n h more =
 -- the classes of the arrays are loaded
 module _ (l : LinkerView) where
   abbrev Down : ℕ → List ℕ → Type 0
-  Down kind [] = Unit {0}
-  Down kind (n ∷ []) = IsUsable l kind
-  Down kind (n ∷ next ∷ more) = IsUsable l kind × Down (kind - first_array) (next ∷ more)
+  Down kind lengths = AreUsable l kind lengths
+
+  pub down-first : (kind n : ℕ) (rest : List ℕ) → AreUsable l kind (n ∷ rest) → IsUsable l kind
+  down-first kind n [] down = down
+  down-first kind n (next ∷ more) down = down.0
+
+  pub down-rest : (kind n : ℕ) (rest : List ℕ) → 0 < length rest → AreUsable l kind (n ∷ rest) → AreUsable l (kind - 16777216) rest
+  down-rest kind n [] some down = tt
+  down-rest kind n (next ∷ more) some down = down.1
 
   parts-loaded : (make : HeapView → HeapView) → ((h : HeapView) → AreLoaded l h → AreLoaded l (make h)) → (array at left : ℕ) (h : HeapView)
       → AreLoaded l h → AreLoaded l (with_parts make array at left h)
@@ -187,9 +166,8 @@ module _ (l : LinkerView) where
           → IsUsable l (kind - 16777216)
       below_usable kind depth is few root usable = under_usable l root kind (grind (arith)) usable
 
-  pub arrays_loaded : (lengths : List ℕ) (kind : ℕ) (h : HeapView) → length lengths ≤ kind / 16777216 → IsUsable l kind → AreLoaded l h
-      → AreLoaded l (with_arrays kind lengths h)
-  arrays_loaded lengths kind h few usable are = arrays-loaded lengths kind (downwards lengths kind (kind / 16777216) refl few are.root usable) h are
+  pub all-usable : (lengths : List ℕ) (kind : ℕ) → length lengths ≤ kind / 16777216 → IsUsable l kind → IsLoaded l (user_count l.program) → AreUsable l kind lengths
+  all-usable lengths kind few usable root = downwards lengths kind (kind / 16777216) refl few root usable
 
 -- ---- as the code reads them
 

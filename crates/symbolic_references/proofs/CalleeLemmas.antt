@@ -13,10 +13,7 @@ use Rattle.jvm_model.specs.Classes.Lookup.{MemberPlace}
 use Rattle.jvm_model.specs.Instructions.NativeRules.{runs_native, runs_number}
 use Rattle.jvm_model.specs.Instructions.ObjectRules.{done}
 use Rattle.jvm_model.specs.Basis.Programs.{number_of_method}
-use Rattle.symbolic_references.specs.declared.asked.Asked.TheVariants.{Invokes as Calling}
-use Rattle.symbolic_references.specs.Answers.{Calls}
 use Rattle.symbolic_references.specs.Callees.{IsCode, IsNative}
-use Rattle.symbolic_references.specs.Does.{Does, IsDone, parts_changed}
 use Rattle.symbolic_references.specs.Targets.{data_in}
 use Rattle.symbolic_references.proofs.TargetLemmas.{length-data}
 
@@ -34,12 +31,3 @@ module _ (w : World) (m : MemberPlace) (args : List Datum) (s : Shared) (l : Loc
       ∙ (ap (λ o. invokes_number w m o args s l below) is.codeless
       ∙ (ap (λ b. if b then done s (Raises unsatisfied_link None) else runs_native w (reference_to w.program m) args s l below) is.built_in
       ∙ ap (λ o. option_map_or (λ number. runs_number w number args s l below) o (done s (Breaks false))) is.named))
-
--- a call of code by its number
-pub code-does : (w : World) (m : MemberPlace) (s : Shared) (f : FramesView) (out : List ℕ) (count next n : ℕ) → count ≤ length (top_operands f.frames) → IsCode w.program m n
-    → Does (Ok (Calling n count)) (invokes_selected w (Some m) (data_in count (top_operands f.frames)) s (top_locals f.frames) (drop count (top_operands f.frames))) next
-    (parts_changed f s out) (parts_changed f s out)
-code-does w m s f out count next n within is =
-    subst (λ d. IsDone d next (parts_changed f s out) (parts_changed f s out) (Calling n count))
-    (sym (code-invoked w m (data_in count (top_operands f.frames)) s (top_locals f.frames) (drop count (top_operands f.frames)) n is))
-    (record { answer = ap (Calls n) (sym (length-data count (top_operands f.frames) within)); frames = refl; shared = refl; output = sym (append-nil out) })

@@ -1,30 +1,43 @@
--- What is proved of a rule holds of another one that asks for the same of the frame.
-use Rattle.std.proofs.Common.{◌≡◌, ℕ, List, ◌++◌, Option, Some, ap, sym, subst, ◌∙◌}
-use Rattle.std.specs.Prelude.{Result}
+-- What is proved of a rule holds of another one that asks for the same of the frame, and what a refusal leaves.
+use Rattle.std.proofs.Common.{◌≡◌, ℕ, suc, zero, List, [], ◌∷◌, ◌++◌, ◌≤◌, length, Option, Some, None, ap, sym, subst, ◌∙◌}
+use Rattle.std.proofs.lemmas.List.{append-nil}
+use Rattle.std.specs.Prelude.{Result, IfOk, OnOk}
 use Rattle.jf_bytes.specs.declared.error.NoMemory.{NoMemory}
-use Rattle.frame_stack.specs.FrameLists.{FramesView, with_frames}
+use Rattle.heap_objects.specs.declared.Value.{Value}
+use Rattle.frame_stack.specs.FrameLists.{FramesView}
+use Rattle.jvm_model.specs.Basis.Data.{Operands, Done}
+use Rattle.jvm_model.specs.Basis.Data as model
+use Rattle.jvm_model.specs.Instructions.ObjectRules.{done}
+use Rattle.symbolic_references.specs.declared.outcome.Outcome.{Outcome}
+use Rattle.symbolic_references.specs.declared.outcome.Outcome.TheVariants.{Goes}
+use Rattle.symbolic_references.specs.Answers.{Rule, done_on}
+use Rattle.symbolic_references.specs.Outcomes.{Asks, HasOperands, Leaves, Sets, asked}
+use Rattle.symbolic_references.specs.Runtimes.{RuntimeView, after, with_shared}
 use Rattle.jvm_model.specs.declared.program.Program.{Program}
 use Rattle.jvm_model.specs.declared.state.Shared.{Shared}
 use Rattle.jvm_model.specs.declared.state.Phase.{Phase}
 use Rattle.jvm_model.specs.declared.state.Phase.TheVariants.{Ready, Running}
-use Rattle.jvm_model.specs.Basis.Data.{Done}
 use Rattle.jvm_model.specs.Instructions.Rules.{when_ready}
-use Rattle.std.specs.Prelude.{IfOk, OnOk}
-use Rattle.symbolic_references.specs.declared.asked.Asked.{Asked}
-use Rattle.symbolic_references.specs.Answers.{Answers, Moves, Rule, Shares, answer_in, answer_view, done_on, frames_in, wrote_by}
 
-module _ (result : Result Asked NoMemory) (a b : Rule) (f : FramesView) (same : done_on a f ≡ done_on b f) where
-  pub answers_by : Answers result a f → Answers result b f
-  answers_by = subst (λ (d : Done). IfOk result (λ x. answer_view x ≡ answer_in d.outcome f.frames)) same
+module _ (result : Result Outcome NoMemory) (a b : Rule) (f : FramesView) (same : done_on a f ≡ done_on b f) where
+  pub asks_by : Asks result a f → Asks result b f
+  asks_by = subst (λ (d : Done). IfOk result (λ x. asked x f ≡ d.outcome)) same
 
-  pub moves_by : (new : FramesView) (next : ℕ) → Moves result new a next f → Moves result new b next f
-  moves_by new next = subst (λ (d : Done). OnOk result (new ≡ with_frames (frames_in d.outcome next f.frames) f)) same
+  pub leaves_by : (new old : RuntimeView) → Leaves result new a f old → Leaves result new b f old
+  leaves_by new old = subst (λ (d : Done). OnOk result (new ≡ after d old)) same
 
-  pub shares_by : (new : Shared) → Shares result new a f → Shares result new b f
-  shares_by new = subst (λ (d : Done). OnOk result (new ≡ d.shared)) same
+  pub sets_by : (new old : RuntimeView) → Sets result new a f old → Sets result new b f old
+  sets_by new old = subst (λ (d : Done). OnOk result (new ≡ with_shared d.shared old)) same
 
-  pub writes_by : (new old : List ℕ) → OnOk result (new ≡ old ++ wrote_by a f) → OnOk result (new ≡ old ++ wrote_by b f)
-  writes_by new old = subst (λ (d : Done). OnOk result (new ≡ old ++ d.wrote)) same
+pub still : (v : RuntimeView) (d : Done) (q : model.Outcome) → done v.shared q ≡ d → v ≡ after d v
+still v d q is =
+    ap (λ out. record v { output = out }) (sym (append-nil v.output)) ∙ ap (λ d. after d v) is
+
+pub enough_operands : (n : ℕ) (v : Option Value) (o : Operands) → n ≤ length o → HasOperands (Goes n v) o
+enough_operands zero v o h = tt
+enough_operands (suc zero) v o h = tt
+enough_operands (suc (suc n)) None o h = tt
+enough_operands (suc (suc n)) (Some v) o h = h
 
 -- a class that is initialized, or is being
 pub when_it_is_ready : (p : Program) (o : Option Phase) (x : Phase) (class : ℕ) (s : Shared) (d : Done) → Some x ≡ o → x ≡ Ready → d ≡ when_ready p o class s d

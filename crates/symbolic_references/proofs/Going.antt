@@ -1,6 +1,6 @@
 -- A frame that goes on, unless its operands were too deep, and operands that are taken off.
 use Rattle.std.proofs.Common.{◌≡◌, ℕ, zero, suc, ◌+◌, ◌≤◌, Bool, true, false, List, [], ◌∷◌, length, drop, refl, ap, ◌∙◌, arith}
-use Rattle.std.specs.Prelude.{nat_le, if◌then◌else◌}
+use Rattle.std.specs.Prelude.{Some, nat_le, if◌then◌else◌}
 use Rattle.std.proofs.lemmas.List.{drop-drop}
 use Rattle.heap_objects.specs.declared.Value.{Value}
 use Rattle.heap_objects.specs.declared.Value.TheVariants.{Int, Long, Ref, Addr}
@@ -9,11 +9,15 @@ use Rattle.frame_stack.specs.Widths.{height_of, width}
 use Rattle.jvm_basic.specs.declared.effect.Effect.TheVariants.{Next, Bad}
 use Rattle.jvm_basic.specs.Outcomes.{can_hold}
 use Rattle.jvm_model.specs.Basis.Data.{Operands}
-use Rattle.symbolic_references.specs.Answers.{Continues, Exceeds, answer_view, asked_by}
+use Rattle.symbolic_references.specs.Answers.{Continues, Exceeds}
+use Rattle.symbolic_references.specs.Going.{has_gone}
+use Rattle.symbolic_references.specs.Passing.{is_next}
+use Rattle.symbolic_references.specs.Outcomes.{HasOperands}
+use Rattle.symbolic_references.specs.declared.outcome.Outcome.TheVariants.{Goes}
 
-pub asked_if : (b : Bool) → answer_view (asked_by (if b then Next else Bad)) ≡ (if b then Continues else Exceeds)
-asked_if true = refl
-asked_if false = refl
+pub gone_if : (b : Bool) → has_gone (if b then Next else Bad) ≡ b
+gone_if true = refl
+gone_if false = refl
 
 -- ---- operands that are taken off
 
@@ -64,3 +68,14 @@ fits-in-two v n (f ∷ fs) sound least most =
     within-limit (height_of (v ∷ drop n f.operands)) f.max_stack
     (let lower : height_of (v ∷ drop n f.operands) ≤ height_of f.operands = lower-with v n f.operands least most in
     let all : height_of f.operands ≤ f.max_stack = sound.0.operands in omega arith)
+
+pub enough-of : (n : ℕ) (v : Value) (o : Operands) → HasOperands (Goes n (Some v)) o → 2 ≤ n → n ≤ length o
+enough-of zero v o has least = omega arith
+enough-of (suc zero) v o has least = omega arith
+enough-of (suc (suc n)) v o has least = has
+
+-- ---- whether it has gone on
+
+pub next_if : (b : Bool) → b ≡ is_next (if b then Continues else Exceeds)
+next_if true = refl
+next_if false = refl

@@ -1,4 +1,5 @@
 mod NumberLaws
+pub mod Positions
 mod KindLemmas
 mod Loads
 mod Behind

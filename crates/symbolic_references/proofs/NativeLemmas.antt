@@ -27,9 +27,10 @@ use Rattle.jvm_model.specs.Basis.Data.{Locals, Operands, World, Outcome, Throws,
 use Rattle.jvm_model.specs.Basis.KindNumbers.{class_of_base, user_count}
 use Rattle.jvm_model.specs.Instructions.NativeRules.{kinds_in, outcome_of, runs_number, seen_by_natives, thrown_by}
 use Rattle.class_linker.specs.Linkers.{IsLoaded, LinkerView}
-use Rattle.symbolic_references.specs.declared.asked.Asked.{Asked}
-use Rattle.symbolic_references.specs.Answers.{answer_of, answer_view, frames_of}
-use Rattle.symbolic_references.specs.Does.{Does, IsDone, parts_changed}
+use Rattle.symbolic_references.specs.declared.outcome.Outcome.{Outcome as TheOutcome}
+use Rattle.symbolic_references.specs.NativeCalls.{native_answer, native_left, with_left}
+use Rattle.symbolic_references.specs.Outcomes.{asked}
+use Rattle.symbolic_references.specs.Runtimes.{RuntimeView, after}
 use Rattle.symbolic_references.specs.Natives.{HasBuiltIn, outcome_by}
 use Rattle.symbolic_references.specs.Objects.{AreLoaded, IsUsable}
 use Rattle.symbolic_references.specs.Targets.{as_datum, data_in}
@@ -96,86 +97,33 @@ outcome-same (answer.Throws class) l below = refl
 outcome-same (answer.Exit status) l below = refl
 outcome-same answer.Bad l below = refl
 
--- what a call that was done leaves of what is shared
-abbrev pub shared_with : natives.World → Shared → Shared
-shared_with left s = record s { heap = left.heap; made = left.made; read = left.read }
-
--- what the call of the method of this number promises, by what is loaded and by its arguments
-pub record IsCalled (w : World) (number : ℕ) (s : Shared) (old : List ℕ) (native : Native) (heap : HeapView) (made : MadeView) (read : ℕ)
-    (out loaded : List ℕ) (args : List Datum) : Type 0 where
-  pub answer : IsAnswer native (answer_by number (kinds_in w.program loaded) args (seen_by_natives w s))
-  pub heaped : heap ≡ (left_by (is_done native) number (kinds_in w.program loaded) args (seen_by_natives w s)).heap
-  pub kept : made ≡ (left_by (is_done native) number (kinds_in w.program loaded) args (seen_by_natives w s)).made
-  pub taken : read ≡ (left_by (is_done native) number (kinds_in w.program loaded) args (seen_by_natives w s)).read
-  pub written : out ≡ old ++ (left_by (is_done native) number (kinds_in w.program loaded) args (seen_by_natives w s)).wrote
-
-pub called-with : (w : World) (number : ℕ) (s : Shared) (old : List ℕ) (native : Native) (heap : HeapView) (made : MadeView) (read : ℕ)
-    (out loaded known : List ℕ) (given args : List Datum) → loaded ≡ known → given ≡ args
-    → IsCalled w number s old native heap made read out loaded given → IsCalled w number s old native heap made read out known args
-called-with w number s old native heap made read out loaded known given args linked same is =
-    subst (λ xs. IsCalled w number s old native heap made read out known xs) same
-    (subst (λ ks. IsCalled w number s old native heap made read out ks given) linked is)
-
-module _ (w : World) (number : ℕ) (args : List Datum) (s : Shared) (f : FramesView) (old : List ℕ) (count next : ℕ) where
-  abbrev kinds : KindsView
-  kinds = kinds_in w.program s.loaded
-
-  abbrev seen : natives.World
-  seen = seen_by_natives w s
-
+module _ (v : RuntimeView) (number : ℕ) (args : List Datum) (f : FramesView) (count : ℕ) where
   abbrev below_in : Operands
   below_in = drop count (top_operands f.frames)
 
-  -- what is left by the call
-  abbrev left_in : Native → natives.World
-  left_in native = left_by (is_done native) number kinds args seen
-
   abbrev comes_to : Done
-  comes_to = runs_number w number args s (top_locals f.frames) below_in
+  comes_to = runs_number v.world number args v.shared (top_locals f.frames) below_in
 
-  -- the outcome is that of the answer
-  module _ (native : Native) (q : Outcome) (same : outcome_by native (top_locals f.frames) below_in ≡ q) (moved : FramesView) (asked : Asked)
-      (answers : answer_view asked ≡ answer_of (λ l o. outcome_by native l (drop count o)) f)
-      (goes : moved ≡ frames_of (λ l o. outcome_by native l (drop count o)) next f) (left : natives.World) where
-    with-outcome : IsDone (record { shared = shared_with left s; wrote = left.wrote; outcome = q }) next (parts_changed f s old)
-        (parts_changed moved (shared_with left s) (old ++ left.wrote)) asked
-    with-outcome =
-        subst (λ q. IsDone (record { shared = shared_with left s; wrote = left.wrote; outcome = q }) next (parts_changed f s old)
-        (parts_changed moved (shared_with left s) (old ++ left.wrote)) asked) same
-        (record { answer = answers; frames = goes; shared = refl; output = refl })
+  -- where memory was enough for it the outcome is that of the answer
+  pub answers : (native : Native) → is_done native ≡ true → IsAnswer native (native_answer v number args)
+      → outcome_by native (top_locals f.frames) below_in ≡ comes_to.outcome
+  answers native enough is =
+      ap (λ a. outcome_by a (top_locals f.frames) below_in) (is enough) ∙ outcome-same (native_answer v number args) (top_locals f.frames) below_in
 
-  pub by-number : (native : Native) (moved : FramesView) (asked : Asked) → is_done native ≡ true
-      → IsAnswer native (answer_by number kinds args seen)
-      → answer_view asked ≡ answer_of (λ l o. outcome_by native l (drop count o)) f
-      → moved ≡ frames_of (λ l o. outcome_by native l (drop count o)) next f
-      → IsDone comes_to next (parts_changed f s old) (parts_changed moved (shared_with (left_in native) s) (old ++ (left_in native).wrote)) asked
-  by-number native moved asked enough is answers goes =
-      subst (λ (left : natives.World). IsDone comes_to next (parts_changed f s old) (parts_changed moved (shared_with left s) (old ++ left.wrote)) asked)
-      (sym (ap (λ b. changed_if b (world_by number kinds args) seen) enough))
-      (with-outcome native (outcome_of (answer_by number kinds args seen) (top_locals f.frames) below_in)
-      (ap (λ a. outcome_by a (top_locals f.frames) below_in) (is enough)
-      ∙ outcome-same (answer_by number kinds args seen) (top_locals f.frames) below_in)
-      moved asked answers goes (world_by number kinds args seen))
+  pub leaves : (native : Native) → is_done native ≡ true → with_left (native_left v number args native) v ≡ after comes_to v
+  leaves native enough =
+      ap (λ b. with_left (changed_if b (world_by number (kinds_in v.world.program v.shared.loaded) args) (seen_by_natives v.world v.shared)) v) enough
 
-  -- memory was enough for it
-  pub runs-numbered : (native : Native) (result : Result Asked NoMemory) (moved : FramesView) (heap : HeapView) (made : MadeView) (read : ℕ) (out : List ℕ)
-      → IsCalled w number s old native heap made read out s.loaded args
-      → OnOk result (is_done native ≡ true)
-      → IfOk result (λ a. answer_view a ≡ answer_of (λ l o. outcome_by native l (drop count o)) f)
-      → OnOk result (moved ≡ frames_of (λ l o. outcome_by native l (drop count o)) next f)
-      → Does result comes_to next (parts_changed f s old) (parts_changed moved (record s { heap = heap; made = made; read = read }) out)
-  runs-numbered native (Err e) moved heap made read out is enough answers goes = tt
-  runs-numbered native (Ok asked) moved heap made read out is enough answers goes =
-      subst (λ (x : HeapView). IsDone comes_to next (parts_changed f s old) (parts_changed moved (record s { heap = x; made = made; read = read }) out) asked) (sym is.heaped)
-      (subst (λ (x : MadeView). IsDone comes_to next (parts_changed f s old) (parts_changed moved (record s { heap = left.heap; made = x; read = read }) out) asked) (sym is.kept)
-      (subst (λ (x : ℕ). IsDone comes_to next (parts_changed f s old) (parts_changed moved (record s { heap = left.heap; made = left.made; read = x }) out) asked) (sym is.taken)
-      (subst (λ (x : List ℕ). IsDone comes_to next (parts_changed f s old) (parts_changed moved (shared_with left s) x) asked) (sym is.written)
-      (by-number native moved asked enough is.answer answers goes))))
-    where
-      left : natives.World
-      left = left_in native
+  -- unless memory ran out
+  pub runs-numbered : (native : Native) (result : Result TheOutcome NoMemory) → OnOk result (is_done native ≡ true) → IsAnswer native (native_answer v number args)
+      → IfOk result (λ a. asked a f ≡ outcome_by native (top_locals f.frames) below_in) → IfOk result (λ a. asked a f ≡ comes_to.outcome)
+  runs-numbered native (Ok a) enough is told = told ∙ answers native enough is
+  runs-numbered native (Err e) enough is told = tt
 
--- ---- arguments
+  pub leaves-numbered : (native : Native) (result : Result TheOutcome NoMemory) (new : RuntimeView) → OnOk result (is_done native ≡ true)
+      → new ≡ with_left (native_left v number args native) v → OnOk result (new ≡ after comes_to v)
+  leaves-numbered native (Ok a) new enough is = is ∙ leaves native enough
+  leaves-numbered native (Err e) new enough is = tt
 
 data-next : (o : Operands) (n : ℕ) (v : Value) → slice_get o n ≡ Some v → data_in (n + 1) o ≡ as_datum v ∷ data_in n o
 data-next o n v e =

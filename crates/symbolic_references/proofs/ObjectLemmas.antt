@@ -1,17 +1,20 @@
 -- The classes of a heap's objects stay loaded, and those of new objects are.
 use Rattle.std.proofs.Common.{◌≡◌, ℕ, zero, suc, ◌-◌, Bool, true, false, List, [], ◌∷◌, ◌++◌, sym, subst, refl}
-use Rattle.std.specs.Prelude.{Some, None, slice_get, ◌==◌, ◌||◌, if◌then◌else◌}
+use Rattle.std.specs.Prelude.{Some, None, is_some, slice_get, ◌==◌, ◌||◌, if◌then◌else◌}
 use Rattle.std.specs.List.{AllByRecursion}
 use Rattle.std.specs.Option.{option_map}
 use Rattle.heap_objects.specs.declared.datum.Datum.{Datum}
 use Rattle.heap_objects.specs.declared.object.Object.{Object}
 use Rattle.heap_objects.specs.declared.object.Object.TheVariants.{Instance, Array, Text}
-use Rattle.heap_objects.specs.Heaps.{HeapView, kind_at, with_object, with_slot_at}
+use Rattle.heap_objects.specs.Changes.{changed_if}
+use Rattle.heap_objects.specs.Heaps.{HeapView, kind_at, next_number, with_interned, with_object, with_slot_at, with_text}
+use Rattle.heap_objects.specs.Interning.{number_of, with_number}
 use Rattle.heap_objects.specs.Objects.{changed_at, kind_of, with_slot}
 use Rattle.jvm_model.specs.Basis.KindNumbers.{user_count}
 use Rattle.jvm_model.specs.Classes.Load.{is_among}
 use Rattle.jvm_model.specs.Basis.SharedState.{class_of_kind}
 use Rattle.class_linker.specs.Linkers.{IsLoaded, LinkerView}
+use Rattle.symbolic_references.specs.Attempts.{with_more}
 use Rattle.symbolic_references.specs.Objects.{IsUsable}
 use Rattle.symbolic_references.specs.Objects.{AreLoaded, IsOfLoaded}
 
@@ -24,9 +27,6 @@ among-front class (x ∷ xs) ys is = by (class == x) is (among-front class xs ys
     by : (b : Bool) → (b || is_among class xs) ≡ true → (is_among class xs ≡ true → is_among class (xs ++ ys) ≡ true) → (b || is_among class (xs ++ ys)) ≡ true
     by true is rest = refl
     by false is rest = rest is
-
-abbrev pub with_more : LinkerView → List ℕ → LinkerView
-with_more l more = record l { loaded = l.loaded ++ more }
 
 module _ (l : LinkerView) (more : List ℕ) where
   pub loaded_more : (class : ℕ) → IsLoaded l class → IsLoaded (with_more l more) class
@@ -80,3 +80,21 @@ module _ (l : LinkerView) where
 
   pub objects_slot : (h : HeapView) (object slot : ℕ) (v : Datum) → AreLoaded l h → AreLoaded l (with_slot_at object slot v h)
   objects_slot h object slot v are = record { objects = each-slot slot v (object - 1) h.objects are.objects; root = are.root }
+
+pub objects_if : (l : LinkerView) (b : Bool) (h : HeapView) (o : Object) → AreLoaded l h → IsOfLoaded l o → AreLoaded l (changed_if b (with_object o) h)
+objects_if l true h o are is = objects_with l h o are is
+objects_if l false h o are is = are
+
+pub objects_slot_if : (l : LinkerView) (b : Bool) (h : HeapView) (object slot : ℕ) (v : Datum) → AreLoaded l h
+    → AreLoaded l (changed_if b (with_slot_at object slot v) h)
+objects_slot_if l true h object slot v are = objects_slot l h object slot v are
+objects_slot_if l false h object slot v are = are
+
+pub objects_interned : (l : LinkerView) (b : Bool) (h : HeapView) (kind : ℕ) (units : List ℕ) → AreLoaded l h → IsUsable l kind
+    → AreLoaded l (changed_if b (with_interned kind units) h)
+objects_interned l false h kind units are is = are
+objects_interned l true h kind units are is = by (is_some (number_of units h.interned))
+  where
+    by : (b : Bool) → AreLoaded l (if b then h else record (with_text kind units h) { interned = with_number units (next_number h) h.interned })
+    by true = are
+    by false = let more = objects_with l h (Text kind units) are is in record { objects = more.objects; root = more.root }

@@ -17,7 +17,7 @@ use Rattle.jvm_model.specs.declared.state.Phase.TheVariants.{Erroneous, Fresh, R
 use Rattle.jvm_model.specs.declared.state.Shared.{Shared}
 use Rattle.jvm_model.specs.Basis.Data.{Back, Breaks, Done, Exits, GoesOn, Initializes, Invokes, Locals, Next, Operands, Outcome, Raises, Returns, Subroutine, Target, Throws, World}
 use Rattle.jvm_model.specs.Instructions.Rules.{when_ready}
-use Rattle.symbolic_references.specs.Answers.{Answer, Calls, Continues, Exceeds, Stops, answer_in, frames_in}
+use Rattle.symbolic_references.specs.Answers.{Answer, Continues, Exceeds, Stops, answer_in, frames_in}
 use Rattle.symbolic_references.specs.Fields.{writes}
 use Rattle.jvm_model.specs.Instructions.InvocationRules.{invokes_selected}
 use Rattle.symbolic_references.specs.declared.known.Callee.TheVariants as callee
@@ -25,15 +25,14 @@ use Rattle.symbolic_references.specs.declared.known.Chosen.{Chosen}
 use Rattle.symbolic_references.specs.declared.targets.Target.{Target as TheTarget}
 use Rattle.symbolic_references.specs.Callees.{HasCallee, IsCallee, IsCode, IsNative, chosen_place}
 use Rattle.symbolic_references.specs.Passing.{IfPassed, IsCall, IsNativeCall, is_next, is_usable}
+use Rattle.symbolic_references.specs.Runtimes.{RuntimeView, after}
 use Rattle.symbolic_references.specs.Resolved.{field_found, puts_instance}
 use Rattle.symbolic_references.specs.Targets.{data_in}
 use Rattle.symbolic_references.proofs.CalleeLemmas.{code-invoked, native-invoked}
-use Rattle.symbolic_references.proofs.TargetLemmas.{length-data}
 
 pub next-is : (a : Answer) → is_next a ≡ true → a ≡ Continues
 next-is Continues is = refl
 next-is Exceeds is = absurd (false≢true is)
-next-is (Calls m n) is = absurd (false≢true is)
 next-is (Stops q) is = absurd (false≢true is)
 
 stays : (q : Outcome) (next : ℕ) (fs : List PlacedFrame) → is_next (answer_in q fs) ≡ false → frames_in q next fs ≡ fs
@@ -56,19 +55,19 @@ either : {A : Type 0} (b : Bool) → (b ≡ true → A) → (b ≡ false → A) 
 either true on off = on refl
 either false on off = off refl
 
-module _ (d : Done) (old new : FramesView) (next : ℕ) (s after : Shared) (wrote : d.wrote ≡ []) where
+module _ (d : Done) (old new : FramesView) (next : ℕ) (before left : RuntimeView) where
   -- it has gone on
-  pub passed-on : answer_in d.outcome old.frames ≡ Continues → new ≡ with_frames (frames_in d.outcome next old.frames) old → after ≡ d.shared
-      → IfPassed true d next old s new after
-  passed-on answer moved same = record { answer = answer; frames = moved; shared = same; wrote = wrote }
+  pub passed-on : answer_in d.outcome old.frames ≡ Continues → new ≡ with_frames (frames_in d.outcome next old.frames) old → left ≡ after d before
+      → IfPassed true d next old before new left
+  passed-on answer moved same = record { answer = answer; frames = moved; runtime = same }
 
   -- by what it answers, where nothing that is shared changes
-  pub passed-by : (a : Answer) → a ≡ answer_in d.outcome old.frames → new ≡ with_frames (frames_in d.outcome next old.frames) old → d.shared ≡ s → after ≡ s
-      → IfPassed (is_next a) d next old s new after
+  pub passed-by : (a : Answer) → a ≡ answer_in d.outcome old.frames → new ≡ with_frames (frames_in d.outcome next old.frames) old → before ≡ after d before
+      → left ≡ before → IfPassed (is_next a) d next old before new left
   passed-by a told moved same kept = either (is_next a)
-      (λ on. subst (λ b. IfPassed b d next old s new after) (sym on) (passed-on (sym told ∙ next-is a on) moved (kept ∙ sym same)))
+      (λ on. subst (λ b. IfPassed b d next old before new left) (sym on) (passed-on (sym told ∙ next-is a on) moved (kept ∙ same)))
       (λ off.
-      subst (λ b. IfPassed b d next old s new after) (sym off)
+      subst (λ b. IfPassed b d next old before new left) (sym off)
       (moved ∙ ap (λ fs. with_frames fs old) (stays d.outcome next old.frames (sym (ap is_next told) ∙ off)), kept))
 
 -- where a frame has not gone on without the operands
@@ -96,18 +95,17 @@ puts-written p kind r m s l o x object slot is owned at named =
 
 -- ---- a call of code
 
-pub call-of : (w : World) (s : Shared) (l : Locals) (o : Operands) (t : TheTarget) (m : Chosen) (n : ℕ) → t.selected ≡ Some m → m.callee ≡ callee.Code n → t.count ≤ length o
-    → IfSome t.selected (HasCallee w.program)
-    → IsCall (record { method = n; count = t.count }) (invokes_selected w (option_map chosen_place t.selected) (data_in t.count o) s l (drop t.count o)) s
-call-of w s l o t m n selected code within has =
+pub call-of : (w : World) (s : Shared) (fs : List PlacedFrame) (t : TheTarget) (m : Chosen) (n : ℕ) → t.selected ≡ Some m → m.callee ≡ callee.Code n
+    → t.count ≤ length (top_operands fs) → IfSome t.selected (HasCallee w.program)
+    → IsCall (record { method = n; count = t.count })
+    (invokes_selected w (option_map chosen_place t.selected) (data_in t.count (top_operands fs)) s (top_locals fs) (drop t.count (top_operands fs))) s fs
+call-of w s fs t m n selected code within has =
     let is : IsCode w.program (chosen_place m) n =
     subst (λ x. IsCallee x w.program (chosen_place m)) code (subst (λ x. IfSome x (HasCallee w.program)) selected has) in
     record {
-      args = data_in t.count o;
-      below = drop t.count o;
-      invokes = ap (λ x. invokes_selected w (option_map chosen_place x) (data_in t.count o) s l (drop t.count o)) selected
-          ∙ code-invoked w (chosen_place m) (data_in t.count o) s l (drop t.count o) n is;
-      count = length-data t.count o within;
+      invokes = ap (λ x. invokes_selected w (option_map chosen_place x) (data_in t.count (top_operands fs)) s (top_locals fs) (drop t.count (top_operands fs))) selected
+          ∙ code-invoked w (chosen_place m) (data_in t.count (top_operands fs)) s (top_locals fs) (drop t.count (top_operands fs)) n is;
+      within = within;
     }
 
 -- a call of a native method

@@ -23,15 +23,16 @@ use Rattle.jvm_model.specs.declared.state.Shared.{Shared}
 use Rattle.jvm_model.specs.Basis.Data.{Locals, Operands, Outcome, Done, World}
 use Rattle.jvm_model.specs.Instructions.NativeRules.{kinds_in, runs_number, seen_by_natives}
 use Rattle.jvm_model.specs.Basis.Values.{as_value, with_value}
-use Rattle.symbolic_references.specs.declared.asked.Asked.TheVariants as asked
-use Rattle.symbolic_references.specs.Answers.{Continues, Exceeds, answer_in, answer_of, frames_of}
-use Rattle.symbolic_references.specs.Does.{Changed, parts_changed}
 use Rattle.symbolic_references.specs.Natives.{outcome_by}
-use Rattle.symbolic_references.specs.Passing.{IfRan, is_next}
 use Rattle.symbolic_references.proofs.Going.{height-dropped, least-width, within-limit}
-use Rattle.symbolic_references.proofs.NativeLemmas.{IsCalled, by-number, shared_with}
 use Rattle.symbolic_references.proofs.NativesKept.{IsNarrow, IsNarrowValue, call-keeps}
-use Rattle.symbolic_references.proofs.PassingLemmas.{next-is, not-moved}
+use Rattle.frame_stack.specs.FrameLists.{with_frames}
+use Rattle.symbolic_references.specs.Answers.{Continues, Exceeds, answer_in, frames_in}
+use Rattle.symbolic_references.specs.Passing.{IfPassed, is_next}
+use Rattle.symbolic_references.specs.Runtimes.{RuntimeView, after}
+use Rattle.symbolic_references.proofs.NativeLemmas.{answers, leaves}
+use Rattle.symbolic_references.specs.NativeCalls.{with_left}
+use Rattle.symbolic_references.proofs.PassingLemmas.{next-is, not-moved, passed-on}
 
 -- ---- what is answered has room in place of an argument
 
@@ -79,42 +80,30 @@ either false on off = off refl
 
 -- ---- a call
 
-module _ (w : World) (number : ℕ) (s : Shared) (f : FramesView) (old : List ℕ) (count next : ℕ) (args : List Datum) where
+module _ (v : RuntimeView) (number : ℕ) (f : FramesView) (count next : ℕ) (args : List Datum) where
   abbrev kinds : KindsView
-  kinds = kinds_in w.program s.loaded
+  kinds = kinds_in v.world.program v.shared.loaded
 
   abbrev seen : natives.World
-  seen = seen_by_natives w s
+  seen = seen_by_natives v.world v.shared
 
   abbrev comes_to : Done
-  comes_to = runs_number w number args s (top_locals f.frames) (drop count (top_operands f.frames))
+  comes_to = runs_number v.world number args v.shared (top_locals f.frames) (drop count (top_operands f.frames))
 
-  abbrev goes_by : Native → Locals → Operands → Outcome
-  goes_by x l o = outcome_by x l (drop count o)
-
-  abbrev before : Changed
-  before = parts_changed f s old
+  abbrev goes_by : Native → Outcome
+  goes_by x = outcome_by x (top_locals f.frames) (drop count (top_operands f.frames))
 
   -- what a call leaves
-  abbrev behind : FramesView → natives.World → Changed
-  behind moved left = parts_changed moved (shared_with left s) (old ++ left.wrote)
-
-  none-changed : (moved : FramesView) (left : natives.World) → moved ≡ f → left ≡ seen → behind moved left ≡ before
-  none-changed moved left same kept =
-      ap (λ (x : FramesView). behind x left) same
-      ∙ (ap (λ (x : natives.World). behind f x) kept ∙ ap (λ o. parts_changed f s o) (append-nil old))
+  abbrev behind : natives.World → RuntimeView
+  behind left = with_left left v
 
   module _ (x : Native) (moved : FramesView) (sound : AreSound f.frames) (other : (number == 79) ≡ false) (some : 0 < count) (within : count ≤ length (top_operands f.frames))
-      (is : IsAnswer x (answer_by number kinds args seen)) (goes : moved ≡ frames_of (goes_by x) next f) where
+      (is : IsAnswer x (answer_by number kinds args seen)) (goes : moved ≡ with_frames (frames_in (goes_by x) next f.frames) f) where
     abbrev left_in : natives.World
     left_in = left_by (is_done x) number kinds args seen
 
-    stays : is_next (answer_of (goes_by x) f) ≡ false → left_in ≡ seen → behind moved left_in ≡ before
-    stays off kept =
-        none-changed moved left_in (not-moved (answer_of (goes_by x) f) (outcome_by x (top_locals f.frames) (drop count (top_operands f.frames))) next f moved refl off goes) kept
-
     -- where the frame has not gone on nothing is changed
-    kept-off : is_next (answer_of (goes_by x) f) ≡ false → left_in ≡ seen
+    kept-off : is_next (answer_in (goes_by x) f.frames) ≡ false → left_in ≡ seen
     kept-off off = either (is_done x) done
         (λ undone. ap (λ b. changed_if b (world_by number kinds args) seen) undone)
       where
@@ -127,23 +116,26 @@ module _ (w : World) (number : ℕ) (s : Shared) (f : FramesView) (old : List �
               ∙ goes-narrow (answer_by number kinds args seen) (top_locals f.frames) count f.frames sound narrow some within)))
         ]
 
-    ran : (b : Bool) → b ≡ is_next (answer_of (goes_by x) f) → IfRan b comes_to next before (behind moved left_in)
-    ran true told =
-        by-number w number args s f old count next x moved asked.Next
-        (either (is_done x) (λ enough. enough) (λ undone. absurd (false≢true (sym (not-done x (top_locals f.frames) (drop count (top_operands f.frames)) f.frames undone) ∙ sym told))))
-        is (sym (next-is (answer_of (goes_by x) f) (sym told))) goes
-    ran false told = stays (sym told) (kept-off (sym told))
+    was-done : is_next (answer_in (goes_by x) f.frames) ≡ true → is_done x ≡ true
+    was-done told = either (is_done x) (λ enough. enough)
+        (λ undone. absurd (false≢true (sym (not-done x (top_locals f.frames) (drop count (top_operands f.frames)) f.frames undone) ∙ told)))
 
-  pub native-ran : (x : Native) (b : Bool) (moved : FramesView) (heap : HeapView) (made : MadeView) (read : ℕ) (out : List ℕ) → AreSound f.frames → (number == 79) ≡ false
-      → 0 < count → count ≤ length (top_operands f.frames) → IsCalled w number s old x heap made read out s.loaded args
-      → b ≡ is_next (answer_of (goes_by x) f) → moved ≡ frames_of (goes_by x) next f
-      → IfRan b comes_to next before (parts_changed moved (record s { heap = heap; made = made; read = read }) out)
-  native-ran x b moved heap made read out sound other some within is told goes =
-      subst (λ (y : HeapView). IfRan b comes_to next before (parts_changed moved (record s { heap = y; made = made; read = read }) out)) (sym is.heaped)
-      (subst (λ (y : MadeView). IfRan b comes_to next before (parts_changed moved (record s { heap = left.heap; made = y; read = read }) out)) (sym is.kept)
-      (subst (λ (y : ℕ). IfRan b comes_to next before (parts_changed moved (record s { heap = left.heap; made = left.made; read = y }) out)) (sym is.taken)
-      (subst (λ (y : List ℕ). IfRan b comes_to next before (parts_changed moved (shared_with left s) y)) (sym is.written)
-      (ran x moved sound other some within is.answer goes b told))))
-    where
-      left : natives.World
-      left = left_by (is_done x) number kinds args seen
+    ran : (b : Bool) → b ≡ is_next (answer_in (goes_by x) f.frames) → IfPassed b comes_to next f v moved (behind left_in)
+    ran true told =
+        let enough = was-done (sym told) in
+        let same = answers v number args f count x enough is in
+        passed-on comes_to f moved next v (behind left_in)
+        (sym (ap (λ q. answer_in q f.frames) same) ∙ next-is (answer_in (goes_by x) f.frames) (sym told))
+        (goes ∙ ap (λ q. with_frames (frames_in q next f.frames) f) same)
+        (leaves v number args f count x enough)
+    ran false told = (
+      not-moved (answer_in (goes_by x) f.frames) (goes_by x) next f moved refl (sym told) goes,
+      ap behind (kept-off (sym told)) ∙ ap (λ out. record v { output = out }) (append-nil v.output),
+    )
+
+  pub native-ran : (x : Native) (b : Bool) (moved : FramesView) (new : RuntimeView) → AreSound f.frames → (number == 79) ≡ false
+      → 0 < count → count ≤ length (top_operands f.frames) → IsAnswer x (answer_by number kinds args seen) → new ≡ behind (left_by (is_done x) number kinds args seen)
+      → b ≡ is_next (answer_in (goes_by x) f.frames) → moved ≡ with_frames (frames_in (goes_by x) next f.frames) f
+      → IfPassed b comes_to next f v moved new
+  native-ran x b moved new sound other some within is left told goes =
+      subst (λ (y : RuntimeView). IfPassed b comes_to next f v moved y) (sym left) (ran x moved sound other some within is goes b told)

@@ -21,6 +21,9 @@ use Rattle.jvm_model.specs.Basis.SharedState.{class_of_kind, phase_of}
 use Rattle.jvm_model.specs.Basis.Values.{int_of, ref_of}
 use Rattle.const_pool.specs.References.{Reference}
 use Rattle.symbolic_references.specs.Resolved.{field_found, gets_instance, gets_static, makes_new, puts_instance, puts_static}
+use Rattle.symbolic_references.specs.declared.outcome.Outcome.{Outcome as TheOutcome}
+use Rattle.jf_bytes.specs.declared.error.NoMemory.{NoMemory}
+use Rattle.symbolic_references.specs.Runtimes.{RuntimeView, after, with_shared}
 
 -- ---- by cases on what a rule finds
 
@@ -144,3 +147,17 @@ module _ (p : Program) (kind : ℕ) (s : Shared) (l : Locals) (o : Operands) (ou
 pub on_ok : {A E : Type 0} (r : Result A E) (P : Type 0) → P → OnOk r P
 on_ok (Ok x) P p = p
 on_ok (Err e) P p = tt
+
+-- ---- what an instruction leaves
+
+pub keeps : (v : RuntimeView) (d : Done) → v.shared ≡ d.shared → v.output ≡ v.output ++ d.wrote → v ≡ after d v
+keeps v d shared wrote =
+    ap (λ out. record v { output = out }) wrote ∙ ap (λ s. record v { shared = s; output = v.output ++ d.wrote }) shared
+
+pub set-after : (v : RuntimeView) (d : Done) → v.output ≡ v.output ++ d.wrote → with_shared d.shared v ≡ after d v
+set-after v d wrote = ap (λ out. record v { shared = d.shared; output = out }) wrote
+
+pub leaves_set : (result : Result TheOutcome NoMemory) (new old : RuntimeView) (d : Done) → old.output ≡ old.output ++ d.wrote
+    → OnOk result (new ≡ with_shared d.shared old) → OnOk result (new ≡ after d old)
+leaves_set (Ok x) new old d wrote is = is ∙ set-after old d wrote
+leaves_set (Err e) new old d wrote is = tt

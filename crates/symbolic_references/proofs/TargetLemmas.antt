@@ -22,12 +22,9 @@ use Rattle.jvm_model.specs.declared.program.Program.{Program}
 use Rattle.symbolic_references.specs.declared.known.Chosen.{Chosen}
 use Rattle.symbolic_references.specs.Known.{IsFixed}
 use Rattle.symbolic_references.specs.Passing.{is_usable}
-use Rattle.symbolic_references.specs.declared.asked.Asked.TheVariants.{Refused}
-use Rattle.symbolic_references.specs.declared.asked.AbruptCompletion.{AbruptCompletion}
-use Rattle.symbolic_references.specs.declared.asked.AbruptCompletion.TheVariants as refusal
+use Rattle.symbolic_references.specs.declared.outcome.AbruptCompletion.{AbruptCompletion}
 use Rattle.symbolic_references.specs.declared.targets.Target.{Target as TheTarget}
 use Rattle.symbolic_references.specs.Answers.{abrupt_view}
-use Rattle.symbolic_references.specs.Does.{IsDone, parts_changed}
 use Rattle.symbolic_references.specs.Objects.{class_at_kind}
 use Rattle.symbolic_references.specs.Callees.{chosen_place}
 use Rattle.symbolic_references.specs.Resolved.{invokes_instance, invokes_static_method, method_found}
@@ -107,18 +104,6 @@ pub does-target : (w : World) (found : Result Target Outcome) (s : Shared) (l : 
 does-target w found s l o t is enough =
     ap (λ n. invokes_selected w (option_map chosen_place t.selected) (data_in t.count o) s l (drop n o)) (sym (length-data t.count o enough))
     ∙ ap (λ x. invokes_target w x s l o) is
-
--- ---- a refusal changes nothing
-
-pub refuses : (d : Done) (next : ℕ) (f : FramesView) (s : Shared) (out : List ℕ) (e : AbruptCompletion) → d ≡ done s (abrupt_view e)
-    → IsDone d next (parts_changed f s out) (parts_changed f s out) (Refused e)
-refuses d next f s out e is = subst (λ d. IsDone d next (parts_changed f s out) (parts_changed f s out) (Refused e)) (sym is) (by e) where
-  by : (e : AbruptCompletion) → IsDone (done s (abrupt_view e)) next (parts_changed f s out) (parts_changed f s out) (Refused e)
-  by (refusal.Raises class message) = record { answer = refl; frames = refl; shared = refl; output = sym (append-nil out) }
-  by (refusal.Throws object) = record { answer = refl; frames = refl; shared = refl; output = sym (append-nil out) }
-  by (refusal.Initializes class) = record { answer = refl; frames = refl; shared = refl; output = sym (append-nil out) }
-  by (refusal.Exits status) = record { answer = refl; frames = refl; shared = refl; output = sym (append-nil out) }
-  by refusal.Breaks = record { answer = refl; frames = refl; shared = refl; output = sym (append-nil out) }
 
 pub refuses-target : (w : World) (found : Result Target Outcome) (s : Shared) (l : Locals) (o : Operands) (e : AbruptCompletion) → Err (abrupt_view e) ≡ found
     → invokes_target w found s l o ≡ done s (abrupt_view e)

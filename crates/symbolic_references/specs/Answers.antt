@@ -4,8 +4,6 @@ use Rattle.std.specs.Prelude.{◌≡◌, ℕ, false, List, [], length, slice_get
 use Rattle.const_pool.specs.BuiltIn.{built_in_names}
 use Rattle.jf_bytes.specs.declared.error.NoMemory.{NoMemory}
 use Rattle.frame_stack.specs.FrameLists.{PlacedFrame, FramesView, with_frames, top_operands}
-use Rattle.jvm_basic.specs.declared.effect.Effect.{Effect}
-use Rattle.jvm_basic.specs.declared.effect.Effect.TheVariants as effect
 use Rattle.jvm_basic.specs.Outcomes.{can_hold, top_locals, with_top}
 use Rattle.jvm_model.specs.Instructions.CreationRules.{class_cast, instantiation_error}
 use Rattle.jvm_model.specs.declared.state.Shared.{Shared}
@@ -19,10 +17,8 @@ use Rattle.symbolic_references.specs.Members.{at_place}
 use Rattle.jvm_model.specs.declared.exception.Exception.{Exception}
 use Rattle.jvm_model.specs.declared.exception.Exception.TheVariants as exception
 use Rattle.jvm_model.specs.Instructions.Exceptions.{exception_name}
-use Rattle.symbolic_references.specs.declared.asked.AbruptCompletion.{AbruptCompletion}
-use Rattle.symbolic_references.specs.declared.asked.AbruptCompletion.TheVariants as refusal
-use Rattle.symbolic_references.specs.declared.asked.Asked.{Asked}
-use Rattle.symbolic_references.specs.declared.asked.Asked.TheVariants as asked
+use Rattle.symbolic_references.specs.declared.outcome.AbruptCompletion.{AbruptCompletion}
+use Rattle.symbolic_references.specs.declared.outcome.AbruptCompletion.TheVariants as refusal
 
 -- ---- refusals
 
@@ -50,47 +46,32 @@ abbrev pub place_found : Result DeclaredMember AbruptCompletion → Result Membe
 place_found (Ok m) = Ok (at_place m)
 place_found (Err e) = Err (abrupt_view e)
 
--- ---- answers
+-- ---- a frame that goes on, or not
 
 pub data Answer : Type 0 where
   -- the frame has gone on
   Continues : Answer
   -- its operands would be deeper than its limit
   Exceeds : Answer
-  -- a method is invoked, with so many arguments
-  Calls : ℕ → ℕ → Answer
   -- nothing goes on by itself
   Stops : Outcome → Answer
 
-abbrev pub answer_view : Asked → Answer
-answer_view asked.Next = Continues
-answer_view asked.TooDeep = Exceeds
-answer_view (asked.Invokes method count) = Calls method count
-answer_view (asked.Refused e) = Stops (abrupt_view e)
-
 abbrev pub answer_in : Outcome → List PlacedFrame → Answer
 answer_in (GoesOn l o Next) fs = if can_hold o fs then Continues else Exceeds
-answer_in (Invokes method args below) fs = Calls method (length args)
 answer_in q fs = Stops q
 
--- Unless it goes on the frame is as it was: the arguments of an invocation stay.
+-- Unless it goes on the frame is as it was.
 abbrev pub frames_in : Outcome → ℕ → List PlacedFrame → List PlacedFrame
 frames_in (GoesOn l o Next) next fs = if can_hold o fs then with_top l o next fs else fs
 frames_in q next fs = fs
 
 -- ---- a rule sees the locals and operands of the current frame
 
-abbrev pub Asks : Type 0
-Asks = Locals → Operands → Outcome
+abbrev pub Asking : Type 0
+Asking = Locals → Operands → Outcome
 
-abbrev pub asked_on : Asks → FramesView → Outcome
+abbrev pub asked_on : Asking → FramesView → Outcome
 asked_on asks f = asks (top_locals f.frames) (top_operands f.frames)
-
-abbrev pub answer_of : Asks → FramesView → Answer
-answer_of asks f = answer_in (asked_on asks f) f.frames
-
-abbrev pub frames_of : Asks → ℕ → FramesView → FramesView
-frames_of asks next f = with_frames (frames_in (asked_on asks f) next f.frames) f
 
 -- a rule that may change what is shared
 abbrev pub Rule : Type 0
@@ -99,34 +80,8 @@ Rule = Locals → Operands → Done
 abbrev pub done_on : Rule → FramesView → Done
 done_on rule f = rule (top_locals f.frames) (top_operands f.frames)
 
-abbrev pub answer_by : Rule → FramesView → Answer
-answer_by rule f = answer_in (done_on rule f).outcome f.frames
-
-abbrev pub frames_by : Rule → ℕ → FramesView → FramesView
-frames_by rule next f = with_frames (frames_in (done_on rule f).outcome next f.frames) f
-
 abbrev pub shared_by : Rule → FramesView → Shared
 shared_by rule f = (done_on rule f).shared
 
 abbrev pub wrote_by : Rule → FramesView → List ℕ
 wrote_by rule f = (done_on rule f).wrote
-
--- the answer is the rule's, unless memory ran out
-abbrev pub Answers : Result Asked NoMemory → Rule → FramesView → Type 0
-Answers result rule f = IfOk result (λ a. answer_view a ≡ answer_by rule f)
-
--- so are the frames
-abbrev pub Moves : Result Asked NoMemory → FramesView → Rule → ℕ → FramesView → Type 0
-Moves result new rule next old = OnOk result (new ≡ frames_by rule next old)
-
--- and what is shared
-abbrev pub Shares : Result Asked NoMemory → Shared → Rule → FramesView → Type 0
-Shares result new rule f = OnOk result (new ≡ shared_by rule f)
-
--- ---- a frame that goes on
-
-abbrev pub asked_by : Effect → Asked
-asked_by effect.Next = asked.Next
-asked_by (effect.Throws class) = asked.TooDeep
-asked_by effect.Bad = asked.TooDeep
-asked_by effect.Other = asked.TooDeep

@@ -8,7 +8,7 @@ use Rattle.jvm_model.specs.Instructions.SymbolicReference.{newly_loaded, resolve
 use Rattle.jvm_model.specs.declared.instruction.SymbolicReference.{SymbolicReference}
 use Rattle.jvm_model.specs.Instructions.ReferenceRules.{does_named}
 use Rattle.class_linker.specs.Linkers.{LinkerView}
-use Rattle.symbolic_references.specs.declared.asked.AbruptCompletion.{AbruptCompletion}
+use Rattle.symbolic_references.specs.declared.outcome.AbruptCompletion.{AbruptCompletion}
 use Rattle.symbolic_references.specs.Answers.{Rule, abrupt_view}
 use Rattle.symbolic_references.specs.Objects.{IsResolved}
 
@@ -22,12 +22,9 @@ shared_loaded p n s f = record s { loaded = loaded_for p n s f }
 abbrev pub linker_with : LinkerView → List ℕ → LinkerView
 linker_with l loaded = record { program = l.program; loaded = loaded }
 
-abbrev pub linker_loaded : SymbolicReference → Shared → LinkerView → FramesView → LinkerView
-linker_loaded n s l f = linker_with l (loaded_for l.program n s f)
-
--- the linker's program on an input
-abbrev pub world_over : LinkerView → List ℕ → World
-world_over l input = record { program = l.program; input = input }
+-- with more classes
+abbrev pub with_more : LinkerView → List ℕ → LinkerView
+with_more l more = record l { loaded = l.loaded ++ more }
 
 -- it loads no class
 abbrev pub loads_nothing : Program → List ℕ → SymbolicReference → Operands → Bool

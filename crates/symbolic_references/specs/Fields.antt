@@ -9,9 +9,9 @@ use Rattle.jvm_model.specs.Basis.Data.{Datum, Locals, Operands, Next, Outcome, G
 use Rattle.jvm_model.specs.Instructions.FieldRules as rules
 use Rattle.jvm_model.specs.Instructions.SymbolicReference.{extends, is_below_kind}
 use Rattle.jvm_model.specs.Instructions.ObjectRules.{done}
-use Rattle.symbolic_references.specs.declared.asked.AbruptCompletion.{AbruptCompletion}
-use Rattle.symbolic_references.specs.declared.fields.Owner.{Owner}
-use Rattle.symbolic_references.specs.declared.fields.Putting.{Putting}
+use Rattle.symbolic_references.specs.declared.outcome.AbruptCompletion.{AbruptCompletion}
+use Rattle.symbolic_references.specs.declared.owners.Owner.{Owner}
+use Rattle.symbolic_references.specs.declared.owners.Putting.{Putting}
 use Rattle.symbolic_references.specs.Answers.{abrupt_view}
 use Rattle.symbolic_references.specs.Objects.{class_at_kind}
 

@@ -6,8 +6,8 @@ use Rattle.heap_objects.specs.declared.datum.Datum.{Datum}
 use Rattle.jvm_model.specs.declared.state.Shared.{Shared}
 use Rattle.jvm_model.specs.Basis.SharedState.{Field}
 use Rattle.jf_bytes.specs.declared.error.NoMemory.{NoMemory}
-use Rattle.symbolic_references.specs.declared.constants.FieldConstant.{FieldConstant}
-use Rattle.symbolic_references.specs.declared.constants.FieldConstant.TheVariants.{Number, Units}
+use Rattle.symbolic_references.specs.declared.runtime.constants.FieldConstant.{FieldConstant}
+use Rattle.symbolic_references.specs.declared.runtime.constants.FieldConstant.TheVariants.{Number, Units}
 
 -- ---- constants
 

@@ -4,22 +4,21 @@ use Rattle.frame_stack.specs.FrameLists.{FramesView, with_frames}
 use Rattle.jvm_model.specs.declared.state.Phase.{Phase}
 use Rattle.jvm_model.specs.declared.state.Phase.TheVariants.{Ready, Running}
 use Rattle.jvm_model.specs.declared.state.Shared.{Shared}
-use Rattle.jvm_model.specs.Basis.Data.{Datum, Done, Invokes, Operands}
+use Rattle.jvm_model.specs.Basis.Data.{Done, Invokes}
 use Rattle.jvm_model.specs.Instructions.ObjectRules.{done}
 use Rattle.std.specs.Prelude.{Option, Some}
-use Rattle.symbolic_references.specs.declared.passing.Call.{Call}
+use Rattle.symbolic_references.specs.declared.invoked.Call.{Call}
 use Rattle.std.specs.Prelude.{◌≤◌, IsSome, drop, slice_get}
 use Rattle.base_classes.specs.Natives.{native_methods}
 use Rattle.frame_stack.specs.FrameLists.{PlacedFrame, top_operands}
 use Rattle.jvm_basic.specs.Outcomes.{top_locals}
 use Rattle.jvm_model.specs.Basis.Data.{World}
 use Rattle.jvm_model.specs.Instructions.NativeRules.{runs_number}
-use Rattle.symbolic_references.specs.declared.asked.Asked.TheVariants as asked
-use Rattle.symbolic_references.specs.declared.passing.Invoked.{Invoked}
-use Rattle.symbolic_references.specs.declared.passing.Invoked.TheVariants as invoked
-use Rattle.symbolic_references.specs.declared.passing.NativeCall.{NativeCall}
+use Rattle.symbolic_references.specs.declared.invoked.Invoked.{Invoked}
+use Rattle.symbolic_references.specs.declared.invoked.Invoked.TheVariants as invoked
+use Rattle.symbolic_references.specs.declared.invoked.NativeCall.{NativeCall}
+use Rattle.symbolic_references.specs.Runtimes.{RuntimeView, after}
 use Rattle.symbolic_references.specs.Answers.{Answer, Continues, answer_in, frames_in}
-use Rattle.symbolic_references.specs.Does.{Changed, IsDone}
 use Rattle.symbolic_references.specs.Targets.{data_in}
 
 abbrev pub is_next : Answer → Bool
@@ -33,23 +32,20 @@ is_usable (Some Running) = true
 is_usable _ = false
 
 -- by what its rule says the frame has gone on, to the next place
-pub record HasPassed (d : Done) (next : ℕ) (old new : FramesView) (after : Shared) : Type 0 where
+pub record HasPassed (d : Done) (next : ℕ) (old : FramesView) (before : RuntimeView) (new : FramesView) (left : RuntimeView) : Type 0 where
   pub answer : answer_in d.outcome old.frames ≡ Continues
   pub frames : new ≡ with_frames (frames_in d.outcome next old.frames) old
-  pub shared : after ≡ d.shared
-  pub wrote : d.wrote ≡ []
+  pub runtime : left ≡ after d before
 
 -- it has, or nothing was done
-abbrev pub IfPassed : Bool → Done → ℕ → FramesView → Shared → FramesView → Shared → Type 0
-IfPassed true d next old s new after = HasPassed d next old new after
-IfPassed false d next old s new after = (new ≡ old) × (after ≡ s)
+abbrev pub IfPassed : Bool → Done → ℕ → FramesView → RuntimeView → FramesView → RuntimeView → Type 0
+IfPassed true d next old before new left = HasPassed d next old before new left
+IfPassed false d next old before new left = (new ≡ old) × (left ≡ before)
 
--- what a rule says is that this method is invoked, with so many arguments
-pub record IsCall (c : Call) (d : Done) (s : Shared) : Type 0 where
-  pub args : List Datum
-  pub below : Operands
-  pub invokes : d ≡ done s (Invokes c.method args below)
-  pub count : length args ≡ c.count
+-- what a rule says is that this method is invoked, with so many operands
+pub record IsCall (c : Call) (d : Done) (s : Shared) (fs : List PlacedFrame) : Type 0 where
+  pub invokes : d ≡ done s (Invokes c.method (data_in c.count (top_operands fs)) (drop c.count (top_operands fs)))
+  pub within : c.count ≤ length (top_operands fs)
 
 -- ---- native methods
 
@@ -64,10 +60,5 @@ pub record IsNativeCall (w : World) (n : NativeCall) (d : Done) (s : Shared) (fs
   pub runs : d ≡ runs_native_call w n s fs
 
 abbrev pub IsInvoked : World → Invoked → Done → Shared → List PlacedFrame → Type 0
-IsInvoked w (invoked.Code c) d s fs = IsCall c d s
+IsInvoked w (invoked.Code c) d s fs = IsCall c d s fs
 IsInvoked w (invoked.Native n) d s fs = IsNativeCall w n d s fs
-
--- the frame has gone on, or nothing was done
-abbrev pub IfRan : Bool → Done → ℕ → Changed → Changed → Type 0
-IfRan true d next old new = IsDone d next old new asked.Next
-IfRan false d next old new = new ≡ old

@@ -23,7 +23,7 @@ use Rattle.symbolic_references.specs.declared.targets.Selecting.{Selecting as Ch
 use Rattle.symbolic_references.specs.declared.targets.Selecting.TheVariants as chosen
 use Rattle.symbolic_references.specs.declared.targets.Target.{Target as TheTarget}
 use Rattle.symbolic_references.specs.Objects.{class_at_kind}
-use Rattle.symbolic_references.specs.declared.asked.AbruptCompletion.{AbruptCompletion}
+use Rattle.symbolic_references.specs.declared.outcome.AbruptCompletion.{AbruptCompletion}
 use Rattle.symbolic_references.specs.Answers.{abrupt_view}
 use Rattle.symbolic_references.specs.Callees.{chosen_place}
 use Rattle.symbolic_references.specs.Resolved.{method_found}

@@ -9,7 +9,7 @@ ghost use Rattle.symbolic_references.specs.Numbers.{AreNumbers};
 
 use crate::declared_member::DeclaredMember;
 use crate::known::Callee;
-use crate::natives::native_at;
+use crate::native_methods::native_at;
 use crate::numbers::MethodNumbers;
 use crate::targets::is_abstract;
 use class_linker::Linker;

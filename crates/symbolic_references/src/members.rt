@@ -12,8 +12,8 @@ ghost use Rattle.symbolic_references.specs.Members.{at_place};
 ghost use Rattle.symbolic_references.specs.Objects.{IsUsable};
 ghost use Rattle.symbolic_references.specs.Resolved.{field_found};
 
-use crate::asked::AbruptCompletion;
 use crate::declared_member::DeclaredMember;
+use crate::outcome::AbruptCompletion;
 use crate::resolution::exception_numbered;
 use class_index::{STATIC, has_flag};
 use class_linker::{Linker, Resolved};

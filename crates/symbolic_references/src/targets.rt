@@ -26,12 +26,12 @@ ghost use Rattle.symbolic_references.specs.Resolved.{method_found};
 ghost use Rattle.symbolic_references.specs.Targets.{HasCaller, selecting_view, found_as, instance_target};
 ghost use Rattle.symbolic_references.specs.Targets.{receiver_class, static_target, target_in, unready_by};
 
-use crate::asked::AbruptCompletion;
 use crate::callees::callee_of;
 use crate::declared_member::DeclaredMember;
 use crate::instances::kind_of_object;
 use crate::known::{Chosen, Found, Site};
 use crate::numbers::MethodNumbers;
+use crate::outcome::AbruptCompletion;
 use crate::receivers::{argument_count, receiver_below};
 use crate::resolution::exception_numbered;
 use class_index::{ABSTRACT, STATIC, has_flag};
@@ -136,7 +136,7 @@ fn fitting(
 }
 
 /// The method, static or not, that a name stands for whose class was resolved to this kind.
-fn method_found(
+pub fn method_found(
     linker: &Linker,
     kind: u32,
     interface: bool,
@@ -157,7 +157,7 @@ fn method_found(
 // ---- receivers
 
 /// What a receiver asks for that is not of the named class.
-fn not_of_class(by: Selecting<'_>) -> AbruptCompletion
+pub fn not_of_class(by: Selecting<'_>) -> AbruptCompletion
     ensures { abrupt_view result ≡ not_of_class (selecting_view by.entry) }
 {
     match by {
@@ -170,7 +170,7 @@ fn not_of_class(by: Selecting<'_>) -> AbruptCompletion
     }
 }
 
-fn names_interface(by: Selecting<'_>) -> bool
+pub fn names_interface(by: Selecting<'_>) -> bool
     ensures { result ≡ names_interface (selecting_view by.entry) }
 {
     match by {
@@ -199,7 +199,7 @@ fn is_of_named(linker: &Linker, lower: u32, kind: u32, last: Option<u32>) -> boo
 /// The kind of a receiver, where it is one that the instruction can take: the name's class was resolved to this kind, and objects
 /// of the last kind are of it.
 #[inline(always)]
-fn receiver_kind(
+pub fn receiver_kind(
     linker: &Linker,
     heap: &Heap,
     by: Selecting<'_>,
@@ -253,7 +253,7 @@ fn selected_special(linker: &Linker, caller: &Text16, m: DeclaredMember) -> Opti
 }
 
 /// What the receiver's class has for the resolved method, or what the caller's class takes.
-fn selected_by(
+pub fn selected_by(
     linker: &Linker,
     by: Selecting<'_>,
     m: DeclaredMember,
@@ -271,301 +271,4 @@ fn selected_by(
     }
 }
 
-// ---- an instance method
-
-/// What is selected for objects of a kind, which is kept.
-#[inline(never)]
-#[tactic(auto, using(crate::proofs::KnownLemmas::site_of))]
-fn select_anew(
-    linker: &Linker,
-    numbers: &MethodNumbers,
-    by: Selecting<'_>,
-    method: &MethodName,
-    kind: u32,
-    m: DeclaredMember,
-    lower: u32,
-    found: &mut Found,
-) -> Option<Chosen>
-    requires named { method_found linker.now.program kind (names_interface (selecting_view by))
-        false method.now ≡ Ok (at_place m) }
-    requires below { is_below_kind linker.now.program (Some lower) (Some kind) ≡ true }
-    requires usable { IsUsable linker.now lower }
-    requires numbers { AreNumbers linker.now.program numbers.now }
-    requires caller { HasCaller linker.now (selecting_view by) }
-    requires found { IsFoundAs found.old linker.now.program kind
-        (symbolic_reference_by (selecting_view by) method.now) }
-    ensures chosen { let p = linker.now.program in option_map chosen_place result
-        ≡ selected_by p (selecting_view by.entry) (at_place m) (class_of_kind p lower) }
-    ensures callee { IfSome result (HasCallee linker.now.program) }
-    ensures found { IsFoundAs found.new linker.now.program kind
-        (symbolic_reference_by (selecting_view by.entry) method.now) }
-{
-    let place = selected_by(linker, by, m, linker.index().class_of_kind(lower))?;
-    let callee = callee_of(linker, numbers, place);
-    let chosen = Chosen { place, callee };
-    *found = Found::Selected(Site {
-        method: m,
-        last: lower,
-        chosen,
-    });
-    Some(chosen)
-}
-
-/// The same where it is known for the objects of the last kind. invokespecial selects the same for those of every kind.
-#[inline(always)]
-fn select_again(
-    linker: &Linker,
-    numbers: &MethodNumbers,
-    by: Selecting<'_>,
-    method: &MethodName,
-    kind: u32,
-    site: Site,
-    lower: u32,
-    found: &mut Found,
-) -> Option<Chosen>
-    requires site { IsSite linker.now.program kind (selecting_view by) method.now site }
-    requires below { is_below_kind linker.now.program (Some lower) (Some kind) ≡ true }
-    requires usable { IsUsable linker.now lower }
-    requires numbers { AreNumbers linker.now.program numbers.now }
-    requires caller { HasCaller linker.now (selecting_view by) }
-    requires found { IsFoundAs found.old linker.now.program kind
-        (symbolic_reference_by (selecting_view by) method.now) }
-    ensures chosen { let p = linker.now.program in option_map chosen_place result
-        ≡ selected_by p (selecting_view by.entry) (at_place site.method) (class_of_kind p lower) }
-    ensures callee { IfSome result (HasCallee linker.now.program) }
-    ensures found { IsFoundAs found.new linker.now.program kind
-        (symbolic_reference_by (selecting_view by.entry) method.now) }
-{
-    if lower == site.last {
-        return Some(site.chosen);
-    }
-    if let Selecting::Special(_, _) = by {
-        return Some(site.chosen);
-    }
-    select_anew(linker, numbers, by, method, kind, site.method, lower, found)
-}
-
-/// What an instruction other than invokestatic comes to, where the method and a selection are known.
-#[inline(always)]
-fn known_target(
-    linker: &Linker,
-    numbers: &MethodNumbers,
-    heap: &Heap,
-    frames: &Frames,
-    by: Selecting<'_>,
-    method: &MethodName,
-    kind: u32,
-    site: Site,
-    found: &mut Found,
-) -> Result<Target, AbruptCompletion>
-    requires objects { AreLoaded linker.now heap.now }
-    requires resolved { IsResolved linker.now method.now.class kind }
-    requires caller { HasCaller linker.now (selecting_view by) }
-    requires numbers { AreNumbers linker.now.program numbers.now }
-    requires site { IsSite linker.now.program kind (selecting_view by) method.now site }
-    requires found { IsFoundAs found.old linker.now.program kind
-        (symbolic_reference_by (selecting_view by) method.now) }
-    ensures target { let o = top_operands frames.now.frames in found_as (target_in o) result
-        ≡ instance_target linker.now.program kind (selecting_view by.entry) method.now heap.now o }
-    ensures within { IfOk result (λ t. t.count ≤ length (top_operands frames.now.frames)) }
-    ensures callee { IfOk result (λ t. IfSome t.selected (HasCallee linker.now.program)) }
-    ensures found { IsFoundAs found.new linker.now.program kind
-        (symbolic_reference_by (selecting_view by.entry) method.now) }
-{
-    let Some(count) = argument_count(true, method, frames) else {
-        return Err(AbruptCompletion::Breaks);
-    };
-    let object = receiver_below(frames, count);
-    let last = Some(site.last);
-    match receiver_kind(linker, heap, by, method, kind, last, object) {
-        Ok(lower) => Ok(Target {
-            selected: select_again(linker, numbers, by, method, kind, site, lower, found),
-            count,
-        }),
-        Err(refusal) => Err(refusal),
-    }
-}
-
-/// The same where the method is looked up.
-#[inline(never)]
-fn target_by_name(
-    linker: &Linker,
-    numbers: &MethodNumbers,
-    heap: &Heap,
-    frames: &Frames,
-    by: Selecting<'_>,
-    method: &MethodName,
-    kind: u32,
-    found: &mut Found,
-) -> Result<Target, AbruptCompletion>
-    requires objects { AreLoaded linker.now heap.now }
-    requires resolved { IsResolved linker.now method.now.class kind }
-    requires caller { HasCaller linker.now (selecting_view by) }
-    requires numbers { AreNumbers linker.now.program numbers.now }
-    requires found { IsFoundAs found.old linker.now.program kind
-        (symbolic_reference_by (selecting_view by) method.now) }
-    ensures target { let o = top_operands frames.now.frames in found_as (target_in o) result
-        ≡ instance_target linker.now.program kind (selecting_view by.entry) method.now heap.now o }
-    ensures within { IfOk result (λ t. t.count ≤ length (top_operands frames.now.frames)) }
-    ensures callee { IfOk result (λ t. IfSome t.selected (HasCallee linker.now.program)) }
-    ensures found { IsFoundAs found.new linker.now.program kind
-        (symbolic_reference_by (selecting_view by.entry) method.now) }
-{
-    let m = match method_found(linker, kind, names_interface(by), false, method) {
-        Ok(m) => m,
-        Err(refusal) => return Err(refusal),
-    };
-    let Some(count) = argument_count(true, method, frames) else {
-        return Err(AbruptCompletion::Breaks);
-    };
-    let object = receiver_below(frames, count);
-    match receiver_kind(linker, heap, by, method, kind, None, object) {
-        Ok(lower) => Ok(Target {
-            selected: select_anew(linker, numbers, by, method, kind, m, lower, found),
-            count,
-        }),
-        Err(refusal) => Err(refusal),
-    }
-}
-
-/// What an instruction other than invokestatic comes to, where the class of the method's name was resolved to this kind. The
-/// method that is found is kept, with what is selected for the receiver's kind.
-#[tactic(auto, using(crate::proofs::KnownLemmas::of_site))]
-pub fn instance_target(
-    linker: &Linker,
-    numbers: &MethodNumbers,
-    heap: &Heap,
-    frames: &Frames,
-    by: Selecting<'_>,
-    method: &MethodName,
-    kind: u32,
-    found: &mut Found,
-) -> Result<Target, AbruptCompletion>
-    requires objects { AreLoaded linker.now heap.now }
-    requires resolved { IsResolved linker.now method.now.class kind }
-    requires caller { HasCaller linker.now (selecting_view by) }
-    requires numbers { AreNumbers linker.now.program numbers.now }
-    requires found { IsFoundAs found.old linker.now.program kind
-        (symbolic_reference_by (selecting_view by) method.now) }
-    ensures target { let o = top_operands frames.now.frames in found_as (target_in o) result
-        ≡ instance_target linker.now.program kind (selecting_view by.entry) method.now heap.now o }
-    ensures within { IfOk result (λ t. t.count ≤ length (top_operands frames.now.frames)) }
-    ensures callee { IfOk result (λ t. IfSome t.selected (HasCallee linker.now.program)) }
-    ensures found { IsFoundAs found.new linker.now.program kind
-        (symbolic_reference_by (selecting_view by.entry) method.now) }
-{
-    if let Found::Selected(site) = *found {
-        return known_target(linker, numbers, heap, frames, by, method, kind, site, found);
-    }
-    target_by_name(linker, numbers, heap, frames, by, method, kind, found)
-}
-
 // ---- a static method
-
-/// A text with the same units.
-fn text_copied(alloc: Global, text: &Text16) -> Result<Text16, NoMemory>
-    ensures { IfOk result (λ copy. copy ≡ text.now) }
-{
-    Ok(Text16::new(Vec::from_slice(alloc, text.units())?))
-}
-
-/// NoClassDefFoundError, with the name of the class that can not be used.
-fn unusable(alloc: Global, linker: &Linker, class: u32) -> Result<AbruptCompletion, NoMemory>
-    ensures { IfOk result (λ refusal. abrupt_view refusal
-        ≡ Raises no_class_definition (name_at linker.now.program class)) }
-{
-    let message = match linker.index().name_at(class) {
-        Some(name) => Some(text_copied(alloc, name)?),
-        None => None,
-    };
-    Ok(AbruptCompletion::Raises(Exception::NoClassDefinition, message))
-}
-
-/// What is asked for where a class has to be initialized before, or can not be used (5.5).
-fn unready(
-    alloc: Global,
-    linker: &Linker,
-    class: u32,
-    phase: Option<Phase>,
-) -> Result<Option<AbruptCompletion>, NoMemory>
-    ensures { IfOk result (λ refusal. option_map abrupt_view refusal
-        ≡ unready_by linker.now.program class phase) }
-{
-    match phase {
-        Some(Phase::Ready) => Ok(None),
-        Some(Phase::Running) => Ok(None),
-        Some(Phase::Fresh) => Ok(Some(AbruptCompletion::Initializes(class))),
-        Some(Phase::Erroneous) => Ok(Some(unusable(alloc, linker, class)?)),
-        None => Ok(Some(unusable(alloc, linker, class)?)),
-    }
-}
-
-/// The method that invokestatic names, as it is known or looked up.
-fn static_found(
-    linker: &Linker,
-    numbers: &MethodNumbers,
-    method: &MethodName,
-    kind: u32,
-    found: &mut Found,
-) -> Result<Chosen, AbruptCompletion>
-    requires usable { IsUsable linker.now kind }
-    requires numbers { AreNumbers linker.now.program numbers.now }
-    requires found { IsFoundAs found.old linker.now.program kind (Invokestatic method.now) }
-    ensures method { found_as chosen_place result
-        ≡ method_found linker.now.program kind false true method.now }
-    ensures callee { IfOk result (HasCallee linker.now.program) }
-    ensures found { IsFoundAs found.new linker.now.program kind (Invokestatic method.now) }
-{
-    if let Found::Fixed(m) = *found {
-        return Ok(m);
-    }
-    match method_found(linker, kind, false, true, method) {
-        Ok(place) => {
-            let callee = callee_of(linker, numbers, place);
-            let m = Chosen { place, callee };
-            *found = Found::Fixed(m);
-            Ok(m)
-        }
-        Err(refusal) => Err(refusal),
-    }
-}
-
-/// What invokestatic comes to, where the class of the method's name was resolved to this kind. The method that is found is kept.
-pub fn static_target(
-    alloc: Global,
-    linker: &Linker,
-    numbers: &MethodNumbers,
-    shared: &Shared,
-    frames: &Frames,
-    method: &MethodName,
-    kind: u32,
-    found: &mut Found,
-) -> Result<Result<Target, AbruptCompletion>, NoMemory>
-    requires usable { IsUsable linker.now kind }
-    requires numbers { AreNumbers linker.now.program numbers.now }
-    requires found { IsFoundAs found.old linker.now.program kind (Invokestatic method.now) }
-    ensures target { let o = top_operands frames.now.frames in
-        IfOk result (λ t. found_as (target_in o) t
-        ≡ static_target linker.now.program kind method.now shared.now o) }
-    ensures within { IfOk result (λ t.
-        IfOk t (λ t. t.count ≤ length (top_operands frames.now.frames))) }
-    ensures callee { IfOk result (λ t.
-        IfOk t (λ t. IfSome t.selected (HasCallee linker.now.program))) }
-    ensures found { IsFoundAs found.new linker.now.program kind (Invokestatic method.now) }
-{
-    let m = match static_found(linker, numbers, method, kind, found) {
-        Ok(m) => m,
-        Err(refusal) => return Ok(Err(refusal)),
-    };
-    let phase = shared.phases.at(m.place.class as usize);
-    if let Some(refusal) = unready(alloc, linker, m.place.class, phase)? {
-        return Ok(Err(refusal));
-    }
-    match argument_count(false, method, frames) {
-        Some(count) => Ok(Ok(Target {
-            selected: Some(m),
-            count,
-        })),
-        None => Ok(Err(AbruptCompletion::Breaks)),
-    }
-}

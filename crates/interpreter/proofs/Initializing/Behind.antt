@@ -43,7 +43,7 @@ module _ (w : Setup) (run : CanRun w) (ms : List Initialization) (p : Parts) (go
   awaits : awaited_in w (state_of ms p) ≡ Some c
   awaits = sym answer ∙ some
 
-  module _ (ready : is_ready (phase_of then_there.shared c) ≡ true) where
+  module _ (ready : is_ready (phase_of then_there.runtime.shared c) ≡ true) where
     pub executing-again : initialization_on (length then_there.frames.frames) ms_then ≡ None
     executing-again =
         none-there ms_then then_there

@@ -111,7 +111,7 @@ module _ (w : Setup) (ms : List Initialization) (p : Parts) where
   awaits-unnamed here is none unnamed = awaits-by p.frames.frames here is none unnamed
 
   loads-by : (fs : List PlacedFrame) (here : Here) → here_of fs ≡ Some here → initialization_on (length fs) ms ≡ None
-      → named_in (line_at w.versions here.version here.place) ≡ false → (attempts_on w s (stack_of (map active fs) ms)).shared.loaded ≡ p.shared.loaded
+      → named_in (line_at w.versions here.version here.place) ≡ false → (attempts_on w s (stack_of (map active fs) ms)).shared.loaded ≡ p.runtime.shared.loaded
   loads-by [] here is none unnamed = absurd (none-some here is)
   loads-by (f ∷ fs) here is none unnamed =
       let same : record { version = f.version; method = f.method; place = f.place } ≡ here = same_Some _ here is in
@@ -123,7 +123,7 @@ module _ (w : Setup) (ms : List Initialization) (p : Parts) where
 
   pub loads-unnamed : (here : Here) → here_of p.frames.frames ≡ Some here → initialization_on (length p.frames.frames) ms ≡ None
       → named_in (line_at w.versions here.version here.place) ≡ false → (after : State) → after ≡ attempts_on w s (stack_of (map active p.frames.frames) ms)
-      → p.shared.loaded ≡ after.shared.loaded
+      → p.runtime.shared.loaded ≡ after.shared.loaded
   loads-unnamed here is none unnamed after attempted =
       sym (ap (λ (x : State). x.shared.loaded) attempted ∙ loads-by p.frames.frames here is none unnamed)
 

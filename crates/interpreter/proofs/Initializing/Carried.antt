@@ -282,5 +282,5 @@ module _ (ms : List Initialization) where
 
   pub move-carried : (w : Setup) (p : Parts) → initialization_on (length p.frames.frames) ms ≡ None → IsCarried w (state_in p)
   move-carried w p none =
-      let both = moves-carried w p.begun p.shared p.output p.frames.frames p.thrown p.ending (ap (λ n. initialization_on n ms) (length-active p.frames.frames) ∙ none) in
+      let both = moves-carried w p.begun p.runtime.shared p.runtime.output p.frames.frames p.thrown p.ending (ap (λ n. initialization_on n ms) (length-active p.frames.frames) ∙ none) in
       record { moved = both.0; found = both.1 }

@@ -52,7 +52,7 @@ module _ (w : Setup) (line : Line) (p : Parts) where
 
   -- a division by zero
   throws-is : (x : Outcome) (f : PlacedFrame) (fs : List PlacedFrame) (class : ℕ) → effect_in x (f ∷ fs) ≡ Throws class
-      → state_with (frames_in x (f ∷ fs)) (raising w Arithmetic (Some by_zero) p) ≡ comes_to w line (state_with fs p) (frame_in f) x
+      → state_with (frames_in x (f ∷ fs)) (raising w.world Arithmetic (Some by_zero) p) ≡ comes_to w line (state_with fs p) (frame_in f) x
   throws-is (GoesOn l o place) f fs class e = absurd (never (nat_le (height_of o) f.max_stack) e) where
     never : (b : Bool) → cond b Next Bad ≡ Throws class → ⊥
     never true e = absurd cc
@@ -85,15 +85,15 @@ module _ (w : Setup) (line : Line) (p : Parts) where
 
   throws-on : (method class : ℕ) (fs : List PlacedFrame) → IsTop method fs
       → effect_in (outcome_asked (rule_of line.instr line.constant line.next) fs) fs ≡ Throws class
-      → state_with (frames_in (outcome_asked (rule_of line.instr line.constant line.next) fs) fs) (raising w Arithmetic (Some by_zero) p) ≡ on_top (acts_alone w line) p fs
+      → state_with (frames_in (outcome_asked (rule_of line.instr line.constant line.next) fs) fs) (raising w.world Arithmetic (Some by_zero) p) ≡ on_top (acts_alone w line) p fs
   throws-on method class [] top e = absurd top
   throws-on method class (f ∷ fs) top e = throws-is (rule_of line.instr line.constant line.next f.locals f.operands) f fs class e
 
   pub goes-throws : (method class : ℕ) (frames : FramesView) → IsTop method p.frames.frames
       → effect_of (rule_of line.instr line.constant line.next) p.frames ≡ Throws class → frames ≡ after (rule_of line.instr line.constant line.next) p.frames
-      → state_in (raising w Arithmetic (Some by_zero) (record p { frames = frames })) ≡ on_parts (acts_alone w line) p
+      → state_in (raising w.world Arithmetic (Some by_zero) (record p { frames = frames })) ≡ on_parts (acts_alone w line) p
   goes-throws method class frames top e made =
-      ap (λ (s : FramesView). state_with s.frames (raising w Arithmetic (Some by_zero) p)) made ∙ throws-on method class p.frames.frames top e
+      ap (λ (s : FramesView). state_with s.frames (raising w.world Arithmetic (Some by_zero) p)) made ∙ throws-on method class p.frames.frames top e
 
   pub goes-next : (method : ℕ) (frames : FramesView) → IsTop method p.frames.frames
       → effect_of (rule_of line.instr line.constant line.next) p.frames ≡ Next → frames ≡ after (rule_of line.instr line.constant line.next) p.frames

@@ -12,7 +12,7 @@ use Rattle.const_pool.specs.declared.descriptor.Kind.{Kind}
 use Rattle.frame_stack.specs.Widths.{height_of, slots_of_all}
 use Rattle.frame_stack.specs.FrameLists.{PlacedFrame}
 use Rattle.jvm_model.specs.declared.state.State.{State}
-use Rattle.jvm_model.specs.Basis.Data.{Locals, Operands, Invokes, Turn}
+use Rattle.jvm_model.specs.Basis.Data.{Locals, Operands, Invokes, Turn, World}
 use Rattle.jvm_model.specs.Basis.Programs.{max_locals_of, max_stack_of}
 use Rattle.jvm_model.specs.Basis.Values.{data_of, datum_of, arguments_spread}
 use Rattle.jvm_model.specs.Instructions.Rules.{invokes as invokes_outcome}
@@ -20,13 +20,11 @@ use Rattle.jvm_model.specs.Running.Applies.{still, breaks, begins, live_in, most
 use Rattle.prepared_code.specs.declared.parts.Parts.{Parts}
 use Rattle.prepared_code.specs.declared.line.Line.{Line}
 use Rattle.jvm_model.specs.declared.exception.Exception.TheVariants.{StackOverflow}
-use Rattle.prepared_code.specs.declared.parts.Here.{Here}
 use Rattle.interpreter.specs.Instructions.Acts.{run_ended, placed_line, raising}
 use Rattle.interpreter.specs.Instructions.Invoking.{method_called, may_begin}
-use Rattle.interpreter.specs.Moves.Settling.{own_of}
 use Rattle.prepared_code.specs.States.{active, frame_in, state_with, state_in}
 use Rattle.interpreter.specs.Instructions.Arguments.{can_begin, with_begun}
-use Rattle.interpreter.proofs.Instructions.NamedLaws.{Takes}
+use Rattle.interpreter.specs.Instructions.Asked.{Takes}
 use Rattle.interpreter.proofs.Instructions.Arguments.{spread-data, length-slots, height-reverse, enough-data}
 use Rattle.prepared_code.specs.Versions.{Setup, listing_of, current_of, first_of}
 
@@ -57,7 +55,7 @@ module _ (w : Setup) (line : Line) (callee : ℕ) (p : Parts) (f : PlacedFrame) 
   few_live = nat_lt (suc (live_in (map active fs))) most_live
 
   abbrev thrown : State
-  thrown = state_with (f ∷ fs) (raising w StackOverflow None p)
+  thrown = state_with (f ∷ fs) (raising w.world StackOverflow None p)
 
   -- the state where the callee begins with these locals, if they are so many at most
   abbrev state_by : ℕ → ℕ → Locals → State
@@ -86,7 +84,7 @@ module _ (w : Setup) (line : Line) (callee : ℕ) (p : Parts) (f : PlacedFrame) 
 
   by_data : (ks : List Kind) (args : Option (List Datum)) → data_of ks (reverse (taken (length ks))) ≡ args
       → (applies w.world (listing_of w.versions) (placed_line line) (invokes_outcome callee (length ks) args f.operands) (state_with fs p) (frame_in f)).after
-      ≡ begun_by (is_some args && can_begin w callee (length ks) (f ∷ fs)) (length ks)
+      ≡ begun_by (is_some args && can_begin w.world callee (length ks) (f ∷ fs)) (length ks)
   by_data ks None e = refl
   by_data ks (Some args) e =
       let values : List Value = reverse (taken (length ks)) in
@@ -106,35 +104,34 @@ module _ (w : Setup) (line : Line) (callee : ℕ) (p : Parts) (f : PlacedFrame) 
       split false few = refl
 
   -- as a method that was named takes them
-  pub calls-is : (here : Here) (args : List Datum) (below : Operands) → here.method ≡ f.method → own_of w here ≡ line.instr.at → Takes f.operands args below
+  pub calls-is : (method : ℕ) (args : List Datum) (below : Operands) → method ≡ f.method → Takes f.operands args below
       → (applies w.world (listing_of w.versions) (placed_line line) (Invokes callee args below) (state_with fs p) (frame_in f)).after
-      ≡ method_called w here callee (length args) (f ∷ fs) p (may_begin (f ∷ fs)) (can_begin w callee (length args) (f ∷ fs))
-  calls-is here args below method own takes =
+      ≡ method_called w method line.instr.at callee (length args) (f ∷ fs) p (may_begin (f ∷ fs)) (can_begin w.world callee (length args) (f ∷ fs))
+  calls-is method args below same takes =
       let ks : List Kind = takes.kinds in
       let many : length ks ≡ length args = sym (same-length ks (reverse (taken (length ks))) args takes.are) in
       ap (λ o. (applies w.world (listing_of w.versions) (placed_line line) (Invokes callee args o) (state_with fs p) (frame_in f)).after)
       (takes.off ∙ ap (λ n. drop n f.operands) (sym many))
       ∙ (by_data ks (Some args) takes.are
-      ∙ (ap (λ n. begun_by (can_begin w callee n (f ∷ fs)) n) many
+      ∙ (ap (λ n. begun_by (can_begin w.world callee n (f ∷ fs)) n) many
       ∙ (ap (λ n. with_few (nat_lt (suc n) most_live)) (live-is fs)
-      ∙ (ap (λ m. with_end m line.instr.at) (sym method)
-      ∙ (ap (with_end here.method) (sym own)
-      ∙ either (can_begin w callee (length args) (f ∷ fs)))))))
+      ∙ (ap with_end (sym same)
+      ∙ either (can_begin w.world callee (length args) (f ∷ fs))))))
     where
       -- by how many are live, and where the run ends
       with_few : Bool → State
       with_few few =
-          cond (can_begin w callee (length args) (f ∷ fs)) (cond few (state_with (with_begun true w callee (length args) (f ∷ fs)) p) thrown)
+          cond (can_begin w.world callee (length args) (f ∷ fs)) (cond few (state_with (with_begun true w callee (length args) (f ∷ fs)) p) thrown)
           (state_with (f ∷ fs) (run_ended f.method line.instr.at p))
 
-      with_end : ℕ → ℕ → State
-      with_end method own =
-          cond (can_begin w callee (length args) (f ∷ fs)) (cond (may_begin (f ∷ fs)) (state_with (with_begun true w callee (length args) (f ∷ fs)) p) thrown)
-          (state_with (f ∷ fs) (run_ended method own p))
+      with_end : ℕ → State
+      with_end m =
+          cond (can_begin w.world callee (length args) (f ∷ fs)) (cond (may_begin (f ∷ fs)) (state_with (with_begun true w callee (length args) (f ∷ fs)) p) thrown)
+          (state_with (f ∷ fs) (run_ended m line.instr.at p))
 
       either : (b : Bool)
-          → cond b (cond (may_begin (f ∷ fs)) (state_with (with_begun true w callee (length args) (f ∷ fs)) p) thrown) (state_with (f ∷ fs) (run_ended here.method (own_of w here) p))
-          ≡ method_called w here callee (length args) (f ∷ fs) p (may_begin (f ∷ fs)) b
+          → cond b (cond (may_begin (f ∷ fs)) (state_with (with_begun true w callee (length args) (f ∷ fs)) p) thrown) (state_with (f ∷ fs) (run_ended method line.instr.at p))
+          ≡ method_called w method line.instr.at callee (length args) (f ∷ fs) p (may_begin (f ∷ fs)) b
       either true = refl
       either false = refl
 

@@ -1,23 +1,18 @@
--- What becomes of a state by an instruction on an element, where its array and index lead.
-use Rattle.std.proofs.Common.{◌≡◌, ℕ, ℤ, Bool, true, false, List, [], ◌∷◌, drop, refl, sym, ap, subst, ◌∙◌}
+-- What an instruction on an element asks for, where its array and index lead.
+use Rattle.std.proofs.Common.{◌≡◌, ◌≤◌, ℕ, ℤ, Bool, true, false, [], ◌∷◌, drop, length, refl, sym, ap, subst, ◌∙◌, arith}
 use Rattle.std.specs.Prelude.{Some, None, pos, negsuc, ◌==◌, if◌then◌else◌}
 use Rattle.std.specs.Option.{option_map}
 use Rattle.std.proofs.lemmas.Option.{none-some}
 use Rattle.heap_objects.specs.declared.datum.Datum.{Datum}
+use Rattle.heap_objects.specs.declared.Value.TheVariants.{Int, Long, Ref, Addr}
 use Rattle.heap_objects.specs.Heaps.{HeapView, has_slot_at}
 use Rattle.const_pool.specs.declared.descriptor.Kind.{Kind}
-use Rattle.frame_stack.specs.FrameLists.{PlacedFrame, top_operands}
 use Rattle.jvm_model.specs.declared.state.Shared.{Shared}
 use Rattle.jvm_model.specs.Basis.Data.{Locals, Operands, Next, GoesOn}
 use Rattle.jvm_model.specs.Instructions.LocalRules.{replaces}
 use Rattle.jvm_model.specs.Instructions.ObjectRules.{Access, ToNull, ToAnother, Outside, Inside, access_to, index_in, loads_at, loads_element, place_of, serves_object}
 use Rattle.jvm_model.specs.Basis.Values.{as_value}
-use Rattle.prepared_code.specs.declared.line.Line.{Line}
-use Rattle.prepared_code.specs.declared.parts.Parts.{Parts}
-use Rattle.interpreter.specs.Instructions.Acts.{acts_asked, acts_load, on_parts, on_top}
-use Rattle.interpreter.specs.Instructions.Elements.{acts_loaded, element_at}
-use Rattle.prepared_code.specs.States.{frame_in, state_with}
-use Rattle.prepared_code.specs.Versions.{Setup}
+use Rattle.interpreter.specs.Instructions.Elements.{element_at}
 
 -- ---- where an element is found
 
@@ -67,17 +62,16 @@ loads-at Outside r i d s l o e = absurd (none-some d (sym e))
 no_place : (at : ℕ × ℤ) → Some at ≡ None → ⊥
 no_place at e = cc
 
-module _ (w : Setup) (line : Line) (k : Kind) (p : Parts) (r : ℕ) (i : ℤ) where
-  load-top : (d : Datum) (fs : List PlacedFrame) → Some (r, i) ≡ place_of (top_operands fs)
-      → Some d ≡ element_at (access_to k r i p.shared.heap) r p.shared.heap
-      → on_top (acts_loaded line d) p fs ≡ on_top (acts_load w line k) p fs
-  load-top d [] at e = absurd (no_place (r, i) at)
-  load-top d (f ∷ fs) at e =
-      ap (acts_asked w line (state_with fs p) (frame_in f)) (loads-at (access_to k r i p.shared.heap) r i d p.shared f.locals f.operands e)
-      ∙ ap (λ x. acts_asked w line (state_with fs p) (frame_in f) (loads_element k x p.shared f.locals f.operands)) at
+-- the element is what is asked for in the place of the two
+pub is-loaded : (k : Kind) (s : Shared) (l : Locals) (o : Operands) (r : ℕ) (i : ℤ) (d : Datum) → Some (r, i) ≡ place_of o
+    → Some d ≡ element_at (access_to k r i s.heap) r s.heap → GoesOn l (as_value d ∷ drop 2 o) Next ≡ loads_element k (place_of o) s l o
+is-loaded k s l o r i d at e = loads-at (access_to k r i s.heap) r i d s l o e ∙ ap (λ x. loads_element k x s l o) at
 
-  -- the element is loaded
-  pub is-loaded : (d : Datum) → Some (r, i) ≡ place_of (top_operands p.frames.frames)
-      → Some d ≡ element_at (access_to k r i p.shared.heap) r p.shared.heap
-      → on_parts (acts_loaded line d) p ≡ on_parts (acts_load w line k) p
-  is-loaded d at e = load-top d p.frames.frames at e
+-- which are there
+pub place-enough : (o : Operands) (r : ℕ) (i : ℤ) → Some (r, i) ≡ place_of o → 2 ≤ length o
+place-enough [] r i e = absurd (no_place (r, i) e)
+place-enough (Int n ∷ []) r i e = absurd (no_place (r, i) e)
+place-enough (Long n ∷ []) r i e = absurd (no_place (r, i) e)
+place-enough (Ref n ∷ []) r i e = absurd (no_place (r, i) e)
+place-enough (Addr n ∷ []) r i e = absurd (no_place (r, i) e)
+place-enough (v ∷ u ∷ o) r i e = omega arith

@@ -22,6 +22,7 @@ use Rattle.jvm_basic.specs.declared.effect.Effect.TheVariants.{Next}
 use Rattle.jvm_basic.specs.Outcomes.{GoesOn as Goes, Rule, after, outcome_asked, effect_of, frames_in}
 use Rattle.jvm_basic.specs.Rules.{replaces, rule_of}
 use Rattle.prepared_code.specs.declared.line.Action.TheVariants as action
+use Rattle.symbolic_references.specs.Runtimes.{with_shared}
 use Rattle.prepared_code.specs.declared.line.Line.{Line}
 use Rattle.prepared_code.specs.declared.initializations.Initialization.{Initialization}
 use Rattle.prepared_code.specs.declared.parts.Here.{Here}
@@ -104,10 +105,10 @@ module _ (w : Setup) (run : CanRun w) (line : Line) where
     rule = replaces 2 (Some (as_value is.datum)) line.next
 
     load-asks : (fs : List PlacedFrame) → place_of (top_operands fs) ≡ Some (is.array, is.index) → (l : Locals)
-        → loads_element k (place_of (top_operands fs)) old.shared l (top_operands fs) ≡ GoesOn l (as_value is.datum ∷ drop 2 (top_operands fs)) Following
+        → loads_element k (place_of (top_operands fs)) old.runtime.shared l (top_operands fs) ≡ GoesOn l (as_value is.datum ∷ drop 2 (top_operands fs)) Following
     load-asks fs at l =
-        ap (λ x. loads_element k x old.shared l (top_operands fs)) at
-        ∙ sym (loads-at (access_to k is.array is.index old.shared.heap) is.array is.index is.datum old.shared l (top_operands fs) (sym is.there))
+        ap (λ x. loads_element k x old.runtime.shared l (top_operands fs)) at
+        ∙ sym (loads-at (access_to k is.array is.index old.runtime.shared.heap) is.array is.index is.datum old.runtime.shared l (top_operands fs) (sym is.there))
 
     load-quiet : (fs : List PlacedFrame) (ms : List Initialization) → place_of (top_operands fs) ≡ Some (is.array, is.index) → IsAtInstruction (length fs) ms old → StandsAt w fs line
         → (step w.world (listing_of w.versions) (with_initializations ms (state_with fs old))).changes ≡ []
@@ -132,10 +133,10 @@ module _ (w : Setup) (run : CanRun w) (line : Line) where
     own_rule = replaces 1 (Some (Int (pos is.count))) line.next
 
     length-asks : (fs : List PlacedFrame) → ref_of (top_operands fs) ≡ Some is.array → (l : Locals)
-        → measures (ref_of (top_operands fs)) old.shared l (top_operands fs) ≡ GoesOn l (Int (pos is.count) ∷ drop 1 (top_operands fs)) Following
+        → measures (ref_of (top_operands fs)) old.runtime.shared l (top_operands fs) ≡ GoesOn l (Int (pos is.count) ∷ drop 1 (top_operands fs)) Following
     length-asks fs at l =
-        ap (λ x. measures x old.shared l (top_operands fs)) at
-        ∙ (ap (λ b. if b then Raises null_pointer None else gives_way 1 (option_map (λ count. Int (pos count)) (array_length is.array old.shared.heap)) l (top_operands fs)) is.there
+        ap (λ x. measures x old.runtime.shared l (top_operands fs)) at
+        ∙ (ap (λ b. if b then Raises null_pointer None else gives_way 1 (option_map (λ count. Int (pos count)) (array_length is.array old.runtime.shared.heap)) l (top_operands fs)) is.there
         ∙ ap (λ n. gives_way 1 (option_map (λ count. Int (pos count)) n) l (top_operands fs)) is.long)
 
     length-quiet : (fs : List PlacedFrame) (ms : List Initialization) → ref_of (top_operands fs) ≡ Some is.array → IsAtInstruction (length fs) ms old → StandsAt w fs line
@@ -166,19 +167,19 @@ module _ (w : Setup) (run : CanRun w) (line : Line) where
     x = is.storing
 
     abbrev stored : Shared
-    stored = record old.shared { heap = with_slot_at x.array is.slot x.datum old.shared.heap }
+    stored = record old.runtime.shared { heap = with_slot_at x.array is.slot x.datum old.runtime.shared.heap }
 
-    stored-at : (l : Locals) (o : Operands) → stores_at w.world.program (access_to k x.array x.index old.shared.heap) x.array x.index x.datum old.shared l o
+    stored-at : (l : Locals) (o : Operands) → stores_at w.world.program (access_to k x.array x.index old.runtime.shared.heap) x.array x.index x.datum old.runtime.shared l o
         ≡ record { shared = stored; wrote = []; outcome = GoesOn l (drop 3 o) Following }
     stored-at l o =
-        ap (λ a. stores_at w.world.program a x.array x.index x.datum old.shared l o) is.there
-        ∙ ap (λ b. if b then record { shared = stored; wrote = []; outcome = GoesOn l (drop 3 o) Following } else done old.shared (Raises array_store None))
-        (fits-number w.world.program x.datum x.array old.shared.heap is.number)
+        ap (λ a. stores_at w.world.program a x.array x.index x.datum old.runtime.shared l o) is.there
+        ∙ ap (λ b. if b then record { shared = stored; wrote = []; outcome = GoesOn l (drop 3 o) Following } else done old.runtime.shared (Raises array_store None))
+        (fits-number w.world.program x.datum x.array old.runtime.shared.heap is.number)
 
     store-asks : (fs : List PlacedFrame) → storing_of k (top_operands fs) ≡ Some x → (l : Locals)
-        → stores_element w.world.program k (storing_of k (top_operands fs)) old.shared l (top_operands fs)
+        → stores_element w.world.program k (storing_of k (top_operands fs)) old.runtime.shared l (top_operands fs)
         ≡ record { shared = stored; wrote = []; outcome = GoesOn l (drop 3 (top_operands fs)) Following }
-    store-asks fs at l = ap (λ o. stores_element w.world.program k o old.shared l (top_operands fs)) at ∙ stored-at l (top_operands fs)
+    store-asks fs at l = ap (λ o. stores_element w.world.program k o old.runtime.shared l (top_operands fs)) at ∙ stored-at l (top_operands fs)
 
     store-quiet : (fs : List PlacedFrame) (ms : List Initialization) → storing_of k (top_operands fs) ≡ Some x → IsAtInstruction (length fs) ms old → StandsAt w fs line
         → (step w.world (listing_of w.versions) (with_initializations ms (state_with fs old))).changes ≡ []
@@ -190,10 +191,10 @@ module _ (w : Setup) (run : CanRun w) (line : Line) where
 
     store-done : (fs : List PlacedFrame) → StandsAt w fs line → storing_of k (top_operands fs) ≡ Some x
         → effect_of (drops_three line.next) (record { frames = fs; room = old.frames.room }) ≡ Next
-        → state_with (frames_in (outcome_asked (drops_three line.next) fs) fs) (record old { shared = stored }) ≡ on_top (acts w line) old fs
+        → state_with (frames_in (outcome_asked (drops_three line.next) fs) fs) (record old { runtime = with_shared stored old.runtime }) ≡ on_top (acts w line) old fs
     store-done [] stands at goes = absurd stands
     store-done (f ∷ fs) stands at goes =
-        next-is w line (record old { shared = stored }) (Goes f.locals (drop 3 f.operands) line.next) f fs goes
+        next-is w line (record old { runtime = with_shared stored old.runtime }) (Goes f.locals (drop 3 f.operands) line.next) f fs goes
         ∙ (sym (ap (acts_done w line (state_with fs old) (frame_in f)) (store-asks (f ∷ fs) at f.locals))
         ∙ sym (ap (acts_by w line (state_with fs old) (frame_in f)) stores))
 
@@ -210,6 +211,7 @@ plain-alone w run line old frames stands e made =
       ending = refl;
       thrown = refl;
       loaded = refl;
+      world = refl;
       leads = λ ms calm. plain.leads ms old calm;
       quiet = λ ms calm. plain.quiet ms old calm;
     }
@@ -238,7 +240,7 @@ still-has r (f ∷ fs) has = still-framed (r f.locals f.operands) f fs
 
 module _ (w : Setup) (run : CanRun w) (line : Line) (k : Kind) (old new : Parts) (stands : StandsAt w old.frames.frames line) where
   -- from what is changed, and what that is a step of
-  alone-by : (rule : Rule) (shared : Shared) → new ≡ record old { frames = after rule old.frames; shared = shared } → shared.loaded ≡ old.shared.loaded
+  alone-by : (rule : Rule) (shared : Shared) → new ≡ record old { frames = after rule old.frames; runtime = with_shared shared old.runtime } → shared.loaded ≡ old.runtime.shared.loaded
       → is_named line.action ≡ false → goes_within line.action ≡ true → state_in new ≡ on_parts (acts w line) old
       → ((ms : List Initialization) → IsAtInstruction (length old.frames.frames) ms old → (step w.world (listing_of w.versions) (state_of ms old)).changes ≡ [])
       → LeadsAlone w old 1 new
@@ -251,7 +253,8 @@ module _ (w : Setup) (run : CanRun w) (line : Line) (k : Kind) (old new : Parts)
         many = many;
         ending = ending;
         thrown = thrown;
-        loaded = ap (λ (p : Parts). p.shared.loaded) changed ∙ kept;
+        loaded = ap (λ (p : Parts). p.runtime.shared.loaded) changed ∙ kept;
+        world = ap (λ (p : Parts). p.runtime.world) changed;
         leads = λ ms calm.
             leads-one w (state_of ms old) (state_of ms new) (ap is_some calm.ending)
             (is-step w run line old new unnamed within does ending thrown many has (has-there w old.frames.frames line stands)
@@ -261,21 +264,21 @@ module _ (w : Setup) (run : CanRun w) (line : Line) (k : Kind) (old new : Parts)
 
   pub load-alone : line.action ≡ action.LoadElement k → IsLoaded line k old new → LeadsAlone w old 1 new
   load-alone loads is =
-      alone-by (replaces 2 (Some (as_value is.datum)) line.next) old.shared is.changed refl
+      alone-by (replaces 2 (Some (as_value is.datum)) line.next) old.runtime.shared is.changed refl
       (ap is_named loads) (ap goes_within loads)
       (ap state_in is.changed ∙ load-done w run line k loads old new is old.frames.frames stands is.at is.goes)
       (λ ms calm. load-quiet w run line k loads old new is old.frames.frames ms is.at calm stands)
 
   pub store-alone : line.action ≡ action.StoreElement k → IsStored line k old new → LeadsAlone w old 1 new
   store-alone stores is =
-      alone-by (drops_three line.next) (record old.shared { heap = with_slot_at is.storing.array is.slot is.storing.datum old.shared.heap }) is.changed refl
+      alone-by (drops_three line.next) (record old.runtime.shared { heap = with_slot_at is.storing.array is.slot is.storing.datum old.runtime.shared.heap }) is.changed refl
       (ap is_named stores) (ap goes_within stores)
       (ap state_in is.changed ∙ store-done w run line k stores old new is old.frames.frames stands is.at is.goes)
       (λ ms calm. store-quiet w run line k stores old new is old.frames.frames ms is.at calm stands)
 
   pub length-alone : line.action ≡ action.Arraylength → IsMeasured line old new → LeadsAlone w old 1 new
   length-alone length_of is =
-      alone-by (replaces 1 (Some (Int (pos is.count))) line.next) old.shared is.changed refl
+      alone-by (replaces 1 (Some (Int (pos is.count))) line.next) old.runtime.shared is.changed refl
       (ap is_named length_of) (ap goes_within length_of)
       (ap state_in is.changed ∙ length-done w run line length_of old new is old.frames.frames stands is.at is.goes)
       (λ ms calm. length-quiet w run line length_of old new is old.frames.frames ms is.at calm stands)

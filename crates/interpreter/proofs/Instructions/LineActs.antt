@@ -131,7 +131,7 @@ stays (Breaks true) = false
 stays (Initializes c) = false
 stays _ = true
 
-stays-starts : (q : Outcome) → stays q ≡ true → starts q ≡ None
+pub stays-starts : (q : Outcome) → stays q ≡ true → starts q ≡ None
 stays-starts (Returns d) h = refl
 stays-starts (Breaks b) h = refl
 stays-starts (Initializes c) h = absurd (false≢true h)

@@ -1,38 +1,54 @@
--- An attempt of a line that names something, by the answer that its instruction gives.
-use Rattle.std.proofs.Common.{◌≡◌, ℕ, true, List, [], ◌∷◌, ◌++◌, length, map, Option, Some, None, refl, sym, ap, subst, ◌∙◌}
+-- An attempt of a line that names something, by what its instruction asks for.
+use Rattle.std.proofs.Common.{◌≡◌, ℕ, suc, true, List, [], ◌∷◌, length, map, Option, Some, None, refl, sym, ap, subst, ◌∙◌}
 use Rattle.std.proofs.lemmas.Bool.{false≢true}
 use Rattle.std.proofs.lemmas.Option.{same_Some, none-some}
-use Rattle.frame_stack.specs.FrameLists.{PlacedFrame, FramesView, top_operands}
-use Rattle.jvm_model.specs.declared.state.Shared.{Shared}
+use Rattle.frame_stack.specs.FrameLists.{PlacedFrame, top_operands}
+use Rattle.jvm_basic.specs.Outcomes.{top_locals}
 use Rattle.jvm_model.specs.declared.state.State.{State}
 use Rattle.jvm_model.specs.declared.instruction.SymbolicReference.{SymbolicReference}
-use Rattle.jvm_model.specs.Instructions.SymbolicReference.{newly_loaded}
-use Rattle.symbolic_references.specs.declared.asked.Asked.{Asked}
-use Rattle.symbolic_references.specs.Answers.{answer_by, answer_in, answer_view, frames_by, shared_by, wrote_by}
-use Rattle.symbolic_references.specs.Attempts.{attempts, loaded_for}
+use Rattle.jvm_model.specs.Basis.Data.{Done, Initializes, Outcome, World}
+use Rattle.jvm_model.specs.Running.Run.{starts}
+use Rattle.symbolic_references.specs.Answers.{done_on}
+use Rattle.symbolic_references.specs.Attempts.{attempts, shared_loaded}
+use Rattle.symbolic_references.specs.Outcomes.{ruled}
+use Rattle.symbolic_references.specs.Runtimes.{RuntimeView, after}
 use Rattle.prepared_code.specs.declared.line.Action.{Action}
 use Rattle.prepared_code.specs.declared.line.Action.TheVariants as action
 use Rattle.prepared_code.specs.declared.line.Line.{Line}
 use Rattle.prepared_code.specs.declared.initializations.Initialization.{Initialization}
 use Rattle.prepared_code.specs.declared.parts.Here.{Here}
 use Rattle.prepared_code.specs.declared.parts.Parts.{Parts}
-use Rattle.interpreter.specs.Instructions.Acts.{acts, acts_by, attempts_on, class_awaited, awaited_by, awaited_in, awaited_on, becomes_beneath, is_named, named_in}
-use Rattle.interpreter.specs.Instructions.Asked.{answer_concluded, done_top, starts_in}
+use Rattle.interpreter.specs.Instructions.Acts.{acts, acts_asked, acts_by, attempts_on, awaited_by, awaited_in, awaited_on, becomes_beneath, class_awaited, is_named, named_in, on_parts, on_top, placed_line}
+use Rattle.interpreter.specs.Instructions.Asked.{TakesArguments, done_top}
 use Rattle.interpreter.specs.Instructions.Initializing.{begins_class}
+use Rattle.prepared_code.specs.Kept.{AreKnown}
 use Rattle.prepared_code.specs.Lines.{IfNamed, IfNamedBy}
+use Rattle.prepared_code.specs.Linked.{IsLinked, Linked, setup_in}
 use Rattle.prepared_code.specs.Initializations.{initialization_on, stack_of, state_of, with_initializations}
 use Rattle.prepared_code.specs.States.{active, frame_in, here_of, state_in, state_with}
-use Rattle.interpreter.proofs.Loads.ActsLoad.{named-loads}
+use Rattle.prepared_code.specs.Versions.{Setup, line_at, listing_of}
+use Rattle.prepared_code.proofs.Initializing.InitializingStacks.{length-active}
 use Rattle.interpreter.proofs.Initializing.Beneath.{does-there}
-use Rattle.interpreter.proofs.Instructions.Concluded.{CanAnswer, begins-by, can-answer, concludes-by, named_beneath, starts-same}
+use Rattle.interpreter.proofs.Initializing.Carried.{applies-carried}
+use Rattle.interpreter.proofs.Instructions.LineActs.{starts-some, stays}
+use Rattle.interpreter.proofs.Instructions.NamedLaws.{asks-takes, is-named}
 use Rattle.interpreter.proofs.Moves.LineSteps.{top-frame}
-use Rattle.prepared_code.specs.Versions.{Setup, line_at}
 
 -- ---- the world stays
 
-pub concluded-in : (w v : Setup) (here : Here) (a : Asked) (mid after : Parts) → v ≡ w → state_in after ≡ answer_concluded v here (answer_view a) mid
-    → state_in after ≡ answer_concluded w here (answer_view a) mid
-concluded-in w v here a mid after same made = subst (λ u. state_in after ≡ answer_concluded u here (answer_view a) mid) same made
+pub same-setup : (r s : RuntimeView) (o p : Linked) → s.world ≡ r.world → p.versions ≡ o.versions → setup_in s p ≡ setup_in r o
+same-setup r s o p world versions =
+    ap (λ x. let w : Setup = record { world = x; versions = p.versions } in w) world
+    ∙ ap (λ x. let w : Setup = record { world = r.world; versions = x } in w) versions
+
+-- and what is loaded
+pub linked-kept : (o : Linked) (r s : RuntimeView) → s.world ≡ r.world → s.shared.loaded ≡ r.shared.loaded → IsLinked o r → IsLinked o s
+linked-kept o r s world loaded linked = record {
+  program = ap (λ (w : World). w.program) world ∙ linked.program;
+  known =
+      subst (λ (w : World). AreKnown (record { program = w.program; loaded = s.shared.loaded }) o.versions o.rows) (sym world)
+      (subst (λ (x : List ℕ). AreKnown (record { program = r.world.program; loaded = x }) o.versions o.rows) (sym loaded) linked.known);
+}
 
 -- ---- a line that names something
 
@@ -65,96 +81,96 @@ held lo names Holds if_named =
 
 -- ---- the parts where it has answered
 
-module _ (w : Setup) (ms : List Initialization) (here : Here) (p : Parts) (is_named_there : named_in (line_at w.versions here.version here.place) ≡ true)
-    (at : here_of p.frames.frames ≡ Some here) (none : initialization_on (length p.frames.frames) ms ≡ None)
-    (frames : FramesView) (shared : Shared) (output loaded : List ℕ) (a : Asked)
-    (answers : IfNamed (line_at w.versions here.version here.place) (λ n next. answer_view a ≡ answer_by (attempts w.world n p.shared p.frames) p.frames))
-    (moves : IfNamed (line_at w.versions here.version here.place) (λ n next. frames ≡ frames_by (attempts w.world n p.shared p.frames) next p.frames))
-    (shares : IfNamed (line_at w.versions here.version here.place) (λ n next. shared ≡ shared_by (attempts w.world n p.shared p.frames) p.frames))
-    (writes : IfNamed (line_at w.versions here.version here.place) (λ n next. output ≡ p.output ++ wrote_by (attempts w.world n p.shared p.frames) p.frames))
-    (loads : IfNamed (line_at w.versions here.version here.place) (λ n next. loaded ≡ loaded_for w.world.program n p.shared p.frames)) where
-  names : Names (line_at w.versions here.version here.place)
-  names = names-there (line_at w.versions here.version here.place) is_named_there
+module _ (w : Setup) (ms : List Initialization) (here : Here) (line : Line) (p : Parts) (found : line_at w.versions here.version here.place ≡ Some line)
+    (is : named_in (line_at w.versions here.version here.place) ≡ true) (at : here_of p.frames.frames ≡ Some here)
+    (none : initialization_on (length p.frames.frames) ms ≡ None) (q : Outcome) (left : RuntimeView)
+    (answers : IfNamed (line_at w.versions here.version here.place) (λ n next. q ≡ ruled (attempts w.world n p.runtime.shared p.frames) p.frames))
+    (leaves : IfNamed (line_at w.versions here.version here.place) (λ n next. left ≡ after (done_on (attempts w.world n p.runtime.shared p.frames) p.frames) p.runtime)) where
+  by_name : (n : SymbolicReference) × (line.action ≡ action.Named n)
+  by_name = names-by line.action (sym (ap named_in found) ∙ is)
+
+  abbrev names : Names (line_at w.versions here.version here.place)
+  names = record { line = line; kept = by_name.0; there = found; named = by_name.1 }
 
   abbrev n : SymbolicReference
-  n = names.kept
+  n = by_name.0
 
   -- the state before
   abbrev s : State
   s = state_of ms p
 
   abbrev mid : Parts
-  mid = record p { frames = frames; shared = shared; output = output }
+  mid = record p { runtime = left }
 
-  answer-is : answer_view a ≡ answer_in (done_top w n p.shared p.frames.frames).outcome p.frames.frames
-  answer-is = held (line_at w.versions here.version here.place) names (λ n next. answer_view a ≡ answer_by (attempts w.world n p.shared p.frames) p.frames) answers
+  answer-is : q ≡ (done_top w n p.runtime.shared p.frames.frames).outcome
+  answer-is =
+      held (line_at w.versions here.version here.place) names (λ n next. q ≡ ruled (attempts w.world n p.runtime.shared p.frames) p.frames) answers
 
-  can : CanAnswer (answer_in (done_top w n p.shared p.frames.frames).outcome p.frames.frames)
-  can = subst CanAnswer answer-is (can-answer a)
+  abbrev reached : List PlacedFrame → Parts
+  reached all = record p { runtime = after (done_top w n p.runtime.shared all) p.runtime }
 
-  abbrev due : Parts
-  due = record p {
-    frames = frames_by (attempts w.world n p.shared p.frames) names.line.next p.frames;
-    shared = shared_by (attempts w.world n p.shared p.frames) p.frames;
-    output = p.output ++ wrote_by (attempts w.world n p.shared p.frames) p.frames;
-  }
-
-  mid-is : mid ≡ due
+  mid-is : mid ≡ reached p.frames.frames
   mid-is =
-      ap (λ (x : FramesView). let q : Parts = record p { frames = x; shared = shared; output = output } in q)
-      (held (line_at w.versions here.version here.place) names (λ n next. frames ≡ frames_by (attempts w.world n p.shared p.frames) next p.frames) moves)
-      ∙ (ap (λ (x : Shared). let q : Parts = record p { frames = due.frames; shared = x; output = output } in q)
-      (held (line_at w.versions here.version here.place) names (λ n next. shared ≡ shared_by (attempts w.world n p.shared p.frames) p.frames) shares)
-      ∙ ap (λ (x : List ℕ). let q : Parts = record p { frames = due.frames; shared = due.shared; output = x } in q)
-      (held (line_at w.versions here.version here.place) names (λ n next. output ≡ p.output ++ wrote_by (attempts w.world n p.shared p.frames) p.frames) writes))
+      ap (λ (r : RuntimeView). let q : Parts = record p { runtime = r } in q)
+      (held (line_at w.versions here.version here.place) names (λ n next. left ≡ after (done_on (attempts w.world n p.runtime.shared p.frames) p.frames) p.runtime) leaves)
 
-  -- what the line does there
-  attempted : named_beneath w names.line n ms p p.frames.frames ≡ attempts_on w s s.stack
-  attempted = by p.frames.frames ∙ does-there w ms p names.line here at none names.there where
-    by : (fs : List PlacedFrame) → named_beneath w names.line n ms p fs ≡ becomes_beneath ms (acts w names.line) p fs
-    by [] = refl
-    by (f ∷ fs) =
-        sym (ap (acts_by w names.line (with_initializations ms (state_with fs p)) (frame_in f)) names.named)
+  -- the arguments of a method that it invokes
+  pub takes-there : TakesArguments q (top_operands p.frames.frames)
+  takes-there =
+      let l = top_locals p.frames.frames in
+      let o = top_operands p.frames.frames in
+      let d : Done = done_top w n p.runtime.shared p.frames.frames in
+      let law = is-named (shared_loaded w.world.program n p.runtime.shared p.frames) o w n l in
+      subst (λ (x : Outcome). TakesArguments x o) (sym answer-is) (asks-takes d.shared o d.outcome law.asks)
 
-  pub goes-on : (o : Option ℕ) (after : Parts) → o ≡ starts_in (answer_view a) → o ≡ None → state_in after ≡ answer_concluded w here (answer_view a) mid
-      → state_of ms after ≡ attempts_on w s s.stack
-  goes-on o after delivered quiet concludes =
-      ap (with_initializations ms) (concludes ∙ (ap (λ x. answer_concluded w here x mid) answer-is ∙ ap (answer_concluded w here _) mid-is))
-      ∙ (concludes-by w names.line n ms here p names.there p.frames.frames at none can (sym (sym quiet ∙ (delivered ∙ ap starts_in answer-is)))
-      ∙ attempted)
+  -- beneath the initializations
+  carried-by : (x : Outcome) (all : List PlacedFrame) → x ≡ (done_top w n p.runtime.shared all).outcome → stays x ≡ true → here_of all ≡ Some here
+      → initialization_on (length all) ms ≡ None
+      → with_initializations ms (on_top (λ s f. acts_asked w line s f x) (reached all) all) ≡ becomes_beneath ms (acts w line) p all
+  carried-by x [] told kept is free = absurd (none-some here is)
+  carried-by x (f ∷ fs) told kept is free =
+      let mid : Parts = reached (f ∷ fs) in
+      applies-carried ms w (listing_of w.versions) (placed_line line) x kept (state_with fs mid) (frame_in f)
+      (ap (λ k. initialization_on (suc k) ms) (length-active fs) ∙ free)
+      ∙ (ap (acts_asked w line (with_initializations ms (state_with fs mid)) (frame_in f)) told
+      ∙ sym (ap (acts_by w line (with_initializations ms (state_with fs p)) (frame_in f)) by_name.1))
 
-  pub begins-on : (o : Option ℕ) (c : ℕ) (after : Parts) → o ≡ starts_in (answer_view a) → o ≡ Some c → state_in after ≡ answer_concluded w here (answer_view a) mid
-      → begins_class c (state_of ms after) ≡ attempts_on w s s.stack
-  begins-on o c after delivered some concludes =
-      ap (λ x. begins_class c (with_initializations ms x)) (concludes ∙ (ap (λ x. answer_concluded w here x mid) answer-is ∙ ap (answer_concluded w here _) mid-is))
-      ∙ (begins-by w names.line n ms here p names.there c p.frames.frames at none can (sym (sym some ∙ (delivered ∙ ap starts_in answer-is)))
-      ∙ attempted)
+  pub goes-on : (v : Setup) (new : Parts) → v ≡ w → stays q ≡ true
+      → state_in new ≡ on_parts (λ s f. acts_asked v line s f q) mid → state_of ms new ≡ attempts_on w s s.stack
+  goes-on v new same kept made =
+      ap (with_initializations ms)
+      (subst (λ (u : Setup). state_in new ≡ on_parts (λ s f. acts_asked u line s f q) mid) same made
+      ∙ ap (λ (m : Parts). on_parts (λ s f. acts_asked w line s f q) m) mid-is)
+      ∙ (carried-by q p.frames.frames answer-is kept at none
+      ∙ does-there w ms p line here at none found)
+
+  begins-by : (c : ℕ) (all : List PlacedFrame) → (done_top w n p.runtime.shared all).outcome ≡ Initializes c → here_of all ≡ Some here
+      → initialization_on (length all) ms ≡ None → begins_class c (with_initializations ms (state_with all (reached all))) ≡ becomes_beneath ms (acts w line) p all
+  begins-by c [] asks is free = absurd (none-some here is)
+  begins-by c (f ∷ fs) asks is free =
+      let mid : Parts = reached (f ∷ fs) in
+      ap (λ es. begins_class c (record (state_with (f ∷ fs) mid) { stack = es })) (top-frame ms f fs free)
+      ∙ (sym (ap (acts_asked w line (with_initializations ms (state_with fs mid)) (frame_in f)) asks)
+      ∙ sym (ap (acts_by w line (with_initializations ms (state_with fs p)) (frame_in f)) by_name.1))
+
+  pub begins-on : (o : Option ℕ) (c : ℕ) (new : Parts) → o ≡ starts q → o ≡ Some c → new ≡ mid
+      → begins_class c (state_of ms new) ≡ attempts_on w s s.stack
+  begins-on o c new told some same =
+      ap (λ (m : Parts). begins_class c (state_of ms m)) (same ∙ mid-is)
+      ∙ (begins-by c p.frames.frames (sym answer-is ∙ starts-some q c (sym told ∙ some)) at none
+      ∙ does-there w ms p line here at none found)
 
   -- the class that it awaits
   awaits-by : (fs : List PlacedFrame) → here_of fs ≡ Some here → initialization_on (length fs) ms ≡ None
-      → CanAnswer (answer_in (done_top w n p.shared fs).outcome fs)
-      → awaited_on w s (stack_of (map active fs) ms) ≡ starts_in (answer_in (done_top w n p.shared fs).outcome fs)
-  awaits-by [] is free can_there = absurd (none-some here is)
-  awaits-by (f ∷ fs) is free can_there =
+      → awaited_on w s (stack_of (map active fs) ms) ≡ starts (done_top w n p.runtime.shared fs).outcome
+  awaits-by [] is free = absurd (none-some here is)
+  awaits-by (f ∷ fs) is free =
       let same : record { version = f.version; method = f.method; place = f.place } ≡ here = same_Some _ here is in
       let under : State = record s { stack = stack_of (map active fs) ms } in
       ap (awaited_on w s) (top-frame ms f fs free)
       ∙ (ap (λ (h : Here). awaited_by w under (frame_in f) (line_at w.versions h.version h.place)) same
-      ∙ (ap (awaited_by w under (frame_in f)) names.there
-      ∙ (ap (class_awaited w under (frame_in f)) names.named
-      ∙ sym (starts-same (done_top w n p.shared (f ∷ fs)).outcome f fs can_there))))
+      ∙ (ap (awaited_by w under (frame_in f)) found
+      ∙ ap (class_awaited w under (frame_in f)) by_name.1))
 
-  pub awaits-told : (o : Option ℕ) → o ≡ starts_in (answer_view a) → o ≡ awaited_in w s
-  awaits-told o delivered = delivered ∙ (ap starts_in answer-is ∙ sym (awaits-by p.frames.frames at none can))
-
-  -- what is loaded then
-  pub loads-told : (after : State) → after ≡ attempts_on w s s.stack → loaded ≡ after.shared.loaded
-  loads-told after is =
-      held (line_at w.versions here.version here.place) names (λ n next. loaded ≡ loaded_for w.world.program n p.shared p.frames) loads
-      ∙ (by p.frames.frames at
-      ∙ ap (λ (x : State). x.shared.loaded) (attempted ∙ sym is))
-    where
-      by : (fs : List PlacedFrame) → here_of fs ≡ Some here
-          → p.shared.loaded ++ newly_loaded w.world.program p.shared.loaded n (top_operands fs) ≡ (named_beneath w names.line n ms p fs).shared.loaded
-      by [] is = absurd (none-some here is)
-      by (f ∷ fs) is = sym (named-loads w names.line n (with_initializations ms (state_with fs p)) (frame_in f))
+  pub awaits-told : (o : Option ℕ) → o ≡ starts q → o ≡ awaited_in w s
+  awaits-told o told = told ∙ (ap starts answer-is ∙ sym (awaits-by p.frames.frames at none))

@@ -44,15 +44,10 @@ use Rattle.jvm_model.specs.Instructions.Rules.{class_initialized, when_ready}
 use Rattle.jvm_model.specs.Classes.Selection.{is_abstract, is_static}
 use Rattle.jvm_model.specs.Basis.SharedState.{class_of, class_of_kind, null_pointer, phase_of}
 use Rattle.jvm_model.specs.Basis.Values.{arguments, data_of, int_of, ref_of}
+use Rattle.interpreter.specs.Instructions.Asked.{Takes, TakesArguments}
 use Rattle.prepared_code.specs.Versions.{Setup}
 
 -- ---- what is asked for
-
--- the arguments are the topmost operands, each of its kind, and are taken off
-pub record Takes (o : Operands) (args : List Datum) (below : Operands) : Type 0 where
-  pub kinds : List Kind
-  pub are : data_of kinds (reverse (take (length kinds) o)) ≡ Some args
-  pub off : below ≡ drop (length args) o
 
 abbrev pub Asks : Shared → Operands → Outcome → Type 0
 Asks s o (Initializes c) = phase_of s c ≡ Some Fresh
@@ -63,8 +58,19 @@ pub record IsNamed (s : Shared) (o : Operands) (d : Done) : Type 0 where
   pub loaded : d.shared.loaded ≡ s.loaded
   pub asks : Asks d.shared o d.outcome
 
+pub asks-takes : (s : Shared) (o : Operands) (q : Outcome) → Asks s o q → TakesArguments q o
+asks-takes s o (Initializes c) asks = tt
+asks-takes s o (Invokes m args below) asks = asks
+asks-takes s o (GoesOn l q to) asks = tt
+asks-takes s o Subroutine asks = tt
+asks-takes s o (Returns d) asks = tt
+asks-takes s o (Throws r) asks = tt
+asks-takes s o (Raises name message) asks = tt
+asks-takes s o (Exits n) asks = tt
+asks-takes s o (Breaks b) asks = tt
+
 -- neither of the two
-abbrev is_plain : Outcome → Bool
+abbrev pub is_plain : Outcome → Bool
 is_plain (Initializes c) = false
 is_plain (Invokes m args below) = false
 is_plain q = true

@@ -26,7 +26,7 @@ module _ (w : Setup) where
   if-loaded false = sym (append-nil (before w.world).shared.loaded)
 
   pub begun-loads : (ms_old ms : List Initialization) (old new : Parts) → arguments_fit w.world.program ≡ true → state_of ms_old old ≡ before w.world → state_of ms new ≡ starts_if w.world true
-      → new.shared.loaded ≡ old.shared.loaded ++ main_loads w.world
+      → new.runtime.shared.loaded ≡ old.runtime.shared.loaded ++ main_loads w.world
   begun-loads ms_old ms old new fits start begun =
       ap (λ (x : State). x.shared.loaded) begun
       ∙ (if-loaded true

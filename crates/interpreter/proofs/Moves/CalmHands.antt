@@ -37,6 +37,7 @@ module _ (w : Setup) (ms : List Initialization) (hand : Hand) (p : Parts) (gone 
         reaches = reaches-moves w hand s s hand.passed Nothing gone counts due moves (paused ∙ ap (λ b. goes_by_moves w b hand.passed s) (sym undelivered));
         left = left;
         loaded = refl;
+        world = refl;
         keeps = λ k superseded runs. runs;
       }
 
@@ -49,6 +50,7 @@ module _ (w : Setup) (ms : List Initialization) (hand : Hand) (p : Parts) (gone 
         (tries.reaches ∙ ap (λ n. tried_in w hand.delivered n s) (sym first));
     left = left;
     loaded = tries.loaded;
+    world = tries.world;
     keeps = tries.keeps;
   }
 

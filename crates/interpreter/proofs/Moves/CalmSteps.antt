@@ -32,11 +32,11 @@ has-here here [] is = absurd (none-some here is)
 has-here here (f ∷ fs) is = refl
 
 -- what is told of a frame in this place
-leaves-here : (w : Setup) (here : Here) (fs : List PlacedFrame) → here_of fs ≡ Some here → leaves_in w fs ≡ leaves_at w here.version here.place
+leaves-here : (w : Setup) (here : Here) (fs : List PlacedFrame) → here_of fs ≡ Some here → leaves_in w.versions fs ≡ leaves_at w.versions here.version here.place
 leaves-here w here [] is = absurd (none-some here is)
 leaves-here w here (f ∷ fs) is =
     let same : record { version = f.version; method = f.method; place = f.place } ≡ here = same_Some _ here is in
-    ap (λ (h : Here). leaves_at w h.version h.place) same
+    ap (λ (h : Here). leaves_at w.versions h.version h.place) same
 
 not-and : (a b : Bool) → b ≡ false → (a && b) ≡ false
 not-and true b is = is
@@ -68,18 +68,19 @@ module _ (w : Setup) (run : CanRun w) (ms : List Initialization) (old new : Part
   none = ap (λ (classes : List ℕ). length classes == 0) is.loads
 
   -- a method has begun, in a version with probes
-  pub begins-calmly : (delivered : Bool) (version method : ℕ) → leaves_in w old.frames.frames ≡ false → top_of new.frames.frames ≡ Some (version, method)
+  pub begins-calmly : (delivered : Bool) (version method : ℕ) → leaves_in w.versions old.frames.frames ≡ false → top_of new.frames.frames ≡ Some (version, method)
       → length new.frames.frames ≡ suc (length old.frames.frames) → is_off (mark_of w.versions (current_of w.versions method)) ≡ false
       → TriesCalmly w ms delivered old Begins new
   begins-calmly delivered version method apart top more marked =
-      let enters = sym (enters_top w live new.frames.frames version method top (omega (arith, more))) ∙ ap not marked in
+      let enters = sym (enters_top w.versions live new.frames.frames version method top (omega (arith, more))) ∙ ap not marked in
       let counts = counts_one 0 live new.frames.frames (λ same. absurd (omega (arith, same, more))) in
       let once = tries-once w run ms old going 0 live refl none None (sym is.awaits) after is.made (pause_at after 1 Begins)
       (follows-told w live 0 ms new 1 counts enters) refl in
       record {
         loads = none;
-        reaches = once ∙ tries-silently w delivered 0 ms old run going (not-and (not delivered) (leaves_in w old.frames.frames) apart);
+        reaches = once ∙ tries-silently w delivered 0 ms old run going (not-and (not delivered) (leaves_in w.versions old.frames.frames) apart);
         loaded = is.loaded;
+        world = is.world;
         keeps = is.keeps;
       }
 
@@ -90,13 +91,14 @@ module _ (w : Setup) (run : CanRun w) (ms : List Initialization) (old new : Part
       (framed (length new.frames.frames) ms new.frames.frames is.at_instruction.executing refl framed_then) in
       let one : length old.frames.frames ≡ suc (length old.frames.frames - 1) = some-frame old.frames.frames has in
       let counts = counts_one 0 live new.frames.frames (λ same. absurd (omega (arith, same, fewer, one))) in
-      let enters = sym (enters_none w live new.frames.frames (omega (arith, fewer, one))) in
+      let enters = sym (enters_none w.versions live new.frames.frames (omega (arith, fewer, one))) in
       let paused : pause_at after 1 Nothing ≡ paused_in w 1 after = sym (rest-pauses w 1 after (rest-moves w (listing_of w.versions) ms new rests)) in
       record {
         loads = none;
         reaches = tries-once w run ms old going 0 live refl none None (sym is.awaits) after is.made (pause_at after 1 Nothing)
             (paused ∙ follows-on w live 0 ms new 1 counts enters) refl;
         loaded = is.loaded;
+        world = is.world;
         keeps = is.keeps;
       }
     where
@@ -113,19 +115,20 @@ pub stops-calmly : (w : Setup) (run : CanRun w) (ms : List Initialization) (old 
 stops-calmly w run ms old here line stands calm found returns marked =
     let going = goes old.ending (has_frame old.frames.frames && is_none (initialization_on (length old.frames.frames) ms)) calm.ending
     (framed (length old.frames.frames) ms old.frames.frames calm.executing refl (has-here here old.frames.frames stands)) in
-    let leaves : leaves_in w old.frames.frames ≡ true =
+    let leaves : leaves_in w.versions old.frames.frames ≡ true =
     leaves-here w here old.frames.frames stands
     ∙ (ap (λ b. b && is_return_line (line_at w.versions here.version here.place)) marked ∙ (ap is_return_line found ∙ returns)) in
     record {
       loads = sym (leaves-loads w false 0 ms old run going leaves);
       reaches = leaves-pause w false 0 ms old run going leaves;
       loaded = refl;
+      world = refl;
       keeps = λ k superseded runs. runs;
     }
 
 -- a line that is none
 pub no-return : (w : Setup) (here : Here) (line : Line) (fs : List PlacedFrame) → here_of fs ≡ Some here → line_at w.versions here.version here.place ≡ Some line
-    → returns_by line.action ≡ false → leaves_in w fs ≡ false
+    → returns_by line.action ≡ false → leaves_in w.versions fs ≡ false
 no-return w here line fs stands found isnt =
     leaves-here w here fs stands
     ∙ not-and (not (is_off (mark_of w.versions here.version))) (is_return_line (line_at w.versions here.version here.place)) (ap is_return_line found ∙ isnt)

@@ -25,6 +25,7 @@ use Rattle.prepared_code.specs.Initializations.{above, beneath, initializing_ent
 use Rattle.prepared_code.specs.States.{active}
 use Rattle.interpreter.specs.Moves.Turning.{pause_at, paused_in}
 use Rattle.interpreter.specs.Moves.Trying.{changes_since, enters_by, is_begins, pause_behind_attempt, top_frame_method}
+use Rattle.prepared_code.specs.Tables.{Versions}
 use Rattle.prepared_code.specs.Versions.{Setup, current_of, listing_of, mark_of}
 use Rattle.interpreter.proofs.Instructions.InitializerFrames.{live-of}
 use Rattle.jvm_model.proofs.Loading.LoadedMoves.{settled-loaded}
@@ -58,30 +59,30 @@ begins-unless Plain = refl
 begins-unless Root = refl
 
 -- no activation more
-pub enters_none : (w : Setup) (live : ℕ) (fs : List PlacedFrame) → length fs ≤ live → false ≡ enters_by w (changes_since live fs)
-enters_none w live fs few = by (nat_lt (length fs) live) ∙ ap (λ b. enters_by w (depths_compared (nat_lt (length fs) live) b (top_frame_method fs))) (sym (le-ltb live (length fs) few)) where
-  by : (b : Bool) → false ≡ enters_by w (depths_compared b false (top_frame_method fs))
+pub enters_none : (v : Versions) (live : ℕ) (fs : List PlacedFrame) → length fs ≤ live → false ≡ enters_by v (changes_since live fs)
+enters_none v live fs few = by (nat_lt (length fs) live) ∙ ap (λ b. enters_by v (depths_compared (nat_lt (length fs) live) b (top_frame_method fs))) (sym (le-ltb live (length fs) few)) where
+  by : (b : Bool) → false ≡ enters_by v (depths_compared b false (top_frame_method fs))
   by true = refl
   by false = refl
 
 -- one more
-enters-one : (w : Setup) (live : ℕ) (f : PlacedFrame) (fs : List PlacedFrame) → live < length (f ∷ fs)
-    → not (is_off (mark_of w.versions (current_of w.versions f.method))) ≡ enters_by w (changes_since live (f ∷ fs))
-enters-one w live f fs more =
-    begins-unless (mark_of w.versions (current_of w.versions f.method))
-    ∙ (ap (λ b. enters_by w (depths_compared false b f.method)) (sym (lt-ltb live (length (f ∷ fs)) more))
-    ∙ ap (λ b. enters_by w (depths_compared b (nat_lt live (length (f ∷ fs))) f.method)) (sym (le-ltb (length (f ∷ fs)) live (omega arith))))
+enters-one : (v : Versions) (live : ℕ) (f : PlacedFrame) (fs : List PlacedFrame) → live < length (f ∷ fs)
+    → not (is_off (mark_of v (current_of v f.method))) ≡ enters_by v (changes_since live (f ∷ fs))
+enters-one v live f fs more =
+    begins-unless (mark_of v (current_of v f.method))
+    ∙ (ap (λ b. enters_by v (depths_compared false b f.method)) (sym (lt-ltb live (length (f ∷ fs)) more))
+    ∙ ap (λ b. enters_by v (depths_compared b (nat_lt live (length (f ∷ fs))) f.method)) (sym (le-ltb (length (f ∷ fs)) live (omega arith))))
 
-pub enters_top : (w : Setup) (live : ℕ) (fs : List PlacedFrame) (version method : ℕ) → top_of fs ≡ Some (version, method) → live < length fs
-    → not (is_off (mark_of w.versions (current_of w.versions method))) ≡ enters_by w (changes_since live fs)
-enters_top w live [] version method top more = absurd (omega arith)
-enters_top w live (f ∷ fs) version method top more =
+pub enters_top : (v : Versions) (live : ℕ) (fs : List PlacedFrame) (version method : ℕ) → top_of fs ≡ Some (version, method) → live < length fs
+    → not (is_off (mark_of v (current_of v method))) ≡ enters_by v (changes_since live fs)
+enters_top v live [] version method top more = absurd (omega arith)
+enters_top v live (f ∷ fs) version method top more =
     let same : f.method ≡ method = ap (λ (x : ℕ × ℕ). x.1) (same_Some _ _ top) in
-    ap (λ m. not (is_off (mark_of w.versions (current_of w.versions m)))) (sym same) ∙ enters-one w live f fs more
+    ap (λ m. not (is_off (mark_of v (current_of v m)))) (sym same) ∙ enters-one v live f fs more
 
-pub enters_nothing : (w : Setup) (live : ℕ) (fs : List PlacedFrame) → top_of fs ≡ None → live < length fs → false ≡ enters_by w (changes_since live fs)
-enters_nothing w live [] top more = absurd (omega arith)
-enters_nothing w live (f ∷ fs) top more = absurd cc
+pub enters_nothing : (v : Versions) (live : ℕ) (fs : List PlacedFrame) → top_of fs ≡ None → live < length fs → false ≡ enters_by v (changes_since live fs)
+enters_nothing v live [] top more = absurd (omega arith)
+enters_nothing v live (f ∷ fs) top more = absurd cc
 
 -- ---- how many changes are behind it
 
@@ -130,7 +131,7 @@ module _ (w : Setup) (live n : ℕ) (ms : List Initialization) (p : Parts) where
   same-followed = ap followed_by (since-between live ms p)
 
   -- a method has begun, which is told
-  pub follows-told : (passed : ℕ) → passed ≡ passed_by n cs → enters_by w cs ≡ true → pause_at s passed Begins ≡ pause_behind_attempt w live n s
+  pub follows-told : (passed : ℕ) → passed ≡ passed_by n cs → enters_by w.versions cs ≡ true → pause_at s passed Begins ≡ pause_behind_attempt w live n s
   follows-told passed counted is =
       ap (λ k. pause_at s k Begins) counted
       ∙ (sym (begins-pause (changes_due (mark_now (mark_of w.versions) (listing_of w.versions)) [] cs) (record { state = s; passed = passed_by n cs; due = Begins })
@@ -138,7 +139,7 @@ module _ (w : Setup) (live n : ℕ) (ms : List Initialization) (p : Parts) where
       ∙ same-followed)
 
   -- the moves follow
-  pub follows-on : (passed : ℕ) → passed ≡ passed_by n cs → enters_by w cs ≡ false → paused_in w passed s ≡ pause_behind_attempt w live n s
+  pub follows-on : (passed : ℕ) → passed ≡ passed_by n cs → enters_by w.versions cs ≡ false → paused_in w passed s ≡ pause_behind_attempt w live n s
   follows-on passed counted isnt =
       ap (λ k. paused_in w k s) counted
       ∙ (sym (goes-pause (changes_due (mark_now (mark_of w.versions) (listing_of w.versions)) [] cs) (record { state = s; passed = passed_by n cs; due = Begins })

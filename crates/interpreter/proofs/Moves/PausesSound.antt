@@ -144,8 +144,8 @@ module _ (w : Setup) (run : CanRun w) (n : ℕ) (s : State) (is : IsSoundIn w s)
       by false isnt = subst (λ (p : Pause). IsSoundIn w p.state) (sym (tried-stays w run n s going none c awaits isnt)) first-sound
 
     going-sound : (delivered : Bool) → IsSoundIn w (tried_in w delivered n s).state
-    going-sound delivered = by (not delivered && leaves_at w going.frame.version going.frame.place) refl where
-      by : (b : Bool) → (not delivered && leaves_at w going.frame.version going.frame.place) ≡ b → IsSoundIn w (tried_in w delivered n s).state
+    going-sound delivered = by (not delivered && leaves_at w.versions going.frame.version going.frame.place) refl where
+      by : (b : Bool) → (not delivered && leaves_at w.versions going.frame.version going.frame.place) ≡ b → IsSoundIn w (tried_in w delivered n s).state
       by true due = subst (λ (p : Pause). IsSoundIn w p.state) (sym (told-first w run n s going delivered due)) is
       by false isnt =
           subst (λ (p : Pause). IsSoundIn w p.state) (told-silent w run n s going delivered isnt) (awaits-sound (awaited_in w s) refl)

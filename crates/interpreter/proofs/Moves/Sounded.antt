@@ -111,12 +111,10 @@ caller-by w run loaded ms here (f ∷ fs) is none each =
     (λ i at. run.listing.attempts loaded f.version f.method f.place i top.1 top.0 at)
     (tied-there w run f.version f.place))
 
-pub caller-linked : (w : Setup) (ms : List Initialization) (parts : Parts) (loaded : List ℕ) (here : Here) → CanRun w → IsSoundIn w (state_of ms parts) → loaded ≡ parts.shared.loaded
+pub caller-linked : (w : Setup) (ms : List Initialization) (parts : Parts) (here : Here) → CanRun w → IsSoundIn w (state_of ms parts)
     → here_of parts.frames.frames ≡ Some here → initialization_on (length parts.frames.frames) ms ≡ None
-    → IfNamed (line_at w.versions here.version here.place) (λ n next. HasLoadedCaller (linker_of w.world.program loaded) n)
-caller-linked w ms parts loaded here run is linked at none =
-    subst (λ l. IfNamed (line_at w.versions here.version here.place) (λ n next. HasLoadedCaller (linker_of w.world.program l) n)) (sym linked)
-    (caller-by w run parts.shared.loaded ms here parts.frames.frames at none is.stack)
+    → IfNamed (line_at w.versions here.version here.place) (λ n next. HasLoadedCaller (linker_of w.world.program parts.runtime.shared.loaded) n)
+caller-linked w ms parts here run is at none = caller-by w run parts.runtime.shared.loaded ms here parts.frames.frames at none is.stack
 
 -- ---- an attempt leaves a sound state
 

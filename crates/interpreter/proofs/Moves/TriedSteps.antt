@@ -135,10 +135,10 @@ module _ (w : Setup) (run : CanRun w) (n : ℕ) (s : State) (going : IsGoing s) 
         return-loads w i.operation s.shared f.operands (both (not delivered && not (is_off (v f.version))) (is_return i.operation) is).1,
       )
 
-  pub told-first : (delivered : Bool) → (not delivered && leaves_at w f.version f.place) ≡ true → tried_in w delivered n s ≡ pause_at s n (Ends kind.Leave)
+  pub told-first : (delivered : Bool) → (not delivered && leaves_at w.versions f.version f.place) ≡ true → tried_in w delivered n s ≡ pause_at s n (Ends kind.Leave)
   told-first delivered due = (told-by delivered here (t.at f.version f.place) refl (tied-there w run f.version f.place) due).0
 
-  pub told-loads : (delivered : Bool) → (not delivered && leaves_at w f.version f.place) ≡ true → loads_none w s ≡ true
+  pub told-loads : (delivered : Bool) → (not delivered && leaves_at w.versions f.version f.place) ≡ true → loads_none w s ≡ true
   told-loads delivered due =
       ap (λ (classes : List ℕ). length classes == 0) (loads-here ∙ (told-by delivered here (t.at f.version f.place) refl (tied-there w run f.version f.place) due).1)
 
@@ -156,7 +156,7 @@ module _ (w : Setup) (run : CanRun w) (n : ℕ) (s : State) (going : IsGoing s) 
   silent-by delivered lo None tie isnt = refl
   silent-by delivered lo (Some i) tie isnt = ap (chosen i) (due-by delivered lo i tie ∙ isnt)
 
-  pub told-silent : (delivered : Bool) → (not delivered && leaves_at w f.version f.place) ≡ false → tried_in w true n s ≡ tried_in w delivered n s
+  pub told-silent : (delivered : Bool) → (not delivered && leaves_at w.versions f.version f.place) ≡ false → tried_in w true n s ≡ tried_in w delivered n s
   told-silent delivered isnt = sym (at delivered ∙ (silent-by delivered here (t.at f.version f.place) (tied-there w run f.version f.place) isnt ∙ sym (at true))) where
     at : (b : Bool) → tried_in w b n s ≡ frame_pause w.world t v b n under f (t.at f.version f.place)
     at b = ap (λ e. stack_pause w.world t v b n s e s.stack) going.ending ∙ ap (stack_pause w.world t v b n s None) going.stack
@@ -414,26 +414,26 @@ module _ (w : Setup) (delivered : Bool) (n : ℕ) (ms : List Initialization) (p 
 
     -- the frame that stands on top
     leaves-by : (ending : Option Ending) (fs : List PlacedFrame) → (is_none ending && (has_frame fs && is_none (initialization_on (length fs) ms))) ≡ true
-        → (g : Frame) (rest : List Entry) → stack_of (map active fs) ms ≡ Active g ∷ rest → leaves_in w fs ≡ leaves_at w g.version g.place
+        → (g : Frame) (rest : List Entry) → stack_of (map active fs) ms ≡ Active g ∷ rest → leaves_in w.versions fs ≡ leaves_at w.versions g.version g.place
     leaves-by (Some e) fs is g rest top = absurd (false≢true is)
     leaves-by None [] is g rest top = absurd (false≢true is)
     leaves-by None (f ∷ fs) is g rest top =
         let same : Active (frame_in f) ∷ stack_of (map active fs) ms ≡ Active g ∷ rest = sym (top-frame ms f fs (none-of ms (length (f ∷ fs)) is)) ∙ top in
         let one : frame_in f ≡ g = cc in
-        ap (λ (h : Frame). leaves_at w h.version h.place) one
+        ap (λ (h : Frame). leaves_at w.versions h.version h.place) one
 
-    leaves-is : leaves_in w p.frames.frames ≡ leaves_at w on_top.frame.version on_top.frame.place
+    leaves-is : leaves_in w.versions p.frames.frames ≡ leaves_at w.versions on_top.frame.version on_top.frame.place
     leaves-is = leaves-by p.ending p.frames.frames goes on_top.frame on_top.rest on_top.stack
 
     -- a return of which a probe tells first
-    pub leaves-pause : (not delivered && leaves_in w p.frames.frames) ≡ true → pause_at before n (Ends kind.Leave) ≡ tried_in w delivered n before
+    pub leaves-pause : (not delivered && leaves_in w.versions p.frames.frames) ≡ true → pause_at before n (Ends kind.Leave) ≡ tried_in w delivered n before
     leaves-pause due = sym (told-first w run n before on_top delivered (ap (λ b. not delivered && b) (sym leaves-is) ∙ due))
 
-    pub leaves-loads : (not delivered && leaves_in w p.frames.frames) ≡ true → true ≡ loads_none w before
+    pub leaves-loads : (not delivered && leaves_in w.versions p.frames.frames) ≡ true → true ≡ loads_none w before
     leaves-loads due = sym (told-loads w run n before on_top delivered (ap (λ b. not delivered && b) (sym leaves-is) ∙ due))
 
     -- none is told
-    pub tries-silently : (not delivered && leaves_in w p.frames.frames) ≡ false → tried_in w true n before ≡ tried_in w delivered n before
+    pub tries-silently : (not delivered && leaves_in w.versions p.frames.frames) ≡ false → tried_in w true n before ≡ tried_in w delivered n before
     tries-silently isnt = told-silent w run n before on_top delivered (ap (λ b. not delivered && b) (sym leaves-is) ∙ isnt)
 
 -- ---- an attempt in two parts that was made

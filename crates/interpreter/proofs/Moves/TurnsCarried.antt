@@ -90,7 +90,7 @@ module _ (ms : List Initialization) (w : Setup) (p : Parts) (none : initializati
   carried = move-carried ms w p none
 
   same-changes : changes_of (found_move w (state_in p)) ≡ changes_of (found_move w (state_of ms p))
-  same-changes = changes-carried ms w p.begun p.shared p.output p.frames.frames p.thrown p.ending (ap (λ n. initialization_on n ms) (length-active p.frames.frames) ∙ none)
+  same-changes = changes-carried ms w p.begun p.runtime.shared p.runtime.output p.frames.frames p.thrown p.ending (ap (λ n. initialization_on n ms) (length-active p.frames.frames) ∙ none)
 
   same-due : due_by w (state_in p) (changes_of (found_move w (state_in p))) ≡ due_by w (state_of ms p) (changes_of (found_move w (state_of ms p)))
   same-due =

@@ -78,6 +78,7 @@ module _ (w : Setup) where
     ending = refl;
     thrown = refl;
     loaded = refl;
+    world = refl;
     leads = λ ms calm. leads-none (state_of ms p);
     quiet = λ ms calm k less. absurd (omega arith);
   }
@@ -95,6 +96,7 @@ module _ (w : Setup) where
     ending = second.ending ∙ first.ending;
     thrown = second.thrown ∙ first.thrown;
     loaded = second.loaded ∙ first.loaded;
+    world = second.world ∙ first.world;
     leads = λ ms calm. leads-on (state_of ms old) (state_of ms mid) (state_of ms new) n m (first.leads ms calm) (second.leads ms (still-calm old mid n first ms calm));
     quiet = λ ms calm.
         quiet-on (state_of ms old) (state_of ms mid) n m (first.leads ms calm).made (first.quiet ms calm) (second.quiet ms (still-calm old mid n first ms calm));

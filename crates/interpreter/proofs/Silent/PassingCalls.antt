@@ -8,6 +8,7 @@ use Rattle.std.proofs.lemmas.Option.{none-some, same_Some}
 use Rattle.heap_objects.specs.declared.Value.{Value}
 use Rattle.frame_stack.specs.Widths.{height_of}
 use Rattle.frame_stack.specs.FrameLists.{FramesView, PlacedFrame, has_frame, top_of, top_operands, with_frames, without_arguments}
+use Rattle.jvm_basic.specs.Outcomes.{top_locals}
 use Rattle.jvm_model.specs.declared.due.Due.{Due}
 use Rattle.jvm_model.specs.declared.due.Due.TheVariants.{Begins, Nothing}
 use Rattle.jvm_model.specs.declared.event.Mark.{Mark}
@@ -16,7 +17,7 @@ use Rattle.jvm_model.specs.declared.state.Entry.{Entry}
 use Rattle.jvm_model.specs.declared.state.Shared.{Shared}
 use Rattle.jvm_model.specs.declared.state.State.{State}
 use Rattle.jvm_model.specs.Running.Applies.{begins, begins_beside, breaks, has_room, invokes, live_in, most_live, new_frame, still, throws_at, with_frame}
-use Rattle.jvm_model.specs.Basis.Data.{Began, Datum, Done, Operands, Listing, Turn}
+use Rattle.jvm_model.specs.Basis.Data.{Began, Datum, Done, Invokes, Operands, Outcome, Listing, Turn}
 use Rattle.jvm_model.specs.declared.instruction.SymbolicReference.{SymbolicReference}
 use Rattle.jvm_model.specs.Instructions.Does.{loads}
 use Rattle.jvm_model.specs.Running.Moves.{moves_left, turn_settled}
@@ -30,18 +31,21 @@ use Rattle.jvm_model.specs.Basis.SharedState.{exception_raised, stack_overflow}
 use Rattle.jvm_model.specs.Turns.Told.{Held, helds, mark_now}
 use Rattle.jvm_model.specs.Basis.Values.{arguments_spread}
 use Rattle.jvm_model.proofs.Running.QuietSettles.{stops}
-use Rattle.symbolic_references.specs.declared.asked.Asked.TheVariants as asked
-use Rattle.symbolic_references.specs.declared.passing.Call.{Call}
-use Rattle.symbolic_references.specs.Answers.{Calls, answer_in, done_on, frames_in}
-use Rattle.symbolic_references.specs.Attempts.{attempts}
+use Rattle.symbolic_references.specs.declared.invoked.Call.{Call}
+use Rattle.symbolic_references.specs.Answers.{done_on}
+use Rattle.symbolic_references.specs.Attempts.{attempts, shared_loaded}
 use Rattle.symbolic_references.specs.Passing.{IsCall}
+use Rattle.symbolic_references.specs.Runtimes.{after}
+use Rattle.symbolic_references.specs.Targets.{data_in}
+use Rattle.symbolic_references.proofs.TargetLemmas.{length-data}
 use Rattle.prepared_code.specs.declared.line.Action.TheVariants as action
 use Rattle.prepared_code.specs.declared.line.Line.{Line}
 use Rattle.prepared_code.specs.declared.initializations.Initialization.{Initialization}
 use Rattle.prepared_code.specs.declared.parts.Here.{Here}
 use Rattle.prepared_code.specs.declared.parts.Parts.{Parts}
 use Rattle.interpreter.specs.Instructions.Arguments.{begun_frame, can_begin, with_begun}
-use Rattle.interpreter.specs.Instructions.Asked.{answer_concluded, done_top}
+use Rattle.interpreter.specs.Instructions.Acts.{IsTop, acts_asked, on_parts}
+use Rattle.interpreter.specs.Instructions.Asked.{Takes, done_top}
 use Rattle.interpreter.specs.Instructions.Invoking.{method_called, may_begin}
 use Rattle.prepared_code.specs.Initializations.{initialization_on, stack_of, state_of, with_initializations}
 use Rattle.interpreter.specs.Instructions.Passing.{AreKeptBy, Passes, on_frames, runs, steps_if}
@@ -58,11 +62,16 @@ use Rattle.interpreter.proofs.Instructions.Callees.{live-is, same-length}
 use Rattle.interpreter.proofs.Silent.Leading.{leads-one}
 use Rattle.interpreter.proofs.Moves.LineSteps.{top-frame}
 use Rattle.prepared_code.proofs.Initializing.InitializingStacks.{live-stack, none-more}
-use Rattle.interpreter.proofs.Instructions.NamedLaws.{Asks, Takes, is-named}
+use Rattle.interpreter.proofs.Instructions.Concluded.{invokes-is}
+use Rattle.interpreter.proofs.Instructions.NamedLaws.{Asks, is-named}
 use Rattle.interpreter.proofs.Silent.PassingSteps.{follows, is-attempt, is-awaited, is-step, reached, step-turn, under}
 use Rattle.interpreter.proofs.Silent.PlainSteps.{at-rest, framed}
 use Rattle.interpreter.proofs.Silent.QuietLines.{with-frame-rests}
 use Rattle.interpreter.proofs.Silent.SilentSteps.{silent-one}
+
+is-top : (here : Here) (fs : List PlacedFrame) → here_of fs ≡ Some here → IsTop here.method fs
+is-top here [] is = absurd (none-some here is)
+is-top here (f ∷ fs) is = ap (λ (h : Here). h.method) (sym (same_Some _ here is))
 
 or-true : (b : Bool) → (b || true) ≡ true
 or-true true = refl
@@ -82,7 +91,7 @@ module _ (w : Setup) (m : ℕ) (args : List Datum) (below : Operands) (f : Place
       ap length (spread-data takes.kinds values args takes.are)
       ∙ (length-slots values ∙ (height-reverse (take (length takes.kinds) f.operands) ∙ ap (λ k. height_of (take k f.operands)) kinds-many))
 
-  has-room : can_begin w m count (f ∷ fs) ≡ true → has_room w.world m args ≡ true
+  has-room : can_begin w.world m count (f ∷ fs) ≡ true → has_room w.world m args ≡ true
   has-room can =
       ap (λ k. nat_le k (max_locals_of w.world m)) spread-long
       ∙ (and_parts (nat_le count (length f.operands)) (nat_le (height_of (take count f.operands)) (max_locals_of w.world m)) can).1
@@ -91,7 +100,7 @@ module _ (w : Setup) (m : ℕ) (args : List Datum) (below : Operands) (f : Place
 
 module _ (w : Setup) (run : CanRun w) (ms : List Initialization) (here : Here) (line : Line) (kept : SymbolicReference) (old : Parts) (stands : here_of old.frames.frames ≡ Some here)
     (found : line_at w.versions here.version here.place ≡ Some line) (named : line.action ≡ action.Named kept) (calm : IsAtInstruction (length old.frames.frames) ms old)
-    (nothing : newly_loaded w.world.program old.shared.loaded kept (top_operands old.frames.frames) ≡ []) (c : Call) where
+    (nothing : newly_loaded w.world.program old.runtime.shared.loaded kept (top_operands old.frames.frames) ≡ []) (c : Call) where
   abbrev n : SymbolicReference
   n = kept
 
@@ -102,7 +111,7 @@ module _ (w : Setup) (run : CanRun w) (ms : List Initialization) (here : Here) (
   marks = mark_of w.versions
 
   -- no class is loaded
-  loads-none : (fs : List PlacedFrame) → here_of fs ≡ Some here → initialization_on (length fs) ms ≡ None → newly_loaded w.world.program old.shared.loaded n (top_operands fs) ≡ []
+  loads-none : (fs : List PlacedFrame) → here_of fs ≡ Some here → initialization_on (length fs) ms ≡ None → newly_loaded w.world.program old.runtime.shared.loaded n (top_operands fs) ≡ []
       → step_loads w.world t (with_initializations ms (state_with fs old)) ≡ []
   loads-none [] is free none = absurd (none-some here is)
   loads-none (f ∷ fs) is free none =
@@ -113,13 +122,13 @@ module _ (w : Setup) (run : CanRun w) (ms : List Initialization) (here : Here) (
       ap (λ e. loads_on w.world t s e s.stack) calm.ending
       ∙ (ap (λ es. loads_on w.world t s None es) (top-frame ms f fs free)
       ∙ (ap (λ x. loads_at w.world u (frame_in f) (option_map instruction_in x)) at
-      ∙ (ap (λ a. loads w.world (operation_as line a) old.shared f.operands) named ∙ none)))
+      ∙ (ap (λ a. loads w.world (operation_as line a) old.runtime.shared f.operands) named ∙ none)))
 
   -- ---- the turn
 
   module _ (f : PlacedFrame) (fs : List PlacedFrame) (args : List Datum) (below : Operands) where
     abbrev u : State
-    u = record (under w run ms here line kept old stands found named calm nothing fs) { shared = old.shared; output = old.output ++ [] }
+    u = record (under w run ms here line kept old stands found named calm nothing fs) { shared = old.runtime.shared; output = old.runtime.output ++ [] }
 
     abbrev begun : Turn
     begun = begins w.world t u (frame_in f) c.method args below
@@ -136,20 +145,22 @@ module _ (w : Setup) (run : CanRun w) (ms : List Initialization) (here : Here) (
         stops w.world t (moves_left begun.after) begun
         (with-frame-rests w (with_frame u (record (frame_in f) { operands = below })) (new_frame w.world t c.method args) calm.ending calm.thrown)
 
-  call-changes : (fs : List PlacedFrame) → here_of fs ≡ Some here → initialization_on (length fs) ms ≡ None → newly_loaded w.world.program old.shared.loaded n (top_operands fs) ≡ []
-      → IsCall c (done_top w n old.shared fs) old.shared → may_begin fs ≡ true → can_begin w c.method c.count fs ≡ true
+  call-changes : (fs : List PlacedFrame) → here_of fs ≡ Some here → initialization_on (length fs) ms ≡ None → newly_loaded w.world.program old.runtime.shared.loaded n (top_operands fs) ≡ []
+      → IsCall c (done_top w n old.runtime.shared fs) old.runtime.shared fs → may_begin fs ≡ true → can_begin w.world c.method c.count fs ≡ true
       → (step w.world t (with_initializations ms (state_with fs old))).changes ≡ Began c.method ∷ []
   call-changes [] is free none call may can = absurd (none-some here is)
   call-changes (f ∷ fs) is free none call may can =
-      let d : Done = done_top w n old.shared (f ∷ fs) in
-      let ready : Shared = record old.shared { loaded = old.shared.loaded ++ newly_loaded w.world.program old.shared.loaded n f.operands } in
+      let d : Done = done_top w n old.runtime.shared (f ∷ fs) in
+      let ready : Shared = record old.runtime.shared { loaded = old.runtime.shared.loaded ++ newly_loaded w.world.program old.runtime.shared.loaded n f.operands } in
       let law = is-named ready f.operands w n f.locals in
-      let takes : Takes f.operands call.args call.below = subst (λ (d : Done). Asks d.shared f.operands d.outcome) call.invokes law.asks in
-      let room = has-room w c.method call.args call.below f fs takes c.count call.count can in
+      let args : List Datum = data_in c.count f.operands in
+      let below : Operands = drop c.count f.operands in
+      let takes : Takes f.operands args below = subst (λ (d : Done). Asks d.shared f.operands d.outcome) call.invokes law.asks in
+      let room = has-room w c.method args below f fs takes c.count (length-data c.count f.operands call.within) can in
       ap (λ (x : Turn). x.changes)
       (step-turn w run ms here line kept old stands found named calm nothing f fs is free none (ap (λ (d : Done). starts d.outcome) call.invokes)
       ∙ (ap (λ (d : Done). follows w run ms here line kept old stands found named calm nothing d f fs) call.invokes
-      ∙ (ap (turn_settled w.world t) (invokes-begins f fs call.args call.below room may) ∙ settles-begun f fs call.args call.below)))
+      ∙ (ap (turn_settled w.world t) (invokes-begins f fs args below room may) ∙ settles-begun f fs args below)))
 
   -- ---- what runs goes on
 
@@ -171,8 +182,8 @@ module _ (w : Setup) (run : CanRun w) (ms : List Initialization) (here : Here) (
   length-without [] = refl
   length-without (f ∷ fs) = refl
 
-  module _ (call : IsCall c (done_on (attempts w.world n old.shared old.frames) old.frames) old.shared) (may : may_begin old.frames.frames ≡ true)
-      (can : can_begin w c.method c.count old.frames.frames ≡ true) (frames : FramesView)
+  module _ (call : IsCall c (done_on (attempts w.world n old.runtime.shared old.frames) old.frames) old.runtime.shared old.frames.frames) (may : may_begin old.frames.frames ≡ true)
+      (can : can_begin w.world c.method c.count old.frames.frames ≡ true) (frames : FramesView)
       (are : frames.frames ≡ with_begun true w c.method c.count old.frames.frames) where
     abbrev new : Parts
     new = on_frames frames old
@@ -180,21 +191,33 @@ module _ (w : Setup) (run : CanRun w) (ms : List Initialization) (here : Here) (
     abbrev there : Parts
     there = reached w run ms here line kept old stands found named calm nothing
 
+    abbrev args : List Datum
+    args = data_in c.count (top_operands old.frames.frames)
+
+    abbrev below : Operands
+    below = drop c.count (top_operands old.frames.frames)
+
     reached-is : there ≡ old
     reached-is =
-        ap (λ (d : Done). let p : Parts = record old { frames = with_frames (frames_in d.outcome line.next old.frames.frames) old.frames; shared = d.shared; output = old.output ++ d.wrote } in p)
-        call.invokes
-        ∙ ap (λ o. let p : Parts = record old { output = o } in p) (append-nil old.output)
+        ap (λ (d : Done). let p : Parts = record old { runtime = after d old.runtime } in p) call.invokes
+        ∙ ap (λ o. let p : Parts = record old { runtime = record old.runtime { output = o } } in p) (append-nil old.runtime.output)
 
-    answers : Calls c.method c.count ≡ answer_in (done_on (attempts w.world n old.shared old.frames) old.frames).outcome old.frames.frames
-    answers = sym (ap (λ (d : Done). answer_in d.outcome old.frames.frames) call.invokes ∙ ap (Calls c.method) call.count)
+    answers : Invokes c.method args below ≡ (done_on (attempts w.world n old.runtime.shared old.frames) old.frames).outcome
+    answers = sym (ap (λ (d : Done). d.outcome) call.invokes)
 
-    concludes : state_in new ≡ answer_concluded w here (Calls c.method c.count) there
+    takes : Takes (top_operands old.frames.frames) args below
+    takes =
+        let law = is-named (shared_loaded w.world.program n old.runtime.shared old.frames) (top_operands old.frames.frames) w n (top_locals old.frames.frames) in
+        subst (λ (d : Done). Asks d.shared (top_operands old.frames.frames) d.outcome) call.invokes law.asks
+
+    concludes : state_in new ≡ on_parts (λ s f. acts_asked w line s f (Invokes c.method args below)) there
     concludes =
         ap (λ fs. state_with fs old) are
-        ∙ (sym (ap (λ b. method_called w here c.method c.count old.frames.frames old b (can_begin w c.method c.count old.frames.frames)) may
-        ∙ ap (λ b. method_called w here c.method c.count old.frames.frames old true b) can)
-        ∙ sym (ap (answer_concluded w here (Calls c.method c.count)) reached-is))
+        ∙ (sym (ap (λ b. method_called w here.method line.instr.at c.method c.count old.frames.frames old b (can_begin w.world c.method c.count old.frames.frames)) may
+        ∙ ap (λ b. method_called w here.method line.instr.at c.method c.count old.frames.frames old true b) can)
+        ∙ (invokes-is w line here.method old c.method c.count args below old.frames.frames (is-top here old.frames.frames stands)
+        (length-data c.count (top_operands old.frames.frames) call.within) takes
+        ∙ sym (ap (λ (p : Parts). on_parts (λ s f. acts_asked w line s f (Invokes c.method args below)) p) reached-is)))
 
     pub more : length frames.frames ≡ suc (length old.frames.frames)
     more = ap length are ∙ ap suc (length-without old.frames.frames)
@@ -204,7 +227,7 @@ module _ (w : Setup) (run : CanRun w) (ms : List Initialization) (here : Here) (
 
     stepped : state_of ms new ≡ (step w.world t (state_of ms old)).after
     stepped =
-        is-step w run ms here line kept old stands found named calm nothing (asked.Invokes c.method c.count) answers refl new concludes
+        is-step w run ms here line kept old stands found named calm nothing (Invokes c.method args below) answers refl new concludes
         (at-rest old.ending old.thrown (has_frame frames.frames && is_none (initialization_on (length frames.frames) ms)) calm.ending calm.thrown
         (framed (suc (length old.frames.frames)) ms frames.frames free more (ap has_frame are)))
 
@@ -223,9 +246,10 @@ module _ (w : Setup) (run : CanRun w) (ms : List Initialization) (here : Here) (
     call-attempted = record {
       at_instruction = calm-then;
       loaded = refl;
+      world = refl;
       loads = loads-none old.frames.frames stands calm.executing nothing;
-      awaits = is-awaited w run ms here line kept old stands found named calm nothing (asked.Invokes c.method c.count) answers refl;
-      made = is-attempt w run ms here line kept old stands found named calm nothing (asked.Invokes c.method c.count) answers refl new concludes;
+      awaits = is-awaited w run ms here line kept old stands found named calm nothing (Invokes c.method args below) answers refl;
+      made = is-attempt w run ms here line kept old stands found named calm nothing (Invokes c.method args below) answers refl new concludes;
       keeps = keeps-then;
     }
 
@@ -233,6 +257,7 @@ module _ (w : Setup) (run : CanRun w) (ms : List Initialization) (here : Here) (
     call-passes off = record {
       at_instruction = calm-then;
       loaded = refl;
+      world = refl;
       leads = leads-one w (state_of ms old) (state_of ms new) (ap is_some calm.ending) stepped;
       silent = silent-one w (state_of ms old) (record {
         loads = loads-none old.frames.frames stands calm.executing nothing;
@@ -249,6 +274,7 @@ module _ (w : Setup) (run : CanRun w) (ms : List Initialization) (here : Here) (
   passes-still frames same = record {
     at_instruction = record { ending = calm.ending; thrown = calm.thrown; executing = ap (λ fs. initialization_on (length fs) ms) same ∙ calm.executing };
     loaded = refl;
+    world = refl;
     leads = record {
       made = ap (λ fs. with_initializations ms (state_with fs old)) same ∙ sym (steps_from-zero w (state_of ms old));
       before = λ k less. absurd (omega arith);
@@ -256,16 +282,16 @@ module _ (w : Setup) (run : CanRun w) (ms : List Initialization) (here : Here) (
     silent = λ k less. absurd (omega arith);
   }
 
-  pub called-passes : (b : Bool) (new : Parts) → IsCall c (done_on (attempts w.world n old.shared old.frames) old.frames) old.shared
-      → (b ≡ true → may_begin old.frames.frames ≡ true) → (b ≡ true → can_begin w c.method c.count old.frames.frames ≡ true)
+  pub called-passes : (b : Bool) (new : Parts) → IsCall c (done_on (attempts w.world n old.runtime.shared old.frames) old.frames) old.runtime.shared old.frames.frames
+      → (b ≡ true → may_begin old.frames.frames ≡ true) → (b ≡ true → can_begin w.world c.method c.count old.frames.frames ≡ true)
       → (b ≡ true → marks (current_of w.versions c.method) ≡ Off) → new.frames.frames ≡ with_begun b w c.method c.count old.frames.frames → new ≡ on_frames new.frames old
       → Passes w ms old (steps_if b) new
   called-passes true new call may can off are same = subst (Passes w ms old 1) (sym same) (call-passes call (may refl) (can refl) new.frames are (off refl))
   called-passes false new call may can off are same = subst (Passes w ms old 0) (sym same) (passes-still new.frames are)
 
   -- in a version with probes
-  pub called-tries : (b : Bool) (new : Parts) → IsCall c (done_on (attempts w.world n old.shared old.frames) old.frames) old.shared
-      → (b ≡ true → may_begin old.frames.frames ≡ true) → (b ≡ true → can_begin w c.method c.count old.frames.frames ≡ true)
+  pub called-tries : (b : Bool) (new : Parts) → IsCall c (done_on (attempts w.world n old.runtime.shared old.frames) old.frames) old.runtime.shared old.frames.frames
+      → (b ≡ true → may_begin old.frames.frames ≡ true) → (b ≡ true → can_begin w.world c.method c.count old.frames.frames ≡ true)
       → (b ≡ true → is_off (marks (current_of w.versions c.method)) ≡ false) → new.frames.frames ≡ with_begun b w c.method c.count old.frames.frames
       → new ≡ on_frames new.frames old → (delivered : Bool) → TriesIf b w ms delivered old Begins new
   called-tries true after call may can marked are same delivered =
@@ -277,8 +303,8 @@ module _ (w : Setup) (run : CanRun w) (ms : List Initialization) (here : Here) (
       ap (state_of ms) same ∙ ap (λ fs. with_initializations ms (state_with fs old)) are
 
   -- by what was due then
-  pub called-onward : (o : Option Due) (new : Parts) → IsCall c (done_on (attempts w.world n old.shared old.frames) old.frames) old.shared
-      → (is_some o ≡ true → may_begin old.frames.frames ≡ true) → (is_some o ≡ true → can_begin w c.method c.count old.frames.frames ≡ true)
+  pub called-onward : (o : Option Due) (new : Parts) → IsCall c (done_on (attempts w.world n old.runtime.shared old.frames) old.frames) old.runtime.shared old.frames.frames
+      → (is_some o ≡ true → may_begin old.frames.frames ≡ true) → (is_some o ≡ true → can_begin w.world c.method c.count old.frames.frames ≡ true)
       → IfSome o (λ due. due ≡ begun_due (not (is_off (marks (current_of w.versions c.method))))) → new.frames.frames ≡ with_begun (is_some o) w c.method c.count old.frames.frames
       → new ≡ on_frames new.frames old → GoesOnward w ms old o new
   called-onward None new call may can due are same = called-passes false new call may can (λ e. absurd (false≢true e)) are same

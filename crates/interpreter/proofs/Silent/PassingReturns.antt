@@ -105,7 +105,7 @@ module _ (w : Setup) (run : CanRun w) (ms : List Initialization) (here : Here) (
 
   -- without the caller's frame
   abbrev beneath_caller : List PlacedFrame → State
-  beneath_caller fs = record (with_initializations ms (state_with fs old)) { output = old.output ++ [] }
+  beneath_caller fs = record (with_initializations ms (state_with fs old)) { output = old.runtime.output ++ [] }
 
   -- no initialization stands on the caller
   on-caller : (f g : PlacedFrame) (fs : List PlacedFrame) → initialization_on (length (f ∷ g ∷ fs) - 1) ms ≡ None → initialization_on (length (g ∷ fs)) ms ≡ None
@@ -154,7 +154,7 @@ module _ (w : Setup) (run : CanRun w) (ms : List Initialization) (here : Here) (
       ap (λ e. loads_on w.world t s e s.stack) calm.ending
       ∙ (ap (λ es. loads_on w.world t s None es) (top-frame ms f fs free)
       ∙ (ap (λ x. loads_at w.world u (frame_in f) (option_map instruction_in x)) at
-      ∙ ap (λ a. loads w.world (operation_as line a) old.shared f.operands) ends))
+      ∙ ap (λ a. loads w.world (operation_as line a) old.runtime.shared f.operands) ends))
 
   -- ---- what is told, and what runs
 
@@ -239,6 +239,7 @@ module _ (w : Setup) (run : CanRun w) (ms : List Initialization) (here : Here) (
     return-attempted = record {
       at_instruction = calm-then;
       loaded = refl;
+      world = refl;
       loads = loads-none old.frames.frames stands calm.executing;
       awaits = awaits-unnamed w ms old here stands calm.executing (ap named_in found ∙ unnamed);
       made = attempted;
@@ -249,6 +250,7 @@ module _ (w : Setup) (run : CanRun w) (ms : List Initialization) (here : Here) (
     return-passes off = record {
       at_instruction = calm-then;
       loaded = refl;
+      world = refl;
       leads = leads-one w (state_of ms old) (state_of ms new) (ap is_some calm.ending) stepped;
       silent = silent-one w (state_of ms old) (record {
         loads = loads-none old.frames.frames stands calm.executing;

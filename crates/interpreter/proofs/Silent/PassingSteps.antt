@@ -1,14 +1,16 @@
 -- A line that names something and raises nothing, where it loads nothing, is a step of the run.
 use Rattle.std.proofs.Common.{◌≡◌, ℕ, Bool, true, false, cond, List, [], ◌∷◌, ◌++◌, length, map, Option, Some, None, refl, sym, ap, subst, ◌∙◌, arith}
-use Rattle.std.specs.Prelude.{IfSome, is_none, is_some, ◌==◌, ◌&&◌}
+use Rattle.std.specs.Prelude.{IfSome, is_none, is_some, nat_le, ◌==◌, ◌&&◌}
 use Rattle.std.specs.Option.{option_map}
+use Rattle.std.proofs.lemmas.Bool.{false≢true}
 use Rattle.std.proofs.lemmas.List.{append-nil}
 use Rattle.std.proofs.lemmas.Option.{none-some, same_Some}
-use Rattle.frame_stack.specs.FrameLists.{FramesView, PlacedFrame, has_frame, top_operands}
+use Rattle.frame_stack.specs.Widths.{height_of}
+use Rattle.frame_stack.specs.FrameLists.{FramesView, PlacedFrame, has_frame, top_operands, with_frames}
 use Rattle.jvm_basic.specs.Outcomes.{can_hold, top_locals, with_top}
 use Rattle.jvm_model.specs.declared.state.Shared.{Shared}
 use Rattle.jvm_model.specs.declared.state.State.{State}
-use Rattle.jvm_model.specs.Running.Applies.{applies}
+use Rattle.jvm_model.specs.Running.Applies.{applies, breaks}
 use Rattle.jvm_model.specs.Basis.Data.{Back, Breaks, Done, Exits, GoesOn, Initializes, Instruction, Invokes, Locals, Next as Following, Operands, Outcome, Raises, Returns, Subroutine, Target, Listing, Throws, Turn}
 use Rattle.jvm_model.specs.declared.instruction.Operation.TheVariants.{Named}
 use Rattle.jvm_model.specs.declared.instruction.SymbolicReference.{SymbolicReference}
@@ -16,31 +18,31 @@ use Rattle.jvm_model.specs.Running.Moves.{turn_settled}
 use Rattle.jvm_model.specs.Instructions.SymbolicReference.{newly_loaded}
 use Rattle.jvm_model.specs.Instructions.ReferenceRules.{does_named}
 use Rattle.jvm_model.specs.Running.Run.{goes_again, loaded_turn, starts, step, steps_at, steps_by, steps_on, tries, with_loaded}
-use Rattle.symbolic_references.specs.declared.asked.Asked.{Asked}
-use Rattle.symbolic_references.specs.declared.asked.Asked.TheVariants as asked
-use Rattle.symbolic_references.specs.declared.passing.Invoked.{Invoked}
-use Rattle.symbolic_references.specs.declared.passing.Invoked.TheVariants as invoked
-use Rattle.symbolic_references.specs.declared.passing.NativeCall.{NativeCall}
-use Rattle.symbolic_references.specs.Answers.{Continues, Exceeds, answer_by, answer_in, answer_view, done_on, frames_by, frames_in, wrote_by}
-use Rattle.symbolic_references.specs.Attempts.{attempts, loaded_for, loads_nothing, shared_loaded}
-use Rattle.symbolic_references.specs.Does.{Changed, IsDone, parts_changed}
-use Rattle.symbolic_references.specs.Passing.{HasPassed, IfPassed, IfRan}
+use Rattle.symbolic_references.specs.declared.invoked.Invoked.{Invoked}
+use Rattle.symbolic_references.specs.declared.invoked.Invoked.TheVariants as invoked
+use Rattle.symbolic_references.specs.declared.invoked.NativeCall.{NativeCall}
+use Rattle.symbolic_references.specs.Answers.{Continues, Exceeds, answer_in, done_on, frames_in}
+use Rattle.symbolic_references.specs.Attempts.{attempts, loads_nothing, shared_loaded}
+use Rattle.symbolic_references.specs.Outcomes.{ruled}
+use Rattle.symbolic_references.specs.Runtimes.{RuntimeView, after}
+use Rattle.symbolic_references.specs.Passing.{HasPassed, IfPassed, IsNativeCall, runs_native_call}
 use Rattle.prepared_code.specs.declared.line.Action.TheVariants as action
 use Rattle.prepared_code.specs.declared.line.Line.{Line}
 use Rattle.prepared_code.specs.declared.initializations.Initialization.{Initialization}
 use Rattle.prepared_code.specs.declared.parts.Here.{Here}
 use Rattle.prepared_code.specs.declared.parts.Parts.{Parts}
-use Rattle.interpreter.specs.Instructions.Acts.{attempts_on, awaited_in, is_at_rest, is_named, named_in}
-use Rattle.interpreter.specs.Instructions.Asked.{answer_concluded, done_top, starts_in}
+use Rattle.interpreter.specs.Instructions.Acts.{acts_asked, attempts_on, awaited_in, is_at_rest, is_named, named_in, on_parts, on_top}
+use Rattle.interpreter.specs.Instructions.Asked.{done_top}
 use Rattle.prepared_code.specs.Lines.{IfNamed, IfNamedBy}
 use Rattle.prepared_code.specs.Initializations.{initialization_on, stack_of, state_of, with_initializations}
-use Rattle.interpreter.specs.Instructions.Passing.{Passes, changed_in, steps_if, with_changed}
+use Rattle.interpreter.specs.Instructions.Passing.{Passes, steps_if}
 use Rattle.prepared_code.specs.Ready.{CanRun}
 use Rattle.prepared_code.specs.Runs.{IsAtInstruction, steps_from}
 use Rattle.prepared_code.specs.States.{active, frame_in, here_of, state_in, state_with}
 use Rattle.prepared_code.specs.Versions.{Setup, instruction_in, line_at, operation_as, listing_of}
 use Rattle.interpreter.proofs.Silent.Leading.{leads-one, quiet-one}
 use Rattle.interpreter.proofs.Moves.LineSteps.{IsGoing, going-on, rests, step-attempts, top-frame}
+use Rattle.interpreter.proofs.Instructions.LineActs.{stays, stays-starts}
 use Rattle.interpreter.proofs.Instructions.NamedAttempts.{awaits-told, goes-on}
 use Rattle.interpreter.proofs.Instructions.NamedLaws.{is-named}
 use Rattle.interpreter.proofs.Silent.PlainSteps.{at-rest, framed, goes}
@@ -79,11 +81,26 @@ same-many q next fs so = ap (λ x. length (frames_in x next fs)) so.is ∙ (ap (
   by [] = refl
   by (f ∷ fs) = refl
 
+-- it is what applies
+gone-asked : (w : Setup) (line : Line) (q : Outcome) (p : Parts) (fs : List PlacedFrame) → GoesSo q fs
+    → state_with (frames_in q line.next fs) p ≡ on_top (λ s f. acts_asked w line s f q) p fs
+gone-asked w line q p [] so = absurd (false≢true so.holds)
+gone-asked w line q p (f ∷ fs) so =
+    ap (λ x. state_with (frames_in x line.next (f ∷ fs)) p) so.is
+    ∙ (by (nat_le (height_of so.operands) f.max_stack) so.holds
+    ∙ sym (ap (acts_asked w line (state_with fs p) (frame_in f)) so.is))
+  where
+    by : (b : Bool) → b ≡ true
+        → state_with (cond b (with_top so.locals so.operands line.next (f ∷ fs)) (f ∷ fs)) p
+        ≡ cond b (state_with (with_top so.locals so.operands line.next (f ∷ fs)) p) (breaks (state_with fs p) (frame_in f) line.instr.at)
+    by true e = refl
+    by false e = absurd (false≢true e)
+
 -- ---- what stands at a line
 
 module _ (w : Setup) (run : CanRun w) (ms : List Initialization) (here : Here) (line : Line) (kept : SymbolicReference) (old : Parts) (stands : here_of old.frames.frames ≡ Some here)
     (found : line_at w.versions here.version here.place ≡ Some line) (named : line.action ≡ action.Named kept) (calm : IsAtInstruction (length old.frames.frames) ms old)
-    (nothing : newly_loaded w.world.program old.shared.loaded kept (top_operands old.frames.frames) ≡ []) where
+    (nothing : newly_loaded w.world.program old.runtime.shared.loaded kept (top_operands old.frames.frames) ≡ []) where
   abbrev n : SymbolicReference
   n = kept
 
@@ -91,7 +108,7 @@ module _ (w : Setup) (run : CanRun w) (ms : List Initialization) (here : Here) (
   t = listing_of w.versions
 
   abbrev pub d : Done
-  d = done_on (attempts w.world n old.shared old.frames) old.frames
+  d = done_on (attempts w.world n old.runtime.shared old.frames) old.frames
 
   there-by : (Holds : SymbolicReference → ℕ → Type 0) → Holds n line.next → IfNamed (line_at w.versions here.version here.place) Holds
   there-by Holds holds = subst (λ o. IfNamed o Holds) (sym found) (subst (λ a. IfNamedBy a line.next Holds) (sym named) holds)
@@ -110,32 +127,26 @@ module _ (w : Setup) (run : CanRun w) (ms : List Initialization) (here : Here) (
   -- ---- the state behind it
 
   abbrev pub reached : Parts
-  reached = record old { frames = frames_by (attempts w.world n old.shared old.frames) line.next old.frames; shared = d.shared; output = old.output ++ d.wrote }
+  reached = record old { runtime = after d old.runtime }
 
-  module _ (a : Asked) (answers : answer_view a ≡ answer_by (attempts w.world n old.shared old.frames) old.frames) (quiet : starts_in (answer_view a) ≡ None) where
-    pub is-attempt : (new : Parts) → state_in new ≡ answer_concluded w here (answer_view a) reached
+  module _ (q : Outcome) (answers : q ≡ ruled (attempts w.world n old.runtime.shared old.frames) old.frames) (goes_on : stays q ≡ true) where
+    pub is-attempt : (new : Parts) → state_in new ≡ on_parts (λ s f. acts_asked w line s f q) reached
         → state_of ms new ≡ attempts_on w (state_of ms old) (state_of ms old).stack
     is-attempt new concludes =
-        goes-on w ms here old named-there stands calm.executing reached.frames reached.shared reached.output (loaded_for w.world.program n old.shared old.frames) a
-        (there-by (λ n next. answer_view a ≡ answer_by (attempts w.world n old.shared old.frames) old.frames) answers)
-        (there-by (λ n next. reached.frames ≡ frames_by (attempts w.world n old.shared old.frames) next old.frames) refl)
-        (there-by (λ n next. reached.shared ≡ (done_on (attempts w.world n old.shared old.frames) old.frames).shared) refl)
-        (there-by (λ n next. reached.output ≡ old.output ++ wrote_by (attempts w.world n old.shared old.frames) old.frames) refl)
-        (there-by (λ n next. loaded_for w.world.program kept old.shared old.frames ≡ loaded_for w.world.program n old.shared old.frames) refl)
-        None new (sym quiet) refl concludes
+        goes-on w ms here line old found named-there stands calm.executing q (after d old.runtime)
+        (there-by (λ n next. q ≡ ruled (attempts w.world n old.runtime.shared old.frames) old.frames) answers)
+        (there-by (λ n next. after d old.runtime ≡ after (done_on (attempts w.world n old.runtime.shared old.frames) old.frames) old.runtime) refl)
+        w new refl goes_on concludes
 
     -- no class is awaited
     pub is-awaited : awaited_in w (state_of ms old) ≡ None
     is-awaited =
-        sym (awaits-told w ms here old named-there stands calm.executing reached.frames reached.shared reached.output (loaded_for w.world.program n old.shared old.frames) a
-        (there-by (λ n next. answer_view a ≡ answer_by (attempts w.world n old.shared old.frames) old.frames) answers)
-        (there-by (λ n next. reached.frames ≡ frames_by (attempts w.world n old.shared old.frames) next old.frames) refl)
-        (there-by (λ n next. reached.shared ≡ (done_on (attempts w.world n old.shared old.frames) old.frames).shared) refl)
-        (there-by (λ n next. reached.output ≡ old.output ++ wrote_by (attempts w.world n old.shared old.frames) old.frames) refl)
-        (there-by (λ n next. loaded_for w.world.program kept old.shared old.frames ≡ loaded_for w.world.program n old.shared old.frames) refl)
-        None (sym quiet))
+        sym (awaits-told w ms here line old found named-there stands calm.executing q (after d old.runtime)
+        (there-by (λ n next. q ≡ ruled (attempts w.world n old.runtime.shared old.frames) old.frames) answers)
+        (there-by (λ n next. after d old.runtime ≡ after (done_on (attempts w.world n old.runtime.shared old.frames) old.frames) old.runtime) refl)
+        None (sym (stays-starts q goes_on)))
 
-    pub is-step : (new : Parts) → state_in new ≡ answer_concluded w here (answer_view a) reached → is_at_rest ms new ≡ true
+    pub is-step : (new : Parts) → state_in new ≡ on_parts (λ s f. acts_asked w line s f q) reached → is_at_rest ms new ≡ true
         → state_of ms new ≡ (step w.world t (state_of ms old)).after
     is-step new concludes resting =
         step-attempts w run (state_of ms old) going is-awaited (state_of ms new) (state_of ms new) (is-attempt new concludes) (rests w t ms new resting)
@@ -150,26 +161,26 @@ module _ (w : Setup) (run : CanRun w) (ms : List Initialization) (here : Here) (
 
   -- its changes are those of what follows from what its rule says
   abbrev pub follows : Done → PlacedFrame → List PlacedFrame → Turn
-  follows d f fs = turn_settled w.world t (applies w.world t i d.outcome (record (under fs) { shared = d.shared; output = old.output ++ d.wrote }) (frame_in f))
+  follows d f fs = turn_settled w.world t (applies w.world t i d.outcome (record (under fs) { shared = d.shared; output = old.runtime.output ++ d.wrote }) (frame_in f))
 
-  named-turn : (f : PlacedFrame) (fs : List PlacedFrame) → newly_loaded w.world.program old.shared.loaded n f.operands ≡ []
-      → starts (does_named w.world n old.shared f.locals f.operands).outcome ≡ None
-      → step_by w i (Named n) (under fs) (frame_in f) ≡ follows (does_named w.world n old.shared f.locals f.operands) f fs
+  named-turn : (f : PlacedFrame) (fs : List PlacedFrame) → newly_loaded w.world.program old.runtime.shared.loaded n f.operands ≡ []
+      → starts (does_named w.world n old.runtime.shared f.locals f.operands).outcome ≡ None
+      → step_by w i (Named n) (under fs) (frame_in f) ≡ follows (does_named w.world n old.runtime.shared f.locals f.operands) f fs
   named-turn f fs none starts_none =
       ap (λ classes. let ready = with_loaded classes (under fs) in
       loaded_turn classes (steps_by w.world t i ready (frame_in f) (does_named w.world n ready.shared f.locals f.operands))) none
-      ∙ ap (λ o. goes_again w.world t i (under fs) (frame_in f) o (tries w.world t i (under fs) (frame_in f) (does_named w.world n old.shared f.locals f.operands))) starts_none
+      ∙ ap (λ o. goes_again w.world t i (under fs) (frame_in f) o (tries w.world t i (under fs) (frame_in f) (does_named w.world n old.runtime.shared f.locals f.operands))) starts_none
 
-  same-done : (fs : List PlacedFrame) → newly_loaded w.world.program old.shared.loaded n (top_operands fs) ≡ []
-      → (f : PlacedFrame) (gs : List PlacedFrame) → fs ≡ f ∷ gs → does_named w.world n old.shared f.locals f.operands ≡ done_top w n old.shared (f ∷ gs)
+  same-done : (fs : List PlacedFrame) → newly_loaded w.world.program old.runtime.shared.loaded n (top_operands fs) ≡ []
+      → (f : PlacedFrame) (gs : List PlacedFrame) → fs ≡ f ∷ gs → does_named w.world n old.runtime.shared f.locals f.operands ≡ done_top w n old.runtime.shared (f ∷ gs)
   same-done fs none f gs is =
-      let there : newly_loaded w.world.program old.shared.loaded n f.operands ≡ [] = subst (λ fs. newly_loaded w.world.program old.shared.loaded n (top_operands fs) ≡ []) is none in
+      let there : newly_loaded w.world.program old.runtime.shared.loaded n f.operands ≡ [] = subst (λ fs. newly_loaded w.world.program old.runtime.shared.loaded n (top_operands fs) ≡ []) is none in
       ap (λ (s : Shared). does_named w.world n s f.locals f.operands)
-      (sym (ap (λ more. record old.shared { loaded = old.shared.loaded ++ more }) there ∙ ap (λ classes. record old.shared { loaded = classes }) (append-nil old.shared.loaded)))
+      (sym (ap (λ more. record old.runtime.shared { loaded = old.runtime.shared.loaded ++ more }) there ∙ ap (λ classes. record old.runtime.shared { loaded = classes }) (append-nil old.runtime.shared.loaded)))
 
   pub step-turn : (f : PlacedFrame) (fs : List PlacedFrame) → here_of (f ∷ fs) ≡ Some here → initialization_on (length (f ∷ fs)) ms ≡ None
-      → newly_loaded w.world.program old.shared.loaded n f.operands ≡ [] → starts (done_top w n old.shared (f ∷ fs)).outcome ≡ None
-      → step w.world t (with_initializations ms (state_with (f ∷ fs) old)) ≡ follows (done_top w n old.shared (f ∷ fs)) f fs
+      → newly_loaded w.world.program old.runtime.shared.loaded n f.operands ≡ [] → starts (done_top w n old.runtime.shared (f ∷ fs)).outcome ≡ None
+      → step w.world t (with_initializations ms (state_with (f ∷ fs) old)) ≡ follows (done_top w n old.runtime.shared (f ∷ fs)) f fs
   step-turn f fs is free none starts_none =
       let s : State = with_initializations ms (state_with (f ∷ fs) old) in
       let same : record { version = f.version; method = f.method; place = f.place } ≡ here = same_Some _ here is in
@@ -186,33 +197,35 @@ module _ (w : Setup) (run : CanRun w) (ms : List Initialization) (here : Here) (
 
   goes-quiet : (f : PlacedFrame) (fs : List PlacedFrame) (d : Done) → GoesSo d.outcome (f ∷ fs) → (follows d f fs).changes ≡ []
   goes-quiet f fs d so =
-      let u : State = record (under fs) { shared = d.shared; output = old.output ++ d.wrote } in
+      let u : State = record (under fs) { shared = d.shared; output = old.runtime.output ++ d.wrote } in
       let is : IsQuiet w i d.outcome u (frame_in f) = goes-on-quiet w i d.outcome so.locals so.operands Following u (frame_in f) so.is calm.ending calm.thrown in
       is.quiet
 
-  step-quiet : (fs : List PlacedFrame) → here_of fs ≡ Some here → initialization_on (length fs) ms ≡ None → newly_loaded w.world.program old.shared.loaded n (top_operands fs) ≡ []
-      → GoesSo (done_top w n old.shared fs).outcome fs → (step w.world t (with_initializations ms (state_with fs old))).changes ≡ []
+  step-quiet : (fs : List PlacedFrame) → here_of fs ≡ Some here → initialization_on (length fs) ms ≡ None → newly_loaded w.world.program old.runtime.shared.loaded n (top_operands fs) ≡ []
+      → GoesSo (done_top w n old.runtime.shared fs).outcome fs → (step w.world t (with_initializations ms (state_with fs old))).changes ≡ []
   step-quiet [] is free none so = absurd (none-some here is)
   step-quiet (f ∷ fs) is free none so =
-      ap (λ (x : Turn). x.changes) (step-turn f fs is free none (ap starts so.is)) ∙ goes-quiet f fs (done_top w n old.shared (f ∷ fs)) so
+      ap (λ (x : Turn). x.changes) (step-turn f fs is free none (ap starts so.is)) ∙ goes-quiet f fs (done_top w n old.runtime.shared (f ∷ fs)) so
 
-  pub done-passes : (new : Changed) → IsDone d line.next (changed_in old) new asked.Next → new.shared.loaded ≡ old.shared.loaded → Passes w ms old 1 (with_changed new old)
-  done-passes is went loaded =
-      let new : Parts = with_changed is old in
-      let so = goes-so d.outcome old.frames.frames (sym went.answer) in
-      let many : length is.frames.frames ≡ length old.frames.frames =
+  pub done-passes : (frames : FramesView) (left : RuntimeView) → HasPassed d line.next old.frames old.runtime frames left → left.shared.loaded ≡ old.runtime.shared.loaded
+      → Passes w ms old 1 (record old { frames = frames; runtime = left })
+  done-passes frames left went loaded =
+      let new : Parts = record old { frames = frames; runtime = left } in
+      let so = goes-so d.outcome old.frames.frames went.answer in
+      let many : length frames.frames ≡ length old.frames.frames =
       ap (λ (s : FramesView). length s.frames) went.frames ∙ same-many d.outcome line.next old.frames.frames so in
-      let has : has_frame is.frames.frames ≡ true = has-many is.frames.frames old.frames.frames many (has-one old.frames.frames stands) in
-      let concludes : state_in new ≡ state_in reached =
+      let has : has_frame frames.frames ≡ true = has-many frames.frames old.frames.frames many (has-one old.frames.frames stands) in
+      let concludes : state_in new ≡ on_parts (λ s f. acts_asked w line s f d.outcome) reached =
       ap (λ (s : FramesView). let p : Parts = record new { frames = s } in state_in p) went.frames
-      ∙ (ap (λ (s : Shared). let p : Parts = record reached { shared = s; output = is.output } in state_in p) went.shared
-      ∙ ap (λ o. let p : Parts = record reached { output = o } in state_in p) went.output) in
-      let resting = at-rest old.ending old.thrown (has_frame is.frames.frames && is_none (initialization_on (length is.frames.frames) ms)) calm.ending calm.thrown
-      (framed (length old.frames.frames) ms is.frames.frames calm.executing many has) in
-      let stepped = is-step asked.Next went.answer refl new concludes resting in
+      ∙ (ap (λ (r : RuntimeView). state_with (frames_in d.outcome line.next old.frames.frames) (record old { runtime = r })) went.runtime
+      ∙ gone-asked w line d.outcome reached old.frames.frames so) in
+      let resting = at-rest old.ending old.thrown (has_frame frames.frames && is_none (initialization_on (length frames.frames) ms)) calm.ending calm.thrown
+      (framed (length old.frames.frames) ms frames.frames calm.executing many has) in
+      let stepped = is-step d.outcome refl (ap stays so.is) new concludes resting in
       record {
         at_instruction = record { ending = calm.ending; thrown = calm.thrown; executing = ap (λ k. initialization_on k ms) many ∙ calm.executing };
         loaded = loaded;
+        world = ap (λ (r : RuntimeView). r.world) went.runtime;
         leads = leads-one w (state_of ms old) (state_of ms new) (ap is_some calm.ending) stepped;
         silent = λ k less. quiet-silent w (steps_from w k (state_of ms old))
             (quiet-one w (state_of ms old) (step-quiet old.frames.frames stands calm.executing nothing so) k less);
@@ -222,17 +235,6 @@ module _ (w : Setup) (run : CanRun w) (ms : List Initialization) (here : Here) (
       has-many (g ∷ gs) fs many has = refl
       has-many [] [] many has = has
       has-many [] (f ∷ fs) many has = absurd cc
-
-  pub field-passes : (frames : FramesView) (shared : Shared) → HasPassed d line.next old.frames frames shared → shared.loaded ≡ old.shared.loaded
-      → Passes w ms old 1 (record old { frames = frames; shared = shared })
-  field-passes frames shared passed loaded =
-      done-passes (parts_changed frames shared old.output)
-      (record {
-        answer = sym passed.answer;
-        frames = passed.frames;
-        shared = passed.shared;
-        output = sym (ap (λ o. old.output ++ o) passed.wrote ∙ append-nil old.output);
-      }) loaded
 
 -- ---- by what the code says of the line
 
@@ -247,34 +249,33 @@ none-new xs is = by xs (zero-is (length xs) is) where
 
 module _ (w : Setup) (run : CanRun w) (ms : List Initialization) (here : Here) (line : Line) (kept : SymbolicReference) (old : Parts) (stands : here_of old.frames.frames ≡ Some here)
     (found : line_at w.versions here.version here.place ≡ Some line) (named : line.action ≡ action.Named kept) (calm : IsAtInstruction (length old.frames.frames) ms old)
-    (silent : loads_nothing w.world.program old.shared.loaded kept (top_operands old.frames.frames) ≡ true) where
-  pub nothing-new : newly_loaded w.world.program old.shared.loaded kept (top_operands old.frames.frames) ≡ []
-  nothing-new = none-new (newly_loaded w.world.program old.shared.loaded kept (top_operands old.frames.frames)) silent
+    (silent : loads_nothing w.world.program old.runtime.shared.loaded kept (top_operands old.frames.frames) ≡ true) where
+  pub nothing-new : newly_loaded w.world.program old.runtime.shared.loaded kept (top_operands old.frames.frames) ≡ []
+  nothing-new = none-new (newly_loaded w.world.program old.runtime.shared.loaded kept (top_operands old.frames.frames)) silent
 
-  same-loaded : (shared : Shared) → shared ≡ (done_on (attempts w.world kept old.shared old.frames) old.frames).shared → shared.loaded ≡ old.shared.loaded
+  same-loaded : (shared : Shared) → shared ≡ (done_on (attempts w.world kept old.runtime.shared old.frames) old.frames).shared → shared.loaded ≡ old.runtime.shared.loaded
   same-loaded shared is =
-      let law = is-named (shared_loaded w.world.program kept old.shared old.frames) (top_operands old.frames.frames) w kept (top_locals old.frames.frames) in
+      let law = is-named (shared_loaded w.world.program kept old.runtime.shared old.frames) (top_operands old.frames.frames) w kept (top_locals old.frames.frames) in
       ap (λ (s : Shared). s.loaded) is
-      ∙ (law.loaded ∙ (ap (λ more. old.shared.loaded ++ more) nothing-new ∙ append-nil old.shared.loaded))
+      ∙ (law.loaded ∙ (ap (λ more. old.runtime.shared.loaded ++ more) nothing-new ∙ append-nil old.runtime.shared.loaded))
 
-  -- a native method
-  pub native-passes : (b : Bool) (new : Parts)
-      → IfRan b (done_on (attempts w.world kept old.shared old.frames) old.frames) line.next (changed_in old) (changed_in new)
-      → new ≡ with_changed (changed_in new) old → Passes w ms old (steps_if b) new
-  native-passes true new went same =
-      subst (Passes w ms old 1) (sym same)
-      (done-passes w run ms here line kept old stands found named calm nothing-new (changed_in new) went (same-loaded new.shared went.shared))
-  native-passes false new went same =
-      subst (Passes w ms old 0) (sym (same ∙ ap (λ (x : Changed). with_changed x old) went)) (passes_none w ms old calm)
+  -- an access, or a native method
+  pub access-passes : (b : Bool) (frames : FramesView) (left : RuntimeView)
+      → IfPassed b (done_on (attempts w.world kept old.runtime.shared old.frames) old.frames) line.next old.frames old.runtime frames left
+      → Passes w ms old (steps_if b) (record old { frames = frames; runtime = left })
+  access-passes true frames left went =
+      done-passes w run ms here line kept old stands found named calm nothing-new frames left went
+      (same-loaded left.shared (ap (λ (r : RuntimeView). r.shared) went.runtime))
+  access-passes false frames left same =
+      subst (λ (f : FramesView). Passes w ms old 0 (record old { frames = f; runtime = left })) (sym same.0)
+      (subst (λ (r : RuntimeView). Passes w ms old 0 (record old { runtime = r })) (sym same.1) (passes_none w ms old calm))
 
-  pub access-passes : (b : Bool) (frames : FramesView) (shared : Shared)
-      → IfPassed b (done_on (attempts w.world kept old.shared old.frames) old.frames) line.next old.frames old.shared frames shared
-      → Passes w ms old (steps_if b) (record old { frames = frames; shared = shared })
-  access-passes true frames shared went =
-      field-passes w run ms here line kept old stands found named calm nothing-new frames shared went (same-loaded shared went.shared)
-  access-passes false frames shared same =
-      subst (λ (f : FramesView). Passes w ms old 0 (record old { frames = f; shared = shared })) (sym same.0)
-      (subst (λ (s : Shared). Passes w ms old 0 (record old { shared = s })) (sym same.1) (passes_none w ms old calm))
+  pub native-passes : (b : Bool) (frames : FramesView) (left : RuntimeView) (native : NativeCall)
+      → IsNativeCall w.world native (done_on (attempts w.world kept old.runtime.shared old.frames) old.frames) old.runtime.shared old.frames.frames
+      → IfPassed b (runs_native_call w.world native old.runtime.shared old.frames.frames) line.next old.frames old.runtime frames left
+      → Passes w ms old (steps_if b) (record old { frames = frames; runtime = left })
+  native-passes b frames left native call went =
+      access-passes b frames left (subst (λ (d : Done). IfPassed b d line.next old.frames old.runtime frames left) (sym call.runs) went)
 
 -- what holds of a line that names something, where it stands
 pub held-there : (lo : Option Line) (line : Line) (kept : SymbolicReference) → lo ≡ Some line → line.action ≡ action.Named kept → (Holds : SymbolicReference → ℕ → Type 0) → IfNamed lo Holds

@@ -107,13 +107,13 @@ module _ (w : Setup) (run : CanRun w) (ms : List Initialization) (here : Here) (
   marks = mark_of w.versions
 
   abbrev class : ℕ
-  class = class_of w.world.program old.shared r
+  class = class_of w.world.program old.runtime.shared r
 
   abbrev Caught : List PlacedFrame → Type 0
   Caught fs = CatchesBelow w ms here fs class target
 
   abbrev IsThrown : List PlacedFrame → Type 0
-  IsThrown fs = throws w.world old.shared (ref_of (top_operands fs)) ≡ Throws r
+  IsThrown fs = throws w.world old.runtime.shared (ref_of (top_operands fs)) ≡ Throws r
 
   abbrev mid : Parts
   mid = record old { thrown = Some r }
@@ -144,7 +144,7 @@ module _ (w : Setup) (run : CanRun w) (ms : List Initialization) (here : Here) (
     own-there : handler_for w.world class f.place (t.handlers f.version) ≡ None
     own-there = ap (λ (h : Here). handler_for w.world class h.place (t.handlers h.version)) (same_Some _ here here_is) ∙ is.own
 
-    settles-by : (s : State) → s.ending ≡ None → s.thrown ≡ Some r → s.shared ≡ old.shared → s.stack ≡ active f ∷ active g ∷ rest
+    settles-by : (s : State) → s.ending ≡ None → s.thrown ≡ Some r → s.shared ≡ old.runtime.shared → s.stack ≡ active f ∷ active g ∷ rest
         → turn_settled w.world t (still s) ≡ record { after = record s { thrown = None; stack = active g2 ∷ rest }; changes = Unwound ∷ [] }
     settles-by s ending thrown shared stack =
         settles-back w s r target (frame_in f) (frame_in g) rest ending thrown stack
@@ -178,7 +178,7 @@ module _ (w : Setup) (run : CanRun w) (ms : List Initialization) (here : Here) (
       let i : Instruction = instruction_in line in
       let same : record { version = f.version; method = f.method; place = f.place } ≡ here = same_Some _ here here_is in
       let at : line_at w.versions f.version f.place ≡ Some line = ap (λ (h : Here). line_at w.versions h.version h.place) same ∙ found in
-      let thrown_state : State = throws_at (record u { output = old.output ++ [] }) (frame_in f) (record { shared = old.shared; reference = r }) in
+      let thrown_state : State = throws_at (record u { output = old.runtime.output ++ [] }) (frame_in f) (record { shared = old.runtime.shared; reference = r }) in
       ap (λ (x : Turn). x.changes)
       (ap (λ e. steps_on w.world t s e s.stack) calm.ending
       ∙ (ap (λ es. steps_on w.world t s None es) (top-frame ms f (g ∷ fs) free)
@@ -198,7 +198,7 @@ module _ (w : Setup) (run : CanRun w) (ms : List Initialization) (here : Here) (
       ap (λ e. loads_on w.world t s e s.stack) calm.ending
       ∙ (ap (λ es. loads_on w.world t s None es) (top-frame ms f fs free)
       ∙ (ap (λ x. loads_at w.world u (frame_in f) (option_map instruction_in x)) at
-      ∙ ap (λ a. loads w.world (operation_as line a) old.shared f.operands) ends))
+      ∙ ap (λ a. loads w.world (operation_as line a) old.runtime.shared f.operands) ends))
 
   -- ---- what is told, and what runs
 
@@ -262,6 +262,7 @@ module _ (w : Setup) (run : CanRun w) (ms : List Initialization) (here : Here) (
       record {
         at_instruction = record { ending = calm.ending; thrown = calm.thrown; executing = ap (λ n. initialization_on n ms) (ap length are ∙ one-less old.frames.frames fits) ∙ is.executing };
         loaded = refl;
+        world = refl;
         leads = leads-one w (state_of ms old) (state_of ms new) (ap is_some calm.ending) stepped;
         silent = silent-one w (state_of ms old) (record {
           loads = loads-none old.frames.frames stands calm.executing;
@@ -282,6 +283,7 @@ module _ (w : Setup) (run : CanRun w) (ms : List Initialization) (here : Here) (
   caught-passes false frames is thrown fits are = record {
     at_instruction = record { ending = calm.ending; thrown = calm.thrown; executing = ap (λ fs. initialization_on (length fs) ms) are ∙ calm.executing };
     loaded = refl;
+    world = refl;
     leads = record {
       made = ap (λ fs. with_initializations ms (state_with fs old)) are ∙ sym (steps_from-zero w (state_of ms old));
       before = λ k less. absurd (omega arith);

@@ -43,10 +43,10 @@ caller-there v (f ∷ g ∷ fs) version place line is found =
     let same : (g.version, g.place) ≡ (version, place) = same_Some (g.version, g.place) (version, place) is in
     ap (λ (at : ℕ × ℕ). line_at v at.0 at.1) same ∙ found
 
-pub goes-there : (w : Setup) (ms : List Initialization) (fs : List PlacedFrame) (line : Line) (o : Option ℕ) → o ≡ next_in line → caller_line w.versions fs ≡ Some line
-    → initialization_on (length fs - 1) ms ≡ None → IfSome o (λ next. GoesBack w ms fs next)
-goes-there w ms fs line None is stands executing = tt
-goes-there w ms fs line (Some next) is stands executing = record { caller = line; stands = stands; goes_on = sym is; executing = executing }
+pub goes-there : (v : Versions) (ms : List Initialization) (fs : List PlacedFrame) (line : Line) (o : Option ℕ) → o ≡ next_in line → caller_line v fs ≡ Some line
+    → initialization_on (length fs - 1) ms ≡ None → IfSome o (λ next. GoesBack v ms fs next)
+goes-there v ms fs line None is stands executing = tt
+goes-there v ms fs line (Some next) is stands executing = record { caller = line; stands = stands; goes_on = sym is; executing = executing }
 
 -- the caller's operands are within its limit with the value, where they are without
 fits-by : (v : Option Value) (fs : List PlacedFrame) → AreSound fs → can_give v fs ≡ true → fits_given v fs ≡ true
@@ -79,7 +79,7 @@ module _ (w : Setup) (run : CanRun w) (ms : List Initialization) (here : Here) (
     (d : Option Datum) (next : ℕ) (v : Option Value) (frames : FramesView) (sound : AreSound old.frames.frames)
     (current : is_superseded_in w.versions.slots w.versions.current here.version ≡ false)
     (result : returns k (top_operands old.frames.frames) ≡ Returns d) (value : v ≡ option_map as_value d) where
-  gives : (to : GoesBack w ms old.frames.frames next) → true ≡ can_give v old.frames.frames → GivesBack w ms here k old.frames.frames d next
+  gives : (to : GoesBack w.versions ms old.frames.frames next) → true ≡ can_give v old.frames.frames → GivesBack w ms here k old.frames.frames d next
   gives to can = record {
     result = result;
     caller = to.caller;
@@ -95,13 +95,13 @@ module _ (w : Setup) (run : CanRun w) (ms : List Initialization) (here : Here) (
       ap (λ (f : FramesView). f.frames) are
       ∙ (same-back v next old.frames.frames (fits-by v old.frames.frames sound (sym can)) ∙ ap (λ x. gone_back x next old.frames.frames) value)
 
-  pub gives-passes : (b : Bool) → GoesBack w ms old.frames.frames next → mark_of w.versions here.version ≡ Off → b ≡ can_give v old.frames.frames
+  pub gives-passes : (b : Bool) → GoesBack w.versions ms old.frames.frames next → mark_of w.versions here.version ≡ Off → b ≡ can_give v old.frames.frames
       → frames ≡ changed_if b (with_given v next) old.frames → Passes w ms old (steps_if b) (on_frames frames old)
   gives-passes true to off can are = return-passes w run ms here line k old stands found ends calm d next (gives to can) frames (back-there can are) off
   gives-passes false to off can are = subst (λ (f : FramesView). Passes w ms old 0 (on_frames f old)) (sym are) (passes_none w ms old calm)
 
   -- of which its probe has told
-  pub gives-tries : (b : Bool) → GoesBack w ms old.frames.frames next → b ≡ can_give v old.frames.frames → frames ≡ changed_if b (with_given v next) old.frames
+  pub gives-tries : (b : Bool) → GoesBack w.versions ms old.frames.frames next → b ≡ can_give v old.frames.frames → frames ≡ changed_if b (with_given v next) old.frames
       → TriesIf b w ms true old Nothing (on_frames frames old)
   gives-tries true to can are =
       let is = gives to can in

@@ -103,6 +103,7 @@ module _ (w : Setup) where
   passes_none ms p calm = record {
     at_instruction = calm;
     loaded = refl;
+    world = refl;
     leads = leads-none w (state_of ms p);
     silent = λ k less. absurd (omega arith);
   }
@@ -111,6 +112,7 @@ module _ (w : Setup) where
   passes-on ms old mid new n m first second = record {
     at_instruction = second.at_instruction;
     loaded = second.loaded ∙ first.loaded;
+    world = second.world ∙ first.world;
     leads = leads-on w (state_of ms old) (state_of ms mid) (state_of ms new) n m first.leads second.leads;
     silent = silent-on (state_of ms old) (state_of ms mid) n m first.leads.made first.silent second.silent;
   }
@@ -124,6 +126,7 @@ module _ (w : Setup) where
       executing = ap (λ k. initialization_on k ms) alone.many ∙ calm.executing;
     };
     loaded = alone.loaded;
+    world = alone.world;
     leads = alone.leads ms calm;
     silent = λ k less. quiet-silent w (steps_from w k (state_of ms old)) (alone.quiet ms calm k less);
   }

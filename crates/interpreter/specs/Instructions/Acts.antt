@@ -11,7 +11,9 @@ use Rattle.jvm_model.specs.declared.state.Entry.{Entry}
 use Rattle.jvm_model.specs.declared.state.Entry.TheVariants.{Active, Initializing}
 use Rattle.jvm_model.specs.declared.state.Frame.{Frame}
 use Rattle.jvm_model.specs.declared.state.State.{State}
-use Rattle.jvm_model.specs.Basis.Data.{Instruction, Outcome, Returns, Done}
+use Rattle.jvm_model.specs.declared.state.Shared.{Shared}
+use Rattle.jvm_model.specs.Basis.Data.{Instruction, Locals, Operands, Outcome, Returns, Done, World}
+use Rattle.jvm_model.specs.Basis.Data as model
 use Rattle.jvm_model.specs.declared.instruction.SymbolicReference.{SymbolicReference}
 use Rattle.jvm_model.specs.declared.instruction.Local.TheVariants.{Nop}
 use Rattle.jvm_model.specs.declared.instruction.Operation.TheVariants.{Within}
@@ -21,9 +23,9 @@ use Rattle.jvm_model.specs.Codes.Lines.{targets_of}
 use Rattle.jvm_model.specs.Instructions.LocalRules.{returns, arithmetic_exception, by_zero}
 use Rattle.jvm_model.specs.Instructions.SymbolicReference.{newly_loaded}
 use Rattle.jvm_model.specs.Instructions.ReferenceRules.{does_named}
-use Rattle.jvm_model.specs.Instructions.ObjectRules.{loads_element, makes, measures, place_of, stores_element, storing_of, throws, watches}
+use Rattle.jvm_model.specs.Instructions.ObjectRules.{done, loads_element, makes, measures, place_of, stores_element, storing_of, throws, watches}
 use Rattle.jvm_model.specs.Running.Run.{starts}
-use Rattle.jvm_model.specs.Basis.SharedState.{exception_raised}
+use Rattle.jvm_model.specs.Basis.SharedState.{Allocated, exception_raised}
 use Rattle.jvm_model.specs.Basis.Values.{as_value, int_of, ref_of, with_value}
 use Rattle.jvm_basic.specs.declared.effect.Effect.{Effect}
 use Rattle.jvm_basic.specs.declared.effect.Effect.TheVariants.{Next, Throws, Bad, Other}
@@ -35,6 +37,7 @@ use Rattle.prepared_code.specs.declared.line.Line.{Line}
 use Rattle.prepared_code.specs.declared.initializations.Initialization.{Initialization}
 use Rattle.jvm_model.specs.declared.exception.Exception.{Exception}
 use Rattle.prepared_code.specs.declared.parts.Parts.{Parts}
+use Rattle.symbolic_references.specs.Runtimes.{with_shared}
 use Rattle.prepared_code.specs.Initializations.{is_executing, state_of, with_initializations}
 use Rattle.jvm_model.specs.Instructions.Exceptions.{exception_name}
 use Rattle.prepared_code.specs.States.{frame_in, state_with, state_in}
@@ -136,6 +139,23 @@ abbrev pub acts_string : Setup → Line → List ℕ → State → Frame → Sta
 acts_string w line units s f =
     acts_done w line s f (pushes_string w.world.program units s.shared f.locals f.operands)
 
+-- ---- what such an instruction does to what is shared, and asks for
+
+abbrev pub sees_objects : World → Action → Shared → Locals → Operands → Done
+sees_objects w action.Athrow s l o = done s (throws w s (ref_of o))
+sees_objects w action.Monitor s l o = done s (watches (ref_of o) l o)
+sees_objects w action.Arraylength s l o = done s (measures (ref_of o) s l o)
+sees_objects w (action.Newarray kind) s l o = makes kind (int_of o) s l o
+sees_objects w (action.LoadElement k) s l o = done s (loads_element k (place_of o) s l o)
+sees_objects w (action.StoreElement k) s l o = stores_element w.program k (storing_of k o) s l o
+sees_objects w (action.LdcString units) s l o = pushes_string w.program units s l o
+sees_objects w _ s l o = done s (model.Breaks false)
+
+-- where it is a newarray, of its kind
+abbrev pub IfNewarray : Action → (ℕ → Type 0) → Type 0
+IfNewarray (action.Newarray kind) Holds = Holds kind
+IfNewarray _ Holds = Unit {0}
+
 -- ---- every line
 
 abbrev pub acts_by : Setup → Line → State → Frame → Action → State
@@ -192,12 +212,16 @@ ended_unless method own (Throws class) p = run_ended method own p
 ended_unless method own Bad p = run_ended method own p
 ended_unless method own Other p = run_ended method own p
 
+-- what was made is thrown
+abbrev pub with_allocated : Allocated → Parts → Parts
+with_allocated a p = record p { runtime = with_shared a.shared p.runtime; thrown = Some a.reference }
+
 -- an exception of the class with this name is thrown, with this message
-abbrev pub raised_in : Setup → List ℕ → Option (List ℕ) → Parts → Parts
-raised_in w name message p = let a = exception_raised w.world p.shared name message in record p { shared = a.shared; thrown = Some a.reference }
+abbrev pub raised_in : World → List ℕ → Option (List ℕ) → Parts → Parts
+raised_in w name message p = let a = exception_raised w p.runtime.shared name message in with_allocated a p
 
 -- one that the machine makes
-abbrev pub raising : Setup → Exception → Option (List ℕ) → Parts → Parts
+abbrev pub raising : World → Exception → Option (List ℕ) → Parts → Parts
 raising w e message p = raised_in w (exception_name e) message p
 
 -- nothing follows by itself: the run has ended, or nothing is thrown, and there is a frame with no initialization on it

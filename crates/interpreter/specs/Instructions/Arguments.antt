@@ -4,12 +4,13 @@ use Rattle.heap_objects.specs.declared.Value.{Value}
 use Rattle.frame_stack.specs.FrameLists.{FramesView, PlacedFrame, arguments, without_arguments, can_enter, new_frame}
 use Rattle.frame_stack.specs.Widths.{height_of}
 use Rattle.jvm_model.specs.Basis.Data.{Operands}
+use Rattle.jvm_model.specs.Basis.Data.{World}
 use Rattle.jvm_model.specs.Basis.Programs.{max_stack_of, max_locals_of}
 use Rattle.prepared_code.specs.Tables.{Versions}
 use Rattle.prepared_code.specs.Versions.{Setup, current_of, first_of}
 
-abbrev pub can_begin : Setup → ℕ → ℕ → List PlacedFrame → Bool
-can_begin w method args fs = can_enter (max_locals_of w.world method) args fs
+abbrev pub can_begin : World → ℕ → ℕ → List PlacedFrame → Bool
+can_begin w method args fs = can_enter (max_locals_of w method) args fs
 
 -- a frame of the method's current version, at its first place
 abbrev pub frame_begun : Versions → ℕ → ℕ → ℕ → List Value → PlacedFrame

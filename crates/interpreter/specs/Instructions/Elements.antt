@@ -1,15 +1,12 @@
 -- Elements of arrays (JVM Specification 6.5): where an array and an index lead, and what becomes of a state by that.
-use Rattle.std.specs.Prelude.{◌≡◌, ℕ, Bool, true, false, ◌∷◌, drop, Option, Some, None, ℤ, pos, ◌==◌}
+use Rattle.std.specs.Prelude.{◌≡◌, ℕ, Bool, true, false, drop, Option, Some, None, ℤ, pos, ◌==◌}
 use Rattle.const_pool.specs.declared.descriptor.Kind.{Kind}
 use Rattle.frame_stack.specs.FrameLists.{top_operands}
 use Rattle.heap_objects.specs.declared.datum.Datum.{Datum}
 use Rattle.heap_objects.specs.declared.datum.Datum.TheVariants as datum
 use Rattle.heap_objects.specs.declared.Value.TheVariants.{Int}
 use Rattle.heap_objects.specs.Heaps.{HeapView, slot_at, with_slot_at}
-use Rattle.jvm_model.specs.declared.state.Frame.{Frame}
-use Rattle.jvm_model.specs.declared.state.State.{State}
-use Rattle.jvm_model.specs.Running.Applies.{goes}
-use Rattle.jvm_model.specs.Instructions.ObjectRules.{Access, ToNull, ToAnother, Outside, Inside, Storing, access_to, array_length, place_of, access_refused, storing_of}
+use Rattle.jvm_model.specs.Instructions.ObjectRules.{Access, ToNull, ToAnother, Outside, Inside, Storing, access_to, array_length, place_of, storing_of}
 use Rattle.jvm_model.specs.Basis.Values.{as_value, ref_of}
 use Rattle.jvm_basic.specs.declared.effect.Effect.TheVariants.{Next}
 use Rattle.jvm_basic.specs.Outcomes.{GoesOn, Rule, after, effect_of}
@@ -22,8 +19,7 @@ use Rattle.prepared_code.specs.declared.line.Action.{Action}
 use Rattle.prepared_code.specs.declared.line.Action.TheVariants as action
 use Rattle.prepared_code.specs.declared.line.Line.{Line}
 use Rattle.prepared_code.specs.declared.parts.Parts.{Parts}
-use Rattle.interpreter.specs.Instructions.Acts.{acts_asked}
-use Rattle.prepared_code.specs.Versions.{Setup}
+use Rattle.symbolic_references.specs.Runtimes.{with_heap}
 
 abbrev pub access_of : Led → Access
 access_of led.ToNull = ToNull
@@ -42,19 +38,6 @@ abbrev pub element_at : Access → ℕ → HeapView → Option Datum
 element_at (Inside slot) r h = slot_at r slot h
 element_at _ r h = None
 
--- it leads to no element
-abbrev pub acts_refused : Setup → Line → Led → ℤ → State → Frame → State
-acts_refused w line l i s f = acts_asked w line s f (access_refused (access_of l) i)
-
--- the element is loaded
-abbrev pub acts_loaded : Line → Datum → State → Frame → State
-acts_loaded line d s f = goes s f line.instr.at f.locals (as_value d ∷ drop 2 f.operands) (Some line.next)
-
--- the value is stored there
-abbrev pub acts_stored : Line → ℕ → ℕ → Datum → State → Frame → State
-acts_stored line r slot d s f =
-    goes (record s { shared = record s.shared { heap = with_slot_at r slot d s.shared.heap } }) f line.instr.at f.locals (drop 3 f.operands) (Some line.next)
-
 -- ---- where nothing is raised
 
 abbrev pub is_number : Datum → Bool
@@ -70,7 +53,7 @@ pub record IsLoaded (line : Line) (k : Kind) (old new : Parts) : Type 0 where
   pub index : ℤ
   pub datum : Datum
   pub at : place_of (top_operands old.frames.frames) ≡ Some (array, index)
-  pub there : element_at (access_to k array index old.shared.heap) array old.shared.heap ≡ Some datum
+  pub there : element_at (access_to k array index old.runtime.shared.heap) array old.runtime.shared.heap ≡ Some datum
   pub goes : effect_of (replaces 2 (Some (as_value datum)) line.next) old.frames ≡ Next
   pub changed : new ≡ record old { frames = after (replaces 2 (Some (as_value datum)) line.next) old.frames }
 
@@ -79,12 +62,12 @@ pub record IsStored (line : Line) (k : Kind) (old new : Parts) : Type 0 where
   pub storing : Storing
   pub slot : ℕ
   pub at : storing_of k (top_operands old.frames.frames) ≡ Some storing
-  pub there : access_to k storing.array storing.index old.shared.heap ≡ Inside slot
+  pub there : access_to k storing.array storing.index old.runtime.shared.heap ≡ Inside slot
   pub number : is_number storing.datum ≡ true
   pub goes : effect_of (drops_three line.next) old.frames ≡ Next
   pub changed : new ≡ record old {
     frames = after (drops_three line.next) old.frames;
-    shared = record old.shared { heap = with_slot_at storing.array slot storing.datum old.shared.heap };
+    runtime = with_heap (with_slot_at storing.array slot storing.datum old.runtime.shared.heap) old.runtime;
   }
 
 -- the length of the array stands in its place, and the frame goes on
@@ -93,7 +76,7 @@ pub record IsMeasured (line : Line) (old new : Parts) : Type 0 where
   pub count : ℕ
   pub at : ref_of (top_operands old.frames.frames) ≡ Some array
   pub there : (array == 0) ≡ false
-  pub long : array_length array old.shared.heap ≡ Some count
+  pub long : array_length array old.runtime.shared.heap ≡ Some count
   pub goes : effect_of (replaces 1 (Some (Int (pos count))) line.next) old.frames ≡ Next
   pub changed : new ≡ record old { frames = after (replaces 1 (Some (Int (pos count))) line.next) old.frames }
 

@@ -18,8 +18,8 @@ may_begin fs = nat_lt (length fs) most_live
 
 -- A method is invoked on these frames with so many operands, by whether there may be one activation more, and whether they fit: it begins,
 -- or is one too many, or the run ends.
-abbrev pub method_called : Setup → Here → ℕ → ℕ → List PlacedFrame → Parts → Bool → Bool → State
-method_called w here callee count fs p few fits =
+abbrev pub method_called : Setup → ℕ → ℕ → ℕ → ℕ → List PlacedFrame → Parts → Bool → Bool → State
+method_called w method own callee count fs p few fits =
     if fits
-    then if few then state_with (with_begun fits w callee count fs) p else state_with fs (raising w StackOverflow None p)
-    else state_with fs (run_ended here.method (own_of w here) p)
+    then if few then state_with (with_begun fits w callee count fs) p else state_with fs (raising w.world StackOverflow None p)
+    else state_with fs (run_ended method own p)

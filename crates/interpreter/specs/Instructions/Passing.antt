@@ -18,7 +18,6 @@ use Rattle.jvm_model.specs.Turns.Told.{helds, mark_now}
 use Rattle.jvm_model.specs.Basis.Values.{with_value}
 use Rattle.symbolic_references.specs.declared.known.Found.{Found}
 use Rattle.symbolic_references.specs.declared.known.Found.TheVariants as found
-use Rattle.symbolic_references.specs.Does.{Changed}
 use Rattle.prepared_code.specs.declared.initializations.Initialization.{Initialization}
 use Rattle.prepared_code.specs.declared.parts.Parts.{Parts}
 use Rattle.jvm_model.specs.declared.event.Mark.TheVariants.{Off}
@@ -62,7 +61,8 @@ AreSilent w s n = (k : ℕ) → k < n → IsSilent w (steps_from w k s)
 -- run goes on.
 pub record Passes (w : Setup) (ms : List Initialization) (old : Parts) (n : ℕ) (new : Parts) : Type 0 where
   pub at_instruction : IsAtInstruction (length new.frames.frames) ms new
-  pub loaded : new.shared.loaded ≡ old.shared.loaded
+  pub loaded : new.runtime.shared.loaded ≡ old.runtime.shared.loaded
+  pub world : new.runtime.world ≡ old.runtime.world
   pub leads : Leads w (state_of ms old) n (state_of ms new)
   pub silent : AreSilent w (state_of ms old) n
 
@@ -74,13 +74,6 @@ steps_if false = 0
 -- with other frames
 abbrev pub on_frames : FramesView → Parts → Parts
 on_frames frames p = record p { frames = frames }
-
--- what an instruction that names something changes
-abbrev pub changed_in : Parts → Changed
-changed_in p = record { frames = p.frames; shared = p.shared; output = p.output }
-
-abbrev pub with_changed : Changed → Parts → Parts
-with_changed x p = record p { frames = x.frames; shared = x.shared; output = x.output }
 
 -- what a member's name came to is a method
 abbrev pub is_method : Found → Bool

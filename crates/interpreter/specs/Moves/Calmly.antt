@@ -8,6 +8,7 @@ use Rattle.prepared_code.specs.declared.line.Line.{Line}
 use Rattle.interpreter.specs.declared.turns.hands.Gone.{Gone}
 use Rattle.interpreter.specs.declared.turns.hands.Hand.{Hand}
 use Rattle.prepared_code.specs.declared.parts.Parts.{Parts}
+use Rattle.prepared_code.specs.Tables.{Versions}
 use Rattle.prepared_code.specs.Versions.{Setup, next_in}
 use Rattle.interpreter.specs.Instructions.Acts.{attempts_on, awaited_in}
 use Rattle.interpreter.specs.Instructions.Passing.{AreKeptBy, caller_line}
@@ -22,16 +23,17 @@ use Rattle.interpreter.specs.Moves.Turning.{loads_in, loads_none, pause_at}
 -- It loads nothing and awaits no class, the run is calm behind it, and no version that is held is left behind by it.
 pub record Attempted (w : Setup) (ms : List Initialization) (old new : Parts) : Type 0 where
   pub at_instruction : IsAtInstruction (length new.frames.frames) ms new
-  pub loaded : new.shared.loaded ≡ old.shared.loaded
+  pub loaded : new.runtime.shared.loaded ≡ old.runtime.shared.loaded
+  pub world : new.runtime.world ≡ old.runtime.world
   pub loads : loads_in w (state_of ms old) ≡ []
   pub awaits : awaited_in w (state_of ms old) ≡ None
   pub made : state_of ms new ≡ attempts_on w (state_of ms old) (state_of ms old).stack
   pub keeps : AreKeptBy w (state_of ms old).stack (state_of ms new).stack
 
 -- where the caller of the current frame goes on by a return, no initialization standing on it
-pub record GoesBack (w : Setup) (ms : List Initialization) (fs : List PlacedFrame) (next : ℕ) : Type 0 where
+pub record GoesBack (v : Versions) (ms : List Initialization) (fs : List PlacedFrame) (next : ℕ) : Type 0 where
   pub caller : Line
-  pub stands : caller_line w.versions fs ≡ Some caller
+  pub stands : caller_line v fs ≡ Some caller
   pub goes_on : next_in caller ≡ Some next
   pub executing : initialization_on (length fs - 1) ms ≡ None
 
@@ -47,7 +49,8 @@ passed_there Begins = 1
 pub record TriesCalmly (w : Setup) (ms : List Initialization) (delivered : Bool) (old : Parts) (due : Due) (new : Parts) : Type 0 where
   pub loads : loads_none w (state_of ms old) ≡ true
   pub reaches : pause_at (state_of ms new) (passed_there due) due ≡ tried_in w delivered 0 (state_of ms old)
-  pub loaded : new.shared.loaded ≡ old.shared.loaded
+  pub loaded : new.runtime.shared.loaded ≡ old.runtime.shared.loaded
+  pub world : new.runtime.world ≡ old.runtime.world
   pub keeps : AreKeptBy w (state_of ms old).stack (state_of ms new).stack
 
 -- it is, or nothing was done
@@ -62,5 +65,6 @@ pub record GoesCalmly (w : Setup) (ms : List Initialization) (hand : Hand) (old 
   pub loads : (hand.moves || loads_none w (state_of ms old)) ≡ true
   pub reaches : pause_at (state_of ms new) gone.hand.passed gone.due ≡ goes_in w hand (state_of ms old)
   pub left : IsLeft gone
-  pub loaded : new.shared.loaded ≡ old.shared.loaded
+  pub loaded : new.runtime.shared.loaded ≡ old.runtime.shared.loaded
+  pub world : new.runtime.world ≡ old.runtime.world
   pub keeps : AreKeptBy w (state_of ms old).stack (state_of ms new).stack

@@ -12,6 +12,7 @@ use Rattle.jvm_model.specs.Running.Moves.{argument_array, move, own_at}
 use Rattle.prepared_code.specs.declared.parts.Parts.{Parts}
 use Rattle.prepared_code.specs.declared.parts.Here.{Here}
 use Rattle.prepared_code.specs.States.{frame_in, state_in, state_with}
+use Rattle.prepared_code.specs.Tables.{Versions}
 use Rattle.prepared_code.specs.Versions.{Setup, listing_of}
 
 -- ---- the operands of the current frame
@@ -33,8 +34,8 @@ with_alone r (f ∷ fs) = if nat_le 1 f.max_stack then record f { operands = Ref
 -- ---- a throw meets the current frame
 
 -- the offset of the instruction at which it stands
-abbrev pub own_of : Setup → Here → ℕ
-own_of w here = option_map_or (λ (i : Instruction). i.own) ((listing_of w.versions).at here.version here.place) 0
+abbrev pub own_of : Versions → Here → ℕ
+own_of v here = option_map_or (λ (i : Instruction). i.own) ((listing_of v).at here.version here.place) 0
 
 -- it goes on at a handler's target, with the object alone on its operands
 abbrev pub caught_at : Setup → ℕ → ℕ → List PlacedFrame → Parts → State

@@ -15,6 +15,7 @@ use Rattle.jvm_model.specs.Turns.StepPauses.{is_nothing, step_pause}
 use Rattle.prepared_code.specs.declared.line.Action.{Action}
 use Rattle.prepared_code.specs.declared.line.Action.TheVariants as action
 use Rattle.prepared_code.specs.declared.line.Line.{Line}
+use Rattle.prepared_code.specs.Tables.{Versions}
 use Rattle.prepared_code.specs.Versions.{Setup, line_at, listing_of, mark_of}
 
 -- ---- before an attempt
@@ -29,12 +30,12 @@ is_return_line None = false
 is_return_line (Some line) = returns_by line.action
 
 -- a probe tells of it first
-abbrev pub leaves_at : Setup → ℕ → ℕ → Bool
-leaves_at w version place = not (is_off (mark_of w.versions version)) && is_return_line (line_at w.versions version place)
+abbrev pub leaves_at : Versions → ℕ → ℕ → Bool
+leaves_at v version place = not (is_off (mark_of v version)) && is_return_line (line_at v version place)
 
-abbrev pub leaves_in : Setup → List PlacedFrame → Bool
-leaves_in w [] = false
-leaves_in w (f ∷ fs) = leaves_at w f.version f.place
+abbrev pub leaves_in : Versions → List PlacedFrame → Bool
+leaves_in v [] = false
+leaves_in v (f ∷ fs) = leaves_at v f.version f.place
 
 -- ---- behind an attempt
 
@@ -52,8 +53,8 @@ is_begins Nothing = false
 is_begins (Ends k) = false
 
 -- a method has begun of which a probe tells
-abbrev pub enters_by : Setup → List Change → Bool
-enters_by w changes = is_begins (changes_due (mark_now (mark_of w.versions) (listing_of w.versions)) [] changes)
+abbrev pub enters_by : Versions → List Change → Bool
+enters_by v changes = is_begins (changes_due (mark_now (mark_of v) (listing_of v)) [] changes)
 
 -- where the step stops, where so many activations were live before
 abbrev pub pause_behind_attempt : Setup → ℕ → ℕ → State → Pause

@@ -16,10 +16,11 @@ use Rattle.interpreter.specs.declared.turns.turning.Moved.{Moved}
 use Rattle.interpreter.specs.declared.turns.turning.Moved.TheVariants as moved
 use Rattle.prepared_code.specs.States.{active}
 use Rattle.interpreter.specs.Moves.Settling.{after_move}
+use Rattle.prepared_code.specs.Tables.{Versions}
 use Rattle.prepared_code.specs.Versions.{Setup, listing_of, mark_of}
 
-abbrev pub helds_in : Setup → List PlacedFrame → List Held
-helds_in w fs = helds (mark_of w.versions) (map active fs)
+abbrev pub helds_in : Versions → List PlacedFrame → List Held
+helds_in v fs = helds (mark_of v) (map active fs)
 
 -- the method that has begun by a move
 abbrev pub begun_in : List Change → Option ℕ
@@ -62,9 +63,9 @@ abbrev pub moved_to : Setup → State → State
 moved_to w s = state_by s (after_move w s) (due_by w s (changes_of (found_move w s)))
 
 -- what a method that begins comes to
-abbrev pub begun_as : Setup → Option ℕ → Moved
-begun_as w None = moved.On
-begun_as w (Some m) = moved_by (Began m ∷ []) (unless_off (mark_now (mark_of w.versions) (listing_of w.versions) m) Begins)
+abbrev pub begun_as : Versions → Option ℕ → Moved
+begun_as v None = moved.On
+begun_as v (Some m) = moved_by (Began m ∷ []) (unless_off (mark_now (mark_of v) (listing_of v) m) Begins)
 
 -- the frames with the current one taken off, unless a probe tells of that first
 abbrev pub unwound_by : Due → List PlacedFrame → List PlacedFrame
@@ -72,8 +73,8 @@ unwound_by (Ends k) fs = fs
 unwound_by Nothing fs = drop 1 fs
 unwound_by Begins fs = drop 1 fs
 
-abbrev pub unwind_due : Setup → List PlacedFrame → Due
-unwind_due w fs = end_due kind.Unwind (helds_in w fs)
+abbrev pub unwind_due : Versions → List PlacedFrame → Due
+unwind_due v fs = end_due kind.Unwind (helds_in v fs)
 
 -- ---- all moves, up to the first that is told
 

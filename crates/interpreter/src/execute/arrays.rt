@@ -1,17 +1,21 @@
-//! arraylength and newarray (JVM Specification 6.5).
+//! arraylength (JVM Specification 6.5).
 
-ghost use Rattle.std.specs.Prelude.{◌≡◌, true, false, OnOk};
-ghost use Rattle.jvm_model.specs.Instructions.ObjectRules.{array_length};
+ghost use Rattle.std.specs.Prelude.{◌≡◌, true, false, IfOk};
+ghost use Rattle.frame_stack.specs.FrameLists.{top_operands};
+ghost use Rattle.jvm_model.specs.Basis.Values.{ref_of};
+ghost use Rattle.jvm_model.specs.Instructions.ObjectRules.{array_length, measures};
+ghost use Rattle.symbolic_references.specs.Answers.{asked_on};
+ghost use Rattle.symbolic_references.specs.Outcomes.{HaveOperands, asked};
 ghost use Rattle.interpreter.specs.Instructions.Elements.{IsMeasured};
-ghost use Rattle.interpreter.specs.Instructions.Acts.{IsTop, Becomes, acts_arraylength, acts_newarray};
 
-use crate::unwind::raising::{RESERVED, break_off, end_unless, raise};
 use class_index::FIRST_ARRAY;
-use heap_objects::{Datum, Heap, HeapError, Value};
+use frame_stack::Frames;
+use heap_objects::{Heap, Value};
 use jf_bytes::NoMemory;
-use jvm_basic::{Effect, int_of, ref_of, replace};
+use jvm_basic::{Effect, ref_of, replace};
 use jvm_model::Exception;
-use prepared_code::{Line, Originals, Parts};
+use prepared_code::{Line, Parts};
+use symbolic_references::{AbruptCompletion, Outcome, Runtime};
 
 /// The greatest int.
 const GREATEST: u32 = 2_147_483_647;
@@ -28,34 +32,25 @@ fn array_length(heap: &Heap, object: u32) -> Option<u32>
 }
 
 /// arraylength: the number of an array's elements.
-pub fn measure(
-    originals: &Originals,
-    parts: &mut Parts,
-    method: u32,
-    line: &Line,
-) -> Result<(), NoMemory>
-    requires top { IsTop method parts.old.frames.frames }
-    ensures state { Becomes result parts.new
-        (acts_arraylength originals.now.setup line.now) parts.old }
+pub fn measure(runtime: &Runtime, frames: &Frames) -> Result<Outcome, NoMemory>
+    ensures answer { IfOk result (λ a. asked a frames.now
+        ≡ asked_on (λ l o. measures (ref_of o) runtime.now.shared l o) frames.now) }
+    ensures enough { HaveOperands result frames.now }
 {
-    let Some(reference) = ref_of(&parts.frames) else {
-        break_off(parts, method, line.instr.at);
-        return Ok(());
+    let Some(reference) = ref_of(frames) else {
+        return Ok(Outcome::Refused(AbruptCompletion::Breaks));
     };
     if reference == 0 {
-        return raise(originals, parts, Exception::NullPointer);
+        return Ok(Outcome::Refused(AbruptCompletion::Raises(Exception::NullPointer, None)));
     }
-    let Some(count) = array_length(&parts.shared.heap, reference) else {
-        break_off(parts, method, line.instr.at);
-        return Ok(());
+    let Some(count) = array_length(runtime.heap(), reference) else {
+        return Ok(Outcome::Refused(AbruptCompletion::Breaks));
     };
     // An array is made with an int as its length, so that none is longer.
     if count > GREATEST {
         return Err(NoMemory);
     }
-    let effect = replace(&mut parts.frames, Value::Int(count as i32), line.next);
-    end_unless(parts, method, line.instr.at, effect);
-    Ok(())
+    Ok(Outcome::Goes(1, Some(Value::Int(count as i32))))
 }
 
 /// arraylength, where nothing is raised. False, with nothing changed, where the frame does not go on.
@@ -69,7 +64,7 @@ pub fn pass_length(parts: &mut Parts, line: &Line) -> bool
     if array == 0 {
         return false;
     }
-    let Some(count) = array_length(&parts.shared.heap, array) else {
+    let Some(count) = array_length(parts.runtime.heap(), array) else {
         return false;
     };
     if count > GREATEST {
@@ -77,37 +72,4 @@ pub fn pass_length(parts: &mut Parts, line: &Line) -> bool
     }
     let effect = replace(&mut parts.frames, Value::Int(count as i32), line.next);
     matches!(effect, Effect::Next)
-}
-
-/// newarray: an array of this kind, of as many elements as the operand says.
-pub fn make_array(
-    originals: &Originals,
-    parts: &mut Parts,
-    method: u32,
-    line: &Line,
-    kind: u32,
-) -> Result<(), NoMemory>
-    requires top { IsTop method parts.old.frames.frames }
-    ensures state { Becomes result parts.new
-        (acts_newarray originals.now.setup line.now kind) parts.old }
-{
-    let Some(count) = int_of(&parts.frames) else {
-        break_off(parts, method, line.instr.at);
-        return Ok(());
-    };
-    if count < 0 {
-        return raise(originals, parts, Exception::NegativeArraySize);
-    }
-    match parts.shared.heap.array(kind, Datum::Int(0), count as u32) {
-        Ok(number) => {
-            let effect = replace(&mut parts.frames, Value::Ref(number), line.next);
-            end_unless(parts, method, line.instr.at, effect);
-            Ok(())
-        }
-        Err(HeapError::HeapFull) => {
-            parts.thrown = Some(RESERVED);
-            Ok(())
-        }
-        Err(HeapError::NoMemory) => Err(NoMemory),
-    }
 }

@@ -1,98 +1,87 @@
-//! What follows from what an instruction that names something asks for (JVM Specification 2.6, 2.10,
-//! 5.5, 6.5).
+//! What follows from what an instruction asks for (JVM Specification 2.6, 2.10, 5.5, 6.5).
 
-ghost use Rattle.std.specs.Prelude.{◌≡◌, Some, None, IfOk, OnOk};
-ghost use Rattle.std.specs.Option.{option_map};
+ghost use Rattle.std.specs.Prelude.{◌≡◌, IfNone, IfOk, OnOk};
+ghost use Rattle.std.specs.Option.{IfSome};
+ghost use Rattle.frame_stack.specs.FrameLists.{top_operands};
 ghost use Rattle.jvm_model.specs.Running.Run.{starts};
-ghost use Rattle.symbolic_references.specs.Answers.{answer_view, abrupt_view};
 ghost use Rattle.jvm_model.specs.Instructions.Exceptions.{exception_name};
-ghost use Rattle.interpreter.specs.Instructions.Acts.{raised_in};
-ghost use Rattle.interpreter.specs.Instructions.Asked.{answer_concluded, refused_in, starts_in};
+ghost use Rattle.symbolic_references.specs.Outcomes.{HasOperands, asked};
+ghost use Rattle.interpreter.specs.Instructions.Acts.{IsTop, acts_asked, on_parts, raised_in};
+ghost use Rattle.interpreter.specs.Instructions.Asked.{TakesArguments};
+ghost use Rattle.prepared_code.specs.Linked.{setup_in};
 ghost use Rattle.prepared_code.specs.States.{state_in};
 
 use crate::execute::invoking::call;
-use crate::unwind::exceptions::kind_raised;
-use crate::unwind::raising::{break_at, throw_kind, throw_kind_with};
+use crate::unwind::raising::{break_off, raise, raise_with};
 use jf_bytes::{NoMemory, Text16};
 use jvm_model::{Ending, Exception};
-use prepared_code::{Here, Originals, Parts};
-use std::alloc::Global;
-use symbolic_references::{AbruptCompletion, Asked};
+use prepared_code::{Line, Originals, Parts};
+use symbolic_references::{AbruptCompletion, Outcome, apply};
 
 /// Throws an exception that the instruction raises, with its message.
 pub fn raise_named(
-    alloc: Global,
-    originals: &Originals,
     parts: &mut Parts,
     exception: Exception,
     message: Option<Text16>,
 ) -> Result<(), NoMemory>
-    ensures { OnOk result (parts.new
-        ≡ raised_in originals.now.setup (exception_name exception) message parts.old) }
+    ensures state { let w = parts.old.runtime.world in OnOk result (parts.new
+        ≡ raised_in w (exception_name exception) message parts.old) }
+    ensures world { parts.new.runtime.world ≡ parts.old.runtime.world }
+    ensures same_loaded { parts.new.runtime.shared.loaded ≡ parts.old.runtime.shared.loaded }
 {
-    let kind = kind_raised(alloc, originals, exception)?;
     match message {
-        Some(message) => throw_kind_with(originals, parts, kind, message.units()),
-        None => throw_kind(parts, kind),
+        Some(message) => raise_with(parts, exception, message.units()),
+        None => raise(parts, exception),
     }
 }
 
-/// What is asked for in place of going on. The initialization of a class begins behind it: the class
-/// is the answer.
-fn refuse(
-    alloc: Global,
+/// Does what an instruction of the current frame asks for. The class that is initialized before is the answer, where one is.
+pub fn conclude(
     originals: &Originals,
     parts: &mut Parts,
-    here: Here,
-    refusal: AbruptCompletion,
+    method: u32,
+    line: &Line,
+    outcome: Outcome,
 ) -> Result<Option<u32>, NoMemory>
-    ensures answer { IfOk result (λ o. o ≡ starts (abrupt_view refusal)) }
-    ensures state { OnOk result (state_in parts.new
-        ≡ refused_in originals.now.setup here (abrupt_view refusal) parts.old) }
+    requires top { IsTop method parts.old.frames.frames }
+    requires enough { HasOperands outcome (top_operands parts.old.frames.frames) }
+    requires takes { let f = parts.old.frames in
+        TakesArguments (asked outcome f) (top_operands f.frames) }
+    ensures answer { IfOk result (λ o. o ≡ starts (asked outcome parts.old.frames)) }
+    ensures state { let w = setup_in parts.old.runtime originals.now in IfOk result (λ o. IfNone o
+        (state_in parts.new ≡ on_parts
+        (λ s f. acts_asked w line.now s f (asked outcome parts.old.frames)) parts.old)) }
+    ensures begins { IfOk result (λ o. IfSome o (λ _. parts.new ≡ parts.old)) }
+    ensures world { parts.new.runtime.world ≡ parts.old.runtime.world }
+    ensures same_loaded { parts.new.runtime.shared.loaded ≡ parts.old.runtime.shared.loaded }
 {
-    match refusal {
-        AbruptCompletion::Raises(exception, message) => {
-            raise_named(alloc, originals, parts, exception, message)?;
+    match outcome {
+        Outcome::Goes(count, value) => {
+            if !apply(&mut parts.frames, count, value, line.next) {
+                break_off(parts, method, line.instr.at);
+            }
             Ok(None)
         }
-        AbruptCompletion::Throws(object) => {
+        Outcome::Invokes(callee, args) => {
+            call(originals, parts, method, line.instr.at, callee, args)?;
+            Ok(None)
+        }
+        Outcome::Refused(AbruptCompletion::Raises(exception, message)) => {
+            raise_named(parts, exception, message)?;
+            Ok(None)
+        }
+        Outcome::Refused(AbruptCompletion::Throws(object)) => {
             parts.thrown = Some(object);
             Ok(None)
         }
-        AbruptCompletion::Initializes(class) => Ok(Some(class)),
-        AbruptCompletion::Exits(status) => {
+        Outcome::Refused(AbruptCompletion::Initializes(class)) => Ok(Some(class)),
+        Outcome::Refused(AbruptCompletion::Exits(status)) => {
             parts.ending = Some(Ending::Exited(status));
             Ok(None)
         }
-        AbruptCompletion::Breaks => {
-            break_at(alloc, originals, parts, here)?;
+        Outcome::Refused(AbruptCompletion::Breaks) => {
+            break_off(parts, method, line.instr.at);
             Ok(None)
         }
-    }
-}
-
-/// What follows from an answer. The class that is initialized before is the answer, where one is.
-pub fn conclude(
-    alloc: Global,
-    originals: &Originals,
-    parts: &mut Parts,
-    here: Here,
-    asked: Asked,
-) -> Result<Option<u32>, NoMemory>
-    ensures answer { IfOk result (λ o. o ≡ starts_in (answer_view asked)) }
-    ensures state { OnOk result (state_in parts.new
-        ≡ answer_concluded originals.now.setup here (answer_view asked) parts.old) }
-{
-    match asked {
-        Asked::Next => Ok(None),
-        Asked::TooDeep => {
-            break_at(alloc, originals, parts, here)?;
-            Ok(None)
-        }
-        Asked::Invokes(callee, args) => {
-            call(alloc, originals, parts, here, callee, args)?;
-            Ok(None)
-        }
-        Asked::Refused(refusal) => refuse(alloc, originals, parts, here, refusal),
     }
 }

@@ -5,26 +5,27 @@ ghost use Rattle.std.specs.Prelude.{IfNone, IfOk, OnOk};
 ghost use Rattle.std.specs.Option.{IfSome, option_map_or};
 ghost use Rattle.jvm_model.specs.Basis.Families.{family_of};
 ghost use Rattle.jvm_model.specs.Running.Run.{with_loaded};
-ghost use Rattle.symbolic_references.specs.Objects.{AreLoaded};
+ghost use Rattle.symbolic_references.specs.Arrays.{IsPrimitiveArray};
+ghost use Rattle.symbolic_references.specs.Outcomes.{Asks, HaveOperands, Sets};
 ghost use Rattle.interpreter.specs.Instructions.Acts.{IsTop, Becomes, run_ended};
-ghost use Rattle.interpreter.specs.Instructions.Acts.{acts, acts_alone, attempts_on};
+ghost use Rattle.interpreter.specs.Instructions.Acts.{IfNewarray, acts, acts_alone, attempts_on, sees_objects};
 ghost use Rattle.interpreter.specs.Instructions.Acts.{BecomesBeneath, awaited_in, is_named, named_in};
-ghost use Rattle.prepared_code.specs.Linked.{IsReady, linker_in};
 ghost use Rattle.prepared_code.specs.Ready.{CanRun, IsSoundIn};
 ghost use Rattle.prepared_code.specs.Initializations.{initialization_on, state_of};
 ghost use Rattle.prepared_code.specs.States.{here_of};
 ghost use Rattle.interpreter.specs.Moves.Turning.{loads_in, loads_none};
 ghost use Rattle.prepared_code.specs.Versions.{line_at};
+ghost use Rattle.prepared_code.specs.Linked.{IsLinked, IsReady, setup_in};
 
-use crate::execute::arrays::{make_array, measure};
+use crate::execute::arrays::measure;
 use crate::execute::asking::conclude;
 use crate::execute::elements::{load_element, store_element};
 use crate::execute::monitors::watch;
 use crate::execute::returning::{end_initializer, return_by};
-use crate::execute::strings::push_string;
 use crate::execute::throwing::throw_object;
 use crate::initialize::initializing::initialize;
 use crate::unwind::raising::{break_off, raise_with};
+use frame_stack::Frames;
 use jf_bytes::{NoMemory, Stack};
 use jvm_basic::{Effect, basic_by};
 use jvm_model::Exception;
@@ -32,13 +33,16 @@ use prepared_code::{
     Action, Here, Initialization, Line, Originals, Parts, initialization_on, where_now,
 };
 use std::alloc::Global;
+use symbolic_references::{AbruptCompletion, Outcome, Runtime};
 
 /// The message of a division by zero.
 const BY_ZERO: &[u16] = &[47, 32, 98, 121, 32, 122, 101, 114, 111];
 
 /// Ends the run here.
 fn break_here(parts: &mut Parts, method: u32, own: u16) -> Result<(), NoMemory>
-    ensures { OnOk result (parts.new ≡ run_ended method own parts.old) }
+    ensures state { OnOk result (parts.new ≡ run_ended method own parts.old) }
+    ensures world { parts.new.runtime.world ≡ parts.old.runtime.world }
+    ensures same_loaded { parts.new.runtime.shared.loaded ≡ parts.old.runtime.shared.loaded }
 {
     break_off(parts, method, own);
     Ok(())
@@ -53,7 +57,10 @@ fn act_alone(
 ) -> Result<(), NoMemory>
     requires top { IsTop method parts.old.frames.frames }
     requires family { line.now.family ≡ family_of line.now.instr.op }
-    ensures state { Becomes result parts.new (acts_alone originals.now.setup line.now) parts.old }
+    ensures state { Becomes result parts.new
+        (acts_alone (setup_in parts.old.runtime originals.now) line.now) parts.old }
+    ensures world { parts.new.runtime.world ≡ parts.old.runtime.world }
+    ensures same_loaded { parts.new.runtime.shared.loaded ≡ parts.old.runtime.shared.loaded }
 {
     let effect = basic_by(
         line.family,
@@ -64,10 +71,41 @@ fn act_alone(
     );
     match effect {
         Effect::Next => Ok(()),
-        Effect::Throws(_) => raise_with(originals, parts, Exception::Arithmetic, BY_ZERO),
+        Effect::Throws(_) => raise_with(parts, Exception::Arithmetic, BY_ZERO),
         Effect::Bad => break_here(parts, method, line.instr.at),
         // Does not come for such a line.
         Effect::Other => break_here(parts, method, line.instr.at),
+    }
+}
+
+/// What a line asks for that sees objects; of the others nothing is asked.
+fn ask(
+    alloc: Global,
+    runtime: &mut Runtime,
+    frames: &Frames,
+    line: &Line,
+) -> Result<Outcome, NoMemory>
+    requires arrays { IfNewarray line.now.action IsPrimitiveArray }
+    ensures answer { let w = runtime.old.world in let s = runtime.old.shared in
+        Asks result (sees_objects w line.now.action s) frames.now }
+    ensures runtime { let w = runtime.old.world in let s = runtime.old.shared in
+        Sets result runtime.new (sees_objects w line.now.action s) frames.now runtime.old }
+    ensures enough { HaveOperands result frames.now }
+    ensures world { runtime.new.world ≡ runtime.old.world }
+    ensures same_loaded { runtime.new.shared.loaded ≡ runtime.old.shared.loaded }
+{
+    match &line.action {
+        Action::Athrow => Ok(throw_object(runtime, frames)),
+        Action::Monitor => Ok(watch(frames)),
+        Action::Arraylength => measure(runtime, frames),
+        Action::Newarray(kind) => runtime.make_primitives(frames, *kind),
+        Action::LoadElement(kind) => load_element(alloc, runtime, frames, *kind),
+        Action::StoreElement(kind) => store_element(alloc, runtime, frames, *kind),
+        Action::LdcString(units) => runtime.push_string(frames, units),
+        // These do not come here.
+        Action::Local | Action::Return(_) | Action::Named(_) => {
+            Ok(Outcome::Refused(AbruptCompletion::Breaks))
+        }
     }
 }
 
@@ -82,21 +120,20 @@ fn act(
     requires top { IsTop method parts.old.frames.frames }
     requires family { line.now.family ≡ family_of line.now.instr.op }
     requires alone { is_named line.now.action ≡ false }
-    requires objects { AreLoaded (linker_in originals.now) parts.old.shared.heap }
-    ensures state { Becomes result parts.new (acts originals.now.setup line.now) parts.old }
+    requires arrays { IfNewarray line.now.action IsPrimitiveArray }
+    ensures state { Becomes result parts.new
+        (acts (setup_in parts.old.runtime originals.now) line.now) parts.old }
+    ensures world { parts.new.runtime.world ≡ parts.old.runtime.world }
+    ensures same_loaded { parts.new.runtime.shared.loaded ≡ parts.old.runtime.shared.loaded }
 {
-    match &line.action {
+    match line.action {
         Action::Local => act_alone(originals, parts, method, line),
-        Action::Return(kind) => return_by(alloc, originals, parts, method, line, *kind),
-        // Does not come here.
-        Action::Named(_) => break_here(parts, method, line.instr.at),
-        Action::Athrow => throw_object(originals, parts, method, line),
-        Action::Monitor => watch(originals, parts, method, line),
-        Action::Arraylength => measure(originals, parts, method, line),
-        Action::Newarray(kind) => make_array(originals, parts, method, line, *kind),
-        Action::LoadElement(kind) => load_element(alloc, originals, parts, method, line, *kind),
-        Action::StoreElement(kind) => store_element(alloc, originals, parts, method, line, *kind),
-        Action::LdcString(units) => push_string(originals, parts, method, line, units),
+        Action::Return(kind) => return_by(alloc, originals, parts, method, line, kind),
+        _ => {
+            let outcome = ask(alloc, &mut parts.runtime, &parts.frames, line)?;
+            conclude(originals, parts, method, line, outcome)?;
+            Ok(())
+        }
     }
 }
 
@@ -114,13 +151,15 @@ fn act_initializer(
     requires top { IsTop method parts.old.frames.frames }
     requires family { line.now.family ≡ family_of line.now.instr.op }
     requires alone { is_named line.now.action ≡ false }
-    requires objects { AreLoaded (linker_in originals.now) parts.old.shared.heap }
+    requires arrays { IfNewarray line.now.action IsPrimitiveArray }
     requires executing { initialization_on (length parts.old.frames.frames) initializing.now
         ≡ None }
     requires beneath { is_some
         (initialization_on (length parts.old.frames.frames - 1) initializing.now) ≡ true }
-    ensures { BecomesBeneath result initializing.now parts.new
-        (acts originals.now.setup line.now) parts.old }
+    ensures state { BecomesBeneath result initializing.now parts.new
+        (acts (setup_in parts.old.runtime originals.now) line.now) parts.old }
+    ensures world { parts.new.runtime.world ≡ parts.old.runtime.world }
+    ensures same_loaded { parts.new.runtime.shared.loaded ≡ parts.old.runtime.shared.loaded }
 {
     match line.action {
         Action::Return(kind) => {
@@ -144,11 +183,13 @@ fn act_beneath(
     requires top { IsTop method parts.old.frames.frames }
     requires family { line.now.family ≡ family_of line.now.instr.op }
     requires alone { is_named line.now.action ≡ false }
-    requires objects { AreLoaded (linker_in originals.now) parts.old.shared.heap }
+    requires arrays { IfNewarray line.now.action IsPrimitiveArray }
     requires executing { initialization_on (length parts.old.frames.frames) initializing.now
         ≡ None }
-    ensures { BecomesBeneath result initializing.now parts.new
-        (acts originals.now.setup line.now) parts.old }
+    ensures state { BecomesBeneath result initializing.now parts.new
+        (acts (setup_in parts.old.runtime originals.now) line.now) parts.old }
+    ensures world { parts.new.runtime.world ≡ parts.old.runtime.world }
+    ensures same_loaded { parts.new.runtime.shared.loaded ≡ parts.old.runtime.shared.loaded }
 {
     if initialization_on(initializing, parts.frames.depth() - 1).is_some() {
         act_initializer(alloc, originals, parts, initializing, method, line)
@@ -169,13 +210,14 @@ fn attempt_line(
 ) -> Result<(), NoMemory>
     requires ready { IsReady originals.now here.version }
     requires here { here_of parts.old.frames.frames ≡ Some here }
-    requires alone { named_in (line_at originals.now.setup.versions here.version here.place)
+    requires alone { named_in (line_at originals.now.versions here.version here.place)
         ≡ false }
-    requires objects { AreLoaded (linker_in originals.now) parts.old.shared.heap }
     requires executing { initialization_on (length parts.old.frames.frames) initializing.now
         ≡ None }
-    ensures { let w = originals.now.setup in let s = state_of initializing.now parts.old in
+    ensures state { let w = setup_in parts.old.runtime originals.now in let s = state_of initializing.now parts.old in
         OnOk result (state_of initializing.now parts.new ≡ attempts_on w s s.stack) }
+    ensures world { parts.new.runtime.world ≡ parts.old.runtime.world }
+    ensures same_loaded { parts.new.runtime.shared.loaded ≡ parts.old.runtime.shared.loaded }
 {
     let Some(line) = originals.line(here.version, here.place) else {
         break_off(parts, here.method, 0);
@@ -201,7 +243,7 @@ fn is_named(line: &Line) -> bool
 #[inline(always)]
 fn named_at(originals: &Originals, here: Here) -> bool
     requires { IsReady originals.now here.version }
-    ensures { result ≡ named_in (line_at originals.now.setup.versions here.version here.place) }
+    ensures { result ≡ named_in (line_at originals.now.versions here.version here.place) }
 {
     match originals.line(here.version, here.place) {
         Some(line) => is_named(line),
@@ -219,30 +261,34 @@ fn attempt_name(
     here: Here,
 ) -> Result<Option<u32>, NoMemory>
     requires ready { IsReady originals.old here.version }
-    requires linked { originals.old.loaded ≡ parts.old.shared.loaded }
-    requires fit { CanRun originals.old.setup }
-    requires sound { IsSoundIn originals.old.setup (state_of initializing.old parts.old) }
+    requires linked { IsLinked originals.old parts.old.runtime }
+    requires fit { CanRun (setup_in parts.old.runtime originals.old) }
+    requires sound { IsSoundIn (setup_in parts.old.runtime originals.old) (state_of initializing.old parts.old) }
     requires here { here_of parts.old.frames.frames ≡ Some here }
-    requires named { named_in (line_at originals.old.setup.versions here.version here.place)
+    requires named { named_in (line_at originals.old.versions here.version here.place)
         ≡ true }
     requires executing { initialization_on (length parts.old.frames.frames) initializing.old
         ≡ None }
-    ensures world { originals.new.setup ≡ originals.old.setup }
-    ensures linked { OnOk result (originals.new.loaded ≡ parts.new.shared.loaded) }
+    ensures versions { originals.new.versions ≡ originals.old.versions }
+    ensures world { parts.new.runtime.world ≡ parts.old.runtime.world }
+    ensures linked { OnOk result (IsLinked originals.new parts.new.runtime) }
     ensures answer { IfOk result (λ o.
-        o ≡ awaited_in originals.old.setup (state_of initializing.old parts.old)) }
-    ensures state { let w = originals.old.setup in let s = state_of initializing.old parts.old in
+        o ≡ awaited_in (setup_in parts.old.runtime originals.old) (state_of initializing.old parts.old)) }
+    ensures state { let w = setup_in parts.old.runtime originals.old in let s = state_of initializing.old parts.old in
         OnOk result (state_of initializing.new parts.new ≡ attempts_on w s s.stack) }
 {
-    let asked = originals.attempt_named(
+    let outcome = originals.attempt_named(
         alloc,
+        &mut parts.runtime,
+        &parts.frames,
         here.version,
         here.place,
-        &mut parts.shared,
-        &mut parts.frames,
-        &mut parts.output,
     )?;
-    let awaited = conclude(alloc, originals, parts, here, asked)?;
+    let Some(line) = originals.line(here.version, here.place) else {
+        break_off(parts, here.method, 0);
+        return Ok(None);
+    };
+    let awaited = conclude(originals, parts, here.method, line, outcome)?;
     let Some(class) = awaited else {
         return Ok(None);
     };
@@ -262,17 +308,18 @@ fn attempt_there(
     here: Here,
 ) -> Result<Option<u32>, NoMemory>
     requires ready { IsReady originals.old here.version }
-    requires linked { originals.old.loaded ≡ parts.old.shared.loaded }
-    requires fit { CanRun originals.old.setup }
-    requires sound { IsSoundIn originals.old.setup (state_of initializing.old parts.old) }
+    requires linked { IsLinked originals.old parts.old.runtime }
+    requires fit { CanRun (setup_in parts.old.runtime originals.old) }
+    requires sound { IsSoundIn (setup_in parts.old.runtime originals.old) (state_of initializing.old parts.old) }
     requires here { here_of parts.old.frames.frames ≡ Some here }
     requires executing { initialization_on (length parts.old.frames.frames) initializing.old
         ≡ None }
-    ensures world { originals.new.setup ≡ originals.old.setup }
-    ensures linked { OnOk result (originals.new.loaded ≡ parts.new.shared.loaded) }
+    ensures versions { originals.new.versions ≡ originals.old.versions }
+    ensures world { parts.new.runtime.world ≡ parts.old.runtime.world }
+    ensures linked { OnOk result (IsLinked originals.new parts.new.runtime) }
     ensures answer { IfOk result (λ o.
-        o ≡ awaited_in originals.old.setup (state_of initializing.old parts.old)) }
-    ensures state { let w = originals.old.setup in let s = state_of initializing.old parts.old in
+        o ≡ awaited_in (setup_in parts.old.runtime originals.old) (state_of initializing.old parts.old)) }
+    ensures state { let w = setup_in parts.old.runtime originals.old in let s = state_of initializing.old parts.old in
         OnOk result (state_of initializing.new parts.new ≡ attempts_on w s s.stack) }
 {
     if named_at(originals, here) {
@@ -291,16 +338,17 @@ pub fn attempt(
     parts: &mut Parts,
     initializing: &mut Stack<Initialization>,
 ) -> Result<Option<u32>, NoMemory>
-    requires linked { originals.old.loaded ≡ parts.old.shared.loaded }
-    requires fit { CanRun originals.old.setup }
-    requires sound { IsSoundIn originals.old.setup (state_of initializing.old parts.old) }
+    requires linked { IsLinked originals.old parts.old.runtime }
+    requires fit { CanRun (setup_in parts.old.runtime originals.old) }
+    requires sound { IsSoundIn (setup_in parts.old.runtime originals.old) (state_of initializing.old parts.old) }
     requires executing { initialization_on (length parts.old.frames.frames) initializing.old
         ≡ None }
-    ensures world { originals.new.setup ≡ originals.old.setup }
-    ensures linked { OnOk result (originals.new.loaded ≡ parts.new.shared.loaded) }
+    ensures versions { originals.new.versions ≡ originals.old.versions }
+    ensures world { parts.new.runtime.world ≡ parts.old.runtime.world }
+    ensures linked { OnOk result (IsLinked originals.new parts.new.runtime) }
     ensures answer { IfOk result (λ o.
-        o ≡ awaited_in originals.old.setup (state_of initializing.old parts.old)) }
-    ensures state { let w = originals.old.setup in let s = state_of initializing.old parts.old in
+        o ≡ awaited_in (setup_in parts.old.runtime originals.old) (state_of initializing.old parts.old)) }
+    ensures state { let w = setup_in parts.old.runtime originals.old in let s = state_of initializing.old parts.old in
         OnOk result (state_of initializing.new parts.new ≡ attempts_on w s s.stack) }
 {
     let Some(here) = where_now(&parts.frames) else {
@@ -321,40 +369,44 @@ fn attempt_name_loaded(
     here: Here,
 ) -> Result<Option<Option<u32>>, NoMemory>
     requires ready { IsReady originals.old here.version }
-    requires linked { originals.old.loaded ≡ parts.old.shared.loaded }
-    requires fit { CanRun originals.old.setup }
-    requires sound { IsSoundIn originals.old.setup (state_of initializing.old parts.old) }
+    requires linked { IsLinked originals.old parts.old.runtime }
+    requires fit { CanRun (setup_in parts.old.runtime originals.old) }
+    requires sound { IsSoundIn (setup_in parts.old.runtime originals.old) (state_of initializing.old parts.old) }
     requires ending { parts.old.ending ≡ None }
     requires here { here_of parts.old.frames.frames ≡ Some here }
-    requires named { named_in (line_at originals.old.setup.versions here.version here.place)
+    requires named { named_in (line_at originals.old.versions here.version here.place)
         ≡ true }
     requires executing { initialization_on (length parts.old.frames.frames) initializing.old
         ≡ None }
-    ensures world { originals.new.setup ≡ originals.old.setup }
-    ensures linked { OnOk result (originals.new.loaded ≡ parts.new.shared.loaded) }
+    ensures versions { originals.new.versions ≡ originals.old.versions }
+    ensures world { parts.new.runtime.world ≡ parts.old.runtime.world }
+    ensures linked { OnOk result (IsLinked originals.new parts.new.runtime) }
     ensures some { IfOk result (λ o. is_some o
-        ≡ loads_none originals.old.setup (state_of initializing.old parts.old)) }
+        ≡ loads_none (setup_in parts.old.runtime originals.old) (state_of initializing.old parts.old)) }
     ensures answer { IfOk result (λ o. IfSome o (λ a.
-        a ≡ awaited_in originals.old.setup (state_of initializing.old parts.old))) }
-    ensures state { let w = originals.old.setup in let s = state_of initializing.old parts.old in
+        a ≡ awaited_in (setup_in parts.old.runtime originals.old) (state_of initializing.old parts.old))) }
+    ensures state { let w = setup_in parts.old.runtime originals.old in let s = state_of initializing.old parts.old in
         IfOk result (λ o. IfSome o (λ _.
         state_of initializing.new parts.new ≡ attempts_on w s s.stack)) }
-    ensures loads { let w = originals.old.setup in let s = state_of initializing.old parts.old in
+    ensures loads { let w = setup_in parts.old.runtime originals.old in let s = state_of initializing.old parts.old in
         IfOk result (λ o. IfNone o
         (state_of initializing.new parts.new ≡ with_loaded (loads_in w s) s)) }
 {
-    let asked = originals.attempt_loaded(
+    let outcome = originals.attempt_loaded(
         alloc,
+        &mut parts.runtime,
+        &parts.frames,
         here.version,
         here.place,
-        &mut parts.shared,
-        &mut parts.frames,
-        &mut parts.output,
     )?;
-    let Some(asked) = asked else {
+    let Some(outcome) = outcome else {
         return Ok(None);
     };
-    let awaited = conclude(alloc, originals, parts, here, asked)?;
+    let Some(line) = originals.line(here.version, here.place) else {
+        break_off(parts, here.method, 0);
+        return Ok(Some(None));
+    };
+    let awaited = conclude(originals, parts, here.method, line, outcome)?;
     let Some(class) = awaited else {
         return Ok(Some(None));
     };
@@ -372,23 +424,24 @@ fn attempt_loaded_there(
     here: Here,
 ) -> Result<Option<Option<u32>>, NoMemory>
     requires ready { IsReady originals.old here.version }
-    requires linked { originals.old.loaded ≡ parts.old.shared.loaded }
-    requires fit { CanRun originals.old.setup }
-    requires sound { IsSoundIn originals.old.setup (state_of initializing.old parts.old) }
+    requires linked { IsLinked originals.old parts.old.runtime }
+    requires fit { CanRun (setup_in parts.old.runtime originals.old) }
+    requires sound { IsSoundIn (setup_in parts.old.runtime originals.old) (state_of initializing.old parts.old) }
     requires ending { parts.old.ending ≡ None }
     requires here { here_of parts.old.frames.frames ≡ Some here }
     requires executing { initialization_on (length parts.old.frames.frames) initializing.old
         ≡ None }
-    ensures world { originals.new.setup ≡ originals.old.setup }
-    ensures linked { OnOk result (originals.new.loaded ≡ parts.new.shared.loaded) }
+    ensures versions { originals.new.versions ≡ originals.old.versions }
+    ensures world { parts.new.runtime.world ≡ parts.old.runtime.world }
+    ensures linked { OnOk result (IsLinked originals.new parts.new.runtime) }
     ensures some { IfOk result (λ o. is_some o
-        ≡ loads_none originals.old.setup (state_of initializing.old parts.old)) }
+        ≡ loads_none (setup_in parts.old.runtime originals.old) (state_of initializing.old parts.old)) }
     ensures answer { IfOk result (λ o. IfSome o (λ a.
-        a ≡ awaited_in originals.old.setup (state_of initializing.old parts.old))) }
-    ensures state { let w = originals.old.setup in let s = state_of initializing.old parts.old in
+        a ≡ awaited_in (setup_in parts.old.runtime originals.old) (state_of initializing.old parts.old))) }
+    ensures state { let w = setup_in parts.old.runtime originals.old in let s = state_of initializing.old parts.old in
         IfOk result (λ o. IfSome o (λ _.
         state_of initializing.new parts.new ≡ attempts_on w s s.stack)) }
-    ensures loads { let w = originals.old.setup in let s = state_of initializing.old parts.old in
+    ensures loads { let w = setup_in parts.old.runtime originals.old in let s = state_of initializing.old parts.old in
         IfOk result (λ o. IfNone o
         (state_of initializing.new parts.new ≡ with_loaded (loads_in w s) s)) }
 {
@@ -407,22 +460,23 @@ pub fn attempt_loaded(
     parts: &mut Parts,
     initializing: &mut Stack<Initialization>,
 ) -> Result<Option<Option<u32>>, NoMemory>
-    requires linked { originals.old.loaded ≡ parts.old.shared.loaded }
-    requires fit { CanRun originals.old.setup }
-    requires sound { IsSoundIn originals.old.setup (state_of initializing.old parts.old) }
+    requires linked { IsLinked originals.old parts.old.runtime }
+    requires fit { CanRun (setup_in parts.old.runtime originals.old) }
+    requires sound { IsSoundIn (setup_in parts.old.runtime originals.old) (state_of initializing.old parts.old) }
     requires ending { parts.old.ending ≡ None }
     requires executing { initialization_on (length parts.old.frames.frames) initializing.old
         ≡ None }
-    ensures world { originals.new.setup ≡ originals.old.setup }
-    ensures linked { OnOk result (originals.new.loaded ≡ parts.new.shared.loaded) }
+    ensures versions { originals.new.versions ≡ originals.old.versions }
+    ensures world { parts.new.runtime.world ≡ parts.old.runtime.world }
+    ensures linked { OnOk result (IsLinked originals.new parts.new.runtime) }
     ensures some { IfOk result (λ o. is_some o
-        ≡ loads_none originals.old.setup (state_of initializing.old parts.old)) }
+        ≡ loads_none (setup_in parts.old.runtime originals.old) (state_of initializing.old parts.old)) }
     ensures answer { IfOk result (λ o. IfSome o (λ a.
-        a ≡ awaited_in originals.old.setup (state_of initializing.old parts.old))) }
-    ensures state { let w = originals.old.setup in let s = state_of initializing.old parts.old in
+        a ≡ awaited_in (setup_in parts.old.runtime originals.old) (state_of initializing.old parts.old))) }
+    ensures state { let w = setup_in parts.old.runtime originals.old in let s = state_of initializing.old parts.old in
         IfOk result (λ o. IfSome o (λ _.
         state_of initializing.new parts.new ≡ attempts_on w s s.stack)) }
-    ensures loads { let w = originals.old.setup in let s = state_of initializing.old parts.old in
+    ensures loads { let w = setup_in parts.old.runtime originals.old in let s = state_of initializing.old parts.old in
         IfOk result (λ o. IfNone o
         (state_of initializing.new parts.new ≡ with_loaded (loads_in w s) s)) }
 {

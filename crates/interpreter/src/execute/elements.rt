@@ -1,6 +1,6 @@
 //! Elements of arrays: iaload to saload, iastore to sastore (JVM Specification 6.5).
 
-ghost use Rattle.std.specs.Prelude.{◌≡◌, true, false, IfOk, IfSome, IsSome, OnOk, Some, nat_abs};
+ghost use Rattle.std.specs.Prelude.{◌≡◌, true, false, IfOk, IfSome, IsSome, Some, nat_abs};
 ghost use Rattle.std.specs.Fmt.{signed_decimal};
 ghost use Rattle.const_pool.specs.declared.descriptor.Kind.TheVariants.{Int, Ref};
 ghost use Rattle.std.specs.Option.{option_map};
@@ -12,24 +12,23 @@ ghost use Rattle.jvm_basic.specs.Rules.{replaces};
 ghost use Rattle.jvm_model.specs.Basis.Values.{as_value};
 ghost use Rattle.jvm_model.specs.Instructions.ObjectRules.{Inside, access_to, index_in, place_of};
 ghost use Rattle.jvm_model.specs.Instructions.ObjectRules.{serves, serves_object, storing_of};
-ghost use Rattle.interpreter.specs.Instructions.Acts.{IsTop, Becomes, acts_load, acts_store, on_parts};
-ghost use Rattle.interpreter.specs.Instructions.Elements.{access_of, acts_loaded, acts_refused, acts_stored};
-ghost use Rattle.symbolic_references.specs.Objects.{AreLoaded};
+ghost use Rattle.jvm_model.specs.Instructions.ObjectRules.{access_refused, loads_element, stores_element};
+ghost use Rattle.jvm_model.specs.Basis.Data.{Operands};
+ghost use Rattle.frame_stack.specs.FrameLists.{FramesView};
+ghost use Rattle.symbolic_references.specs.Answers.{asked_on};
+ghost use Rattle.symbolic_references.specs.Outcomes.{Asks, HasOperands, HaveOperands, Sets, asked};
+ghost use Rattle.interpreter.specs.Instructions.Elements.{access_of};
 ghost use Rattle.interpreter.specs.Instructions.Elements.{IsLoaded, IsStored, drops_three, element_at, is_number, place_by, storing_by};
-ghost use Rattle.prepared_code.specs.Linked.{linker_in};
-ghost use Rattle.prepared_code.specs.States.{state_in};
-ghost use Rattle.prepared_code.specs.Versions.{listing_of};
 
-use crate::unwind::raising::{break_off, end_unless, raise, raise_with};
 use const_pool::Kind;
 use frame_stack::Frames;
 use heap_objects::{Datum, Element, Heap, Value, element_of};
-use jf_bytes::{NoMemory, Seq};
+use jf_bytes::{NoMemory, Text16};
 use jvm_basic::{Effect, drop_narrow, drop_three, exchange_two, recall, replace_two, value_of};
 use jvm_model::Exception;
-use prepared_code::{Line, Originals, Parts, fits_array, units_of};
+use prepared_code::{Line, Parts, fits_array};
 use std::alloc::Global;
-use symbolic_references::datum_of;
+use symbolic_references::{AbruptCompletion, Outcome, Runtime, datum_of, units_of};
 
 /// Where an array and an index lead: the array is null, or the object none that the instruction
 /// serves, or the index is outside, or it is that of an element.
@@ -123,37 +122,26 @@ fn led_to(heap: &Heap, kind: Kind, place: &ArrayElement) -> Led
 }
 
 /// A number in decimal.
-fn text_of(alloc: Global, n: i32) -> Result<Seq<u16>, NoMemory>
-    ensures { IfOk result (λ units. units ≡ signed_decimal n) }
+fn text_of(alloc: Global, n: i32) -> Result<Text16, NoMemory>
+    ensures { IfOk result (λ text. text ≡ signed_decimal n) }
 {
     let text = n.to_string(alloc)?;
-    units_of(alloc, text.as_bytes())
+    Ok(Text16::new(units_of(alloc, text.as_bytes())?.into_vec()))
 }
 
-/// What becomes of an instruction that is led to no element: an index outside is told.
-fn refuse(
-    alloc: Global,
-    originals: &Originals,
-    parts: &mut Parts,
-    method: u32,
-    line: &Line,
-    led: Led,
-    index: i32,
-) -> Result<(), NoMemory>
-    requires top { IsTop method parts.old.frames.frames }
-    ensures state { Becomes result parts.new
-        (acts_refused originals.now.setup line.now led index) parts.old }
+/// What an instruction asks for that is led to no element: an index outside is told.
+fn refuse(alloc: Global, led: Led, index: i32) -> Result<Outcome, NoMemory>
+    ensures answer { (f : FramesView) → IfOk result
+        (λ a. asked a f ≡ access_refused (access_of led) index) }
+    ensures enough { (o : Operands) → IfOk result (λ a. HasOperands a o) }
 {
     match led {
-        Led::ToNull => raise(originals, parts, Exception::NullPointer),
+        Led::ToNull => Ok(Outcome::Refused(AbruptCompletion::Raises(Exception::NullPointer, None))),
         Led::Outside => {
             let text = text_of(alloc, index)?;
-            raise_with(originals, parts, Exception::IndexOutside, text.as_slice())
+            Ok(Outcome::Refused(AbruptCompletion::Raises(Exception::IndexOutside, Some(text))))
         }
-        Led::ToAnother | Led::Inside(_) => {
-            break_off(parts, method, line.instr.at);
-            Ok(())
-        }
+        Led::ToAnother | Led::Inside(_) => Ok(Outcome::Refused(AbruptCompletion::Breaks)),
     }
 }
 
@@ -235,84 +223,55 @@ fn element_at(heap: &Heap, kind: Kind, place: &ArrayElement) -> Option<Datum>
     heap.get(place.array, place.index as u32)
 }
 
-/// An element takes the place of its array and the index.
-fn load(parts: &mut Parts, method: u32, line: &Line, datum: Datum)
-    requires top { IsTop method parts.old.frames.frames }
-    requires place { IsSome (place_of (top_operands parts.old.frames.frames)) }
-    ensures state { state_in parts.new ≡ on_parts (acts_loaded line.now datum) parts.old }
-{
-    recall(&parts.frames);
-    let effect = replace_two(&mut parts.frames, value_of(datum), line.next);
-    end_unless(parts, method, line.instr.at, effect);
-}
-
 /// Loads an element of an array that instructions of this kind serve.
 pub fn load_element(
     alloc: Global,
-    originals: &Originals,
-    parts: &mut Parts,
-    method: u32,
-    line: &Line,
+    runtime: &Runtime,
+    frames: &Frames,
     kind: Kind,
-) -> Result<(), NoMemory>
-    requires top { IsTop method parts.old.frames.frames }
-    ensures state { Becomes result parts.new
-        (acts_load originals.now.setup line.now kind) parts.old }
+) -> Result<Outcome, NoMemory>
+    ensures answer { IfOk result (λ a. asked a frames.now ≡ asked_on
+        (λ l o. loads_element kind (place_of o) runtime.now.shared l o) frames.now) }
+    ensures enough { HaveOperands result frames.now }
 {
-    let Some(place) = place_of(&parts.frames) else {
-        break_off(parts, method, line.instr.at);
-        return Ok(());
+    let Some(place) = place_of(frames) else {
+        return Ok(Outcome::Refused(AbruptCompletion::Breaks));
     };
-    let Some(datum) = element_at(&parts.shared.heap, kind, &place) else {
-        let led = led_to(&parts.shared.heap, kind, &place);
-        return refuse(alloc, originals, parts, method, line, led, place.index);
-    };
-    load(parts, method, line, datum);
-    Ok(())
-}
-
-/// An element takes the value, whose operands are taken off.
-fn store(parts: &mut Parts, method: u32, line: &Line, array: u32, slot: u32, datum: Datum)
-    requires top { IsTop method parts.old.frames.frames }
-    requires slot { has_slot_at array slot parts.old.shared.heap ≡ true }
-    ensures state { state_in parts.new
-        ≡ on_parts (acts_stored line.now array slot datum) parts.old }
-{
-    parts.shared.heap.put(array, slot, datum);
-    recall(&parts.frames);
-    let effect = drop_three(&mut parts.frames, line.next);
-    end_unless(parts, method, line.instr.at, effect);
+    match element_at(runtime.heap(), kind, &place) {
+        Some(datum) => Ok(Outcome::Goes(2, Some(value_of(datum)))),
+        None => refuse(alloc, led_to(runtime.heap(), kind, &place), place.index),
+    }
 }
 
 /// Stores an element of an array that instructions of this kind serve.
 pub fn store_element(
     alloc: Global,
-    originals: &Originals,
-    parts: &mut Parts,
-    method: u32,
-    line: &Line,
+    runtime: &mut Runtime,
+    frames: &Frames,
     kind: Kind,
-) -> Result<(), NoMemory>
-    requires top { IsTop method parts.old.frames.frames }
-    requires objects { AreLoaded (linker_in originals.now) parts.old.shared.heap }
-    ensures state { Becomes result parts.new
-        (acts_store originals.now.setup line.now kind) parts.old }
+) -> Result<Outcome, NoMemory>
+    ensures answer { let w = runtime.old.world in let s = runtime.old.shared in Asks result
+        (λ l o. stores_element w.program kind (storing_of kind o) s l o) frames.now }
+    ensures runtime { let w = runtime.old.world in let s = runtime.old.shared in Sets result
+        runtime.new (λ l o. stores_element w.program kind (storing_of kind o) s l o) frames.now
+        runtime.old }
+    ensures enough { HaveOperands result frames.now }
+    ensures world { runtime.new.world ≡ runtime.old.world }
+    ensures same_loaded { runtime.new.shared.loaded ≡ runtime.old.shared.loaded }
 {
-    let Some(storing) = storing_of(&parts.frames, kind) else {
-        break_off(parts, method, line.instr.at);
-        return Ok(());
+    let Some(storing) = storing_of(frames, kind) else {
+        return Ok(Outcome::Refused(AbruptCompletion::Breaks));
     };
     let place = storing.place;
-    let led = led_to(&parts.shared.heap, kind, &place);
+    let led = led_to(runtime.heap(), kind, &place);
     let Led::Inside(slot) = led else {
-        return refuse(alloc, originals, parts, method, line, led, place.index);
+        return refuse(alloc, led, place.index);
     };
-    let linker = originals.linker();
-    if !fits_array(linker, &parts.shared.heap, storing.datum, place.array) {
-        return raise(originals, parts, Exception::ArrayStore);
+    if !fits_array(runtime.linker(), runtime.heap(), storing.datum, place.array) {
+        return Ok(Outcome::Refused(AbruptCompletion::Raises(Exception::ArrayStore, None)));
     }
-    store(parts, method, line, place.array, slot, storing.datum);
-    Ok(())
+    runtime.store_at(place.array, slot, storing.datum);
+    Ok(Outcome::Goes(3, None))
 }
 
 // ---- where nothing is raised
@@ -429,7 +388,7 @@ pub fn pass_load(parts: &mut Parts, line: &Line, kind: Kind) -> bool
     let Some(place) = place_of(&parts.frames) else {
         return false;
     };
-    let Some(datum) = element_for(&parts.shared.heap, kind, &place) else {
+    let Some(datum) = element_for(parts.runtime.heap(), kind, &place) else {
         return false;
     };
     let effect = put_element(&mut parts.frames, datum, line.next);
@@ -474,7 +433,7 @@ pub fn pass_store(parts: &mut Parts, line: &Line, kind: Kind) -> bool
     if !is_number(storing.datum) {
         return false;
     }
-    let Some(slot) = slot_for(&parts.shared.heap, kind, &storing.place) else {
+    let Some(slot) = slot_for(parts.runtime.heap(), kind, &storing.place) else {
         return false;
     };
     recall(&parts.frames);
@@ -483,8 +442,7 @@ pub fn pass_store(parts: &mut Parts, line: &Line, kind: Kind) -> bool
         return false;
     }
     parts
-        .shared
-        .heap
-        .put(storing.place.array, slot, storing.datum);
+        .runtime
+        .store_at(storing.place.array, slot, storing.datum);
     true
 }

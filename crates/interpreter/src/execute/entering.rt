@@ -23,7 +23,7 @@ pub fn enter(
     requires few { length frames.old.frames < 4294967295 }
     ensures answer { result ≡ can_enter max_locals args frames.old.frames }
     ensures frames { frames.new ≡ changed_if result
-        (with_version_frame originals.now.setup.versions method max_locals max_stack args)
+        (with_version_frame originals.now.versions method max_locals max_stack args)
         frames.old }
 {
     let version = originals.current(method);

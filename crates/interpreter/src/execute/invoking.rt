@@ -10,15 +10,17 @@ ghost use Rattle.interpreter.specs.Instructions.Arguments.{can_begin, with_begun
 ghost use Rattle.interpreter.specs.Instructions.Arguments.{taken_slots};
 ghost use Rattle.interpreter.specs.Instructions.Invoking.{method_called, may_begin};
 ghost use Rattle.prepared_code.specs.States.{state_in};
+ghost use Rattle.prepared_code.specs.Linked.{setup_in};
 
+use crate::execute::asking::raise_named;
 use crate::execute::entering::enter;
-use crate::unwind::raising::{break_at, raise, raise_with};
+use crate::unwind::raising::{break_at, break_off, raise};
 use frame_stack::Frames;
 use heap_objects::Value;
 use jf_bytes::NoMemory;
 use jvm_model::Exception;
 use prepared_code::{Here, Originals, Parts};
-use std::alloc::Global;
+use symbolic_references::{AbruptCompletion, Runtime};
 
 /// How many activations are live at most.
 const MOST_LIVE: u32 = 1024;
@@ -36,19 +38,20 @@ pub fn may_begin(frames: &Frames) -> bool
 /// nothing changed, where they are fewer or do not fit into the locals.
 pub fn begin_frame(
     originals: &Originals,
+    runtime: &Runtime,
     frames: &mut Frames,
     method: u32,
     args: u16,
 ) -> Result<bool, NoMemory>
     requires { may_begin frames.old.frames ≡ true }
     ensures answer { IfOk result (λ b.
-        b ≡ can_begin originals.now.setup method args frames.old.frames) }
+        b ≡ can_begin runtime.now.world method args frames.old.frames) }
     ensures frames { IfOk result (λ b. frames.new.frames ≡
-        with_begun b originals.now.setup method args frames.old.frames) }
+        with_begun b (setup_in runtime.now originals.now) method args frames.old.frames) }
     ensures err { OnErr result (frames.new.frames ≡ frames.old.frames) }
 {
-    let max_locals = originals.max_locals(method);
-    let max_stack = originals.max_stack(method);
+    let max_locals = runtime.max_locals(method);
+    let max_stack = runtime.max_stack(method);
     frames.reserve(max_locals, max_stack)?;
     Ok(enter(originals, frames, method, max_locals, max_stack, args))
 }
@@ -80,11 +83,11 @@ fn taken_slots(frames: &Frames, args: u16) -> Option<u32>
 }
 
 /// Whether so many of the topmost operands are there, and fit into a method's locals.
-fn can_begin(originals: &Originals, frames: &Frames, method: u32, args: u16) -> bool
-    ensures { result ≡ can_begin originals.now.setup method args frames.now.frames }
+fn can_begin(runtime: &Runtime, frames: &Frames, method: u32, args: u16) -> bool
+    ensures { result ≡ can_begin runtime.now.world method args frames.now.frames }
 {
     match taken_slots(frames, args) {
-        Some(slots) => slots <= u32::from(originals.max_locals(method)),
+        Some(slots) => slots <= u32::from(runtime.max_locals(method)),
         None => false,
     }
 }
@@ -93,22 +96,21 @@ fn can_begin(originals: &Originals, frames: &Frames, method: u32, args: u16) -> 
 
 /// Begins a method with so many arguments: its caller stays at the line without them.
 fn begin(
-    alloc: Global,
     originals: &Originals,
     parts: &mut Parts,
-    here: Here,
+    method: u32,
+    own: u16,
     callee: u32,
     args: u16,
 ) -> Result<(), NoMemory>
     requires few { may_begin parts.old.frames.frames ≡ true }
-    ensures { let fs = parts.old.frames.frames in
-        OnOk result (state_in parts.new
-        ≡ method_called originals.now.setup here callee args fs parts.old
-        true (can_begin originals.now.setup callee args fs)) }
+    ensures state { let w = setup_in parts.old.runtime originals.now in
+        let fs = parts.old.frames.frames in OnOk result (state_in parts.new
+        ≡ method_called w method own callee args fs parts.old true (can_begin w.world callee args fs)) }
+    ensures runtime { parts.new.runtime ≡ parts.old.runtime }
 {
-    let begun = begin_frame(originals, &mut parts.frames, callee, args)?;
-    if !begun {
-        return break_at(alloc, originals, parts, here);
+    if !begin_frame(originals, &parts.runtime, &mut parts.frames, callee, args)? {
+        break_off(parts, method, own);
     }
     Ok(())
 }
@@ -116,54 +118,61 @@ fn begin(
 /// No more activation may be live: where the arguments fit, StackOverflowError is thrown at the
 /// caller, whose operands stay.
 fn overflow(
-    alloc: Global,
     originals: &Originals,
     parts: &mut Parts,
-    here: Here,
+    method: u32,
+    own: u16,
     callee: u32,
     args: u16,
 ) -> Result<(), NoMemory>
-    ensures { let fs = parts.old.frames.frames in
-        OnOk result (state_in parts.new
-        ≡ method_called originals.now.setup here callee args fs parts.old
-        false (can_begin originals.now.setup callee args fs)) }
+    ensures state { let w = setup_in parts.old.runtime originals.now in
+        let fs = parts.old.frames.frames in OnOk result (state_in parts.new
+        ≡ method_called w method own callee args fs parts.old false (can_begin w.world callee args fs)) }
+    ensures world { parts.new.runtime.world ≡ parts.old.runtime.world }
+    ensures same_loaded { parts.new.runtime.shared.loaded ≡ parts.old.runtime.shared.loaded }
 {
-    if can_begin(originals, &parts.frames, callee, args) {
-        return raise(originals, parts, Exception::StackOverflow);
+    if can_begin(&parts.runtime, &parts.frames, callee, args) {
+        return raise(parts, Exception::StackOverflow);
     }
-    break_at(alloc, originals, parts, here)
+    break_off(parts, method, own);
+    Ok(())
 }
 
-/// Begins a method with so many arguments, unless that were one activation too many.
+/// Begins a method with so many arguments, unless that were one activation too many. Where they don't fit the run ends at this offset
+/// of the caller's method.
 pub fn call(
-    alloc: Global,
     originals: &Originals,
     parts: &mut Parts,
-    here: Here,
+    method: u32,
+    own: u16,
     callee: u32,
     args: u16,
 ) -> Result<(), NoMemory>
-    ensures { let fs = parts.old.frames.frames in
-        OnOk result (state_in parts.new
-        ≡ method_called originals.now.setup here callee args fs parts.old
-        (may_begin fs) (can_begin originals.now.setup callee args fs)) }
+    ensures state { let w = setup_in parts.old.runtime originals.now in
+        let fs = parts.old.frames.frames in OnOk result (state_in parts.new
+        ≡ method_called w method own callee args fs parts.old (may_begin fs)
+        (can_begin w.world callee args fs)) }
+    ensures world { parts.new.runtime.world ≡ parts.old.runtime.world }
+    ensures same_loaded { parts.new.runtime.shared.loaded ≡ parts.old.runtime.shared.loaded }
 {
     if may_begin(&parts.frames) {
-        begin(alloc, originals, parts, here, callee, args)
+        begin(originals, parts, method, own, callee, args)
     } else {
-        overflow(alloc, originals, parts, here, callee, args)
+        overflow(originals, parts, method, own, callee, args)
     }
 }
 
 // ---- a class that can not be used
 
 /// NoClassDefFoundError, with the name of the class.
-pub fn raise_unusable(originals: &Originals, parts: &mut Parts, class: u32) -> Result<(), NoMemory>
-    ensures { let w = originals.now.setup in OnOk result
-        (parts.new ≡ raising w NoClassDefinition (name_at w.world.program class) parts.old) }
+pub fn raise_unusable(parts: &mut Parts, class: u32) -> Result<(), NoMemory>
+    ensures state { let w = parts.old.runtime.world in OnOk result
+        (parts.new ≡ raising w NoClassDefinition (name_at w.program class) parts.old) }
+    ensures world { parts.new.runtime.world ≡ parts.old.runtime.world }
 {
-    match originals.linker().index().name_at(class) {
-        Some(name) => raise_with(originals, parts, Exception::NoClassDefinition, name.units()),
-        None => raise(originals, parts, Exception::NoClassDefinition),
+    match parts.runtime.unusable(class)? {
+        AbruptCompletion::Raises(exception, message) => raise_named(parts, exception, message),
+        // None of these comes.
+        _ => Err(NoMemory),
     }
 }

@@ -1,33 +1,26 @@
 //! monitorenter and monitorexit (JVM Specification 6.5): of one thread nothing but the null check
 //! is left.
 
-ghost use Rattle.std.specs.Prelude.{◌≡◌, OnOk};
-ghost use Rattle.interpreter.specs.Instructions.Acts.{IsTop, Becomes, acts_monitor};
+ghost use Rattle.std.specs.Prelude.{◌≡◌};
+ghost use Rattle.frame_stack.specs.FrameLists.{top_operands};
+ghost use Rattle.jvm_model.specs.Basis.Values.{ref_of};
+ghost use Rattle.jvm_model.specs.Instructions.ObjectRules.{watches};
+ghost use Rattle.symbolic_references.specs.Answers.{asked_on};
+ghost use Rattle.symbolic_references.specs.Outcomes.{HasOperands, asked};
 
-use crate::unwind::raising::{break_off, end_unless, raise};
-use jf_bytes::NoMemory;
-use jvm_basic::{drop_one, ref_of};
+use frame_stack::Frames;
+use jvm_basic::ref_of;
 use jvm_model::Exception;
-use prepared_code::{Line, Originals, Parts};
+use symbolic_references::{AbruptCompletion, Outcome};
 
 /// Takes the object off.
-pub fn watch(
-    originals: &Originals,
-    parts: &mut Parts,
-    method: u32,
-    line: &Line,
-) -> Result<(), NoMemory>
-    requires top { IsTop method parts.old.frames.frames }
-    ensures state { Becomes result parts.new (acts_monitor originals.now.setup line.now) parts.old }
+pub fn watch(frames: &Frames) -> Outcome
+    ensures answer { asked result frames.now ≡ asked_on (λ l o. watches (ref_of o) l o) frames.now }
+    ensures enough { HasOperands result (top_operands frames.now.frames) }
 {
-    let Some(reference) = ref_of(&parts.frames) else {
-        break_off(parts, method, line.instr.at);
-        return Ok(());
-    };
-    if reference == 0 {
-        return raise(originals, parts, Exception::NullPointer);
+    match ref_of(frames) {
+        Some(0) => Outcome::Refused(AbruptCompletion::Raises(Exception::NullPointer, None)),
+        Some(_) => Outcome::Goes(1, None),
+        None => Outcome::Refused(AbruptCompletion::Breaks),
     }
-    let effect = drop_one(&mut parts.frames, line.next);
-    end_unless(parts, method, line.instr.at, effect);
-    Ok(())
 }

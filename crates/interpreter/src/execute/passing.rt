@@ -12,14 +12,13 @@ ghost use Rattle.jvm_model.specs.Basis.Values.{as_value};
 ghost use Rattle.jvm_model.specs.Rewriting.Images.{is_off};
 ghost use Rattle.jvm_model.specs.declared.due.Due.TheVariants as due;
 ghost use Rattle.symbolic_references.specs.Known.{IsKnown};
-ghost use Rattle.symbolic_references.specs.Passing.{IfRan, runs_native_call};
+ghost use Rattle.symbolic_references.specs.Passing.{runs_native_call};
 ghost use Rattle.prepared_code.specs.declared.line.Action.TheVariants as action;
 ghost use Rattle.interpreter.specs.Instructions.Arguments.{can_begin, with_begun};
 ghost use Rattle.interpreter.specs.Instructions.Invoking.{may_begin};
-ghost use Rattle.prepared_code.specs.Linked.{linker_in};
 ghost use Rattle.prepared_code.specs.Initializations.{state_of};
 ghost use Rattle.interpreter.specs.Instructions.Passing.{Passes, is_method, on_frames};
-ghost use Rattle.interpreter.specs.Instructions.Passing.{changed_in, steps_if, with_changed};
+ghost use Rattle.interpreter.specs.Instructions.Passing.{steps_if};
 ghost use Rattle.prepared_code.specs.Ready.{CanRun, IsSoundIn};
 ghost use Rattle.prepared_code.specs.Runs.{IsAtInstruction, IsLineIn, RunsVersion};
 ghost use Rattle.prepared_code.specs.States.{here_of};
@@ -29,6 +28,8 @@ ghost use Rattle.interpreter.specs.Moves.Onward.{begun_due, is_telling, made_if}
 ghost use Rattle.method_versions.specs.Tables.{is_superseded_in};
 ghost use Rattle.prepared_code.specs.Tables.{version_at};
 ghost use Rattle.prepared_code.specs.Versions.{current_of, line_at, mark_of};
+ghost use Rattle.prepared_code.specs.Linked.{IsLinked, setup_in};
+ghost use Rattle.symbolic_references.specs.Runtimes.{linker_in};
 
 use crate::execute::arrays::pass_length;
 use crate::execute::going::{top_datum, value_of};
@@ -48,10 +49,7 @@ use prepared_code::{
     Action, Here, Initialization, Line, Originals, Parts, Version, initialization_on, next_in,
     where_now,
 };
-use std::alloc::Global;
-use symbolic_references::{
-    Call, Found, Invoked, Known, NativeCall, known_call, pass_field, pass_native,
-};
+use symbolic_references::{Call, Found, Invoked, Known};
 
 // ---- a call
 
@@ -69,51 +67,22 @@ fn begun_due(marked: bool) -> Due
 fn begin_call(originals: &Originals, parts: &mut Parts, call: Call) -> Option<Due>
     ensures few { is_some result ≡ true → may_begin parts.old.frames.frames ≡ true }
     ensures fits { is_some result ≡ true
-        → can_begin originals.now.setup call.method call.count parts.old.frames.frames ≡ true }
-    ensures due { let v = originals.now.setup.versions in IfSome result (λ due.
+        → can_begin parts.old.runtime.world call.method call.count parts.old.frames.frames ≡ true }
+    ensures due { let v = originals.now.versions in IfSome result (λ due.
         due ≡ begun_due (not (is_off (mark_of v (current_of v call.method))))) }
     ensures frames { parts.new.frames.frames ≡ with_begun
-        (is_some result) originals.now.setup call.method call.count parts.old.frames.frames }
+        (is_some result) (setup_in parts.old.runtime originals.now) call.method call.count parts.old.frames.frames }
     ensures same { parts.new ≡ on_frames parts.new.frames parts.old }
 {
     if !may_begin(&parts.frames) {
         return None;
     }
     let due = begun_due(is_marked(originals, originals.current(call.method)));
-    match begin_frame(originals, &mut parts.frames, call.method, call.count) {
+    match begin_frame(originals, &parts.runtime, &mut parts.frames, call.method, call.count) {
         Ok(true) => Some(due),
         Ok(false) => None,
         Err(_) => None,
     }
-}
-
-/// A native method of a built-in class. False, with nothing changed, where it raises anything.
-fn do_native(
-    alloc: Global,
-    originals: &Originals,
-    parts: &mut Parts,
-    native: NativeCall,
-    next: u16,
-) -> bool
-    requires stands { IsSome (slice_get native_methods native.number) }
-    requires within { native.count ≤ length (top_operands parts.old.frames.frames) }
-    requires linked { originals.now.loaded ≡ parts.old.shared.loaded }
-    ensures ran { let w = originals.now.setup.world in
-        let d = runs_native_call w native parts.old.shared parts.old.frames.frames in
-        IfRan result d next (changed_in parts.old) (changed_in parts.new) }
-    ensures same { parts.new ≡ with_changed (changed_in parts.new) parts.old }
-{
-    let linker = originals.linker();
-    pass_native(
-        alloc,
-        linker,
-        &mut parts.shared,
-        &mut parts.frames,
-        originals.input(),
-        &mut parts.output,
-        native,
-        next,
-    )
 }
 
 /// Whether a step was made, as what is due behind it.
@@ -126,7 +95,6 @@ fn made_if(done: bool) -> Option<Due>
 
 /// An invocation by what its names came to.
 fn pass_call(
-    alloc: Global,
     originals: &Originals,
     parts: &mut Parts,
     initializing: &Stack<Initialization>,
@@ -135,28 +103,24 @@ fn pass_call(
     reference: &SymbolicReference,
     known: &Known,
 ) -> Option<Due>
-    requires run { CanRun originals.now.setup }
-    requires linked { originals.now.loaded ≡ parts.old.shared.loaded }
-    requires sound { IsSoundIn originals.now.setup (state_of initializing.now parts.old) }
+    requires run { CanRun (setup_in parts.old.runtime originals.now) }
+    requires linked { IsLinked originals.now parts.old.runtime }
+    requires sound { IsSoundIn (setup_in parts.old.runtime originals.now) (state_of initializing.now parts.old) }
     requires at_instruction { IsAtInstruction
         (length parts.old.frames.frames) initializing.now parts.old }
     requires here { here_of parts.old.frames.frames ≡ Some here }
-    requires line { line_at originals.now.setup.versions here.version here.place ≡ Some line.now }
+    requires line { line_at originals.now.versions here.version here.place ≡ Some line.now }
     requires named { line.now.action ≡ action.Named reference.now }
-    requires known { IsKnown (linker_in originals.now) reference.now known.now }
-    ensures { GoesOnward originals.now.setup initializing.now parts.old result parts.new }
+    requires known { IsKnown (linker_in parts.old.runtime) reference.now known.now }
+    ensures { GoesOnward (setup_in parts.old.runtime originals.now) initializing.now parts.old result parts.new }
 {
-    let linker = originals.linker();
-    let selections = originals.selections();
-    let shared = &parts.shared;
-    let frames = &parts.frames;
-    let Some(invoked) = known_call(linker, selections, shared, frames, reference, known) else {
+    let Some(invoked) = parts.runtime.known_call(&parts.frames, reference, known) else {
         return None;
     };
     match invoked {
         Invoked::Code(call) => begin_call(originals, parts, call),
         Invoked::Native(native) => {
-            made_if(do_native(alloc, originals, parts, native, line.next))
+            made_if(parts.runtime.pass_native(&mut parts.frames, native, line.next))
         }
     }
 }
@@ -165,7 +129,6 @@ fn pass_call(
 
 /// An access of a field by what its names came to.
 fn pass_access(
-    alloc: Global,
     originals: &Originals,
     parts: &mut Parts,
     initializing: &Stack<Initialization>,
@@ -174,27 +137,20 @@ fn pass_access(
     reference: &SymbolicReference,
     known: &Known,
 ) -> bool
-    requires run { CanRun originals.now.setup }
-    requires linked { originals.now.loaded ≡ parts.old.shared.loaded }
-    requires sound { IsSoundIn originals.now.setup (state_of initializing.now parts.old) }
+    requires run { CanRun (setup_in parts.old.runtime originals.now) }
+    requires linked { IsLinked originals.now parts.old.runtime }
+    requires sound { IsSoundIn (setup_in parts.old.runtime originals.now) (state_of initializing.now parts.old) }
     requires at_instruction { IsAtInstruction
         (length parts.old.frames.frames) initializing.now parts.old }
     requires here { here_of parts.old.frames.frames ≡ Some here }
-    requires line { line_at originals.now.setup.versions here.version here.place ≡ Some line.now }
+    requires line { line_at originals.now.versions here.version here.place ≡ Some line.now }
     requires named { line.now.action ≡ action.Named reference.now }
-    requires known { IsKnown (linker_in originals.now) reference.now known.now }
-    ensures { Passes originals.now.setup initializing.now parts.old (steps_if result) parts.new }
+    requires known { IsKnown (linker_in parts.old.runtime) reference.now known.now }
+    ensures { Passes (setup_in parts.old.runtime originals.now) initializing.now parts.old (steps_if result) parts.new }
 {
-    let linker = originals.linker();
-    pass_field(
-        alloc,
-        linker,
-        &mut parts.shared,
-        &mut parts.frames,
-        reference,
-        line.next,
-        known,
-    )
+    parts
+        .runtime
+        .pass_field(&mut parts.frames, reference, line.next, known)
 }
 
 /// arraylength.
@@ -205,13 +161,13 @@ fn pass_measure(
     here: Here,
     line: &Line,
 ) -> bool
-    requires run { CanRun originals.now.setup }
+    requires run { CanRun (setup_in parts.old.runtime originals.now) }
     requires at_instruction { IsAtInstruction
         (length parts.old.frames.frames) initializing.now parts.old }
     requires here { here_of parts.old.frames.frames ≡ Some here }
-    requires line { line_at originals.now.setup.versions here.version here.place ≡ Some line.now }
+    requires line { line_at originals.now.versions here.version here.place ≡ Some line.now }
     requires measures { line.now.action ≡ action.Arraylength }
-    ensures { Passes originals.now.setup initializing.now parts.old (steps_if result) parts.new }
+    ensures { Passes (setup_in parts.old.runtime originals.now) initializing.now parts.old (steps_if result) parts.new }
 {
     pass_length(parts, line)
 }
@@ -250,8 +206,8 @@ pub fn goes_back(
     frames: &Frames,
     initializing: &Stack<Initialization>,
 ) -> Option<u16>
-    ensures { let w = originals.now.setup in
-        IfSome result (λ next. GoesBack w initializing.now frames.now.frames next) }
+    ensures { IfSome result (λ next.
+        GoesBack originals.now.versions initializing.now frames.now.frames next) }
 {
     let depth = frames.depth();
     if depth < 2 {
@@ -308,19 +264,19 @@ pub fn leave(
     line: &Line,
     kind: Option<Kind>,
 ) -> bool
-    requires run { CanRun originals.now.setup }
+    requires run { CanRun (setup_in parts.old.runtime originals.now) }
     requires at_instruction { IsAtInstruction
         (length parts.old.frames.frames) initializing.now parts.old }
     requires here { here_of parts.old.frames.frames ≡ Some here }
-    requires runs { version_at originals.now.setup.versions here.version ≡ Some version.now }
-    requires line { line_at originals.now.setup.versions here.version here.place ≡ Some line.now }
+    requires runs { version_at originals.now.versions here.version ≡ Some version.now }
+    requires line { line_at originals.now.versions here.version here.place ≡ Some line.now }
     requires ends { line.now.action ≡ action.Return kind }
-    ensures delivered { let w = originals.now.setup in
+    ensures delivered { let w = setup_in parts.old.runtime originals.now in
         TriesIf result w initializing.now true parts.old due.Nothing parts.new }
     ensures calm { result ≡ true → IsAtInstruction
         (length parts.new.frames.frames) initializing.now parts.new }
     // Where the version has no probes nothing is told of it.
-    ensures silent { let w = originals.now.setup in is_off (mark_of w.versions here.version) ≡ true
+    ensures silent { let w = setup_in parts.old.runtime originals.now in is_off (mark_of w.versions here.version) ≡ true
         → Passes w initializing.now parts.old (steps_if result) parts.new }
 {
     if !begins_in(originals, version, here.version) {
@@ -346,14 +302,14 @@ fn pass_return(
     line: &Line,
     kind: Option<Kind>,
 ) -> Option<Due>
-    requires run { CanRun originals.now.setup }
+    requires run { CanRun (setup_in parts.old.runtime originals.now) }
     requires at_instruction { IsAtInstruction
         (length parts.old.frames.frames) initializing.now parts.old }
     requires here { here_of parts.old.frames.frames ≡ Some here }
-    requires runs { version_at originals.now.setup.versions here.version ≡ Some version.now }
-    requires line { line_at originals.now.setup.versions here.version here.place ≡ Some line.now }
+    requires runs { version_at originals.now.versions here.version ≡ Some version.now }
+    requires line { line_at originals.now.versions here.version here.place ≡ Some line.now }
     requires ends { line.now.action ≡ action.Return kind }
-    ensures { GoesOnward originals.now.setup initializing.now parts.old result parts.new }
+    ensures { GoesOnward (setup_in parts.old.runtime originals.now) initializing.now parts.old result parts.new }
 {
     if is_probed(version) {
         return Some(Due::Ends(EventKind::Leave));
@@ -371,19 +327,19 @@ fn pass_throw(
     here: Here,
     line: &Line,
 ) -> bool
-    requires run { CanRun originals.now.setup }
+    requires run { CanRun (setup_in parts.old.runtime originals.now) }
     requires at_instruction { IsAtInstruction
         (length parts.old.frames.frames) initializing.now parts.old }
     requires here { here_of parts.old.frames.frames ≡ Some here }
-    requires line { line_at originals.now.setup.versions here.version here.place ≡ Some line.now }
+    requires line { line_at originals.now.versions here.version here.place ≡ Some line.now }
     requires throws { line.now.action ≡ action.Athrow }
-    ensures { Passes originals.now.setup initializing.now parts.old (steps_if result) parts.new }
+    ensures { Passes (setup_in parts.old.runtime originals.now) initializing.now parts.old (steps_if result) parts.new }
 {
-    let Some(object) = thrown_object(originals, &parts.shared, &parts.frames) else {
+    let Some(object) = thrown_object(&parts.runtime, &parts.frames) else {
         return false;
     };
-    let class = class_of(originals.program(), &parts.shared.heap, object) as usize;
-    let Some(target) = caught_below(originals, &parts.frames, initializing, here, class) else {
+    let class = class_of(&parts.runtime, object) as usize;
+    let Some(target) = caught_below(originals, &parts.runtime, &parts.frames, initializing, here, class) else {
         return false;
     };
     catch_below(&mut parts.frames, object, target)
@@ -405,7 +361,6 @@ pub fn is_method(known: &Known) -> bool
 
 /// A step by a line that names something. Nothing of the run is changed where the answer is None.
 fn pass_named(
-    alloc: Global,
     originals: &Originals,
     parts: &mut Parts,
     initializing: &Stack<Initialization>,
@@ -413,22 +368,21 @@ fn pass_named(
     line: &Line,
     reference: &SymbolicReference,
 ) -> Option<Due>
-    requires run { CanRun originals.now.setup }
-    requires linked { originals.now.loaded ≡ parts.old.shared.loaded }
-    requires sound { IsSoundIn originals.now.setup (state_of initializing.now parts.old) }
+    requires run { CanRun (setup_in parts.old.runtime originals.now) }
+    requires linked { IsLinked originals.now parts.old.runtime }
+    requires sound { IsSoundIn (setup_in parts.old.runtime originals.now) (state_of initializing.now parts.old) }
     requires at_instruction { IsAtInstruction
         (length parts.old.frames.frames) initializing.now parts.old }
     requires here { here_of parts.old.frames.frames ≡ Some here }
-    requires line { line_at originals.now.setup.versions here.version here.place ≡ Some line.now }
+    requires line { line_at originals.now.versions here.version here.place ≡ Some line.now }
     requires named { line.now.action ≡ action.Named reference.now }
-    ensures { GoesOnward originals.now.setup initializing.now parts.old result parts.new }
+    ensures { GoesOnward (setup_in parts.old.runtime originals.now) initializing.now parts.old result parts.new }
 {
     let Some(known) = originals.known(here.version, here.place) else {
         return None;
     };
     if is_method(known) {
         return pass_call(
-            alloc,
             originals,
             parts,
             initializing,
@@ -439,7 +393,6 @@ fn pass_named(
         );
     }
     made_if(pass_access(
-        alloc,
         originals,
         parts,
         initializing,
@@ -454,28 +407,26 @@ fn pass_named(
 /// and nothing where the step is made. Nothing of the run is changed where the answer is None: the line does something else, or raises
 /// something, or nothing is known of its names.
 fn pass_line(
-    alloc: Global,
     originals: &Originals,
     parts: &mut Parts,
     initializing: &Stack<Initialization>,
     version: &Version,
     line: &Line,
 ) -> Option<Due>
-    requires run { CanRun originals.now.setup }
-    requires linked { originals.now.loaded ≡ parts.old.shared.loaded }
-    requires sound { IsSoundIn originals.now.setup (state_of initializing.now parts.old) }
+    requires run { CanRun (setup_in parts.old.runtime originals.now) }
+    requires linked { IsLinked originals.now parts.old.runtime }
+    requires sound { IsSoundIn (setup_in parts.old.runtime originals.now) (state_of initializing.now parts.old) }
     requires at_instruction { IsAtInstruction
         (length parts.old.frames.frames) initializing.now parts.old }
-    requires runs { RunsVersion originals.now.setup version.now parts.old.frames.frames }
+    requires runs { RunsVersion (setup_in parts.old.runtime originals.now) version.now parts.old.frames.frames }
     requires stands { IsLineIn version.now parts.old.frames.frames line.now }
-    ensures { GoesOnward originals.now.setup initializing.now parts.old result parts.new }
+    ensures { GoesOnward (setup_in parts.old.runtime originals.now) initializing.now parts.old result parts.new }
 {
     let Some(here) = where_now(&parts.frames) else {
         return None;
     };
     match &line.action {
         Action::Named(reference) => pass_named(
-            alloc,
             originals,
             parts,
             initializing,
@@ -523,21 +474,20 @@ fn passed_there(due: Due) -> u64
 /// Steps from which nothing follows, and of which nothing is told, at most so many, and up to what a probe tells of the next one: what
 /// is due there, if it does. How many were made is put beside it, since a record would be copied with its gaps.
 fn pass_to(
-    alloc: Global,
     originals: &Originals,
     parts: &mut Parts,
     initializing: &Stack<Initialization>,
     most: u64,
     count: &mut u64,
 ) -> Option<Due>
-    requires run { CanRun originals.now.setup }
-    requires linked { originals.now.loaded ≡ parts.old.shared.loaded }
-    requires sound { IsSoundIn originals.now.setup (state_of initializing.now parts.old) }
+    requires run { CanRun (setup_in parts.old.runtime originals.now) }
+    requires linked { IsLinked originals.now parts.old.runtime }
+    requires sound { IsSoundIn (setup_in parts.old.runtime originals.now) (state_of initializing.now parts.old) }
     requires at_instruction { IsAtInstruction
         (length parts.old.frames.frames) initializing.now parts.old }
     ensures within { count.new ≤ most }
     ensures below { IfSome result (λ due. count.new < most) }
-    ensures made { let w = originals.now.setup in
+    ensures made { let w = setup_in parts.old.runtime originals.now in
         ComesTo w initializing.now parts.old count.new result parts.new }
 {
     let mut made = 0;
@@ -553,7 +503,7 @@ fn pass_to(
             *count = made;
             return None;
         };
-        let Some(due) = pass_line(alloc, originals, parts, initializing, version, line) else {
+        let Some(due) = pass_line(originals, parts, initializing, version, line) else {
             *count = made;
             return None;
         };
@@ -571,23 +521,22 @@ fn pass_to(
 /// them, and a probe tells of it, it goes on to there.
 #[inline(always)]
 pub fn pass_steps(
-    alloc: Global,
     originals: &Originals,
     parts: &mut Parts,
     initializing: &Stack<Initialization>,
     most: u64,
 ) -> Passed
-    requires run { CanRun originals.now.setup }
-    requires linked { originals.now.loaded ≡ parts.old.shared.loaded }
-    requires sound { IsSoundIn originals.now.setup (state_of initializing.now parts.old) }
+    requires run { CanRun (setup_in parts.old.runtime originals.now) }
+    requires linked { IsLinked originals.now parts.old.runtime }
+    requires sound { IsSoundIn (setup_in parts.old.runtime originals.now) (state_of initializing.now parts.old) }
     requires at_instruction { IsAtInstruction
         (length parts.old.frames.frames) initializing.now parts.old }
     ensures within { result.made ≤ most }
     ensures below { IfSome result.gone (λ gone. result.made < most) }
-    ensures made { PassesOnward originals.now.setup initializing.now parts.old result parts.new }
+    ensures made { PassesOnward (setup_in parts.old.runtime originals.now) initializing.now parts.old result parts.new }
 {
     let mut made = 0;
-    match pass_to(alloc, originals, parts, initializing, most, &mut made) {
+    match pass_to(originals, parts, initializing, most, &mut made) {
         Some(due) => Passed {
             made,
             gone: Some(gone_to(due, passed_there(due))),

@@ -14,6 +14,7 @@ ghost use Rattle.interpreter.specs.Instructions.Elements.{IsLoaded, IsPassed, Is
 ghost use Rattle.prepared_code.specs.Ready.{CanRun};
 ghost use Rattle.prepared_code.specs.Runs.{LeadsAlone, RunsVersion, IsLineIn, top_version};
 ghost use Rattle.prepared_code.specs.Versions.{ArePrepared, IsPrepared, Setup};
+ghost use Rattle.prepared_code.specs.Linked.{setup_in};
 
 use crate::execute::elements::{pass_load, pass_store};
 use const_pool::Kind;

@@ -5,6 +5,7 @@ ghost use Rattle.frame_stack.specs.FrameLists.{top_operands};
 ghost use Rattle.interpreter.specs.Instructions.Acts.{IsTop, acts_end, acts_return, gives_back_line, on_parts};
 ghost use Rattle.interpreter.specs.Instructions.Returning.{gives_back_by, has_result, left_by, returns_given};
 ghost use Rattle.prepared_code.specs.States.{state_in};
+ghost use Rattle.prepared_code.specs.Linked.{setup_in};
 
 use crate::execute::going::{resume, top_datum};
 use crate::unwind::raising::{break_off, end_unless};
@@ -20,6 +21,7 @@ use std::alloc::Global;
 fn give_back_by(parts: &mut Parts, passage: Option<Passage>, datum: Option<Datum>)
     ensures state { let s = state_in parts.old in
         state_in parts.new ≡ gives_back_by s datum passage s.stack }
+    ensures runtime { parts.new.runtime ≡ parts.old.runtime }
 {
     let Some(caller) = where_now(&parts.frames) else {
         return;
@@ -39,7 +41,8 @@ fn give_back(
     datum: Option<Datum>,
 ) -> Result<(), NoMemory>
     ensures state { let s = state_in parts.old in OnOk result
-        (state_in parts.new ≡ gives_back_line originals.now.setup.versions s datum s.stack) }
+        (state_in parts.new ≡ gives_back_line originals.now.versions s datum s.stack) }
+    ensures runtime { parts.new.runtime ≡ parts.old.runtime }
 {
     let Some(caller) = where_now(&parts.frames) else {
         return Ok(());
@@ -57,7 +60,8 @@ fn return_with(
     datum: Option<Datum>,
 ) -> Result<(), NoMemory>
     ensures state { let s = left_by parts.old in OnOk result
-        (state_in parts.new ≡ gives_back_line originals.now.setup.versions s datum s.stack) }
+        (state_in parts.new ≡ gives_back_line originals.now.versions s datum s.stack) }
+    ensures runtime { parts.new.runtime ≡ parts.old.runtime }
 {
     parts.frames.leave();
     give_back(alloc, originals, parts, datum)
@@ -74,7 +78,8 @@ fn return_value(
     kind: Kind,
 ) -> Result<(), NoMemory>
     ensures state { OnOk result (state_in parts.new
-        ≡ returns_given originals.now.setup.versions method own kind parts.old) }
+        ≡ returns_given originals.now.versions method own kind parts.old) }
+    ensures runtime { parts.new.runtime ≡ parts.old.runtime }
 {
     match top_datum(&parts.frames, kind) {
         Some(datum) => return_with(alloc, originals, parts, Some(datum)),
@@ -97,7 +102,8 @@ pub fn return_by(
 ) -> Result<(), NoMemory>
     requires top { IsTop method parts.old.frames.frames }
     ensures state { OnOk result (state_in parts.new
-        ≡ on_parts (acts_return originals.now.setup line.now kind) parts.old) }
+        ≡ on_parts (acts_return (setup_in parts.old.runtime originals.now) line.now kind) parts.old) }
+    ensures runtime { parts.new.runtime ≡ parts.old.runtime }
 {
     match kind {
         None => return_with(alloc, originals, parts, None),
@@ -119,7 +125,8 @@ fn has_result(frames: &Frames, kind: Option<Kind>) -> bool
 /// kind the run ends.
 pub fn end_initializer(parts: &mut Parts, method: u32, line: &Line, kind: Option<Kind>)
     requires top { IsTop method parts.old.frames.frames }
-    ensures { state_in parts.new ≡ on_parts (acts_end line.now kind) parts.old }
+    ensures state { state_in parts.new ≡ on_parts (acts_end line.now kind) parts.old }
+    ensures runtime { parts.new.runtime ≡ parts.old.runtime }
 {
     let found = has_result(&parts.frames, kind);
     parts.frames.leave();

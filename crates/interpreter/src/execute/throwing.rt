@@ -1,48 +1,45 @@
 //! athrow (JVM Specification 2.10, 6.5).
 
-ghost use Rattle.std.specs.Prelude.{◌≡◌, OnOk};
-ghost use Rattle.jvm_model.specs.Classes.Lookup.{is_below};
+ghost use Rattle.std.specs.Prelude.{◌≡◌};
+ghost use Rattle.frame_stack.specs.FrameLists.{top_operands};
 ghost use Rattle.jvm_model.specs.Basis.SharedState.{class_of, throwable};
-ghost use Rattle.interpreter.specs.Instructions.Acts.{IsTop, Becomes, acts_athrow};
+ghost use Rattle.jvm_model.specs.Basis.Values.{ref_of};
+ghost use Rattle.jvm_model.specs.Classes.Lookup.{is_below};
+ghost use Rattle.jvm_model.specs.Instructions.ObjectRules.{throws};
+ghost use Rattle.symbolic_references.specs.Answers.{asked_on};
+ghost use Rattle.symbolic_references.specs.Outcomes.{HasOperands, asked};
 
 use crate::unwind::handlers::class_of;
-use crate::unwind::raising::{break_off, raise};
 use crate::unwind::supertypes::is_below_bytes;
-use jf_bytes::NoMemory;
+use frame_stack::Frames;
 use jvm_basic::ref_of;
-use jvm_model::{Exception, Shared};
-use prepared_code::{Line, Originals, Parts};
+use jvm_model::Exception;
+use symbolic_references::{AbruptCompletion, Outcome, Runtime};
 
 /// Whether an object is a Throwable.
-fn is_throwable(originals: &Originals, shared: &Shared, object: u32) -> bool
-    ensures { let p = originals.now.setup.world.program in
-        result ≡ is_below p (class_of p shared.now object) throwable }
+fn is_throwable(runtime: &Runtime, object: u32) -> bool
+    ensures { let p = runtime.now.world.program in
+        result ≡ is_below p (class_of p runtime.now.shared object) throwable }
 {
-    let class = class_of(originals.program(), &shared.heap, object) as usize;
-    is_below_bytes(originals.linker(), class, b"java/lang/Throwable")
+    let class = class_of(runtime, object) as usize;
+    is_below_bytes(runtime.linker(), class, b"java/lang/Throwable")
 }
 
 /// Throws the object on top, which has to be a Throwable.
-pub fn throw_object(
-    originals: &Originals,
-    parts: &mut Parts,
-    method: u32,
-    line: &Line,
-) -> Result<(), NoMemory>
-    requires top { IsTop method parts.old.frames.frames }
-    ensures state { Becomes result parts.new (acts_athrow originals.now.setup line.now) parts.old }
+pub fn throw_object(runtime: &Runtime, frames: &Frames) -> Outcome
+    ensures answer { asked result frames.now
+        ≡ asked_on (λ l o. throws runtime.now.world runtime.now.shared (ref_of o)) frames.now }
+    ensures enough { HasOperands result (top_operands frames.now.frames) }
 {
-    let Some(object) = ref_of(&parts.frames) else {
-        break_off(parts, method, line.instr.at);
-        return Ok(());
+    let Some(object) = ref_of(frames) else {
+        return Outcome::Refused(AbruptCompletion::Breaks);
     };
     if object == 0 {
-        return raise(originals, parts, Exception::NullPointer);
+        return Outcome::Refused(AbruptCompletion::Raises(Exception::NullPointer, None));
     }
-    if is_throwable(originals, &parts.shared, object) {
-        parts.thrown = Some(object);
+    if is_throwable(runtime, object) {
+        Outcome::Refused(AbruptCompletion::Throws(object))
     } else {
-        break_off(parts, method, line.instr.at);
+        Outcome::Refused(AbruptCompletion::Breaks)
     }
-    Ok(())
 }

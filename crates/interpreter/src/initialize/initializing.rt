@@ -7,32 +7,24 @@ ghost use Rattle.jvm_model.specs.Classes.Lookup.{is_below};
 ghost use Rattle.jvm_model.specs.Running.Moves.{after_super, initializes, runs_initializer};
 ghost use Rattle.jvm_model.specs.Running.Moves.{with_constants, with_super, throw_wrapped};
 ghost use Rattle.jvm_model.specs.Basis.Programs.{initializer_of, super_of};
-ghost use Rattle.jvm_model.specs.Basis.SharedState.{class_of, error, phase_of, with_phase};
+ghost use Rattle.jvm_model.specs.Basis.SharedState.{class_of, error, phase_of};
 ghost use Rattle.interpreter.specs.Instructions.Initializing.{begins_class, failing};
 ghost use Rattle.interpreter.specs.Instructions.Invoking.{may_begin};
 ghost use Rattle.interpreter.specs.Moves.Turning.{begun_in};
 ghost use Rattle.prepared_code.specs.Initializations.{initialization_on, state_of};
 ghost use Rattle.prepared_code.specs.Versions.{listing_of};
+ghost use Rattle.prepared_code.specs.Linked.{setup_in};
+ghost use Rattle.symbolic_references.specs.Runtimes.{with_shared};
 
 use crate::execute::entering::enter;
 use crate::execute::invoking::{may_begin, raise_unusable};
 use crate::unwind::handlers::class_of;
-use crate::unwind::raising::{make, raise};
+use crate::unwind::raising::raise;
 use crate::unwind::supertypes::is_below_bytes;
 use jf_bytes::{NoMemory, Stack};
-use jvm_model::{Exception, Part, Phase, Shared};
+use jvm_model::{Exception, Part, Phase};
 use prepared_code::{Initialization, Originals, Parts, initializer_of, put_initialization};
-use std::alloc::Global;
-use symbolic_references::set_constants;
-
-/// Gives a class this phase.
-pub fn set_phase(shared: &mut Shared, class: u32, phase: Phase)
-    ensures { shared.new ≡ with_phase shared.old class phase }
-{
-    if (class as usize) < shared.phases.len() {
-        shared.phases.set(class as usize, phase);
-    }
-}
+use symbolic_references::Runtime;
 
 /// The initialization of a class begins: its initialization stands on the current frame.
 pub fn initialize(
@@ -40,50 +32,51 @@ pub fn initialize(
     initializing: &mut Stack<Initialization>,
     class: u32,
 ) -> Result<(), NoMemory>
-    ensures { OnOk result (state_of initializing.new parts.new
+    ensures state { OnOk result (state_of initializing.new parts.new
         ≡ begins_class class (state_of initializing.old parts.old)) }
+    ensures world { parts.new.runtime.world ≡ parts.old.runtime.world }
+    ensures same_loaded { parts.new.runtime.shared.loaded ≡ parts.old.runtime.shared.loaded }
 {
-    set_phase(&mut parts.shared, class, Phase::Running);
+    parts.runtime.set_phase(class, Phase::Running);
     put_initialization(parts, initializing, class, Part::Constants)
 }
 
 // ---- a throw meets an initialization
 
 /// Whether an object is an Error.
-fn is_error(originals: &Originals, shared: &Shared, object: u32) -> bool
-    ensures { let p = originals.now.setup.world.program in
-        result ≡ is_below p (class_of p shared.now object) error }
+fn is_error(runtime: &Runtime, object: u32) -> bool
+    ensures { let p = runtime.now.world.program in
+        result ≡ is_below p (class_of p runtime.now.shared object) error }
 {
-    let class = class_of(originals.program(), &shared.heap, object) as usize;
-    is_below_bytes(originals.linker(), class, b"java/lang/Error")
+    let class = class_of(runtime, object) as usize;
+    is_below_bytes(runtime.linker(), class, b"java/lang/Error")
 }
 
 /// What is thrown on: an Error itself, or an ExceptionInInitializerError with the object as its
 /// cause.
-fn wrap(originals: &Originals, shared: &mut Shared, object: u32) -> Result<u32, NoMemory>
-    ensures shared { OnOk result
-        (shared.new ≡ (throw_wrapped originals.now.setup.world shared.old object).shared) }
+fn wrap(runtime: &mut Runtime, object: u32) -> Result<u32, NoMemory>
+    ensures runtime { OnOk result (runtime.new ≡ with_shared
+        (throw_wrapped runtime.old.world runtime.old.shared object).shared runtime.old) }
     ensures object { IfOk result
-        (λ r. r ≡ (throw_wrapped originals.now.setup.world shared.old object).reference) }
+        (λ r. r ≡ (throw_wrapped runtime.old.world runtime.old.shared object).reference) }
+    ensures world { runtime.new.world ≡ runtime.old.world }
+    ensures same_loaded { runtime.new.shared.loaded ≡ runtime.old.shared.loaded }
 {
-    if is_error(originals, shared, object) {
+    if is_error(runtime, object) {
         return Ok(object);
     }
-    let kind = originals.kind_of(Exception::InInitializer);
-    make(&mut shared.heap, kind, object)
+    runtime.make_exception(Exception::InInitializer, object)
 }
 
 /// The initialization of a class fails with an object: the class can not be used from now on.
-pub fn fail(
-    originals: &Originals,
-    parts: &mut Parts,
-    class: u32,
-    object: u32,
-) -> Result<(), NoMemory>
-    ensures { OnOk result (parts.new ≡ failing originals.now.setup class object parts.old) }
+pub fn fail(parts: &mut Parts, class: u32, object: u32) -> Result<(), NoMemory>
+    ensures state { let w = parts.old.runtime.world in
+        OnOk result (parts.new ≡ failing w class object parts.old) }
+    ensures world { parts.new.runtime.world ≡ parts.old.runtime.world }
+    ensures same_loaded { parts.new.runtime.shared.loaded ≡ parts.old.runtime.shared.loaded }
 {
-    let thrown = wrap(originals, &mut parts.shared, object)?;
-    set_phase(&mut parts.shared, class, Phase::Erroneous);
+    let thrown = wrap(&mut parts.runtime, object)?;
+    parts.runtime.set_phase(class, Phase::Erroneous);
     parts.thrown = Some(thrown);
     Ok(())
 }
@@ -93,20 +86,21 @@ pub fn fail(
 /// The superclass of a class is initialized, where it is fresh; where it can not be used
 /// NoClassDefFoundError is thrown.
 fn initialize_above(
-    originals: &Originals,
     parts: &mut Parts,
     initializing: &mut Stack<Initialization>,
     class: u32,
     above: u32,
 ) -> Result<(), NoMemory>
-    ensures { OnOk result (state_of initializing.new parts.new
-        ≡ after_super originals.now.setup.world (state_of initializing.old parts.old) class above
-        (phase_of parts.old.shared above)) }
+    ensures state { OnOk result (state_of initializing.new parts.new
+        ≡ after_super parts.old.runtime.world (state_of initializing.old parts.old) class above
+        (phase_of parts.old.runtime.shared above)) }
+    ensures world { parts.new.runtime.world ≡ parts.old.runtime.world }
+    ensures same_loaded { parts.new.runtime.shared.loaded ≡ parts.old.runtime.shared.loaded }
 {
     put_initialization(parts, initializing, class, Part::Initializer)?;
-    match parts.shared.phases.at(above as usize) {
+    match parts.runtime.phase(above) {
         Some(Phase::Fresh) => initialize(parts, initializing, above),
-        Some(Phase::Erroneous) => raise_unusable(originals, parts, above),
+        Some(Phase::Erroneous) => raise_unusable(parts, above),
         Some(Phase::Running) => Ok(()),
         Some(Phase::Ready) => Ok(()),
         None => Ok(()),
@@ -115,17 +109,18 @@ fn initialize_above(
 
 /// The same, where it has one that is a class of the program.
 fn initialize_super(
-    originals: &Originals,
     parts: &mut Parts,
     initializing: &mut Stack<Initialization>,
     class: u32,
 ) -> Result<(), NoMemory>
-    ensures { OnOk result (state_of initializing.new parts.new
-        ≡ with_super originals.now.setup.world (state_of initializing.old parts.old) class
-        (super_of originals.now.setup.world.program class)) }
+    ensures state { let w = parts.old.runtime.world in
+        OnOk result (state_of initializing.new parts.new
+        ≡ with_super w (state_of initializing.old parts.old) class (super_of w.program class)) }
+    ensures world { parts.new.runtime.world ≡ parts.old.runtime.world }
+    ensures same_loaded { parts.new.runtime.shared.loaded ≡ parts.old.runtime.shared.loaded }
 {
-    match originals.linker().index().super_of(class) {
-        Some(above) => initialize_above(originals, parts, initializing, class, above),
+    match parts.runtime.linker().index().super_of(class) {
+        Some(above) => initialize_above(parts, initializing, class, above),
         None => put_initialization(parts, initializing, class, Part::Initializer),
     }
 }
@@ -142,12 +137,14 @@ fn begin_initializer(
     requires few { may_begin parts.old.frames.frames ≡ true }
     requires below { initialization_on (suc (length parts.old.frames.frames)) initializing.now
         ≡ None }
-    ensures { let w = originals.now.setup in OnOk result (state_of initializing.now parts.new
+    ensures state { let w = setup_in parts.old.runtime originals.now in OnOk result (state_of initializing.now parts.new
         ≡ with_frame (state_of initializing.now parts.old)
         (new_frame w.world (listing_of w.versions) method [])) }
+    ensures world { parts.new.runtime.world ≡ parts.old.runtime.world }
+    ensures same_loaded { parts.new.runtime.shared.loaded ≡ parts.old.runtime.shared.loaded }
 {
-    let max_locals = originals.max_locals(method);
-    let max_stack = originals.max_stack(method);
+    let max_locals = parts.runtime.max_locals(method);
+    let max_stack = parts.runtime.max_stack(method);
     parts.frames.reserve(max_locals, max_stack)?;
     enter(
         originals,
@@ -168,21 +165,23 @@ fn run_initializer(
     initializing: &mut Stack<Initialization>,
     class: u32,
 ) -> Result<Option<u32>, NoMemory>
-    ensures begun { let w = originals.now.setup in IfOk result (λ o. o ≡ begun_in
+    ensures begun { let w = setup_in parts.old.runtime originals.now in IfOk result (λ o. o ≡ begun_in
         (runs_initializer w.world (listing_of w.versions)
         (state_of initializing.old parts.old) class
         (initializer_of w.world.program class)).changes) }
-    ensures state { let w = originals.now.setup in OnOk result (state_of initializing.new parts.new
+    ensures state { let w = setup_in parts.old.runtime originals.now in OnOk result (state_of initializing.new parts.new
         ≡ (runs_initializer w.world (listing_of w.versions)
         (state_of initializing.old parts.old) class
         (initializer_of w.world.program class)).after) }
+    ensures world { parts.new.runtime.world ≡ parts.old.runtime.world }
+    ensures same_loaded { parts.new.runtime.shared.loaded ≡ parts.old.runtime.shared.loaded }
 {
     put_initialization(parts, initializing, class, Part::Finish)?;
-    let Some(method) = initializer_of(originals.program(), class) else {
+    let Some(method) = initializer_of(parts.runtime.program(), class) else {
         return Ok(None);
     };
     if !may_begin(&parts.frames) {
-        raise(originals, parts, Exception::StackOverflow)?;
+        raise(parts, Exception::StackOverflow)?;
         return Ok(None);
     }
     begin_initializer(originals, parts, initializing, method)?;
@@ -193,20 +192,19 @@ fn run_initializer(
 
 /// The constants of a class are set; an object that is thrown meets its initialization.
 fn run_constants(
-    alloc: Global,
-    originals: &Originals,
     parts: &mut Parts,
     initializing: &mut Stack<Initialization>,
     class: u32,
 ) -> Result<(), NoMemory>
-    ensures { let w = originals.now.setup in OnOk result (state_of initializing.new parts.new
+    ensures state { let p = parts.old.runtime.world.program in
+        OnOk result (state_of initializing.new parts.new
         ≡ with_constants (state_of initializing.old parts.old) class
-        (sets_constants w.world.program class parts.old.shared)) }
+        (sets_constants p class parts.old.runtime.shared)) }
+    ensures world { parts.new.runtime.world ≡ parts.old.runtime.world }
+    ensures same_loaded { parts.new.runtime.shared.loaded ≡ parts.old.runtime.shared.loaded }
 {
     put_initialization(parts, initializing, class, Part::Superclass)?;
-    let string = originals.string_kind();
-    let program = originals.program();
-    parts.thrown = set_constants(alloc, program, string, class, &mut parts.shared)?;
+    parts.thrown = parts.runtime.set_constants(class)?;
     Ok(())
 }
 
@@ -215,32 +213,33 @@ fn run_constants(
 /// The initialization of a class goes on with this part, after its initialization was taken off. The answer is the
 /// method that has begun.
 pub fn go_on(
-    alloc: Global,
     originals: &Originals,
     parts: &mut Parts,
     initializing: &mut Stack<Initialization>,
     class: u32,
     part: Part,
 ) -> Result<Option<u32>, NoMemory>
-    ensures begun { let w = originals.now.setup in let s = state_of initializing.old parts.old in
+    ensures begun { let w = setup_in parts.old.runtime originals.now in let s = state_of initializing.old parts.old in
         IfOk result (λ o. o ≡ begun_in
         (initializes w.world (listing_of w.versions) s class part).changes) }
-    ensures state { let w = originals.now.setup in let s = state_of initializing.old parts.old in
+    ensures state { let w = setup_in parts.old.runtime originals.now in let s = state_of initializing.old parts.old in
         OnOk result (state_of initializing.new parts.new
         ≡ (initializes w.world (listing_of w.versions) s class part).after) }
+    ensures world { parts.new.runtime.world ≡ parts.old.runtime.world }
+    ensures same_loaded { parts.new.runtime.shared.loaded ≡ parts.old.runtime.shared.loaded }
 {
     match part {
         Part::Constants => {
-            run_constants(alloc, originals, parts, initializing, class)?;
+            run_constants(parts, initializing, class)?;
             Ok(None)
         }
         Part::Superclass => {
-            initialize_super(originals, parts, initializing, class)?;
+            initialize_super(parts, initializing, class)?;
             Ok(None)
         }
         Part::Initializer => run_initializer(originals, parts, initializing, class),
         Part::Finish => {
-            set_phase(&mut parts.shared, class, Phase::Ready);
+            parts.runtime.set_phase(class, Phase::Ready);
             Ok(None)
         }
     }

@@ -1,7 +1,9 @@
 //! The start (JVM Specification 5.2, 5.3, 5.5): the main class is loaded and initialized, and then
 //! `main` begins.
 
-ghost use Rattle.std.specs.Prelude.{◌≡◌, ◌++◌, true, OnOk};
+ghost use Rattle.std.specs.Prelude.{◌≡◌, ◌++◌, ◌∷◌, [], true, OnOk};
+ghost use Rattle.jvm_model.specs.Classes.Load.{load_of};
+ghost use Rattle.prepared_code.specs.Prepared.{main_name};
 ghost use Rattle.jvm_model.specs.Running.Run.{main_loads, starts_if, starts_with};
 ghost use Rattle.jvm_model.specs.Basis.SharedState.{arguments_fit};
 ghost use Rattle.jvm_model.specs.Soundness.Sound.{IsFit};
@@ -23,23 +25,20 @@ const OUT_OF_MEMORY: u32 = 1;
 
 /// The initialization of the main class begins, or what stopped its loading is raised.
 fn begin_class(
-    alloc: Global,
-    originals: &Originals,
     parts: &mut Parts,
     initializing: &mut Stack<Initialization>,
     class: u32,
     found: Result<u32, AbruptCompletion>,
 ) -> Result<(), NoMemory>
     ensures state { OnOk result (state_of initializing.new parts.new
-        ≡ begun_by originals.now.setup.world class (found_view found)
+        ≡ begun_by parts.old.runtime.world class (found_view found)
         (state_of initializing.old parts.old)) }
-    ensures loaded { OnOk result (parts.new.shared.loaded ≡ parts.old.shared.loaded) }
+    ensures world { parts.new.runtime.world ≡ parts.old.runtime.world }
+    ensures same_loaded { parts.new.runtime.shared.loaded ≡ parts.old.runtime.shared.loaded }
 {
     match found {
         Ok(_) => initialize(parts, initializing, class),
-        Err(AbruptCompletion::Raises(exception, message)) => {
-            raise_named(alloc, originals, parts, exception, message)
-        }
+        Err(AbruptCompletion::Raises(exception, message)) => raise_named(parts, exception, message),
         // These do not come.
         Err(AbruptCompletion::Throws(_)) => initialize(parts, initializing, class),
         Err(AbruptCompletion::Initializes(_)) => initialize(parts, initializing, class),
@@ -56,19 +55,20 @@ fn load_main(
     parts: &mut Parts,
     initializing: &mut Stack<Initialization>,
 ) -> Result<(), NoMemory>
-    requires at_start { IsAtStart originals.old.setup.world (state_of initializing.old parts.old) }
-    requires fits { arguments_fit originals.old.setup.world.program ≡ true }
-    requires linked { originals.old.loaded ≡ parts.old.shared.loaded }
-    requires fit { IsFit originals.old.setup.world.program }
-    ensures world { originals.new.setup ≡ originals.old.setup }
-    ensures linked { OnOk result (originals.new.loaded ≡ parts.new.shared.loaded) }
+    requires at_start { IsAtStart parts.old.runtime.world (state_of initializing.old parts.old) }
+    requires fits { arguments_fit parts.old.runtime.world.program ≡ true }
+    requires linked { IsLinked originals.old parts.old.runtime }
+    requires fit { IsFit parts.old.runtime.world.program }
+    ensures versions { originals.new.versions ≡ originals.old.versions }
+    ensures world { parts.new.runtime.world ≡ parts.old.runtime.world }
+    ensures linked { OnOk result (IsLinked originals.new parts.new.runtime) }
     ensures state { OnOk result
-        (state_of initializing.new parts.new ≡ starts_if originals.old.setup.world true) }
+        (state_of initializing.new parts.new ≡ starts_if parts.old.runtime.world true) }
 {
-    make_arguments(originals.program(), &mut parts.shared.heap)?;
-    let found = originals.load_main(alloc, &mut parts.shared.loaded)?;
-    let class = main_class(originals.program());
-    begin_class(alloc, originals, parts, initializing, class, found)
+    parts.runtime.make_arguments()?;
+    let found = originals.load_main(alloc, &mut parts.runtime)?;
+    let class = main_class(parts.runtime.program());
+    begin_class(parts, initializing, class, found)
 }
 
 /// What the start does before its moves: the same, or, where there is no room for the arguments, object 1 is thrown. The classes that
@@ -79,17 +79,18 @@ pub fn begin_start(
     parts: &mut Parts,
     initializing: &mut Stack<Initialization>,
 ) -> Result<(), NoMemory>
-    requires at_start { IsAtStart originals.old.setup.world (state_of initializing.old parts.old) }
-    requires linked { originals.old.loaded ≡ parts.old.shared.loaded }
-    requires fit { IsFit originals.old.setup.world.program }
-    ensures world { originals.new.setup ≡ originals.old.setup }
-    ensures linked { OnOk result (originals.new.loaded ≡ parts.new.shared.loaded) }
+    requires at_start { IsAtStart parts.old.runtime.world (state_of initializing.old parts.old) }
+    requires linked { IsLinked originals.old parts.old.runtime }
+    requires fit { IsFit parts.old.runtime.world.program }
+    ensures versions { originals.new.versions ≡ originals.old.versions }
+    ensures world { parts.new.runtime.world ≡ parts.old.runtime.world }
+    ensures linked { OnOk result (IsLinked originals.new parts.new.runtime) }
     ensures state { OnOk result
-        (state_of initializing.new parts.new ≡ starts_with originals.old.setup.world) }
-    ensures loads { let w = originals.old.setup.world in OnOk result
-        (parts.new.shared.loaded ≡ parts.old.shared.loaded ++ main_loads w) }
+        (state_of initializing.new parts.new ≡ starts_with parts.old.runtime.world) }
+    ensures loads { let w = parts.old.runtime.world in OnOk result
+        (parts.new.runtime.shared.loaded ≡ parts.old.runtime.shared.loaded ++ main_loads w) }
 {
-    if arguments_fit(originals.program()) {
+    if arguments_fit(parts.runtime.program()) {
         return load_main(alloc, originals, parts, initializing);
     }
     parts.thrown = Some(OUT_OF_MEMORY);

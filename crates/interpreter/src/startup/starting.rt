@@ -3,19 +3,22 @@
 ghost use Rattle.std.specs.Prelude.{◌≡◌, ◌<◌, ◌≤◌, ◌^◌, [], IfOk, length, map, unwrap_or};
 ghost use Rattle.std.specs.Option.{option_and_then};
 ghost use Rattle.const_pool.specs.References.{named_text};
-ghost use Rattle.jvm_model.specs.Basis.SharedState.{built_in_from, phase_before, shared_before, static_zeros};
+ghost use Rattle.jvm_model.specs.Basis.SharedState.{phase_before, shared_before, static_zeros};
 ghost use Rattle.jvm_model.specs.Basis.SharedState.{system_static, system_stream, zero_for, zeros};
-ghost use Rattle.interpreter.specs.Machine.Before.{BeforeEach};
+ghost use Rattle.jvm_model.specs.Running.Run.{before};
+ghost use Rattle.jvm_model.specs.Soundness.Sound.{IsFit};
 ghost use Rattle.prepared_code.specs.States.{state_in};
+ghost use Rattle.prepared_code.specs.Linked.{IsLinked};
 
 use const_pool::{ClassFile, Member, Pool};
 use frame_stack::Frames;
 use heap_objects::Datum;
 use jf_bytes::{NoMemory, Seq, Text16};
-use jvm_model::{Phase, Program, Shared};
+use jvm_model::{Phase, Program};
 use native_ops::Made;
-use prepared_code::{Parts, has_built_in_name, has_bytes, heap_before};
+use prepared_code::{Originals, Parts, has_built_in_name, has_bytes, heap_before};
 use std::alloc::Global;
+use symbolic_references::{Beginning, Runtime};
 
 /// The letters with which the descriptors of longs, objects and arrays begin.
 const LONG: u16 = 74;
@@ -44,20 +47,6 @@ fn phases_of(alloc: Global, classes: &[ClassFile]) -> Result<Seq<Phase>, NoMemor
         phases.push(phase_of(class))?;
     }
     Ok(phases)
-}
-
-/// The positions of the built-in classes.
-fn loaded_of(alloc: Global, classes: &[ClassFile]) -> Result<Seq<u32>, NoMemory>
-    requires { length classes.now < 2 ^ 32 }
-    ensures { IfOk result (λ loaded. loaded ≡ built_in_from 0 classes.now) }
-{
-    let mut loaded = Seq::new(alloc);
-    for (at, class) in classes.iter().enumerate() {
-        if has_built_in_name(class) {
-            loaded.push(at as u32)?;
-        }
-    }
-    Ok(loaded)
 }
 
 /// The value that a static field of this descriptor has at first (2.3, 2.4).
@@ -160,35 +149,47 @@ fn statics_of(alloc: Global, classes: &[ClassFile]) -> Result<Seq<Seq<Datum>>, N
     Ok(statics)
 }
 
-/// What is shared before the start.
-fn shared_before(alloc: Global, program: &Program) -> Result<Shared, NoMemory>
+/// What all share before the start.
+fn beginning_of(alloc: Global, program: &Program) -> Result<Beginning, NoMemory>
     requires few { length program.now.classes < 2 ^ 24 }
     requires room { 1024 ≤ program.now.heap }
-    ensures { IfOk result (λ shared. shared ≡ shared_before program.now) }
+    ensures phases { IfOk result (λ b. b.phases ≡ (shared_before program.now).phases) }
+    ensures statics { IfOk result (λ b. b.statics ≡ (shared_before program.now).statics) }
+    ensures heap { IfOk result (λ b. b.heap ≡ (shared_before program.now).heap) }
+    ensures made { IfOk result (λ b. b.made ≡ (shared_before program.now).made) }
 {
     let classes = program.classes.as_slice();
-    Ok(Shared {
-        loaded: loaded_of(alloc, classes)?,
+    Ok(Beginning {
         phases: phases_of(alloc, classes)?,
         statics: statics_of(alloc, classes)?,
         heap: heap_before(alloc, program)?,
         made: Made::new(alloc),
-        read: 0,
     })
 }
 
-/// The parts before the start of a program.
-pub fn parts_before(alloc: Global, program: &Program) -> Result<Parts, NoMemory>
-    requires few { length program.now.classes < 2 ^ 24 }
-    requires room { 1024 ≤ program.now.heap }
-    ensures { BeforeEach program.now (λ before. IfOk result (λ p. state_in p ≡ before)) }
+/// The parts before the start of a prepared program on this input.
+pub fn parts_before(
+    alloc: Global,
+    originals: &Originals,
+    input: Seq<u8>,
+) -> Result<Parts, NoMemory>
+    requires fit { IsFit originals.now.program }
+    requires room { 1024 ≤ originals.now.program.heap }
+    requires rows { originals.now.rows ≡ [] }
+    ensures state { IfOk result (λ p. state_in p
+        ≡ before (record { program = originals.now.program; input = input })) }
+    ensures world { IfOk result (λ p. p.runtime.world
+        ≡ record { program = originals.now.program; input = input }) }
+    ensures linked { IfOk result (λ p. IsLinked originals.now p.runtime) }
 {
+    let linker = originals.linker_before(alloc)?;
+    let tables = originals.tables_before(alloc)?;
+    let beginning = beginning_of(alloc, originals.program())?;
     Ok(Parts {
         frames: Frames::new(alloc),
         thrown: None,
         begun: false,
-        shared: shared_before(alloc, program)?,
-        output: Seq::new(alloc),
+        runtime: Runtime::new(alloc, linker, tables, input, beginning),
         ending: None,
     })
 }

@@ -12,6 +12,7 @@ ghost use Rattle.prepared_code.specs.Runs.{IsAtInstruction};
 ghost use Rattle.prepared_code.specs.Standing.{HasVersions};
 ghost use Rattle.interpreter.specs.Moves.Calmly.{GoesCalmly, TriesIf};
 ghost use Rattle.interpreter.specs.Moves.Hands.{HasGoneOn, HasInHand};
+ghost use Rattle.prepared_code.specs.Linked.{setup_in};
 
 use crate::execute::passing::leave;
 use crate::turns::hands::{Gone, Hand, gone_to};
@@ -23,13 +24,14 @@ use prepared_code::{Action, Initialization, Originals, Parts, line_in, where_now
 /// A return of which its probe has told. False, with nothing of the run changed, where the line is none, or the caller can't go on.
 #[inline(always)]
 fn end_told(originals: &Originals, parts: &mut Parts, initializing: &Stack<Initialization>) -> bool
-    requires run { CanRun originals.now.setup }
+    requires run { CanRun (setup_in parts.old.runtime originals.now) }
     requires at_instruction { IsAtInstruction
         (length parts.old.frames.frames) initializing.now parts.old }
-    ensures tries { let w = originals.now.setup in
+    ensures tries { let w = setup_in parts.old.runtime originals.now in
         TriesIf result w initializing.now true parts.old due.Nothing parts.new }
     ensures calm { result ≡ true → IsAtInstruction
         (length parts.new.frames.frames) initializing.now parts.new }
+    ensures runtime { parts.new.runtime ≡ parts.old.runtime }
 {
     let Some(here) = where_now(&parts.frames) else {
         return false;
@@ -55,27 +57,28 @@ pub fn go_calmly(
     initializing: &Stack<Initialization>,
     hand: Hand,
 ) -> Option<Gone>
-    requires fit { CanRun originals.now.setup }
+    requires fit { CanRun (setup_in parts.old.runtime originals.now) }
     requires at_instruction { IsAtInstruction
         (length parts.old.frames.frames) initializing.now parts.old }
-    ensures goes { let w = originals.now.setup in IfSome result (λ gone.
+    ensures goes { let w = setup_in parts.old.runtime originals.now in IfSome result (λ gone.
         GoesCalmly w initializing.now hand parts.old gone parts.new) }
     ensures done { IfSome result (λ gone. gone.due ≡ due.Nothing) }
     ensures calm { IfSome result (λ gone. IsAtInstruction
         (length parts.new.frames.frames) initializing.now parts.new) }
     // The rest of the same step is in hand then, at the next of its changes that is told.
-    ensures hands { let w = originals.now.setup in let s = state_of initializing.now parts.old in
+    ensures hands { let w = setup_in parts.old.runtime originals.now in let s = state_of initializing.now parts.old in
         IfSome result (λ gone. (homes : ℕ → ℕ → ℕ) (turn : Turn) (live : List Held)
         → HasVersions w homes → HasInHand w homes turn hand live s
         → HasGoneOn w homes turn hand live gone (state_of initializing.now parts.new)) }
-    ensures sound { let w = originals.now.setup in let s = state_of initializing.now parts.old in
+    ensures sound { let w = setup_in parts.old.runtime originals.now in let s = state_of initializing.now parts.old in
         IfSome result (λ gone. IsSoundIn w s → IsSoundIn w (state_of initializing.now parts.new)) }
     // The moves of the start leave a sound state too.
-    ensures starts { let w = originals.now.setup in IfSome result (λ gone. hand.moves ≡ true
+    ensures starts { let w = setup_in parts.old.runtime originals.now in IfSome result (λ gone. hand.moves ≡ true
         → hand.delivered ≡ false → state_of initializing.now parts.old ≡ starts_with w.world
         → IsSoundIn w (state_of initializing.now parts.new)) }
     ensures none { IfNone result (state_of initializing.now parts.new
         ≡ state_of initializing.now parts.old) }
+    ensures runtime { parts.new.runtime ≡ parts.old.runtime }
 {
     if hand.moves {
         if hand.delivered || !is_at_rest(parts, initializing) {

@@ -11,6 +11,7 @@ ghost use Rattle.prepared_code.specs.Initializations.{state_of};
 ghost use Rattle.prepared_code.specs.Ready.{CanRun, IsSoundIn};
 ghost use Rattle.prepared_code.specs.Standing.{HasVersions};
 ghost use Rattle.interpreter.specs.Moves.Turning.{loads_in, loads_none, pause_at};
+ghost use Rattle.prepared_code.specs.Linked.{IsLinked, setup_in};
 
 use crate::turns::pausing::go_by_moves;
 use crate::turns::trying::go_by_attempt;
@@ -94,31 +95,32 @@ pub fn go(
     initializing: &mut Stack<Initialization>,
     hand: Hand,
 ) -> Result<Option<Gone>, NoMemory>
-    requires linked { originals.old.loaded ≡ parts.old.shared.loaded }
-    requires fit { CanRun originals.old.setup }
+    requires linked { IsLinked originals.old parts.old.runtime }
+    requires fit { CanRun (setup_in parts.old.runtime originals.old) }
     requires sound { hand.moves ≡ false
-        → IsSoundIn originals.old.setup (state_of initializing.old parts.old) }
-    ensures world { originals.new.setup ≡ originals.old.setup }
-    ensures linked { OnOk result (originals.new.loaded ≡ parts.new.shared.loaded) }
-    ensures sound { let w = originals.old.setup in
+        → IsSoundIn (setup_in parts.old.runtime originals.old) (state_of initializing.old parts.old) }
+    ensures versions { originals.new.versions ≡ originals.old.versions }
+    ensures world { parts.new.runtime.world ≡ parts.old.runtime.world }
+    ensures linked { OnOk result (IsLinked originals.new parts.new.runtime) }
+    ensures sound { let w = setup_in parts.old.runtime originals.old in
         OnOk result (IsSoundIn w (state_of initializing.old parts.old)
         → IsSoundIn w (state_of initializing.new parts.new)) }
     // The moves of the start leave a sound state too.
-    ensures starts { let w = originals.old.setup in OnOk result (hand.moves ≡ true
+    ensures starts { let w = setup_in parts.old.runtime originals.old in OnOk result (hand.moves ≡ true
         → hand.delivered ≡ false → state_of initializing.old parts.old ≡ starts_with w.world
         → IsSoundIn w (state_of initializing.new parts.new)) }
     ensures some { let s = state_of initializing.old parts.old in IfOk result (λ o. is_some o
-        ≡ (hand.moves || loads_none originals.old.setup s)) }
+        ≡ (hand.moves || loads_none (setup_in parts.old.runtime originals.old) s)) }
     ensures reaches { let s = state_of initializing.old parts.old in IfOk result
         (λ o. IfSome o (λ gone.
         pause_at (state_of initializing.new parts.new) gone.hand.passed gone.due
-        ≡ goes_in originals.old.setup hand s)) }
+        ≡ goes_in (setup_in parts.old.runtime originals.old) hand s)) }
     ensures left { IfOk result (λ o. IfSome o (λ gone. IsLeft gone)) }
-    ensures loads { let w = originals.old.setup in let s = state_of initializing.old parts.old in
+    ensures loads { let w = setup_in parts.old.runtime originals.old in let s = state_of initializing.old parts.old in
         IfOk result (λ o. IfNone o
         (state_of initializing.new parts.new ≡ with_loaded (loads_in w s) s)) }
     // The rest of the same step is in hand then, at the next of its changes that is told.
-    ensures hands { let w = originals.old.setup in let s = state_of initializing.old parts.old in
+    ensures hands { let w = setup_in parts.old.runtime originals.old in let s = state_of initializing.old parts.old in
         IfOk result (λ o. IfSome o (λ gone. (homes : ℕ → ℕ → ℕ) (turn : Turn) (live : List Held)
         → HasVersions w homes → HasInHand w homes turn hand live s
         → HasGoneOn w homes turn hand live gone (state_of initializing.new parts.new))) }

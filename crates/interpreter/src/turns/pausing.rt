@@ -5,6 +5,7 @@ ghost use Rattle.jvm_model.specs.Turns.InHand.{frame_popped};
 ghost use Rattle.prepared_code.specs.Initializations.{state_of};
 ghost use Rattle.interpreter.specs.Moves.Turning.{goes_by_moves, pause_at, paused_in};
 ghost use Rattle.interpreter.specs.Moves.Turning.{frame_resumed, resumed_count};
+ghost use Rattle.prepared_code.specs.Linked.{setup_in};
 
 use crate::turns::resting::is_at_rest;
 use crate::turns::turning::{Moved, make_move};
@@ -32,9 +33,11 @@ fn pause_on(
     initializing: &mut Stack<Initialization>,
     passed: &mut u64,
 ) -> Result<Due, NoMemory>
-    ensures { let s = state_of initializing.old parts.old in
+    ensures state { let s = state_of initializing.old parts.old in
         IfOk result (λ due. pause_at (state_of initializing.new parts.new) passed.new due
-        ≡ paused_in originals.now.setup passed.old s) }
+        ≡ paused_in (setup_in parts.old.runtime originals.now) passed.old s) }
+    ensures world { parts.new.runtime.world ≡ parts.old.runtime.world }
+    ensures same_loaded { parts.new.runtime.shared.loaded ≡ parts.old.runtime.shared.loaded }
 {
     loop {
         match make_move(alloc, originals, parts, initializing)? {
@@ -63,9 +66,11 @@ pub fn pause(
     initializing: &mut Stack<Initialization>,
     passed: &mut u64,
 ) -> Result<Due, NoMemory>
-    ensures { let s = state_of initializing.old parts.old in
+    ensures state { let s = state_of initializing.old parts.old in
         IfOk result (λ due. pause_at (state_of initializing.new parts.new) passed.new due
-        ≡ paused_in originals.now.setup passed.old s) }
+        ≡ paused_in (setup_in parts.old.runtime originals.now) passed.old s) }
+    ensures world { parts.new.runtime.world ≡ parts.old.runtime.world }
+    ensures same_loaded { parts.new.runtime.shared.loaded ≡ parts.old.runtime.shared.loaded }
 {
     if is_at_rest(parts, initializing) {
         return Ok(Due::Nothing);
@@ -77,8 +82,10 @@ pub fn pause(
 
 /// Takes the current frame off, behind its unwind probe. (There is one then, and no initialization stands on it.)
 fn take_off(parts: &mut Parts, initializing: &Stack<Initialization>) -> Result<(), NoMemory>
-    ensures { OnOk result
+    ensures state { OnOk result
         (state_of initializing.now parts.new ≡ frame_popped (state_of initializing.now parts.old)) }
+    ensures world { parts.new.runtime.world ≡ parts.old.runtime.world }
+    ensures same_loaded { parts.new.runtime.shared.loaded ≡ parts.old.runtime.shared.loaded }
 {
     let Some(_) = where_now(&parts.frames) else {
         return Err(NoMemory);
@@ -101,6 +108,8 @@ fn resume(
         (state_of initializing.now parts.new
         ≡ frame_resumed delivered (state_of initializing.now parts.old)) }
     ensures passed { OnOk result (passed.new ≡ resumed_count delivered passed.old) }
+    ensures world { parts.new.runtime.world ≡ parts.old.runtime.world }
+    ensures same_loaded { parts.new.runtime.shared.loaded ≡ parts.old.runtime.shared.loaded }
 {
     if !delivered {
         return Ok(());
@@ -119,9 +128,11 @@ pub fn go_by_moves(
     delivered: bool,
     passed: &mut u64,
 ) -> Result<Due, NoMemory>
-    ensures { let s = state_of initializing.old parts.old in
+    ensures state { let s = state_of initializing.old parts.old in
         IfOk result (λ due. pause_at (state_of initializing.new parts.new) passed.new due
-        ≡ goes_by_moves originals.now.setup delivered passed.old s) }
+        ≡ goes_by_moves (setup_in parts.old.runtime originals.now) delivered passed.old s) }
+    ensures world { parts.new.runtime.world ≡ parts.old.runtime.world }
+    ensures same_loaded { parts.new.runtime.shared.loaded ≡ parts.old.runtime.shared.loaded }
 {
     resume(parts, initializing, delivered, passed)?;
     pause(alloc, originals, parts, initializing, passed)

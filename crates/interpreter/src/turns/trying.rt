@@ -15,6 +15,7 @@ ghost use Rattle.prepared_code.specs.Ready.{CanRun, IsSoundIn};
 ghost use Rattle.interpreter.specs.Moves.Turning.{loads_in, loads_none, pause_at};
 ghost use Rattle.interpreter.specs.Moves.Trying.{changes_since, enters_by, leaves_in};
 ghost use Rattle.interpreter.specs.Moves.Trying.{pause_behind_attempt, tried_in};
+ghost use Rattle.prepared_code.specs.Linked.{IsLinked, setup_in};
 
 use crate::execute::attempting::{attempt, attempt_loaded};
 use crate::turns::pausing::{one_more, pause};
@@ -43,7 +44,7 @@ fn count(frames: &Frames, depth: u32, passed: u64) -> Result<u64, NoMemory>
 #[inline(always)]
 fn enters(originals: &Originals, frames: &Frames, depth: u32) -> bool
     ensures { result
-        ≡ enters_by originals.now.setup (changes_since depth frames.now.frames) }
+        ≡ enters_by originals.now.versions (changes_since depth frames.now.frames) }
 {
     if frames.depth() <= depth {
         return false;
@@ -66,8 +67,10 @@ fn follow(
 ) -> Result<Due, NoMemory>
     ensures reaches { let s = state_of initializing.old parts.old in
         IfOk result (λ due. pause_at (state_of initializing.new parts.new) passed.new due
-        ≡ pause_behind_attempt originals.now.setup depth passed.old s) }
-    ensures loaded { OnOk result (parts.new.shared.loaded ≡ parts.old.shared.loaded) }
+        ≡ pause_behind_attempt (setup_in parts.old.runtime originals.now) depth passed.old s) }
+    ensures loaded { OnOk result (parts.new.runtime.shared.loaded ≡ parts.old.runtime.shared.loaded) }
+    ensures world { parts.new.runtime.world ≡ parts.old.runtime.world }
+    ensures same_loaded { parts.new.runtime.shared.loaded ≡ parts.old.runtime.shared.loaded }
 {
     *passed = count(&parts.frames, depth, *passed)?;
     if enters(originals, &parts.frames, depth) {
@@ -81,7 +84,7 @@ fn follow(
 /// Whether the current frame stands at a return of which a probe tells first.
 #[inline(always)]
 fn leaves(originals: &Originals, frames: &Frames) -> bool
-    ensures { result ≡ leaves_in originals.now.setup frames.now.frames }
+    ensures { result ≡ leaves_in originals.now.versions frames.now.frames }
 {
     let Some(here) = where_now(frames) else {
         return false;
@@ -98,7 +101,7 @@ fn leaves(originals: &Originals, frames: &Frames) -> bool
 /// The same, unless it has told.
 #[inline(always)]
 fn tells_leave(originals: &Originals, frames: &Frames, delivered: bool) -> bool
-    ensures { result ≡ (not delivered && leaves_in originals.now.setup frames.now.frames) }
+    ensures { result ≡ (not delivered && leaves_in originals.now.versions frames.now.frames) }
 {
     !delivered && leaves(originals, frames)
 }
@@ -117,12 +120,12 @@ fn is_nothing(due: Due) -> bool
 /// Whether the instruction is attempted once more: its class is ready, and nothing else has happened.
 #[inline(always)]
 fn tries_again(parts: &Parts, class: u32, due: Due, same: bool) -> bool
-    ensures { result ≡ (is_nothing due && same && is_ready (phase_of parts.now.shared class)
+    ensures { result ≡ (is_nothing due && same && is_ready (phase_of parts.now.runtime.shared class)
         && goes_on parts.now.ending parts.now.thrown) }
 {
     is_nothing(due)
         && same
-        && is_ready(&parts.shared, class)
+        && is_ready(&parts.runtime, class)
         && parts.ending.is_none()
         && parts.thrown.is_none()
 }
@@ -136,14 +139,15 @@ fn try_again(
     depth: u32,
     passed: &mut u64,
 ) -> Result<Due, NoMemory>
-    requires linked { originals.old.loaded ≡ parts.old.shared.loaded }
-    requires fit { CanRun originals.old.setup }
-    requires sound { IsSoundIn originals.old.setup (state_of initializing.old parts.old) }
+    requires linked { IsLinked originals.old parts.old.runtime }
+    requires fit { CanRun (setup_in parts.old.runtime originals.old) }
+    requires sound { IsSoundIn (setup_in parts.old.runtime originals.old) (state_of initializing.old parts.old) }
     requires executing { initialization_on (length parts.old.frames.frames) initializing.old
         ≡ None }
-    ensures world { originals.new.setup ≡ originals.old.setup }
-    ensures linked { OnOk result (originals.new.loaded ≡ parts.new.shared.loaded) }
-    ensures reaches { let w = originals.old.setup in let s = state_of initializing.old parts.old in
+    ensures versions { originals.new.versions ≡ originals.old.versions }
+    ensures world { parts.new.runtime.world ≡ parts.old.runtime.world }
+    ensures linked { OnOk result (IsLinked originals.new parts.new.runtime) }
+    ensures reaches { let w = setup_in parts.old.runtime originals.old in let s = state_of initializing.old parts.old in
         IfOk result (λ due. pause_at (state_of initializing.new parts.new) passed.new due
         ≡ pause_behind_attempt w depth passed.old (attempts_on w s s.stack)) }
 {
@@ -161,19 +165,20 @@ fn try_line(
     initializing: &mut Stack<Initialization>,
     passed: &mut u64,
 ) -> Result<Option<Due>, NoMemory>
-    requires linked { originals.old.loaded ≡ parts.old.shared.loaded }
-    requires fit { CanRun originals.old.setup }
-    requires sound { IsSoundIn originals.old.setup (state_of initializing.old parts.old) }
+    requires linked { IsLinked originals.old parts.old.runtime }
+    requires fit { CanRun (setup_in parts.old.runtime originals.old) }
+    requires sound { IsSoundIn (setup_in parts.old.runtime originals.old) (state_of initializing.old parts.old) }
     requires goes { goes_on_in initializing.old parts.old ≡ true }
-    ensures world { originals.new.setup ≡ originals.old.setup }
-    ensures linked { OnOk result (originals.new.loaded ≡ parts.new.shared.loaded) }
+    ensures versions { originals.new.versions ≡ originals.old.versions }
+    ensures world { parts.new.runtime.world ≡ parts.old.runtime.world }
+    ensures linked { OnOk result (IsLinked originals.new parts.new.runtime) }
     ensures some { IfOk result (λ o. is_some o
-        ≡ loads_none originals.old.setup (state_of initializing.old parts.old)) }
+        ≡ loads_none (setup_in parts.old.runtime originals.old) (state_of initializing.old parts.old)) }
     ensures reaches { let s = state_of initializing.old parts.old in IfOk result
         (λ o. IfSome o (λ due.
         pause_at (state_of initializing.new parts.new) passed.new due
-        ≡ tried_in originals.old.setup true passed.old s)) }
-    ensures loads { let w = originals.old.setup in let s = state_of initializing.old parts.old in
+        ≡ tried_in (setup_in parts.old.runtime originals.old) true passed.old s)) }
+    ensures loads { let w = setup_in parts.old.runtime originals.old in let s = state_of initializing.old parts.old in
         IfOk result (λ o. IfNone o
         (state_of initializing.new parts.new ≡ with_loaded (loads_in w s) s)) }
     ensures same { IfOk result (λ o. IfNone o (passed.new ≡ passed.old)) }
@@ -208,18 +213,19 @@ pub fn go_by_attempt(
     delivered: bool,
     passed: &mut u64,
 ) -> Result<Option<Due>, NoMemory>
-    requires linked { originals.old.loaded ≡ parts.old.shared.loaded }
-    requires fit { CanRun originals.old.setup }
-    requires sound { IsSoundIn originals.old.setup (state_of initializing.old parts.old) }
-    ensures world { originals.new.setup ≡ originals.old.setup }
-    ensures linked { OnOk result (originals.new.loaded ≡ parts.new.shared.loaded) }
+    requires linked { IsLinked originals.old parts.old.runtime }
+    requires fit { CanRun (setup_in parts.old.runtime originals.old) }
+    requires sound { IsSoundIn (setup_in parts.old.runtime originals.old) (state_of initializing.old parts.old) }
+    ensures versions { originals.new.versions ≡ originals.old.versions }
+    ensures world { parts.new.runtime.world ≡ parts.old.runtime.world }
+    ensures linked { OnOk result (IsLinked originals.new parts.new.runtime) }
     ensures some { IfOk result (λ o. is_some o
-        ≡ loads_none originals.old.setup (state_of initializing.old parts.old)) }
+        ≡ loads_none (setup_in parts.old.runtime originals.old) (state_of initializing.old parts.old)) }
     ensures reaches { let s = state_of initializing.old parts.old in IfOk result
         (λ o. IfSome o (λ due.
         pause_at (state_of initializing.new parts.new) passed.new due
-        ≡ tried_in originals.old.setup delivered passed.old s)) }
-    ensures loads { let w = originals.old.setup in let s = state_of initializing.old parts.old in
+        ≡ tried_in (setup_in parts.old.runtime originals.old) delivered passed.old s)) }
+    ensures loads { let w = setup_in parts.old.runtime originals.old in let s = state_of initializing.old parts.old in
         IfOk result (λ o. IfNone o
         (state_of initializing.new parts.new ≡ with_loaded (loads_in w s) s)) }
     ensures same { IfOk result (λ o. IfNone o (passed.new ≡ passed.old)) }

@@ -8,6 +8,7 @@ ghost use Rattle.prepared_code.specs.States.{here_of, state_in};
 ghost use Rattle.interpreter.specs.Moves.Turning.{begun_as, moved_as, moved_by, moved_to};
 ghost use Rattle.interpreter.specs.Moves.Turning.{unwind_due, unwound_by};
 ghost use Rattle.prepared_code.specs.Versions.{mark_of};
+ghost use Rattle.prepared_code.specs.Linked.{setup_in};
 
 use crate::unwind::handlers::{class_of, handler_for};
 use crate::unwind::settling::{begin_main, go_to_handler, move_initialization};
@@ -39,7 +40,7 @@ pub enum Moved {
 /// Whether a version has probes.
 #[inline(always)]
 pub fn is_marked(originals: &Originals, version: usize) -> bool
-    ensures { result ≡ not (is_off (mark_of originals.now.setup.versions version)) }
+    ensures { result ≡ not (is_off (mark_of originals.now.versions version)) }
 {
     match originals.mark(version) {
         Mark::Plain | Mark::Root => true,
@@ -49,7 +50,7 @@ pub fn is_marked(originals: &Originals, version: usize) -> bool
 
 /// What a move has done by which a method begins, or none does.
 fn method_begun(originals: &Originals, method: Option<u32>) -> Moved
-    ensures { result ≡ begun_as originals.now.setup method }
+    ensures { result ≡ begun_as originals.now.versions method }
 {
     let Some(method) = method else {
         return Moved::On;
@@ -67,9 +68,9 @@ fn method_begun(originals: &Originals, method: Option<u32>) -> Moved
 fn unwind(originals: &Originals, frames: &mut Frames, here: Here) -> Moved
     requires { here_of frames.old.frames ≡ Some here }
     ensures answer { let fs = frames.old.frames in
-        result ≡ moved_by (Unwound ∷ []) (unwind_due originals.now.setup fs) }
+        result ≡ moved_by (Unwound ∷ []) (unwind_due originals.now.versions fs) }
     ensures frames { frames.new.frames
-        ≡ unwound_by (unwind_due originals.now.setup frames.old.frames) frames.old.frames }
+        ≡ unwound_by (unwind_due originals.now.versions frames.old.frames) frames.old.frames }
 {
     if is_marked(originals, here.version) {
         return Moved::Unwinds;
@@ -90,12 +91,14 @@ fn meet_frame(
     requires thrown { parts.old.thrown ≡ Some object }
     requires here { here_of parts.old.frames.frames ≡ Some here }
     ensures answer { IfOk result
-        (λ m. m ≡ moved_as originals.now.setup (state_in parts.old)) }
+        (λ m. m ≡ moved_as (setup_in parts.old.runtime originals.now) (state_in parts.old)) }
     ensures state { OnOk result (state_in parts.new
-        ≡ moved_to originals.now.setup (state_in parts.old)) }
+        ≡ moved_to (setup_in parts.old.runtime originals.now) (state_in parts.old)) }
+    ensures world { parts.new.runtime.world ≡ parts.old.runtime.world }
+    ensures same_loaded { parts.new.runtime.shared.loaded ≡ parts.old.runtime.shared.loaded }
 {
-    let class = class_of(originals.program(), &parts.shared.heap, object) as usize;
-    match handler_for(originals, here.version, class, here.place) {
+    let class = class_of(&parts.runtime, object) as usize;
+    match handler_for(originals, &parts.runtime, here.version, class, here.place) {
         Some(target) => {
             go_to_handler(alloc, originals, parts, object, here, target)?;
             Ok(Moved::On)
@@ -114,12 +117,14 @@ fn meet_throw(
     requires ending { parts.old.ending ≡ None }
     requires thrown { parts.old.thrown ≡ Some object }
     ensures answer { IfOk result
-        (λ m. m ≡ moved_as originals.now.setup (state_in parts.old)) }
+        (λ m. m ≡ moved_as (setup_in parts.old.runtime originals.now) (state_in parts.old)) }
     ensures state { OnOk result (state_in parts.new
-        ≡ moved_to originals.now.setup (state_in parts.old)) }
+        ≡ moved_to (setup_in parts.old.runtime originals.now) (state_in parts.old)) }
+    ensures world { parts.new.runtime.world ≡ parts.old.runtime.world }
+    ensures same_loaded { parts.new.runtime.shared.loaded ≡ parts.old.runtime.shared.loaded }
 {
     let Some(here) = where_now(&parts.frames) else {
-        let class = class_of(originals.program(), &parts.shared.heap, object);
+        let class = class_of(&parts.runtime, object);
         parts.ending = Some(Ending::Uncaught(class));
         return Ok(Moved::On);
     };
@@ -132,9 +137,11 @@ fn begin_or_end(originals: &Originals, parts: &mut Parts) -> Result<Moved, NoMem
     requires thrown { parts.old.thrown ≡ None }
     requires none { parts.old.frames.frames ≡ [] }
     ensures answer { IfOk result
-        (λ m. m ≡ moved_as originals.now.setup (state_in parts.old)) }
+        (λ m. m ≡ moved_as (setup_in parts.old.runtime originals.now) (state_in parts.old)) }
     ensures state { OnOk result (state_in parts.new
-        ≡ moved_to originals.now.setup (state_in parts.old)) }
+        ≡ moved_to (setup_in parts.old.runtime originals.now) (state_in parts.old)) }
+    ensures world { parts.new.runtime.world ≡ parts.old.runtime.world }
+    ensures same_loaded { parts.new.runtime.shared.loaded ≡ parts.old.runtime.shared.loaded }
 {
     if parts.begun {
         parts.ending = Some(Ending::Returned);
@@ -147,9 +154,11 @@ fn begin_or_end(originals: &Originals, parts: &mut Parts) -> Result<Moved, NoMem
 /// A move of the frames, where no initialization stands on the current one.
 fn move_frame(alloc: Global, originals: &Originals, parts: &mut Parts) -> Result<Moved, NoMemory>
     ensures answer { IfOk result
-        (λ m. m ≡ moved_as originals.now.setup (state_in parts.old)) }
+        (λ m. m ≡ moved_as (setup_in parts.old.runtime originals.now) (state_in parts.old)) }
     ensures state { OnOk result (state_in parts.new
-        ≡ moved_to originals.now.setup (state_in parts.old)) }
+        ≡ moved_to (setup_in parts.old.runtime originals.now) (state_in parts.old)) }
+    ensures world { parts.new.runtime.world ≡ parts.old.runtime.world }
+    ensures same_loaded { parts.new.runtime.shared.loaded ≡ parts.old.runtime.shared.loaded }
 {
     if parts.ending.is_some() {
         return Ok(Moved::Nothing);
@@ -173,9 +182,11 @@ pub fn make_move(
     initializing: &mut Stack<Initialization>,
 ) -> Result<Moved, NoMemory>
     ensures answer { let s = state_of initializing.old parts.old in
-        IfOk result (λ m. m ≡ moved_as originals.now.setup s) }
+        IfOk result (λ m. m ≡ moved_as (setup_in parts.old.runtime originals.now) s) }
     ensures state { let s = state_of initializing.old parts.old in
-        OnOk result (state_of initializing.new parts.new ≡ moved_to originals.now.setup s) }
+        OnOk result (state_of initializing.new parts.new ≡ moved_to (setup_in parts.old.runtime originals.now) s) }
+    ensures world { parts.new.runtime.world ≡ parts.old.runtime.world }
+    ensures same_loaded { parts.new.runtime.shared.loaded ≡ parts.old.runtime.shared.loaded }
 {
     if parts.ending.is_some() {
         return Ok(Moved::Nothing);

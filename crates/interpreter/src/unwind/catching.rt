@@ -10,6 +10,7 @@ ghost use Rattle.jvm_model.specs.Basis.Values.{ref_of};
 ghost use Rattle.jvm_model.specs.declared.event.Mark.TheVariants.{Off};
 ghost use Rattle.interpreter.specs.Instructions.Passing.{CatchesBelow, caught_if, fits_caught};
 ghost use Rattle.prepared_code.specs.Ready.{CanRun};
+ghost use Rattle.prepared_code.specs.Linked.{setup_in};
 
 use crate::unwind::handlers::{class_of, handler_for};
 use crate::unwind::settling::put_alone;
@@ -18,18 +19,19 @@ use frame_stack::Frames;
 use heap_objects::Value;
 use jf_bytes::Stack;
 use jvm_basic::{recall, ref_of};
-use jvm_model::{Mark, Shared};
+use jvm_model::Mark;
 use prepared_code::{Here, Initialization, Originals, has_bytes, initialization_on};
+use symbolic_references::Runtime;
 
 /// How many classes of a program stand from java/lang/Throwable on.
 const FROM_THROWABLE: usize = 33;
 
 /// Whether a class is java/lang/Throwable, where that stands in its place, or below it.
-fn is_throwable(originals: &Originals, class: usize) -> bool
-    requires { CanRun originals.now.setup }
-    ensures { result ≡ true → is_below originals.now.setup.world.program class throwable ≡ true }
+fn is_throwable(runtime: &Runtime, class: usize) -> bool
+    requires { IsFit runtime.now.world.program }
+    ensures { result ≡ true → is_below runtime.now.world.program class throwable ≡ true }
 {
-    let program = originals.program();
+    let program = runtime.program();
     let Some(upper) = program.classes.len().checked_sub(FROM_THROWABLE) else {
         return false;
     };
@@ -39,14 +41,14 @@ fn is_throwable(originals: &Originals, class: usize) -> bool
     if !has_bytes(b"java/lang/Throwable", file) {
         return false;
     }
-    is_subtype(originals.linker(), class, upper)
+    is_subtype(runtime.linker(), class, upper)
 }
 
 /// The object on top, where an athrow throws it.
-pub fn thrown_object(originals: &Originals, shared: &Shared, frames: &Frames) -> Option<u32>
-    requires { CanRun originals.now.setup }
-    ensures { let w = originals.now.setup.world in let o = top_operands frames.now.frames in
-        IfSome result (λ object. throws w shared.now (ref_of o) ≡ Throws object) }
+pub fn thrown_object(runtime: &Runtime, frames: &Frames) -> Option<u32>
+    requires { IsFit runtime.now.world.program }
+    ensures { let w = runtime.now.world in let o = top_operands frames.now.frames in
+        IfSome result (λ object. throws w runtime.now.shared (ref_of o) ≡ Throws object) }
 {
     let Some(object) = ref_of(frames) else {
         return None;
@@ -54,8 +56,8 @@ pub fn thrown_object(originals: &Originals, shared: &Shared, frames: &Frames) ->
     if object == 0 {
         return None;
     }
-    let class = class_of(originals.program(), &shared.heap, object) as usize;
-    if !is_throwable(originals, class) {
+    let class = class_of(runtime, object) as usize;
+    if !is_throwable(runtime, class) {
         return None;
     }
     Some(object)
@@ -78,12 +80,13 @@ fn is_off(mark: Mark) -> bool
 /// one.
 pub fn caught_below(
     originals: &Originals,
+    runtime: &Runtime,
     frames: &Frames,
     initializing: &Stack<Initialization>,
     here: Here,
     class: usize,
 ) -> Option<u16>
-    ensures { let w = originals.now.setup in IfSome result
+    ensures { let w = setup_in runtime.now originals.now in IfSome result
         (λ target. CatchesBelow w initializing.now here frames.now.frames class target) }
 {
     if !is_off(originals.mark(here.version)) {
@@ -99,13 +102,13 @@ pub fn caught_below(
     if initialization_on(initializing, depth - 1).is_some() {
         return None;
     }
-    if handler_for(originals, here.version, class, here.place).is_some() {
+    if handler_for(originals, runtime, here.version, class, here.place).is_some() {
         return None;
     }
     let Some((version, place)) = frames.caller() else {
         return None;
     };
-    handler_for(originals, version, class, place)
+    handler_for(originals, runtime, version, class, place)
 }
 
 /// The current frame is taken off, and its caller goes on at a handler with the object alone on its operands. False, with nothing changed,

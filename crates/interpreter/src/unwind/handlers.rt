@@ -9,11 +9,9 @@ ghost use Rattle.jvm_model.specs.Basis.SharedState.{class_of_kind};
 ghost use Rattle.prepared_code.specs.Versions.{catcher_in, listing_of};
 
 use crate::unwind::supertypes::is_below;
-use class_index::class_of_kind;
 use class_linker::Linker;
-use heap_objects::Heap;
-use jvm_model::Program;
 use prepared_code::{Catching, Originals};
+use symbolic_references::Runtime;
 
 // ---- handlers
 
@@ -28,24 +26,24 @@ fn catches(linker: &Linker, handler: &Catching, class: usize) -> bool
 }
 
 /// Whether it covers the place of a frame, too.
-fn covers(originals: &Originals, handler: &Catching, class: usize, place: u16) -> bool
-    ensures { result ≡ covers originals.now.setup.world class place (catcher_in handler.now) }
+fn covers(runtime: &Runtime, handler: &Catching, class: usize, place: u16) -> bool
+    ensures { result ≡ covers runtime.now.world class place (catcher_in handler.now) }
 {
-    handler.start <= place && place < handler.end && catches(originals.linker(), handler, class)
+    handler.start <= place && place < handler.end && catches(runtime.linker(), handler, class)
 }
 
 /// Where the first one of them goes on that covers the place.
 fn target_among(
-    originals: &Originals,
+    runtime: &Runtime,
     handlers: &[Catching],
     class: usize,
     place: u16,
 ) -> Option<u16>
-    ensures { result ≡ handler_for originals.now.setup.world class place
+    ensures { result ≡ handler_for runtime.now.world class place
         (map catcher_in handlers.now) }
 {
     for handler in handlers {
-        if covers(originals, handler, class, place) {
+        if covers(runtime, handler, class, place) {
             return Some(handler.target);
         }
     }
@@ -54,12 +52,12 @@ fn target_among(
 
 /// Where a frame goes on, at a place of a version, when an object of the class at a position is
 /// thrown there; None where no handler catches it.
-pub fn handler_for(originals: &Originals, version: usize, class: usize, place: u16) -> Option<u16>
-    ensures { result ≡ handler_for originals.now.setup.world class place
-        ((listing_of originals.now.setup.versions).handlers version) }
+pub fn handler_for(originals: &Originals, runtime: &Runtime, version: usize, class: usize, place: u16) -> Option<u16>
+    ensures { result ≡ handler_for runtime.now.world class place
+        ((listing_of originals.now.versions).handlers version) }
 {
     match originals.handlers(version) {
-        Some(handlers) => target_among(originals, handlers.as_slice(), class, place),
+        Some(handlers) => target_among(runtime, handlers.as_slice(), class, place),
         None => None,
     }
 }
@@ -67,12 +65,11 @@ pub fn handler_for(originals: &Originals, version: usize, class: usize, place: u
 // ---- objects
 
 /// The position of the class of an object; 0 where there is no object.
-pub fn class_of(program: &Program, heap: &Heap, reference: u32) -> u32
-    requires { length program.now.classes < 2 ^ 24 }
-    ensures { result ≡ option_map_or (class_of_kind program.now) (kind_at reference heap.now) 0 }
+pub fn class_of(runtime: &Runtime, object: u32) -> u32
+    ensures { result ≡ class_of runtime.now.world.program runtime.now.shared object }
 {
-    match heap.kind(reference) {
-        Some(kind) => class_of_kind(program, kind),
+    match runtime.heap().kind(object) {
+        Some(kind) => runtime.linker().index().class_of_kind(kind),
         None => 0,
     }
 }

@@ -11,6 +11,7 @@ ghost use Rattle.interpreter.specs.Moves.Settling.{frame_emptied, fits_alone, wi
 ghost use Rattle.interpreter.specs.Moves.Settling.{caught_at, main_entries};
 ghost use Rattle.interpreter.specs.Moves.Turning.{begun_in};
 ghost use Rattle.prepared_code.specs.Versions.{listing_of};
+ghost use Rattle.prepared_code.specs.Linked.{setup_in};
 
 use crate::execute::entering::enter;
 use crate::initialize::initializing::{fail, go_on};
@@ -21,6 +22,7 @@ use jf_bytes::{NoMemory, Stack};
 use jvm_model::Ending;
 use prepared_code::{Here, Initialization, Originals, Parts};
 use std::alloc::Global;
+use symbolic_references::Runtime;
 
 /// The argument array's object.
 const ARGUMENTS: u32 = 5;
@@ -56,7 +58,9 @@ pub fn go_to_handler(
 ) -> Result<(), NoMemory>
     requires { here_of parts.old.frames.frames ≡ Some here }
     ensures state { OnOk result (state_in parts.new ≡
-        caught_at originals.now.setup object target parts.old.frames.frames parts.old) }
+        caught_at (setup_in parts.old.runtime originals.now) object target parts.old.frames.frames parts.old) }
+    ensures world { parts.new.runtime.world ≡ parts.old.runtime.world }
+    ensures same_loaded { parts.new.runtime.shared.loaded ≡ parts.old.runtime.shared.loaded }
 {
     parts.thrown = None;
     if !put_alone(&mut parts.frames, object) {
@@ -69,15 +73,15 @@ pub fn go_to_handler(
 // ---- nothing is left
 
 /// The frame of `main`, which has its argument array, if it has a local for it.
-fn begin_frame(originals: &Originals, frames: &mut Frames, main: u32) -> Result<bool, NoMemory>
+fn begin_frame(originals: &Originals, runtime: &Runtime, frames: &mut Frames, main: u32) -> Result<bool, NoMemory>
     requires none { frames.old.frames ≡ [] }
-    requires main { main ≡ originals.now.setup.world.program.main }
-    ensures answer { IfOk result (λ b. b ≡ has_room originals.now.setup.world main argument_array) }
+    requires main { main ≡ runtime.now.world.program.main }
+    ensures answer { IfOk result (λ b. b ≡ has_room runtime.now.world main argument_array) }
     ensures frames { IfOk result (λ b.
-        map active frames.new.frames ≡ main_entries b originals.now.setup) }
+        map active frames.new.frames ≡ main_entries b (setup_in runtime.now originals.now)) }
 {
-    let max_locals = originals.max_locals(main);
-    let max_stack = originals.max_stack(main);
+    let max_locals = runtime.max_locals(main);
+    let max_stack = runtime.max_stack(main);
     if max_locals == 0 {
         return Ok(false);
     }
@@ -90,13 +94,15 @@ fn begin_frame(originals: &Originals, frames: &mut Frames, main: u32) -> Result<
 /// `main` begins, or the run ends where it has no local for its argument. The answer is the method that has begun.
 pub fn begin_main(originals: &Originals, parts: &mut Parts) -> Result<Option<u32>, NoMemory>
     requires { parts.old.frames.frames ≡ [] }
-    ensures begun { let w = originals.now.setup in IfOk result (λ o. o ≡ begun_in
+    ensures begun { let w = setup_in parts.old.runtime originals.now in IfOk result (λ o. o ≡ begun_in
         (main_or_end w.world (listing_of w.versions) (state_in parts.old) false).changes) }
-    ensures state { let w = originals.now.setup in OnOk result (state_in parts.new ≡
+    ensures state { let w = setup_in parts.old.runtime originals.now in OnOk result (state_in parts.new ≡
         (main_or_end w.world (listing_of w.versions) (state_in parts.old) false).after) }
+    ensures world { parts.new.runtime.world ≡ parts.old.runtime.world }
+    ensures same_loaded { parts.new.runtime.shared.loaded ≡ parts.old.runtime.shared.loaded }
 {
-    let main = originals.program().main;
-    if begin_frame(originals, &mut parts.frames, main)? {
+    let main = parts.runtime.program().main;
+    if begin_frame(originals, &parts.runtime, &mut parts.frames, main)? {
         parts.begun = true;
         return Ok(Some(main));
     }
@@ -115,21 +121,22 @@ pub fn move_initialization(
     initializing: &mut Stack<Initialization>,
     initialization: Initialization,
 ) -> Result<Option<u32>, NoMemory>
-    ensures begun { IfOk result (λ o. o ≡ initialization_begins originals.now.setup
+    ensures begun { IfOk result (λ o. o ≡ initialization_begins (setup_in parts.old.runtime originals.now)
         (state_of initializing.old parts.old) parts.old.thrown initialization.class
         initialization.part) }
     ensures state { OnOk result (state_of initializing.new parts.new
-        ≡ after_initialization originals.now.setup
+        ≡ after_initialization (setup_in parts.old.runtime originals.now)
         (state_of initializing.old parts.old) parts.old.thrown
         initialization.class initialization.part) }
+    ensures world { parts.new.runtime.world ≡ parts.old.runtime.world }
+    ensures same_loaded { parts.new.runtime.shared.loaded ≡ parts.old.runtime.shared.loaded }
 {
     match parts.thrown {
         Some(object) => {
-            fail(originals, parts, initialization.class, object)?;
+            fail(parts, initialization.class, object)?;
             Ok(None)
         }
         None => go_on(
-            alloc,
             originals,
             parts,
             initializing,

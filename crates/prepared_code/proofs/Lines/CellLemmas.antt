@@ -2,16 +2,11 @@
 use Rattle.std.proofs.Common.{◌≡◌, ◌⊎◌, ℕ, zero, suc, Bool, true, false, List, [], ◌∷◌, ◌++◌, Option, Some, None, ap, sym, subst, refl, ◌∙◌, inl, inr}
 use Rattle.std.specs.Prelude.{◌==◌, ◌&&◌, slice_get, slice_set, if◌then◌else◌}
 use Rattle.std.specs.Option.{IfSome, option_and_then}
-use Rattle.frame_stack.specs.FrameLists.{FramesView, PlacedFrame, pins_of, top_operands}
+use Rattle.frame_stack.specs.FrameLists.{PlacedFrame, pins_of}
 use Rattle.method_versions.specs.Tables.{is_superseded_in}
-use Rattle.jvm_model.specs.declared.state.Shared.{Shared}
 use Rattle.class_linker.specs.Linkers.{LinkerView}
-use Rattle.jvm_model.specs.Classes.Load.{load_of}
-use Rattle.jvm_model.specs.Instructions.SymbolicReference.{newly_loaded}
 use Rattle.jvm_model.specs.declared.instruction.SymbolicReference.{SymbolicReference}
-use Rattle.jvm_model.specs.declared.instruction.SymbolicReference.TheVariants.{New}
-use Rattle.jvm_model.proofs.Loading.LoadsAgain.{newly-loaded}
-use Rattle.symbolic_references.specs.Attempts.{linker_loaded}
+use Rattle.symbolic_references.specs.Attempts.{with_more}
 use Rattle.symbolic_references.specs.declared.known.Known.{Known}
 use Rattle.symbolic_references.specs.Known.{IsKnown}
 use Rattle.symbolic_references.proofs.Again.{known-more}
@@ -23,10 +18,6 @@ use Rattle.prepared_code.specs.Versions.{line_at, line_in}
 use Rattle.prepared_code.specs.declared.line.Action.{Action}
 use Rattle.prepared_code.specs.declared.line.Action.TheVariants as action
 use Rattle.prepared_code.specs.declared.line.Line.{Line}
-
--- with these classes loaded too
-abbrev with_more : LinkerView → List ℕ → LinkerView
-with_more l more = record l { loaded = l.loaded ++ more }
 
 no-known : {A : Type 0} (k : A) → None ≡ Some k → ⊥
 no-known k e = cc
@@ -172,22 +163,8 @@ known-later l new v rows later are = record {
 pub later_same : (l new : LinkerView) → new ≡ l → IsLater l new
 later_same l new same = record { keeps = λ n k is. subst (λ v. IsKnown v n k) (sym same) is }
 
-pub later_loaded : (l new : LinkerView) (n : SymbolicReference) (s : Shared) (f : FramesView) → l.loaded ≡ s.loaded → new ≡ linker_loaded n s l f → IsLater l new
-later_loaded l new n s f linked is = record {
-  keeps = λ n2 k known. subst (λ v. IsKnown v n2 k)
-      (sym (is ∙ ap (λ classes. let v : LinkerView = record { program = l.program; loaded = classes ++ newly_loaded l.program s.loaded n (top_operands f.frames) } in v) (sym linked)))
-      (known-more l (newly_loaded l.program s.loaded n (top_operands f.frames)) n2 k known);
-}
-
-pub later-resolved : (l new : LinkerView) (name : List ℕ) → new.program ≡ l.program → new.loaded ≡ (load_of l.program l.loaded name).loaded → IsLater l new
-later-resolved l new name program loaded = record {
-  keeps = λ n k known. subst (λ v. IsKnown v n k) (sym is) (known-more l (newly_loaded l.program l.loaded (New name) []) n k known);
-}
-  where
-    is : new ≡ with_more l (newly_loaded l.program l.loaded (New name) [])
-    is =
-        ap (λ p. let v : LinkerView = record { program = p; loaded = new.loaded } in v) program
-        ∙ ap (λ classes. let v : LinkerView = record { program = l.program; loaded = classes } in v) (loaded ∙ sym (newly-loaded l.program l.loaded (New name) [] refl))
+pub later_more : (l new : LinkerView) (more : List ℕ) → new ≡ with_more l more → IsLater l new
+later_more l new more is = record { keeps = λ n k known. subst (λ v. IsKnown v n k) (sym is) (known-more l more n k known) }
 
 -- what was learnt by an attempt is kept
 pub known-learnt : (l new : LinkerView) (v : Versions) (rows after : Rows) (version place : ℕ) (learnt : Option Known) → IsLater l new → AreKnown l v rows

@@ -12,11 +12,12 @@ use Rattle.jvm_model.specs.declared.program.Program.{Program}
 use Rattle.jvm_model.specs.Basis.Methods.{code_of, method_code, method_params, member_shape}
 use Rattle.jvm_model.specs.Basis.Programs.{class_at}
 use Rattle.jvm_model.specs.Basis.SharedState.{kind_for, string}
-use Rattle.symbolic_references.specs.Numbers.{AreNumbers, Row}
 use Rattle.jvm_model.specs.declared.exception.Exception.{Exception}
-use Rattle.prepared_code.specs.declared.originals.Exceptions.{Exceptions}
-use Rattle.prepared_code.specs.declared.originals.Method.{Method}
-use Rattle.prepared_code.specs.Prepared.{FitsOriginals, IsPrepared, exception_in, exception_kind}
+use Rattle.symbolic_references.specs.declared.program_tables.Method.{Method}
+use Rattle.symbolic_references.specs.declared.program_tables.ProgramTables.{ProgramTables}
+use Rattle.symbolic_references.specs.Numbers.{AreNumbers}
+use Rattle.symbolic_references.specs.ProgramFacts.{AreTablesOf, exception_in, exception_kind}
+use Rattle.prepared_code.specs.Prepared.{FitsOriginals, IsPrepared}
 use Rattle.prepared_code.specs.Entries.{entry_of, no_method, entry_in, entry_at, original_versions, own_number}
 use Rattle.prepared_code.specs.Versions.{HasLines}
 use Rattle.prepared_code.specs.Tables.{Versions}
@@ -72,24 +73,28 @@ locals-place p (Some place) = (limits-class place (class_at p place.class)).loca
 
 -- ---- all of them
 
-pub IsPrepared-entries : (p : Program) (methods : List Method) (v : Versions) (x : Exceptions) (numbers : List Row) → FitsOriginals p → length p.classes < 2 ^ 24 → length p.methods < 2 ^ 32 → methods ≡ map (entry_at p) p.methods → v ≡ original_versions p
-    → ((e : Exception) → exception_in p x e ≡ exception_kind p e) → x.string ≡ kind_for p string → AreNumbers p numbers → IsPrepared p methods v x numbers
-IsPrepared-entries p methods v x rows fits few numbered is made raised text numbers =
-    let entry : (k : ℕ) → slice_get methods k ≡ option_map (entry_at p) (slice_get p.methods k) = λ k. ap (λ ms. slice_get ms k) is ∙ slice_get-map (entry_at p) p.methods k in
+pub IsPrepared-entries : (p : Program) (v : Versions) → FitsOriginals p → length p.classes < 2 ^ 24 → length p.methods < 2 ^ 32 → v ≡ original_versions p
+    → IsPrepared p v
+IsPrepared-entries p v fits few numbered made = record {
+  fits = fits;
+  few = few;
+  numbered = numbered;
+  lines = subst HasLines (sym made) (original-lines p);
+  count = ap (λ (w : Versions). length w.current) made ∙ length-map-range_with_len own_number 0 (length p.methods);
+}
+
+pub tables-entries : (p : Program) (t : ProgramTables) → length p.classes < 2 ^ 24 → length p.methods < 2 ^ 32 → t.methods ≡ map (entry_at p) p.methods
+    → ((e : Exception) → exception_in p t.exceptions e ≡ exception_kind p e) → t.exceptions.string ≡ kind_for p string → t.exceptions.string < 2 ^ 25 → AreNumbers p t.numbers → AreTablesOf p t
+tables-entries p t few numbered is raised text small numbers =
+    let entry : (k : ℕ) → slice_get t.methods k ≡ option_map (entry_at p) (slice_get p.methods k) = λ k. ap (λ ms. slice_get ms k) is ∙ slice_get-map (entry_at p) p.methods k in
     record {
-      fits = fits;
       few = few;
       numbered = numbered;
+      numbers = numbers;
       params = λ k. ap (option_and_then (λ (m : Method). m.params)) (entry k) ∙ params-place p (slice_get p.methods k);
       max_stack = λ k. ap (λ (o : Option Method). option_map_or (λ m. m.max_stack) o 0) (entry k) ∙ stack-place p (slice_get p.methods k);
       max_locals = λ k. ap (λ (o : Option Method). option_map_or (λ m. m.max_locals) o 0) (entry k) ∙ locals-place p (slice_get p.methods k);
-      lines = subst HasLines (sym made) (original-lines p);
-      count = ap (λ (w : Versions). length w.current) made ∙ length-map-range_with_len own_number 0 (length p.methods);
       raised = raised;
       string = text;
-      numbers = numbers;
+      small = small;
     }
-
--- of the program that a linker has
-pub IsPrepared-same : (p q : Program) (methods : List Method) (v : Versions) (x : Exceptions) (rows : List Row) → q ≡ p → IsPrepared p methods v x rows → IsPrepared q methods v x rows
-IsPrepared-same p q methods v x rows same h = subst (λ r. IsPrepared r methods v x rows) (sym same) h

@@ -16,7 +16,7 @@ use Rattle.jvm_model.proofs.Soundness.SoundLines.{can-attempt}
 use Rattle.method_versions.specs.Tables.{AreCurrent, IsFirst, is_number, is_old, method_in}
 use Rattle.prepared_code.specs.Tables.{AreAllCurrent, Version, Versions, version_at}
 use Rattle.prepared_code.specs.Entries.{no_version, original_slot, original_version, original_versions, own_number, version_entry, version_in, version_of}
-use Rattle.prepared_code.specs.Prepared.{world_in}
+use Rattle.symbolic_references.specs.ProgramFacts.{world_in}
 use Rattle.prepared_code.specs.Ready.{CanRun, RunsIn}
 use Rattle.prepared_code.specs.Versions.{current_of, instruction_in, line_in, method_of, listing_of}
 use Rattle.prepared_code.proofs.Tables.OriginalVersions.{original-at, original-own}

@@ -4,6 +4,7 @@ use Rattle.jvm_model.specs.Instructions.LocalRules.{by_zero}
 use Rattle.jvm_model.specs.declared.exception.Exception.TheVariants.{Arithmetic}
 use Rattle.interpreter.specs.Instructions.Acts.{acts_alone, on_parts, raising}
 use Rattle.prepared_code.specs.States.{state_in}
+use Rattle.prepared_code.specs.Linked.{setup_in}
 use Rattle.interpreter.proofs.Instructions.Alone.{goes-next, goes-bad, goes-other, goes-throws}
 use Rattle.interpreter.proofs.Instructions.Callees.{came-to}
 use Rattle.interpreter.proofs.execute.attempting.act_alone.Goals as goal
@@ -11,16 +12,16 @@ use Rattle.interpreter.proofs.execute.attempting.act_alone.Goals as goal
 pub returns-in-Next : goal.returns-in-Next
 returns-in-Next c = record {
   state =
-      goes-next c.args.originals.now.setup c.args.line.now c.args.parts.now c.args.method c.basic_by-effect.new.frames c.requires.top
+      goes-next (setup_in c.args.parts.now.runtime c.args.originals.now) c.args.line.now c.args.parts.now c.args.method c.basic_by-effect.new.frames c.requires.top
       (sym c.basic_by-effect.ensures.effect ∙ c.in-Next.is) c.basic_by-effect.ensures.frames;
 }
 
 pub returns-in-Throws : goal.returns-in-Throws
 returns-in-Throws c = record {
   state =
-      let w = c.args.originals.now.setup in
+      let w = setup_in c.args.parts.now.runtime c.args.originals.now in
       let p = c.args.parts.now in
-      came-to c.raise_with.result c.raise_with.new.parts (raising w Arithmetic (Some by_zero) (record p { frames = c.basic_by-effect.new.frames })) (on_parts (acts_alone w c.args.line.now) p)
+      came-to c.raise_with.result c.raise_with.new.parts (raising w.world Arithmetic (Some by_zero) (record p { frames = c.basic_by-effect.new.frames })) (on_parts (acts_alone w c.args.line.now) p)
       (goes-throws w c.args.line.now p c.args.method c.in-Throws.field-0 c.basic_by-effect.new.frames c.requires.top
       (sym c.basic_by-effect.ensures.effect ∙ c.in-Throws.is) c.basic_by-effect.ensures.frames)
       c.raise_with.ensures;
@@ -30,7 +31,7 @@ pub returns-in-Bad : goal.returns-in-Bad
 returns-in-Bad c = record {
   state =
       on_ok_weaker c.break_here.result
-      (λ e. ap state_in e ∙ goes-bad c.args.originals.now.setup c.args.line.now c.args.parts.now c.args.method c.basic_by-effect.new.frames c.requires.top
+      (λ e. ap state_in e ∙ goes-bad (setup_in c.args.parts.now.runtime c.args.originals.now) c.args.line.now c.args.parts.now c.args.method c.basic_by-effect.new.frames c.requires.top
       (sym c.basic_by-effect.ensures.effect ∙ c.in-Bad.is) c.basic_by-effect.ensures.frames)
       c.break_here.ensures;
 }
@@ -39,7 +40,7 @@ pub returns-in-Other : goal.returns-in-Other
 returns-in-Other c = record {
   state =
       on_ok_weaker c.break_here-in-Other.result
-      (λ e. ap state_in e ∙ goes-other c.args.originals.now.setup c.args.line.now c.args.parts.now c.args.method c.basic_by-effect.new.frames c.requires.top
+      (λ e. ap state_in e ∙ goes-other (setup_in c.args.parts.now.runtime c.args.originals.now) c.args.line.now c.args.parts.now c.args.method c.basic_by-effect.new.frames c.requires.top
       (sym c.basic_by-effect.ensures.effect ∙ c.in-Other.is) c.basic_by-effect.ensures.frames)
       c.break_here-in-Other.ensures;
 }

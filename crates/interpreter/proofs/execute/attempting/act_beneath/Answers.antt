@@ -2,6 +2,7 @@ use Rattle.std.proofs.Common.{◌-◌, length, sym, ap, ◌∙◌}
 use Rattle.std.specs.Prelude.{is_some}
 use Rattle.std.proofs.lemmas.Result.{on_ok_weaker}
 use Rattle.prepared_code.specs.Initializations.{initialization_on}
+use Rattle.prepared_code.specs.Linked.{setup_in}
 use Rattle.interpreter.proofs.Initializing.Beneath.{does-beneath, not-some}
 use Rattle.interpreter.proofs.execute.attempting.act_beneath.Goals as goal
 
@@ -12,7 +13,7 @@ act_initializer-requires-clause-beneath c =
 pub returns-else-is_some : goal.returns-else-is_some
 returns-else-is_some c =
     on_ok_weaker c.act.result
-    (λ e. does-beneath c.args.originals.now.setup c.args.line.now c.args.initializing.now c.args.parts.now c.act.new.parts c.args.method c.args.parts.now.frames.frames c.requires.top
+    (λ e. does-beneath (setup_in c.args.parts.now.runtime c.args.originals.now) c.args.line.now c.args.initializing.now c.args.parts.now c.act.new.parts c.args.method c.args.parts.now.frames.frames c.requires.top
     c.requires.executing c.requires.alone
     (λ ends. not-some (initialization_on (length c.args.parts.now.frames.frames - 1) c.args.initializing.now)
     (ap (λ n. is_some (initialization_on (n - 1) c.args.initializing.now)) (sym c.depth.ensures) ∙ (ap is_some (sym c.initialization_on.ensures) ∙ (sym c.is_some.ensures ∙ c.if-is_some.false)))) e)

@@ -7,19 +7,20 @@ use Rattle.interpreter.specs.Instructions.Acts.{attempts_on, awaited_in, awaited
 use Rattle.prepared_code.specs.Initializations.{state_of}
 use Rattle.prepared_code.specs.Ready.{CanRun, IsSoundIn}
 use Rattle.interpreter.specs.Moves.Turning.{loads_in, loads_none}
+use Rattle.prepared_code.specs.Linked.{setup_in}
 use Rattle.interpreter.proofs.Initializing.Beneath.{nothing-there}
 use Rattle.interpreter.proofs.Loads.LoadedApart.{nothing-loads}
 use Rattle.interpreter.proofs.execute.attempting.attempt.Goals as goal
 
 pub returns-in_default-clause-answer : goal.returns-in_default-clause-answer
 returns-in_default-clause-answer c =
-    let w = c.args.originals.now.setup in
+    let w = setup_in c.args.parts.now.runtime c.args.originals.now in
     let p = c.args.parts.now in
     sym (ap (awaited_on w (state_of c.args.initializing.now p)) (nothing-there w c.args.initializing.now p (sym c.where_now.ensures ∙ c.in_default.is) c.requires.executing))
 
 pub returns-in_default-clause-state : goal.returns-in_default-clause-state
 returns-in_default-clause-state c =
-    let w = c.args.originals.now.setup in
+    let w = setup_in c.args.parts.now.runtime c.args.originals.now in
     let p = c.args.parts.now in
     sym (ap (attempts_on w (state_of c.args.initializing.now p)) (nothing-there w c.args.initializing.now p (sym c.where_now.ensures ∙ c.in_default.is) c.requires.executing))
 

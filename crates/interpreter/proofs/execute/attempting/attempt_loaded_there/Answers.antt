@@ -1,28 +1,24 @@
 use Rattle.std.proofs.Common.{sym, ap, ◌∙◌}
 use Rattle.interpreter.specs.Instructions.Acts.{attempts_on, awaited_on}
 use Rattle.prepared_code.specs.Initializations.{state_of}
-use Rattle.interpreter.proofs.Initializing.Beneath.{awaits-unnamed, loads-unnamed, nothing-there}
+use Rattle.interpreter.proofs.Initializing.Beneath.{awaits-unnamed}
 use Rattle.interpreter.proofs.Loads.LoadedApart.{nothing-loads, silent-loads}
-use Rattle.interpreter.proofs.Moves.Sounded.{objects-linked}
+use Rattle.interpreter.proofs.Instructions.NamedAttempts.{linked-kept}
+use Rattle.prepared_code.specs.Linked.{setup_in}
 use Rattle.interpreter.proofs.execute.attempting.attempt_loaded_there.Goals as goal
 
 -- its line names nothing
-pub attempt_line-requires-clause-objects : goal.attempt_line-requires-clause-objects
-attempt_line-requires-clause-objects c =
-    objects-linked c.args.originals.now.setup.world.program c.args.parts.now.shared c.args.originals.now.loaded c.requires.fit.fit c.requires.sound.shared c.requires.linked
-
 pub returns-clause-answer : goal.returns-clause-answer
 returns-clause-answer c =
-    sym (awaits-unnamed c.args.originals.now.setup c.args.initializing.now c.args.parts.now c.args.here c.requires.here c.requires.executing
+    sym (awaits-unnamed (setup_in c.args.parts.now.runtime c.args.originals.now) c.args.initializing.now c.args.parts.now c.args.here c.requires.here c.requires.executing
     (sym c.named_at.ensures ∙ c.if-named_at.false))
 
 pub returns-clause-some : goal.returns-clause-some
 returns-clause-some c =
-    sym (silent-loads c.args.originals.now.setup c.args.initializing.now c.args.parts.now c.requires.ending c.args.here c.requires.here c.requires.executing
+    sym (silent-loads (setup_in c.args.parts.now.runtime c.args.originals.now) c.args.initializing.now c.args.parts.now c.requires.ending c.args.here c.requires.here c.requires.executing
     (sym c.named_at.ensures ∙ c.if-named_at.false))
 
 pub returns-clause-linked : goal.returns-clause-linked
 returns-clause-linked c =
+    linked-kept c.args.originals.now c.args.parts.now.runtime c.attempt_line.new.parts.runtime c.in_ok-attempt_line.ensures.world c.in_ok-attempt_line.ensures.same_loaded
     c.requires.linked
-    ∙ loads-unnamed c.args.originals.now.setup c.args.initializing.now c.args.parts.now c.args.here c.requires.here c.requires.executing
-    (sym c.named_at.ensures ∙ c.if-named_at.false) (state_of c.args.initializing.now c.attempt_line.new.parts) c.in_ok-attempt_line.ensures

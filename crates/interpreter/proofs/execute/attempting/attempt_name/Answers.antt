@@ -1,67 +1,63 @@
-use Rattle.std.proofs.Common.{sym, ◌∙◌}
-use Rattle.prepared_code.specs.Initializations.{state_of}
-use Rattle.interpreter.proofs.Instructions.NamedAttempts.{awaits-told, begins-on, concluded-in, goes-on, loads-told}
-use Rattle.interpreter.proofs.Moves.Sounded.{built-in-linked, caller-linked, objects-linked}
+use Rattle.std.proofs.Common.{◌≡◌, None, Some, sym, ap, subst, ◌∙◌}
+use Rattle.std.specs.Prelude.{IfNone, is_some}
+use Rattle.std.specs.Option.{IfSome}
+use Rattle.frame_stack.specs.FrameLists.{top_operands}
+use Rattle.jvm_basic.specs.Outcomes.{top_locals}
+use Rattle.symbolic_references.specs.Outcomes.{asked}
+use Rattle.prepared_code.specs.Linked.{setup_in}
+use Rattle.prepared_code.specs.Tables.{Versions}
+use Rattle.prepared_code.specs.Versions.{line_at}
+use Rattle.interpreter.proofs.Instructions.Concluded.{stays-given}
+use Rattle.interpreter.proofs.Instructions.NamedAttempts.{awaits-told, begins-on, goes-on, linked-kept, same-setup, takes-there}
+use Rattle.interpreter.proofs.Moves.Sounded.{caller-linked}
 use Rattle.interpreter.proofs.execute.attempting.attempt_name.Goals as goal
 
-pub attempt_named-requires-clause-built_in : goal.attempt_named-requires-clause-built_in
-attempt_named-requires-clause-built_in c =
-    built-in-linked c.args.originals.now.setup.world.program c.args.parts.now.shared c.args.originals.now.loaded c.requires.sound.shared c.requires.linked
-
-pub attempt_named-requires-clause-objects : goal.attempt_named-requires-clause-objects
-attempt_named-requires-clause-objects c =
-    objects-linked c.args.originals.now.setup.world.program c.args.parts.now.shared c.args.originals.now.loaded c.requires.fit.fit c.requires.sound.shared c.requires.linked
+-- (written before a first check: the names of goals by analogy)
 
 pub attempt_named-requires-clause-caller : goal.attempt_named-requires-clause-caller
 attempt_named-requires-clause-caller c =
-    caller-linked c.args.originals.now.setup c.args.initializing.now c.args.parts.now c.args.originals.now.loaded c.args.here c.requires.fit c.requires.sound
-    c.requires.linked c.requires.here c.requires.executing
+    caller-linked (setup_in c.args.parts.now.runtime c.args.originals.now) c.args.initializing.now c.args.parts.now c.args.here c.requires.fit c.requires.sound c.requires.here c.requires.executing
 
-pub returns-in_default-clause-state : goal.returns-in_default-clause-state
-returns-in_default-clause-state c =
-    goes-on c.args.originals.now.setup c.args.initializing.now c.args.here c.args.parts.now c.requires.named c.requires.here c.requires.executing
-    c.attempt_named.new.frames c.attempt_named.new.shared c.attempt_named.new.output c.attempt_named.new.self.loaded c.in_ok-asked.asked
-    c.in_ok-asked.ensures.answer c.in_ok-asked.ensures.frames c.in_ok-asked.ensures.shared c.in_ok-asked.ensures.output c.in_ok-asked.ensures.loaded
-    c.in_ok-awaited.awaited c.conclude.new.parts c.in_ok-awaited.ensures.answer c.in_default.is
-    (concluded-in c.args.originals.now.setup c.attempt_named.new.self.setup c.args.here c.in_ok-asked.asked _ c.conclude.new.parts c.in_ok-asked.ensures.world
-    c.in_ok-awaited.ensures.state)
+pub conclude-requires-clause-takes : goal.conclude-requires-clause-takes
+conclude-requires-clause-takes c =
+    takes-there (setup_in c.args.parts.now.runtime c.args.originals.now) c.args.initializing.now c.args.here c.in-Some.line.now c.args.parts.now (subst (λ (v : Versions). line_at v c.args.here.version c.args.here.place ≡ Some c.in-Some.line.now) c.in_ok-outcome.ensures.versions c.in-Some.ensures.line)
+    c.requires.named c.requires.here c.requires.executing (asked c.in_ok-outcome.outcome c.args.parts.now.frames) c.attempt_named.new.runtime (c.in_ok-outcome.ensures.answer) (c.in_ok-outcome.ensures.runtime)
 
-pub returns-in_default-clause-answer : goal.returns-in_default-clause-answer
-returns-in_default-clause-answer c =
-    sym c.in_default.is
-    ∙ awaits-told c.args.originals.now.setup c.args.initializing.now c.args.here c.args.parts.now c.requires.named c.requires.here c.requires.executing
-    c.attempt_named.new.frames c.attempt_named.new.shared c.attempt_named.new.output c.attempt_named.new.self.loaded c.in_ok-asked.asked
-    c.in_ok-asked.ensures.answer c.in_ok-asked.ensures.frames c.in_ok-asked.ensures.shared c.in_ok-asked.ensures.output c.in_ok-asked.ensures.loaded
+pub returns-in_default-awaited-clause-state : goal.returns-in_default-awaited-clause-state
+returns-in_default-awaited-clause-state c =
+    goes-on (setup_in c.args.parts.now.runtime c.args.originals.now) c.args.initializing.now c.args.here c.in-Some.line.now c.args.parts.now (subst (λ (v : Versions). line_at v c.args.here.version c.args.here.place ≡ Some c.in-Some.line.now) c.in_ok-outcome.ensures.versions c.in-Some.ensures.line)
+    c.requires.named c.requires.here c.requires.executing (asked c.in_ok-outcome.outcome c.args.parts.now.frames) c.attempt_named.new.runtime (c.in_ok-outcome.ensures.answer) (c.in_ok-outcome.ensures.runtime)
+    _ c.conclude.new.parts (same-setup c.args.parts.now.runtime c.attempt_named.new.runtime c.args.originals.now c.attempt_named.new.self c.in_ok-outcome.ensures.world c.in_ok-outcome.ensures.versions)
+    (stays-given c.in_ok-outcome.outcome (top_locals c.args.parts.now.frames.frames) (top_operands c.args.parts.now.frames.frames) (sym c.in_ok-awaited.ensures.answer ∙ c.in_default-awaited.is))
+    (subst (λ o. IfNone o _) c.in_default-awaited.is c.in_ok-awaited.ensures.state)
+
+pub returns-in_default-awaited-clause-answer : goal.returns-in_default-awaited-clause-answer
+returns-in_default-awaited-clause-answer c =
+    sym c.in_default-awaited.is
+    ∙ awaits-told (setup_in c.args.parts.now.runtime c.args.originals.now) c.args.initializing.now c.args.here c.in-Some.line.now c.args.parts.now (subst (λ (v : Versions). line_at v c.args.here.version c.args.here.place ≡ Some c.in-Some.line.now) c.in_ok-outcome.ensures.versions c.in-Some.ensures.line)
+    c.requires.named c.requires.here c.requires.executing (asked c.in_ok-outcome.outcome c.args.parts.now.frames) c.attempt_named.new.runtime (c.in_ok-outcome.ensures.answer) (c.in_ok-outcome.ensures.runtime)
     c.in_ok-awaited.awaited c.in_ok-awaited.ensures.answer
 
-pub returns-in_default-clause-linked : goal.returns-in_default-clause-linked
-returns-in_default-clause-linked c =
-    loads-told c.args.originals.now.setup c.args.initializing.now c.args.here c.args.parts.now c.requires.named c.requires.here c.requires.executing
-    c.attempt_named.new.frames c.attempt_named.new.shared c.attempt_named.new.output c.attempt_named.new.self.loaded c.in_ok-asked.asked
-    c.in_ok-asked.ensures.answer c.in_ok-asked.ensures.frames c.in_ok-asked.ensures.shared c.in_ok-asked.ensures.output c.in_ok-asked.ensures.loaded
-    (state_of c.args.initializing.now c.conclude.new.parts) (returns-in_default-clause-state c)
+pub returns-in_default-awaited-clause-linked : goal.returns-in_default-awaited-clause-linked
+returns-in_default-awaited-clause-linked c =
+    linked-kept c.attempt_named.new.self c.attempt_named.new.runtime c.conclude.new.parts.runtime c.in_ok-awaited.ensures.world c.in_ok-awaited.ensures.same_loaded c.in_ok-outcome.ensures.linked
 
 pub returns-clause-state : goal.returns-clause-state
 returns-clause-state c =
-    c.in_ok-initialize.ensures
-    ∙ begins-on c.args.originals.now.setup c.args.initializing.now c.args.here c.args.parts.now c.requires.named c.requires.here c.requires.executing
-    c.attempt_named.new.frames c.attempt_named.new.shared c.attempt_named.new.output c.attempt_named.new.self.loaded c.in_ok-asked.asked
-    c.in_ok-asked.ensures.answer c.in_ok-asked.ensures.frames c.in_ok-asked.ensures.shared c.in_ok-asked.ensures.output c.in_ok-asked.ensures.loaded
-    c.in_ok-awaited.awaited c.in-Some.class c.conclude.new.parts c.in_ok-awaited.ensures.answer c.in-Some.is
-    (concluded-in c.args.originals.now.setup c.attempt_named.new.self.setup c.args.here c.in_ok-asked.asked _ c.conclude.new.parts c.in_ok-asked.ensures.world
-    c.in_ok-awaited.ensures.state)
+    c.in_ok-initialize.ensures.state
+    ∙ begins-on (setup_in c.args.parts.now.runtime c.args.originals.now) c.args.initializing.now c.args.here c.in-Some.line.now c.args.parts.now (subst (λ (v : Versions). line_at v c.args.here.version c.args.here.place ≡ Some c.in-Some.line.now) c.in_ok-outcome.ensures.versions c.in-Some.ensures.line)
+    c.requires.named c.requires.here c.requires.executing (asked c.in_ok-outcome.outcome c.args.parts.now.frames) c.attempt_named.new.runtime (c.in_ok-outcome.ensures.answer) (c.in_ok-outcome.ensures.runtime)
+    c.in_ok-awaited.awaited c.in-Some-awaited.class c.conclude.new.parts c.in_ok-awaited.ensures.answer c.in-Some-awaited.is
+    (subst (λ o. IfSome o (λ _. c.conclude.new.parts ≡ _)) c.in-Some-awaited.is c.in_ok-awaited.ensures.begins)
 
 pub returns-clause-answer : goal.returns-clause-answer
 returns-clause-answer c =
-    sym c.in-Some.is
-    ∙ awaits-told c.args.originals.now.setup c.args.initializing.now c.args.here c.args.parts.now c.requires.named c.requires.here c.requires.executing
-    c.attempt_named.new.frames c.attempt_named.new.shared c.attempt_named.new.output c.attempt_named.new.self.loaded c.in_ok-asked.asked
-    c.in_ok-asked.ensures.answer c.in_ok-asked.ensures.frames c.in_ok-asked.ensures.shared c.in_ok-asked.ensures.output c.in_ok-asked.ensures.loaded
+    sym c.in-Some-awaited.is
+    ∙ awaits-told (setup_in c.args.parts.now.runtime c.args.originals.now) c.args.initializing.now c.args.here c.in-Some.line.now c.args.parts.now (subst (λ (v : Versions). line_at v c.args.here.version c.args.here.place ≡ Some c.in-Some.line.now) c.in_ok-outcome.ensures.versions c.in-Some.ensures.line)
+    c.requires.named c.requires.here c.requires.executing (asked c.in_ok-outcome.outcome c.args.parts.now.frames) c.attempt_named.new.runtime (c.in_ok-outcome.ensures.answer) (c.in_ok-outcome.ensures.runtime)
     c.in_ok-awaited.awaited c.in_ok-awaited.ensures.answer
 
 pub returns-clause-linked : goal.returns-clause-linked
 returns-clause-linked c =
-    loads-told c.args.originals.now.setup c.args.initializing.now c.args.here c.args.parts.now c.requires.named c.requires.here c.requires.executing
-    c.attempt_named.new.frames c.attempt_named.new.shared c.attempt_named.new.output c.attempt_named.new.self.loaded c.in_ok-asked.asked
-    c.in_ok-asked.ensures.answer c.in_ok-asked.ensures.frames c.in_ok-asked.ensures.shared c.in_ok-asked.ensures.output c.in_ok-asked.ensures.loaded
-    (state_of c.initialize.new.initializing c.initialize.new.parts) (returns-clause-state c)
+    linked-kept c.attempt_named.new.self c.attempt_named.new.runtime c.initialize.new.parts.runtime (c.in_ok-initialize.ensures.world ∙ c.in_ok-awaited.ensures.world)
+    (c.in_ok-initialize.ensures.same_loaded ∙ c.in_ok-awaited.ensures.same_loaded) c.in_ok-outcome.ensures.linked

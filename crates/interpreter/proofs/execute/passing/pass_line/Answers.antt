@@ -10,6 +10,7 @@ use Rattle.prepared_code.specs.Tables.{Version, version_at}
 use Rattle.prepared_code.specs.Versions.{Setup, line_at}
 use Rattle.interpreter.proofs.Instructions.ElementSteps.{stands-there}
 use Rattle.interpreter.specs.Moves.Onward.{GoesOnward}
+use Rattle.prepared_code.specs.Linked.{setup_in}
 use Rattle.interpreter.proofs.Silent.GoingOnward.{onward-if}
 use Rattle.interpreter.proofs.Silent.SilentSteps.{passes_none}
 use Rattle.interpreter.proofs.execute.passing.pass_line.Goals as goal
@@ -48,10 +49,10 @@ pass_return-requires-clause-line c =
     c.requires.runs c.requires.stands
 
 pub returns-in_default : goal.returns-in_default
-returns-in_default c = passes_none c.args.originals.now.setup c.args.initializing.now c.args.parts.now c.requires.at_instruction
+returns-in_default c = passes_none (setup_in c.args.parts.now.runtime c.args.originals.now) c.args.initializing.now c.args.parts.now c.requires.at_instruction
 
 pub returns-in_default-action : goal.returns-in_default-action
-returns-in_default-action c = passes_none c.args.originals.now.setup c.args.initializing.now c.args.parts.now c.requires.at_instruction
+returns-in_default-action c = passes_none (setup_in c.args.parts.now.runtime c.args.originals.now) c.args.initializing.now c.args.parts.now c.requires.at_instruction
 
 pub pass_throw-requires-clause-here : goal.pass_throw-requires-clause-here
 pass_throw-requires-clause-here c = sym c.where_now.ensures ∙ c.in-Some.is
@@ -71,14 +72,14 @@ pass_measure-requires-clause-line c =
 
 pub returns-in-Athrow : goal.returns-in-Athrow
 returns-in-Athrow c =
-    let w = c.args.originals.now.setup in
+    let w = setup_in c.args.parts.now.runtime c.args.originals.now in
     let ms = c.args.initializing.now in
     subst (λ o. GoesOnward w ms c.args.parts.now o c.pass_throw.new.parts) (sym c.made_if.ensures)
     (onward-if w ms c.args.parts.now c.pass_throw.new.parts c.pass_throw.result c.pass_throw.ensures)
 
 pub returns-in-Arraylength : goal.returns-in-Arraylength
 returns-in-Arraylength c =
-    let w = c.args.originals.now.setup in
+    let w = setup_in c.args.parts.now.runtime c.args.originals.now in
     let ms = c.args.initializing.now in
     subst (λ o. GoesOnward w ms c.args.parts.now o c.pass_measure.new.parts) (sym c.made_if-in-Arraylength.ensures)
     (onward-if w ms c.args.parts.now c.pass_measure.new.parts c.pass_measure.result c.pass_measure.ensures)

@@ -7,6 +7,7 @@ use Rattle.jvm_model.specs.Rewriting.Images.{is_off}
 use Rattle.prepared_code.specs.Versions.{mark_of}
 use Rattle.interpreter.specs.Moves.Onward.{GoesOnward}
 use Rattle.interpreter.specs.Moves.Trying.{returns_by}
+use Rattle.prepared_code.specs.Linked.{setup_in}
 use Rattle.interpreter.proofs.Moves.CalmSteps.{stops-calmly}
 use Rattle.interpreter.proofs.Silent.GoingOnward.{not-marked, onward-if}
 use Rattle.interpreter.proofs.execute.passing.pass_return.Goals as goal
@@ -17,13 +18,13 @@ probed-as v version x there = ap (λ (o : Option Version). not (is_off (option_m
 
 pub returns-then-is_probed : goal.returns-then-is_probed
 returns-then-is_probed c =
-    stops-calmly c.args.originals.now.setup c.requires.run c.args.initializing.now c.args.parts.now c.args.here c.args.line.now c.requires.here c.requires.at_instruction c.requires.line
+    stops-calmly (setup_in c.args.parts.now.runtime c.args.originals.now) c.requires.run c.args.initializing.now c.args.parts.now c.args.here c.args.line.now c.requires.here c.requires.at_instruction c.requires.line
     (ap returns_by c.requires.ends)
-    (probed-as c.args.originals.now.setup.versions c.args.here.version c.args.version.now c.requires.runs ∙ sym c.is_probed.ensures ∙ c.if-is_probed.true)
+    (probed-as (setup_in c.args.parts.now.runtime c.args.originals.now).versions c.args.here.version c.args.version.now c.requires.runs ∙ sym c.is_probed.ensures ∙ c.if-is_probed.true)
 
 pub returns : goal.returns
 returns c =
-    let w = c.args.originals.now.setup in
+    let w = setup_in c.args.parts.now.runtime c.args.originals.now in
     let ms = c.args.initializing.now in
     subst (λ o. GoesOnward w ms c.args.parts.now o c.leave.new.parts) (sym c.made_if.ensures)
     (onward-if w ms c.args.parts.now c.leave.new.parts c.leave.result

@@ -9,19 +9,20 @@ use Rattle.heap_objects.specs.Heaps.{kind_at}
 use Rattle.std.specs.Option.{option_map_or}
 use Rattle.jvm_model.specs.Basis.Values.{ref_of}
 use Rattle.interpreter.specs.Instructions.Passing.{CatchesBelow}
+use Rattle.prepared_code.specs.Linked.{setup_in}
 use Rattle.interpreter.proofs.Silent.PassingThrows.{caught-passes}
 use Rattle.interpreter.proofs.Silent.SilentSteps.{passes_none}
 use Rattle.interpreter.proofs.execute.passing.pass_throw.Goals as goal
 
 pub returns-in_default : goal.returns-in_default
-returns-in_default c = passes_none c.args.originals.now.setup c.args.initializing.now c.args.parts.now c.requires.at_instruction
+returns-in_default c = passes_none (setup_in c.args.parts.now.runtime c.args.originals.now) c.args.initializing.now c.args.parts.now c.requires.at_instruction
 
 pub returns-in_default-caught_below : goal.returns-in_default-caught_below
-returns-in_default-caught_below c = passes_none c.args.originals.now.setup c.args.initializing.now c.args.parts.now c.requires.at_instruction
+returns-in_default-caught_below c = passes_none (setup_in c.args.parts.now.runtime c.args.originals.now) c.args.initializing.now c.args.parts.now c.requires.at_instruction
 
 pub returns : goal.returns
 returns c =
-    let w = c.args.originals.now.setup in
+    let w = setup_in c.args.parts.now.runtime c.args.originals.now in
     let p = c.args.parts.now in
     let r = c.in-Some.object in
     let thrown = subst (λ o. IfSome o (λ object. throws w.world p.shared (ref_of (top_operands p.frames.frames)) ≡ Throws object)) c.in-Some.is c.thrown_object.ensures in
@@ -29,5 +30,5 @@ returns c =
     caught-passes w c.requires.run c.args.initializing.now c.args.here c.args.line.now p c.requires.here c.requires.line c.requires.throws c.requires.at_instruction
     r c.in-Some-caught_below.target c.catch_below.result c.catch_below.new.frames
     (subst (λ class. CatchesBelow w c.args.initializing.now c.args.here p.frames.frames class c.in-Some-caught_below.target)
-    (c.class_of-class.ensures ∙ ap (λ (p : Program). option_map_or (class_of_kind p) (kind_at c.in-Some.object c.args.parts.now.shared.heap) 0) c.program.ensures.program) found)
+    (c.class_of-class.ensures ∙ ap (λ (p : Program). option_map_or (class_of_kind p) (kind_at c.in-Some.object c.args.parts.now.runtime.shared.heap) 0) c.program.ensures.program) found)
     thrown c.catch_below.ensures.fits c.catch_below.ensures.frames

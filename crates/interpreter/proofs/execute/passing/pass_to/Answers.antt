@@ -8,13 +8,14 @@ use Rattle.prepared_code.specs.Versions.{Setup}
 use Rattle.prepared_code.specs.Initializations.{state_of}
 use Rattle.interpreter.specs.Instructions.Passing.{Passes}
 use Rattle.interpreter.specs.Moves.Onward.{GoesOnward}
+use Rattle.prepared_code.specs.Linked.{setup_in}
 use Rattle.interpreter.proofs.Initializing.Behind.{leads-sound}
 use Rattle.interpreter.proofs.Silent.GoingOnward.{passes-still, silent-onward, told-onward}
 use Rattle.interpreter.proofs.Silent.SilentSteps.{passes-alone, passes-on, passes_none}
 use Rattle.interpreter.proofs.execute.passing.pass_to.Goals as goal
 
 pub loop-made-init : goal.loop-made-init
-loop-made-init c = (omega arith, passes_none c.args.originals.now.setup c.args.initializing.now c.args.parts.now c.requires.at_instruction)
+loop-made-init c = (omega arith, passes_none (setup_in c.args.parts.now.runtime c.args.originals.now) c.args.initializing.now c.args.parts.now c.requires.at_instruction)
 
 -- what was made before the line
 plainly : (w : Setup) (ms : List Initialization) (old mid new : Parts) (n m : ℕ) → Passes w ms old n mid → LeadsAlone w mid m new → Passes w ms old (n + m) new
@@ -27,12 +28,12 @@ of-line o l is P said = subst (λ o. IfSome o P) is said
 pub pass_line-requires-clause-linked : goal.pass_line-requires-clause-linked
 pass_line-requires-clause-linked c =
     c.requires.linked
-    ∙ sym (plainly c.args.originals.now.setup c.args.initializing.now c.args.parts.now c.loop-made.parts c.plain_to-stop.new.parts c.loop-made.made c.plain_to-stop.new.count
-    c.loop-made.invariant.1 (c.plain_to-stop.ensures.made c.args.originals.now.setup c.requires.run c.in-Some.ensures.runs)).loaded
+    ∙ sym (plainly (setup_in c.args.parts.now.runtime c.args.originals.now) c.args.initializing.now c.args.parts.now c.loop-made.parts c.plain_to-stop.new.parts c.loop-made.made c.plain_to-stop.new.count
+    c.loop-made.invariant.1 (c.plain_to-stop.ensures.made (setup_in c.args.parts.now.runtime c.args.originals.now) c.requires.run c.in-Some.ensures.runs)).loaded
 
 pub pass_line-requires-clause-sound : goal.pass_line-requires-clause-sound
 pass_line-requires-clause-sound c =
-    let w = c.args.originals.now.setup in
+    let w = setup_in c.args.parts.now.runtime c.args.originals.now in
     let ms = c.args.initializing.now in
     let n = c.loop-made.made + c.plain_to-stop.new.count in
     leads-sound w c.requires.run (state_of ms c.args.parts.now) n (state_of ms c.plain_to-stop.new.parts)
@@ -41,13 +42,13 @@ pass_line-requires-clause-sound c =
 
 pub pass_line-requires-clause-at_instruction : goal.pass_line-requires-clause-at_instruction
 pass_line-requires-clause-at_instruction c =
-    (plainly c.args.originals.now.setup c.args.initializing.now c.args.parts.now c.loop-made.parts c.plain_to-stop.new.parts c.loop-made.made c.plain_to-stop.new.count
-    c.loop-made.invariant.1 (c.plain_to-stop.ensures.made c.args.originals.now.setup c.requires.run c.in-Some.ensures.runs)).at_instruction
+    (plainly (setup_in c.args.parts.now.runtime c.args.originals.now) c.args.initializing.now c.args.parts.now c.loop-made.parts c.plain_to-stop.new.parts c.loop-made.made c.plain_to-stop.new.count
+    c.loop-made.invariant.1 (c.plain_to-stop.ensures.made (setup_in c.args.parts.now.runtime c.args.originals.now) c.requires.run c.in-Some.ensures.runs)).at_instruction
 
 -- one more is made
 pub loop-made-preserved : goal.loop-made-preserved
 loop-made-preserved c =
-    let w = c.args.originals.now.setup in
+    let w = setup_in c.args.parts.now.runtime c.args.originals.now in
     let ms = c.args.initializing.now in
     let mid = c.plain_to-stop.new.parts in
     let n = c.loop-made.made + c.plain_to-stop.new.count in
@@ -68,8 +69,8 @@ returns-in_default-clause-made c = record { between = c.loop-made.parts; passes 
 pub returns-in_default-stop-clause-made : goal.returns-in_default-stop-clause-made
 returns-in_default-stop-clause-made c = record {
   between = c.plain_to-stop.new.parts;
-  passes = plainly c.args.originals.now.setup c.args.initializing.now c.args.parts.now c.loop-made.parts c.plain_to-stop.new.parts c.loop-made.made c.plain_to-stop.new.count
-      c.loop-made.invariant.1 (c.plain_to-stop.ensures.made c.args.originals.now.setup c.requires.run c.in-Some.ensures.runs);
+  passes = plainly (setup_in c.args.parts.now.runtime c.args.originals.now) c.args.initializing.now c.args.parts.now c.loop-made.parts c.plain_to-stop.new.parts c.loop-made.made c.plain_to-stop.new.count
+      c.loop-made.invariant.1 (c.plain_to-stop.ensures.made (setup_in c.args.parts.now.runtime c.args.originals.now) c.requires.run c.in-Some.ensures.runs);
   comes = refl;
 }
 
@@ -86,7 +87,7 @@ pass_line-requires-clause-stands c =
 -- the line is left to others
 pub returns-in_default-pass_line-clause-made : goal.returns-in_default-pass_line-clause-made
 returns-in_default-pass_line-clause-made c =
-    let w = c.args.originals.now.setup in
+    let w = setup_in c.args.parts.now.runtime c.args.originals.now in
     let ms = c.args.initializing.now in
     let mid = c.plain_to-stop.new.parts in
     let first = plainly w ms c.args.parts.now c.loop-made.parts mid c.loop-made.made c.plain_to-stop.new.count c.loop-made.invariant.1 (c.plain_to-stop.ensures.made c.args.originals.now.setup c.requires.run c.in-Some.ensures.runs) in
@@ -100,7 +101,7 @@ returns-in_default-pass_line-clause-made c =
 -- a probe tells of it
 pub returns-then-is_telling-clause-made : goal.returns-then-is_telling-clause-made
 returns-then-is_telling-clause-made c =
-    let w = c.args.originals.now.setup in
+    let w = setup_in c.args.parts.now.runtime c.args.originals.now in
     let ms = c.args.initializing.now in
     let mid = c.plain_to-stop.new.parts in
     let went = subst (λ o. GoesOnward w ms mid o c.pass_line.new.parts) c.in-Some-pass_line.is c.pass_line.ensures in

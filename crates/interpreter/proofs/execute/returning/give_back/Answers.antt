@@ -7,6 +7,6 @@ pub returns : goal.returns
 returns c = record {
   state =
       c.give_back_by.ensures.state
-      ∙ gives-back-so c.args.originals.now.setup.versions (state_in c.args.parts.now) c.args.datum c.args.parts.now.frames.frames c.in-Some.caller c.in_ok-passage.passage
+      ∙ gives-back-so c.args.originals.now.versions (state_in c.args.parts.now) c.args.datum c.args.parts.now.frames.frames c.in-Some.caller c.in_ok-passage.passage
       (sym c.where_now.ensures ∙ c.in-Some.is) c.in_ok-passage.ensures;
 }

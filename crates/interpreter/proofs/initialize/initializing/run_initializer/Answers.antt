@@ -4,6 +4,7 @@ use Rattle.jvm_model.specs.Running.Moves.{raises}
 use Rattle.jvm_model.specs.Basis.Programs.{initializer_of}
 use Rattle.jvm_model.specs.Basis.SharedState.{stack_overflow}
 use Rattle.prepared_code.specs.Initializations.{state_of}
+use Rattle.prepared_code.specs.Linked.{setup_in}
 use Rattle.interpreter.proofs.Instructions.InitializerFrames.{live-of, method-begun, method-none, runs-begun, runs-over}
 use Rattle.interpreter.proofs.initialize.initializing.run_initializer.Goals as goal
 use Rattle.prepared_code.specs.Versions.{listing_of}
@@ -11,7 +12,7 @@ use Rattle.prepared_code.specs.Versions.{listing_of}
 -- one activation too many
 pub returns-then-not-may_begin-clause-begun : goal.returns-then-not-may_begin-clause-begun
 returns-then-not-may_begin-clause-begun c =
-    let w = c.args.originals.now.setup in
+    let w = setup_in c.args.parts.now.runtime c.args.originals.now in
     let found : initializer_of w.world.program c.args.class ≡ Some c.in-Some.method =
     ap (λ p. initializer_of p c.args.class) (sym c.program.ensures.program) ∙ (sym c.initializer_of.ensures ∙ c.in-Some.is) in
     method-none w (state_of c.args.initializing.now c.args.parts.now) c.args.class c.in-Some.method found
@@ -19,7 +20,7 @@ returns-then-not-may_begin-clause-begun c =
 
 pub returns-then-not-may_begin-clause-state : goal.returns-then-not-may_begin-clause-state
 returns-then-not-may_begin-clause-state c =
-    let w = c.args.originals.now.setup in
+    let w = setup_in c.args.parts.now.runtime c.args.originals.now in
     let found : initializer_of w.world.program c.args.class ≡ Some c.in-Some.method =
     ap (λ p. initializer_of p c.args.class) (sym c.program.ensures.program) ∙ (sym c.initializer_of.ensures ∙ c.in-Some.is) in
     ap (state_of c.put_initialization.new.initializing) c.in_ok-raise.ensures
@@ -30,7 +31,7 @@ returns-then-not-may_begin-clause-state c =
 -- it begins
 pub returns-clause-begun : goal.returns-clause-begun
 returns-clause-begun c =
-    let w = c.args.originals.now.setup in
+    let w = setup_in c.args.parts.now.runtime c.args.originals.now in
     let found : initializer_of w.world.program c.args.class ≡ Some c.in-Some.method =
     ap (λ p. initializer_of p c.args.class) (sym c.program.ensures.program) ∙ (sym c.initializer_of.ensures ∙ c.in-Some.is) in
     method-begun w (state_of c.args.initializing.now c.args.parts.now) c.args.class c.in-Some.method found
@@ -38,7 +39,7 @@ returns-clause-begun c =
 
 pub returns-clause-state : goal.returns-clause-state
 returns-clause-state c =
-    let w = c.args.originals.now.setup in
+    let w = setup_in c.args.parts.now.runtime c.args.originals.now in
     let found : initializer_of w.world.program c.args.class ≡ Some c.in-Some.method =
     ap (λ p. initializer_of p c.args.class) (sym c.program.ensures.program) ∙ (sym c.initializer_of.ensures ∙ c.in-Some.is) in
     c.in_ok-begin_initializer.ensures

@@ -1,6 +1,7 @@
 use Rattle.std.proofs.Common.{sym, ◌∙◌}
 use Rattle.std.proofs.lemmas.Bool.{false≢true}
 use Rattle.prepared_code.specs.Initializations.{state_of}
+use Rattle.prepared_code.specs.Linked.{setup_in}
 use Rattle.interpreter.proofs.Moves.HandLaws.{attempt-sound, hands-on, moves-linked, moves-sound, reaches-attempt, reaches-moves, start-sound}
 use Rattle.interpreter.proofs.turns.hands.go.Goals as goal
 
@@ -8,23 +9,23 @@ use Rattle.interpreter.proofs.turns.hands.go.Goals as goal
 pub returns-then-hand-clause-linked : goal.returns-then-hand-clause-linked
 returns-then-hand-clause-linked c =
     c.requires.linked
-    ∙ moves-linked c.args.originals.now.setup c.requires.fit (state_of c.args.initializing.now c.args.parts.now) (state_of c.go_by_moves.new.initializing c.go_by_moves.new.parts) c.args.hand.delivered c.args.hand.passed
+    ∙ moves-linked (setup_in c.args.parts.now.runtime c.args.originals.now) c.requires.fit (state_of c.args.initializing.now c.args.parts.now) (state_of c.go_by_moves.new.initializing c.go_by_moves.new.parts) c.args.hand.delivered c.args.hand.passed
     c.go_by_moves.new.passed c.in_ok-due.due c.in_ok-due.ensures
 
 pub returns-then-hand-clause-sound : goal.returns-then-hand-clause-sound
 returns-then-hand-clause-sound c = λ is.
-    moves-sound c.args.originals.now.setup c.requires.fit (state_of c.args.initializing.now c.args.parts.now) (state_of c.go_by_moves.new.initializing c.go_by_moves.new.parts) c.args.hand.delivered c.args.hand.passed
+    moves-sound (setup_in c.args.parts.now.runtime c.args.originals.now) c.requires.fit (state_of c.args.initializing.now c.args.parts.now) (state_of c.go_by_moves.new.initializing c.go_by_moves.new.parts) c.args.hand.delivered c.args.hand.passed
     c.go_by_moves.new.passed c.in_ok-due.due c.in_ok-due.ensures is
 
 pub returns-then-hand-clause-starts : goal.returns-then-hand-clause-starts
 returns-then-hand-clause-starts c = λ moves undelivered start.
-    start-sound c.args.originals.now.setup c.requires.fit (state_of c.args.initializing.now c.args.parts.now) (state_of c.go_by_moves.new.initializing c.go_by_moves.new.parts) c.args.hand.delivered c.args.hand.passed
+    start-sound (setup_in c.args.parts.now.runtime c.args.originals.now) c.requires.fit (state_of c.args.initializing.now c.args.parts.now) (state_of c.go_by_moves.new.initializing c.go_by_moves.new.parts) c.args.hand.delivered c.args.hand.passed
     c.go_by_moves.new.passed c.in_ok-due.due c.in_ok-due.ensures undelivered start
 
 pub returns-then-hand-clause-hands : goal.returns-then-hand-clause-hands
 returns-then-hand-clause-hands c = λ homes turn live has hand.
-    hands-on c.args.originals.now.setup homes has turn c.args.hand live (state_of c.args.initializing.now c.args.parts.now) hand c.gone_to.result (state_of c.go_by_moves.new.initializing c.go_by_moves.new.parts)
-    (reaches-moves c.args.originals.now.setup c.args.hand (state_of c.args.initializing.now c.args.parts.now) (state_of c.go_by_moves.new.initializing c.go_by_moves.new.parts) c.go_by_moves.new.passed c.in_ok-due.due c.gone_to.result c.gone_to.ensures.passed c.gone_to.ensures.due
+    hands-on (setup_in c.args.parts.now.runtime c.args.originals.now) homes has turn c.args.hand live (state_of c.args.initializing.now c.args.parts.now) hand c.gone_to.result (state_of c.go_by_moves.new.initializing c.go_by_moves.new.parts)
+    (reaches-moves (setup_in c.args.parts.now.runtime c.args.originals.now) c.args.hand (state_of c.args.initializing.now c.args.parts.now) (state_of c.go_by_moves.new.initializing c.go_by_moves.new.parts) c.go_by_moves.new.passed c.in_ok-due.due c.gone_to.result c.gone_to.ensures.passed c.gone_to.ensures.due
     c.if-hand.true c.in_ok-due.ensures)
 
 -- from an attempt
@@ -39,16 +40,16 @@ returns-clause-starts c = λ moves undelivered start. absurd (false≢true (sym 
 
 pub returns-in_default-clause-sound : goal.returns-in_default-clause-sound
 returns-in_default-clause-sound c = λ is.
-    attempt-sound c.args.originals.now.setup c.requires.fit (state_of c.args.initializing.now c.args.parts.now) (state_of c.go_by_attempt.new.initializing c.go_by_attempt.new.parts) c.in_ok-gone.gone c.args.hand.delivered c.args.hand.passed c.go_by_attempt.new.passed
+    attempt-sound (setup_in c.args.parts.now.runtime c.args.originals.now) c.requires.fit (state_of c.args.initializing.now c.args.parts.now) (state_of c.go_by_attempt.new.initializing c.go_by_attempt.new.parts) c.in_ok-gone.gone c.args.hand.delivered c.args.hand.passed c.go_by_attempt.new.passed
     c.in_ok-gone.ensures.some c.in_ok-gone.ensures.reaches c.in_ok-gone.ensures.loads is
 
 pub returns-clause-sound : goal.returns-clause-sound
 returns-clause-sound c = λ is.
-    attempt-sound c.args.originals.now.setup c.requires.fit (state_of c.args.initializing.now c.args.parts.now) (state_of c.go_by_attempt.new.initializing c.go_by_attempt.new.parts) c.in_ok-gone.gone c.args.hand.delivered c.args.hand.passed c.go_by_attempt.new.passed
+    attempt-sound (setup_in c.args.parts.now.runtime c.args.originals.now) c.requires.fit (state_of c.args.initializing.now c.args.parts.now) (state_of c.go_by_attempt.new.initializing c.go_by_attempt.new.parts) c.in_ok-gone.gone c.args.hand.delivered c.args.hand.passed c.go_by_attempt.new.passed
     c.in_ok-gone.ensures.some c.in_ok-gone.ensures.reaches c.in_ok-gone.ensures.loads is
 
 pub returns-clause-hands : goal.returns-clause-hands
 returns-clause-hands c = λ homes turn live has hand.
-    hands-on c.args.originals.now.setup homes has turn c.args.hand live (state_of c.args.initializing.now c.args.parts.now) hand c.gone_to-2.result (state_of c.go_by_attempt.new.initializing c.go_by_attempt.new.parts)
-    (reaches-attempt c.args.originals.now.setup c.args.hand (state_of c.args.initializing.now c.args.parts.now) (state_of c.go_by_attempt.new.initializing c.go_by_attempt.new.parts) c.go_by_attempt.new.passed c.in-Some.due c.gone_to-2.result c.gone_to-2.ensures.passed c.gone_to-2.ensures.due
+    hands-on (setup_in c.args.parts.now.runtime c.args.originals.now) homes has turn c.args.hand live (state_of c.args.initializing.now c.args.parts.now) hand c.gone_to-2.result (state_of c.go_by_attempt.new.initializing c.go_by_attempt.new.parts)
+    (reaches-attempt (setup_in c.args.parts.now.runtime c.args.originals.now) c.args.hand (state_of c.args.initializing.now c.args.parts.now) (state_of c.go_by_attempt.new.initializing c.go_by_attempt.new.parts) c.go_by_attempt.new.passed c.in-Some.due c.gone_to-2.result c.gone_to-2.ensures.passed c.gone_to-2.ensures.due
     c.if-hand.false c.in_ok-gone.gone c.in-Some.is c.in_ok-gone.ensures.reaches)

@@ -8,6 +8,6 @@ use Rattle.interpreter.proofs.turns.trying.enters.Goals as goal
 pub returns-in-Some : goal.returns-in-Some
 returns-in-Some c =
     c.is_marked.ensures
-    ∙ (ap (λ version. not (is_off (mark_of c.args.originals.now.setup.versions version))) c.current.ensures
-    ∙ enters_top c.args.originals.now.setup c.args.depth c.args.frames.now.frames c.in-Some.field-0-0 c.in-Some.method (sym c.top.ensures ∙ c.in-Some.is)
+    ∙ (ap (λ version. not (is_off (mark_of c.args.originals.now.versions version))) c.current.ensures
+    ∙ enters_top c.args.originals.now.versions c.args.depth c.args.frames.now.frames c.in-Some.field-0-0 c.in-Some.method (sym c.top.ensures ∙ c.in-Some.is)
     (omega (arith, c.if-depth.false, c.depth.ensures)))

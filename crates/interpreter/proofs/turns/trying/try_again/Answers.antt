@@ -1,11 +1,12 @@
 use Rattle.interpreter.specs.Instructions.Acts.{attempts_on}
 use Rattle.prepared_code.specs.Initializations.{state_of}
+use Rattle.prepared_code.specs.Linked.{setup_in}
 use Rattle.interpreter.proofs.Moves.Followed.{follows-in}
 use Rattle.interpreter.proofs.turns.trying.try_again.Goals as goal
 
 pub returns-clause-reaches : goal.returns-clause-reaches
 returns-clause-reaches c =
-    let w = c.args.originals.now.setup in
+    let w = setup_in c.args.parts.now.runtime c.args.originals.now in
     let s = state_of c.args.initializing.now c.args.parts.now in
     follows-in c.follow.result w c.attempt.new.originals.setup c.args.depth c.args.passed.now c.follow.new.passed
     (state_of c.attempt.new.initializing c.attempt.new.parts) (attempts_on w s s.stack) (state_of c.follow.new.initializing c.follow.new.parts)

@@ -2,6 +2,7 @@ use Rattle.std.proofs.Common.{sym, subst, ◌∙◌}
 use Rattle.prepared_code.specs.Initializations.{state_of}
 use Rattle.prepared_code.specs.Ready.{CanRun}
 use Rattle.interpreter.specs.Moves.Turning.{pause_at}
+use Rattle.prepared_code.specs.Linked.{setup_in}
 use Rattle.interpreter.proofs.Initializing.Behind.{none-there}
 use Rattle.interpreter.proofs.Moves.TriedSteps.{line-no-more, line-once, line-sound, line-twice, line-executing}
 use Rattle.interpreter.proofs.turns.trying.try_line.Goals as goal
@@ -11,7 +12,7 @@ attempt_loaded-requires-clause-executing c = none-there c.args.initializing.now 
 
 pub returns-in_default-awaited-clause-reaches : goal.returns-in_default-awaited-clause-reaches
 returns-in_default-awaited-clause-reaches c =
-    line-once c.args.originals.now.setup c.attempt_loaded.new.originals.setup c.in_ok-awaited.ensures.world c.requires.fit c.args.initializing.now c.args.parts.now c.requires.goes
+    line-once (setup_in c.args.parts.now.runtime c.args.originals.now) c.attempt_loaded.new.originals.setup c.in_ok-awaited.ensures.world c.requires.fit c.args.initializing.now c.args.parts.now c.requires.goes
     c.args.passed.now c.depth-depth.result c.depth-depth.ensures c.in_ok-awaited.field-0 c.in-Some.awaited c.in-Some.is (state_of c.attempt_loaded.new.initializing c.attempt_loaded.new.parts)
     c.in_ok-awaited.ensures.some c.in_ok-awaited.ensures.answer c.in_ok-awaited.ensures.state c.follow.new.initializing c.follow.new.parts c.follow.new.passed c.in_ok-due.due
     c.in_ok-due.ensures.reaches
@@ -19,7 +20,7 @@ returns-in_default-awaited-clause-reaches c =
 
 pub returns-then-not-tries_again-clause-reaches : goal.returns-then-not-tries_again-clause-reaches
 returns-then-not-tries_again-clause-reaches c =
-    line-no-more c.args.originals.now.setup c.attempt_loaded.new.originals.setup c.in_ok-awaited.ensures.world c.requires.fit c.args.initializing.now c.args.parts.now c.requires.goes
+    line-no-more (setup_in c.args.parts.now.runtime c.args.originals.now) c.attempt_loaded.new.originals.setup c.in_ok-awaited.ensures.world c.requires.fit c.args.initializing.now c.args.parts.now c.requires.goes
     c.args.passed.now c.depth-depth.result c.depth-depth.ensures c.in_ok-awaited.field-0 c.in-Some.awaited c.in-Some.is (state_of c.attempt_loaded.new.initializing c.attempt_loaded.new.parts)
     c.in_ok-awaited.ensures.some c.in_ok-awaited.ensures.answer c.in_ok-awaited.ensures.state c.follow.new.initializing c.follow.new.parts c.follow.new.passed c.in_ok-due.due
     c.in_ok-due.ensures.reaches
@@ -34,7 +35,7 @@ try_again-requires-clause-fit c = subst (λ w. CanRun w) (sym c.in_ok-awaited.en
 
 pub try_again-requires-clause-sound : goal.try_again-requires-clause-sound
 try_again-requires-clause-sound c =
-    line-sound c.args.originals.now.setup c.attempt_loaded.new.originals.setup c.in_ok-awaited.ensures.world c.requires.fit c.args.initializing.now c.args.parts.now c.requires.goes
+    line-sound (setup_in c.args.parts.now.runtime c.args.originals.now) c.attempt_loaded.new.originals.setup c.in_ok-awaited.ensures.world c.requires.fit c.args.initializing.now c.args.parts.now c.requires.goes
     c.args.passed.now c.depth-depth.result c.depth-depth.ensures c.in_ok-awaited.field-0 c.in-Some.awaited c.in-Some.is (state_of c.attempt_loaded.new.initializing c.attempt_loaded.new.parts)
     c.in_ok-awaited.ensures.some c.in_ok-awaited.ensures.answer c.in_ok-awaited.ensures.state c.follow.new.initializing c.follow.new.parts c.follow.new.passed c.in_ok-due.due
     c.in_ok-due.ensures.reaches
@@ -43,7 +44,7 @@ try_again-requires-clause-sound c =
 
 pub try_again-requires-clause-executing : goal.try_again-requires-clause-executing
 try_again-requires-clause-executing c =
-    line-executing c.args.originals.now.setup c.attempt_loaded.new.originals.setup c.in_ok-awaited.ensures.world c.requires.fit c.args.initializing.now c.args.parts.now c.requires.goes
+    line-executing (setup_in c.args.parts.now.runtime c.args.originals.now) c.attempt_loaded.new.originals.setup c.in_ok-awaited.ensures.world c.requires.fit c.args.initializing.now c.args.parts.now c.requires.goes
     c.args.passed.now c.depth-depth.result c.depth-depth.ensures c.in_ok-awaited.field-0 c.in-Some.awaited c.in-Some.is (state_of c.attempt_loaded.new.initializing c.attempt_loaded.new.parts)
     c.in_ok-awaited.ensures.some c.in_ok-awaited.ensures.answer c.in_ok-awaited.ensures.state c.follow.new.initializing c.follow.new.parts c.follow.new.passed c.in_ok-due.due
     c.in_ok-due.ensures.reaches
@@ -52,7 +53,7 @@ try_again-requires-clause-executing c =
 
 pub returns-clause-reaches : goal.returns-clause-reaches
 returns-clause-reaches c =
-    line-twice c.args.originals.now.setup c.attempt_loaded.new.originals.setup c.in_ok-awaited.ensures.world c.requires.fit c.args.initializing.now c.args.parts.now c.requires.goes
+    line-twice (setup_in c.args.parts.now.runtime c.args.originals.now) c.attempt_loaded.new.originals.setup c.in_ok-awaited.ensures.world c.requires.fit c.args.initializing.now c.args.parts.now c.requires.goes
     c.args.passed.now c.depth-depth.result c.depth-depth.ensures c.in_ok-awaited.field-0 c.in-Some.awaited c.in-Some.is (state_of c.attempt_loaded.new.initializing c.attempt_loaded.new.parts)
     c.in_ok-awaited.ensures.some c.in_ok-awaited.ensures.answer c.in_ok-awaited.ensures.state c.follow.new.initializing c.follow.new.parts c.follow.new.passed c.in_ok-due.due
     c.in_ok-due.ensures.reaches

@@ -1,13 +1,11 @@
 use Rattle.std.proofs.Common.{◌≡◌, Some, sym, subst, ap, ◌∙◌, rules}
 use Rattle.std.specs.Option.{option_copied}
-use Rattle.symbolic_references.specs.Objects.{AreLoaded}
-use Rattle.symbolic_references.specs.Selections.{AreSelections}
+use Rattle.symbolic_references.specs.Runtimes.{linker_in}
 use Rattle.prepared_code.specs.Cells.{cell_at}
 use Rattle.prepared_code.specs.Kept.{AreKnown}
-use Rattle.prepared_code.specs.Linked.{IsReady, linker_in}
-use Rattle.prepared_code.specs.Making.{AreBare, with_lines}
-use Rattle.prepared_code.specs.Prepared.{IsPrepared}
-use Rattle.prepared_code.proofs.Lines.CellLemmas.{known-at, learnt-kept, renewed}
+use Rattle.prepared_code.specs.Linked.{IsReady, Linked}
+use Rattle.prepared_code.specs.Making.{with_lines}
+use Rattle.prepared_code.proofs.Lines.CellLemmas.{known-at}
 use Rattle.prepared_code.proofs.Lines.Dimensions.{line-fits}
 use Rattle.prepared_code.proofs.originals.Originals.attempt_named.Goals as goal
 
@@ -16,43 +14,15 @@ line_there-requires c = subst (λ o. IsReady o c.args.version) (sym c.self.view_
 
 pub attempt_line-requires-clause-dimensions : goal.attempt_line-requires-clause-dimensions
 attempt_line-requires-clause-dimensions c =
-    line-fits (with_lines c.self.inside.linker.program c.self.inside.versions) c.self.invariant.prepared.lines c.args.version c.args.place c.in-Some.line (sym (ap option_copied c.in-Some.is) ∙ c.line_there.ensures)
+    line-fits (with_lines c.self.inside.index.value c.self.inside.versions) c.self.invariant.prepared.lines c.args.version c.args.place c.in-Some.line (sym (ap option_copied c.in-Some.is) ∙ c.line_there.ensures)
 
 pub attempt_line_known-requires-clause-dimensions : goal.attempt_line_known-requires-clause-dimensions
 attempt_line_known-requires-clause-dimensions c =
-    line-fits (with_lines c.self.inside.linker.program c.self.inside.versions) c.self.invariant.prepared.lines c.args.version c.args.place c.in-Some.line (sym (ap option_copied c.in-Some.is) ∙ c.line_there.ensures)
+    line-fits (with_lines c.self.inside.index.value c.self.inside.versions) c.self.invariant.prepared.lines c.args.version c.args.place c.in-Some.line (sym (ap option_copied c.in-Some.is) ∙ c.line_there.ensures)
 
 pub attempt_line_known-requires-clause-known : goal.attempt_line_known-requires-clause-known
 attempt_line_known-requires-clause-known c =
     let there : cell_at c.self.inside.cells c.args.version c.args.place ≡ Some c.in-Some-get.before = search rules in
-    known-at c.self.inside.linker (with_lines c.self.inside.linker.program c.self.inside.versions) c.self.inside.cells c.args.version c.args.place c.in-Some-get.before c.in-Some.line.now
-    c.self.invariant.known there (sym (sym (ap option_copied c.in-Some.is) ∙ c.line_there.ensures))
-
-pub attempt_line_known-requires-clause-objects : goal.attempt_line_known-requires-clause-objects
-attempt_line_known-requires-clause-objects c =
-    subst (λ v. AreLoaded (linker_in v) c.args.shared.now.heap) (sym c.self.view_is) c.requires.objects
-
-pub attempt_line-requires-clause-objects : goal.attempt_line-requires-clause-objects
-attempt_line-requires-clause-objects c =
-    subst (λ v. AreLoaded (linker_in v) c.args.shared.now.heap) (sym c.self.view_is) c.requires.objects
-
-pub invariant_of-self : goal.invariant_of-self
-invariant_of-self c = record {
-  prepared = c.self.invariant.prepared;
-  known = renewed c.self.inside.linker (with_lines c.self.inside.linker.program c.self.inside.versions) c.self.inside.cells c.renew.new.self c.args.version c.args.place c.attempt_line_known.new.known c.in-Some.line.now
-      (sym (sym (ap option_copied c.in-Some.is) ∙ c.line_there.ensures)) c.renew.ensures c.self.invariant.known c.attempt_line_known.ensures.known;
-  bare = c.self.invariant.bare;
-  selected = c.keep_selected.ensures c.self.inside.linker c.self.invariant.selected c.attempt_line_known.ensures.known;
-}
-
-pub invariant_of-self-2 : goal.invariant_of-self-2
-invariant_of-self-2 c = record {
-  prepared = subst (λ p. IsPrepared p c.self.inside.methods (with_lines p c.self.inside.versions) c.self.inside.exceptions c.self.inside.numbers)
-      (sym c.in_ok-asked.ensures.program) c.self.invariant.prepared;
-  known = subst (λ p. AreKnown c.attempt_line.new.linker (with_lines p c.self.inside.versions) c.learn.new.self) (sym c.in_ok-asked.ensures.program)
-      (learnt-kept c.self.inside.linker c.attempt_line.new.linker (with_lines c.self.inside.linker.program c.self.inside.versions) c.replace-cells.result c.learn.new.self c.args.version c.args.place
-      c.attempt_line.new.learnt c.in-Some.line.now (sym (sym (ap option_copied c.in-Some.is) ∙ c.line_there.ensures)) c.in_ok-asked.ensures.later
-      (subst (AreKnown c.self.inside.linker (with_lines c.self.inside.linker.program c.self.inside.versions)) (sym c.replace-cells.ensures.value) c.self.invariant.known) c.learn.ensures c.in_ok-asked.ensures.learnt);
-  bare = subst (λ p. AreBare p c.self.inside.versions) (sym c.in_ok-asked.ensures.program) c.self.invariant.bare;
-  selected = subst (λ p. AreSelections p c.self.inside.selections) (sym c.in_ok-asked.ensures.program) c.self.invariant.selected;
-}
+    known-at (linker_in c.args.runtime.now) (with_lines c.self.inside.index.value c.self.inside.versions) c.self.inside.cells c.args.version c.args.place c.in-Some-get.before c.in-Some.line.now
+    (subst (λ (o : Linked). AreKnown (linker_in c.args.runtime.now) o.versions o.rows) (sym c.self.view_is) c.requires.linked.known)
+    there (sym (sym (ap option_copied c.in-Some.is) ∙ c.line_there.ensures))

@@ -4,11 +4,12 @@ use Rattle.std.proofs.lemmas.Result.{on_ok_weaker}
 use Rattle.jvm_model.specs.declared.program.Program.{Program}
 use Rattle.jvm_model.specs.declared.state.State.{State}
 use Rattle.std.proofs.Common.{ℕ}
+use Rattle.symbolic_references.specs.Runtimes.{linker_in}
 use Rattle.prepared_code.specs.ClassVersions.{class_versions}
 use Rattle.prepared_code.specs.Kept.{AreKnown}
-use Rattle.prepared_code.specs.Linked.{Linked}
+use Rattle.prepared_code.specs.Linked.{IsLinked, Linked}
 use Rattle.prepared_code.specs.Making.{AreBare, with_lines}
-use Rattle.prepared_code.specs.Prepared.{IsPrepared, world_in}
+use Rattle.prepared_code.specs.Prepared.{IsPrepared}
 use Rattle.prepared_code.specs.Standing.{AreMethodImages, IsPinned, IsRunOf, IsSetUp}
 use Rattle.prepared_code.specs.Tables.{Adds, AreOfMethods, Version, Versions}
 use Rattle.prepared_code.specs.Versions.{HasOwnLines, Setup}
@@ -21,7 +22,7 @@ use Rattle.prepared_code.proofs.originals.Originals.install.Goals as goal
 
 pub add_all-requires : goal.add_all-requires
 add_all-requires c =
-    let p : Program = c.self.inside.linker.program in
+    let p : Program = c.self.inside.index.value in
     let made : c.in_ok-more.more ≡ class_versions p c.args.class c.args.image.now c.args.homes.now =
     c.in_ok-more.ensures ∙ ap (λ (q : Program). class_versions q c.args.class c.args.image.now c.args.homes.now) c.program-program.ensures in
     subst (λ n. AreOfMethods n c.in_ok-more.more) (sym c.self.invariant.prepared.count)
@@ -29,7 +30,7 @@ add_all-requires c =
 
 pub invariant_of-self : goal.invariant_of-self
 invariant_of-self c =
-    let p : Program = c.self.inside.linker.program in
+    let p : Program = c.self.inside.index.value in
     let made : c.in_ok-more.more ≡ class_versions p c.args.class c.args.image.now c.args.homes.now =
     c.in_ok-more.ensures ∙ ap (λ (q : Program). class_versions q c.args.class c.args.image.now c.args.homes.now) c.program-program.ensures in
     let was = c.self.invariant.prepared in
@@ -45,25 +46,17 @@ invariant_of-self c =
             fits = was.fits;
             few = was.few;
             numbered = was.numbered;
-            params = was.params;
-            max_stack = was.max_stack;
-            max_locals = was.max_locals;
             lines = has-lines-all fs c.in_ok-more.more (with_lines p old) (with_lines p new) (adds-made p fs c.in_ok-more.more old new have adds) own was.lines;
             count = adds-count fs c.in_ok-more.more old new adds ∙ was.count;
-            raised = was.raised;
-            string = was.string;
-            numbers = was.numbers;
           })
-          (λ same. subst (λ (v : Versions). IsPrepared p c.self.inside.methods (with_lines p v) c.self.inside.exceptions c.self.inside.numbers) (sym same) was);
-      known = subst (AreKnown c.self.inside.linker (with_lines p new)) (sym c.new-none.ensures) (nil-known c.self.inside.linker (with_lines p new));
-      selected = c.self.invariant.selected;
+          (λ same. subst (λ (v : Versions). IsPrepared p (with_lines p v)) (sym same) was);
       bare = either c.add_all.result c.add_all.ensures.ok c.add_all.ensures.err (λ adds. bare-adds p fs c.in_ok-more.more old new have adds c.self.invariant.bare)
           (λ same. subst (AreBare p) (sym same) c.self.invariant.bare);
     }
 
 pub returns-clause-ok : goal.returns-clause-ok
 returns-clause-ok c =
-    let p : Program = c.self.inside.linker.program in
+    let p : Program = c.self.inside.index.value in
     let made : c.in_ok-more.more ≡ class_versions p c.args.class c.args.image.now c.args.homes.now =
     c.in_ok-more.ensures ∙ ap (λ (q : Program). class_versions q c.args.class c.args.image.now c.args.homes.now) c.program-program.ensures in
     let old = c.self.inside.versions in
@@ -71,42 +64,51 @@ returns-clause-ok c =
     let fs = c.args.frames.now.frames in
     let have = subst (λ xs. AllByRecursion (λ (x : Version). x.prepared.has_lines ≡ true) xs) (sym made) (versions-have p c.args.class c.args.image.now c.args.homes.now) in
     on_ok_weaker c.add_all.result
-    (λ adds. subst (λ (w : Setup). Adds fs (class_versions w.world.program c.args.class c.args.image.now c.args.homes.now) w.versions (with_lines p new)) (ap (λ (o : Linked). o.setup) c.self.view_is)
+    (λ adds. subst (λ (o : Linked). Adds fs (class_versions o.program c.args.class c.args.image.now c.args.homes.now) o.versions (with_lines p new)) c.self.view_is
     (subst (λ xs. Adds fs xs (with_lines p old) (with_lines p new)) made (adds-made p fs c.in_ok-more.more old new have adds)))
     c.add_all.ensures.ok
 
+pub returns-clause-linked : goal.returns-clause-linked
+returns-clause-linked c r is = record {
+  program = is.program ∙ sym (ap (λ (o : Linked). o.program) c.self.view_is);
+  known = subst (AreKnown (linker_in r) (with_lines c.self.inside.index.value c.add_all.new.self)) (sym c.new-none.ensures)
+      (nil-known (linker_in r) (with_lines c.self.inside.index.value c.add_all.new.self));
+}
+
 pub returns-clause-set_up : goal.returns-clause-set_up
-returns-clause-set_up c =
-    let p : Program = c.self.inside.linker.program in
+returns-clause-set_up c world same =
+    let p : Program = c.self.inside.index.value in
     let made : c.in_ok-more.more ≡ class_versions p c.args.class c.args.image.now c.args.homes.now =
     c.in_ok-more.ensures ∙ ap (λ (q : Program). class_versions q c.args.class c.args.image.now c.args.homes.now) c.program-program.ensures in
     let fs = c.args.frames.now.frames in
     let old = c.self.inside.versions in
     let new = c.add_all.new.self in
     let have = subst (λ xs. AllByRecursion (λ (x : Version). x.prepared.has_lines ≡ true) xs) (sym made) (versions-have p c.args.class c.args.image.now c.args.homes.now) in
-    let before : Setup = record { world = world_in p c.self.inside.input; versions = with_lines p old } in
-    let after : Setup = record { world = world_in p c.self.inside.input; versions = with_lines p new } in
-    let same : before ≡ c.args.self.now.setup = ap (λ (o : Linked). o.setup) c.self.view_is in
+    let here : world.program ≡ p = same ∙ sym (ap (λ (o : Linked). o.program) c.self.view_is) in
+    let before : Setup = record { world = world; versions = with_lines p old } in
+    let after : Setup = record { world = world; versions = with_lines p new } in
     on_ok_weaker c.add_all.result
-    (λ adds. subst (λ (w : Setup). AreMethodImages w.world.program c.args.class c.args.image.now c.args.homes.now → IsSetUp w → IsSetUp after) same
+    (λ adds. subst (λ (o : Linked). let w : Setup = record { world = world; versions = o.versions } in AreMethodImages world.program c.args.class c.args.image.now c.args.homes.now → IsSetUp w → IsSetUp after) c.self.view_is
     (λ are set. installed-set_up before c.args.class c.args.image.now c.args.homes.now are fs after refl
-    (subst (λ xs. Adds fs xs before.versions after.versions) made (adds-made p fs c.in_ok-more.more old new have adds)) set))
+    (subst (λ (q : Program). Adds fs (class_versions q c.args.class c.args.image.now c.args.homes.now) before.versions after.versions) (sym here)
+    (subst (λ xs. Adds fs xs before.versions after.versions) made (adds-made p fs c.in_ok-more.more old new have adds))) set))
     c.add_all.ensures.ok
 
 pub returns-clause-stands : goal.returns-clause-stands
-returns-clause-stands c =
-    let p : Program = c.self.inside.linker.program in
+returns-clause-stands c world same =
+    let p : Program = c.self.inside.index.value in
     let made : c.in_ok-more.more ≡ class_versions p c.args.class c.args.image.now c.args.homes.now =
     c.in_ok-more.ensures ∙ ap (λ (q : Program). class_versions q c.args.class c.args.image.now c.args.homes.now) c.program-program.ensures in
     let fs = c.args.frames.now.frames in
     let old = c.self.inside.versions in
     let new = c.add_all.new.self in
     let have = subst (λ xs. AllByRecursion (λ (x : Version). x.prepared.has_lines ≡ true) xs) (sym made) (versions-have p c.args.class c.args.image.now c.args.homes.now) in
-    let before : Setup = record { world = world_in p c.self.inside.input; versions = with_lines p old } in
-    let after : Setup = record { world = world_in p c.self.inside.input; versions = with_lines p new } in
-    let same : before ≡ c.args.self.now.setup = ap (λ (o : Linked). o.setup) c.self.view_is in
+    let here : world.program ≡ p = same ∙ sym (ap (λ (o : Linked). o.program) c.self.view_is) in
+    let before : Setup = record { world = world; versions = with_lines p old } in
+    let after : Setup = record { world = world; versions = with_lines p new } in
     on_ok_weaker c.add_all.result
-    (λ adds. subst (λ (w : Setup). AreMethodImages w.world.program c.args.class c.args.image.now c.args.homes.now → (clock : ℕ) (s : State) → IsPinned fs s.stack → IsRunOf w clock s → IsRunOf after clock s) same
+    (λ adds. subst (λ (o : Linked). let w : Setup = record { world = world; versions = o.versions } in AreMethodImages world.program c.args.class c.args.image.now c.args.homes.now → (clock : ℕ) (s : State) → IsPinned fs s.stack → IsRunOf w clock s → IsRunOf after clock s) c.self.view_is
     (λ are clock s pinned is. installed-stands before c.args.class c.args.image.now c.args.homes.now are fs after refl
-    (subst (λ xs. Adds fs xs before.versions after.versions) made (adds-made p fs c.in_ok-more.more old new have adds)) clock s pinned is))
+    (subst (λ (q : Program). Adds fs (class_versions q c.args.class c.args.image.now c.args.homes.now) before.versions after.versions) (sym here)
+    (subst (λ xs. Adds fs xs before.versions after.versions) made (adds-made p fs c.in_ok-more.more old new have adds))) clock s pinned is))
     c.add_all.ensures.ok

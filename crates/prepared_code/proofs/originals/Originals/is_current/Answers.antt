@@ -6,5 +6,5 @@ use Rattle.prepared_code.proofs.originals.Originals.is_current.Goals as goal
 
 pub returns : goal.returns
 returns c = λ current.
-    subst (λ (o : Linked). is_superseded_in o.setup.versions.slots o.setup.versions.current c.args.version ≡ false) c.self.view_is
-    (superseded-made c.self.inside.linker.program c.self.inside.versions c.args.version ∙ c.is_current.ensures current)
+    subst (λ (o : Linked). is_superseded_in o.versions.slots o.versions.current c.args.version ≡ false) c.self.view_is
+    (superseded-made c.self.inside.index.value c.self.inside.versions c.args.version ∙ c.is_current.ensures current)

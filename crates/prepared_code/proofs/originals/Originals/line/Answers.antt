@@ -8,14 +8,14 @@ use Rattle.prepared_code.proofs.originals.Originals.line.Goals as goal
 
 pub returns-clause-line : goal.returns-clause-line
 returns-clause-line c =
-    subst (λ (o : Linked). IfSome c.line_at.result (λ l. line_at o.setup.versions c.args.version c.args.place ≡ Some l.now)) c.self.view_is
-    (seen-line c.self.inside.linker.program c.self.inside.versions c.self.invariant.bare c.args.version c.args.place c.line_at.result c.line_at.ensures)
+    subst (λ (o : Linked). IfSome c.line_at.result (λ l. line_at o.versions c.args.version c.args.place ≡ Some l.now)) c.self.view_is
+    (seen-line c.self.inside.index.value c.self.inside.versions c.self.invariant.bare c.args.version c.args.place c.line_at.result c.line_at.ensures)
 
 pub returns-clause-marked : goal.returns-clause-marked
 returns-clause-marked c =
-    subst (λ (o : Linked). mark_of o.setup.versions c.args.version ≢ Off → option_copied c.line_at.result ≡ line_at o.setup.versions c.args.version c.args.place) c.self.view_is
-    (λ marked. c.line_at.ensures ∙ marked-lines c.self.inside.linker.program c.self.inside.versions c.self.invariant.bare c.args.version marked c.args.place)
+    subst (λ (o : Linked). mark_of o.versions c.args.version ≢ Off → option_copied c.line_at.result ≡ line_at o.versions c.args.version c.args.place) c.self.view_is
+    (λ marked. c.line_at.ensures ∙ marked-lines c.self.inside.index.value c.self.inside.versions c.self.invariant.bare c.args.version marked c.args.place)
 
 pub returns-clause-family : goal.returns-clause-family
 returns-clause-family c =
-    seen-family c.self.inside.linker.program c.self.inside.versions c.self.invariant.bare c.self.invariant.prepared.lines c.args.version c.args.place c.line_at.result c.line_at.ensures
+    seen-family c.self.inside.index.value c.self.inside.versions c.self.invariant.bare c.self.invariant.prepared.lines c.args.version c.args.place c.line_at.result c.line_at.ensures

@@ -1,19 +1,19 @@
 use Rattle.std.proofs.Common.{◌≡◌, Some, sym, subst, ap, ◌∙◌}
 use Rattle.std.specs.Option.{option_copied, option_map}
 use Rattle.jvm_model.specs.declared.program.Program.{Program}
+use Rattle.symbolic_references.specs.Runtimes.{linker_in}
 use Rattle.prepared_code.specs.Entries.{original_version}
 use Rattle.prepared_code.specs.Kept.{AreKnown}
 use Rattle.prepared_code.specs.Linked.{Linked}
 use Rattle.prepared_code.specs.Making.{with_lines}
-use Rattle.prepared_code.specs.Prepared.{IsPrepared, world_in}
+use Rattle.prepared_code.specs.Prepared.{IsPrepared}
 use Rattle.prepared_code.specs.Tables.{Version, Versions, version_at}
-use Rattle.prepared_code.specs.Versions.{Setup}
-use Rattle.prepared_code.proofs.Tables.Made.{lines-made, original-method, replaced-bare, replaced-lines, replaced-same}
+use Rattle.prepared_code.proofs.Tables.Made.{original-method, replaced-bare, replaced-same}
 use Rattle.prepared_code.proofs.originals.Originals.make_lines.Goals as goal
 
 pub replace-requires : goal.replace-requires
 replace-requires c =
-    let p : Program = c.self.inside.linker.program in
+    let p : Program = c.self.inside.index.value in
     let x : Version = c.in-Some.held.now in
     let there : version_at c.self.inside.versions c.args.version ≡ Some x = sym c.version_at.ensures ∙ ap option_copied c.in-Some.is in
     let is : c.in_ok-made.made ≡ original_version p x.method = c.in_ok-made.ensures ∙ ap (λ (q : Program). original_version q x.method) c.program.ensures in
@@ -21,7 +21,7 @@ replace-requires c =
 
 pub invariant_of-self : goal.invariant_of-self
 invariant_of-self c =
-    let p : Program = c.self.inside.linker.program in
+    let p : Program = c.self.inside.index.value in
     let x : Version = c.in-Some.held.now in
     let old = c.self.inside.versions in
     let new = c.replace.new.self in
@@ -30,21 +30,32 @@ invariant_of-self c =
     let is : y ≡ original_version p x.method = c.in_ok-made.ensures ∙ ap (λ (q : Program). original_version q x.method) c.program.ensures in
     let same : with_lines p new ≡ with_lines p old = replaced-same p c.args.version x y old new there c.if-held.false is c.replace.ensures in
     record {
-      prepared = subst (λ (v : Versions). IsPrepared p c.self.inside.methods v c.self.inside.exceptions c.self.inside.numbers) (sym same) c.self.invariant.prepared;
-      known = subst (λ (v : Versions). AreKnown c.self.inside.linker v c.self.inside.cells) (sym same) c.self.invariant.known;
-      selected = c.self.invariant.selected;
+      prepared = subst (λ (v : Versions). IsPrepared p v) (sym same) c.self.invariant.prepared;
       bare = replaced-bare p c.args.version x y old new there c.if-held.false is c.replace.ensures c.self.invariant.bare;
     }
 
-pub returns-clause-setup : goal.returns-clause-setup
-returns-clause-setup c =
-    let p : Program = c.self.inside.linker.program in
+pub returns-clause-versions : goal.returns-clause-versions
+returns-clause-versions c =
+    let p : Program = c.self.inside.index.value in
     let x : Version = c.in-Some.held.now in
     let old = c.self.inside.versions in
     let new = c.replace.new.self in
     let y = c.in_ok-made.made in
     let there : version_at old c.args.version ≡ Some x = sym c.version_at.ensures ∙ ap option_copied c.in-Some.is in
     let is : y ≡ original_version p x.method = c.in_ok-made.ensures ∙ ap (λ (q : Program). original_version q x.method) c.program.ensures in
-    ap (λ (v : Versions). let w : Setup = record { world = world_in p c.self.inside.input; versions = v } in w)
-    (replaced-same p c.args.version x y old new there c.if-held.false is c.replace.ensures)
-    ∙ ap (λ (o : Linked). o.setup) c.self.view_is
+    replaced-same p c.args.version x y old new there c.if-held.false is c.replace.ensures ∙ ap (λ (o : Linked). o.versions) c.self.view_is
+
+pub returns-clause-linked : goal.returns-clause-linked
+returns-clause-linked c r is =
+    let p : Program = c.self.inside.index.value in
+    let x : Version = c.in-Some.held.now in
+    let old = c.self.inside.versions in
+    let new = c.replace.new.self in
+    let y = c.in_ok-made.made in
+    let there : version_at old c.args.version ≡ Some x = sym c.version_at.ensures ∙ ap option_copied c.in-Some.is in
+    let made : y ≡ original_version p x.method = c.in_ok-made.ensures ∙ ap (λ (q : Program). original_version q x.method) c.program.ensures in
+    record {
+      program = is.program ∙ sym (ap (λ (o : Linked). o.program) c.self.view_is);
+      known = subst (λ (v : Versions). AreKnown (linker_in r) v c.self.inside.cells) (sym (replaced-same p c.args.version x y old new there c.if-held.false made c.replace.ensures))
+          (subst (λ (o : Linked). AreKnown (linker_in r) o.versions o.rows) (sym c.self.view_is) is.known);
+    }

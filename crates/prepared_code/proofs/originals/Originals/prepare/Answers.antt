@@ -6,4 +6,4 @@ use Rattle.prepared_code.proofs.originals.Originals.prepare.Goals as goal
 pub returns-then-has_lines-clause-ready : goal.returns-then-has_lines-clause-ready
 returns-then-has_lines-clause-ready c =
     subst (λ (o : Linked). IsReady o c.args.version) c.self.view_is
-    (lines-made c.self.inside.linker.program c.self.inside.versions c.args.version (sym c.has_lines.ensures ∙ c.if-has_lines.true))
+    (lines-made c.self.inside.index.value c.self.inside.versions c.args.version (sym c.has_lines.ensures ∙ c.if-has_lines.true))

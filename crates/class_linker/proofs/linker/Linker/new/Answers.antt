@@ -1,9 +1,0 @@
-use Rattle.std.proofs.Common.{◌∙◌, ap, length, sym}
-use Rattle.jvm_model.specs.declared.program.Program.{Program}
-use Rattle.class_linker.proofs.Begun.{begun}
-use Rattle.class_linker.proofs.linker.Linker.new.Goals as goal
-
-pub invariant_of-result : goal.invariant_of-result
-invariant_of-result c =
-    begun c.in_ok-index.index c.in_ok-rows.rows c.len.result c.new-2.result c.in_ok-rows.ensures
-    (c.len.ensures ∙ sym (ap (λ (p : Program). length p.classes) c.in_ok-index.ensures)) c.new-2.ensures

@@ -1,0 +1,135 @@
+-- What an instruction asks for that sees objects: no method is invoked by it, and no class is initialized before. What applies by it is what
+-- the line does.
+use Rattle.std.proofs.Common.{◌≡◌, ℕ, Bool, true, false, cond, List, [], ◌∷◌, Option, Some, None, refl, ap}
+use Rattle.std.specs.Prelude.{nat_le, ℤ, pos, negsuc, ◌+◌, ◌==◌}
+use Rattle.std.proofs.lemmas.Bool.{false≢true}
+use Rattle.heap_objects.specs.declared.Value.{Value}
+use Rattle.const_pool.specs.declared.descriptor.Kind.{Kind}
+use Rattle.jvm_model.specs.declared.program.Program.{Program}
+use Rattle.jvm_model.specs.declared.state.Frame.{Frame}
+use Rattle.jvm_model.specs.declared.state.Shared.{Shared}
+use Rattle.jvm_model.specs.declared.state.State.{State}
+use Rattle.jvm_model.specs.Basis.Data.{Locals, Operands, Outcome, GoesOn, Subroutine, Invokes, Returns, Throws, Raises, Initializes, Exits, Breaks, Done, World}
+use Rattle.jvm_model.specs.Basis.SharedState.{class_of, throwable}
+use Rattle.jvm_model.specs.Basis.Values.{int_of, ref_of}
+use Rattle.jvm_model.specs.Classes.Lookup.{is_below}
+use Rattle.jvm_model.specs.Instructions.ConstantRules.{pushes_string}
+use Rattle.jvm_model.specs.Instructions.LocalRules.{replaces}
+use Rattle.jvm_model.specs.Instructions.ObjectRules.{Access, ToNull, ToAnother, Outside, Inside, Storing, access_to, fits_array, loads_at, loads_element, makes, measures, place_of, stores_at, stores_element, storing_of, throws, watches}
+use Rattle.jvm_model.specs.Running.Constants.{can_intern}
+use Rattle.jvm_model.specs.Running.Run.{starts}
+use Rattle.prepared_code.specs.declared.line.Action.{Action}
+use Rattle.prepared_code.specs.declared.line.Action.TheVariants as action
+use Rattle.prepared_code.specs.declared.line.Line.{Line}
+use Rattle.prepared_code.specs.Versions.{Setup}
+use Rattle.interpreter.specs.Instructions.Acts.{acts_by, acts_done, sees_objects}
+use Rattle.interpreter.specs.Instructions.Asked.{TakesArguments}
+use Rattle.interpreter.proofs.Instructions.NamedLaws.{is_plain}
+
+-- ---- neither of the two
+
+if-plain : (b : Bool) (x y : Outcome) → is_plain x ≡ true → is_plain y ≡ true → is_plain (cond b x y) ≡ true
+if-plain true x y one other = one
+if-plain false x y one other = other
+
+if-done : (b : Bool) (x y : Done) → is_plain x.outcome ≡ true → is_plain y.outcome ≡ true → is_plain (cond b x y).outcome ≡ true
+if-done true x y one other = one
+if-done false x y one other = other
+
+replaced : (taken : ℕ) (v : Option Value) (l : Locals) (o : Operands) → is_plain (replaces taken v l o) ≡ true
+replaced taken None l o = refl
+replaced taken (Some v) l o = refl
+
+thrown : (w : World) (s : Shared) (x : Option ℕ) → is_plain (throws w s x) ≡ true
+thrown w s None = refl
+thrown w s (Some r) = if-plain (r == 0) _ _ refl (if-plain (is_below w.program (class_of w.program s r) throwable) _ _ refl refl)
+
+watched : (x : Option ℕ) (l : Locals) (o : Operands) → is_plain (watches x l o) ≡ true
+watched None l o = refl
+watched (Some r) l o = if-plain (r == 0) _ _ refl refl
+
+measured : (x : Option ℕ) (s : Shared) (l : Locals) (o : Operands) → is_plain (measures x s l o) ≡ true
+measured None s l o = refl
+measured (Some r) s l o = if-plain (r == 0) _ _ refl (replaced 1 _ l o)
+
+loaded : (k : Kind) (x : Option (ℕ × ℤ)) (s : Shared) (l : Locals) (o : Operands) → is_plain (loads_element k x s l o) ≡ true
+loaded k None s l o = refl
+loaded k (Some at) s l o = by (access_to k at.0 at.1 s.heap) where
+  by : (access : Access) → is_plain (loads_at access at.0 at.1 s l o) ≡ true
+  by ToNull = refl
+  by ToAnother = refl
+  by Outside = refl
+  by (Inside slot) = replaced 2 _ l o
+
+made : (k : ℕ) (x : Option ℤ) (s : Shared) (l : Locals) (o : Operands) → is_plain (makes k x s l o).outcome ≡ true
+made k None s l o = refl
+made k (Some (negsuc n)) s l o = refl
+made k (Some (pos count)) s l o = if-done (nat_le (s.heap.used + (1 + count)) s.heap.limit) _ _ refl refl
+
+stored : (p : Program) (k : Kind) (x : Option Storing) (s : Shared) (l : Locals) (o : Operands) → is_plain (stores_element p k x s l o).outcome ≡ true
+stored p k None s l o = refl
+stored p k (Some x) s l o = by (access_to k x.array x.index s.heap) where
+  by : (access : Access) → is_plain (stores_at p access x.array x.index x.datum s l o).outcome ≡ true
+  by ToNull = refl
+  by ToAnother = refl
+  by Outside = refl
+  by (Inside slot) = if-done (fits_array p x.datum x.array s.heap) _ _ refl refl
+
+pushed : (p : Program) (units : List ℕ) (s : Shared) (l : Locals) (o : Operands) → is_plain (pushes_string p units s l o).outcome ≡ true
+pushed p units s l o = if-done (can_intern units s.heap) _ _ refl refl
+
+pub objects-plain : (w : World) (a : Action) (s : Shared) (l : Locals) (o : Operands) → is_plain (sees_objects w a s l o).outcome ≡ true
+objects-plain w action.Athrow s l o = thrown w s (ref_of o)
+objects-plain w action.Monitor s l o = watched (ref_of o) l o
+objects-plain w action.Arraylength s l o = measured (ref_of o) s l o
+objects-plain w (action.Newarray kind) s l o = made kind (int_of o) s l o
+objects-plain w (action.LoadElement k) s l o = loaded k (place_of o) s l o
+objects-plain w (action.StoreElement k) s l o = stored w.program k (storing_of k o) s l o
+objects-plain w (action.LdcString units) s l o = pushed w.program units s l o
+objects-plain w action.Local s l o = refl
+objects-plain w (action.Return k) s l o = refl
+objects-plain w (action.Named n) s l o = refl
+
+pub plain-starts : (q : Outcome) → is_plain q ≡ true → starts q ≡ None
+plain-starts (Initializes c) plain = absurd (false≢true plain)
+plain-starts (Invokes m args below) plain = refl
+plain-starts (GoesOn l o to) plain = refl
+plain-starts Subroutine plain = refl
+plain-starts (Returns d) plain = refl
+plain-starts (Throws r) plain = refl
+plain-starts (Raises name message) plain = refl
+plain-starts (Exits n) plain = refl
+plain-starts (Breaks b) plain = refl
+
+pub plain-takes : (q : Outcome) (o : Operands) → is_plain q ≡ true → TakesArguments q o
+plain-takes (Invokes m args below) o plain = absurd (false≢true plain)
+plain-takes (Initializes c) o plain = tt
+plain-takes (GoesOn l q to) o plain = tt
+plain-takes Subroutine o plain = tt
+plain-takes (Returns d) o plain = tt
+plain-takes (Throws r) o plain = tt
+plain-takes (Raises name message) o plain = tt
+plain-takes (Exits n) o plain = tt
+plain-takes (Breaks b) o plain = tt
+
+-- ---- what the line does
+
+-- it sees objects
+abbrev pub sees : Action → Bool
+sees action.Local = false
+sees (action.Return k) = false
+sees (action.Named n) = false
+sees _ = true
+
+pub acts-seeing : (w : Setup) (line : Line) (s : State) (f : Frame) (a : Action) → sees a ≡ true
+    → acts_done w line s f (sees_objects w.world a s.shared f.locals f.operands) ≡ acts_by w line s f a
+acts-seeing w line s f action.Athrow is = refl
+acts-seeing w line s f action.Monitor is = refl
+acts-seeing w line s f action.Arraylength is = refl
+acts-seeing w line s f (action.Newarray kind) is = refl
+acts-seeing w line s f (action.LoadElement k) is = refl
+acts-seeing w line s f (action.StoreElement k) is = refl
+acts-seeing w line s f (action.LdcString units) is = refl
+acts-seeing w line s f action.Local is = absurd (false≢true is)
+acts-seeing w line s f (action.Return k) is = absurd (false≢true is)
+acts-seeing w line s f (action.Named n) is = absurd (false≢true is)

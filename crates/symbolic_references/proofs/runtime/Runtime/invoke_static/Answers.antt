@@ -1,0 +1,50 @@
+use Rattle.std.proofs.Common.{◌≤◌, length, drop, sym, ap, subst, ◌∙◌}
+use Rattle.std.specs.Prelude.{IfOk}
+use Rattle.std.specs.Option.{option_map}
+use Rattle.frame_stack.specs.FrameLists.{top_operands}
+use Rattle.jvm_basic.specs.Outcomes.{top_locals}
+use Rattle.jvm_model.specs.Basis.Data.{Done}
+use Rattle.jvm_model.specs.Instructions.InvocationRules.{invokes_selected}
+use Rattle.symbolic_references.specs.Answers.{abrupt_view}
+use Rattle.symbolic_references.specs.Callees.{HasCallee, chosen_place}
+use Rattle.symbolic_references.specs.Resolved.{invokes_static_method}
+use Rattle.symbolic_references.specs.Targets.{data_in, found_as, static_target, target_in}
+use Rattle.symbolic_references.proofs.Carried.{asks_by, leaves_by, still}
+use Rattle.symbolic_references.proofs.TargetLemmas.{does-target, static-rule, refuses-target}
+use Rattle.symbolic_references.proofs.runtime.Runtime.invoke_static.Goals as goal
+
+pub returns-in-Ok-clause-answer : goal.returns-in-Ok-clause-answer
+returns-in-Ok-clause-answer c =
+    let w = c.args.self.now.world in
+    let s = c.args.self.now.shared in
+    let l = top_locals c.args.frames.now.frames in
+    let o = top_operands c.args.frames.now.frames in
+    asks_by c.invoke_selected.result (λ l o. invokes_selected w (option_map chosen_place c.in-Ok.target.selected) (data_in c.in-Ok.target.count o) s l (drop c.in-Ok.target.count o)) (invokes_static_method w c.args.kind c.args.method.now s) c.args.frames.now
+    (does-target w (static_target w.program c.args.kind c.args.method.now s o) s l o c.in-Ok.target (sym (ap (found_as (target_in o)) c.in-Ok.is) ∙ c.in_ok-target.ensures.target) (subst (λ r. IfOk r (λ t. t.count ≤ length o)) c.in-Ok.is c.in_ok-target.ensures.within) ∙ static-rule w c.args.method.now s l o c.args.kind)
+    c.invoke_selected.ensures.answer
+
+pub returns-in-Ok-clause-runtime : goal.returns-in-Ok-clause-runtime
+returns-in-Ok-clause-runtime c =
+    let w = c.args.self.now.world in
+    let s = c.args.self.now.shared in
+    let l = top_locals c.args.frames.now.frames in
+    let o = top_operands c.args.frames.now.frames in
+    leaves_by c.invoke_selected.result (λ l o. invokes_selected w (option_map chosen_place c.in-Ok.target.selected) (data_in c.in-Ok.target.count o) s l (drop c.in-Ok.target.count o)) (invokes_static_method w c.args.kind c.args.method.now s) c.args.frames.now
+    (does-target w (static_target w.program c.args.kind c.args.method.now s o) s l o c.in-Ok.target (sym (ap (found_as (target_in o)) c.in-Ok.is) ∙ c.in_ok-target.ensures.target) (subst (λ r. IfOk r (λ t. t.count ≤ length o)) c.in-Ok.is c.in_ok-target.ensures.within) ∙ static-rule w c.args.method.now s l o c.args.kind)
+    c.invoke_selected.new.self c.args.self.now c.invoke_selected.ensures.runtime
+
+pub returns-in-Err-clause-answer : goal.returns-in-Err-clause-answer
+returns-in-Err-clause-answer c =
+    let w = c.args.self.now.world in
+    let s = c.args.self.now.shared in
+    let l = top_locals c.args.frames.now.frames in
+    let o = top_operands c.args.frames.now.frames in
+    ap (λ (d : Done). d.outcome) (sym (refuses-target w (static_target w.program c.args.kind c.args.method.now s o) s l o c.in-Err.refusal (sym (ap (found_as (target_in o)) c.in-Err.is) ∙ c.in_ok-target.ensures.target)) ∙ static-rule w c.args.method.now s l o c.args.kind)
+
+pub returns-in-Err-clause-runtime : goal.returns-in-Err-clause-runtime
+returns-in-Err-clause-runtime c =
+    let w = c.args.self.now.world in
+    let s = c.args.self.now.shared in
+    let l = top_locals c.args.frames.now.frames in
+    let o = top_operands c.args.frames.now.frames in
+    still c.args.self.now (invokes_static_method w c.args.kind c.args.method.now s l o) (abrupt_view c.in-Err.refusal) (sym (refuses-target w (static_target w.program c.args.kind c.args.method.now s o) s l o c.in-Err.refusal (sym (ap (found_as (target_in o)) c.in-Err.is) ∙ c.in_ok-target.ensures.target)) ∙ static-rule w c.args.method.now s l o c.args.kind)

@@ -1,0 +1,10 @@
+use Rattle.symbolic_references.proofs.runtime.Runtime.keep_selection.Goals as goal
+
+pub invariant_of-self : goal.invariant_of-self
+invariant_of-self c = record {
+  tables = c.self.invariant.tables;
+  built_in = c.self.invariant.built_in;
+  exceptions = c.self.invariant.exceptions;
+  selections = c.keep.ensures c.self.inside.linker c.self.invariant.selections c.requires;
+  objects = c.self.invariant.objects;
+}

@@ -1,0 +1,14 @@
+use Rattle.std.proofs.Common.{subst, sym}
+use Rattle.symbolic_references.specs.Objects.{IsUsable}
+use Rattle.symbolic_references.specs.Runtimes.{RuntimeView, linker_in}
+use Rattle.symbolic_references.proofs.runtime.Runtime.set_constants.Goals as goal
+
+pub invariant_of-self : goal.invariant_of-self
+invariant_of-self c = record {
+  tables = c.self.invariant.tables;
+  built_in = c.self.invariant.built_in;
+  exceptions = c.self.invariant.exceptions;
+  selections = c.self.invariant.selections;
+  objects = c.set_fields.ensures.loaded c.self.inside.linker
+      (subst (λ (v : RuntimeView). IsUsable (linker_in v) c.string_kind.result) (sym c.self.view_is) c.string_kind.ensures.usable) c.self.invariant.objects;
+}

@@ -1,0 +1,14 @@
+use Rattle.std.proofs.Common.{ap, ◌∙◌}
+use Rattle.heap_objects.specs.declared.datum.Datum.TheVariants.{Ref}
+use Rattle.heap_objects.specs.Changes.{changed_if}
+use Rattle.heap_objects.specs.Heaps.{with_slot_at}
+use Rattle.symbolic_references.proofs.Slots.{slot_put}
+use Rattle.symbolic_references.proofs.runtime.arguments.put_text.Goals as goal
+
+pub returns-in-Ok-clause-heap : goal.returns-in-Ok-clause-heap
+returns-in-Ok-clause-heap c =
+    c.put.ensures.heap
+    ∙ (ap (λ b. changed_if b (with_slot_at c.args.array c.args.at (Ref c.in-Ok.text)) c.text.new.self) c.put.ensures.answer
+    ∙ (slot_put c.text.new.self c.args.array c.args.at (Ref c.in-Ok.text) c.requires.array
+    ∙ (ap (λ n. with_slot_at c.args.array c.args.at (Ref n) c.text.new.self) c.in-Ok.ensures.number
+    ∙ ap (with_slot_at c.args.array c.args.at (Ref _)) c.in-Ok.ensures.heap)))

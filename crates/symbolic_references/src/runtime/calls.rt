@@ -1,0 +1,179 @@
+//! invokestatic, invokevirtual, invokeinterface and invokespecial (JVM Specification 5.4.3.3, 5.4.3.4, 6.5), where the class of the
+//! method's name was resolved.
+
+ghost use Rattle.std.specs.Prelude.{◌≡◌, ◌≤◌, ◌++◌, Some, length, drop, IfSome, OnOk};
+ghost use Rattle.std.specs.Option.{option_map};
+ghost use Rattle.frame_stack.specs.FrameLists.{top_operands};
+ghost use Rattle.jvm_basic.specs.Outcomes.{top_locals};
+ghost use Rattle.jvm_model.specs.Instructions.InvocationRules.{OfInterface, Special, Virtual};
+ghost use Rattle.jvm_model.specs.Instructions.InvocationRules.{invokes_native, invokes_selected};
+ghost use Rattle.jvm_model.specs.declared.instruction.SymbolicReference.TheVariants as model;
+ghost use Rattle.jvm_model.specs.declared.instruction.SymbolicReference.TheVariants.{Invokeinterface, Invokespecial, Invokestatic};
+ghost use Rattle.jvm_model.specs.declared.instruction.SymbolicReference.TheVariants.{Invokevirtual};
+ghost use Rattle.symbolic_references.specs.Callees.{HasCallee, chosen_place};
+ghost use Rattle.symbolic_references.specs.Known.{IsFoundAs, symbolic_reference_by};
+ghost use Rattle.symbolic_references.specs.Objects.{AreLoaded, HasLoadedCaller, IsResolved};
+ghost use Rattle.symbolic_references.specs.Members.{at_place};
+ghost use Rattle.symbolic_references.specs.Resolved.{invokes_instance, invokes_static_method};
+ghost use Rattle.symbolic_references.specs.Targets.{HasCaller, selecting_view, data_in};
+ghost use Rattle.symbolic_references.specs.Answers.{asked_on, done_on, shared_by, wrote_by};
+ghost use Rattle.symbolic_references.specs.Outcomes.{Asks, HasOperands, HaveOperands, Leaves, Sets, asked, ruled};
+ghost use Rattle.symbolic_references.specs.Runtimes.{after, linker_in, with_loaded, with_shared};
+
+use crate::declared_member::DeclaredMember;
+use crate::known::{Callee, Chosen, Found};
+use crate::outcome::{AbruptCompletion, Outcome};
+use crate::runtime::Runtime;
+use crate::targets::{Selecting, is_abstract};
+use class_linker::Linker;
+use frame_stack::Frames;
+use jf_bytes::{NoMemory, Seq, Text16};
+use jvm_model::{Exception, MethodName, Shared};
+use std::alloc::Global;
+
+impl Runtime {
+    /// A native method: a user's class has none that could be linked.
+    fn invoke_native(
+        &mut self,
+        frames: &Frames,
+        m: DeclaredMember,
+        count: u16,
+    ) -> Result<Outcome, NoMemory>
+        requires within { count ≤ length (top_operands frames.now.frames) }
+        ensures answer { Asks result (λ l o. invokes_native self.old.world (at_place m) (data_in count o)
+            self.old.shared l (drop count o)) frames.now }
+        ensures runtime { Leaves result self.new (λ l o. invokes_native self.old.world (at_place m) (data_in count o)
+            self.old.shared l (drop count o)) frames.now self.old }
+        ensures world { self.new.world ≡ self.old.world }
+        ensures same_loaded { self.new.shared.loaded ≡ self.old.shared.loaded }
+        ensures enough { HaveOperands result frames.now }
+    {
+        if m.class < self.linker.index().user_count() {
+            let raised = AbruptCompletion::Raises(Exception::UnsatisfiedLink, None);
+            return Ok(Outcome::Refused(raised));
+        }
+        self.run_native(frames, m, count)
+    }
+
+    /// The method that was selected.
+    fn invoke_found(
+        &mut self,
+        frames: &Frames,
+        m: DeclaredMember,
+        count: u16,
+    ) -> Result<Outcome, NoMemory>
+        requires within { count ≤ length (top_operands frames.now.frames) }
+        ensures answer { Asks result (λ l o. invokes_selected self.old.world (Some (at_place m)) (data_in count o)
+            self.old.shared l (drop count o)) frames.now }
+        ensures runtime { Leaves result self.new (λ l o. invokes_selected self.old.world (Some (at_place m)) (data_in count o)
+            self.old.shared l (drop count o)) frames.now self.old }
+        ensures world { self.new.world ≡ self.old.world }
+        ensures same_loaded { self.new.shared.loaded ≡ self.old.shared.loaded }
+        ensures enough { HaveOperands result frames.now }
+    {
+        if is_abstract(self.linker.program(), m) {
+            return Ok(Outcome::Refused(AbruptCompletion::Raises(Exception::AbstractMethod, None)));
+        }
+        match self.tables.numbers.number(m.class, m.position) {
+            Some(number) => Ok(Outcome::Invokes(number, count)),
+            None => self.invoke_native(frames, m, count),
+        }
+    }
+
+    /// The method that was selected, by what is invoked of it.
+    fn invoke_chosen(&mut self, frames: &Frames, m: Chosen, count: u16) -> Result<Outcome, NoMemory>
+        requires callee { HasCallee self.old.world.program m }
+        requires within { count ≤ length (top_operands frames.now.frames) }
+        ensures answer { Asks result (λ l o. invokes_selected self.old.world (Some (chosen_place m)) (data_in count o)
+            self.old.shared l (drop count o)) frames.now }
+        ensures runtime { Leaves result self.new (λ l o. invokes_selected self.old.world (Some (chosen_place m)) (data_in count o)
+            self.old.shared l (drop count o)) frames.now self.old }
+        ensures world { self.new.world ≡ self.old.world }
+        ensures same_loaded { self.new.shared.loaded ≡ self.old.shared.loaded }
+        ensures enough { HaveOperands result frames.now }
+    {
+        match m.callee {
+            Callee::Code(number) => Ok(Outcome::Invokes(number, count)),
+            Callee::Native(number) => self.run_numbered(frames, number, count),
+            Callee::Other => self.invoke_found(frames, m.place, count),
+        }
+    }
+
+    /// The method that was selected, if one was.
+    fn invoke_selected(
+        &mut self,
+        frames: &Frames,
+        selected: Option<Chosen>,
+        count: u16,
+    ) -> Result<Outcome, NoMemory>
+        requires callee { IfSome selected (HasCallee self.old.world.program) }
+        requires within { count ≤ length (top_operands frames.now.frames) }
+        ensures answer { Asks result (λ l o. invokes_selected self.old.world (option_map chosen_place selected) (data_in count o)
+            self.old.shared l (drop count o)) frames.now }
+        ensures runtime { Leaves result self.new (λ l o. invokes_selected self.old.world (option_map chosen_place selected) (data_in count o)
+            self.old.shared l (drop count o)) frames.now self.old }
+        ensures world { self.new.world ≡ self.old.world }
+        ensures same_loaded { self.new.shared.loaded ≡ self.old.shared.loaded }
+        ensures enough { HaveOperands result frames.now }
+    {
+        match selected {
+            Some(m) => self.invoke_chosen(frames, m, count),
+            None => Ok(Outcome::Refused(AbruptCompletion::Raises(Exception::AbstractMethod, None))),
+        }
+    }
+
+    /// An instance method, by one of the three instructions.
+    pub fn invoke_instance(
+        &mut self,
+        frames: &Frames,
+        by: Selecting<'_>,
+        method: &MethodName,
+        kind: u32,
+        found: &mut Found,
+    ) -> Result<Outcome, NoMemory>
+        requires resolved { IsResolved (linker_in self.old) method.now.class kind }
+        requires caller { HasCaller (linker_in self.old) (selecting_view by) }
+        requires found { IsFoundAs found.old self.old.world.program kind
+            (symbolic_reference_by (selecting_view by) method.now) }
+        ensures answer { Asks result (invokes_instance self.old.world kind (selecting_view by.entry)
+            method.now self.old.shared) frames.now }
+        ensures runtime { Leaves result self.new (invokes_instance self.old.world kind (selecting_view by.entry)
+            method.now self.old.shared) frames.now self.old }
+        ensures world { self.new.world ≡ self.old.world }
+        ensures same_loaded { self.new.shared.loaded ≡ self.old.shared.loaded }
+        ensures enough { HaveOperands result frames.now }
+        ensures found { IsFoundAs found.new self.old.world.program kind
+            (symbolic_reference_by (selecting_view by.entry) method.now) }
+    {
+        match self.instance_target(frames, by, method, kind, found) {
+            Ok(target) => self.invoke_selected(frames, target.selected, target.count),
+            Err(refusal) => Ok(Outcome::Refused(refusal)),
+        }
+    }
+
+    /// invokestatic.
+    pub fn invoke_static(
+        &mut self,
+        frames: &Frames,
+        method: &MethodName,
+        kind: u32,
+        found: &mut Found,
+    ) -> Result<Outcome, NoMemory>
+        requires resolved { IsResolved (linker_in self.old) method.now.class kind }
+        requires found { IsFoundAs found.old self.old.world.program kind
+            (Invokestatic method.now) }
+        ensures answer { Asks result (invokes_static_method self.old.world kind method.now
+            self.old.shared) frames.now }
+        ensures runtime { Leaves result self.new (invokes_static_method self.old.world kind method.now
+            self.old.shared) frames.now self.old }
+        ensures world { self.new.world ≡ self.old.world }
+        ensures same_loaded { self.new.shared.loaded ≡ self.old.shared.loaded }
+        ensures enough { HaveOperands result frames.now }
+        ensures found { IsFoundAs found.new self.old.world.program kind (Invokestatic method.now) }
+    {
+        match self.static_target(frames, method, kind, found)? {
+            Ok(target) => self.invoke_selected(frames, target.selected, target.count),
+            Err(refusal) => Ok(Outcome::Refused(refusal)),
+        }
+    }
+}

@@ -1,0 +1,151 @@
+//! What is told of the program that is run, without a look into its class files.
+
+ghost use Rattle.std.specs.Prelude.{◌≡◌, ◌<◌, ◌^◌, length, unwrap_or, IfOk};
+ghost use Rattle.std.specs.Option.{option_copied};
+ghost use Rattle.jvm_model.specs.Basis.Programs.{class_named, max_locals_of, max_stack_of, params_of_method};
+ghost use Rattle.jvm_model.specs.Basis.SharedState.{kind_for, string};
+ghost use Rattle.jvm_model.specs.Instructions.Exceptions.{exception_name};
+ghost use Rattle.jvm_model.specs.declared.exception.Exception.TheVariants.{BuiltIn};
+ghost use Rattle.symbolic_references.specs.Objects.{IsUsable};
+ghost use Rattle.symbolic_references.specs.ProgramFacts.{exception_kind};
+ghost use Rattle.symbolic_references.specs.Runtimes.{linker_in};
+
+use crate::runtime::Runtime;
+use base_classes::{BUILT_IN_CLASSES, built_in_name};
+use class_index::{Index, base_of_class};
+use const_pool::Kind;
+use jf_bytes::{NoMemory, Seq};
+use jvm_model::{Exception, Program};
+use std::alloc::Global;
+
+/// The units of a text in ASCII.
+pub fn units_of(alloc: Global, bytes: &[u8]) -> Result<Seq<u16>, NoMemory>
+    ensures { IfOk result (λ units. units ≡ bytes.now) }
+{
+    let mut units = Seq::with_capacity(alloc, bytes.len())?;
+    for byte in bytes {
+        units.push(u16::from(*byte))?;
+    }
+    Ok(units)
+}
+
+/// The name of the built-in class at this place of their order; none has an empty one.
+fn built_in_named(place: u16) -> &'static str
+    ensures { result.now ≡ exception_name (BuiltIn place) }
+{
+    match built_in_name(place as usize) {
+        Some(name) => name,
+        None => "",
+    }
+}
+
+/// The position of the class of this name, found by hashing; 0 where there is none.
+#[tactic(auto, using(crate::proofs::Positions::position_within))]
+fn position_named(index: &Index, name: &[u16]) -> u32
+    requires { length index.now.classes < 2 ^ 24 }
+    ensures class { result ≡ unwrap_or (class_named index.now name.now) 0 }
+    ensures most { result < 2 ^ 24 }
+{
+    match index.class_named(name) {
+        Some(class) => class,
+        None => 0,
+    }
+}
+
+/// The kind of the instances of the class of this name, found by hashing.
+fn kind_named(index: &Index, name: &[u16]) -> u32
+    requires { length index.now.classes < 2 ^ 24 }
+    ensures { result ≡ kind_for index.now name.now }
+{
+    base_of_class(index.program(), position_named(index, name))
+}
+
+impl Runtime {
+    /// The program.
+    pub fn program(&self) -> &Program
+        ensures program { result.now ≡ self.now.world.program }
+        ensures few { length result.now.classes < 2 ^ 24 }
+        ensures numbered { length result.now.methods < 2 ^ 32 }
+    {
+        let _ = &self.tables;
+        self.linker.program()
+    }
+
+    /// The greatest depth of a method's operands; 0 where it has no code.
+    pub fn max_stack(&self, method: u32) -> u16
+        ensures { result ≡ max_stack_of self.now.world method }
+    {
+        match self.tables.methods.get(method as usize) {
+            Some(method) => method.max_stack,
+            None => 0,
+        }
+    }
+
+    /// The number of a method's locals; 0 where it has no code.
+    pub fn max_locals(&self, method: u32) -> u16
+        ensures { result ≡ max_locals_of self.now.world method }
+    {
+        match self.tables.methods.get(method as usize) {
+            Some(method) => method.max_locals,
+            None => 0,
+        }
+    }
+
+    /// What a method takes, where it has a method descriptor.
+    pub fn params(&self, method: u32) -> Option<&Seq<Kind>>
+        ensures { option_copied result ≡ params_of_method self.now.world.program method }
+    {
+        self.tables.methods.get(method as usize)?.params.as_ref()
+    }
+
+    /// The kind of the class of this built-in name, by its place. There is none past the last one, and native methods throw none.
+    fn built_in_kind(&self, place: u16) -> Result<u32, NoMemory>
+        ensures kind { IfOk result
+            (λ kind. kind ≡ exception_kind self.now.world.program (BuiltIn place)) }
+        ensures usable { IfOk result (IsUsable (linker_in self.now)) }
+    {
+        let _ = &self.tables;
+        if place >= BUILT_IN_CLASSES {
+            return Err(NoMemory);
+        }
+        let name = units_of(self.alloc, built_in_named(place).as_bytes())?;
+        Ok(kind_named(self.linker.index(), name.as_slice()))
+    }
+
+    /// The kind of the instances of an exception's class. That of one that a native method throws is found by its name.
+    pub fn kind_of(&self, exception: Exception) -> Result<u32, NoMemory>
+        ensures kind { IfOk result
+            (λ kind. kind ≡ exception_kind self.now.world.program exception) }
+        ensures usable { IfOk result (IsUsable (linker_in self.now)) }
+    {
+        let kinds = &self.tables.exceptions;
+        match exception {
+            Exception::AbstractMethod => Ok(kinds.abstract_method),
+            Exception::Arithmetic => Ok(kinds.arithmetic),
+            Exception::ArrayStore => Ok(kinds.array_store),
+            Exception::ClassCast => Ok(kinds.class_cast),
+            Exception::ClassCircularity => Ok(kinds.class_circularity),
+            Exception::IncompatibleClassChange => Ok(kinds.incompatible_change),
+            Exception::InInitializer => Ok(kinds.in_initializer),
+            Exception::IndexOutside => Ok(kinds.index_outside),
+            Exception::Instantiation => Ok(kinds.instantiation),
+            Exception::NegativeArraySize => Ok(kinds.negative_array_size),
+            Exception::NoClassDefinition => Ok(kinds.no_class_definition),
+            Exception::NoSuchField => Ok(kinds.no_such_field),
+            Exception::NoSuchMethod => Ok(kinds.no_such_method),
+            Exception::NullPointer => Ok(kinds.null_pointer),
+            Exception::StackOverflow => Ok(kinds.stack_overflow),
+            Exception::UnsatisfiedLink => Ok(kinds.unsatisfied_link),
+            Exception::BuiltIn(place) => self.built_in_kind(place),
+        }
+    }
+
+    /// The kind of texts.
+    pub fn string_kind(&self) -> u32
+        ensures kind { result ≡ kind_for self.now.world.program string }
+        ensures usable { IsUsable (linker_in self.now) result }
+        ensures most { result < 2 ^ 25 }
+    {
+        self.tables.exceptions.string
+    }
+}
