@@ -374,13 +374,8 @@ impl Vm {
         let Some(gone) = gone else {
             return None;
         };
-        let behind = pass_steps(
-            self.alloc,
-            &self.originals,
-            &mut self.parts,
-            &self.initializing,
-            most - 2,
-        );
+        let behind =
+            pass_steps(&self.originals, &mut self.parts, &self.initializing, most - 2);
         self.clock += behind.made;
         let Some(next) = behind.gone else {
             self.hand = hand_left(gone);

@@ -14,7 +14,7 @@ ghost use Rattle.prepared_code.specs.Initializations.{state_of};
 use crate::execute::asking::raise_named;
 use crate::initialize::initializing::initialize;
 use jf_bytes::{NoMemory, Stack};
-use prepared_code::{Initialization, Originals, Parts, arguments_fit, main_class, make_arguments};
+use prepared_code::{Initialization, Originals, Parts, arguments_fit, main_class};
 use std::alloc::Global;
 use symbolic_references::AbruptCompletion;
 

@@ -7,8 +7,9 @@ ghost use Rattle.interpreter.specs.Instructions.Acts.{is_at_rest, goes_on_in};
 ghost use Rattle.prepared_code.specs.Initializations.{is_executing};
 
 use jf_bytes::Stack;
-use jvm_model::{Phase, Shared};
+use jvm_model::Phase;
 use prepared_code::{Initialization, Parts, initialization_on};
+use symbolic_references::Runtime;
 
 /// Whether no initialization stands on the current frame.
 #[inline(always)]
@@ -39,10 +40,10 @@ pub fn goes_on(parts: &Parts, initializing: &Stack<Initialization>) -> bool
 
 /// Whether a class is initialized.
 #[inline(always)]
-pub fn is_ready(shared: &Shared, class: u32) -> bool
-    ensures { result ≡ is_ready (phase_of shared.now class) }
+pub fn is_ready(runtime: &Runtime, class: u32) -> bool
+    ensures { result ≡ is_ready (phase_of runtime.now.shared class) }
 {
-    match shared.phases.at(class as usize) {
+    match runtime.phase(class) {
         Some(Phase::Ready) => true,
         Some(Phase::Fresh | Phase::Running | Phase::Erroneous) => false,
         None => false,
