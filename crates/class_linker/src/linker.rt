@@ -124,7 +124,12 @@ impl Linker {
         ensures loaded { self.new ≡ loaded_by result name.now self.old }
     {
         let before = self.state.loaded.len();
-        match answer(self.alloc, self.index.as_ref(), &mut self.state, name.units()) {
+        match answer(
+            self.alloc,
+            self.index.as_ref(),
+            &mut self.state,
+            name.units(),
+        ) {
             Ok(loaded) => loaded,
             Err(NoMemory) => {
                 self.state.loaded.truncate(before);
@@ -138,7 +143,12 @@ impl Linker {
         requires { IsKnown self.now lower }
         ensures { result ≡ is_subkind self.now.program (parts_of lower) (parts_of upper) }
     {
-        is_subkind(self.index.as_ref(), self.state.rows.as_slice(), lower, upper)
+        is_subkind(
+            self.index.as_ref(),
+            self.state.rows.as_slice(),
+            lower,
+            upper,
+        )
     }
 
     /// Whether a class is the other one, or inherits from it.
@@ -146,7 +156,12 @@ impl Linker {
         requires { IsLoaded self.now lower }
         ensures { result ≡ is_among upper (superclasses self.now.program lower) }
     {
-        is_superclass(self.index.as_ref(), self.state.rows.as_slice(), lower, upper)
+        is_superclass(
+            self.index.as_ref(),
+            self.state.rows.as_slice(),
+            lower,
+            upper,
+        )
     }
 
     /// Whether a class is the other one, or inherits from it, or implements it.
@@ -154,7 +169,12 @@ impl Linker {
         requires { IsLoaded self.now lower }
         ensures { result ≡ is_subtype self.now.program lower upper }
     {
-        is_subtype(self.index.as_ref(), self.state.rows.as_slice(), lower, upper)
+        is_subtype(
+            self.index.as_ref(),
+            self.state.rows.as_slice(),
+            lower,
+            upper,
+        )
     }
 
     /// The class and all that it inherits from or implements, each once.
@@ -173,7 +193,12 @@ impl Linker {
             (resolved_field self.now.program class (name_type_of name.now descriptor.now)) }
     {
         let wanted = Wanted { name, descriptor };
-        resolved_field(self.index.as_ref(), self.state.rows.as_slice(), class, &wanted)
+        resolved_field(
+            self.index.as_ref(),
+            self.state.rows.as_slice(),
+            class,
+            &wanted,
+        )
     }
 
     /// The method that a reference stands for (5.4.3.3), or an interface method's (5.4.3.4).
@@ -257,7 +282,12 @@ impl Linker {
         ensures { result ≡ length
             (flat_map (layout self.now.program) (superclass_of self.now.program class)) }
     {
-        slots_above(self.index.as_ref(), self.state.rows.as_slice(), lower, class)
+        slots_above(
+            self.index.as_ref(),
+            self.state.rows.as_slice(),
+            lower,
+            class,
+        )
     }
 
     /// The kinds of the instance fields of the class's objects, those of its superclass first.

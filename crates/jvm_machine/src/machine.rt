@@ -288,12 +288,7 @@ impl Vm {
         if self.broken || !self.started || !is_at_instruction(&self.parts, &self.initializing) {
             return Passage { made: 0, due: None };
         }
-        let passed = pass_steps(
-            &self.originals,
-            &mut self.parts,
-            &self.initializing,
-            most,
-        );
+        let passed = pass_steps(&self.originals, &mut self.parts, &self.initializing, most);
         self.clock += passed.made;
         let Some(gone) = passed.gone else {
             return Passage {
@@ -374,8 +369,12 @@ impl Vm {
         let Some(gone) = gone else {
             return None;
         };
-        let behind =
-            pass_steps(&self.originals, &mut self.parts, &self.initializing, most - 2);
+        let behind = pass_steps(
+            &self.originals,
+            &mut self.parts,
+            &self.initializing,
+            most - 2,
+        );
         self.clock += behind.made;
         let Some(next) = behind.gone else {
             self.hand = hand_left(gone);

@@ -32,12 +32,12 @@ use crate::numbers::MethodNumbers;
 use crate::program_tables::ProgramTables;
 use crate::selections::Selections;
 pub use attempting::resolved_name;
-pub use program::units_of;
 use class_linker::Linker;
 use heap_objects::{Datum, Heap};
 use jf_bytes::Seq;
 use jvm_model::{Phase, SymbolicReference};
 use native_ops::Made;
+pub use program::units_of;
 use std::alloc::Global;
 use std::marker::Model;
 

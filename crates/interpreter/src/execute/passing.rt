@@ -78,7 +78,13 @@ fn begin_call(originals: &Originals, parts: &mut Parts, call: Call) -> Option<Du
         return None;
     }
     let due = begun_due(is_marked(originals, originals.current(call.method)));
-    match begin_frame(originals, &parts.runtime, &mut parts.frames, call.method, call.count) {
+    match begin_frame(
+        originals,
+        &parts.runtime,
+        &mut parts.frames,
+        call.method,
+        call.count,
+    ) {
         Ok(true) => Some(due),
         Ok(false) => None,
         Err(_) => None,
@@ -120,7 +126,11 @@ fn pass_call(
     match invoked {
         Invoked::Code(call) => begin_call(originals, parts, call),
         Invoked::Native(native) => {
-            made_if(parts.runtime.pass_native(&mut parts.frames, native, line.next))
+            made_if(
+                parts
+                    .runtime
+                    .pass_native(&mut parts.frames, native, line.next),
+            )
         }
     }
 }
@@ -339,7 +349,14 @@ fn pass_throw(
         return false;
     };
     let class = class_of(&parts.runtime, object) as usize;
-    let Some(target) = caught_below(originals, &parts.runtime, &parts.frames, initializing, here, class) else {
+    let Some(target) = caught_below(
+        originals,
+        &parts.runtime,
+        &parts.frames,
+        initializing,
+        here,
+        class,
+    ) else {
         return false;
     };
     catch_below(&mut parts.frames, object, target)
@@ -382,25 +399,9 @@ fn pass_named(
         return None;
     };
     if is_method(known) {
-        return pass_call(
-            originals,
-            parts,
-            initializing,
-            here,
-            line,
-            reference,
-            known,
-        );
+        return pass_call(originals, parts, initializing, here, line, reference, known);
     }
-    made_if(pass_access(
-        originals,
-        parts,
-        initializing,
-        here,
-        line,
-        reference,
-        known,
-    ))
+    made_if(pass_access(originals, parts, initializing, here, line, reference, known))
 }
 
 /// A step by a line at which the current frame stands, in the version that it runs, up to what a probe tells of it: what is due there,

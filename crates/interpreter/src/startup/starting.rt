@@ -168,11 +168,7 @@ fn beginning_of(alloc: Global, program: &Program) -> Result<Beginning, NoMemory>
 }
 
 /// The parts before the start of a prepared program on this input.
-pub fn parts_before(
-    alloc: Global,
-    originals: &Originals,
-    input: Seq<u8>,
-) -> Result<Parts, NoMemory>
+pub fn parts_before(alloc: Global, originals: &Originals, input: Seq<u8>) -> Result<Parts, NoMemory>
     requires fit { IsFit originals.now.program }
     requires room { 1024 ≤ originals.now.program.heap }
     requires rows { originals.now.rows ≡ [] }

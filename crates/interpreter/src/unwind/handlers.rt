@@ -33,12 +33,7 @@ fn covers(runtime: &Runtime, handler: &Catching, class: usize, place: u16) -> bo
 }
 
 /// Where the first one of them goes on that covers the place.
-fn target_among(
-    runtime: &Runtime,
-    handlers: &[Catching],
-    class: usize,
-    place: u16,
-) -> Option<u16>
+fn target_among(runtime: &Runtime, handlers: &[Catching], class: usize, place: u16) -> Option<u16>
     ensures { result ≡ handler_for runtime.now.world class place
         (map catcher_in handlers.now) }
 {
@@ -52,7 +47,13 @@ fn target_among(
 
 /// Where a frame goes on, at a place of a version, when an object of the class at a position is
 /// thrown there; None where no handler catches it.
-pub fn handler_for(originals: &Originals, runtime: &Runtime, version: usize, class: usize, place: u16) -> Option<u16>
+pub fn handler_for(
+    originals: &Originals,
+    runtime: &Runtime,
+    version: usize,
+    class: usize,
+    place: u16,
+) -> Option<u16>
     ensures { result ≡ handler_for runtime.now.world class place
         ((listing_of originals.now.versions).handlers version) }
 {

@@ -69,11 +69,7 @@ pub fn raise(parts: &mut Parts, exception: Exception) -> Result<(), NoMemory>
 }
 
 /// Throws an exception that the machine makes, with this message.
-pub fn raise_with(
-    parts: &mut Parts,
-    exception: Exception,
-    message: &[u16],
-) -> Result<(), NoMemory>
+pub fn raise_with(parts: &mut Parts, exception: Exception, message: &[u16]) -> Result<(), NoMemory>
     ensures state { OnOk result
         (parts.new ≡ raising parts.old.runtime.world exception (Some message.now) parts.old) }
     ensures world { parts.new.runtime.world ≡ parts.old.runtime.world }

@@ -73,7 +73,12 @@ pub fn go_to_handler(
 // ---- nothing is left
 
 /// The frame of `main`, which has its argument array, if it has a local for it.
-fn begin_frame(originals: &Originals, runtime: &Runtime, frames: &mut Frames, main: u32) -> Result<bool, NoMemory>
+fn begin_frame(
+    originals: &Originals,
+    runtime: &Runtime,
+    frames: &mut Frames,
+    main: u32,
+) -> Result<bool, NoMemory>
     requires none { frames.old.frames ≡ [] }
     requires main { main ≡ runtime.now.world.program.main }
     ensures answer { IfOk result (λ b. b ≡ has_room runtime.now.world main argument_array) }

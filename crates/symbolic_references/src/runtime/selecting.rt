@@ -81,7 +81,12 @@ impl Runtime {
         ensures found { IsFoundAs found.new self.now.world.program kind
             (symbolic_reference_by (selecting_view by.entry) method.now) }
     {
-        let place = selected_by(&self.linker, by, m, self.linker.index().class_of_kind(lower))?;
+        let place = selected_by(
+            &self.linker,
+            by,
+            m,
+            self.linker.index().class_of_kind(lower),
+        )?;
         let callee = callee_of(&self.linker, &self.tables.numbers, place);
         let chosen = Chosen { place, callee };
         *found = Found::Selected(Site {
