@@ -1,6 +1,6 @@
 //! ldc of a Class (JVM Specification 5.1, 6.5), where the name was resolved.
 
-ghost use Rattle.std.specs.Prelude.{◌≡◌, IfOk, OnOk};
+ghost use Rattle.std.specs.Prelude.{◌≡◌, IfOk, OnErr, OnOk};
 ghost use Rattle.jvm_model.specs.Instructions.ConstantRules.{pushes_object_of};
 ghost use Rattle.native_ops.specs.Effects.Making.{answer_of_class, heap_after_class, made_after_class};
 ghost use Rattle.symbolic_references.specs.Objects.{AreLoaded};
