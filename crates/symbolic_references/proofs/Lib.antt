@@ -1,6 +1,8 @@
 mod NumberLaws
 pub mod Positions
 mod KindLemmas
+mod ExceptionKinds
+mod ConstantsSet
 mod Loads
 mod Behind
 mod ObjectLemmas

@@ -75,6 +75,8 @@ impl Runtime {
         ensures same_loaded { self.new.shared.loaded ≡ self.old.shared.loaded }
         ensures enough { HaveOperands result frames.now }
     {
+        // It tells that java/lang/Object is loaded.
+        let _heap = self.heap();
         self.make_counted(frames, kind)
     }
 
@@ -91,6 +93,8 @@ impl Runtime {
         ensures same_loaded { self.new.shared.loaded ≡ self.old.shared.loaded }
         ensures enough { HaveOperands result frames.now }
     {
+        // It tells that java/lang/Object is loaded.
+        let _heap = self.heap();
         self.make_counted(frames, FIRST_ARRAY + kind)
     }
 }

@@ -7,7 +7,7 @@ use Rattle.symbolic_references.specs.Attempts.{attempts}
 use Rattle.symbolic_references.specs.Known.{IsKnown}
 use Rattle.symbolic_references.specs.Runtimes.{linker_in}
 use Rattle.symbolic_references.specs.Passing.{IsInvoked}
-use Rattle.symbolic_references.proofs.Again.{done_again}
+use Rattle.symbolic_references.proofs.Again.{done_again, loads_none}
 use Rattle.symbolic_references.proofs.runtime.Runtime.known_call.Goals as goal
 
 pub returns-in-Invokestatic-clause-called : goal.returns-in-Invokestatic-clause-called
@@ -48,3 +48,7 @@ returns-in-Invokespecial-clause-called c =
 
 pub returns-in_default-clause-called : goal.returns-in_default-clause-called
 returns-in_default-clause-called c = tt
+
+pub returns-in_default-clause-loads : goal.returns-in_default-clause-loads
+returns-in_default-clause-loads c =
+    loads_none (linker_in c.args.self.now) c.args.reference.now c.args.known.now c.args.self.now.shared c.args.frames.now refl c.requires.known

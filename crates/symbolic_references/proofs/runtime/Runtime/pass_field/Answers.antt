@@ -6,7 +6,7 @@ use Rattle.symbolic_references.specs.Attempts.{attempts}
 use Rattle.symbolic_references.specs.Known.{IsKnown}
 use Rattle.symbolic_references.specs.Runtimes.{linker_in}
 use Rattle.symbolic_references.specs.Passing.{IfPassed}
-use Rattle.symbolic_references.proofs.Again.{done_again}
+use Rattle.symbolic_references.proofs.Again.{done_again, loads_none}
 use Rattle.symbolic_references.proofs.runtime.Runtime.pass_field.Goals as goal
 
 pub returns-in-Getfield-clause-passed : goal.returns-in-Getfield-clause-passed
@@ -51,3 +51,7 @@ returns-in-Putstatic-clause-passed c =
 
 pub returns-in_default-clause-passed : goal.returns-in_default-clause-passed
 returns-in_default-clause-passed c = (refl, refl)
+
+pub returns-in_default-clause-loads : goal.returns-in_default-clause-loads
+returns-in_default-clause-loads c =
+    loads_none (linker_in c.args.self.now) c.args.reference.now c.args.known.now c.args.self.now.shared c.args.frames.now refl c.requires.known

@@ -13,6 +13,6 @@ invariant_of-self c = record {
   selections = c.self.invariant.selections;
   objects =
       subst (AreLoaded c.self.inside.linker) (sym c.intern.ensures.heap)
-      (objects_interned c.self.inside.linker (is_ok c.intern.result) c.self.inside.heap c.string_kind-kind.result c.args.units.now c.self.invariant.objects
+      (objects_interned c.self.inside.linker (is_ok c.intern.result) c.self.inside.heap c.string_kind-kind.result c.units.result.now c.self.invariant.objects
       (subst (λ (v : RuntimeView). IsUsable (linker_in v) c.string_kind-kind.result) (sym c.self.view_is) c.string_kind-kind.ensures.usable));
 }
