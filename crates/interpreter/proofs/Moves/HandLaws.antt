@@ -62,13 +62,6 @@ module _ (w : Setup) (run : CanRun w) (s new : State) where
       subst (IsSoundIn w) (ap (λ (p : Pause). p.state) (sym reaches)) (tried-sound w run n s is (no-classes (loads_in w s) (sym some)) delivered)
   attempt-sound None delivered n passed some reaches loads is = subst (IsSoundIn w) (sym loads) (loaded-sound w run s is)
 
-  -- moves load nothing
-  pub moves-linked : (delivered : Bool) (n passed : ℕ) (due : Due) → pause_at new passed due ≡ goes_by_moves w delivered n s → s.shared.loaded ≡ new.shared.loaded
-  moves-linked delivered n passed due reaches = sym (ap (λ (p : Pause). p.state.shared.loaded) reaches ∙ by delivered) where
-    by : (b : Bool) → (goes_by_moves w b n s).state.shared.loaded ≡ s.shared.loaded
-    by true = paused-loaded w (listing_of w.versions) (mark_of w.versions) (suc n) (frame_popped s)
-    by false = paused-loaded w (listing_of w.versions) (mark_of w.versions) n s
-
 -- ---- where it has stopped
 
 module _ (w : Setup) (hand : Hand) (s new : State) (passed : ℕ) (due : Due) (gone : Gone) (counts : gone.hand.passed ≡ passed) (is_due : gone.due ≡ due) where
