@@ -1,5 +1,5 @@
 -- A step in hand goes on: what is in hand then, and that all of it stays sound.
-use Rattle.std.proofs.Common.{◌≡◌, ℕ, suc, Bool, true, false, List, Option, Some, None, refl, sym, ap, subst, ◌∙◌}
+use Rattle.std.proofs.Common.{◌≡◌, ℕ, Bool, true, false, List, Option, Some, None, refl, sym, ap, subst, ◌∙◌}
 use Rattle.std.specs.Prelude.{is_some, IfNone}
 use Rattle.std.specs.Option.{IfSome}
 use Rattle.jvm_model.specs.declared.due.Due.{Due}
@@ -20,8 +20,7 @@ use Rattle.prepared_code.specs.Ready.{CanRun, IsSoundIn}
 use Rattle.prepared_code.specs.Standing.{HasVersions, places_of}
 use Rattle.interpreter.specs.Moves.Turning.{goes_by_moves, loads_in, loads_none, pause_at}
 use Rattle.interpreter.specs.Moves.Trying.{tried_in}
-use Rattle.prepared_code.specs.Versions.{Setup, current_of, listing_of, mark_of}
-use Rattle.interpreter.proofs.Moves.Followed.{paused-loaded}
+use Rattle.prepared_code.specs.Versions.{Setup, current_of, listing_of}
 use Rattle.interpreter.proofs.Moves.PausesSound.{loaded-sound, moved-sound, tried-sound}
 use Rattle.interpreter.proofs.Loads.StartSound.{starts-sound}
 use Rattle.interpreter.proofs.Moves.TriedSteps.{no-classes}

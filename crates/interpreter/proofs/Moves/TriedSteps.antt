@@ -39,7 +39,7 @@ use Rattle.prepared_code.specs.declared.line.Action.TheVariants as action
 use Rattle.prepared_code.specs.declared.line.Line.{Line}
 use Rattle.prepared_code.specs.declared.initializations.Initialization.{Initialization}
 use Rattle.prepared_code.specs.declared.parts.Parts.{Parts}
-use Rattle.interpreter.specs.Instructions.Acts.{acts, acts_by, acts_named, attempts_line, attempts_on, class_awaited, awaited_by, awaited_in, awaited_on, goes_on_in}
+use Rattle.interpreter.specs.Instructions.Acts.{acts, acts_by, attempts_line, attempts_on, class_awaited, awaited_by, awaited_in, awaited_on, goes_on_in}
 use Rattle.prepared_code.specs.Lines.{action_of, local_action}
 use Rattle.prepared_code.specs.Initializations.{initializing_entry, initialization_on, stack_of, state_of}
 use Rattle.prepared_code.specs.Ready.{CanRun, IsSoundIn, IsTied}

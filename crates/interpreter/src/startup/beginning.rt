@@ -1,7 +1,7 @@
 //! The start (JVM Specification 5.2, 5.3, 5.5): the main class is loaded and initialized, and then
 //! `main` begins.
 
-ghost use Rattle.std.specs.Prelude.{◌≡◌, ◌++◌, ◌∷◌, [], true, OnOk};
+ghost use Rattle.std.specs.Prelude.{◌≡◌, ◌++◌, true, OnOk};
 ghost use Rattle.jvm_model.specs.Running.Run.{main_loads, starts_if, starts_with};
 ghost use Rattle.jvm_model.specs.Basis.SharedState.{arguments_fit};
 ghost use Rattle.jvm_model.specs.Soundness.Sound.{IsFit};

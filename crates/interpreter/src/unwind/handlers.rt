@@ -1,6 +1,6 @@
 //! Which handler a throw goes to (JVM Specification 2.10, 4.7.3).
 
-ghost use Rattle.std.specs.Prelude.{◌≡◌, ◌<◌, ◌^◌, true, map};
+ghost use Rattle.std.specs.Prelude.{◌≡◌, true, map};
 ghost use Rattle.std.specs.Option.{option_map_or};
 ghost use Rattle.jvm_model.specs.Classes.Lookup.{is_below};
 ghost use Rattle.jvm_model.specs.Running.Moves.{covers, handler_for};

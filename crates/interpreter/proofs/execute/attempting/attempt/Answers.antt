@@ -1,16 +1,12 @@
 use Rattle.std.proofs.Common.{◌≡◌, refl, sym, subst, ap, ◌∙◌}
-use Rattle.std.specs.Prelude.{IfNone, IfOk, OnOk, is_some}
-use Rattle.std.specs.Option.{IfSome}
-use Rattle.jvm_model.specs.Running.Run.{with_loaded}
+use Rattle.std.specs.Prelude.{IfOk, OnOk}
 use Rattle.prepared_code.specs.Versions.{Setup}
 use Rattle.interpreter.specs.Instructions.Acts.{attempts_on, awaited_in, awaited_on}
 use Rattle.prepared_code.specs.Initializations.{state_of}
 use Rattle.prepared_code.specs.Ready.{CanRun, IsSoundIn}
-use Rattle.interpreter.specs.Moves.Turning.{loads_in, loads_none}
 use Rattle.prepared_code.specs.Linked.{setup_in}
 use Rattle.interpreter.proofs.Initializing.Beneath.{nothing-there}
 use Rattle.interpreter.proofs.Instructions.NamedAttempts.{same-setup}
-use Rattle.interpreter.proofs.Loads.LoadedApart.{nothing-loads}
 use Rattle.interpreter.proofs.execute.attempting.attempt.Goals as goal
 
 pub returns-in_default-clause-answer : goal.returns-in_default-clause-answer

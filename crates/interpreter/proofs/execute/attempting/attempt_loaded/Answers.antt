@@ -1,5 +1,5 @@
 use Rattle.std.proofs.Common.{◌≡◌, refl, sym, subst, ap, ◌∙◌}
-use Rattle.std.specs.Prelude.{IfNone, IfOk, OnOk, is_some}
+use Rattle.std.specs.Prelude.{IfNone, IfOk, is_some}
 use Rattle.std.specs.Option.{IfSome}
 use Rattle.jvm_model.specs.Running.Run.{with_loaded}
 use Rattle.prepared_code.specs.Versions.{Setup}

@@ -1,5 +1,5 @@
-use Rattle.std.proofs.Common.{◌≡◌, None, Some, sym, ap, subst, ◌∙◌}
-use Rattle.std.specs.Prelude.{IfNone, is_some}
+use Rattle.std.proofs.Common.{◌≡◌, Some, sym, ap, subst, ◌∙◌}
+use Rattle.std.specs.Prelude.{IfNone}
 use Rattle.std.specs.Option.{IfSome}
 use Rattle.std.proofs.lemmas.Bool.{false≢true}
 use Rattle.frame_stack.specs.FrameLists.{top_operands}
