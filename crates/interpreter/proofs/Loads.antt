@@ -1,4 +1,5 @@
 pub mod ActsLoad
+pub mod BeforeStart
 pub mod Starts
 pub mod Above
 pub mod LoadedApart

@@ -12,7 +12,7 @@ use Rattle.const_pool.specs.declared.descriptor.Kind.{Kind}
 use Rattle.frame_stack.specs.Widths.{height_of, slots_of_all}
 use Rattle.frame_stack.specs.FrameLists.{PlacedFrame}
 use Rattle.jvm_model.specs.declared.state.State.{State}
-use Rattle.jvm_model.specs.Basis.Data.{Locals, Operands, Invokes, Turn, World}
+use Rattle.jvm_model.specs.Basis.Data.{Locals, Operands, Invokes, Turn}
 use Rattle.jvm_model.specs.Basis.Programs.{max_locals_of, max_stack_of}
 use Rattle.jvm_model.specs.Basis.Values.{data_of, datum_of, arguments_spread}
 use Rattle.jvm_model.specs.Instructions.Rules.{invokes as invokes_outcome}

@@ -1,10 +1,12 @@
 -- What the code does by what an instruction asks for is what applies by its outcome.
-use Rattle.std.proofs.Common.{◌≡◌, ℕ, Bool, true, false, cond, List, [], ◌∷◌, length, drop, Option, Some, None, nat_le, refl, sym, ap, ◌∙◌}
-use Rattle.std.specs.Prelude.{ℤ}
+use Rattle.std.proofs.Common.{◌≡◌, ℕ, Bool, true, false, cond, List, [], ◌∷◌, length, Option, Some, None, nat_le, refl, sym, ap, ◌∙◌}
+use Rattle.std.specs.Prelude.{ℤ, if◌then◌else◌}
+use Rattle.std.proofs.lemmas.Bool.{false≢true}
 use Rattle.std.proofs.lemmas.Option.{none-some}
 use Rattle.heap_objects.specs.declared.datum.Datum.{Datum}
+use Rattle.heap_objects.specs.declared.Value.{Value}
 use Rattle.frame_stack.specs.Widths.{height_of}
-use Rattle.frame_stack.specs.FrameLists.{PlacedFrame, top_operands}
+use Rattle.frame_stack.specs.FrameLists.{FramesView, PlacedFrame, top_operands}
 use Rattle.jvm_basic.specs.Outcomes.{can_hold, top_locals, with_top}
 use Rattle.jvm_model.specs.declared.state.State.{State}
 use Rattle.jvm_model.specs.Basis.Data.{Locals, Operands, Next, Outcome, GoesOn, Invokes, Throws, Raises, Exits, Breaks}
@@ -13,6 +15,7 @@ use Rattle.jvm_model.specs.Running.Run.{starts}
 use Rattle.symbolic_references.specs.declared.outcome.Outcome.{Outcome as Given}
 use Rattle.symbolic_references.specs.declared.outcome.Outcome.TheVariants as given
 use Rattle.symbolic_references.specs.declared.outcome.AbruptCompletion.TheVariants as refusal
+use Rattle.symbolic_references.specs.Going.{gone, holds, left_with}
 use Rattle.symbolic_references.specs.Outcomes.{outcome_view}
 use Rattle.prepared_code.specs.declared.line.Line.{Line}
 use Rattle.prepared_code.specs.declared.parts.Parts.{Parts}
@@ -44,6 +47,35 @@ module _ (w : Setup) (line : Line) (method : ℕ) (p : Parts) where
         ≡ cond b (state_with (record f { place = line.next; operands = o } ∷ fs) p) (state_with (f ∷ fs) (run_ended f.method line.instr.at p))
     by true = refl
     by false = ap (λ m. state_with (f ∷ fs) (run_ended m line.instr.at p)) top
+
+  -- as the code goes on, or ends the run
+  pub gone-is : (count : ℕ) (value : Option Value) (done : Bool) (frames : FramesView) → IsTop method p.frames.frames → done ≡ holds count value p.frames
+      → frames ≡ gone count value line.next p.frames → done ≡ true
+      → state_with frames.frames p ≡ applied (GoesOn (top_locals p.frames.frames) (left_with count value p.frames.frames) Next) p.frames.frames
+  gone-is count value done frames top answer went is =
+      ap (λ (x : FramesView). state_with x.frames p) went
+      ∙ (by (holds count value p.frames) (sym answer ∙ is)
+      ∙ goes-is (left_with count value p.frames.frames) p.frames.frames top)
+    where
+      by : (b : Bool) → b ≡ true
+          → state_with (if b then with_top (top_locals p.frames.frames) (left_with count value p.frames.frames) line.next p.frames.frames else p.frames.frames) p
+          ≡ cond b (state_with (with_top (top_locals p.frames.frames) (left_with count value p.frames.frames) line.next p.frames.frames) p) (state_with p.frames.frames (run_ended method line.instr.at p))
+      by true is = refl
+      by false is = absurd (false≢true is)
+
+  pub ended-is : (count : ℕ) (value : Option Value) (done : Bool) (frames : FramesView) → IsTop method p.frames.frames → done ≡ holds count value p.frames
+      → frames ≡ gone count value line.next p.frames → done ≡ false
+      → state_with frames.frames (run_ended method line.instr.at p) ≡ applied (GoesOn (top_locals p.frames.frames) (left_with count value p.frames.frames) Next) p.frames.frames
+  ended-is count value done frames top answer went is =
+      ap (λ (x : FramesView). state_with x.frames (run_ended method line.instr.at p)) went
+      ∙ (by (holds count value p.frames) (sym answer ∙ is)
+      ∙ goes-is (left_with count value p.frames.frames) p.frames.frames top)
+    where
+      by : (b : Bool) → b ≡ false
+          → state_with (if b then with_top (top_locals p.frames.frames) (left_with count value p.frames.frames) line.next p.frames.frames else p.frames.frames) (run_ended method line.instr.at p)
+          ≡ cond b (state_with (with_top (top_locals p.frames.frames) (left_with count value p.frames.frames) line.next p.frames.frames) p) (state_with p.frames.frames (run_ended method line.instr.at p))
+      by false is = refl
+      by true is = absurd (false≢true (sym is))
 
   pub breaks-is : (all : List PlacedFrame) → IsTop method all → state_with all (run_ended method line.instr.at p) ≡ applied (Breaks false) all
   breaks-is [] top = absurd top

@@ -1,14 +1,13 @@
 -- What an instruction that names something leaves as it is, and what it asks for (JVM Specification 5.5, 6.5): the loaded classes are the
 -- same behind it, a class is initialized only where it is fresh, and the arguments of an invocation are operands of their kinds.
 use Rattle.std.proofs.Common.{◌≡◌, ℕ, ◌+◌, Bool, true, false, List, [], Option, Some, None, refl}
-use Rattle.std.specs.Prelude.{Result, Ok, Err, length, take, drop, reverse, map, slice_get, nat_le, nat_lt, ℤ, pos, negsuc, ◌==◌, if◌then◌else◌}
+use Rattle.std.specs.Prelude.{Result, Ok, Err, length, drop, map, slice_get, nat_le, nat_lt, ℤ, pos, negsuc, ◌==◌, if◌then◌else◌}
 use Rattle.std.specs.Bool.{beq}
 use Rattle.std.specs.Option.{option_and_then, option_map_or}
 use Rattle.std.proofs.lemmas.Bool.{false≢true}
 use Rattle.heap_objects.specs.declared.datum.Datum.{Datum}
 use Rattle.heap_objects.specs.declared.Value.{Value}
 use Rattle.heap_objects.specs.Heaps.{HeapView, with_instance, with_text}
-use Rattle.const_pool.specs.declared.descriptor.Kind.{Kind}
 use Rattle.const_pool.specs.declared.descriptor.Shape.{Shape}
 use Rattle.const_pool.specs.BuiltIn.{built_in_names}
 use Rattle.const_pool.specs.References.{NameAndType, Reference}
@@ -43,7 +42,7 @@ use Rattle.jvm_model.specs.Basis.Programs.{number_of_method}
 use Rattle.jvm_model.specs.Instructions.Rules.{class_initialized, when_ready}
 use Rattle.jvm_model.specs.Classes.Selection.{is_abstract, is_static}
 use Rattle.jvm_model.specs.Basis.SharedState.{class_of, class_of_kind, null_pointer, phase_of}
-use Rattle.jvm_model.specs.Basis.Values.{arguments, data_of, int_of, ref_of}
+use Rattle.jvm_model.specs.Basis.Values.{arguments, int_of, ref_of}
 use Rattle.interpreter.specs.Instructions.Asked.{Takes, TakesArguments}
 use Rattle.prepared_code.specs.Versions.{Setup}
 

@@ -1,9 +1,11 @@
 -- What an instruction asks for that sees objects: no method is invoked by it, and no class is initialized before. What applies by it is what
 -- the line does.
-use Rattle.std.proofs.Common.{◌≡◌, ℕ, Bool, true, false, cond, List, [], ◌∷◌, Option, Some, None, refl, ap}
+use Rattle.std.proofs.Common.{◌≡◌, ℕ, Bool, true, false, cond, List, [], ◌∷◌, Option, Some, None, refl, sym, ap, subst, ◌∙◌}
 use Rattle.std.specs.Prelude.{nat_le, ℤ, pos, negsuc, ◌+◌, ◌==◌}
 use Rattle.std.proofs.lemmas.Bool.{false≢true}
 use Rattle.heap_objects.specs.declared.Value.{Value}
+use Rattle.frame_stack.specs.FrameLists.{PlacedFrame, top_operands}
+use Rattle.jvm_basic.specs.Outcomes.{top_locals}
 use Rattle.const_pool.specs.declared.descriptor.Kind.{Kind}
 use Rattle.jvm_model.specs.declared.program.Program.{Program}
 use Rattle.jvm_model.specs.declared.state.Frame.{Frame}
@@ -18,11 +20,15 @@ use Rattle.jvm_model.specs.Instructions.LocalRules.{replaces}
 use Rattle.jvm_model.specs.Instructions.ObjectRules.{Access, ToNull, ToAnother, Outside, Inside, Storing, access_to, fits_array, loads_at, loads_element, makes, measures, place_of, stores_at, stores_element, storing_of, throws, watches}
 use Rattle.jvm_model.specs.Running.Constants.{can_intern}
 use Rattle.jvm_model.specs.Running.Run.{starts}
+use Rattle.symbolic_references.specs.Runtimes.{RuntimeView, with_shared}
 use Rattle.prepared_code.specs.declared.line.Action.{Action}
 use Rattle.prepared_code.specs.declared.line.Action.TheVariants as action
 use Rattle.prepared_code.specs.declared.line.Line.{Line}
+use Rattle.prepared_code.specs.declared.parts.Parts.{Parts}
+use Rattle.prepared_code.specs.Linked.{Linked, setup_in}
+use Rattle.prepared_code.specs.States.{frame_in, state_in, state_with}
 use Rattle.prepared_code.specs.Versions.{Setup}
-use Rattle.interpreter.specs.Instructions.Acts.{acts_by, acts_done, sees_objects}
+use Rattle.interpreter.specs.Instructions.Acts.{IsTop, acts, acts_asked, acts_by, acts_done, is_named, on_parts, on_top, sees_objects}
 use Rattle.interpreter.specs.Instructions.Asked.{TakesArguments}
 use Rattle.interpreter.proofs.Instructions.NamedLaws.{is_plain}
 
@@ -133,3 +139,52 @@ acts-seeing w line s f (action.LdcString units) is = refl
 acts-seeing w line s f action.Local is = absurd (false≢true is)
 acts-seeing w line s f (action.Return k) is = absurd (false≢true is)
 acts-seeing w line s f (action.Named n) is = absurd (false≢true is)
+
+-- a line that is none of the others does
+pub seeing : (a : Action) → is_named a ≡ false → (a ≡ action.Local → ⊥) → ((k : Option Kind) → a ≡ action.Return k → ⊥) → sees a ≡ true
+seeing action.Athrow unnamed local returns = refl
+seeing action.Monitor unnamed local returns = refl
+seeing action.Arraylength unnamed local returns = refl
+seeing (action.Newarray kind) unnamed local returns = refl
+seeing (action.LoadElement k) unnamed local returns = refl
+seeing (action.StoreElement k) unnamed local returns = refl
+seeing (action.LdcString units) unnamed local returns = refl
+seeing action.Local unnamed local returns = absurd (local refl)
+seeing (action.Return k) unnamed local returns = absurd (returns k refl)
+seeing (action.Named n) unnamed local returns = absurd (false≢true (sym unnamed))
+
+-- what is done by what the code asks for, over what is left
+module _ (o : Linked) (line : Line) (method : ℕ) (p : Parts) where
+  abbrev w : Setup
+  w = setup_in p.runtime o
+
+  abbrev asks : List PlacedFrame → Done
+  asks all = sees_objects p.runtime.world line.action p.runtime.shared (top_locals all) (top_operands all)
+
+  abbrev acted : Setup → RuntimeView → Outcome → List PlacedFrame → State
+  acted v left q all = on_top (λ s f. acts_asked v line s f q) (record p { runtime = left }) all
+
+  seen-acts : sees line.action ≡ true → (all : List PlacedFrame) → IsTop method all
+      → acted w (with_shared (asks all).shared p.runtime) (asks all).outcome all ≡ on_top (acts w line) p all
+  seen-acts is [] top = absurd top
+  seen-acts is (f ∷ fs) top = acts-seeing w line (state_with fs p) (frame_in f) line.action is
+
+  pub object-acts : (left : RuntimeView) (q : Outcome) (new : Parts) → sees line.action ≡ true → IsTop method p.frames.frames
+      → q ≡ (asks p.frames.frames).outcome → left ≡ with_shared (asks p.frames.frames).shared p.runtime
+      → state_in new ≡ acted (setup_in left o) left q p.frames.frames → state_in new ≡ on_parts (acts w line) p
+  object-acts left q new is top asks_so leaves made =
+      made
+      ∙ (ap (λ (r : RuntimeView). acted (setup_in r o) r q p.frames.frames) leaves
+      ∙ (ap (λ (x : Outcome). acted w (with_shared (asks p.frames.frames).shared p.runtime) x p.frames.frames) asks_so
+      ∙ seen-acts is p.frames.frames top))
+
+  -- it starts nothing, and invokes nothing
+  pub object-starts : (q : Outcome) → q ≡ (asks p.frames.frames).outcome → starts q ≡ None
+  object-starts q is =
+      ap starts is ∙ plain-starts (asks p.frames.frames).outcome (objects-plain p.runtime.world line.action p.runtime.shared (top_locals p.frames.frames) (top_operands p.frames.frames))
+
+  pub object-takes : (q : Outcome) → q ≡ (asks p.frames.frames).outcome → TakesArguments q (top_operands p.frames.frames)
+  object-takes q is =
+      subst (λ (x : Outcome). TakesArguments x (top_operands p.frames.frames)) (sym is)
+      (plain-takes (asks p.frames.frames).outcome (top_operands p.frames.frames)
+      (objects-plain p.runtime.world line.action p.runtime.shared (top_locals p.frames.frames) (top_operands p.frames.frames)))

@@ -4,8 +4,7 @@ use Rattle.std.proofs.lemmas.Bool.{false≢true}
 use Rattle.std.proofs.lemmas.Option.{same_Some, none-some}
 use Rattle.std.specs.Option.{option_map, IfSome}
 use Rattle.std.specs.Prelude.{◌==◌, is_some, IfNone}
-use Rattle.frame_stack.specs.FrameLists.{PlacedFrame, FramesView, top_operands}
-use Rattle.jvm_model.specs.declared.state.Shared.{Shared}
+use Rattle.frame_stack.specs.FrameLists.{PlacedFrame, top_operands}
 use Rattle.jvm_model.specs.declared.state.State.{State}
 use Rattle.jvm_model.specs.declared.instruction.SymbolicReference.{SymbolicReference}
 use Rattle.jvm_model.specs.Instructions.Does.{loads}
@@ -24,11 +23,10 @@ use Rattle.prepared_code.specs.declared.line.Line.{Line}
 use Rattle.prepared_code.specs.declared.initializations.Initialization.{Initialization}
 use Rattle.prepared_code.specs.declared.parts.Here.{Here}
 use Rattle.prepared_code.specs.declared.parts.Parts.{Parts}
-use Rattle.interpreter.specs.Instructions.Acts.{attempts_on, awaited_in, is_named, named_in}
-use Rattle.interpreter.specs.Instructions.Initializing.{begins_class}
+use Rattle.interpreter.specs.Instructions.Acts.{is_named, named_in}
 use Rattle.prepared_code.specs.Lines.{IfNamed}
 use Rattle.prepared_code.specs.Initializations.{initialization_on, stack_of, state_of}
-use Rattle.prepared_code.specs.States.{active, frame_in, here_of, state_in}
+use Rattle.prepared_code.specs.States.{active, frame_in, here_of}
 use Rattle.interpreter.specs.Moves.Turning.{loads_in, loads_none}
 use Rattle.prepared_code.specs.Versions.{Setup, instruction_in, line_at, operation_as, listing_of}
 use Rattle.interpreter.proofs.Initializing.Beneath.{nothing-there}

@@ -4,24 +4,25 @@ use Rattle.std.specs.Prelude.{Result, OnOk}
 use Rattle.std.proofs.lemmas.Bool.{leb-true}
 use Rattle.std.proofs.lemmas.Result.{on_ok_weaker}
 use Rattle.jf_bytes.specs.declared.error.NoMemory.{NoMemory}
-use Rattle.heap_objects.specs.Heaps.{HeapView}
 use Rattle.jvm_model.specs.declared.state.Shared.{Shared}
 use Rattle.jvm_model.specs.declared.state.State.{State}
-use Rattle.jvm_model.specs.Basis.Data.{Outcome}
+use Rattle.jvm_model.specs.Basis.Data.{Outcome, World}
 use Rattle.jvm_model.specs.declared.instruction.SymbolicReference.TheVariants.{New}
-use Rattle.jvm_model.specs.Basis.KindNumbers.{user_count}
-use Rattle.jvm_model.specs.Classes.Load.{Fault, is_among, load_of}
+use Rattle.jvm_model.specs.Classes.Load.{Fault, load_of}
 use Rattle.jvm_model.specs.Instructions.SymbolicReference.{kind_unless, resolved_kind}
 use Rattle.jvm_model.specs.Running.Run.{arguments_made, before, main_class, main_classes, main_loading, run_opened, starts_if, starts_unless}
-use Rattle.jvm_model.specs.Basis.SharedState.{arguments_cost, arguments_fit, shared_before, with_arguments}
-use Rattle.jvm_model.specs.Soundness.Sound.{IsFit}
+use Rattle.jvm_model.specs.Basis.SharedState.{arguments_cost, arguments_fit, with_arguments}
 use Rattle.jvm_model.proofs.Loading.LoadsAgain.{newly-loaded}
-use Rattle.jvm_model.proofs.Soundness.SoundKinds.{has-root}
 use Rattle.interpreter.specs.Machine.Before.{begun_by}
 use Rattle.interpreter.specs.Instructions.Initializing.{begins_class}
 use Rattle.prepared_code.specs.Prepared.{main_name}
 use Rattle.interpreter.proofs.Instructions.LineActs.{with-loaded}
+use Rattle.prepared_code.specs.declared.initializations.Initialization.{Initialization}
+use Rattle.prepared_code.specs.declared.parts.Parts.{Parts}
+use Rattle.prepared_code.specs.Initializations.{state_of}
+use Rattle.prepared_code.specs.Linked.{Linked, setup_in}
 use Rattle.prepared_code.specs.Versions.{Setup}
+use Rattle.symbolic_references.specs.Runtimes.{RuntimeView, with_heap, with_loaded}
 
 -- by the fault that stopped the loading, on an empty stack
 fault-begins : (w : Setup) (fault : Option Fault) (kind : Option ℕ) (s : State) → s.stack ≡ []
@@ -53,25 +54,29 @@ begins-main w old after found is delivered begins =
     ∙ (fault-begins w (main_loading w.world).fault _ (record (before w.world) { shared = shared_opened w (before w.world).shared }) refl
     ∙ ap (starts_unless w.world (main_loading w.world).fault) (opens w))))
 
--- by what the code has found, in the world that stays
-pub begins-all : {A : Type 0} (result : Result A NoMemory) (w v : Setup) (class : ℕ) (old after : State) (found : Result ℕ Outcome) (heap : HeapView) (linked loaded : List ℕ)
-    → v ≡ w → class ≡ main_class v.world.program → linked ≡ old.shared.loaded → heap ≡ with_arguments w.world.program old.shared.heap
-    → loaded ≡ (load_of w.world.program linked (main_name w.world.program)).loaded → old ≡ before w.world → found ≡ resolved_kind w.world.program linked (main_name w.world.program)
-    → OnOk result (after ≡ begun_by v.world class found (record old { shared = record old.shared { heap = heap; loaded = loaded } }))
-    → OnOk result (after ≡ starts_if w.world true)
-begins-all result w v class old after found heap linked loaded same main has arguments loads is delivered made =
+-- by what the code has found, over the arguments that it has made, with the classes that it has loaded
+pub begins-all : {A : Type 0} (result : Result A NoMemory) (o : Linked) (ms : List Initialization) (p : Parts) (class : ℕ) (after : State) (found : Result ℕ Outcome)
+    (opened left : RuntimeView) → state_of ms p ≡ before p.runtime.world → opened ≡ with_heap (with_arguments p.runtime.world.program p.runtime.shared.heap) p.runtime
+    → left ≡ with_loaded (load_of opened.world.program opened.shared.loaded (main_name opened.world.program)).loaded opened
+    → found ≡ resolved_kind opened.world.program opened.shared.loaded (main_name opened.world.program) → class ≡ main_class left.world.program
+    → OnOk result (after ≡ begun_by left.world class found (state_of ms (record p { runtime = left })))
+    → OnOk result (after ≡ starts_if p.runtime.world true)
+begins-all result o ms p class after found opened left start made loads delivered main begins =
     on_ok_weaker result
-    (λ e. begins-main w old after found is (delivered ∙ ap (λ l. resolved_kind w.world.program l (main_name w.world.program)) has)
-    (e ∙ (ap (λ u. begun_by u.world class found given) same
-    ∙ (ap (λ k. begun_by w.world k found given) (main ∙ ap (λ (u : Setup). main_class u.world.program) same)
-    ∙ ap (begun_by w.world (main_class w.world.program) found)
-    (ap (λ h. record old { shared = record old.shared { heap = h; loaded = loaded } }) arguments
-    ∙ ap (λ l. record old { shared = record old.shared { heap = with_arguments w.world.program old.shared.heap; loaded = l } })
-    (loads ∙ ap (λ l. (load_of w.world.program l (main_name w.world.program)).loaded) has))))))
-    made
+    (λ e. begins-main (setup_in p.runtime o) (state_of ms p) after found start
+    (delivered ∙ ap (λ (r : RuntimeView). resolved_kind r.world.program r.shared.loaded (main_name r.world.program)) made)
+    (e ∙ (ap (λ (r : RuntimeView). begun_by r.world class found (state_of ms (record p { runtime = r }))) left-is
+    ∙ ap (λ k. begun_by p.runtime.world k found (state_of ms (record p { runtime = all }))) (main ∙ ap (λ (r : RuntimeView). main_class r.world.program) left-is))))
+    begins
   where
-    given : State
-    given = record old { shared = record old.shared { heap = heap; loaded = loaded } }
+    open : RuntimeView
+    open = with_heap (with_arguments p.runtime.world.program p.runtime.shared.heap) p.runtime
+
+    all : RuntimeView
+    all = with_loaded (load_of p.runtime.world.program p.runtime.shared.loaded (main_name p.runtime.world.program)).loaded open
+
+    left-is : left ≡ all
+    left-is = loads ∙ ap (λ (r : RuntimeView). with_loaded (load_of r.world.program r.shared.loaded (main_name r.world.program)).loaded r) made
 
 -- before the start there is room for arguments that fit, in the program's heap
 pub fits-room : (w : Setup) (s : State) → s ≡ before w.world → arguments_fit w.world.program ≡ true → s.shared.heap.used + arguments_cost w.world.program.args ≤ s.shared.heap.limit
@@ -79,8 +84,5 @@ fits-room w s is fits =
     subst (λ (x : State). x.shared.heap.used + arguments_cost w.world.program.args ≤ x.shared.heap.limit) (sym is)
     (leb-true ((before w.world).shared.heap.used + arguments_cost w.world.program.args) w.world.program.heap fits)
 
--- java/lang/Object is loaded before
-pub root-before : (w : Setup) (s : State) (loaded : List ℕ) → IsFit w.world.program → s ≡ before w.world → loaded ≡ s.shared.loaded → is_among (user_count w.world.program) loaded ≡ true
-root-before w s loaded fit is linked =
-    ap (is_among (user_count w.world.program)) (linked ∙ ap (λ (x : State). x.shared.loaded) is)
-    ∙ has-root w.world.program fit (shared_before w.world.program).loaded fit.before
+pub limit-before : (w : World) (s : State) → s ≡ before w → s.shared.heap.limit ≡ w.program.heap
+limit-before w s is = ap (λ (x : State). x.shared.heap.limit) is

@@ -166,13 +166,11 @@ followed-loaded w t v n changes s =
     behind-loaded w t v n s (changes_due (mark_now v t) [] changes) (record { state = s; passed = passed_by n changes; due = Begins })
     (step_paused w.world t v (passed_by n changes) s) refl (paused-loaded w t v (passed_by n changes) s)
 
--- of a state that is left where it is paused
-pub left-loaded : {E : Type 0} (r : Result Due E) (new : State) (passed : ℕ) (p : Pause) (classes : List ℕ) → IfOk r (λ due. pause_at new passed due ≡ p)
-    → p.state.shared.loaded ≡ classes → OnOk r (new.shared.loaded ≡ classes)
-left-loaded (Ok due) new passed p classes reached same = ap (λ (x : Pause). x.state.shared.loaded) reached ∙ same
-left-loaded (Err e) new passed p classes reached same = tt
-
 -- ---- in the world that stays
+
+pub on-either : {A E P : Type 0} (r : Result A E) → P → OnOk r P
+on-either (Ok x) holds = holds
+on-either (Err e) holds = tt
 
 pub follows-in : {E : Type 0} (r : Result Due E) (w v : Setup) (live n passed : ℕ) (mid done new : State) → v ≡ w → mid ≡ done
     → IfOk r (λ due. pause_at new passed due ≡ pause_behind_attempt v live n mid) → IfOk r (λ due. pause_at new passed due ≡ pause_behind_attempt w live n done)

@@ -1,5 +1,5 @@
 -- A step in hand goes on: what is in hand then, and that all of it stays sound.
-use Rattle.std.proofs.Common.{◌≡◌, ℕ, suc, Bool, true, false, List, Option, Some, None, refl, sym, ap, subst, ◌∙◌}
+use Rattle.std.proofs.Common.{◌≡◌, ℕ, Bool, true, false, List, Option, Some, None, refl, sym, ap, subst, ◌∙◌}
 use Rattle.std.specs.Prelude.{is_some, IfNone}
 use Rattle.std.specs.Option.{IfSome}
 use Rattle.jvm_model.specs.declared.due.Due.{Due}
@@ -20,8 +20,7 @@ use Rattle.prepared_code.specs.Ready.{CanRun, IsSoundIn}
 use Rattle.prepared_code.specs.Standing.{HasVersions, places_of}
 use Rattle.interpreter.specs.Moves.Turning.{goes_by_moves, loads_in, loads_none, pause_at}
 use Rattle.interpreter.specs.Moves.Trying.{tried_in}
-use Rattle.prepared_code.specs.Versions.{Setup, current_of, listing_of, mark_of}
-use Rattle.interpreter.proofs.Moves.Followed.{paused-loaded}
+use Rattle.prepared_code.specs.Versions.{Setup, current_of, listing_of}
 use Rattle.interpreter.proofs.Moves.PausesSound.{loaded-sound, moved-sound, tried-sound}
 use Rattle.interpreter.proofs.Loads.StartSound.{starts-sound}
 use Rattle.interpreter.proofs.Moves.TriedSteps.{no-classes}
@@ -61,13 +60,6 @@ module _ (w : Setup) (run : CanRun w) (s new : State) where
   attempt-sound (Some due) delivered n passed some reaches loads is =
       subst (IsSoundIn w) (ap (λ (p : Pause). p.state) (sym reaches)) (tried-sound w run n s is (no-classes (loads_in w s) (sym some)) delivered)
   attempt-sound None delivered n passed some reaches loads is = subst (IsSoundIn w) (sym loads) (loaded-sound w run s is)
-
-  -- moves load nothing
-  pub moves-linked : (delivered : Bool) (n passed : ℕ) (due : Due) → pause_at new passed due ≡ goes_by_moves w delivered n s → s.shared.loaded ≡ new.shared.loaded
-  moves-linked delivered n passed due reaches = sym (ap (λ (p : Pause). p.state.shared.loaded) reaches ∙ by delivered) where
-    by : (b : Bool) → (goes_by_moves w b n s).state.shared.loaded ≡ s.shared.loaded
-    by true = paused-loaded w (listing_of w.versions) (mark_of w.versions) (suc n) (frame_popped s)
-    by false = paused-loaded w (listing_of w.versions) (mark_of w.versions) n s
 
 -- ---- where it has stopped
 

@@ -16,8 +16,11 @@ use Rattle.jvm_model.proofs.Turns.Pausing.{OneAtMost, none, one, move-one}
 use Rattle.jvm_model.proofs.Turns.LoopOfPauses.{paused-move, begun-stops}
 use Rattle.interpreter.specs.declared.turns.turning.Moved.{Moved}
 use Rattle.interpreter.specs.declared.turns.turning.Moved.TheVariants as moved
+use Rattle.symbolic_references.specs.Runtimes.{RuntimeView}
+use Rattle.prepared_code.specs.Linked.{Linked, setup_in}
 use Rattle.prepared_code.specs.Versions.{Setup, listing_of, mark_of}
 use Rattle.interpreter.specs.Moves.Turning.{changes_of, due_by, moved_by, moved_if, moved_as, state_by, moved_to, paused_in}
+use Rattle.interpreter.proofs.Instructions.NamedAttempts.{same-setup}
 
 abbrev pub Means : Setup → ℕ → State → State → Moved → Type 0
 Means w n s after moved.Nothing = paused_in w n s ≡ record { state = after; passed = n; due = Nothing }
@@ -115,5 +118,12 @@ pub means-of : (w : Setup) (n : ℕ) (s after : State) (m : Moved) → m ≡ mov
 means-of w n s after m answer state = subst (λ a. Means w n s a m) (sym state) (subst (Means w n s (moved_to w s)) (sym answer) (means w n s))
 
 -- where it is known what that is
-pub means-as : (w : Setup) (n : ℕ) (s after : State) (m k : Moved) → m ≡ moved_as w s → after ≡ moved_to w s → m ≡ k → Means w n s after k
+means-as : (w : Setup) (n : ℕ) (s after : State) (m k : Moved) → m ≡ moved_as w s → after ≡ moved_to w s → m ≡ k → Means w n s after k
 means-as w n s after m k answer state is = subst (Means w n s after) is (means-of w n s after m answer state)
+
+-- in the world that stays
+pub moves-as : (o : Linked) (r there : RuntimeView) → there.world ≡ r.world → (n : ℕ) (s after : State) (m k : Moved) → m ≡ moved_as (setup_in there o) s
+    → after ≡ moved_to (setup_in there o) s → m ≡ k → Means (setup_in r o) n s after k
+moves-as o r there world n s after m k answer state is =
+    let same = same-setup r there o o world refl in
+    means-as (setup_in r o) n s after m k (answer ∙ ap (λ (w : Setup). moved_as w s) same) (state ∙ ap (λ (w : Setup). moved_to w s) same) is

@@ -1,13 +1,12 @@
 -- A sound state is what an attempt of an instruction that names something asks for, and an attempt leaves one.
-use Rattle.std.proofs.Common.{◌≡◌, ℕ, refl, List, [], ◌∷◌, ◌++◌, length, map, false, Option, Some, None, sym, ap, subst, ◌∙◌}
+use Rattle.std.proofs.Common.{◌≡◌, ◌<◌, ℕ, refl, List, [], ◌∷◌, ◌++◌, length, map, false, Option, Some, None, sym, ap, subst, ◌∙◌, arith}
 use Rattle.std.specs.List.{AllByRecursion}
+use Rattle.std.specs.Option.{IfSome}
 use Rattle.std.proofs.lemmas.Option.{none-some, same_Some}
-use Rattle.heap_objects.specs.declared.object.Object.{Object}
 use Rattle.frame_stack.specs.FrameLists.{PlacedFrame}
 use Rattle.jvm_model.specs.declared.program.Program.{Program}
 use Rattle.jvm_model.specs.declared.state.Entry.TheVariants.{Active}
 use Rattle.jvm_model.specs.declared.state.Frame.{Frame}
-use Rattle.jvm_model.specs.declared.state.Shared.{Shared}
 use Rattle.jvm_model.specs.declared.state.State.{State}
 use Rattle.jvm_model.specs.Basis.Data.{Instruction, Breaks, Done}
 use Rattle.jvm_model.specs.declared.instruction.SymbolicReference.{SymbolicReference}
@@ -19,22 +18,21 @@ use Rattle.jvm_model.specs.declared.instruction.Operation.TheVariants.{Within, N
 use Rattle.jvm_model.specs.Instructions.Does.{loads}
 use Rattle.jvm_model.specs.Running.Run.{main_class}
 use Rattle.jvm_model.specs.Soundness.Sound as sound
-use Rattle.jvm_model.specs.Soundness.Sound.{CanAttempt, IsFit, IsLoaded, IsSoundOutcome, IsSoundShared}
+use Rattle.jvm_model.specs.Soundness.Sound.{CanAttempt, IsFit, IsLoaded, IsSoundOutcome}
 use Rattle.jvm_model.proofs.Soundness.SoundAttempts.{sound-does}
 use Rattle.jvm_model.proofs.Soundness.SoundClasses.{among-front}
-use Rattle.jvm_model.proofs.Soundness.SoundKinds.{has-root}
 use Rattle.jvm_model.proofs.Soundness.SoundRuns.{loads-again}
 use Rattle.jvm_model.proofs.Soundness.SoundListingRuns.{sound-loaded}
 use Rattle.jvm_model.proofs.Soundness.SoundListingSteps.{entry-grows, sound-applied}
 use Rattle.prepared_code.specs.Ready.{CanRun, IsSoundEntryIn, IsSoundIn, IsTied, RunsIn}
 use Rattle.class_linker.specs.Linkers.{LinkerView}
-use Rattle.symbolic_references.specs.Natives.{HasBuiltIn}
-use Rattle.symbolic_references.specs.Objects.{AreLoaded, HasLoadedCaller, IsOfLoaded}
+use Rattle.symbolic_references.specs.Arrays.{IsPrimitiveArray}
+use Rattle.symbolic_references.specs.Objects.{HasLoadedCaller}
 use Rattle.prepared_code.specs.declared.line.Line.{Line}
 use Rattle.prepared_code.specs.declared.initializations.Initialization.{Initialization}
 use Rattle.prepared_code.specs.declared.parts.Here.{Here}
 use Rattle.prepared_code.specs.declared.parts.Parts.{Parts}
-use Rattle.interpreter.specs.Instructions.Acts.{acts, attempts_line, attempts_on, with_done}
+use Rattle.interpreter.specs.Instructions.Acts.{IfNewarray, acts, attempts_line, attempts_on, with_done}
 use Rattle.prepared_code.specs.Lines.{IfNamed, IfNamedBy, action_of, local_action}
 use Rattle.prepared_code.specs.Initializations.{initialization_on, stack_of, state_of}
 use Rattle.prepared_code.specs.States.{active, here_of}
@@ -47,22 +45,6 @@ use Rattle.prepared_code.specs.Versions.{Setup, listing_of, line_at, instruction
 
 abbrev linker_of : Program → List ℕ → LinkerView
 linker_of p loaded = record { program = p; loaded = loaded }
-
-objects-loaded : (p : Program) (loaded : List ℕ) (os : List Object) → AllByRecursion (sound.IsOfLoaded p loaded) os → AllByRecursion (IsOfLoaded (linker_of p loaded)) os
-objects-loaded p loaded [] each = tt
-objects-loaded p loaded (o ∷ os) each = (record { known = each.0.known; of_class = each.0.of_class }, objects-loaded p loaded os each.1)
-
--- over the classes that the linker has loaded
-pub built-in-linked : (p : Program) (s : Shared) (loaded : List ℕ) → IsSoundShared p s → loaded ≡ s.loaded → HasBuiltIn (linker_of p loaded)
-built-in-linked p s loaded is linked =
-    subst (λ l. HasBuiltIn (linker_of p l)) (sym linked) (record { whole = is.built_in.whole; each = is.built_in.each })
-
-pub objects-linked : (p : Program) (s : Shared) (loaded : List ℕ) → IsFit p → IsSoundShared p s → loaded ≡ s.loaded → AreLoaded (linker_of p loaded) s.heap
-objects-linked p s loaded fit is linked =
-    subst (λ l. AreLoaded (linker_of p l) s.heap) (sym linked) (record {
-      objects = objects-loaded p s.loaded s.heap.objects is.objects;
-      root = has-root p fit s.loaded is.built_in;
-    })
 
 -- ---- the line where a frame stands
 
@@ -98,23 +80,58 @@ module _ (p : Program) (fit : IsFit p) (loaded : List ℕ) where
   tie-named (Some line) (Some i) can tie =
       named-by line tie.op tie.tied (subst (CanAttempt p loaded) (ap (λ (x : Instruction). x.operation) tie.is) (can i refl))
 
--- the caller of an invokespecial that stands there
-caller-by : (w : Setup) (run : CanRun w) (loaded : List ℕ) (ms : List Initialization) (here : Here) (fs : List PlacedFrame) → here_of fs ≡ Some here → initialization_on (length fs) ms ≡ None
-    → AllByRecursion (IsSoundEntryIn w loaded) (stack_of (map active fs) ms)
-    → IfNamed (line_at w.versions here.version here.place) (λ n next. HasLoadedCaller (linker_of w.world.program loaded) n)
-caller-by w run loaded ms here [] is none each = absurd (none-some here is)
-caller-by w run loaded ms here (f ∷ fs) is none each =
+  -- a newarray is of a primitive type
+  array-local : (l : Local) → IfNewarray (local_action l) IsPrimitiveArray
+  array-local (Return k) = tt
+  array-local l = tt
+
+  array-by : (line : Line) (op : Operation) → IsTied line op → CanAttempt p loaded op → IfNewarray line.action IsPrimitiveArray
+  array-by line op tied can = subst (λ a. IfNewarray a IsPrimitiveArray) tied.action (by op can) where
+    by : (o : Operation) → CanAttempt p loaded o → IfNewarray (action_of o) IsPrimitiveArray
+    by (Named n) can = tt
+    by (Within l) can = array-local l
+    by Athrow can = tt
+    by Monitor can = tt
+    by (Newarray code) can = record { array = omega arith; primitive = (let few : code < 16 = can in omega (arith, few)) }
+    by Arraylength can = tt
+    by (LoadElement k) can = tt
+    by (StoreElement k) can = tt
+    by (LdcString units) can = tt
+
+  tie-array : (lo : Option Line) (io : Option Instruction) → ((i : Instruction) → io ≡ Some i → CanAttempt p loaded i.operation) → Tie lo io
+      → IfSome lo (λ (line : Line). IfNewarray line.action IsPrimitiveArray)
+  tie-array None io can tie = tt
+  tie-array (Some line) None can tie = absurd tie
+  tie-array (Some line) (Some i) can tie =
+      array-by line tie.op tie.tied (subst (CanAttempt p loaded) (ap (λ (x : Instruction). x.operation) tie.is) (can i refl))
+
+-- what stands where a frame does can be attempted
+can-stand : (w : Setup) → CanRun w → (loaded : List ℕ) (ms : List Initialization) (here : Here) (fs : List PlacedFrame) → here_of fs ≡ Some here
+    → initialization_on (length fs) ms ≡ None → AllByRecursion (IsSoundEntryIn w loaded) (stack_of (map active fs) ms)
+    → (i : Instruction) → (listing_of w.versions).at here.version here.place ≡ Some i → CanAttempt w.world.program loaded i.operation
+can-stand w run loaded ms here [] is none each i at = absurd (none-some here is)
+can-stand w run loaded ms here (f ∷ fs) is none each i at =
     let same : record { version = f.version; method = f.method; place = f.place } ≡ here = same_Some _ here is in
     let top : IsSoundEntryIn w loaded (active f) = (subst (AllByRecursion (IsSoundEntryIn w loaded)) (top-frame ms f fs none) each).0 in
-    subst (λ (h : Here). IfNamed (line_at w.versions h.version h.place) (λ n next. HasLoadedCaller (linker_of w.world.program loaded) n)) same
-    (tie-named w.world.program run.fit loaded (line_at w.versions f.version f.place) ((listing_of w.versions).at f.version f.place)
-    (λ i at. run.listing.attempts loaded f.version f.method f.place i top.1 top.0 at)
-    (tied-there w run f.version f.place))
+    run.listing.attempts loaded f.version f.method f.place i top.1 top.0 (ap (λ (h : Here). (listing_of w.versions).at h.version h.place) same ∙ at)
 
+-- the caller of an invokespecial that stands there
 pub caller-linked : (w : Setup) (ms : List Initialization) (parts : Parts) (here : Here) → CanRun w → IsSoundIn w (state_of ms parts)
     → here_of parts.frames.frames ≡ Some here → initialization_on (length parts.frames.frames) ms ≡ None
     → IfNamed (line_at w.versions here.version here.place) (λ n next. HasLoadedCaller (linker_of w.world.program parts.runtime.shared.loaded) n)
-caller-linked w ms parts here run is at none = caller-by w run parts.runtime.shared.loaded ms here parts.frames.frames at none is.stack
+caller-linked w ms parts here run is at none =
+    let loaded = parts.runtime.shared.loaded in
+    tie-named w.world.program run.fit loaded (line_at w.versions here.version here.place) ((listing_of w.versions).at here.version here.place)
+    (can-stand w run loaded ms here parts.frames.frames at none is.stack) (tied-there w run here.version here.place)
+
+-- the type of a newarray that does
+pub array-primitive : (w : Setup) (ms : List Initialization) (parts : Parts) (here : Here) → CanRun w → IsSoundIn w (state_of ms parts)
+    → here_of parts.frames.frames ≡ Some here → initialization_on (length parts.frames.frames) ms ≡ None
+    → IfSome (line_at w.versions here.version here.place) (λ (line : Line). IfNewarray line.action IsPrimitiveArray)
+array-primitive w ms parts here run is at none =
+    let loaded = parts.runtime.shared.loaded in
+    tie-array w.world.program run.fit loaded (line_at w.versions here.version here.place) ((listing_of w.versions).at here.version here.place)
+    (can-stand w run loaded ms here parts.frames.frames at none is.stack) (tied-there w run here.version here.place)
 
 -- ---- an attempt leaves a sound state
 

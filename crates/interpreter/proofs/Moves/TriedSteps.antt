@@ -39,7 +39,7 @@ use Rattle.prepared_code.specs.declared.line.Action.TheVariants as action
 use Rattle.prepared_code.specs.declared.line.Line.{Line}
 use Rattle.prepared_code.specs.declared.initializations.Initialization.{Initialization}
 use Rattle.prepared_code.specs.declared.parts.Parts.{Parts}
-use Rattle.interpreter.specs.Instructions.Acts.{acts, acts_by, acts_named, attempts_line, attempts_on, class_awaited, awaited_by, awaited_in, awaited_on, goes_on_in}
+use Rattle.interpreter.specs.Instructions.Acts.{acts, acts_by, attempts_line, attempts_on, class_awaited, awaited_by, awaited_in, awaited_on, goes_on_in}
 use Rattle.prepared_code.specs.Lines.{action_of, local_action}
 use Rattle.prepared_code.specs.Initializations.{initializing_entry, initialization_on, stack_of, state_of}
 use Rattle.prepared_code.specs.Ready.{CanRun, IsSoundIn, IsTied}
@@ -469,20 +469,21 @@ module _ (w v : Setup) (same_world : v ≡ w) (run : CanRun w) (ms : List Initia
     pub line-no-more : tries_again n c q ≡ false → q ≡ tried_in w true n start
     line-no-more isnt = tries-no-more w run ms p goes n live is_live (sym line-loads) o answer-is mid line-attempted c is q reached-is isnt
 
-    module _ (again : tries_again n c q ≡ true) where
+    -- in the world that stays behind it
+    module _ (u : Setup) (same_then : u ≡ w) (again : tries_again n c q ≡ true) where
       settles : state_of ms_then then_there ≡ behind w mid
       settles = settles-before w run ms p goes n live is_live (sym line-loads) o answer-is mid line-attempted c is q reached-is again
 
-      pub line-sound : IsSoundIn w start → IsSoundIn v (state_of ms_then then_there)
+      pub line-sound : IsSoundIn w start → IsSoundIn u (state_of ms_then then_there)
       line-sound sound =
-          subst (λ u. IsSoundIn u (state_of ms_then then_there)) (sym same_world)
+          subst (λ x. IsSoundIn x (state_of ms_then then_there)) (sym same_then)
           (sound-again w run ms p goes o c answer-is is mid line-attempted ms_then then_there settles sound)
 
       pub line-executing : initialization_on (length then_there.frames.frames) ms_then ≡ None
       line-executing = executing-again w run ms p goes o c answer-is is mid line-attempted ms_then then_there settles (again-ready n c q again)
 
-      pub line-twice : (r : Pause) → r ≡ pause_behind_attempt v live passed (attempts_on v (state_of ms_then then_there) (state_of ms_then then_there).stack)
+      pub line-twice : (r : Pause) → r ≡ pause_behind_attempt u live passed (attempts_on u (state_of ms_then then_there) (state_of ms_then then_there).stack)
           → r ≡ tried_in w true n start
       line-twice r reaches_again =
           tries-twice w run ms p goes n live is_live (sym line-loads) o answer-is mid line-attempted c is q reached-is again r
-          (subst (λ u. r ≡ pause_behind_attempt u live passed (attempts_on u (state_of ms_then then_there) (state_of ms_then then_there).stack)) same_world reaches_again)
+          (subst (λ x. r ≡ pause_behind_attempt x live passed (attempts_on x (state_of ms_then then_there) (state_of ms_then then_there).stack)) same_then reaches_again)

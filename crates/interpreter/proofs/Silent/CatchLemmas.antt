@@ -1,5 +1,5 @@
 -- What the code finds of a throw that the caller of the current frame catches.
-use Rattle.std.proofs.Common.{◌≡◌, ◌≢◌, ℕ, ◌+◌, ◌-◌, Bool, true, false, List, [], ◌∷◌, length, Option, Some, None, refl, sym, ap, subst, ◌∙◌, arith}
+use Rattle.std.proofs.Common.{◌≡◌, ◌≢◌, ℕ, ◌+◌, ◌-◌, Bool, true, false, List, [], ◌∷◌, length, Option, Some, None, sym, ap, ◌∙◌, arith}
 use Rattle.std.specs.Prelude.{nat_le, slice_get, if◌then◌else◌}
 use Rattle.jvm_model.specs.Basis.Descriptors.{same_text}
 use Rattle.std.specs.Option.{IfSome, option_and_then, option_map_or}
@@ -9,7 +9,7 @@ use Rattle.std.proofs.lemmas.Slice.Eq.{bytes_eq-Decides}
 use Rattle.std.proofs.lemmas.Option.{none-some, same_Some}
 use Rattle.const_pool.specs.declared.class.ClassFile.{ClassFile}
 use Rattle.heap_objects.specs.declared.Value.TheVariants.{Ref}
-use Rattle.frame_stack.specs.FrameLists.{AreSound, FramesView, PlacedFrame, can_give, caller_of, result_given, with_given}
+use Rattle.frame_stack.specs.FrameLists.{FramesView, PlacedFrame, can_give, caller_of, result_given, with_given}
 use Rattle.frame_stack.specs.Widths.{height_of}
 use Rattle.heap_objects.specs.Changes.{changed_if}
 use Rattle.jvm_model.specs.declared.event.Mark.TheVariants.{Off}
@@ -23,8 +23,7 @@ use Rattle.jvm_model.specs.Running.Moves.{handler_for}
 use Rattle.jvm_model.specs.Basis.Programs.{class_named, has_name, name_at, name_of}
 use Rattle.prepared_code.specs.declared.initializations.Initialization.{Initialization}
 use Rattle.prepared_code.specs.declared.parts.Here.{Here}
-use Rattle.prepared_code.specs.declared.parts.Parts.{Parts}
-use Rattle.interpreter.specs.Instructions.Passing.{caller_target, caught_back, caught_if, fits_caught}
+use Rattle.interpreter.specs.Instructions.Passing.{caller_target, caught_back, fits_caught}
 use Rattle.interpreter.specs.Moves.Settling.{with_alone}
 use Rattle.prepared_code.specs.Versions.{Setup, listing_of}
 use Rattle.method_versions.specs.Tables.{is_superseded_in}

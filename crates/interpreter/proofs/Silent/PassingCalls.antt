@@ -7,7 +7,7 @@ use Rattle.std.proofs.lemmas.List.{append-nil}
 use Rattle.std.proofs.lemmas.Option.{none-some, same_Some}
 use Rattle.heap_objects.specs.declared.Value.{Value}
 use Rattle.frame_stack.specs.Widths.{height_of}
-use Rattle.frame_stack.specs.FrameLists.{FramesView, PlacedFrame, has_frame, top_of, top_operands, with_frames, without_arguments}
+use Rattle.frame_stack.specs.FrameLists.{FramesView, PlacedFrame, has_frame, top_of, top_operands, without_arguments}
 use Rattle.jvm_basic.specs.Outcomes.{top_locals}
 use Rattle.jvm_model.specs.declared.due.Due.{Due}
 use Rattle.jvm_model.specs.declared.due.Due.TheVariants.{Begins, Nothing}
@@ -17,7 +17,7 @@ use Rattle.jvm_model.specs.declared.state.Entry.{Entry}
 use Rattle.jvm_model.specs.declared.state.Shared.{Shared}
 use Rattle.jvm_model.specs.declared.state.State.{State}
 use Rattle.jvm_model.specs.Running.Applies.{begins, begins_beside, breaks, has_room, invokes, live_in, most_live, new_frame, still, throws_at, with_frame}
-use Rattle.jvm_model.specs.Basis.Data.{Began, Datum, Done, Invokes, Operands, Outcome, Listing, Turn}
+use Rattle.jvm_model.specs.Basis.Data.{Began, Datum, Done, Invokes, Operands, Listing, Turn}
 use Rattle.jvm_model.specs.declared.instruction.SymbolicReference.{SymbolicReference}
 use Rattle.jvm_model.specs.Instructions.Does.{loads}
 use Rattle.jvm_model.specs.Running.Moves.{moves_left, turn_settled}

@@ -1,6 +1,6 @@
 -- A throw by which an activation ends and that its caller catches is a step of the run, of which nothing is told where the version that is left has no probes
 -- and is its method's current one.
-use Rattle.std.proofs.Common.{◌≡◌, ℕ, ◌-◌, Bool, true, false, cond, List, [], ◌∷◌, ◌++◌, length, map, Option, Some, None, refl, sym, ap, subst, ◌∙◌, arith, eqb-true}
+use Rattle.std.proofs.Common.{◌≡◌, ℕ, ◌-◌, Bool, true, false, cond, List, [], ◌∷◌, ◌++◌, length, map, Some, None, refl, sym, ap, ◌∙◌, arith, eqb-true}
 use Rattle.std.specs.Prelude.{is_none, is_some, nat_le, ◌==◌, ◌&&◌, ◌||◌}
 use Rattle.std.specs.Option.{option_map}
 use Rattle.std.proofs.lemmas.Bool.{false≢true}
@@ -16,7 +16,7 @@ use Rattle.jvm_model.specs.declared.state.Entry.{Entry}
 use Rattle.jvm_model.specs.declared.state.Entry.TheVariants.{Active}
 use Rattle.jvm_model.specs.declared.state.Frame.{Frame}
 use Rattle.jvm_model.specs.declared.state.State.{State}
-use Rattle.jvm_model.specs.Running.Applies.{breaks, goes, still, throws_at, with_frame}
+use Rattle.jvm_model.specs.Running.Applies.{breaks, still, throws_at, with_frame}
 use Rattle.jvm_model.specs.Basis.Data.{Instruction, Listing, Throws, Turn, Unwound}
 use Rattle.jvm_model.specs.Instructions.Does.{loads}
 use Rattle.jvm_model.specs.Running.Moves.{throw_caught, handler_for, move, moves, own_at, turn_settled, then_turn}

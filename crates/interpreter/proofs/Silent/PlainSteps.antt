@@ -113,9 +113,10 @@ pub plain-there : (w : Setup) (x : Version) (fs : List PlacedFrame) (line : Line
 plain-there w x [] line runs stands local = absurd stands
 plain-there w x (f ∷ fs) line runs stands local = (ap (option_and_then (line_in f.place)) runs ∙ stands, local)
 
-pub runs-here : (w : Setup) (fs : List PlacedFrame) (here : Here) (x : Version) → here_of fs ≡ Some here → version_at w.versions here.version ≡ Some x → RunsVersion w x fs
-runs-here w [] here x is held = absurd (none-some here is)
-runs-here w (f ∷ fs) here x is held = ap (λ (h : Here). version_at w.versions h.version) (same_Some _ here is) ∙ held
+pub runs-here : (v : Versions) (fs : List PlacedFrame) (here : Here) (x : Version) → here_of fs ≡ Some here → version_at v here.version ≡ Some x
+    → option_and_then (version_at v) (top_version fs) ≡ Some x
+runs-here v [] here x is held = absurd (none-some here is)
+runs-here v (f ∷ fs) here x is held = ap (λ (h : Here). version_at v h.version) (same_Some _ here is) ∙ held
 
 -- a frame stays in its version
 pub same-version : (x : Outcome) (fs : List PlacedFrame) → top_version (frames_in x fs) ≡ top_version fs

@@ -113,7 +113,7 @@ module _ (w : Setup) (run : CanRun w) (ms : List Initialization) (here : Here) (
   gives-tries false to can are = ap (λ (f : FramesView). state_of ms (on_frames f old)) are
 
   -- and the run is calm behind it
-  pub gives-calm : (b : Bool) → b ≡ true → GoesBack w ms old.frames.frames next → b ≡ can_give v old.frames.frames → frames ≡ changed_if b (with_given v next) old.frames
+  pub gives-calm : (b : Bool) → b ≡ true → GoesBack w.versions ms old.frames.frames next → b ≡ can_give v old.frames.frames → frames ≡ changed_if b (with_given v next) old.frames
       → IsAtInstruction (length frames.frames) ms (on_frames frames old)
   gives-calm true given to can are = (return-attempted w run ms here line k old stands found ends calm d next (gives to can) frames (back-there can are)).at_instruction
   gives-calm false given to can are = absurd (false≢true given)

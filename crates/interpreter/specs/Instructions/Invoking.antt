@@ -4,11 +4,9 @@ use Rattle.frame_stack.specs.FrameLists.{PlacedFrame}
 use Rattle.jvm_model.specs.declared.state.State.{State}
 use Rattle.jvm_model.specs.Running.Applies.{most_live}
 use Rattle.jvm_model.specs.declared.exception.Exception.TheVariants.{StackOverflow}
-use Rattle.prepared_code.specs.declared.parts.Here.{Here}
 use Rattle.prepared_code.specs.declared.parts.Parts.{Parts}
 use Rattle.interpreter.specs.Instructions.Acts.{run_ended, raising}
 use Rattle.interpreter.specs.Instructions.Arguments.{with_begun}
-use Rattle.interpreter.specs.Moves.Settling.{own_of}
 use Rattle.prepared_code.specs.States.{state_with}
 use Rattle.prepared_code.specs.Versions.{Setup}
 

@@ -1,7 +1,6 @@
 //! arraylength (JVM Specification 6.5).
 
 ghost use Rattle.std.specs.Prelude.{◌≡◌, true, false, IfOk};
-ghost use Rattle.frame_stack.specs.FrameLists.{top_operands};
 ghost use Rattle.jvm_model.specs.Basis.Values.{ref_of};
 ghost use Rattle.jvm_model.specs.Instructions.ObjectRules.{array_length, measures};
 ghost use Rattle.symbolic_references.specs.Answers.{asked_on};

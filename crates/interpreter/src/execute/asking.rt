@@ -5,7 +5,9 @@ ghost use Rattle.std.specs.Option.{IfSome};
 ghost use Rattle.frame_stack.specs.FrameLists.{top_operands};
 ghost use Rattle.jvm_model.specs.Running.Run.{starts};
 ghost use Rattle.jvm_model.specs.Instructions.Exceptions.{exception_name};
+ghost use Rattle.symbolic_references.specs.Answers.{abrupt_view};
 ghost use Rattle.symbolic_references.specs.Outcomes.{HasOperands, asked};
+ghost use Rattle.symbolic_references.specs.declared.outcome.Outcome.TheVariants.{Goes};
 ghost use Rattle.interpreter.specs.Instructions.Acts.{IsTop, acts_asked, on_parts, raised_in};
 ghost use Rattle.interpreter.specs.Instructions.Asked.{TakesArguments};
 ghost use Rattle.prepared_code.specs.Linked.{setup_in};
@@ -13,6 +15,7 @@ ghost use Rattle.prepared_code.specs.States.{state_in};
 
 use crate::execute::invoking::call;
 use crate::unwind::raising::{break_off, raise, raise_with};
+use heap_objects::Value;
 use jf_bytes::{NoMemory, Text16};
 use jvm_model::{Ending, Exception};
 use prepared_code::{Line, Originals, Parts};
@@ -32,6 +35,66 @@ pub fn raise_named(
     match message {
         Some(message) => raise_with(parts, exception, message.units()),
         None => raise(parts, exception),
+    }
+}
+
+/// The frame goes on with a value, if there is one, in place of so many operands, or the run ends.
+fn go_on(
+    originals: &Originals,
+    parts: &mut Parts,
+    method: u32,
+    line: &Line,
+    count: u16,
+    value: Option<Value>,
+)
+    requires top { IsTop method parts.old.frames.frames }
+    requires enough { HasOperands (Goes count value) (top_operands parts.old.frames.frames) }
+    ensures state { let w = setup_in parts.old.runtime originals.now in
+        let q = asked (Goes count value) parts.old.frames in
+        state_in parts.new ≡ on_parts (λ s f. acts_asked w line.now s f q) parts.old }
+    ensures runtime { parts.new.runtime ≡ parts.old.runtime }
+{
+    if apply(&mut parts.frames, count, value, line.next) {
+        return;
+    }
+    break_off(parts, method, line.instr.at);
+}
+
+/// What is asked for in place of going on. The class that is initialized before is the answer, where one is.
+fn refuse(
+    originals: &Originals,
+    parts: &mut Parts,
+    method: u32,
+    line: &Line,
+    refusal: AbruptCompletion,
+) -> Result<Option<u32>, NoMemory>
+    requires top { IsTop method parts.old.frames.frames }
+    ensures answer { IfOk result (λ o. o ≡ starts (abrupt_view refusal)) }
+    ensures state { let w = setup_in parts.old.runtime originals.now in IfOk result (λ o. IfNone o
+        (state_in parts.new ≡ on_parts
+        (λ s f. acts_asked w line.now s f (abrupt_view refusal)) parts.old)) }
+    ensures begins { IfOk result (λ o. IfSome o (λ _. parts.new ≡ parts.old)) }
+    ensures world { parts.new.runtime.world ≡ parts.old.runtime.world }
+    ensures same_loaded { parts.new.runtime.shared.loaded ≡ parts.old.runtime.shared.loaded }
+{
+    match refusal {
+        AbruptCompletion::Raises(exception, message) => {
+            raise_named(parts, exception, message)?;
+            Ok(None)
+        }
+        AbruptCompletion::Throws(object) => {
+            parts.thrown = Some(object);
+            Ok(None)
+        }
+        AbruptCompletion::Initializes(class) => Ok(Some(class)),
+        AbruptCompletion::Exits(status) => {
+            parts.ending = Some(Ending::Exited(status));
+            Ok(None)
+        }
+        AbruptCompletion::Breaks => {
+            break_off(parts, method, line.instr.at);
+            Ok(None)
+        }
     }
 }
 
@@ -57,31 +120,13 @@ pub fn conclude(
 {
     match outcome {
         Outcome::Goes(count, value) => {
-            if !apply(&mut parts.frames, count, value, line.next) {
-                break_off(parts, method, line.instr.at);
-            }
+            go_on(originals, parts, method, line, count, value);
             Ok(None)
         }
         Outcome::Invokes(callee, args) => {
             call(originals, parts, method, line.instr.at, callee, args)?;
             Ok(None)
         }
-        Outcome::Refused(AbruptCompletion::Raises(exception, message)) => {
-            raise_named(parts, exception, message)?;
-            Ok(None)
-        }
-        Outcome::Refused(AbruptCompletion::Throws(object)) => {
-            parts.thrown = Some(object);
-            Ok(None)
-        }
-        Outcome::Refused(AbruptCompletion::Initializes(class)) => Ok(Some(class)),
-        Outcome::Refused(AbruptCompletion::Exits(status)) => {
-            parts.ending = Some(Ending::Exited(status));
-            Ok(None)
-        }
-        Outcome::Refused(AbruptCompletion::Breaks) => {
-            break_off(parts, method, line.instr.at);
-            Ok(None)
-        }
+        Outcome::Refused(refusal) => refuse(originals, parts, method, line, refusal),
     }
 }

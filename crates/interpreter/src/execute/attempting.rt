@@ -2,7 +2,7 @@
 
 ghost use Rattle.std.specs.Prelude.{◌≡◌, ◌-◌, None, Some, true, false, is_some, length};
 ghost use Rattle.std.specs.Prelude.{IfNone, IfOk, OnOk};
-ghost use Rattle.std.specs.Option.{IfSome, option_map_or};
+ghost use Rattle.std.specs.Option.{IfSome};
 ghost use Rattle.jvm_model.specs.Basis.Families.{family_of};
 ghost use Rattle.jvm_model.specs.Running.Run.{with_loaded};
 ghost use Rattle.symbolic_references.specs.Arrays.{IsPrimitiveArray};
@@ -184,6 +184,7 @@ fn act_beneath(
     requires family { line.now.family ≡ family_of line.now.instr.op }
     requires alone { is_named line.now.action ≡ false }
     requires arrays { IfNewarray line.now.action IsPrimitiveArray }
+    requires arrays { IfNewarray line.now.action IsPrimitiveArray }
     requires executing { initialization_on (length parts.old.frames.frames) initializing.now
         ≡ None }
     ensures state { BecomesBeneath result initializing.now parts.new
@@ -209,6 +210,9 @@ fn attempt_line(
     here: Here,
 ) -> Result<(), NoMemory>
     requires ready { IsReady originals.now here.version }
+    requires fit { CanRun (setup_in parts.old.runtime originals.now) }
+    requires sound { IsSoundIn (setup_in parts.old.runtime originals.now)
+        (state_of initializing.now parts.old) }
     requires here { here_of parts.old.frames.frames ≡ Some here }
     requires alone { named_in (line_at originals.now.versions here.version here.place)
         ≡ false }

@@ -1,6 +1,6 @@
 //! How the current frame goes on by a line (JVM Specification 6.5).
 
-ghost use Rattle.std.specs.Prelude.{◌≡◌, slice_get};
+ghost use Rattle.std.specs.Prelude.{◌≡◌};
 ghost use Rattle.const_pool.specs.declared.descriptor.Kind.TheVariants.{Int, Ref};
 ghost use Rattle.frame_stack.specs.FrameLists.{top_operands};
 ghost use Rattle.jvm_basic.specs.Outcomes.{GoesOn, effect_of, after};

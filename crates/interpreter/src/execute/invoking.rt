@@ -169,6 +169,7 @@ pub fn raise_unusable(parts: &mut Parts, class: u32) -> Result<(), NoMemory>
     ensures state { let w = parts.old.runtime.world in OnOk result
         (parts.new ≡ raising w NoClassDefinition (name_at w.program class) parts.old) }
     ensures world { parts.new.runtime.world ≡ parts.old.runtime.world }
+    ensures same_loaded { parts.new.runtime.shared.loaded ≡ parts.old.runtime.shared.loaded }
 {
     match parts.runtime.unusable(class)? {
         AbruptCompletion::Raises(exception, message) => raise_named(parts, exception, message),

@@ -1,9 +1,8 @@
 //! Several steps that tell nothing: those of the current frame alone, and between them accesses of fields that raise nothing, calls and
 //! returns, by what their names came to. They go on up to a call into a version with probes, or a return from one.
 
-ghost use Rattle.std.specs.Prelude.{◌≡◌, ◌≤◌, ◌<◌, true, false, length, slice_get};
-ghost use Rattle.std.specs.Prelude.{IfSome, IsSome, Some, is_some, not};
-ghost use Rattle.base_classes.specs.Natives.{native_methods};
+ghost use Rattle.std.specs.Prelude.{◌≡◌, ◌≤◌, ◌<◌, true, false, length};
+ghost use Rattle.std.specs.Prelude.{IfSome, Some, is_some, not};
 ghost use Rattle.std.specs.Option.{option_map};
 ghost use Rattle.frame_stack.specs.FrameLists.{top_operands};
 ghost use Rattle.jvm_model.specs.Basis.Data.{Returns};
@@ -12,7 +11,6 @@ ghost use Rattle.jvm_model.specs.Basis.Values.{as_value};
 ghost use Rattle.jvm_model.specs.Rewriting.Images.{is_off};
 ghost use Rattle.jvm_model.specs.declared.due.Due.TheVariants as due;
 ghost use Rattle.symbolic_references.specs.Known.{IsKnown};
-ghost use Rattle.symbolic_references.specs.Passing.{runs_native_call};
 ghost use Rattle.prepared_code.specs.declared.line.Action.TheVariants as action;
 ghost use Rattle.interpreter.specs.Instructions.Arguments.{can_begin, with_begun};
 ghost use Rattle.interpreter.specs.Instructions.Invoking.{may_begin};
@@ -241,8 +239,8 @@ const MOST_VERSIONS: usize = 4294967296;
 /// Whether its method begins in a version, of which the number is given.
 #[inline(always)]
 fn begins_in(originals: &Originals, version: &Version, number: usize) -> bool
-    requires { version_at originals.now.setup.versions number ≡ Some version.now }
-    ensures { let v = originals.now.setup.versions in
+    requires { version_at originals.now.versions number ≡ Some version.now }
+    ensures { let v = originals.now.versions in
         result ≡ true → is_superseded_in v.slots v.current number ≡ false }
 {
     if number >= MOST_VERSIONS {

@@ -1,8 +1,8 @@
 //! Steps of instructions that the current frame does by itself, and of those that load or store an element and raise nothing: nothing
 //! but the current frame and the heap changes, and nothing follows.
 
-ghost use Rattle.std.specs.Prelude.{◌≡◌, ◌≢◌, ◌≤◌, ◌<◌, true, false};
-ghost use Rattle.std.specs.Option.{IfSome};
+ghost use Rattle.std.specs.Prelude.{Some, ◌≡◌, ◌≢◌, ◌≤◌, ◌<◌, true, false};
+ghost use Rattle.std.specs.Option.{IfSome, option_and_then};
 ghost use Rattle.const_pool.specs.declared.descriptor.Kind.{Kind};
 ghost use Rattle.jvm_basic.specs.declared.effect.Effect.TheVariants.{Next};
 ghost use Rattle.jvm_basic.specs.declared.hot.Hot.TheVariants.{Cold, LoadElement, StoreElement};
@@ -13,8 +13,8 @@ ghost use Rattle.jvm_model.specs.Basis.Families.{family_of};
 ghost use Rattle.interpreter.specs.Instructions.Elements.{IsLoaded, IsPassed, IsStored};
 ghost use Rattle.prepared_code.specs.Ready.{CanRun};
 ghost use Rattle.prepared_code.specs.Runs.{LeadsAlone, RunsVersion, IsLineIn, top_version};
+ghost use Rattle.prepared_code.specs.Tables.{version_at};
 ghost use Rattle.prepared_code.specs.Versions.{ArePrepared, IsPrepared, Setup};
-ghost use Rattle.prepared_code.specs.Linked.{setup_in};
 
 use crate::execute::elements::{pass_load, pass_store};
 use const_pool::Kind;
@@ -30,8 +30,8 @@ use prepared_code::{Action, Line, Originals, Parts, Version, line_in, where_now}
 /// The version that the current frame runs. None where there is no frame, or its lines are still to be made.
 #[inline(always)]
 pub fn version_now<'a>(originals: &'a Originals, frames: &Frames) -> Option<&'a Version>
-    ensures runs { let w = originals.now.setup in
-        IfSome result (λ x. RunsVersion w x.now frames.now.frames) }
+    ensures runs { let v = originals.now.versions in IfSome result
+        (λ x. option_and_then (version_at v) (top_version frames.now.frames) ≡ Some x.now) }
     ensures prepared { IfSome result (λ x. ArePrepared x.now) }
 {
     let Some(here) = where_now(frames) else {

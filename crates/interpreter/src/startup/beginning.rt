@@ -1,15 +1,14 @@
 //! The start (JVM Specification 5.2, 5.3, 5.5): the main class is loaded and initialized, and then
 //! `main` begins.
 
-ghost use Rattle.std.specs.Prelude.{◌≡◌, ◌++◌, ◌∷◌, [], true, OnOk};
-ghost use Rattle.jvm_model.specs.Classes.Load.{load_of};
-ghost use Rattle.prepared_code.specs.Prepared.{main_name};
+ghost use Rattle.std.specs.Prelude.{◌≡◌, ◌++◌, true, OnOk};
 ghost use Rattle.jvm_model.specs.Running.Run.{main_loads, starts_if, starts_with};
 ghost use Rattle.jvm_model.specs.Basis.SharedState.{arguments_fit};
 ghost use Rattle.jvm_model.specs.Soundness.Sound.{IsFit};
 ghost use Rattle.symbolic_references.specs.Answers.{found_view};
 ghost use Rattle.interpreter.specs.Machine.Before.{IsAtStart, begun_by};
 ghost use Rattle.prepared_code.specs.Initializations.{state_of};
+ghost use Rattle.prepared_code.specs.Linked.{IsLinked};
 
 use crate::execute::asking::raise_named;
 use crate::initialize::initializing::initialize;

@@ -3,8 +3,6 @@
 ghost use Rattle.std.specs.Prelude.{◌≡◌, ◌&&◌, ◌==◌, false, length, true, None, is_some, not};
 ghost use Rattle.std.specs.Prelude.{IfNone, IfOk, OnOk};
 ghost use Rattle.std.specs.Option.{IfSome};
-ghost use Rattle.jvm_model.specs.Running.Applies.{live_in};
-ghost use Rattle.jvm_model.specs.Running.Between.{changes_between};
 ghost use Rattle.jvm_model.specs.Turns.Pauses.{passed_by};
 ghost use Rattle.jvm_model.specs.Running.Run.{goes_on, is_ready, with_loaded};
 ghost use Rattle.jvm_model.specs.Basis.SharedState.{phase_of};
@@ -68,7 +66,6 @@ fn follow(
     ensures reaches { let s = state_of initializing.old parts.old in
         IfOk result (λ due. pause_at (state_of initializing.new parts.new) passed.new due
         ≡ pause_behind_attempt (setup_in parts.old.runtime originals.now) depth passed.old s) }
-    ensures loaded { OnOk result (parts.new.runtime.shared.loaded ≡ parts.old.runtime.shared.loaded) }
     ensures world { parts.new.runtime.world ≡ parts.old.runtime.world }
     ensures same_loaded { parts.new.runtime.shared.loaded ≡ parts.old.runtime.shared.loaded }
 {

@@ -9,8 +9,8 @@ ghost use Rattle.jvm_model.specs.Basis.SharedState.{throwable};
 ghost use Rattle.jvm_model.specs.Basis.Values.{ref_of};
 ghost use Rattle.jvm_model.specs.declared.event.Mark.TheVariants.{Off};
 ghost use Rattle.interpreter.specs.Instructions.Passing.{CatchesBelow, caught_if, fits_caught};
-ghost use Rattle.prepared_code.specs.Ready.{CanRun};
 ghost use Rattle.prepared_code.specs.Linked.{setup_in};
+ghost use Rattle.jvm_model.specs.Soundness.Sound.{IsFit};
 
 use crate::unwind::handlers::{class_of, handler_for};
 use crate::unwind::settling::put_alone;

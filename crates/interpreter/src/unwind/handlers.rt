@@ -1,12 +1,11 @@
 //! Which handler a throw goes to (JVM Specification 2.10, 4.7.3).
 
-ghost use Rattle.std.specs.Prelude.{◌≡◌, ◌<◌, ◌^◌, true, length, map};
+ghost use Rattle.std.specs.Prelude.{◌≡◌, true, map};
 ghost use Rattle.std.specs.Option.{option_map_or};
 ghost use Rattle.jvm_model.specs.Classes.Lookup.{is_below};
 ghost use Rattle.jvm_model.specs.Running.Moves.{covers, handler_for};
-ghost use Rattle.heap_objects.specs.Heaps.{kind_at};
-ghost use Rattle.jvm_model.specs.Basis.SharedState.{class_of_kind};
 ghost use Rattle.prepared_code.specs.Versions.{catcher_in, listing_of};
+ghost use Rattle.jvm_model.specs.Basis.SharedState.{class_of};
 
 use crate::unwind::supertypes::is_below;
 use class_linker::Linker;

@@ -48,8 +48,9 @@ pub fn break_at(
     parts: &mut Parts,
     here: Here,
 ) -> Result<(), NoMemory>
-    ensures { OnOk result
+    ensures state { OnOk result
         (parts.new ≡ run_ended here.method (own_of originals.now.versions here) parts.old) }
+    ensures runtime { parts.new.runtime ≡ parts.old.runtime }
 {
     let own = own_of(alloc, originals, here)?;
     break_off(parts, here.method, own);

@@ -10,8 +10,8 @@ pub act_initializer-requires-clause-beneath : goal.act_initializer-requires-clau
 act_initializer-requires-clause-beneath c =
     ap (λ n. is_some (initialization_on (n - 1) c.args.initializing.now)) (sym c.depth.ensures) ∙ (ap is_some (sym c.initialization_on.ensures) ∙ (sym c.is_some.ensures ∙ c.if-is_some.true))
 
-pub returns-else-is_some : goal.returns-else-is_some
-returns-else-is_some c =
+pub returns-else-is_some-clause-state : goal.returns-else-is_some-clause-state
+returns-else-is_some-clause-state c =
     on_ok_weaker c.act.result
     (λ e. does-beneath (setup_in c.args.parts.now.runtime c.args.originals.now) c.args.line.now c.args.initializing.now c.args.parts.now c.act.new.parts c.args.method c.args.parts.now.frames.frames c.requires.top
     c.requires.executing c.requires.alone

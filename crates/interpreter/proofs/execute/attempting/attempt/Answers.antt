@@ -1,15 +1,12 @@
-use Rattle.std.proofs.Common.{◌≡◌, sym, subst, ap, ◌∙◌}
-use Rattle.std.specs.Prelude.{IfNone, IfOk, OnOk, is_some}
-use Rattle.std.specs.Option.{IfSome}
-use Rattle.jvm_model.specs.Running.Run.{with_loaded}
+use Rattle.std.proofs.Common.{◌≡◌, refl, sym, subst, ap, ◌∙◌}
+use Rattle.std.specs.Prelude.{IfOk, OnOk}
 use Rattle.prepared_code.specs.Versions.{Setup}
 use Rattle.interpreter.specs.Instructions.Acts.{attempts_on, awaited_in, awaited_on}
 use Rattle.prepared_code.specs.Initializations.{state_of}
 use Rattle.prepared_code.specs.Ready.{CanRun, IsSoundIn}
-use Rattle.interpreter.specs.Moves.Turning.{loads_in, loads_none}
 use Rattle.prepared_code.specs.Linked.{setup_in}
 use Rattle.interpreter.proofs.Initializing.Beneath.{nothing-there}
-use Rattle.interpreter.proofs.Loads.LoadedApart.{nothing-loads}
+use Rattle.interpreter.proofs.Instructions.NamedAttempts.{same-setup}
 use Rattle.interpreter.proofs.execute.attempting.attempt.Goals as goal
 
 pub returns-in_default-clause-answer : goal.returns-in_default-clause-answer
@@ -25,28 +22,25 @@ returns-in_default-clause-state c =
     sym (ap (attempts_on w (state_of c.args.initializing.now p)) (nothing-there w c.args.initializing.now p (sym c.where_now.ensures ∙ c.in_default.is) c.requires.executing))
 
 pub attempt_there-requires-clause-linked : goal.attempt_there-requires-clause-linked
-attempt_there-requires-clause-linked c = c.in_ok-prepare.ensures.loaded ∙ c.requires.linked
+attempt_there-requires-clause-linked c = c.in_ok-prepare.ensures.linked c.args.parts.now.runtime c.requires.linked
 
 pub attempt_there-requires-clause-fit : goal.attempt_there-requires-clause-fit
-attempt_there-requires-clause-fit c = subst CanRun (sym c.in_ok-prepare.ensures.setup) c.requires.fit
+attempt_there-requires-clause-fit c = subst CanRun (sym (same-setup c.args.parts.now.runtime c.args.parts.now.runtime c.args.originals.now c.prepare.new.self refl c.in_ok-prepare.ensures.versions)) c.requires.fit
 
 pub attempt_there-requires-clause-sound : goal.attempt_there-requires-clause-sound
 attempt_there-requires-clause-sound c =
-    subst (λ (w : Setup). IsSoundIn w (state_of c.args.initializing.now c.args.parts.now)) (sym c.in_ok-prepare.ensures.setup) c.requires.sound
+    subst (λ (w : Setup). IsSoundIn w (state_of c.args.initializing.now c.args.parts.now)) (sym (same-setup c.args.parts.now.runtime c.args.parts.now.runtime c.args.originals.now c.prepare.new.self refl c.in_ok-prepare.ensures.versions)) c.requires.sound
 
 pub attempt_there-requires-clause-here : goal.attempt_there-requires-clause-here
 attempt_there-requires-clause-here c = sym c.where_now.ensures ∙ c.in-Some.is
 
-pub returns-clause-world : goal.returns-clause-world
-returns-clause-world c = c.attempt_there.ensures.world ∙ c.in_ok-prepare.ensures.setup
-
 pub returns-clause-answer : goal.returns-clause-answer
 returns-clause-answer c =
-    subst (λ (w : Setup). IfOk c.attempt_there.result (λ o. o ≡ awaited_in w (state_of c.args.initializing.now c.args.parts.now))) c.in_ok-prepare.ensures.setup
+    subst (λ (w : Setup). IfOk c.attempt_there.result (λ o. o ≡ awaited_in w (state_of c.args.initializing.now c.args.parts.now))) (same-setup c.args.parts.now.runtime c.args.parts.now.runtime c.args.originals.now c.prepare.new.self refl c.in_ok-prepare.ensures.versions)
     c.attempt_there.ensures.answer
 
 pub returns-clause-state : goal.returns-clause-state
 returns-clause-state c =
     let s = state_of c.args.initializing.now c.args.parts.now in
-    subst (λ (w : Setup). OnOk c.attempt_there.result (state_of c.attempt_there.new.initializing c.attempt_there.new.parts ≡ attempts_on w s s.stack)) c.in_ok-prepare.ensures.setup
+    subst (λ (w : Setup). OnOk c.attempt_there.result (state_of c.attempt_there.new.initializing c.attempt_there.new.parts ≡ attempts_on w s s.stack)) (same-setup c.args.parts.now.runtime c.args.parts.now.runtime c.args.originals.now c.prepare.new.self refl c.in_ok-prepare.ensures.versions)
     c.attempt_there.ensures.state

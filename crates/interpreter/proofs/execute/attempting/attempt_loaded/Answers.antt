@@ -1,5 +1,5 @@
-use Rattle.std.proofs.Common.{◌≡◌, sym, subst, ap, ◌∙◌}
-use Rattle.std.specs.Prelude.{IfNone, IfOk, OnOk, is_some}
+use Rattle.std.proofs.Common.{◌≡◌, refl, sym, subst, ap, ◌∙◌}
+use Rattle.std.specs.Prelude.{IfNone, IfOk, is_some}
 use Rattle.std.specs.Option.{IfSome}
 use Rattle.jvm_model.specs.Running.Run.{with_loaded}
 use Rattle.prepared_code.specs.Versions.{Setup}
@@ -9,6 +9,7 @@ use Rattle.prepared_code.specs.Ready.{CanRun, IsSoundIn}
 use Rattle.interpreter.specs.Moves.Turning.{loads_in, loads_none}
 use Rattle.prepared_code.specs.Linked.{setup_in}
 use Rattle.interpreter.proofs.Initializing.Beneath.{nothing-there}
+use Rattle.interpreter.proofs.Instructions.NamedAttempts.{same-setup}
 use Rattle.interpreter.proofs.Loads.LoadedApart.{nothing-loads}
 use Rattle.interpreter.proofs.execute.attempting.attempt_loaded.Goals as goal
 
@@ -30,39 +31,36 @@ returns-in_default-clause-some c =
     sym (nothing-loads (setup_in c.args.parts.now.runtime c.args.originals.now) c.args.initializing.now c.args.parts.now c.requires.ending (sym c.where_now.ensures ∙ c.in_default.is) c.requires.executing)
 
 pub attempt_loaded_there-requires-clause-linked : goal.attempt_loaded_there-requires-clause-linked
-attempt_loaded_there-requires-clause-linked c = c.in_ok-prepare.ensures.loaded ∙ c.requires.linked
+attempt_loaded_there-requires-clause-linked c = c.in_ok-prepare.ensures.linked c.args.parts.now.runtime c.requires.linked
 
 pub attempt_loaded_there-requires-clause-fit : goal.attempt_loaded_there-requires-clause-fit
-attempt_loaded_there-requires-clause-fit c = subst CanRun (sym c.in_ok-prepare.ensures.setup) c.requires.fit
+attempt_loaded_there-requires-clause-fit c = subst CanRun (sym (same-setup c.args.parts.now.runtime c.args.parts.now.runtime c.args.originals.now c.prepare.new.self refl c.in_ok-prepare.ensures.versions)) c.requires.fit
 
 pub attempt_loaded_there-requires-clause-sound : goal.attempt_loaded_there-requires-clause-sound
 attempt_loaded_there-requires-clause-sound c =
-    subst (λ (w : Setup). IsSoundIn w (state_of c.args.initializing.now c.args.parts.now)) (sym c.in_ok-prepare.ensures.setup) c.requires.sound
+    subst (λ (w : Setup). IsSoundIn w (state_of c.args.initializing.now c.args.parts.now)) (sym (same-setup c.args.parts.now.runtime c.args.parts.now.runtime c.args.originals.now c.prepare.new.self refl c.in_ok-prepare.ensures.versions)) c.requires.sound
 
 pub attempt_loaded_there-requires-clause-here : goal.attempt_loaded_there-requires-clause-here
 attempt_loaded_there-requires-clause-here c = sym c.where_now.ensures ∙ c.in-Some.is
 
-pub returns-clause-world : goal.returns-clause-world
-returns-clause-world c = c.attempt_loaded_there.ensures.world ∙ c.in_ok-prepare.ensures.setup
-
 pub returns-clause-some : goal.returns-clause-some
 returns-clause-some c =
-    subst (λ (w : Setup). IfOk c.attempt_loaded_there.result (λ o. is_some o ≡ loads_none w (state_of c.args.initializing.now c.args.parts.now))) c.in_ok-prepare.ensures.setup
+    subst (λ (w : Setup). IfOk c.attempt_loaded_there.result (λ o. is_some o ≡ loads_none w (state_of c.args.initializing.now c.args.parts.now))) (same-setup c.args.parts.now.runtime c.args.parts.now.runtime c.args.originals.now c.prepare.new.self refl c.in_ok-prepare.ensures.versions)
     c.attempt_loaded_there.ensures.some
 
 pub returns-clause-answer : goal.returns-clause-answer
 returns-clause-answer c =
-    subst (λ (w : Setup). IfOk c.attempt_loaded_there.result (λ o. IfSome o (λ a. a ≡ awaited_in w (state_of c.args.initializing.now c.args.parts.now)))) c.in_ok-prepare.ensures.setup
+    subst (λ (w : Setup). IfOk c.attempt_loaded_there.result (λ o. IfSome o (λ a. a ≡ awaited_in w (state_of c.args.initializing.now c.args.parts.now)))) (same-setup c.args.parts.now.runtime c.args.parts.now.runtime c.args.originals.now c.prepare.new.self refl c.in_ok-prepare.ensures.versions)
     c.attempt_loaded_there.ensures.answer
 
 pub returns-clause-state : goal.returns-clause-state
 returns-clause-state c =
     let s = state_of c.args.initializing.now c.args.parts.now in
     subst (λ (w : Setup). IfOk c.attempt_loaded_there.result (λ o. IfSome o (λ _. state_of c.attempt_loaded_there.new.initializing c.attempt_loaded_there.new.parts ≡ attempts_on w s s.stack)))
-    c.in_ok-prepare.ensures.setup c.attempt_loaded_there.ensures.state
+    (same-setup c.args.parts.now.runtime c.args.parts.now.runtime c.args.originals.now c.prepare.new.self refl c.in_ok-prepare.ensures.versions) c.attempt_loaded_there.ensures.state
 
 pub returns-clause-loads : goal.returns-clause-loads
 returns-clause-loads c =
     let s = state_of c.args.initializing.now c.args.parts.now in
     subst (λ (w : Setup). IfOk c.attempt_loaded_there.result (λ o. IfNone o (state_of c.attempt_loaded_there.new.initializing c.attempt_loaded_there.new.parts ≡ with_loaded (loads_in w s) s)))
-    c.in_ok-prepare.ensures.setup c.attempt_loaded_there.ensures.loads
+    (same-setup c.args.parts.now.runtime c.args.parts.now.runtime c.args.originals.now c.prepare.new.self refl c.in_ok-prepare.ensures.versions) c.attempt_loaded_there.ensures.loads

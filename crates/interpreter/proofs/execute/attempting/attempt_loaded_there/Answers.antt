@@ -1,8 +1,6 @@
-use Rattle.std.proofs.Common.{sym, ap, ◌∙◌}
-use Rattle.interpreter.specs.Instructions.Acts.{attempts_on, awaited_on}
-use Rattle.prepared_code.specs.Initializations.{state_of}
+use Rattle.std.proofs.Common.{sym, ◌∙◌}
 use Rattle.interpreter.proofs.Initializing.Beneath.{awaits-unnamed}
-use Rattle.interpreter.proofs.Loads.LoadedApart.{nothing-loads, silent-loads}
+use Rattle.interpreter.proofs.Loads.LoadedApart.{silent-loads}
 use Rattle.interpreter.proofs.Instructions.NamedAttempts.{linked-kept}
 use Rattle.prepared_code.specs.Linked.{setup_in}
 use Rattle.interpreter.proofs.execute.attempting.attempt_loaded_there.Goals as goal

@@ -1,18 +1,18 @@
-use Rattle.std.proofs.Common.{◌≡◌, None, Some, sym, ap, subst, ◌∙◌}
-use Rattle.std.specs.Prelude.{IfNone, is_some}
+use Rattle.std.proofs.Common.{◌≡◌, Some, sym, ap, subst, ◌∙◌}
+use Rattle.std.specs.Prelude.{IfNone}
 use Rattle.std.specs.Option.{IfSome}
+use Rattle.std.proofs.lemmas.Bool.{false≢true}
 use Rattle.frame_stack.specs.FrameLists.{top_operands}
 use Rattle.jvm_basic.specs.Outcomes.{top_locals}
 use Rattle.symbolic_references.specs.Outcomes.{asked}
 use Rattle.prepared_code.specs.Linked.{setup_in}
 use Rattle.prepared_code.specs.Tables.{Versions}
 use Rattle.prepared_code.specs.Versions.{line_at}
+use Rattle.interpreter.specs.Instructions.Acts.{named_in}
 use Rattle.interpreter.proofs.Instructions.Concluded.{stays-given}
 use Rattle.interpreter.proofs.Instructions.NamedAttempts.{awaits-told, begins-on, goes-on, linked-kept, same-setup, takes-there}
 use Rattle.interpreter.proofs.Moves.Sounded.{caller-linked}
 use Rattle.interpreter.proofs.execute.attempting.attempt_name.Goals as goal
-
--- (written before a first check: the names of goals by analogy)
 
 pub attempt_named-requires-clause-caller : goal.attempt_named-requires-clause-caller
 attempt_named-requires-clause-caller c =
@@ -61,3 +61,14 @@ pub returns-clause-linked : goal.returns-clause-linked
 returns-clause-linked c =
     linked-kept c.attempt_named.new.self c.attempt_named.new.runtime c.initialize.new.parts.runtime (c.in_ok-initialize.ensures.world ∙ c.in_ok-awaited.ensures.world)
     (c.in_ok-initialize.ensures.same_loaded ∙ c.in_ok-awaited.ensures.same_loaded) c.in_ok-outcome.ensures.linked
+
+-- a line stands there
+pub returns-in_default-clause-state : goal.returns-in_default-clause-state
+returns-in_default-clause-state c = absurd
+    (false≢true (ap named_in (c.in_default.ensures.kept
+    ∙ (ap (λ (v : Versions). line_at v c.args.here.version c.args.here.place) c.in_ok-outcome.ensures.kept ∙ c.requires.ready c.args.here.place)) ∙ c.requires.named))
+
+pub returns-in_default-clause-answer : goal.returns-in_default-clause-answer
+returns-in_default-clause-answer c = absurd
+    (false≢true (ap named_in (c.in_default.ensures.kept
+    ∙ (ap (λ (v : Versions). line_at v c.args.here.version c.args.here.place) c.in_ok-outcome.ensures.kept ∙ c.requires.ready c.args.here.place)) ∙ c.requires.named))

@@ -1,19 +1,19 @@
-use Rattle.std.proofs.Common.{◌≡◌, None, Some, sym, ap, subst, ◌∙◌}
+use Rattle.std.proofs.Common.{◌≡◌, Some, sym, ap, subst, ◌∙◌}
 use Rattle.std.specs.Prelude.{IfNone, is_some}
 use Rattle.std.specs.Option.{IfSome}
+use Rattle.std.proofs.lemmas.Bool.{false≢true}
 use Rattle.frame_stack.specs.FrameLists.{top_operands}
 use Rattle.jvm_basic.specs.Outcomes.{top_locals}
 use Rattle.symbolic_references.specs.Outcomes.{asked}
 use Rattle.prepared_code.specs.Linked.{setup_in}
 use Rattle.prepared_code.specs.Tables.{Versions}
 use Rattle.prepared_code.specs.Versions.{line_at}
+use Rattle.interpreter.specs.Instructions.Acts.{named_in}
 use Rattle.interpreter.proofs.Loads.LoadedApart.{apart-loads, loaded-apart, told-answers, told-leaves}
 use Rattle.interpreter.proofs.Instructions.Concluded.{stays-given}
 use Rattle.interpreter.proofs.Instructions.NamedAttempts.{awaits-told, begins-on, goes-on, linked-kept, same-setup, takes-there}
 use Rattle.interpreter.proofs.Moves.Sounded.{caller-linked}
 use Rattle.interpreter.proofs.execute.attempting.attempt_name_loaded.Goals as goal
-
--- (written before a first check: the names of goals by analogy)
 
 pub attempt_loaded-requires-clause-caller : goal.attempt_loaded-requires-clause-caller
 attempt_loaded-requires-clause-caller c =
@@ -85,3 +85,19 @@ returns-clause-some c =
     sym (ap is_some c.in-Some.is)
     ∙ apart-loads (setup_in c.args.parts.now.runtime c.args.originals.now) c.args.initializing.now c.args.parts.now c.requires.ending c.args.here c.requires.named c.requires.here c.requires.executing
     c.in_ok-outcome.outcome c.in_ok-outcome.ensures.some
+
+-- a line stands there
+pub returns-in_default-line-clause-state : goal.returns-in_default-line-clause-state
+returns-in_default-line-clause-state c = absurd
+    (false≢true (ap named_in (c.in_default-line.ensures.kept
+    ∙ (ap (λ (v : Versions). line_at v c.args.here.version c.args.here.place) c.in_ok-outcome.ensures.kept ∙ c.requires.ready c.args.here.place)) ∙ c.requires.named))
+
+pub returns-in_default-line-clause-answer : goal.returns-in_default-line-clause-answer
+returns-in_default-line-clause-answer c = absurd
+    (false≢true (ap named_in (c.in_default-line.ensures.kept
+    ∙ (ap (λ (v : Versions). line_at v c.args.here.version c.args.here.place) c.in_ok-outcome.ensures.kept ∙ c.requires.ready c.args.here.place)) ∙ c.requires.named))
+
+pub returns-in_default-line-clause-some : goal.returns-in_default-line-clause-some
+returns-in_default-line-clause-some c = absurd
+    (false≢true (ap named_in (c.in_default-line.ensures.kept
+    ∙ (ap (λ (v : Versions). line_at v c.args.here.version c.args.here.place) c.in_ok-outcome.ensures.kept ∙ c.requires.ready c.args.here.place)) ∙ c.requires.named))

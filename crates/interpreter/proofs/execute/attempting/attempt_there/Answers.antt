@@ -1,6 +1,4 @@
-use Rattle.std.proofs.Common.{sym, ap, ◌∙◌}
-use Rattle.interpreter.specs.Instructions.Acts.{attempts_on, awaited_on}
-use Rattle.prepared_code.specs.Initializations.{state_of}
+use Rattle.std.proofs.Common.{sym, ◌∙◌}
 use Rattle.interpreter.proofs.Initializing.Beneath.{awaits-unnamed}
 use Rattle.interpreter.proofs.Instructions.NamedAttempts.{linked-kept}
 use Rattle.prepared_code.specs.Linked.{setup_in}

@@ -1,4 +1,4 @@
-use Rattle.std.proofs.Common.{◌≡◌, ◌+◌, ◌<◌, ℕ, true, false, List, Option, Some, None, sym, ap, subst, ◌∙◌, arith}
+use Rattle.std.proofs.Common.{◌≡◌, ◌+◌, ◌<◌, ℕ, true, false, List, Option, Some, None, ap, subst, ◌∙◌, arith}
 use Rattle.std.specs.Prelude.{not, unwrap_or, ◌==◌}
 use Rattle.std.specs.Option.{option_map}
 use Rattle.std.proofs.lemmas.Bool.{eqb-true}
@@ -18,6 +18,6 @@ current-by slots current number x there same less =
 
 pub returns : goal.returns
 returns c = λ same.
-    let v = c.args.originals.now.setup.versions in
+    let v = c.args.originals.now.versions in
     let most = c.if-number-ge-MOST_VERSIONS.false in
     current-by v.slots v.current c.args.number c.args.version.now c.requires (subst (λ n. (n == c.args.number) ≡ true) c.current.ensures same) (omega (arith, most))

@@ -33,13 +33,13 @@ returns-clause-delivered c =
 
 pub returns-clause-calm : goal.returns-clause-calm
 returns-clause-calm c = λ given.
-    let w = c.args.originals.now.setup in
+    let w = setup_in c.args.parts.now.runtime c.args.originals.now in
     let p = c.args.parts.now in
     gives-calm w c.requires.run c.args.initializing.now c.args.here c.args.line.now c.args.kind p c.requires.here c.requires.line c.requires.ends c.requires.at_instruction
     c.in-Some-result_of.datum c.in-Some.next c.value_given.result c.give_back.new.self c.recall.ensures (c.begins_in.ensures c.if-not-begins_in.false)
     (subst (λ o. IfSome o (λ d. gives c.args.kind (top_operands p.frames.frames) ≡ Returns d)) c.in-Some-result_of.is c.result_of.ensures)
     c.value_given.ensures c.give_back.result given
-    (subst (λ o. IfSome o (λ next. GoesBack w c.args.initializing.now p.frames.frames next)) c.in-Some.is c.goes_back.ensures)
+    (subst (λ o. IfSome o (λ next. GoesBack w.versions c.args.initializing.now p.frames.frames next)) c.in-Some.is c.goes_back.ensures)
     c.give_back.ensures.answer c.give_back.ensures.frames
 
 pub returns-clause-silent : goal.returns-clause-silent

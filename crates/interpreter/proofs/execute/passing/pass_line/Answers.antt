@@ -30,14 +30,14 @@ at-version w x (f ∷ fs) here stands runs = subst (λ (o : Option Here). IfSome
 
 pub pass_return-requires-clause-runs : goal.pass_return-requires-clause-runs
 pass_return-requires-clause-runs c =
-    at-version c.args.originals.now.setup c.args.version.now c.args.parts.now.frames.frames c.in-Some.here (sym c.where_now.ensures ∙ c.in-Some.is) c.requires.runs
+    at-version (setup_in c.args.parts.now.runtime c.args.originals.now) c.args.version.now c.args.parts.now.frames.frames c.in-Some.here (sym c.where_now.ensures ∙ c.in-Some.is) c.requires.runs
 
 pub pass_named-requires-clause-here : goal.pass_named-requires-clause-here
 pass_named-requires-clause-here c = sym c.where_now.ensures ∙ c.in-Some.is
 
 pub pass_named-requires-clause-line : goal.pass_named-requires-clause-line
 pass_named-requires-clause-line c =
-    at-here c.args.originals.now.setup c.args.version.now c.args.parts.now.frames.frames c.args.line.now c.in-Some.here (sym c.where_now.ensures ∙ c.in-Some.is)
+    at-here (setup_in c.args.parts.now.runtime c.args.originals.now) c.args.version.now c.args.parts.now.frames.frames c.args.line.now c.in-Some.here (sym c.where_now.ensures ∙ c.in-Some.is)
     c.requires.runs c.requires.stands
 
 pub pass_return-requires-clause-here : goal.pass_return-requires-clause-here
@@ -45,7 +45,7 @@ pass_return-requires-clause-here c = sym c.where_now.ensures ∙ c.in-Some.is
 
 pub pass_return-requires-clause-line : goal.pass_return-requires-clause-line
 pass_return-requires-clause-line c =
-    at-here c.args.originals.now.setup c.args.version.now c.args.parts.now.frames.frames c.args.line.now c.in-Some.here (sym c.where_now.ensures ∙ c.in-Some.is)
+    at-here (setup_in c.args.parts.now.runtime c.args.originals.now) c.args.version.now c.args.parts.now.frames.frames c.args.line.now c.in-Some.here (sym c.where_now.ensures ∙ c.in-Some.is)
     c.requires.runs c.requires.stands
 
 pub returns-in_default : goal.returns-in_default
@@ -59,7 +59,7 @@ pass_throw-requires-clause-here c = sym c.where_now.ensures ∙ c.in-Some.is
 
 pub pass_throw-requires-clause-line : goal.pass_throw-requires-clause-line
 pass_throw-requires-clause-line c =
-    at-here c.args.originals.now.setup c.args.version.now c.args.parts.now.frames.frames c.args.line.now c.in-Some.here (sym c.where_now.ensures ∙ c.in-Some.is)
+    at-here (setup_in c.args.parts.now.runtime c.args.originals.now) c.args.version.now c.args.parts.now.frames.frames c.args.line.now c.in-Some.here (sym c.where_now.ensures ∙ c.in-Some.is)
     c.requires.runs c.requires.stands
 
 pub pass_measure-requires-clause-here : goal.pass_measure-requires-clause-here
@@ -67,7 +67,7 @@ pass_measure-requires-clause-here c = sym c.where_now.ensures ∙ c.in-Some.is
 
 pub pass_measure-requires-clause-line : goal.pass_measure-requires-clause-line
 pass_measure-requires-clause-line c =
-    at-here c.args.originals.now.setup c.args.version.now c.args.parts.now.frames.frames c.args.line.now c.in-Some.here (sym c.where_now.ensures ∙ c.in-Some.is)
+    at-here (setup_in c.args.parts.now.runtime c.args.originals.now) c.args.version.now c.args.parts.now.frames.frames c.args.line.now c.in-Some.here (sym c.where_now.ensures ∙ c.in-Some.is)
     c.requires.runs c.requires.stands
 
 pub returns-in-Athrow : goal.returns-in-Athrow

@@ -1,4 +1,4 @@
-use Rattle.std.proofs.Common.{subst, sym, ◌∙◌}
+use Rattle.std.proofs.Common.{subst, ◌∙◌}
 use Rattle.interpreter.specs.Moves.Onward.{ComesIf}
 use Rattle.prepared_code.specs.Linked.{setup_in}
 use Rattle.interpreter.proofs.Silent.GoingOnward.{stops-onward}

@@ -23,7 +23,7 @@ returns-then-not-may_begin-clause-state c =
     let w = setup_in c.args.parts.now.runtime c.args.originals.now in
     let found : initializer_of w.world.program c.args.class ≡ Some c.in-Some.method =
     ap (λ p. initializer_of p c.args.class) (sym c.program.ensures.program) ∙ (sym c.initializer_of.ensures ∙ c.in-Some.is) in
-    ap (state_of c.put_initialization.new.initializing) c.in_ok-raise.ensures
+    ap (state_of c.put_initialization.new.initializing) c.in_ok-raise.ensures.state
     ∙ (ap (λ x. raises w.world x stack_overflow None) c.in_ok-put_initialization.ensures.state
     ∙ sym (runs-over w (state_of c.args.initializing.now c.args.parts.now) c.args.class c.in-Some.method found
     (ap (λ n. nat_lt n most_live) (live-of c.args.initializing.now c.args.parts.now) ∙ (sym c.may_begin.ensures ∙ c.if-not-may_begin.true))))
@@ -42,7 +42,7 @@ returns-clause-state c =
     let w = setup_in c.args.parts.now.runtime c.args.originals.now in
     let found : initializer_of w.world.program c.args.class ≡ Some c.in-Some.method =
     ap (λ p. initializer_of p c.args.class) (sym c.program.ensures.program) ∙ (sym c.initializer_of.ensures ∙ c.in-Some.is) in
-    c.in_ok-begin_initializer.ensures
+    c.in_ok-begin_initializer.ensures.state
     ∙ (ap (λ x. with_frame x (new_frame w.world (listing_of w.versions) c.in-Some.method [])) c.in_ok-put_initialization.ensures.state
     ∙ sym (runs-begun w (state_of c.args.initializing.now c.args.parts.now) c.args.class c.in-Some.method found
     (ap (λ n. nat_lt n most_live) (live-of c.args.initializing.now c.args.parts.now) ∙ (sym c.may_begin.ensures ∙ c.if-not-may_begin.false))))

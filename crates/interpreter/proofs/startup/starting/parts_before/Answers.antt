@@ -1,9 +1,41 @@
-use Rattle.std.proofs.Common.{ap, [], false, None}
-use Rattle.jvm_model.specs.declared.state.Shared.{Shared}
-use Rattle.jvm_model.specs.declared.state.State.{State}
+use Rattle.std.proofs.Common.{subst, sym, ap, ◌∙◌}
+use Rattle.jvm_model.specs.declared.program.Program.{Program}
+use Rattle.jvm_model.specs.Basis.Data.{World}
+use Rattle.jvm_model.specs.Basis.SharedState.{shared_before}
+use Rattle.prepared_code.specs.Kept.{AreKnown}
+use Rattle.prepared_code.proofs.Lines.CellLemmas.{nil-known}
+use Rattle.symbolic_references.specs.Runtimes.{linker_in}
+use Rattle.symbolic_references.specs.ProgramFacts.{AreTablesOf}
+use Rattle.interpreter.proofs.Loads.BeforeStart.{built-in-before, exceptions-before, objects-before, shared-before, state-before}
 use Rattle.interpreter.proofs.startup.starting.parts_before.Goals as goal
 
-pub returns : goal.returns
-returns c = λ input.
-    rw c.new.ensures (rw c.new-2.ensures (ap (λ (s : Shared). let state : State = record { stack = []; thrown = None; begun = false; shared = s; output = []; ending = None } in state)
-    c.in_ok-shared_before.ensures))
+pub new-2-requires-clause-tables : goal.new-2-requires-clause-tables
+new-2-requires-clause-tables c = subst (λ p. AreTablesOf p c.in_ok-tables.tables) (sym c.in_ok-linker.ensures.program) c.in_ok-tables.ensures
+
+pub new-2-requires-clause-built_in : goal.new-2-requires-clause-built_in
+new-2-requires-clause-built_in c = built-in-before c.args.originals.now.program c.requires.fit c.in_ok-linker.linker c.in_ok-linker.ensures.program c.in_ok-linker.ensures.loaded
+
+pub new-2-requires-clause-exceptions : goal.new-2-requires-clause-exceptions
+new-2-requires-clause-exceptions c = exceptions-before c.args.originals.now.program c.requires.fit c.in_ok-linker.linker c.in_ok-linker.ensures.program c.in_ok-linker.ensures.loaded
+
+pub new-2-requires-clause-objects : goal.new-2-requires-clause-objects
+new-2-requires-clause-objects c =
+    objects-before c.args.originals.now.program c.requires.fit c.in_ok-linker.linker c.in_ok-beginning.beginning.heap c.in_ok-linker.ensures.program c.in_ok-linker.ensures.loaded
+    (c.in_ok-beginning.ensures.heap ∙ ap (λ (p : Program). (shared_before p).heap) c.program.ensures.program)
+
+pub returns-clause-state : goal.returns-clause-state
+returns-clause-state c =
+    state-before (record { program = c.args.originals.now.program; input = c.args.input }) c.new.result.frames c.new-2.result.shared c.new-2.result.output c.new.ensures
+    (c.new-2.ensures.shared
+    ∙ shared-before c.args.originals.now.program c.program.result.now c.in_ok-linker.linker.loaded c.in_ok-beginning.beginning c.program.ensures.program c.in_ok-linker.ensures.loaded
+    c.in_ok-beginning.ensures.phases c.in_ok-beginning.ensures.statics c.in_ok-beginning.ensures.heap c.in_ok-beginning.ensures.made)
+    c.new-2.ensures.output
+
+pub returns-clause-world : goal.returns-clause-world
+returns-clause-world c = c.new-2.ensures.world ∙ ap (λ (p : Program). let w : World = record { program = p; input = c.args.input } in w) c.in_ok-linker.ensures.program
+
+pub returns-clause-linked : goal.returns-clause-linked
+returns-clause-linked c = record {
+  program = ap (λ (w : World). w.program) c.new-2.ensures.world ∙ c.in_ok-linker.ensures.program;
+  known = subst (AreKnown (linker_in c.new-2.result) c.args.originals.now.versions) (sym c.requires.rows) (nil-known (linker_in c.new-2.result) c.args.originals.now.versions);
+}

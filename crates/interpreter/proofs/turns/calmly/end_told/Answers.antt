@@ -8,7 +8,6 @@ leave-requires-clause-here c = sym c.where_now.ensures ∙ c.in-Some.is
 
 pub leave-requires-clause-line : goal.leave-requires-clause-line
 leave-requires-clause-line c =
-    let w = c.args.originals.now.setup in
     ap (option_and_then (line_in c.in-Some.here.place)) c.in-Some-version.ensures.version ∙ sym c.line_in.ensures ∙ ap option_copied c.in-Some-line_in.is
 
 pub leave-requires-clause-runs : goal.leave-requires-clause-runs

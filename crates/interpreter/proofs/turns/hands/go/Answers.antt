@@ -2,31 +2,30 @@ use Rattle.std.proofs.Common.{sym, ◌∙◌}
 use Rattle.std.proofs.lemmas.Bool.{false≢true}
 use Rattle.prepared_code.specs.Initializations.{state_of}
 use Rattle.prepared_code.specs.Linked.{setup_in}
-use Rattle.interpreter.proofs.Moves.HandLaws.{attempt-sound, hands-on, moves-linked, moves-sound, reaches-attempt, reaches-moves, start-sound}
+use Rattle.interpreter.proofs.Instructions.NamedAttempts.{linked-kept}
+use Rattle.interpreter.proofs.Moves.HandLaws.{attempt-sound, hands-on, moves-sound, reaches-attempt, reaches-moves, start-sound}
 use Rattle.interpreter.proofs.turns.hands.go.Goals as goal
 
 -- by moves
 pub returns-then-hand-clause-linked : goal.returns-then-hand-clause-linked
 returns-then-hand-clause-linked c =
-    c.requires.linked
-    ∙ moves-linked (setup_in c.args.parts.now.runtime c.args.originals.now) c.requires.fit (state_of c.args.initializing.now c.args.parts.now) (state_of c.go_by_moves.new.initializing c.go_by_moves.new.parts) c.args.hand.delivered c.args.hand.passed
-    c.go_by_moves.new.passed c.in_ok-due.due c.in_ok-due.ensures
+    linked-kept c.args.originals.now c.args.parts.now.runtime c.go_by_moves.new.parts.runtime c.in_ok-due.ensures.world c.in_ok-due.ensures.same_loaded c.requires.linked
 
 pub returns-then-hand-clause-sound : goal.returns-then-hand-clause-sound
 returns-then-hand-clause-sound c = λ is.
     moves-sound (setup_in c.args.parts.now.runtime c.args.originals.now) c.requires.fit (state_of c.args.initializing.now c.args.parts.now) (state_of c.go_by_moves.new.initializing c.go_by_moves.new.parts) c.args.hand.delivered c.args.hand.passed
-    c.go_by_moves.new.passed c.in_ok-due.due c.in_ok-due.ensures is
+    c.go_by_moves.new.passed c.in_ok-due.due c.in_ok-due.ensures.state is
 
 pub returns-then-hand-clause-starts : goal.returns-then-hand-clause-starts
 returns-then-hand-clause-starts c = λ moves undelivered start.
     start-sound (setup_in c.args.parts.now.runtime c.args.originals.now) c.requires.fit (state_of c.args.initializing.now c.args.parts.now) (state_of c.go_by_moves.new.initializing c.go_by_moves.new.parts) c.args.hand.delivered c.args.hand.passed
-    c.go_by_moves.new.passed c.in_ok-due.due c.in_ok-due.ensures undelivered start
+    c.go_by_moves.new.passed c.in_ok-due.due c.in_ok-due.ensures.state undelivered start
 
 pub returns-then-hand-clause-hands : goal.returns-then-hand-clause-hands
 returns-then-hand-clause-hands c = λ homes turn live has hand.
     hands-on (setup_in c.args.parts.now.runtime c.args.originals.now) homes has turn c.args.hand live (state_of c.args.initializing.now c.args.parts.now) hand c.gone_to.result (state_of c.go_by_moves.new.initializing c.go_by_moves.new.parts)
     (reaches-moves (setup_in c.args.parts.now.runtime c.args.originals.now) c.args.hand (state_of c.args.initializing.now c.args.parts.now) (state_of c.go_by_moves.new.initializing c.go_by_moves.new.parts) c.go_by_moves.new.passed c.in_ok-due.due c.gone_to.result c.gone_to.ensures.passed c.gone_to.ensures.due
-    c.if-hand.true c.in_ok-due.ensures)
+    c.if-hand.true c.in_ok-due.ensures.state)
 
 -- from an attempt
 pub go_by_attempt-requires-clause-sound : goal.go_by_attempt-requires-clause-sound

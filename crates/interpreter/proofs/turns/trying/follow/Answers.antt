@@ -1,10 +1,9 @@
 use Rattle.std.proofs.Common.{◌≡◌, sym, subst, ◌∙◌}
 use Rattle.std.specs.Prelude.{IfOk}
 use Rattle.prepared_code.specs.Initializations.{state_of}
-use Rattle.interpreter.specs.Moves.Turning.{pause_at, paused_in}
-use Rattle.prepared_code.specs.Versions.{listing_of, mark_of}
+use Rattle.interpreter.specs.Moves.Turning.{pause_at}
 use Rattle.prepared_code.specs.Linked.{setup_in}
-use Rattle.interpreter.proofs.Moves.Followed.{follows-on, follows-told, left-loaded, paused-loaded}
+use Rattle.interpreter.proofs.Moves.Followed.{follows-on, follows-told}
 use Rattle.interpreter.proofs.turns.trying.follow.Goals as goal
 
 pub returns-then-enters-clause-reaches : goal.returns-then-enters-clause-reaches
@@ -17,11 +16,4 @@ returns-clause-reaches c =
     subst (λ x. IfOk c.pause.result (λ due. pause_at (state_of c.pause.new.initializing c.pause.new.parts) c.pause.new.passed due ≡ x))
     (follows-on (setup_in c.args.parts.now.runtime c.args.originals.now) c.args.depth c.args.passed.now c.args.initializing.now c.args.parts.now c.in_ok-passed.field-0 c.in_ok-passed.ensures
     (sym c.enters.ensures ∙ c.if-enters.false))
-    c.pause.ensures
-
-pub returns-clause-loaded : goal.returns-clause-loaded
-returns-clause-loaded c =
-    let w = setup_in c.args.parts.now.runtime c.args.originals.now in
-    let s = state_of c.args.initializing.now c.args.parts.now in
-    left-loaded c.pause.result (state_of c.pause.new.initializing c.pause.new.parts) c.pause.new.passed (paused_in w c.in_ok-passed.field-0 s) s.shared.loaded
-    c.pause.ensures (paused-loaded w (listing_of w.versions) (mark_of c.args.originals.now.versions) c.in_ok-passed.field-0 s)
+    c.pause.ensures.state

@@ -7,4 +7,4 @@ use Rattle.interpreter.proofs.unwind.handlers.target_among.Given as goal
 
 abbrev pub invariant-loop-handler : goal.invariant-loop-handler
 invariant-loop-handler l =
-    handler_for l.originals.setup.world l.class l.place (map catcher_in (drop l.handler-index l.handlers)) ≡ handler_for l.originals.setup.world l.class l.place (map catcher_in l.handlers)
+    handler_for l.runtime.world l.class l.place (map catcher_in (drop l.handler-index l.handlers)) ≡ handler_for l.runtime.world l.class l.place (map catcher_in l.handlers)
