@@ -8,7 +8,7 @@ invariant_of-self c = record {
   tables = c.self.invariant.tables;
   built_in = c.self.invariant.built_in;
   exceptions = c.self.invariant.exceptions;
-  selections = 
+  selections =
       c.keep.ensures c.self.inside.linker c.self.invariant.selections
       (subst (λ (v : RuntimeView). IsKnown (linker_in v) c.args.reference.now c.args.known.now) (sym c.self.view_is) c.requires);
   objects = c.self.invariant.objects;
