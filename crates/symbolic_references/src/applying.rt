@@ -87,7 +87,8 @@ fn drop_operands(frames: &mut Frames, count: u16, next: u16) -> bool
     has_gone(jvm_basic::go_on(frames, next))
 }
 
-/// The frame goes on with a value, if there is one, in place of so many operands; false where it could not hold them.
+/// The frame goes on with a value, if there is one, in place of so many operands; false where it
+/// could not hold them.
 #[inline(always)]
 pub fn apply(frames: &mut Frames, count: u16, value: Option<Value>, next: u16) -> bool
     requires { HasOperands (Goes count value) (top_operands frames.old.frames) }

@@ -3,7 +3,8 @@
 
 use crate::declared_member::DeclaredMember;
 
-/// What is invoked of a method: its code or what is native, each by its number, or what is looked up again.
+/// What is invoked of a method: its code or what is native, each by its number, or what is looked
+/// up again.
 #[derive(Clone, Copy, Debug, PartialEq, Eq)]
 pub enum Callee {
     Code(u32),
@@ -18,7 +19,8 @@ pub struct Chosen {
     pub callee: Callee,
 }
 
-/// A method that a name stands for, the kind of the last receiver, and the method that was selected for it.
+/// A method that a name stands for, the kind of the last receiver, and the method that was selected
+/// for it.
 #[derive(Clone, Copy, Debug, PartialEq, Eq)]
 pub struct Site {
     pub method: DeclaredMember,
@@ -31,7 +33,8 @@ pub struct Site {
 pub enum Found {
     /// Nothing that is kept: it is looked up again.
     Nothing,
-    /// An instance field, its slot, and a kind whose objects have it: that of the object whose field it was last.
+    /// An instance field, its slot, and a kind whose objects have it: that of the object whose
+    /// field it was last.
     Field(DeclaredMember, u32, u32),
     /// A static field.
     Static(DeclaredMember),

@@ -1,6 +1,7 @@
-//! The instructions that name classes, fields and methods, and ldc of a Class (JVM Specification 5.4.3, 6.5), for programs of any number
-//! of classes: what each does to what is shared and to the current frame, exactly by the definitions of jvm_model. So a native method of
-//! a built-in class is done where it is invoked.
+//! The instructions that name classes, fields and methods, and ldc of a Class (JVM Specification
+//! 5.4.3, 6.5), for programs of any number of classes: what each does to what is shared and to the
+//! current frame, exactly by the definitions of jvm_model. So a native method of a built-in class
+//! is done where it is invoked.
 #![tactic(auto)]
 
 mod applying;

@@ -63,7 +63,8 @@ fn resolved_field(
     field_in(linker, class, member.name(), member.descriptor())
 }
 
-/// The field that a name stands for, once its class was resolved: a static one where one is asked for, and else one that is not.
+/// The field that a name stands for, once its class was resolved: a static one where one is asked
+/// for, and else one that is not.
 pub fn field_found(
     linker: &Linker,
     kind: u32,

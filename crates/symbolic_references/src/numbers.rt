@@ -1,4 +1,5 @@
-//! The numbers of methods (JVM Specification 4.6): those that have Code are numbered over all classes.
+//! The numbers of methods (JVM Specification 4.6): those that have Code are numbered over all
+//! classes.
 
 ghost use Rattle.std.specs.Prelude.{◌≡◌, ◌+◌, ◌<◌, ◌^◌, is_some, IfOk};
 ghost use Rattle.jvm_model.specs.Basis.Methods.{code_of};
@@ -12,8 +13,8 @@ use jvm_model::Program;
 use std::alloc::Global;
 use std::marker::Model;
 
-/// The number of each method by the position of its class and its own there, made once, so that a call costs two look-ups. A
-/// clause sees a row for each class.
+/// The number of each method by the position of its class and its own there, made once, so that a
+/// call costs two look-ups. A clause sees a row for each class.
 #[derive(Drop)]
 pub struct MethodNumbers {
     rows: Seq<Seq<Option<u32>>>,

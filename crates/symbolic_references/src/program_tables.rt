@@ -12,7 +12,8 @@ pub struct Method {
     pub max_locals: u16,
 }
 
-/// The kinds of the classes of exceptions that instructions raise, and of the texts of their messages.
+/// The kinds of the classes of exceptions that instructions raise, and of the texts of their
+/// messages.
 #[derive(Clone, Copy, Debug, PartialEq, Eq)]
 pub struct Exceptions {
     pub abstract_method: u32,
@@ -34,7 +35,8 @@ pub struct Exceptions {
     pub string: u32,
 }
 
-/// The numbers of a program's methods, what is kept of each by its number, and the kinds of its exceptions.
+/// The numbers of a program's methods, what is kept of each by its number, and the kinds of its
+/// exceptions.
 #[derive(Drop)]
 pub struct ProgramTables {
     pub numbers: MethodNumbers,

@@ -49,7 +49,8 @@ fn is_of_kind(kind: Kind, value: Value) -> bool
     datum_of(kind, value).is_some()
 }
 
-/// Whether the topmost operands are as many as the parameters, each of its kind, the first parameter's the deepest.
+/// Whether the topmost operands are as many as the parameters, each of its kind, the first
+/// parameter's the deepest.
 fn are_of_kinds(params: &[Kind], frames: &Frames) -> bool
     requires { length params.now < 2 ^ 16 }
     ensures { result ≡ is_some (arguments params.now (top_operands frames.now.frames)) }
@@ -77,7 +78,8 @@ fn is_int_kind(kind: Kind) -> bool
     )
 }
 
-/// Whether there is one parameter, of ints, and an int on top, as there often is. False says nothing.
+/// Whether there is one parameter, of ints, and an int on top, as there often is. False says
+/// nothing.
 #[inline(always)]
 fn is_one_int(params: &[Kind], frames: &Frames) -> bool
     ensures { result ≡ true
@@ -156,8 +158,8 @@ fn count_with_receiver(params: &[Kind], frames: &Frames) -> Option<u16>
     }
 }
 
-/// How many operands an invocation takes, where they are there and of the kinds that the method's descriptor tells: the arguments,
-/// and below those of an instance method the receiver.
+/// How many operands an invocation takes, where they are there and of the kinds that the method's
+/// descriptor tells: the arguments, and below those of an instance method the receiver.
 pub fn argument_count(instance: bool, method: &MethodName, frames: &Frames) -> Option<u16>
     ensures data { let o = top_operands frames.now.frames in
         option_map (λ count. data_in count o) result

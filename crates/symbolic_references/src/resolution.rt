@@ -35,7 +35,8 @@ fn recall(linker: &Linker)
     let _ = linker.index().program();
 }
 
-/// Loads what the name stands for, and gives its kind, or what its fault raises. What was loaded before a fault stays loaded.
+/// Loads what the name stands for, and gives its kind, or what its fault raises. What was loaded
+/// before a fault stays loaded.
 pub fn resolve(
     linker: &mut Linker,
     name: &Text16,

@@ -1,4 +1,5 @@
-//! What all activations of a run share, with the classes that it knows: one owner, whose methods are the instructions.
+//! What all activations of a run share, with the classes that it knows: one owner, whose methods
+//! are the instructions.
 
 ghost use Rattle.std.specs.Prelude.{◌≡◌, [], option_copied};
 ghost use Rattle.class_linker.specs.Linkers.{LinkerView};
@@ -41,8 +42,9 @@ pub use program::units_of;
 use std::alloc::Global;
 use std::marker::Model;
 
-/// The classes of a run and what tables tell of its program, its input, what all activations share, what was selected for receivers, and
-/// what was written. A clause sees the world, what the definitions call shared, and the output.
+/// The classes of a run and what tables tell of its program, its input, what all activations share,
+/// what was selected for receivers, and what was written. A clause sees the world, what the
+/// definitions call shared, and the output.
 #[derive(Drop)]
 pub struct Runtime {
     alloc: Global,
@@ -79,7 +81,8 @@ impl Model for Runtime {
     ghost invariant = { λ r. IsRuntime r.linker r.tables r.selections r.heap };
 }
 
-/// What all share at the start: how far the classes are initialized, their static fields, and the objects that are there.
+/// What all share at the start: how far the classes are initialized, their static fields, and the
+/// objects that are there.
 #[derive(Drop)]
 pub struct Beginning {
     pub phases: Seq<Phase>,
@@ -89,7 +92,8 @@ pub struct Beginning {
 }
 
 impl Runtime {
-    /// A runtime of these parts: the tables are the program's, the built-in classes are loaded, and so is the class of each object.
+    /// A runtime of these parts: the tables are the program's, the built-in classes are loaded, and
+    /// so is the class of each object.
     #[tactic(auto, using(crate::proofs::SelectionLemmas::no_selections))]
     pub fn new(
         alloc: Global,

@@ -1,5 +1,5 @@
-//! What was selected for receivers, kept for the whole program (JVM Specification 5.4.6): a site with receivers of many kinds finds it
-//! in constant work.
+//! What was selected for receivers, kept for the whole program (JVM Specification 5.4.6): a site
+//! with receivers of many kinds finds it in constant work.
 
 ghost use Rattle.std.specs.Prelude.{◌≡◌, [], true, IfOk, IfSome};
 ghost use Rattle.class_linker.specs.Linkers.{LinkerView};
@@ -20,8 +20,8 @@ const NEAR: usize = 8;
 /// How many slots there are at first.
 const FIRST: usize = 16;
 
-/// The kind that a method's class was named by, whether the method is an interface's, and what is selected of it for receivers of
-/// the last kind.
+/// The kind that a method's class was named by, whether the method is an interface's, and what is
+/// selected of it for receivers of the last kind.
 #[derive(Clone, Copy, Debug, PartialEq, Eq)]
 pub struct Selection {
     pub kind: u32,
@@ -29,8 +29,8 @@ pub struct Selection {
     pub site: Site,
 }
 
-/// What was selected, each in one of the slots that its hash tells; at most half of all are taken, so a look-up is constant work. Less
-/// may be kept than was selected.
+/// What was selected, each in one of the slots that its hash tells; at most half of all are taken,
+/// so a look-up is constant work. Less may be kept than was selected.
 #[derive(Drop)]
 pub struct Selections {
     slots: Seq<Option<Selection>>,

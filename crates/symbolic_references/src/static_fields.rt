@@ -26,7 +26,8 @@ fn set_in(rows: &mut [Seq<Datum>], class: usize, position: usize, value: Datum)
     }
 }
 
-/// Writes a static field, by the position of its class and its own there; where there is none nothing changes. It takes no memory.
+/// Writes a static field, by the position of its class and its own there; where there is none
+/// nothing changes. It takes no memory.
 pub fn set_static(
     alloc: Global,
     statics: &mut Seq<Seq<Datum>>,

@@ -1,4 +1,5 @@
-//! Which method an invocation comes to (JVM Specification 5.4.3.3, 5.4.3.4, 6.5), before anything is changed.
+//! Which method an invocation comes to (JVM Specification 5.4.3.3, 5.4.3.4, 6.5), before anything
+//! is changed.
 
 ghost use Rattle.std.specs.Prelude.{◌≡◌, ◌≤◌, ℕ, false, true, length, IfOk, IfSome, Ok, Some};
 ghost use Rattle.std.specs.Bool.{beq};
@@ -42,7 +43,8 @@ use jf_bytes::{NoMemory, Text16};
 use jvm_model::{Exception, MemberName, MethodName, Phase, Program, Shared};
 use std::alloc::Global;
 
-/// Which invocation it is: invokespecial with the name of the class in which it stands, and whether it names an interface's method.
+/// Which invocation it is: invokespecial with the name of the class in which it stands, and whether
+/// it names an interface's method.
 #[derive(Clone, Copy)]
 pub enum Selecting<'a> {
     Virtual,
@@ -196,8 +198,8 @@ fn is_of_named(linker: &Linker, lower: u32, kind: u32, last: Option<u32>) -> boo
     linker.subtype(lower, kind)
 }
 
-/// The kind of a receiver, where it is one that the instruction can take: the name's class was resolved to this kind, and objects
-/// of the last kind are of it.
+/// The kind of a receiver, where it is one that the instruction can take: the name's class was
+/// resolved to this kind, and objects of the last kind are of it.
 #[inline(always)]
 pub fn receiver_kind(
     linker: &Linker,

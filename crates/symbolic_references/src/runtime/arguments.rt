@@ -19,7 +19,8 @@ fn put_text(kind: u32, array: u32, at: u32, units: &[u16], heap: &mut Heap) -> R
     requires array { (array == 0) ≡ false }
     requires room { heap.old.used + (1 + length units.now) ≤ heap.old.limit }
     ensures heap { OnOk result (heap.new ≡ with_text_in kind array at units.now heap.old) }
-    ensures loaded { (l : LinkerView) → IsUsable l kind → AreLoaded l heap.old → AreLoaded l heap.new }
+    ensures loaded { (l : LinkerView) → IsUsable l kind → AreLoaded l heap.old
+        → AreLoaded l heap.new }
 {
     match heap.text(kind, units) {
         Ok(text) => {
@@ -37,7 +38,8 @@ fn put_texts(kind: u32, args: &[Text16], array: u32, heap: &mut Heap) -> Result<
     requires room { heap.old.used + texts_cost args.now ≤ heap.old.limit }
     ensures heap { (p : Program) → kind ≡ kind_for p string → OnOk result (heap.new
         ≡ with_texts p array 0 args.now heap.old) }
-    ensures loaded { (l : LinkerView) → IsUsable l kind → AreLoaded l heap.old → AreLoaded l heap.new }
+    ensures loaded { (l : LinkerView) → IsUsable l kind → AreLoaded l heap.old
+        → AreLoaded l heap.new }
 {
     for (at, arg) in args.iter().enumerate() {
         put_text(kind, array, at as u32, arg.units(), heap)?;
@@ -53,7 +55,8 @@ fn make_arguments(kind: u32, args: &[Text16], heap: &mut Heap) -> Result<(), NoM
     requires room { heap.old.used + arguments_cost args.now ≤ heap.old.limit }
     ensures heap { (p : Program) → kind ≡ kind_for p string → p.args ≡ args.now
         → OnOk result (heap.new ≡ with_arguments p heap.old) }
-    ensures loaded { (l : LinkerView) → IsUsable l kind → AreLoaded l heap.old → AreLoaded l heap.new }
+    ensures loaded { (l : LinkerView) → IsUsable l kind → AreLoaded l heap.old
+        → AreLoaded l heap.new }
 {
     match heap.array(FIRST_ARRAY + kind, Datum::Ref(0), args.len() as u32) {
         Ok(array) => put_texts(kind, args, array, heap),

@@ -22,11 +22,13 @@ use jvm_basic::int_of;
 use jvm_model::{Exception, Shared};
 
 impl Runtime {
-    /// An array of this kind, of so many elements, where there is room for it, in place of the number.
+    /// An array of this kind, of so many elements, where there is room for it, in place of the
+    /// number.
     fn make_array(&mut self, frames: &Frames, kind: u32, count: u32) -> Result<Outcome, NoMemory>
         requires usable { IsUsable (linker_in self.old) kind }
         ensures answer { Asks result (makes_array kind count self.old.shared) frames.now }
-        ensures runtime { Sets result self.new (makes_array kind count self.old.shared) frames.now self.old }
+        ensures runtime { Sets result self.new (makes_array kind count self.old.shared) frames.now
+            self.old }
         ensures world { self.new.world ≡ self.old.world }
         ensures same_loaded { self.new.shared.loaded ≡ self.old.shared.loaded }
         ensures enough { HaveOperands result frames.now }

@@ -91,7 +91,8 @@ fn skip(frames: &Frames, reference: &SymbolicReference) -> Outcome
 }
 
 impl Runtime {
-    /// Loads what the name stands for, and gives its kind, or what its fault raises. What was loaded before a fault stays loaded.
+    /// Loads what the name stands for, and gives its kind, or what its fault raises. What was
+    /// loaded before a fault stays loaded.
     pub fn resolve(&mut self, name: &Text16) -> Result<Result<u32, AbruptCompletion>, NoMemory>
         ensures found { IfOk result (λ r. found_view r
             ≡ resolved_kind self.old.world.program self.old.shared.loaded name.now) }
@@ -174,9 +175,10 @@ impl Runtime {
         }
     }
 
-    /// Attempts an instruction that names a class or a member (JVM Specification 5.4.3, 6.5): loads what it names, and does what
-    /// its rule says over what is loaded then. Nothing is done to the frame. The class in which an invokespecial stands has to be
-    /// loaded. An Err says that memory ran out. What is learnt of the names serves the next attempt.
+    /// Attempts an instruction that names a class or a member (JVM Specification 5.4.3, 6.5): loads
+    /// what it names, and does what its rule says over what is loaded then. Nothing is done to the
+    /// frame. The class in which an invokespecial stands has to be loaded. An Err says that memory
+    /// ran out. What is learnt of the names serves the next attempt.
     pub fn attempt(
         &mut self,
         frames: &Frames,
@@ -200,8 +202,9 @@ impl Runtime {
         self.do_found(frames, reference, found, learnt)
     }
 
-    /// The same in two parts. Where the instruction loads classes, they are loaded, None is the answer, and nothing else is done:
-    /// it is to be attempted again, and loads nothing then. Where it loads none it is attempted.
+    /// The same in two parts. Where the instruction loads classes, they are loaded, None is the
+    /// answer, and nothing else is done: it is to be attempted again, and loads nothing then. Where
+    /// it loads none it is attempted.
     pub fn attempt_loaded(
         &mut self,
         frames: &Frames,
@@ -212,9 +215,11 @@ impl Runtime {
         requires dimensions { HasDimensions reference.now }
         ensures some { IfOk result (λ a. is_some a
             ≡ is_loaded self.old.world reference.now self.old.shared frames.now) }
-        ensures answer { let rule = attempts self.old.world reference.now self.old.shared frames.now in
+        ensures answer { let rule = attempts self.old.world reference.now self.old.shared frames.now
+            in
             IfOk result (λ a. IfSome a (λ a. asked a frames.now ≡ ruled rule frames.now)) }
-        ensures runtime { let rule = attempts self.old.world reference.now self.old.shared frames.now in
+        ensures runtime { let rule = attempts self.old.world reference.now self.old.shared
+            frames.now in
             IfOk result (λ a. IfSome a (λ _. self.new
             ≡ after (done_on rule frames.now) self.old)) }
         ensures loads { let p = self.old.world.program in
@@ -240,8 +245,8 @@ impl Runtime {
         }
     }
 
-    /// Attempts an instruction of whose names it is known what they come to: nothing is loaded, and no name is looked up that is
-    /// known. What is known then serves the next attempt.
+    /// Attempts an instruction of whose names it is known what they come to: nothing is loaded, and
+    /// no name is looked up that is known. What is known then serves the next attempt.
     #[tactic(auto, using(crate::proofs::Again::loaded_again, crate::proofs::Again::loads_none))]
     pub fn attempt_known(
         &mut self,

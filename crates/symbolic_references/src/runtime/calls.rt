@@ -1,5 +1,5 @@
-//! invokestatic, invokevirtual, invokeinterface and invokespecial (JVM Specification 5.4.3.3, 5.4.3.4, 6.5), where the class of the
-//! method's name was resolved.
+//! invokestatic, invokevirtual, invokeinterface and invokespecial (JVM Specification 5.4.3.3,
+//! 5.4.3.4, 6.5), where the class of the method's name was resolved.
 
 ghost use Rattle.std.specs.Prelude.{◌≡◌, ◌≤◌, ◌++◌, Some, length, drop, IfSome, OnOk};
 ghost use Rattle.std.specs.Option.{option_map};
@@ -40,9 +40,11 @@ impl Runtime {
         count: u16,
     ) -> Result<Outcome, NoMemory>
         requires within { count ≤ length (top_operands frames.now.frames) }
-        ensures answer { Asks result (λ l o. invokes_native self.old.world (at_place m) (data_in count o)
+        ensures answer { Asks result
+            (λ l o. invokes_native self.old.world (at_place m) (data_in count o)
             self.old.shared l (drop count o)) frames.now }
-        ensures runtime { Leaves result self.new (λ l o. invokes_native self.old.world (at_place m) (data_in count o)
+        ensures runtime { Leaves result self.new
+            (λ l o. invokes_native self.old.world (at_place m) (data_in count o)
             self.old.shared l (drop count o)) frames.now self.old }
         ensures world { self.new.world ≡ self.old.world }
         ensures same_loaded { self.new.shared.loaded ≡ self.old.shared.loaded }
@@ -63,9 +65,11 @@ impl Runtime {
         count: u16,
     ) -> Result<Outcome, NoMemory>
         requires within { count ≤ length (top_operands frames.now.frames) }
-        ensures answer { Asks result (λ l o. invokes_selected self.old.world (Some (at_place m)) (data_in count o)
+        ensures answer { Asks result
+            (λ l o. invokes_selected self.old.world (Some (at_place m)) (data_in count o)
             self.old.shared l (drop count o)) frames.now }
-        ensures runtime { Leaves result self.new (λ l o. invokes_selected self.old.world (Some (at_place m)) (data_in count o)
+        ensures runtime { Leaves result self.new
+            (λ l o. invokes_selected self.old.world (Some (at_place m)) (data_in count o)
             self.old.shared l (drop count o)) frames.now self.old }
         ensures world { self.new.world ≡ self.old.world }
         ensures same_loaded { self.new.shared.loaded ≡ self.old.shared.loaded }
@@ -84,9 +88,11 @@ impl Runtime {
     fn invoke_chosen(&mut self, frames: &Frames, m: Chosen, count: u16) -> Result<Outcome, NoMemory>
         requires callee { HasCallee self.old.world.program m }
         requires within { count ≤ length (top_operands frames.now.frames) }
-        ensures answer { Asks result (λ l o. invokes_selected self.old.world (Some (chosen_place m)) (data_in count o)
+        ensures answer { Asks result
+            (λ l o. invokes_selected self.old.world (Some (chosen_place m)) (data_in count o)
             self.old.shared l (drop count o)) frames.now }
-        ensures runtime { Leaves result self.new (λ l o. invokes_selected self.old.world (Some (chosen_place m)) (data_in count o)
+        ensures runtime { Leaves result self.new
+            (λ l o. invokes_selected self.old.world (Some (chosen_place m)) (data_in count o)
             self.old.shared l (drop count o)) frames.now self.old }
         ensures world { self.new.world ≡ self.old.world }
         ensures same_loaded { self.new.shared.loaded ≡ self.old.shared.loaded }
@@ -108,9 +114,13 @@ impl Runtime {
     ) -> Result<Outcome, NoMemory>
         requires callee { IfSome selected (HasCallee self.old.world.program) }
         requires within { count ≤ length (top_operands frames.now.frames) }
-        ensures answer { Asks result (λ l o. invokes_selected self.old.world (option_map chosen_place selected) (data_in count o)
+        ensures answer { Asks result
+            (λ l o. invokes_selected self.old.world (option_map chosen_place selected)
+            (data_in count o)
             self.old.shared l (drop count o)) frames.now }
-        ensures runtime { Leaves result self.new (λ l o. invokes_selected self.old.world (option_map chosen_place selected) (data_in count o)
+        ensures runtime { Leaves result self.new
+            (λ l o. invokes_selected self.old.world (option_map chosen_place selected)
+            (data_in count o)
             self.old.shared l (drop count o)) frames.now self.old }
         ensures world { self.new.world ≡ self.old.world }
         ensures same_loaded { self.new.shared.loaded ≡ self.old.shared.loaded }
@@ -137,7 +147,8 @@ impl Runtime {
             (symbolic_reference_by (selecting_view by) method.now) }
         ensures answer { Asks result (invokes_instance self.old.world kind (selecting_view by.entry)
             method.now self.old.shared) frames.now }
-        ensures runtime { Leaves result self.new (invokes_instance self.old.world kind (selecting_view by.entry)
+        ensures runtime { Leaves result self.new
+            (invokes_instance self.old.world kind (selecting_view by.entry)
             method.now self.old.shared) frames.now self.old }
         ensures world { self.new.world ≡ self.old.world }
         ensures same_loaded { self.new.shared.loaded ≡ self.old.shared.loaded }
@@ -164,7 +175,8 @@ impl Runtime {
             (Invokestatic method.now) }
         ensures answer { Asks result (invokes_static_method self.old.world kind method.now
             self.old.shared) frames.now }
-        ensures runtime { Leaves result self.new (invokes_static_method self.old.world kind method.now
+        ensures runtime { Leaves result self.new
+            (invokes_static_method self.old.world kind method.now
             self.old.shared) frames.now self.old }
         ensures world { self.new.world ≡ self.old.world }
         ensures same_loaded { self.new.shared.loaded ≡ self.old.shared.loaded }

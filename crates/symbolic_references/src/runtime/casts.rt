@@ -1,4 +1,5 @@
-//! checkcast and instanceof (JVM Specification 6.5) of what is not null, where the name was resolved.
+//! checkcast and instanceof (JVM Specification 6.5) of what is not null, where the name was
+//! resolved.
 
 ghost use Rattle.std.specs.Prelude.{◌≡◌, pos, Some};
 ghost use Rattle.heap_objects.specs.declared.Value.TheVariants.{Int};
@@ -38,7 +39,8 @@ impl Runtime {
     pub fn is_of(&self, name: &Text16, kind: u32, found: &mut Found, object: u32) -> bool
         requires named { kind_named self.now.world.program name.now ≡ Some kind }
         requires found { IsClassFound found.old self.now.world.program kind }
-        ensures answer { result ≡ is_instance self.now.world.program self.now.shared.heap object name.now }
+        ensures answer { result ≡ is_instance self.now.world.program self.now.shared.heap object
+            name.now }
         ensures found { IsClassFound found.new self.now.world.program kind }
     {
         let Some(lower) = kind_of_object(&self.linker, &self.heap, object) else {
@@ -60,7 +62,8 @@ impl Runtime {
     pub fn cast(&self, frames: &Frames, name: &Text16, kind: u32, found: &mut Found) -> Outcome
         requires resolved { IsResolved (linker_in self.now) name.now kind }
         requires found { IsClassFound found.old self.now.world.program kind }
-        ensures answer { asked result frames.now ≡ asked_on (λ l o. casts_to self.now.world.program name.now
+        ensures answer { asked result frames.now
+            ≡ asked_on (λ l o. casts_to self.now.world.program name.now
             (ref_of o) self.now.shared l o) frames.now }
         ensures found { IsClassFound found.new self.now.world.program kind }
         ensures enough { HasOperands result (top_operands frames.now.frames) }
@@ -85,7 +88,8 @@ impl Runtime {
     ) -> Outcome
         requires resolved { IsResolved (linker_in self.now) name.now kind }
         requires found { IsClassFound found.old self.now.world.program kind }
-        ensures answer { asked result frames.now ≡ asked_on (λ l o. answers self.now.world.program name.now
+        ensures answer { asked result frames.now
+            ≡ asked_on (λ l o. answers self.now.world.program name.now
             (ref_of o) self.now.shared l o) frames.now }
         ensures found { IsClassFound found.new self.now.world.program kind }
         ensures enough { HasOperands result (top_operands frames.now.frames) }

@@ -38,7 +38,8 @@ impl Runtime {
     /// ldc of a Class.
     pub fn push_class_object(&mut self, frames: &Frames, kind: u32) -> Result<Outcome, NoMemory>
         ensures answer { Asks result (pushes_object_of kind self.old.shared) frames.now }
-        ensures runtime { Sets result self.new (pushes_object_of kind self.old.shared) frames.now self.old }
+        ensures runtime { Sets result self.new (pushes_object_of kind self.old.shared) frames.now
+            self.old }
         ensures world { self.new.world ≡ self.old.world }
         ensures same_loaded { self.new.shared.loaded ≡ self.old.shared.loaded }
         ensures enough { HaveOperands result frames.now }

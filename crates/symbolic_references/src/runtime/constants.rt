@@ -86,7 +86,8 @@ fn constant_for<'a>(file: &'a ClassFile, field: &Member) -> Option<FieldConstant
     constant_at(file, field, index)
 }
 
-/// Sets a static field to a String, which is made once for equal units. Where it does not fit, object 1 is thrown.
+/// Sets a static field to a String, which is made once for equal units. Where it does not fit,
+/// object 1 is thrown.
 fn set_string(
     alloc: Global,
     string_kind: u32,
@@ -168,8 +169,9 @@ fn set_fields(
 }
 
 impl Runtime {
-    /// Sets the static fields of a class that have a ConstantValue, in the order of the class file (4.7.2, 5.5). The answer is the
-    /// object that is thrown: object 1 where a String does not fit into the heap; what was set before stays.
+    /// Sets the static fields of a class that have a ConstantValue, in the order of the class file
+    /// (4.7.2, 5.5). The answer is the object that is thrown: object 1 where a String does not fit
+    /// into the heap; what was set before stays.
     pub fn set_constants(&mut self, class: u32) -> Result<Option<u32>, NoMemory>
         ensures thrown { IfOk result (λ thrown. thrown
             ≡ (sets_constants self.old.world.program class self.old.shared).thrown) }

@@ -105,7 +105,8 @@ impl Runtime {
         }
     }
 
-    /// What `new` makes of a class that is looked up, which is kept: None where it has no instances, else whether they are texts.
+    /// What `new` makes of a class that is looked up, which is kept: None where it has no
+    /// instances, else whether they are texts.
     #[inline(never)]
     fn made_by_name(&self, kind: u32, class: u32, found: &mut Found) -> Option<bool>
         requires class { class ≡ class_of_kind self.now.world.program kind }
@@ -177,7 +178,8 @@ impl Runtime {
         requires usable { IsUsable (linker_in self.old) kind }
         requires kind { class ≡ class_of_kind self.old.world.program kind }
         requires found { IsClassFound found.old self.old.world.program kind }
-        ensures answer { Asks result (λ l o. class_initialized self.old.world.program class self.old.shared
+        ensures answer { Asks result
+            (λ l o. class_initialized self.old.world.program class self.old.shared
             (makes_instance self.old.world.program kind class self.old.shared l o)) frames.now }
         ensures runtime { Sets result self.new
             (λ l o. class_initialized self.old.world.program class self.old.shared
@@ -205,8 +207,10 @@ impl Runtime {
     ) -> Result<Outcome, NoMemory>
         requires usable { IsUsable (linker_in self.old) kind }
         requires found { IsClassFound found.old self.old.world.program kind }
-        ensures answer { Asks result (makes_new self.old.world.program kind self.old.shared) frames.now }
-        ensures runtime { Sets result self.new (makes_new self.old.world.program kind self.old.shared)
+        ensures answer { Asks result (makes_new self.old.world.program kind self.old.shared)
+            frames.now }
+        ensures runtime { Sets result self.new
+            (makes_new self.old.world.program kind self.old.shared)
             frames.now self.old }
         ensures found { IsClassFound found.new self.old.world.program kind }
         ensures world { self.new.world ≡ self.old.world }

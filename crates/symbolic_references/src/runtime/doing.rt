@@ -20,8 +20,9 @@ use jvm_model::{Shared, SymbolicReference};
 use std::alloc::Global;
 
 impl Runtime {
-    /// What the instruction does, with what it names resolved to this kind; of checkcast and instanceof where the operand is not null.
-    /// What is found of a member is kept, and taken where it is known.
+    /// What the instruction does, with what it names resolved to this kind; of checkcast and
+    /// instanceof where the operand is not null. What is found of a member is kept, and taken where
+    /// it is known.
     #[tactic(auto, using(crate::proofs::Quiet::writes_new, crate::proofs::Quiet::writes_getfield, crate::proofs::Quiet::writes_putfield, crate::proofs::Quiet::writes_getstatic, crate::proofs::Quiet::writes_putstatic, crate::proofs::Quiet::writes_anewarray, crate::proofs::Quiet::writes_arrays, crate::proofs::Quiet::writes_class, crate::proofs::Quiet::shared_getfield, crate::proofs::Quiet::shared_getstatic, crate::proofs::KindLemmas::few_over, crate::proofs::KnownLemmas::class_found, crate::proofs::KnownLemmas::found_new, crate::proofs::KnownLemmas::found_checkcast, crate::proofs::KnownLemmas::found_instanceof))]
     pub fn do_resolved(
         &mut self,

@@ -1,4 +1,5 @@
-//! getfield and putfield (JVM Specification 2.7, 5.4.3.2, 6.5), where the class of the field's name was resolved.
+//! getfield and putfield (JVM Specification 2.7, 5.4.3.2, 6.5), where the class of the field's name
+//! was resolved.
 
 ghost use Rattle.std.specs.Prelude.{◌≡◌, ◌==◌, count_by, false, is_some};
 ghost use Rattle.std.specs.Prelude.{take, true, IfOk, IfSome, Ok, OnOk, Some};
@@ -101,8 +102,8 @@ pub fn put_slot(heap: &mut Heap, object: u32, slot: u32, datum: Datum)
 }
 
 impl Runtime {
-    /// The slot of a field in the objects of a class that is the field's or inherits from it; None where it would not fit into a u32, which
-    /// no class has memory for.
+    /// The slot of a field in the objects of a class that is the field's or inherits from it; None
+    /// where it would not fit into a u32, which no class has memory for.
     fn slot_of(&self, lower: u32, field: DeclaredMember) -> Option<u32>
         requires loaded { IsLoaded (linker_in self.now) lower }
         requires extends { extends self.now.world.program lower field.class ≡ true }
@@ -120,10 +121,12 @@ impl Runtime {
         Some(slot as u32)
     }
 
-    /// The object with its kind and class, where it is of the kind that an instruction names and has the field.
+    /// The object with its kind and class, where it is of the kind that an instruction names and
+    /// has the field.
     fn owner_of(&self, kind: u32, field: DeclaredMember, object: u32) -> Option<Owner>
         ensures has { is_some result
-            ≡ has_field_at self.now.world.program (kind_at object self.now.shared.heap) kind field.class }
+            ≡ has_field_at self.now.world.program (kind_at object self.now.shared.heap) kind
+            field.class }
         ensures object { IfSome result (λ owner. owner.object ≡ object) }
         ensures own { IfSome result
             (λ owner. has_field_at self.now.world.program (Some owner.kind) kind field.class ≡ true) }
@@ -175,11 +178,13 @@ impl Runtime {
         }
     }
 
-    /// Whether an object has a field that the objects of the last kind have; mostly it is of that kind.
+    /// Whether an object has a field that the objects of the last kind have; mostly it is of that
+    /// kind.
     #[inline(always)]
     fn has_field(&self, kind: u32, field: DeclaredMember, last: u32, object: u32) -> bool
         requires own { has_field_at self.now.world.program (Some last) kind field.class ≡ true }
-        ensures { result ≡ has_field_at self.now.world.program (kind_at object self.now.shared.heap) kind field.class }
+        ensures { result ≡ has_field_at self.now.world.program (kind_at object self.now.shared.heap)
+            kind field.class }
     {
         let Some(lower) = kind_of_object(&self.linker, &self.heap, object) else {
             return false;
@@ -368,7 +373,8 @@ impl Runtime {
         Outcome::Goes(2, None)
     }
 
-    /// The value goes into the field of the object below it. The slot is kept, and the object's kind.
+    /// The value goes into the field of the object below it. The slot is kept, and the object's
+    /// kind.
     fn write_field(
         &mut self,
         frames: &Frames,

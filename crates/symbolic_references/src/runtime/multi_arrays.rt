@@ -139,7 +139,8 @@ pub struct Made {
     pub next: u32,
 }
 
-/// An array of this kind, for which there is room. The classes of all objects stay loaded, also after want of memory.
+/// An array of this kind, for which there is room. The classes of all objects stay loaded, also
+/// after want of memory.
 #[tactic(auto, using(crate::proofs::ObjectLemmas::objects_with))]
 fn make_one(heap: &mut Heap, kind: u32, count: u32) -> Result<Made, NoMemory>
     ensures array { IfOk result (λ m. m.array ≡ next_number heap.old) }

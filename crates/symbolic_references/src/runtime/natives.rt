@@ -1,5 +1,5 @@
-//! The native methods of the built-in classes (JVM Specification 2.11.8, 6.5): native_ops does them by their numbers, and the frame goes
-//! on, or not, by what they answer.
+//! The native methods of the built-in classes (JVM Specification 2.11.8, 6.5): native_ops does them
+//! by their numbers, and the frame goes on, or not, by what they answer.
 
 ghost use Rattle.std.specs.Prelude.{◌≡◌, ◌≤◌, ◌<◌, ◌==◌, length, drop, slice_get, false, true};
 ghost use Rattle.std.specs.Prelude.{IfOk, IfSome, IsSome, OnOk};
@@ -78,8 +78,8 @@ fn arguments(alloc: Global, frames: &Frames, count: u16) -> Result<Seq<Datum>, N
 
 // ---- what it answers
 
-/// What is asked for where the exception of the built-in class at this place is thrown. The one of a heap that is full was made before the
-/// start.
+/// What is asked for where the exception of the built-in class at this place is thrown. The one of
+/// a heap that is full was made before the start.
 fn thrown_by(place: u16) -> AbruptCompletion
     ensures { abrupt_view result ≡ thrown_by place }
 {
@@ -123,10 +123,12 @@ fn conclude(frames: &Frames, native: Native, count: u16) -> Result<Outcome, NoMe
 
 // ---- a call that raises nothing
 
-/// The number of System.arraycopy, which stores values up to the first that may not stand there, and then throws.
+/// The number of System.arraycopy, which stores values up to the first that may not stand there,
+/// and then throws.
 const ARRAYCOPY: u16 = 79;
 
-/// The frame goes on by an answer to so many arguments. False, with nothing of it changed, where it doesn't.
+/// The frame goes on by an answer to so many arguments. False, with nothing of it changed, where it
+/// doesn't.
 #[tactic(auto, using(crate::proofs::Carried::enough_operands))]
 fn pass_answer(frames: &mut Frames, native: Native, count: u16, next: u16) -> bool
     requires { count ≤ length (top_operands frames.old.frames) }
@@ -147,7 +149,8 @@ fn pass_answer(frames: &mut Frames, native: Native, count: u16, next: u16) -> bo
 // ---- a native method
 
 impl Runtime {
-    /// What a native method answers to these arguments. What it leaves is left where memory was enough, and else nothing is changed.
+    /// What a native method answers to these arguments. What it leaves is left where memory was
+    /// enough, and else nothing is changed.
     fn answer_native(&mut self, number: u16, args: &[Datum]) -> Native
         requires { IsSome (slice_get native_methods number) }
         ensures answer { IsAnswer result (native_answer self.old number args.now) }
@@ -172,7 +175,8 @@ impl Runtime {
         )
     }
 
-    /// Does a native method on these arguments, which the topmost operands are. False, with nothing changed, where the frame does not go on.
+    /// Does a native method on these arguments, which the topmost operands are. False, with nothing
+    /// changed, where the frame does not go on.
     fn pass_with(
         &mut self,
         frames: &mut Frames,
@@ -196,7 +200,8 @@ impl Runtime {
         pass_answer(frames, native_answer, native.count, next)
     }
 
-    /// Does a native method, where it raises nothing. False, with nothing changed, where anything but that the frame goes on would come.
+    /// Does a native method, where it raises nothing. False, with nothing changed, where anything
+    /// but that the frame goes on would come.
     pub fn pass_native(&mut self, frames: &mut Frames, native: NativeCall, next: u16) -> bool
         requires stands { IsSome (slice_get native_methods native.number) }
         requires within { native.count ≤ length (top_operands frames.old.frames) }

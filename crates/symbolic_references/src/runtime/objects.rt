@@ -1,4 +1,5 @@
-//! Exceptions that the machine makes, strings of constants, elements of arrays, and how far classes are initialized (JVM Specification
+//! Exceptions that the machine makes, strings of constants, elements of arrays, and how far classes
+//! are initialized (JVM Specification
 //! 2.10, 5.1, 5.5).
 
 ghost use Rattle.std.specs.Prelude.{◌≡◌, IfOk, None, OnOk, Some};
@@ -23,12 +24,14 @@ use heap_objects::{Datum, Heap, HeapError, Value};
 use jf_bytes::{NoMemory, Text16};
 use jvm_model::{Exception, Phase};
 
-/// Makes an exception of this kind without a message, with this cause, and gives its number. The class of each object stays loaded.
+/// Makes an exception of this kind without a message, with this cause, and gives its number. The
+/// class of each object stays loaded.
 #[tactic(auto, using(crate::proofs::ObjectLemmas::objects_with))]
 fn make(heap: &mut Heap, kind: u32, cause: u32) -> Result<u32, NoMemory>
     ensures heap { OnOk result (heap.new ≡ heap_made kind cause heap.old) }
     ensures number { IfOk result (λ r. r ≡ reference_made heap.old) }
-    ensures loaded { (l : LinkerView) → IsUsable l kind → AreLoaded l heap.old → AreLoaded l heap.new }
+    ensures loaded { (l : LinkerView) → IsUsable l kind → AreLoaded l heap.old
+        → AreLoaded l heap.new }
 {
     match heap.instance(kind, &[Datum::Ref(0), Datum::Ref(cause)]) {
         Ok(number) => Ok(number),
@@ -37,7 +40,8 @@ fn make(heap: &mut Heap, kind: u32, cause: u32) -> Result<u32, NoMemory>
     }
 }
 
-/// Makes the text of a message and then the exception. Where there is room for both nothing but memory can be wanting.
+/// Makes the text of a message and then the exception. Where there is room for both nothing but
+/// memory can be wanting.
 #[tactic(auto, using(crate::proofs::ObjectLemmas::objects_with))]
 fn make_both(heap: &mut Heap, string: u32, kind: u32, message: &[u16]) -> Result<u32, HeapError>
     ensures heap { OnOk result (heap.new ≡ with_both string kind message.now heap.old) }
@@ -67,8 +71,8 @@ fn make_with(heap: &mut Heap, string: u32, kind: u32, message: &[u16]) -> Result
 }
 
 impl Runtime {
-    /// Makes an exception that the machine raises, without a message and with this cause, and gives its number; object 1 where it does
-    /// not fit.
+    /// Makes an exception that the machine raises, without a message and with this cause, and gives
+    /// its number; object 1 where it does not fit.
     pub fn make_exception(&mut self, exception: Exception, cause: u32) -> Result<u32, NoMemory>
         ensures number { let name = exception_name exception in IfOk result (λ r. r
             ≡ (made_with self.old.world self.old.shared name None (Ref cause)).reference) }
@@ -117,7 +121,8 @@ impl Runtime {
         }
     }
 
-    /// Puts a value into an element of an array. False, with nothing changed, where there is no such element.
+    /// Puts a value into an element of an array. False, with nothing changed, where there is no
+    /// such element.
     #[inline(always)]
     pub fn store_at(&mut self, array: u32, slot: u32, value: Datum) -> bool
         ensures answer { result ≡ has_slot_at array slot self.old.shared.heap }

@@ -1,5 +1,5 @@
-//! Accesses of fields, and which methods are invoked, where it is known what their names came to. Accesses are done only where they raise
-//! nothing; else nothing is done.
+//! Accesses of fields, and which methods are invoked, where it is known what their names came to.
+//! Accesses are done only where they raise nothing; else nothing is done.
 
 ghost use Rattle.std.specs.Prelude.{◌≡◌, ◌≤◌, ℕ, List, drop, length, true, IfSome, Ok, Some};
 ghost use Rattle.const_pool.specs.References.{Reference};
@@ -155,7 +155,8 @@ impl Runtime {
         true
     }
 
-    /// An access of a field by what its names came to. False, with nothing changed, where anything but that the frame goes on would come.
+    /// An access of a field by what its names came to. False, with nothing changed, where anything
+    /// but that the frame goes on would come.
     #[tactic(auto, using(crate::proofs::Again::loads_none))]
     pub fn pass_field(
         &mut self,
@@ -165,7 +166,8 @@ impl Runtime {
         known: &Known,
     ) -> bool
         requires known { IsKnown (linker_in self.old) reference.now known.now }
-        ensures passed { let rule = attempts self.old.world reference.now self.old.shared frames.old in
+        ensures passed { let rule = attempts self.old.world reference.now self.old.shared frames.old
+            in
             IfPassed result (done_on rule frames.old) next frames.old self.old frames.new self.new }
         ensures loads { let n = reference.now in loads_nothing self.old.world.program
             self.old.shared.loaded n (top_operands frames.old.frames) ≡ true }
@@ -231,12 +233,14 @@ impl Runtime {
         }
     }
 
-    /// What a static method that was found is invoked on, where its class need not be initialized before.
+    /// What a static method that was found is invoked on, where its class need not be initialized
+    /// before.
     #[inline(always)]
     fn fixed_target(&self, frames: &Frames, method: &MethodName, m: Chosen) -> Option<Target>
         ensures target { (p : Program) (kind : ℕ) → IsFixed p kind method.now m
             → let o = top_operands frames.now.frames in
-            IfSome result (λ t. Ok (target_in o t) ≡ static_target p kind method.now self.now.shared o) }
+            IfSome result
+            (λ t. Ok (target_in o t) ≡ static_target p kind method.now self.now.shared o) }
         ensures within { IfSome result (λ t. t.count ≤ length (top_operands frames.now.frames)) }
         ensures selected { IfSome result (λ t. t.selected ≡ Some m) }
     {
@@ -275,13 +279,16 @@ impl Runtime {
         }
     }
 
-    /// What is selected for receivers of a kind, where it is kept. invokespecial selects the same for those of every kind.
+    /// What is selected for receivers of a kind, where it is kept. invokespecial selects the same
+    /// for those of every kind.
     #[inline(always)]
     #[tactic(auto, using(crate::proofs::SelectionLemmas::if_kept, crate::proofs::SelectionLemmas::special_kept))]
     fn kept_for(&self, by: Selecting<'_>, kind: u32, site: Site, last: u32) -> Option<Chosen>
         requires usable { IsUsable (linker_in self.now) last }
-        ensures { let p = self.now.world.program in let s = selecting_view by.entry in (r : Reference) →
-            IsSite p kind s r site → IfSome result (λ c. IsSite p kind s r (site_for site.method last c)) }
+        ensures { let p = self.now.world.program in let s = selecting_view by.entry in
+            (r : Reference) →
+            IsSite p kind s r site → IfSome result
+            (λ c. IsSite p kind s r (site_for site.method last c)) }
     {
         if last == site.last {
             return Some(site.chosen);
@@ -299,7 +306,8 @@ impl Runtime {
         }
     }
 
-    /// What is invoked of an instance method on the operands, where what is selected for the receiver is kept.
+    /// What is invoked of an instance method on the operands, where what is selected for the
+    /// receiver is kept.
     #[inline(always)]
     fn kept_target(
         &self,
@@ -311,7 +319,8 @@ impl Runtime {
     ) -> Option<Target>
         requires resolved { IsResolved (linker_in self.now) method.now.class kind }
         requires site { IsSite self.now.world.program kind (selecting_view by) method.now site }
-        ensures target { let o = top_operands frames.now.frames in let s = selecting_view by.entry in
+        ensures target { let o = top_operands frames.now.frames in
+            let s = selecting_view by.entry in
             IfSome result (λ t. Ok (target_in o t)
             ≡ instance_target self.now.world.program kind s method.now self.now.shared.heap o) }
         ensures within { IfSome result (λ t. t.count ≤ length (top_operands frames.now.frames)) }
@@ -351,7 +360,8 @@ impl Runtime {
         ensures { let w = self.now.world in
             let r = method.now in
             let rule = invokes_instance w kind (selecting_view by.entry) r self.now.shared in
-            IfSome result (λ c. IsInvoked w c (done_on rule frames.now) self.now.shared frames.now.frames) }
+            IfSome result
+            (λ c. IsInvoked w c (done_on rule frames.now) self.now.shared frames.now.frames) }
     {
         let Found::Selected(site) = known else {
             return None;
@@ -362,8 +372,9 @@ impl Runtime {
         }
     }
 
-    /// Which method an instruction invokes, by what its names came to and what was selected. None where it invokes none that is known by a
-    /// number, or anything else would come, or where an attempt would learn more.
+    /// Which method an instruction invokes, by what its names came to and what was selected. None
+    /// where it invokes none that is known by a number, or anything else would come, or where an
+    /// attempt would learn more.
     #[inline(always)]
     #[tactic(auto, using(crate::proofs::Again::loads_none))]
     pub fn known_call(

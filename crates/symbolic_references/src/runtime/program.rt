@@ -98,7 +98,8 @@ impl Runtime {
         self.tables.methods.get(method as usize)?.params.as_ref()
     }
 
-    /// The kind of the class of this built-in name, by its place. There is none past the last one, and native methods throw none.
+    /// The kind of the class of this built-in name, by its place. There is none past the last one,
+    /// and native methods throw none.
     fn built_in_kind(&self, place: u16) -> Result<u32, NoMemory>
         ensures kind { IfOk result
             (λ kind. kind ≡ exception_kind self.now.world.program (BuiltIn place)) }
@@ -112,7 +113,8 @@ impl Runtime {
         Ok(kind_named(self.linker.index(), name.as_slice()))
     }
 
-    /// The kind of the instances of an exception's class. That of one that a native method throws is found by its name.
+    /// The kind of the instances of an exception's class. That of one that a native method throws
+    /// is found by its name.
     pub fn kind_of(&self, exception: Exception) -> Result<u32, NoMemory>
         ensures kind { IfOk result
             (λ kind. kind ≡ exception_kind self.now.world.program exception) }

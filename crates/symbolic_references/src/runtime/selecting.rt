@@ -1,5 +1,5 @@
-//! What invocations come to before anything is changed (JVM Specification 5.4.3.3, 5.4.3.4, 5.4.6, 6.5): the method that is
-//! selected, and how many operands are its arguments.
+//! What invocations come to before anything is changed (JVM Specification 5.4.3.3, 5.4.3.4, 5.4.6,
+//! 6.5): the method that is selected, and how many operands are its arguments.
 
 ghost use Rattle.std.specs.Prelude.{◌≡◌, ◌≤◌, ℕ, false, true, length, IfOk, IfSome, Ok, Some};
 ghost use Rattle.std.specs.Bool.{beq};
@@ -68,7 +68,8 @@ impl Runtime {
         lower: u32,
         found: &mut Found,
     ) -> Option<Chosen>
-        requires named { method_found self.now.world.program kind (names_interface (selecting_view by))
+        requires named { method_found self.now.world.program kind
+            (names_interface (selecting_view by))
             false method.now ≡ Ok (at_place m) }
         requires below { is_below_kind self.now.world.program (Some lower) (Some kind) ≡ true }
         requires usable { IsUsable (linker_in self.now) lower }
@@ -97,7 +98,8 @@ impl Runtime {
         Some(chosen)
     }
 
-    /// The same where it is known for the objects of the last kind. invokespecial selects the same for those of every kind.
+    /// The same where it is known for the objects of the last kind. invokespecial selects the same
+    /// for those of every kind.
     #[inline(always)]
     fn select_again(
         &self,
@@ -129,7 +131,8 @@ impl Runtime {
         self.select_anew(by, method, kind, site.method, lower, found)
     }
 
-    /// What an instruction other than invokestatic comes to, where the method and a selection are known.
+    /// What an instruction other than invokestatic comes to, where the method and a selection are
+    /// known.
     #[inline(always)]
     fn known_target(
         &self,
@@ -146,7 +149,8 @@ impl Runtime {
         requires found { IsFoundAs found.old self.now.world.program kind
             (symbolic_reference_by (selecting_view by) method.now) }
         ensures target { let o = top_operands frames.now.frames in found_as (target_in o) result
-            ≡ instance_target self.now.world.program kind (selecting_view by.entry) method.now self.now.shared.heap o }
+            ≡ instance_target self.now.world.program kind (selecting_view by.entry) method.now
+            self.now.shared.heap o }
         ensures within { IfOk result (λ t. t.count ≤ length (top_operands frames.now.frames)) }
         ensures callee { IfOk result (λ t. IfSome t.selected (HasCallee self.now.world.program)) }
         ensures found { IsFoundAs found.new self.now.world.program kind
@@ -181,7 +185,8 @@ impl Runtime {
         requires found { IsFoundAs found.old self.now.world.program kind
             (symbolic_reference_by (selecting_view by) method.now) }
         ensures target { let o = top_operands frames.now.frames in found_as (target_in o) result
-            ≡ instance_target self.now.world.program kind (selecting_view by.entry) method.now self.now.shared.heap o }
+            ≡ instance_target self.now.world.program kind (selecting_view by.entry) method.now
+            self.now.shared.heap o }
         ensures within { IfOk result (λ t. t.count ≤ length (top_operands frames.now.frames)) }
         ensures callee { IfOk result (λ t. IfSome t.selected (HasCallee self.now.world.program)) }
         ensures found { IsFoundAs found.new self.now.world.program kind
@@ -204,8 +209,9 @@ impl Runtime {
         }
     }
 
-    /// What an instruction other than invokestatic comes to, where the class of the method's name was resolved to this kind. The
-    /// method that is found is kept, with what is selected for the receiver's kind.
+    /// What an instruction other than invokestatic comes to, where the class of the method's name
+    /// was resolved to this kind. The method that is found is kept, with what is selected for the
+    /// receiver's kind.
     #[tactic(auto, using(crate::proofs::KnownLemmas::of_site))]
     pub fn instance_target(
         &self,
@@ -220,7 +226,8 @@ impl Runtime {
         requires found { IsFoundAs found.old self.now.world.program kind
             (symbolic_reference_by (selecting_view by) method.now) }
         ensures target { let o = top_operands frames.now.frames in found_as (target_in o) result
-            ≡ instance_target self.now.world.program kind (selecting_view by.entry) method.now self.now.shared.heap o }
+            ≡ instance_target self.now.world.program kind (selecting_view by.entry) method.now
+            self.now.shared.heap o }
         ensures within { IfOk result (λ t. t.count ≤ length (top_operands frames.now.frames)) }
         ensures callee { IfOk result (λ t. IfSome t.selected (HasCallee self.now.world.program)) }
         ensures found { IsFoundAs found.new self.now.world.program kind
@@ -290,7 +297,8 @@ impl Runtime {
         }
     }
 
-    /// What invokestatic comes to, where the class of the method's name was resolved to this kind. The method that is found is kept.
+    /// What invokestatic comes to, where the class of the method's name was resolved to this kind.
+    /// The method that is found is kept.
     pub fn static_target(
         &self,
         frames: &Frames,

@@ -1,4 +1,5 @@
-//! getstatic and putstatic (JVM Specification 5.4.3.2, 5.5, 6.5), where the class of the field's name was resolved.
+//! getstatic and putstatic (JVM Specification 5.4.3.2, 5.5, 6.5), where the class of the field's
+//! name was resolved.
 
 ghost use Rattle.std.specs.Prelude.{◌≡◌, IfOk};
 ghost use Rattle.std.specs.Option.{option_map};
@@ -163,7 +164,8 @@ impl Runtime {
         set_static(self.alloc, &mut self.statics, field.class, position, datum);
     }
 
-    /// The topmost operand goes into a static field of this kind; its class is initialized, or is being.
+    /// The topmost operand goes into a static field of this kind; its class is initialized, or is
+    /// being.
     fn set_static_field(&mut self, frames: &Frames, field: DeclaredMember, kind: Kind) -> Outcome
         ensures answer { asked result frames.now ≡ ruled (λ l o. sets_static (at_place field)
             (held_of kind o) self.old.shared l o) frames.now }
