@@ -3,7 +3,7 @@ use Rattle.std.proofs.Common.{◌≡◌, ℕ, zero, suc, ◌+◌, ◌-◌, ◌<�
 use Rattle.std.specs.Prelude.{nat_le, slice_get, reverse}
 use Rattle.std.specs.Option.{option_and_then, option_map}
 use Rattle.std.proofs.lemmas.Bool.{cases_lt, le-leb}
-use Rattle.std.proofs.lemmas.List.{length-reverse, length-take, reverse-append}
+use Rattle.std.proofs.lemmas.List.{length-map, length-reverse, length-take, reverse-append}
 use Rattle.std.proofs.lemmas.Option.{same_Some, none-some}
 use Rattle.heap_objects.specs.declared.datum.Datum.{Datum}
 use Rattle.heap_objects.specs.declared.datum.Datum.TheVariants as datum
@@ -14,6 +14,7 @@ use Rattle.const_pool.specs.declared.descriptor.Kind.TheVariants as kind
 use Rattle.frame_stack.specs.Widths.{width, height_of, slots_of_all}
 use Rattle.jvm_model.specs.Basis.Data.{Operands}
 use Rattle.jvm_model.specs.Basis.Values.{as_value, datum_of, data_of, arguments_spread}
+use Rattle.symbolic_references.specs.Targets.{as_datum, data_in}
 use Rattle.symbolic_references.proofs.Arguments.{data_of-unequal}
 
 -- ---- values of their parameters' kinds
@@ -82,6 +83,13 @@ enough-data ks o args e =
     (cases_lt (length o) (length ks))
 
 -- ---- so many of the topmost operands
+
+pub length-data : (count : ℕ) (o : Operands) → count ≤ length o → length (data_in count o) ≡ count
+length-data count o enough =
+    let all : length (data_in count o) ≡ length (reverse (take count o)) = length-map (reverse (take count o)) as_datum in
+    let back : length (reverse (take count o)) ≡ length (take count o) = length-reverse (take count o) in
+    let len : length (take count o) ≡ min count (length o) = length-take count o in
+    omega (arith, all, back, len, enough)
 
 -- one more takes its own locals besides
 pub height-next : (vs : List Value) (i : ℕ) (v : Value) → slice_get vs i ≡ Some v → height_of (take (suc i) vs) ≡ height_of (take i vs) + width v

@@ -69,11 +69,11 @@ begins-all result o ms p class after found opened left start made loads delivere
     ∙ ap (λ k. begun_by p.runtime.world k found (state_of ms (record p { runtime = all }))) (main ∙ ap (λ (r : RuntimeView). main_class r.world.program) left-is))))
     begins
   where
-    open : RuntimeView
-    open = with_heap (with_arguments p.runtime.world.program p.runtime.shared.heap) p.runtime
+    opening : RuntimeView
+    opening = with_heap (with_arguments p.runtime.world.program p.runtime.shared.heap) p.runtime
 
     all : RuntimeView
-    all = with_loaded (load_of p.runtime.world.program p.runtime.shared.loaded (main_name p.runtime.world.program)).loaded open
+    all = with_loaded (load_of p.runtime.world.program p.runtime.shared.loaded (main_name p.runtime.world.program)).loaded opening
 
     left-is : left ≡ all
     left-is = loads ∙ ap (λ (r : RuntimeView). with_loaded (load_of r.world.program r.shared.loaded (main_name r.world.program)).loaded r) made

@@ -37,7 +37,7 @@ use Rattle.symbolic_references.specs.Attempts.{attempts, shared_loaded}
 use Rattle.symbolic_references.specs.Passing.{IsCall}
 use Rattle.symbolic_references.specs.Runtimes.{after}
 use Rattle.symbolic_references.specs.Targets.{data_in}
-use Rattle.symbolic_references.proofs.TargetLemmas.{length-data}
+use Rattle.interpreter.proofs.Instructions.Arguments.{length-data}
 use Rattle.prepared_code.specs.declared.line.Action.TheVariants as action
 use Rattle.prepared_code.specs.declared.line.Line.{Line}
 use Rattle.prepared_code.specs.declared.initializations.Initialization.{Initialization}

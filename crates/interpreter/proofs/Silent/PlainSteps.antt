@@ -19,7 +19,7 @@ use Rattle.prepared_code.specs.declared.parts.Parts.{Parts}
 use Rattle.interpreter.specs.Instructions.Acts.{acts_by, attempts_line, attempts_on, class_awaited, awaited_by, awaited_on}
 use Rattle.prepared_code.specs.Initializations.{initialization_on, state_of, with_initializations}
 use Rattle.prepared_code.specs.Runs.{IsAtInstruction, IsLineIn, IsPlainLine, LeadsPlainly, RunsVersion, top_version}
-use Rattle.prepared_code.specs.Tables.{Version, version_at}
+use Rattle.prepared_code.specs.Tables.{Version, Versions, version_at}
 use Rattle.prepared_code.specs.States.{active, frame_in, here_of, state_with}
 use Rattle.interpreter.proofs.Instructions.Alone.{goes-next}
 use Rattle.interpreter.proofs.Silent.Leading.{leads-one, quiet-one}

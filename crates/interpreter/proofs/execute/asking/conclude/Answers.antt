@@ -9,7 +9,7 @@ use Rattle.prepared_code.specs.States.{state_in}
 use Rattle.interpreter.specs.Instructions.Acts.{acts_asked, on_parts}
 use Rattle.interpreter.specs.Instructions.Asked.{TakesArguments}
 use Rattle.interpreter.proofs.Instructions.Concluded.{invokes-is}
-use Rattle.symbolic_references.proofs.TargetLemmas.{length-data}
+use Rattle.interpreter.proofs.Instructions.Arguments.{length-data}
 use Rattle.interpreter.proofs.execute.asking.conclude.Goals as goal
 
 pub returns-in-Goes-clause-state : goal.returns-in-Goes-clause-state
