@@ -1,7 +1,7 @@
-pub mod Positions
 pub mod LineFamilies
 pub mod Actions
 pub mod CellLemmas
+pub mod LinkedLemmas
 pub mod Tied
 pub mod Entries
 pub mod Dimensions

@@ -16,6 +16,7 @@ use jvm_model::Mark;
 use method_versions::{Held, Versions as Table};
 use std::alloc::Global;
 use std::marker::Model;
+use std::rc::Rc;
 
 /// An entry of an exception table (JVM Specification 2.10, 4.7.3), by places, with the name of the class that it catches.
 #[derive(Drop)]
@@ -147,14 +148,14 @@ pub fn has_lines(versions: &Versions, version: usize) -> bool
 /// The line at a place of a version that has its lines.
 #[inline(always)]
 pub fn line_there<'a>(
-    index: &Index,
+    index: &Rc<Index>,
     versions: &'a Versions,
     version: usize,
     place: u16,
 ) -> Option<&'a Line>
-    requires { HasItsLines index.now versions.now version }
+    requires { HasItsLines index.now.value versions.now version }
     ensures { option_copied result
-        ≡ line_at (with_lines index.now versions.now) version place }
+        ≡ line_at (with_lines index.now.value versions.now) version place }
 {
     line_at(versions, version, place)
 }

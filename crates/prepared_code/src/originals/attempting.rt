@@ -21,12 +21,11 @@ use crate::versions::line_there;
 use frame_stack::Frames;
 use jf_bytes::NoMemory;
 use std::alloc::Global;
-use std::mem;
-use symbolic_references::{AbruptCompletion, Invoked, Known, Outcome, Runtime};
+use symbolic_references::{AbruptCompletion, Known, Outcome, Runtime};
 
 /// Attempts a line that names something, and tells what its names came to; another one does nothing.
 #[inline(never)]
-#[tactic(auto, using(crate::proofs::CellLemmas::later_same, crate::proofs::CellLemmas::later_more))]
+#[tactic(auto, using(crate::proofs::Lines::CellLemmas::later_same, crate::proofs::Lines::CellLemmas::later_more))]
 fn attempt_line(
     runtime: &mut Runtime,
     line: &Line,
@@ -59,7 +58,7 @@ fn attempt_line(
 
 /// The same in two parts: where it loads classes nothing else is done, and None is the answer.
 #[inline(never)]
-#[tactic(auto, using(crate::proofs::CellLemmas::later_same, crate::proofs::CellLemmas::later_more))]
+#[tactic(auto, using(crate::proofs::Lines::CellLemmas::later_same, crate::proofs::Lines::CellLemmas::later_more))]
 fn attempt_line_loaded(
     runtime: &mut Runtime,
     line: &Line,
@@ -175,10 +174,10 @@ impl Originals {
         ensures linked { OnOk result (IsLinked self.new runtime.new) }
         ensures program { self.new.program ≡ self.old.program }
         ensures versions { self.new.versions ≡ self.old.versions }
+        ensures kept { self.new.kept ≡ self.old.kept }
         ensures world { runtime.new.world ≡ runtime.old.world }
     {
-        let index = self.index.as_ref();
-        let Some(line) = line_there(index, &self.versions, version, place) else {
+        let Some(line) = line_there(&self.index, &self.versions, version, place) else {
             return Ok(Outcome::Refused(AbruptCompletion::Breaks));
         };
         if let Some(before) = self.cells.get(version, place) {
@@ -226,10 +225,10 @@ impl Originals {
         ensures linked { OnOk result (IsLinked self.new runtime.new) }
         ensures program { self.new.program ≡ self.old.program }
         ensures versions { self.new.versions ≡ self.old.versions }
+        ensures kept { self.new.kept ≡ self.old.kept }
         ensures world { runtime.new.world ≡ runtime.old.world }
     {
-        let index = self.index.as_ref();
-        let Some(line) = line_there(index, &self.versions, version, place) else {
+        let Some(line) = line_there(&self.index, &self.versions, version, place) else {
             return Ok(None);
         };
         if let Some(before) = self.cells.get(version, place) {

@@ -24,7 +24,7 @@ pub add_all-requires : goal.add_all-requires
 add_all-requires c =
     let p : Program = c.self.inside.index.value in
     let made : c.in_ok-more.more ≡ class_versions p c.args.class c.args.image.now c.args.homes.now =
-    c.in_ok-more.ensures ∙ ap (λ (q : Program). class_versions q c.args.class c.args.image.now c.args.homes.now) c.program-program.ensures in
+    c.in_ok-more.ensures ∙ ap (λ (q : Program). class_versions q c.args.class c.args.image.now c.args.homes.now) (c.program-program.ensures.all ∙ c.as_ref.ensures) in
     subst (λ n. AreOfMethods n c.in_ok-more.more) (sym c.self.invariant.prepared.count)
     (subst (λ xs. AreOfMethods (length p.methods) xs) (sym made) (versions-below p c.args.class c.args.image.now c.args.homes.now))
 
@@ -32,7 +32,7 @@ pub invariant_of-self : goal.invariant_of-self
 invariant_of-self c =
     let p : Program = c.self.inside.index.value in
     let made : c.in_ok-more.more ≡ class_versions p c.args.class c.args.image.now c.args.homes.now =
-    c.in_ok-more.ensures ∙ ap (λ (q : Program). class_versions q c.args.class c.args.image.now c.args.homes.now) c.program-program.ensures in
+    c.in_ok-more.ensures ∙ ap (λ (q : Program). class_versions q c.args.class c.args.image.now c.args.homes.now) (c.program-program.ensures.all ∙ c.as_ref.ensures) in
     let was = c.self.invariant.prepared in
     let old = c.self.inside.versions in
     let new = c.add_all.new.self in
@@ -58,7 +58,7 @@ pub returns-clause-ok : goal.returns-clause-ok
 returns-clause-ok c =
     let p : Program = c.self.inside.index.value in
     let made : c.in_ok-more.more ≡ class_versions p c.args.class c.args.image.now c.args.homes.now =
-    c.in_ok-more.ensures ∙ ap (λ (q : Program). class_versions q c.args.class c.args.image.now c.args.homes.now) c.program-program.ensures in
+    c.in_ok-more.ensures ∙ ap (λ (q : Program). class_versions q c.args.class c.args.image.now c.args.homes.now) (c.program-program.ensures.all ∙ c.as_ref.ensures) in
     let old = c.self.inside.versions in
     let new = c.add_all.new.self in
     let fs = c.args.frames.now.frames in
@@ -79,7 +79,7 @@ pub returns-clause-set_up : goal.returns-clause-set_up
 returns-clause-set_up c world same =
     let p : Program = c.self.inside.index.value in
     let made : c.in_ok-more.more ≡ class_versions p c.args.class c.args.image.now c.args.homes.now =
-    c.in_ok-more.ensures ∙ ap (λ (q : Program). class_versions q c.args.class c.args.image.now c.args.homes.now) c.program-program.ensures in
+    c.in_ok-more.ensures ∙ ap (λ (q : Program). class_versions q c.args.class c.args.image.now c.args.homes.now) (c.program-program.ensures.all ∙ c.as_ref.ensures) in
     let fs = c.args.frames.now.frames in
     let old = c.self.inside.versions in
     let new = c.add_all.new.self in
@@ -98,7 +98,7 @@ pub returns-clause-stands : goal.returns-clause-stands
 returns-clause-stands c world same =
     let p : Program = c.self.inside.index.value in
     let made : c.in_ok-more.more ≡ class_versions p c.args.class c.args.image.now c.args.homes.now =
-    c.in_ok-more.ensures ∙ ap (λ (q : Program). class_versions q c.args.class c.args.image.now c.args.homes.now) c.program-program.ensures in
+    c.in_ok-more.ensures ∙ ap (λ (q : Program). class_versions q c.args.class c.args.image.now c.args.homes.now) (c.program-program.ensures.all ∙ c.as_ref.ensures) in
     let fs = c.args.frames.now.frames in
     let old = c.self.inside.versions in
     let new = c.add_all.new.self in

@@ -16,7 +16,7 @@ replace-requires c =
     let p : Program = c.self.inside.index.value in
     let x : Version = c.in-Some.held.now in
     let there : version_at c.self.inside.versions c.args.version ≡ Some x = sym c.version_at.ensures ∙ ap option_copied c.in-Some.is in
-    let is : c.in_ok-made.made ≡ original_version p x.method = c.in_ok-made.ensures ∙ ap (λ (q : Program). original_version q x.method) c.program.ensures in
+    let is : c.in_ok-made.made ≡ original_version p x.method = c.in_ok-made.ensures ∙ ap (λ (q : Program). original_version q x.method) (c.program.ensures.all ∙ c.as_ref.ensures) in
     ap (option_map (λ (y : Version). y.method)) there ∙ ap Some (sym (ap (λ (y : Version). y.method) is ∙ original-method p x.method))
 
 pub invariant_of-self : goal.invariant_of-self
@@ -27,7 +27,7 @@ invariant_of-self c =
     let new = c.replace.new.self in
     let y = c.in_ok-made.made in
     let there : version_at old c.args.version ≡ Some x = sym c.version_at.ensures ∙ ap option_copied c.in-Some.is in
-    let is : y ≡ original_version p x.method = c.in_ok-made.ensures ∙ ap (λ (q : Program). original_version q x.method) c.program.ensures in
+    let is : y ≡ original_version p x.method = c.in_ok-made.ensures ∙ ap (λ (q : Program). original_version q x.method) (c.program.ensures.all ∙ c.as_ref.ensures) in
     let same : with_lines p new ≡ with_lines p old = replaced-same p c.args.version x y old new there c.if-held.false is c.replace.ensures in
     record {
       prepared = subst (λ (v : Versions). IsPrepared p v) (sym same) c.self.invariant.prepared;
@@ -42,7 +42,7 @@ returns-clause-versions c =
     let new = c.replace.new.self in
     let y = c.in_ok-made.made in
     let there : version_at old c.args.version ≡ Some x = sym c.version_at.ensures ∙ ap option_copied c.in-Some.is in
-    let is : y ≡ original_version p x.method = c.in_ok-made.ensures ∙ ap (λ (q : Program). original_version q x.method) c.program.ensures in
+    let is : y ≡ original_version p x.method = c.in_ok-made.ensures ∙ ap (λ (q : Program). original_version q x.method) (c.program.ensures.all ∙ c.as_ref.ensures) in
     replaced-same p c.args.version x y old new there c.if-held.false is c.replace.ensures ∙ ap (λ (o : Linked). o.versions) c.self.view_is
 
 pub returns-clause-linked : goal.returns-clause-linked
@@ -53,7 +53,7 @@ returns-clause-linked c r is =
     let new = c.replace.new.self in
     let y = c.in_ok-made.made in
     let there : version_at old c.args.version ≡ Some x = sym c.version_at.ensures ∙ ap option_copied c.in-Some.is in
-    let made : y ≡ original_version p x.method = c.in_ok-made.ensures ∙ ap (λ (q : Program). original_version q x.method) c.program.ensures in
+    let made : y ≡ original_version p x.method = c.in_ok-made.ensures ∙ ap (λ (q : Program). original_version q x.method) (c.program.ensures.all ∙ c.as_ref.ensures) in
     record {
       program = is.program ∙ sym (ap (λ (o : Linked). o.program) c.self.view_is);
       known = subst (λ (v : Versions). AreKnown (linker_in r) v c.self.inside.cells) (sym (replaced-same p c.args.version x y old new there c.if-held.false made c.replace.ensures))

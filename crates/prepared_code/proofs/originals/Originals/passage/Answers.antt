@@ -19,6 +19,6 @@ pub passage_in-requires-2 : goal.passage_in-requires-2
 passage_in-requires-2 c =
     let p : Program = c.self.inside.index.value in
     let x : Version = c.in-Some.held.now in
-    let is : c.in_ok-made.made ≡ original_version p x.method = c.in_ok-made.ensures ∙ ap (λ (q : Program). original_version q x.method) c.program.ensures in
+    let is : c.in_ok-made.made ≡ original_version p x.method = c.in_ok-made.ensures ∙ ap (λ (q : Program). original_version q x.method) (c.program.ensures.all ∙ c.as_ref.ensures) in
     are-prepared p c.self.inside.versions c.self.invariant.prepared.lines c.args.version c.in_ok-made.made
     (original-made p c.self.inside.versions c.args.version x (sym c.version_at.ensures ∙ ap option_copied c.in-Some.is) c.if-held.false ∙ ap Some (sym is))
