@@ -9,7 +9,7 @@ use Rattle.prepared_code.specs.declared.passage.Passage.{Passage}
 use Rattle.prepared_code.specs.declared.versions.Catching.{Catching}
 use Rattle.prepared_code.specs.Entries.{original_version, own_number}
 use Rattle.prepared_code.specs.Tables.{Version, Versions, version_at}
-use Rattle.prepared_code.specs.Versions.{line_at, line_in, next_in}
+use Rattle.prepared_code.specs.Versions.{line_at, next_in}
 
 -- ---- versions without lines
 

@@ -9,7 +9,8 @@ use std::alloc::Global;
 use std::marker::Model;
 use symbolic_references::Known;
 
-/// What is known of the names of lines. A row is made when the first line of its version is attempted.
+/// What is known of the names of lines. A row is made when the first line of its version is
+/// attempted.
 #[derive(Drop)]
 pub struct Cells {
     rows: Vec<Seq<Option<Known>>>,

@@ -1,10 +1,10 @@
 //! The versions of a class's methods for an image of the class.
 
-ghost use Rattle.std.specs.Prelude.{◌≡◌, ◌<◌, ◌^◌, ◌++◌, length, slice_get, IfOk, OnOk};
-ghost use Rattle.std.specs.Option.{option_and_then, option_copied, option_flatten, IfSome};
+ghost use Rattle.std.specs.Prelude.{◌≡◌, ◌<◌, ◌^◌, ◌++◌, length, IfOk, OnOk};
+ghost use Rattle.std.specs.Option.{option_copied, IfSome};
 ghost use Rattle.jvm_model.specs.Basis.Methods.{code_of, method_code};
 ghost use Rattle.symbolic_references.specs.Numbers.{AreNumbers};
-ghost use Rattle.prepared_code.specs.ClassVersions.{AreRising, FitsImage, class_version, class_versions};
+ghost use Rattle.prepared_code.specs.ClassVersions.{FitsImage, class_version, class_versions};
 ghost use Rattle.prepared_code.specs.ClassVersions.{alone, homes_at, member_version};
 ghost use Rattle.prepared_code.specs.ClassVersions.{versions_from};
 ghost use Rattle.prepared_code.specs.Prepared.{FitsOriginals, HasShortCodes};

@@ -9,8 +9,8 @@ use const_pool::{DescriptorError, Shape, parse_method};
 use jf_bytes::{NoMemory, Text16};
 use std::alloc::Global;
 
-/// The shape that a method descriptor spells, and none for another text: what is read of a text is what the grammar of
-/// descriptors says of it.
+/// The shape that a method descriptor spells, and none for another text: what is read of a text is
+/// what the grammar of descriptors says of it.
 pub fn shape_of(alloc: Global, descriptor: &Text16) -> Result<Option<Shape>, NoMemory>
     ensures shape { IfOk result (λ shape. shape ≡ shape_of descriptor.now) }
     ensures grammar { (s : TheShape) →

@@ -31,7 +31,8 @@ pub fn initialization_on(initializing: &Stack<Initialization>, depth: u32) -> Op
     }
 }
 
-/// Puts the initialization of a class on the current frame: this part of its initialization is done next.
+/// Puts the initialization of a class on the current frame: this part of its initialization is done
+/// next.
 pub fn put_initialization(
     parts: &Parts,
     initializing: &mut Stack<Initialization>,

@@ -1,5 +1,6 @@
-//! The code of a program as it is run: the versions of its methods by their lines, with what their names came to, in one table beside
-//! the linker; and the parts that a machine has, of which a step makes the next ones (JVM Specification 2.5, 2.6, 4.7.3).
+//! The code of a program as it is run: the versions of its methods by their lines, with what their
+//! names came to, in one table beside the linker; and the parts that a machine has, of which a step
+//! makes the next ones (JVM Specification 2.5, 2.6, 4.7.3).
 #![tactic(auto)]
 
 mod cells;

@@ -30,8 +30,9 @@ pub enum Action {
     LdcString(Text16),
 }
 
-/// An instruction with its offset, its family, the number that an ldc pushes, the offset behind it, and what it does; and the
-/// same as it is run, which stands first, so that a step reads little of the rest.
+/// An instruction with its offset, its family, the number that an ldc pushes, the offset behind it,
+/// and what it does; and the same as it is run, which stands first, so that a step reads little of
+/// the rest.
 #[derive(Drop)]
 pub struct Line {
     pub hot: Hot,

@@ -1,4 +1,5 @@
-//! Loading classes of a program by their positions, and the built-in ones before the start (JVM Specification 5.3).
+//! Loading classes of a program by their positions, and the built-in ones before the start (JVM
+//! Specification 5.3).
 
 ghost use Rattle.std.specs.Prelude.{◌≡◌, ◌<◌, ◌^◌, [], false, length, unwrap_or, IfOk, OnOk};
 ghost use Rattle.std.specs.Option.{option_map_or};

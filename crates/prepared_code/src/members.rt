@@ -1,4 +1,5 @@
-//! What the indices of a class's pool and its methods' names and descriptors say (JVM Specification 4.4, 4.6, 5.4.3).
+//! What the indices of a class's pool and its methods' names and descriptors say (JVM Specification
+//! 4.4, 4.6, 5.4.3).
 
 ghost use Rattle.std.specs.Prelude.{◌≡◌, ◌<◌, length, IfSome};
 ghost use Rattle.std.specs.Option.{option_copied, option_map};

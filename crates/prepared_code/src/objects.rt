@@ -1,15 +1,15 @@
-//! Objects that the machine makes and their classes (JVM Specification 2.10, 5.2), by the numbers of kinds.
+//! Objects that the machine makes and their classes (JVM Specification 2.10, 5.2), by the numbers
+//! of kinds.
 
-ghost use Rattle.std.specs.Prelude.{◌≡◌, ◌<◌, ◌≤◌, ◌+◌, ◌^◌, ◌==◌, false, length, nat_le};
+ghost use Rattle.std.specs.Prelude.{◌≡◌, ◌<◌, ◌≤◌, ◌+◌, ◌^◌, length, nat_le};
 ghost use Rattle.std.specs.Prelude.{IfOk, OnOk, unwrap_or};
 ghost use Rattle.heap_objects.specs.Heaps.{with_instance};
 ghost use Rattle.jvm_model.specs.Basis.Programs.{class_named};
-ghost use Rattle.jvm_model.specs.Basis.SharedState.{arguments_cost, arguments_fit, texts_cost};
+ghost use Rattle.jvm_model.specs.Basis.SharedState.{arguments_fit, texts_cost};
 ghost use Rattle.jvm_model.specs.Basis.SharedState.{heap_before, kind_for};
-ghost use Rattle.jvm_model.specs.Basis.SharedState.{with_arguments, with_text_in, with_texts};
 
 use crate::lookup::class_of_bytes;
-use class_index::{FIRST_ARRAY, base_of_class};
+use class_index::base_of_class;
 use heap_objects::{Datum, Heap};
 use jf_bytes::{NoMemory, Text16};
 use jvm_model::Program;
@@ -47,7 +47,8 @@ fn make(heap: &mut Heap, kind: u32, fields: &[Datum]) -> Result<(), NoMemory>
     }
 }
 
-/// Objects 1 to 4: the OutOfMemoryError that the machine throws, System.in, System.out and System.err.
+/// Objects 1 to 4: the OutOfMemoryError that the machine throws, System.in, System.out and
+/// System.err.
 pub fn heap_before(alloc: Global, program: &Program) -> Result<Heap, NoMemory>
     requires few { length program.now.classes < 2 ^ 24 }
     requires room { 1024 ≤ program.now.heap }

@@ -1,9 +1,9 @@
 //! The original code of a program, prepared: what stands at each offset is looked up once, and is
 //! found by its offset from then on.
 
-ghost use Rattle.std.specs.Prelude.{ℕ, [], ◌≡◌, ◌≢◌, Some, ◌<◌, ◌^◌, ◌++◌, length, slice_get, is_some, false, true};
+ghost use Rattle.std.specs.Prelude.{ℕ, [], ◌≡◌, ◌≢◌, Some, ◌<◌, ◌^◌, length, false, true};
 ghost use Rattle.std.specs.Prelude.{IfOk, OnErr, OnOk};
-ghost use Rattle.std.specs.Option.{option_and_then, option_copied, option_map, IfSome};
+ghost use Rattle.std.specs.Option.{option_copied, option_map, IfSome};
 ghost use Rattle.jvm_model.specs.Basis.Families.{family_of};
 ghost use Rattle.symbolic_references.specs.Numbers.{AreNumbers};
 ghost use Rattle.symbolic_references.specs.Runtimes.{RuntimeView};
@@ -47,9 +47,10 @@ use std::marker::Model;
 use std::rc::Rc;
 use symbolic_references::{Known, MethodNumbers};
 
-/// A program with the versions of its methods and what the names of its lines came to. The lines of a method's original code are made
-/// when it is first run; a clause sees the versions with all their lines, those that are kept beside them, and what is kept of names.
-/// The program is the runtime's too.
+/// A program with the versions of its methods and what the names of its lines came to. The lines of
+/// a method's original code are made when it is first run; a clause sees the versions with all
+/// their lines, those that are kept beside them, and what is kept of names. The program is the
+/// runtime's too.
 #[derive(Drop)]
 pub struct Originals {
     index: Rc<Index>,
@@ -128,8 +129,8 @@ impl Originals {
         line_at(&self.versions, version, place)
     }
 
-    /// Where the instruction at a place of a version stands, and where control goes on behind it. Lines that are still to be made are
-    /// made for it.
+    /// Where the instruction at a place of a version stands, and where control goes on behind it.
+    /// Lines that are still to be made are made for it.
     pub fn passage(
         &self,
         alloc: Global,
@@ -228,8 +229,9 @@ impl Originals {
 
     // ---- versions
 
-    /// Adds the versions of a class's methods for an image of the class, in which they begin from then on: where homes tell of
-    /// a method the version that it has in the image, with the probes that stand there, else its original code. Frames keep the versions that they run; a former
+    /// Adds the versions of a class's methods for an image of the class, in which they begin from
+    /// then on: where homes tell of a method the version that it has in the image, with the probes
+    /// that stand there, else its original code. Frames keep the versions that they run; a former
     /// version that none runs is dropped. After want of memory nothing has changed.
     pub fn install(
         &mut self,

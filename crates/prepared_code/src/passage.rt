@@ -42,7 +42,8 @@ pub fn next_in(line: &Line) -> Option<u16>
     }
 }
 
-/// The offset of an instruction in the original code, and the place at which control goes on behind it, where it does.
+/// The offset of an instruction in the original code, and the place at which control goes on behind
+/// it, where it does.
 #[derive(Clone, Copy, Debug, PartialEq, Eq)]
 pub struct Passage {
     pub own: u16,

@@ -1,6 +1,6 @@
 //! Preparing the methods of a program: what is kept of each.
 
-ghost use Rattle.std.specs.Prelude.{◌≡◌, ◌<◌, ◌^◌, length, map, unwrap_or, IfOk};
+ghost use Rattle.std.specs.Prelude.{◌≡◌, ◌<◌, ◌^◌, length, map, IfOk};
 ghost use Rattle.jvm_model.specs.Basis.SharedState.{kind_for, string};
 ghost use Rattle.jvm_model.specs.declared.exception.Exception.{Exception as TheException};
 ghost use Rattle.prepared_code.specs.Entries.{code_line, lines_of, params_of};

@@ -1,9 +1,8 @@
 //! The version that a method's rewritten code is.
 
-ghost use Rattle.std.specs.Prelude.{◌≡◌, ◌<◌, ◌^◌, ◌-◌, length, map, take, IfOk};
+ghost use Rattle.std.specs.Prelude.{◌≡◌, ◌<◌, ◌^◌, length, IfOk};
 ghost use Rattle.std.specs.List.Sorted.{IsStrictlyIncreasing};
 ghost use Rattle.code_model.specs.Layout.{found_beside};
-ghost use Rattle.prepared_code.specs.Entries.{catching_of};
 ghost use Rattle.prepared_code.specs.Rewritten.{homed_line, homed_lines, line_for, own_handlers, own_line, placed_line};
 ghost use Rattle.prepared_code.specs.Rewritten.{rewritten_version};
 

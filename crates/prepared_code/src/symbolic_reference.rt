@@ -1,4 +1,5 @@
-//! Instructions with the names that they give, as lines keep them (JVM Specification 4.4, 6.5): the texts are copied once.
+//! Instructions with the names that they give, as lines keep them (JVM Specification 4.4, 6.5): the
+//! texts are copied once.
 
 ghost use Rattle.std.specs.Prelude.{◌≡◌, IfOk};
 ghost use Rattle.std.specs.Option.{option_and_then, option_map};

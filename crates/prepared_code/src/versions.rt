@@ -1,7 +1,7 @@
-//! The code that is run, prepared: versions of methods, each with what stands at its places, and the version that each method
-//! begins in.
+//! The code that is run, prepared: versions of methods, each with what stands at its places, and
+//! the version that each method begins in.
 
-ghost use Rattle.std.specs.Prelude.{◌≡◌, ◌≤◌, ℕ, false, length, true, IfSome, OnErr, OnOk, Some};
+ghost use Rattle.std.specs.Prelude.{◌≡◌, ◌≤◌, false, length, true, OnErr, OnOk, Some};
 ghost use Rattle.std.specs.Option.{option_copied};
 ghost use Rattle.method_versions.specs.Tables.{IsFirst, is_superseded_in, method_in};
 ghost use Rattle.prepared_code.specs.Making.{HasItsLines, IsReplaced, has_lines, with_lines};
@@ -18,7 +18,8 @@ use std::alloc::Global;
 use std::marker::Model;
 use std::rc::Rc;
 
-/// An entry of an exception table (JVM Specification 2.10, 4.7.3), by places, with the name of the class that it catches.
+/// An entry of an exception table (JVM Specification 2.10, 4.7.3), by places, with the name of the
+/// class that it catches.
 #[derive(Drop)]
 pub struct Catching {
     pub start: u16,
@@ -27,8 +28,8 @@ pub struct Catching {
     pub catches: Option<Text16>,
 }
 
-/// The code of a version: whose probes stand in it, where it begins, the line at each of its places, and its handlers. Where its
-/// lines are still to be made it has none.
+/// The code of a version: whose probes stand in it, where it begins, the line at each of its
+/// places, and its handlers. Where its lines are still to be made it has none.
 #[derive(Drop)]
 pub struct PreparedCode {
     pub has_lines: bool,
@@ -41,7 +42,8 @@ pub struct PreparedCode {
 /// A version of a method.
 pub type Version = Held<PreparedCode>;
 
-/// The versions of a program's methods by their numbers, and for each method the one that it begins in.
+/// The versions of a program's methods by their numbers, and for each method the one that it begins
+/// in.
 #[derive(Drop)]
 pub struct Versions {
     table: Table<PreparedCode>,
@@ -68,8 +70,8 @@ impl Versions {
         }
     }
 
-    /// Adds versions, in which their methods begin from then on. The former ones are dropped where no frame runs them. An `Err`
-    /// changes nothing.
+    /// Adds versions, in which their methods begin from then on. The former ones are dropped where
+    /// no frame runs them. An `Err` changes nothing.
     pub fn add_all(&mut self, more: Seq<Version>, frames: &Frames) -> Result<(), NoMemory>
         requires { AreOfMethods (length self.old.current) more }
         ensures ok { OnOk result (Adds frames.now.frames more self.old self.new) }

@@ -1,5 +1,5 @@
 -- Methods that are prepared one by one give what the definitions look up there.
-use Rattle.std.proofs.Common.{◌≡◌, ℕ, ◌<◌, List, length, Option, Some, None, refl, ap, subst, sym, ◌∙◌}
+use Rattle.std.proofs.Common.{◌≡◌, ℕ, ◌<◌, length, Option, Some, None, refl, ap, subst, sym, ◌∙◌}
 use Rattle.std.specs.Prelude.{◌^◌, map, slice_get}
 use Rattle.std.specs.Option.{option_map, option_map_or, option_and_then}
 use Rattle.std.proofs.lemmas.List.FromFn.{length-map-range_with_len}

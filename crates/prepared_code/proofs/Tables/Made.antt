@@ -1,17 +1,16 @@
 -- Versions that are kept without their lines, seen with the lines that they are to have.
-use Rattle.std.proofs.Common.{◌≡◌, ◌≢◌, ◌<◌, ◌≤◌, ℕ, zero, suc, Bool, true, false, List, [], ◌∷◌, length, Option, Some, None, refl, sym, ap, subst, ◌∙◌}
+use Rattle.std.proofs.Common.{◌≡◌, ◌≢◌, ◌≤◌, ℕ, zero, suc, Bool, true, false, List, [], ◌∷◌, length, Option, Some, None, refl, sym, ap, subst, ◌∙◌}
 use Rattle.std.specs.Prelude.{◌==◌, ◌&&◌, map, slice_get, slice_index_or, if◌then◌else◌}
 use Rattle.std.specs.Borrow.{Bor}
 use Rattle.std.specs.List.{AllByRecursion, range_with_len}
 use Rattle.std.specs.Option.{IfSome, option_and_then, option_copied, option_map, option_map_or}
 use Rattle.std.proofs.lemmas.Bool.{eq-eqb, eqb-true}
 use Rattle.std.proofs.lemmas.List.{ext_get_or, length-map}
-use Rattle.std.proofs.lemmas.Option.{none-some, same_Some}
+use Rattle.std.proofs.lemmas.Option.{none-some}
 use Rattle.const_pool.specs.declared.class.ClassFile.{ClassFile}
 use Rattle.const_pool.specs.declared.class.Member.{Member}
 use Rattle.frame_stack.specs.FrameLists.{PlacedFrame, pins_of}
-use Rattle.method_versions.specs.Tables.{IsFirst, current_in, held_besides, held_in, is_number, is_old, is_superseded_in, method_in}
-use Rattle.jvm_model.specs.declared.event.Mark.{Mark}
+use Rattle.method_versions.specs.Tables.{IsFirst, current_in, held_besides, is_number, is_old, is_superseded_in, method_in}
 use Rattle.jvm_model.specs.declared.event.Mark.TheVariants.{Off}
 use Rattle.jvm_model.specs.declared.program.MethodPlace.{MethodPlace}
 use Rattle.jvm_model.specs.declared.program.Program.{Program}
@@ -19,7 +18,7 @@ use Rattle.jvm_model.specs.Basis.Programs.{class_at}
 use Rattle.prepared_code.specs.declared.line.Line.{Line}
 use Rattle.prepared_code.specs.declared.versions.Catching.{Catching}
 use Rattle.prepared_code.specs.Entries.{no_version, original_slot, original_version, original_versions, own_number, version_entry, version_in, version_of}
-use Rattle.prepared_code.specs.Making.{AreBare, HasItsLines, IsBare, IsReplaced, bare_slot, bare_version, bare_versions, has_lines, made_by, with_lines, without_lines}
+use Rattle.prepared_code.specs.Making.{AreBare, HasItsLines, IsBare, IsReplaced, bare_slot, bare_version, bare_versions, has_lines, made_by, with_lines}
 use Rattle.prepared_code.specs.Tables.{Adds, IsAdded, Releases, Version, Versions, version_at}
 use Rattle.jvm_model.specs.Basis.Families.{family_of}
 use Rattle.prepared_code.specs.Versions.{ArePrepared, HasLines, IsPrepared, first_of, line_at, line_in, mark_of}

@@ -1,6 +1,7 @@
-//! Attempts of lines that name something, by what their names came to before (JVM Specification 5.4.3).
+//! Attempts of lines that name something, by what their names came to before (JVM Specification
+//! 5.4.3).
 
-ghost use Rattle.std.specs.Prelude.{ℕ, ◌≡◌, is_some, true, IfNone, IfOk, OnOk};
+ghost use Rattle.std.specs.Prelude.{◌≡◌, is_some, true, IfNone, IfOk, OnOk};
 ghost use Rattle.std.specs.Option.{IfSome};
 ghost use Rattle.frame_stack.specs.FrameLists.{top_operands};
 ghost use Rattle.symbolic_references.specs.Answers.{done_on};
@@ -14,7 +15,6 @@ ghost use Rattle.prepared_code.specs.Lines.{IfNamed, IfNamedBy};
 ghost use Rattle.prepared_code.specs.Linked.{IsLinked, IsReady};
 ghost use Rattle.prepared_code.specs.Versions.{line_at};
 
-use crate::cells::Cells;
 use crate::line::{Action, Line};
 use crate::originals::Originals;
 use crate::versions::line_there;
@@ -23,7 +23,8 @@ use jf_bytes::NoMemory;
 use std::alloc::Global;
 use symbolic_references::{AbruptCompletion, Known, Outcome, Runtime};
 
-/// Attempts a line that names something, and tells what its names came to; another one does nothing.
+/// Attempts a line that names something, and tells what its names came to; another one does
+/// nothing.
 #[inline(never)]
 #[tactic(auto, using(crate::proofs::Lines::CellLemmas::later_same, crate::proofs::Lines::CellLemmas::later_more))]
 fn attempt_line(
@@ -96,7 +97,8 @@ fn attempt_line_loaded(
     }
 }
 
-/// Attempts a line of whose names it is known what they come to; one that names nothing does nothing.
+/// Attempts a line of whose names it is known what they come to; one that names nothing does
+/// nothing.
 fn attempt_line_known(
     runtime: &mut Runtime,
     line: &Line,
@@ -150,8 +152,8 @@ fn keep_selected(runtime: &mut Runtime, line: &Line, before: Known, known: Known
 }
 
 impl Originals {
-    /// Attempts the line at a place of a version, where it names something. Where it doesn't nothing is done. Nothing is done to the
-    /// frame.
+    /// Attempts the line at a place of a version, where it names something. Where it doesn't
+    /// nothing is done. Nothing is done to the frame.
     pub fn attempt_named(
         &mut self,
         alloc: Global,

@@ -1,4 +1,5 @@
-//! What is made of a prepared program before its start, and the load of its main class (JVM Specification 5.2, 5.3).
+//! What is made of a prepared program before its start, and the load of its main class (JVM
+//! Specification 5.2, 5.3).
 
 ghost use Rattle.std.specs.Prelude.{◌≡◌, IfOk, OnOk};
 ghost use Rattle.jvm_model.specs.Basis.SharedState.{built_in_from};
@@ -37,8 +38,8 @@ impl Originals {
         tables_of(alloc, self.index.as_ref().program())
     }
 
-    /// Loads the main class by its name, with what it needs, and gives its kind, or what its fault raises. What was loaded before a
-    /// fault stays loaded.
+    /// Loads the main class by its name, with what it needs, and gives its kind, or what its fault
+    /// raises. What was loaded before a fault stays loaded.
     pub fn load_main(
         &self,
         alloc: Global,

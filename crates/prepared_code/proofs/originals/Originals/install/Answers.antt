@@ -7,7 +7,7 @@ use Rattle.std.proofs.Common.{ℕ}
 use Rattle.symbolic_references.specs.Runtimes.{linker_in}
 use Rattle.prepared_code.specs.ClassVersions.{class_versions}
 use Rattle.prepared_code.specs.Kept.{AreKnown}
-use Rattle.prepared_code.specs.Linked.{IsLinked, Linked}
+use Rattle.prepared_code.specs.Linked.{Linked}
 use Rattle.prepared_code.specs.Making.{AreBare, with_lines}
 use Rattle.prepared_code.specs.Prepared.{IsPrepared}
 use Rattle.prepared_code.specs.Standing.{AreMethodImages, IsPinned, IsRunOf, IsSetUp}

@@ -1,8 +1,6 @@
-use Rattle.std.proofs.Common.{sym, subst}
 use Rattle.std.proofs.lemmas.Result.{on_ok_weaker}
 use Rattle.std.specs.Prelude.{drop, length}
 use Rattle.symbolic_references.specs.Runtimes.{linker_in}
-use Rattle.prepared_code.specs.Linked.{IsLinked, Linked}
 use Rattle.prepared_code.proofs.Lines.CellLemmas.{later_more}
 use Rattle.prepared_code.proofs.Lines.LinkedLemmas.{linked-later}
 use Rattle.prepared_code.proofs.originals.Originals.load_main.Goals as goal

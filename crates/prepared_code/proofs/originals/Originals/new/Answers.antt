@@ -1,6 +1,5 @@
 use Rattle.std.proofs.Common.{◌≡◌, ◌<◌, ◌≤◌, ◌^◌, length, subst, sym, ap, ◌∙◌, arith}
 use Rattle.jvm_model.specs.declared.program.Program.{Program}
-use Rattle.prepared_code.specs.Entries.{original_versions}
 use Rattle.prepared_code.specs.Making.{AreBare, bare_versions, with_lines}
 use Rattle.prepared_code.specs.Versions.{Setup}
 use Rattle.prepared_code.proofs.Tables.Made.{first-bare, first-versions}

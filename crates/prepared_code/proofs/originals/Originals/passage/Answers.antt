@@ -1,11 +1,8 @@
-use Rattle.std.proofs.Common.{◌≡◌, Some, sym, subst, ap, ◌∙◌}
-use Rattle.std.specs.Option.{option_and_then, option_copied, option_map}
+use Rattle.std.proofs.Common.{◌≡◌, Some, sym, ap, ◌∙◌}
+use Rattle.std.specs.Option.{option_copied}
 use Rattle.jvm_model.specs.declared.program.Program.{Program}
 use Rattle.prepared_code.specs.Entries.{original_version}
-use Rattle.prepared_code.specs.Linked.{Linked}
-use Rattle.prepared_code.specs.Making.{passage_of, with_lines}
 use Rattle.prepared_code.specs.Tables.{Version, version_at}
-use Rattle.prepared_code.specs.Versions.{line_at, line_in}
 use Rattle.prepared_code.proofs.Tables.Made.{are-prepared, original-made, version-made}
 use Rattle.prepared_code.proofs.originals.Originals.passage.Goals as goal
 

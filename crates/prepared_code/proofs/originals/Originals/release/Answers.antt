@@ -4,7 +4,7 @@ use Rattle.symbolic_references.specs.Runtimes.{linker_in}
 use Rattle.prepared_code.specs.Kept.{AreKnown}
 use Rattle.prepared_code.specs.Linked.{Linked}
 use Rattle.prepared_code.specs.Making.{with_lines}
-use Rattle.prepared_code.specs.Tables.{AreAllCurrent, Releases, Versions}
+use Rattle.prepared_code.specs.Tables.{AreAllCurrent, Releases}
 use Rattle.prepared_code.proofs.Tables.Added.{has-lines-left}
 use Rattle.prepared_code.proofs.Lines.CellLemmas.{known-left}
 use Rattle.prepared_code.proofs.Tables.Made.{bare-released, releases-made, superseded-made}

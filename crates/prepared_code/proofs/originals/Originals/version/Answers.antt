@@ -1,7 +1,6 @@
 use Rattle.std.proofs.Common.{◌≡◌, Some, sym, subst, ap, ◌∙◌}
 use Rattle.std.specs.Option.{option_copied}
 use Rattle.prepared_code.specs.Linked.{Linked}
-use Rattle.prepared_code.specs.Making.{with_lines}
 use Rattle.prepared_code.specs.Tables.{Version, version_at}
 use Rattle.prepared_code.proofs.Tables.Made.{are-prepared, version-made}
 use Rattle.prepared_code.proofs.originals.Originals.version.Goals as goal
