@@ -26,7 +26,7 @@ use symbolic_references::{AbruptCompletion, Known, Outcome, Runtime};
 /// Attempts a line that names something, and tells what its names came to; another one does
 /// nothing.
 #[inline(never)]
-#[tactic(auto, using(crate::proofs::Lines::CellLemmas::later_same, crate::proofs::Lines::CellLemmas::later_more))]
+#[tactic(auto, using(crate::proofs::Lines::CellLemmas::later_same))]
 fn attempt_line(
     runtime: &mut Runtime,
     line: &Line,
