@@ -15,8 +15,8 @@ use Rattle.jvm_machine.proofs.Versions.HeldVersions.{plain-view, tidy-current}
 use Rattle.jvm_machine.proofs.States.Fresh.{fresh-machine, fresh-seen}
 use Rattle.jvm_machine.proofs.machine.Vm.new.Goals as goal
 
-pub new-3-requires : goal.new-3-requires
-new-3-requires c = subst FitsOriginals (sym (c.in_ok-shared.ensures.ok ∙ c.in_ok-index.ensures)) c.requires.fits
+pub new-requires-3 : goal.new-requires-3
+new-requires-3 c = subst FitsOriginals (sym (c.in_ok-shared.ensures.ok ∙ c.in_ok-index.ensures)) c.requires.fits
 
 pub parts_before-requires-clause-fit : goal.parts_before-requires-clause-fit
 parts_before-requires-clause-fit c = subst IsFit (sym (c.in_ok-originals.ensures.program ∙ (c.in_ok-shared.ensures.ok ∙ c.in_ok-index.ensures))) c.requires.fit
