@@ -95,9 +95,8 @@ pub record IsMachine (w : Setup) (hand : Hand) (v : View) (s : State) : Type 0 w
   pub before_the_run : v.started ≡ false → IsBeforeTheRun v
   pub whole : v.broken ≡ false → IsWhole w homes hand v s
 
--- its code and its runtime are of one program, and no version is held needlessly
+-- unless memory has run out its code and its runtime are of one program, and no version is held needlessly
 pub record Keeps (o : Linked) (r : RuntimeView) (hand : Hand) (started broken : Bool) (clock : ℕ) (s : State) : Type 0 where
   pub machine : IsMachine (setup_in r o) hand (state_seen (setup_in r o) s started broken clock hand) s
-  pub program : r.world.program ≡ o.program
   pub linked : broken ≡ false → IsLinked o r
   pub tidy : broken ≡ false → IsTidy o.versions s.stack

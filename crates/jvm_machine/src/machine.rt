@@ -98,7 +98,8 @@ impl Vm {
         ensures { IfOk result (λ vm. vm ≡ machine_made program input.items) }
     {
         let index = Index::new(alloc, program)?;
-        let originals = Originals::new(alloc, Rc::new(alloc, index)?)?;
+        let shared = Rc::new(alloc, index)?;
+        let originals = Originals::new(alloc, shared)?;
         let parts = parts_before(alloc, &originals, Seq::from_vec(input))?;
         Ok(Vm {
             alloc,
@@ -489,7 +490,7 @@ impl Vm {
     pub fn program(&self) -> &Program
         ensures { result.now ≡ self.now.program }
     {
-        self.originals.program()
+        self.parts.runtime.program()
     }
 
     /// What links its classes: it has loaded those that the run has loaded, the step in hand included.

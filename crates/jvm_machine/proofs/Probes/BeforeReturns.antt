@@ -36,7 +36,7 @@ told-busy : (b : Bool) → (b && not true) ≡ false
 told-busy true = refl
 told-busy false = refl
 
-module _ (w : Setup) (loaded : List ℕ) (hand : Hand) (clock : ℕ) (s : State) (is : IsMachine w loaded hand (state_seen w s true false clock hand) s) (delivered : hand.delivered ≡ true)
+module _ (w : Setup) (hand : Hand) (clock : ℕ) (s : State) (is : IsMachine w hand (state_seen w s true false clock hand) s) (delivered : hand.delivered ≡ true)
     (todo : todo_of hand.moves ≡ Attempt) where
   busy : is_resting (state_seen w s true false clock hand) ≡ false
   busy = ap (λ b. hand.passed == 0 && not b) delivered ∙ told-busy (hand.passed == 0)
@@ -103,9 +103,9 @@ module _ (w : Setup) (loaded : List ℕ) (hand : Hand) (clock : ℕ) (s : State)
 pub some-left : (o : Option Gone) (gone : Gone) → o ≡ Some gone → IfSome o (λ g. IsLeft g) → IsLeft gone
 some-left o gone is left = subst (λ x. IfSome x (λ g. IsLeft g)) is left
 
-pub leaves-by : (w : Setup) (loaded : List ℕ) (hand : Hand) (clock : ℕ) (s : State) (gone : Gone) → hand ≡ left_in gone → IsLeft gone
-    → IsMachine w loaded hand (state_seen w s true false clock hand) s → IfLeaves (telling.Due gone.due) (state_seen w s true false clock hand)
-leaves-by w loaded hand clock s gone handed left is = by gone.due refl where
+pub leaves-by : (w : Setup) (hand : Hand) (clock : ℕ) (s : State) (gone : Gone) → hand ≡ left_in gone → IsLeft gone
+    → IsMachine w hand (state_seen w s true false clock hand) s → IfLeaves (telling.Due gone.due) (state_seen w s true false clock hand)
+leaves-by w hand clock s gone handed left is = by gone.due refl where
   by : (due : Due) → gone.due ≡ due → IfLeaves (telling.Due due) (state_seen w s true false clock hand)
   by Nothing e = tt
   by Begins e = tt
@@ -113,5 +113,5 @@ leaves-by w loaded hand clock s gone handed left is = by gone.due refl where
   by (Ends kind.Enter) e = tt
   by (Ends kind.Unwind) e = tt
   by (Ends kind.Leave) e =
-      has-return w loaded hand clock s is (ap (λ (h : Hand). h.delivered) handed ∙ (left.delivered ∙ ap is_end e))
+      has-return w hand clock s is (ap (λ (h : Hand). h.delivered) handed ∙ (left.delivered ∙ ap is_end e))
       (ap (λ (h : Hand). todo_of h.moves) handed ∙ (left.moves ∙ ap later_of e))

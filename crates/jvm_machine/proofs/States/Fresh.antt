@@ -63,13 +63,12 @@ original-marks p count = all-same (mark_of (original_versions p)) (λ k. slot-pl
 -- ---- the machine
 
 module _ (w : Setup) (s : State) (set : IsSetUp w) (at_start : IsAtStart w.world s) where
-  pub fresh-machine : (loaded : List ℕ) → loaded ≡ (before w.world).shared.loaded → IsMachine w loaded fresh_hand (state_seen w s false false 0 fresh_hand) s
-  fresh-machine loaded linked = record {
+  pub fresh-machine : IsMachine w fresh_hand (state_seen w s false false 0 fresh_hand) s
+  fresh-machine = record {
     homes = set.homes;
     has = set.has;
     before_the_run = λ unstarted. record { clock = refl; passed = refl; delivered = refl };
     whole = λ same. record {
-      linked = linked ∙ ap (λ (z : State). z.shared.loaded) (sym at_start.before);
       stands = λ resting started. absurd (let e : false ≡ true = started in cc);
       rests = λ resting started. absurd (let e : false ≡ true = started in cc);
       in_hand = λ busy. absurd (let e : true ≡ false = busy in cc);

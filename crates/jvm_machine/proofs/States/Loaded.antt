@@ -100,7 +100,7 @@ module _ (w : Setup) (homes : ℕ → ℕ → ℕ) (has : HasVersions w homes) (
 
 -- ---- the machine
 
-module _ (w : Setup) (loaded : List ℕ) (hand : Hand) (started broken : Bool) (clock : ℕ) (s : State) (is : IsMachine w loaded hand (state_seen w s started broken clock hand) s)
+module _ (w : Setup) (hand : Hand) (started broken : Bool) (clock : ℕ) (s : State) (is : IsMachine w hand (state_seen w s started broken clock hand) s)
     (v : View) (view : state_seen w s started broken clock hand ≡ v) (whole : v.broken ≡ false) where
   unbroken : broken ≡ false
   unbroken = ap (λ (x : View). x.broken) view ∙ whole
@@ -121,8 +121,8 @@ module _ (w : Setup) (loaded : List ℕ) (hand : Hand) (started broken : Bool) (
       ∙ ap (λ (x : View). (run_state x).shared.loaded) view)
 
   loaded-by : (b : Bool) → is_resting v ≡ b → s.shared.loaded ≡ (run_state v).shared.loaded
-  loaded-by true resting = (rest-shows w loaded hand started broken clock s is v view whole resting).loaded
+  loaded-by true resting = (rest-shows w hand started broken clock s is v view whole resting).loaded
   loaded-by false busy = busy-loaded busy
 
-  pub run-loaded : loaded ≡ (run_state v).shared.loaded
-  run-loaded = (is.whole unbroken).linked ∙ loaded-by (is_resting v) refl
+  pub run-loaded : s.shared.loaded ≡ (run_state v).shared.loaded
+  run-loaded = loaded-by (is_resting v) refl

@@ -50,8 +50,8 @@ not_is false e = refl
 
 -- ---- superseded versions are dropped
 
-module _ (w : Setup) (fs : List PlacedFrame) (after : Versions) (released : Releases fs w.versions after) (hand : Hand) (clock : ℕ) (s : State) (loaded : List ℕ) (pinned : IsPinned fs s.stack)
-    (is : IsMachine w loaded hand (state_seen w s true false clock hand) s) where
+module _ (w : Setup) (fs : List PlacedFrame) (after : Versions) (released : Releases fs w.versions after) (hand : Hand) (clock : ℕ) (s : State) (pinned : IsPinned fs s.stack)
+    (is : IsMachine w hand (state_seen w s true false clock hand) s) where
   abbrev u : Setup
   u = record w { versions = after }
 
@@ -71,7 +71,7 @@ module _ (w : Setup) (fs : List PlacedFrame) (after : Versions) (released : Rele
   sound-then (inl sound) = inl (sound-left w is.homes is.has fs after released s pinned sound)
   sound-then (inr starting) = inr (record { moves = starting.moves; undelivered = starting.undelivered; begins = starting.begins })
 
-  pub released-machine : IsMachine u loaded hand (state_seen u s true false clock hand) s
+  pub released-machine : IsMachine u hand (state_seen u s true false clock hand) s
   released-machine =
       let whole = is.whole refl in
       record {
@@ -79,7 +79,6 @@ module _ (w : Setup) (fs : List PlacedFrame) (after : Versions) (released : Rele
         has = has-then w is.homes is.has fs after released;
         before_the_run = λ no. absurd (let e : true ≡ false = no in cc);
         whole = λ same. record {
-          linked = whole.linked;
           stands = λ resting yes. stands-left w is.homes is.has fs after released s (run w.world clock) pinned (whole.rests resting refl) (whole.stands resting refl);
           rests = λ resting yes. sound-left w is.homes is.has fs after released s pinned (whole.rests resting refl);
           in_hand = λ busy. subst (λ live. HasInHand u (then_homes w is.homes is.has fs after released) (turn w.world clock) hand live s)
@@ -92,7 +91,7 @@ module _ (w : Setup) (fs : List PlacedFrame) (after : Versions) (released : Rele
 
 -- ---- what is taken up
 
-module _ (w : Setup) (hand : Hand) (started : Bool) (clock : ℕ) (s : State) (loaded : List ℕ) (is : IsMachine w loaded hand (state_seen w s started false clock hand) s) where
+module _ (w : Setup) (hand : Hand) (started : Bool) (clock : ℕ) (s : State) (is : IsMachine w hand (state_seen w s started false clock hand) s) where
   abbrev pub old : View
   old = state_seen w s started false clock hand
 
@@ -111,7 +110,7 @@ module _ (w : Setup) (hand : Hand) (started : Bool) (clock : ℕ) (s : State) (l
   homes : ℕ → ℕ → ℕ
   homes = is.homes
 
-  whole_now : IsWhole w is.homes loaded hand old s
+  whole_now : IsWhole w is.homes hand old s
   whole_now = is.whole refl
 
   stands_now : resting_now ≡ true → started ≡ true → Stands w is.homes s (run w.world clock)
@@ -216,14 +215,13 @@ module _ (w : Setup) (hand : Hand) (started : Bool) (clock : ℕ) (s : State) (l
       stepped = taken-seen resting_now refl ∙ ap (λ n. record (step_begun old) { passed = n }) one-passed;
     }
 
-    start-machine-by : (resting b : Bool) → resting ≡ true → b ≡ false → (loaded' : List ℕ) → loaded' ≡ (taken_state w.world resting b s).shared.loaded
-        → IsMachine w loaded' (taken_hand w.world resting b hand) (state_seen w (taken_state w.world resting b s) true false (clock_in resting b clock) (taken_hand w.world resting b hand)) (taken_state w.world resting b s)
-    start-machine-by true false e f loaded' linked = record {
+    start-machine-by : (resting b : Bool) → resting ≡ true → b ≡ false
+        → IsMachine w (taken_hand w.world resting b hand) (state_seen w (taken_state w.world resting b s) true false (clock_in resting b clock) (taken_hand w.world resting b hand)) (taken_state w.world resting b s)
+    start-machine-by true false e f = record {
       homes = is.homes;
       has = is.has;
       before_the_run = λ no. absurd (let e : true ≡ false = no in cc);
       whole = λ same. record {
-        linked = linked;
         stands = λ resting yes. absurd (busy resting);
         rests = λ resting yes. absurd (busy resting);
         in_hand = λ other. start-hand w is.homes is.has;
@@ -233,11 +231,11 @@ module _ (w : Setup) (hand : Hand) (started : Bool) (clock : ℕ) (s : State) (l
     } where
       busy : is_resting (state_seen w (starts_with w.world) true false 0 (taken_hand w.world true false hand)) ≡ true → ⊥
       busy resting = (let h : false ≡ true = sym (ap (λ l. behind_load l == 0 && not false) at_start.loading) ∙ resting in cc)
-    start-machine-by true true e f loaded' linked = absurd (let h : true ≡ false = f in cc)
-    start-machine-by false b e f loaded' linked = absurd (let h : false ≡ true = e in cc)
+    start-machine-by true true e f = absurd (let h : true ≡ false = f in cc)
+    start-machine-by false b e f = absurd (let h : false ≡ true = e in cc)
 
-    pub start-machine : (loaded' : List ℕ) → loaded' ≡ then_state.shared.loaded → IsMachine w loaded' then_hand (state_seen w then_state true false then_clock then_hand) then_state
-    start-machine loaded' linked = start-machine-by resting_now started at_start.first at_start.before_the_run loaded' linked
+    pub start-machine : IsMachine w then_hand (state_seen w then_state true false then_clock then_hand) then_state
+    start-machine = start-machine-by resting_now started at_start.first at_start.before_the_run
 
   -- ---- the step has loaded classes
 
@@ -289,14 +287,13 @@ module _ (w : Setup) (hand : Hand) (started : Bool) (clock : ℕ) (s : State) (l
         stepped = loads-seen;
       }
 
-      pub loads-machine : (loaded' : List ℕ) → loaded' ≡ next_state.shared.loaded → (IsSoundIn w s → IsSoundIn w next_state)
-          → IsMachine w loaded' loads_hand (state_seen w next_state true false (clock + 1) loads_hand) next_state
-      loads-machine loaded' linked sound = record {
+      pub loads-machine : (IsSoundIn w s → IsSoundIn w next_state)
+          → IsMachine w loads_hand (state_seen w next_state true false (clock + 1) loads_hand) next_state
+      loads-machine sound = record {
         homes = is.homes;
         has = is.has;
         before_the_run = λ no. absurd (let e : true ≡ false = no in cc);
         whole = λ same. record {
-          linked = linked;
           stands = λ resting yes. absurd (let e : false ≡ true = resting in cc);
           rests = λ resting yes. absurd (let e : false ≡ true = resting in cc);
           in_hand = λ busy. subst (λ n. HasInHand w is.homes (turn w.world (clock + 1)) (record { moves = false; delivered = false; passed = n }) (helds (mark_of w.versions) next_state.stack) next_state)
@@ -360,13 +357,12 @@ module _ (w : Setup) (hand : Hand) (started : Bool) (clock : ℕ) (s : State) (l
       is_sound : IsSoundIn w new
       is_sound = sound-by resting_now started refl refl sound starts
 
-      pub gone-machine : (loaded' : List ℕ) → loaded' ≡ new.shared.loaded → IsMachine w loaded' (left_in gone) there new
-      gone-machine loaded' linked = record {
+      pub gone-machine : IsMachine w (left_in gone) there new
+      gone-machine = record {
         homes = is.homes;
         has = is.has;
         before_the_run = λ no. absurd (let e : true ≡ false = no in cc);
         whole = λ same. record {
-          linked = linked;
           stands = λ resting yes. goes-rests w is.homes is.has true false then_clock then_hand then_state in_hand_then gone new goes_on left (resting-nothing gone.due refl resting);
           rests = λ resting yes. is_sound;
           in_hand = λ busy. left-hand gone.due refl (busy-something busy);

@@ -47,7 +47,7 @@ same-shows s z e = record {
   live = ap (λ (x : State). live_in x.stack) e;
 }
 
-module _ (w : Setup) (loaded : List ℕ) (hand : Hand) (started broken : Bool) (clock : ℕ) (s : State) (is : IsMachine w loaded hand (state_seen w s started broken clock hand) s)
+module _ (w : Setup) (hand : Hand) (started broken : Bool) (clock : ℕ) (s : State) (is : IsMachine w hand (state_seen w s started broken clock hand) s)
     (v : View) (view : state_seen w s started broken clock hand ≡ v) (whole : v.broken ≡ false) where
   unbroken : broken ≡ false
   unbroken = ap (λ (x : View). x.broken) view ∙ whole

@@ -24,7 +24,7 @@ use Rattle.jvm_machine.proofs.States.Machines.{goes-stops, gone-machine}
 use Rattle.jvm_machine.proofs.States.Shown.{over-is}
 
 -- what was taken up of a machine that was started: the step in hand, or the next one
-module _ (w : Setup) (h : Hand) (clock : ℕ) (s : State) (loaded : List ℕ) (is : IsMachine w loaded h (state_seen w s true false clock h) s) (taken : Hand)
+module _ (w : Setup) (h : Hand) (clock : ℕ) (s : State) (is : IsMachine w h (state_seen w s true false clock h) s) (taken : Hand)
     (handed : taken ≡ taken_hand w.world (is_resting (state_seen w s true false clock h)) true h) where
   abbrev now : Bool
   now = is_resting (state_seen w s true false clock h)
@@ -70,25 +70,25 @@ module _ (w : Setup) (h : Hand) (clock : ℕ) (s : State) (loaded : List ℕ) (i
     there = state_seen w new true false then_clock (left_in gone)
 
     stops : Stops (state_seen w s true false clock h) gone.due there
-    stops = goes-stops w h true clock s loaded is nothing (carried Some' some) new gone left (carried (λ hand z. GoesOnFrom w hand z gone new) hands)
+    stops = goes-stops w h true clock s is nothing (carried Some' some) new gone left (carried (λ hand z. GoesOnFrom w hand z gone new) hands)
 
-    machine : (loaded' : List ℕ) → loaded' ≡ new.shared.loaded → IsMachine w loaded' (left_in gone) there new
-    machine loaded' linked =
-        gone-machine w h true clock s loaded is nothing (carried Some' some) new gone left (carried (λ hand z. GoesOnFrom w hand z gone new) hands)
-        (carried (λ hand z. IsSoundIn w z → IsSoundIn w new) sound) (carried Starts starts) loaded' linked
+    machine : IsMachine w (left_in gone) there new
+    machine =
+        gone-machine w h true clock s is nothing (carried Some' some) new gone left (carried (λ hand z. GoesOnFrom w hand z gone new) hands)
+        (carried (λ hand z. IsSoundIn w z → IsSoundIn w new) sound) (carried Starts starts)
 
 -- ---- of the parts of a machine
 
-module _ (w : Setup) (loaded : List ℕ) (h : Hand) (started broken : Bool) (clock : ℕ) (ms : List Initialization) (p : Parts)
-    (is : IsMachine w loaded h (state_seen w (state_of ms p) started broken clock h) (state_of ms p)) (v : View) (view : state_seen w (state_of ms p) started broken clock h ≡ v)
+module _ (w : Setup) (h : Hand) (started broken : Bool) (clock : ℕ) (ms : List Initialization) (p : Parts)
+    (is : IsMachine w h (state_seen w (state_of ms p) started broken clock h) (state_of ms p)) (v : View) (view : state_seen w (state_of ms p) started broken clock h ≡ v)
     (begun_is : started ≡ true) (whole : broken ≡ false) (resting : Bool) (rests : resting ≡ is_resting v) where
   abbrev s : State
   s = state_of ms p
 
-  is-now : IsMachine w loaded h (state_seen w s true false clock h) s
+  is-now : IsMachine w h (state_seen w s true false clock h) s
   is-now =
-      subst (λ b. IsMachine w loaded h (state_seen w s b false clock h) s) begun_is
-      (subst (λ b. IsMachine w loaded h (state_seen w s started b clock h) s) whole is)
+      subst (λ b. IsMachine w h (state_seen w s b false clock h) s) begun_is
+      (subst (λ b. IsMachine w h (state_seen w s started b clock h) s) whole is)
 
   view-now : state_seen w s true false clock h ≡ v
   view-now = ap₂ (λ a b. state_seen w s a b clock h) (sym begun_is) (sym whole) ∙ view
@@ -101,7 +101,7 @@ module _ (w : Setup) (loaded : List ℕ) (h : Hand) (started broken : Bool) (clo
   calm-going ending = by (is_resting v) refl where
     by : (b : Bool) → is_resting v ≡ b → (is_resting v && has_ended v) ≡ false
     by true e =
-        sym (over-is w loaded h started broken clock s is v view (ap (λ (x : View). x.broken) (sym view) ∙ whole) e) ∙ ap is_some ending
+        sym (over-is w h started broken clock s is v view (ap (λ (x : View). x.broken) (sym view) ∙ whole) e) ∙ ap is_some ending
     by false e = ap (λ b. b && has_ended v) e
 
   pub was-whole : v.broken ≡ false
@@ -112,7 +112,7 @@ module _ (w : Setup) (loaded : List ℕ) (h : Hand) (started broken : Bool) (clo
     handed-now = handed ∙ ap (λ b. taken_hand w.world b true h) (sym resting-is)
 
     pub calm-attempted : taken.moves ≡ false → IsSoundIn w s
-    calm-attempted = attempted w h clock s loaded is-now taken handed-now
+    calm-attempted = attempted w h clock s is-now taken handed-now
 
     module _ (after : Parts) (gone : Gone) (goes : GoesCalmly w ms taken p gone after) (hands : GoesOnFrom w taken s gone (state_of ms after))
         (sound : IsSoundIn w s → IsSoundIn w (state_of ms after))
@@ -136,22 +136,19 @@ module _ (w : Setup) (loaded : List ℕ) (h : Hand) (started broken : Bool) (clo
       calm-stops =
           as-now (Stops v gone.due)
           (subst (λ x. Stops x gone.due (state_seen w new true false (clock_in (is_resting (state_seen w s true false clock h)) true clock) (left_in gone))) view-now
-          (stops w h clock s loaded is-now taken handed-now new gone goes.loads goes.left hands sound starts))
+          (stops w h clock s is-now taken handed-now new gone goes.loads goes.left hands sound starts))
 
-      linked : loaded ≡ new.shared.loaded
-      linked = (is-now.whole refl).linked ∙ sym goes.loaded
-
-      pub calm-machine : IsMachine w loaded h' (state_seen w new started broken clock' h') new
+      pub calm-machine : IsMachine w h' (state_seen w new started broken clock' h') new
       calm-machine =
-          as-now (λ x. IsMachine w loaded h' x new)
-          (subst (λ x. IsMachine w loaded x (state_seen w new true false (clock_in (is_resting (state_seen w s true false clock h)) true clock) (left_in gone)) new) (sym left)
-          (machine w h clock s loaded is-now taken handed-now new gone goes.loads goes.left hands sound starts loaded linked))
+          as-now (λ x. IsMachine w h' x new)
+          (subst (λ x. IsMachine w x (state_seen w new true false (clock_in (is_resting (state_seen w s true false clock h)) true clock) (left_in gone)) new) (sym left)
+          (machine w h clock s is-now taken handed-now new gone goes.loads goes.left hands sound starts))
 
       pub calm-leaves : IfLeaves (telling.Due gone.due) (state_seen w new started broken clock' h')
       calm-leaves =
           as-now (IfLeaves (telling.Due gone.due))
-          (leaves-by w loaded (left_in gone) (clock_in (is_resting (state_seen w s true false clock h)) true clock) new gone refl goes.left
-          (machine w h clock s loaded is-now taken handed-now new gone goes.loads goes.left hands sound starts loaded linked))
+          (leaves-by w (left_in gone) (clock_in (is_resting (state_seen w s true false clock h)) true clock) new gone refl goes.left
+          (machine w h clock s is-now taken handed-now new gone goes.loads goes.left hands sound starts))
 
       pub calm-tidy : IsTidy w.versions s.stack → IsTidy w.versions new.stack
       calm-tidy tidy k superseded = goes.keeps k superseded (tidy k superseded)

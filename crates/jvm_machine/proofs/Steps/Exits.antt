@@ -29,8 +29,8 @@ on-err X (Err e) x = x
 
 -- the start has loaded classes
 abbrev pub TellsStart : Setup → List ℕ → Hand → State → ℕ → View → Type 0
-TellsStart w l h s c v = (length l == 0) ≡ false → (l' : List ℕ) → l' ≡ s.shared.loaded
-    → TellsClasses v l (state_seen w s true false c h) × IsMachine w l' h (state_seen w s true false c h) s
+TellsStart w l h s c v = (length l == 0) ≡ false
+    → TellsClasses v l (state_seen w s true false c h) × IsMachine w h (state_seen w s true false c h) s
 
 abbrev pub one_passed : Hand → Hand
 one_passed h = record h { passed = 1 }
@@ -38,8 +38,8 @@ one_passed h = record h { passed = 1 }
 -- the step has loaded classes, and they are the last ones
 abbrev pub TellsStep : Setup → List ℕ → Hand → State → ℕ → View → Type 0
 TellsStep w l h s c v = (o : Option Gone) → ((g : Gone) → o ≡ Some g → ⊥) → is_some o ≡ (h.moves || loads_none w s) → (s' : State)
-    → IfNone o (s' ≡ with_loaded (loads_in w s) s) → (IsSoundIn w s → IsSoundIn w s') → (l' : List ℕ) → l' ≡ s'.shared.loaded
-    → TellsClasses v (drop (length s.shared.loaded) s'.shared.loaded) (state_seen w s' true false c (one_passed h)) × IsMachine w l' (one_passed h) (state_seen w s' true false c (one_passed h)) s'
+    → IfNone o (s' ≡ with_loaded (loads_in w s) s) → (IsSoundIn w s → IsSoundIn w s')
+    → TellsClasses v (drop (length s.shared.loaded) s'.shared.loaded) (state_seen w s' true false c (one_passed h)) × IsMachine w (one_passed h) (state_seen w s' true false c (one_passed h)) s'
 
 abbrev pub GoesOnFrom : Setup → Hand → State → Gone → State → Type 0
 GoesOnFrom w h s gone new = (homes : ℕ → ℕ → ℕ) (whole : Turn) (live : List Held) → HasVersions w homes → HasInHand w homes whole h live s → HasGoneOn w homes whole h live gone new
@@ -48,9 +48,9 @@ GoesOnFrom w h s gone new = (homes : ℕ → ℕ → ℕ) (whole : Turn) (live :
 abbrev pub GoesThere : Setup → List ℕ → Hand → State → ℕ → View → Type 0
 GoesThere w l h s c v = (length l == 0) ≡ true → (o : Option Gone) (gone : Gone) → o ≡ Some gone → is_some o ≡ (h.moves || loads_none w s) → (new : State)
     → IfSome o (λ gone. IsLeft gone) → (IsSoundIn w s → IsSoundIn w new) → (h.moves ≡ true → h.delivered ≡ false → s ≡ starts_with w.world → IsSoundIn w new)
-    → IfSome o (λ gone. GoesOnFrom w h s gone new) → (l' : List ℕ) → l' ≡ new.shared.loaded
+    → IfSome o (λ gone. GoesOnFrom w h s gone new)
     → (fs : List PlacedFrame) → IsPinned fs new.stack → (w' : Setup) → w'.world ≡ w.world → Releases fs w.versions w'.versions → (h' : Hand) → h' ≡ left_in gone
-    → Stops v gone.due (state_seen w' new true false c h') × IsMachine w' l' h' (state_seen w' new true false c h') new
+    → Stops v gone.due (state_seen w' new true false c h') × IsMachine w' h' (state_seen w' new true false c h') new
 
 -- what an attempt asks
 abbrev pub IsAttempted : Setup → List ℕ → Hand → State → ℕ → View → Type 0
@@ -58,10 +58,10 @@ IsAttempted w l h s c v = h.moves ≡ false → IsSoundIn w s
 
 -- ---- one call
 
-module _ (w : Setup) (h : Hand) (started broken : Bool) (clock : ℕ) (s : State) (loaded : List ℕ) (whole : broken ≡ false) (is : IsMachine w loaded h (state_seen w s started broken clock h) s)
+module _ (w : Setup) (h : Hand) (started broken : Bool) (clock : ℕ) (s : State) (whole : broken ≡ false) (is : IsMachine w h (state_seen w s started broken clock h) s)
     (oldv : View) (view : state_seen w s started broken clock h ≡ oldv) (resting : Bool) (rests : resting ≡ is_resting oldv) (clock' : ℕ) (ticks : clock' ≡ clock_in resting started clock) where
-  unbroken : IsMachine w loaded h (state_seen w s started false clock h) s
-  unbroken = subst (λ b. IsMachine w loaded h (state_seen w s started b clock h) s) whole is
+  unbroken : IsMachine w h (state_seen w s started false clock h) s
+  unbroken = subst (λ b. IsMachine w h (state_seen w s started b clock h) s) whole is
 
   abbrev now : Bool
   now = is_resting (state_seen w s started false clock h)
@@ -77,10 +77,10 @@ module _ (w : Setup) (h : Hand) (started broken : Bool) (clock : ℕ) (s : State
 
   -- ---- where memory has run out
 
-  module _ (w1 : Setup) (same : w1 ≡ w) (h1 : Hand) (s1 : State) (l1 : List ℕ) where
-    pub broken-machine : IsMachine w1 l1 h1 (state_seen w1 s1 true true clock' h1) s1
+  module _ (w1 : Setup) (same : w1 ≡ w) (h1 : Hand) (s1 : State) where
+    pub broken-machine : IsMachine w1 h1 (state_seen w1 s1 true true clock' h1) s1
     broken-machine =
-        subst (λ (x : Setup). IsMachine x l1 h1 (state_seen x s1 true true clock' h1) s1) (sym same) (record {
+        subst (λ (x : Setup). IsMachine x h1 (state_seen x s1 true true clock' h1) s1) (sym same) (record {
           homes = is.homes;
           has = is.has;
           before_the_run = λ no. absurd (let e : true ≡ false = no in cc);
@@ -90,7 +90,7 @@ module _ (w : Setup) (h : Hand) (started broken : Bool) (clock : ℕ) (s : State
     broken-by : (r : Bool) → now ≡ r → state_seen w s1 true true (clock_in r started clock) h1
         ≡ record (if r then clock_advanced (state_seen w s started false clock h) else state_seen w s started false clock h) { broken = true; passed = h1.passed; delivered = h1.delivered; live = helds (mark_of w.versions) s1.stack }
     broken-by true e = refl
-    broken-by false e = ap (λ b. state_seen w s1 b true clock h1) (sym (started-if w h started clock s loaded unbroken started refl e))
+    broken-by false e = ap (λ b. state_seen w s1 b true clock h1) (sym (started-if w h started clock s unbroken started refl e))
 
     pub broken-seen : state_seen w1 s1 true true clock' h1 ≡ broken_in oldv (state_seen w1 s1 true true clock' h1)
     broken-seen =
@@ -115,11 +115,11 @@ module _ (w : Setup) (h : Hand) (started broken : Bool) (clock : ℕ) (s : State
 
     -- classes of the start
     start-by : TellsStart w (taken_loads w.world now started) (taken_hand w.world now started h) (taken_state w.world now started s) (clock_in now started clock) (state_seen w s started false clock h)
-    start-by some l' linked =
+    start-by some =
         let front = some-front (taken_loads w.world now started) some in (
           subst (λ l. TellsClasses (state_seen w s started false clock h) l (state_seen w (taken_state w.world now started s) true false (clock_in now started clock) (taken_hand w.world now started h))) (sym front.2)
-              (start-tells w h started clock s loaded unbroken front.0 front.1 front.2),
-          start-machine w h started clock s loaded unbroken front.0 front.1 front.2 l' linked,
+              (start-tells w h started clock s unbroken front.0 front.1 front.2),
+          start-machine w h started clock s unbroken front.0 front.1 front.2,
         )
 
     pub tells-start : TellsStart w1 loads h1 s1 clock' oldv
@@ -149,18 +149,18 @@ module _ (w : Setup) (h : Hand) (started broken : Bool) (clock : ℕ) (s : State
     is-none (Some g) other = absurd (other g refl)
 
     step-by : TellsStep w (taken_loads w.world now started) (taken_hand w.world now started h) (taken_state w.world now started s) (clock_in now started clock) (state_seen w s started false clock h)
-    step-by o other some s' loads' sound l' linked =
+    step-by o other some s' loads' sound =
         let gone : o ≡ None = is-none o other in
         let none = sym some ∙ ap is_some gone in
-        let rest = at_rest w h started clock s loaded unbroken none in
+        let rest = at_rest w h started clock s unbroken none in
         let front = some-front (loads_in w s) rest.loads in
-        let same : taken_state w.world now started s ≡ s = same-state w h started clock s loaded unbroken none in
+        let same : taken_state w.world now started s ≡ s = same-state w h started clock s unbroken none in
         let made : s' ≡ with_loaded (loads_in w s) s =
         subst (λ x. IfNone x (s' ≡ with_loaded (loads_in w (taken_state w.world now started s)) (taken_state w.world now started s))) gone loads'
         ∙ ap (λ (z : State). with_loaded (loads_in w z) z) same in
         let hand : one_passed (taken_hand w.world now started h) ≡ record { moves = false; delivered = false; passed = 1 } =
         ap₂ (λ r b. one_passed (taken_hand w.world r b h)) rest.first rest.begun in
-        let ticks : clock_in now started clock ≡ clock + 1 = clock-more w h started clock s loaded unbroken none in
+        let ticks : clock_in now started clock ≡ clock + 1 = clock-more w h started clock s unbroken none in
         let next : State = with_loaded (loads_in w s) s in
         let lasts : front.0 ∷ front.1 ≡ drop (length (taken_state w.world now started s).shared.loaded) s'.shared.loaded =
         sym (ap₂ (λ (a b : State). drop (length a.shared.loaded) b.shared.loaded) same made ∙ (ap (λ l. drop (length s.shared.loaded) (with_loaded l s).shared.loaded) front.2 ∙ drop-front s.shared.loaded (front.0 ∷ front.1))) in (
@@ -168,11 +168,11 @@ module _ (w : Setup) (h : Hand) (started broken : Bool) (clock : ℕ) (s : State
               (subst (λ (z : State). TellsClasses (state_seen w s started false clock h) (front.0 ∷ front.1) (state_seen w z true false (clock_in now started clock) (one_passed (taken_hand w.world now started h)))) (sym made)
               (subst (λ c. TellsClasses (state_seen w s started false clock h) (front.0 ∷ front.1) (state_seen w next true false c (one_passed (taken_hand w.world now started h)))) (sym ticks)
               (subst (λ (k : Hand). TellsClasses (state_seen w s started false clock h) (front.0 ∷ front.1) (state_seen w next true false (clock + 1) k)) (sym hand)
-              (loads-tell w h started clock s loaded unbroken none front.0 front.1 front.2)))),
-          subst (λ (z : State). IsMachine w l' (one_passed (taken_hand w.world now started h)) (state_seen w z true false (clock_in now started clock) (one_passed (taken_hand w.world now started h))) z) (sym made)
-              (subst (λ c. IsMachine w l' (one_passed (taken_hand w.world now started h)) (state_seen w next true false c (one_passed (taken_hand w.world now started h))) next) (sym ticks)
-              (subst (λ (k : Hand). IsMachine w l' k (state_seen w next true false (clock + 1) k) next) (sym hand)
-              (loads-machine w h started clock s loaded unbroken none front.0 front.1 front.2 l' (linked ∙ ap (λ (z : State). z.shared.loaded) made)
+              (loads-tell w h started clock s unbroken none front.0 front.1 front.2)))),
+          subst (λ (z : State). IsMachine w (one_passed (taken_hand w.world now started h)) (state_seen w z true false (clock_in now started clock) (one_passed (taken_hand w.world now started h))) z) (sym made)
+              (subst (λ c. IsMachine w (one_passed (taken_hand w.world now started h)) (state_seen w next true false c (one_passed (taken_hand w.world now started h))) next) (sym ticks)
+              (subst (λ (k : Hand). IsMachine w k (state_seen w next true false (clock + 1) k) next) (sym hand)
+              (loads-machine w h started clock s unbroken none front.0 front.1 front.2
               (λ is. subst (IsSoundIn w) made (sound (subst (IsSoundIn w) (sym same) is)))))),
         )
 
@@ -182,7 +182,7 @@ module _ (w : Setup) (h : Hand) (started broken : Bool) (clock : ℕ) (s : State
     -- ---- it goes on
 
     goes-by : GoesThere w (taken_loads w.world now started) (taken_hand w.world now started h) (taken_state w.world now started s) (clock_in now started clock) (state_seen w s started false clock h)
-    goes-by none o gone is_gone some new left sound starts hands l' linked fs pinned w' world released h' handed' =
+    goes-by none o gone is_gone some new left sound starts hands fs pinned w' world released h' handed' =
         let nothing = none-front (taken_loads w.world now started) none in
         let enough = sym some ∙ ap is_some is_gone in
         let left_there : IsLeft gone = subst (λ o. IfSome o (λ gone. IsLeft gone)) is_gone left in
@@ -191,14 +191,14 @@ module _ (w : Setup) (h : Hand) (started broken : Bool) (clock : ℕ) (s : State
         let u : Setup = record w { versions = w'.versions } in
         let same : u ≡ w' = ap (λ (x : World). let z : Setup = record { world = x; versions = w'.versions } in z) (sym world) in
         let c : ℕ = clock_in now started clock in
-        let machine = gone-machine w h started clock s loaded unbroken nothing enough new gone left_there on sound starts l' linked in
-        let stops = goes-stops w h started clock s loaded unbroken nothing enough new gone left_there on in (
+        let machine = gone-machine w h started clock s unbroken nothing enough new gone left_there on sound starts in
+        let stops = goes-stops w h started clock s unbroken nothing enough new gone left_there on in (
           subst (λ (x : Setup). Stops (state_seen w s started false clock h) gone.due (state_seen x new true false c h')) same
               (subst (λ (k : Hand). Stops (state_seen w s started false clock h) gone.due (state_seen u new true false c k)) (sym handed')
-              (subst (Stops (state_seen w s started false clock h) gone.due) (sym (released-seen w fs w'.versions released (left_in gone) c new l' pinned machine)) stops)),
-          subst (λ (x : Setup). IsMachine x l' h' (state_seen x new true false c h') new) same
-              (subst (λ (k : Hand). IsMachine u l' k (state_seen u new true false c k) new) (sym handed')
-              (released-machine w fs w'.versions released (left_in gone) c new l' pinned machine)),
+              (subst (Stops (state_seen w s started false clock h) gone.due) (sym (released-seen w fs w'.versions released (left_in gone) c new pinned machine)) stops)),
+          subst (λ (x : Setup). IsMachine x h' (state_seen x new true false c h') new) same
+              (subst (λ (k : Hand). IsMachine u k (state_seen u new true false c k) new) (sym handed')
+              (released-machine w fs w'.versions released (left_in gone) c new pinned machine)),
         )
 
     pub goes-there : GoesThere w1 loads h1 s1 clock' oldv

@@ -6,6 +6,7 @@ use Rattle.interpreter.specs.declared.turns.hands.Hand.{Hand}
 use Rattle.interpreter.specs.Instructions.Passing.{Passes as Silent}
 use Rattle.interpreter.specs.Moves.Calmly.{GoesCalmly}
 use Rattle.interpreter.specs.Moves.Onward.{StopsIf}
+use Rattle.jvm_model.specs.Basis.Data.{World}
 use Rattle.jvm_model.specs.declared.due.Due.{Due}
 use Rattle.jvm_model.specs.declared.due.Due.TheVariants.{Nothing}
 use Rattle.jvm_model.specs.Running.Run.{starts_with}
@@ -13,9 +14,11 @@ use Rattle.jvm_model.specs.Turns.Pauses.{told_at}
 use Rattle.prepared_code.specs.declared.initializations.Initialization.{Initialization}
 use Rattle.prepared_code.specs.declared.parts.Parts.{Parts}
 use Rattle.prepared_code.specs.Initializations.{state_of}
-use Rattle.prepared_code.specs.Ready.{IsSoundIn}
+use Rattle.prepared_code.specs.Linked.{IsLinked, Linked, setup_in, setup_of}
+use Rattle.prepared_code.specs.Ready.{CanRun, IsSoundIn}
 use Rattle.prepared_code.specs.Runs.{IsAtInstruction}
 use Rattle.prepared_code.specs.Versions.{Setup}
+use Rattle.prepared_code.proofs.Tables.StandingSteps.{set-up-runs}
 use Rattle.jvm_machine.specs.declared.advancing.Telling.TheVariants as telling
 use Rattle.jvm_machine.specs.Advances.{Stops, left_in}
 use Rattle.jvm_machine.specs.Machine.{IsMachine, IsTidy, Keeps, state_seen, state_viewed}
@@ -25,6 +28,7 @@ use Rattle.jvm_machine.specs.Turns.{Settles, Turns, turn_by}
 use Rattle.jvm_machine.specs.View.{View, has_ended, is_resting}
 use Rattle.jvm_machine.proofs.Steps.Calmly.{calm-going, calm-leaves, calm-machine, calm-stops, calm-tidy}
 use Rattle.jvm_machine.proofs.Steps.Exits.{GoesOnFrom}
+use Rattle.jvm_machine.proofs.States.LinkedParts.{keeps-on}
 use Rattle.jvm_machine.proofs.Versions.HeldVersions.{plain-view, seen-is}
 use Rattle.jvm_machine.proofs.Steps.Onward.{behind-none, behind-some}
 use Rattle.jvm_machine.proofs.Steps.Turned.{rests-then, turned}
@@ -34,38 +38,46 @@ not-ended : (rests ended : Bool) → rests ≡ true → (rests && ended) ≡ fal
 not-ended true ended e going = going
 not-ended false ended e going = absurd (let h : false ≡ true = e in cc)
 
-module _ (w : Setup) (loaded : List ℕ) (hand : Hand) (started broken : Bool) (clock : ℕ) (ms : List Initialization) (p : Parts) (v : View)
-    (keeps : Keeps w loaded hand started broken clock (state_of ms p)) (viewed : state_viewed w (state_of ms p) started broken clock hand ≡ v)
+module _ (o : Linked) (hand : Hand) (started broken : Bool) (clock : ℕ) (ms : List Initialization) (p : Parts) (v : View)
+    (keeps : Keeps o p.runtime hand started broken clock (state_of ms p)) (viewed : state_viewed (setup_in p.runtime o) (state_of ms p) started broken clock hand ≡ v)
     (begun_is : started ≡ true) (whole : broken ≡ false) (in_hand : is_resting v ≡ false)
-    (after : Parts) (gone : Gone) (goes : GoesCalmly w ms hand p gone after) (hands : GoesOnFrom w hand (state_of ms p) gone (state_of ms after))
-    (sound : IsSoundIn w (state_of ms p) → IsSoundIn w (state_of ms after))
-    (starts : hand.moves ≡ true → hand.delivered ≡ false → state_of ms p ≡ starts_with w.world → IsSoundIn w (state_of ms after))
+    (after : Parts) (gone : Gone) (goes : GoesCalmly (setup_in p.runtime o) ms hand p gone after) (hands : GoesOnFrom (setup_in p.runtime o) hand (state_of ms p) gone (state_of ms after))
+    (sound : IsSoundIn (setup_in p.runtime o) (state_of ms p) → IsSoundIn (setup_in p.runtime o) (state_of ms after))
+    (starts : hand.moves ≡ true → hand.delivered ≡ false → state_of ms p ≡ starts_with p.runtime.world → IsSoundIn (setup_in p.runtime o) (state_of ms after))
     (done : gone.due ≡ Nothing) (calm : IsAtInstruction (length after.frames.frames) ms after) where
+  abbrev w : Setup
+  w = setup_in p.runtime o
+
   view : state_seen w (state_of ms p) started broken clock hand ≡ v
   view = seen-is keeps viewed
 
   abbrev first : View
   first = state_seen w (state_of ms after) started broken clock (left_in gone)
 
-  machine : IsMachine w loaded (left_in gone) first (state_of ms after)
+  machine : IsMachine w (left_in gone) first (state_of ms after)
   machine =
-      calm-machine w loaded hand started broken clock ms p keeps.machine v view begun_is whole false (sym in_hand) hand refl after gone goes hands sound starts clock refl (left_in gone) refl
+      calm-machine w hand started broken clock ms p keeps.machine v view begun_is whole false (sym in_hand) hand refl after gone goes hands sound starts clock refl (left_in gone) refl
 
   tidy : IsTidy w.versions (state_of ms after).stack
   tidy =
-      calm-tidy w loaded hand started broken clock ms p keeps.machine v view begun_is whole false (sym in_hand) hand refl after gone goes hands sound starts clock refl (left_in gone) refl
+      calm-tidy w hand started broken clock ms p keeps.machine v view begun_is whole false (sym in_hand) hand refl after gone goes hands sound starts clock refl (left_in gone) refl
       (keeps.tidy whole)
 
-  first-keeps : Keeps w loaded (left_in gone) started broken clock (state_of ms after)
-  first-keeps = record { machine = machine; tidy = λ same. tidy }
+  first-keeps : Keeps o after.runtime (left_in gone) started broken clock (state_of ms after)
+  first-keeps = keeps-on o p.runtime after.runtime goes.world goes.loaded keeps.linked machine (λ same. tidy)
+
+  first-viewed : state_viewed (setup_in after.runtime o) (state_of ms after) started broken clock (left_in gone) ≡ first
+  first-viewed =
+      subst (λ (x : World). state_viewed (setup_of x o) (state_of ms after) started broken clock (left_in gone) ≡ first) (sym goes.world)
+      (plain-view w (left_in gone) started broken clock (state_of ms after) (λ same. tidy))
 
   stops : Stops v gone.due first
   stops =
-      calm-stops w loaded hand started broken clock ms p keeps.machine v view begun_is whole false (sym in_hand) hand refl after gone goes hands sound starts clock refl (left_in gone) refl
+      calm-stops w hand started broken clock ms p keeps.machine v view begun_is whole false (sym in_hand) hand refl after gone goes hands sound starts clock refl (left_in gone) refl
 
   leaves : IfLeaves (telling.Due gone.due) first
   leaves =
-      calm-leaves w loaded hand started broken clock ms p keeps.machine v view begun_is whole false (sym in_hand) hand refl after gone goes hands sound starts clock refl (left_in gone) refl
+      calm-leaves w hand started broken clock ms p keeps.machine v view begun_is whole false (sym in_hand) hand refl after gone goes hands sound starts clock refl (left_in gone) refl
 
   untold : told_at gone.due first.clock first.live ≡ None
   untold = ap (λ d. told_at d first.clock first.live) done
@@ -76,7 +88,7 @@ module _ (w : Setup) (loaded : List ℕ) (hand : Hand) (started broken : Bool) (
   runs : has_ended first ≡ false
   runs =
       not-ended (is_resting first) (has_ended first) rests
-      (calm-going w loaded (left_in gone) started broken clock ms after machine first refl begun_is whole true (sym rests) calm.ending)
+      (calm-going w (left_in gone) started broken clock ms after machine first refl begun_is whole true (sym rests) calm.ending)
 
   ends : Settles v first
   ends =
@@ -84,28 +96,31 @@ module _ (w : Setup) (loaded : List ℕ) (hand : Hand) (started broken : Bool) (
       (turned v first gone.due (ap (λ (x : View). x.broken) (sym view) ∙ whole) (ap (λ b. b && has_ended v) in_hand) stops leaves)
 
   -- what steps behind it ask
-  pub linked-behind : loaded ≡ after.shared.loaded
-  linked-behind = (machine.whole whole).linked
+  pub linked-behind : IsLinked o after.runtime
+  linked-behind = first-keeps.linked whole
 
-  pub sound-behind : IsSoundIn w (state_of ms after)
-  sound-behind = (machine.whole whole).rests rests begun_is
+  pub run-behind : CanRun (setup_in after.runtime o)
+  run-behind = set-up-runs (setup_in after.runtime o) first-keeps.machine.homes first-keeps.machine.has
 
-  module _ (n : ℕ) (between : Parts) (silent : Silent w ms after n between) where
+  pub sound-behind : IsSoundIn (setup_in after.runtime o) (state_of ms after)
+  sound-behind = subst (λ (x : World). IsSoundIn (setup_of x o) (state_of ms after)) (sym goes.world) ((machine.whole whole).rests rests begun_is)
+
+  module _ (n : ℕ) (between : Parts) (silent : Silent (setup_in after.runtime o) ms after n between) where
     -- what holds behind them
     pub record Ended (h : Hand) (c : ℕ) (due : Option Due) (new : Parts) : Type 0 where
-      pub kept : Keeps w loaded h started broken c (state_of ms new)
-      pub passes : EndsUpTo v n due (state_viewed w (state_of ms new) started broken c h)
+      pub kept : Keeps o new.runtime h started broken c (state_of ms new)
+      pub passes : EndsUpTo v n due (state_viewed (setup_in new.runtime o) (state_of ms new) started broken c h)
 
-    pub ends-none : (all : Option Gone) (new : Parts) → None ≡ all → StopsIf w ms between all new → (h : Hand) → h ≡ left_in gone → Ended h (clock + n) None new
+    pub ends-none : (all : Option Gone) (new : Parts) → None ≡ all → StopsIf (setup_in after.runtime o) ms between all new → (h : Hand) → h ≡ left_in gone → Ended h (clock + n) None new
     ends-none all new e is h left =
-        let behind = behind-none w loaded (left_in gone) started broken clock ms after first first-keeps (plain-view w loaded (left_in gone) started broken clock (state_of ms after) (λ same. tidy)) begun_is
+        let behind = behind-none o (left_in gone) started broken clock ms after first first-keeps first-viewed begun_is
         whole rests n between silent all new e is in
         subst (λ x. Ended x (clock + n) None new) (sym left)
         (record { kept = behind.kept; passes = record { first = first; ends = ends; behind = behind.passes } })
 
-    pub ends-some : (all : Option Gone) (next : Gone) (new : Parts) → Some next ≡ all → StopsIf w ms between all new → (c : ℕ) → c ≡ clock + n + 1 → (h : Hand) → h ≡ left_in next
+    pub ends-some : (all : Option Gone) (next : Gone) (new : Parts) → Some next ≡ all → StopsIf (setup_in after.runtime o) ms between all new → (c : ℕ) → c ≡ clock + n + 1 → (h : Hand) → h ≡ left_in next
         → Ended h c (Some next.due) new
     ends-some all next new e is c ticks h left =
-        let behind = behind-some w loaded (left_in gone) started broken clock ms after first first-keeps (plain-view w loaded (left_in gone) started broken clock (state_of ms after) (λ same. tidy)) begun_is
+        let behind = behind-some o (left_in gone) started broken clock ms after first first-keeps first-viewed begun_is
         whole rests n between silent all next new e is c ticks h left in
         record { kept = behind.kept; passes = record { first = first; ends = ends; behind = behind.passes } }

@@ -165,15 +165,14 @@ module _ (w : Setup) (hand : Hand) (clock : ℕ) (s : State) (is : IsRunOf w clo
         subst (λ (z : State). Passes v n (state_seen w z true false (clock + n) hand)) (sym leads.made)
         (all-pass n silent leads.before (ap (λ (z : State). is_some z.ending) (sym leads.made) ∙ going))
 
-    pub silent-machine : (loaded : List ℕ) → loaded ≡ new.shared.loaded → IsMachine w loaded hand there new
-    silent-machine loaded linked =
+    pub silent-machine : IsMachine w hand there new
+    silent-machine =
         let after : IsRunOf w (clock + n) new = subst (IsRunOf w (clock + n)) (sym leads.made) (runs_then n) in
         record {
           homes = after.homes;
           has = after.has;
           before_the_run = λ no. absurd (let e : true ≡ false = no in cc);
           whole = λ same. record {
-            linked = linked;
             stands = λ rests yes. after.stands;
             rests = λ rests yes. after.sound;
             in_hand = λ busy. absurd (let e : true ≡ false = sym resting ∙ busy in cc);
@@ -184,7 +183,7 @@ module _ (w : Setup) (hand : Hand) (clock : ℕ) (s : State) (is : IsRunOf w clo
 
 -- ---- of the parts of a machine
 
-module _ (w : Setup) (loaded : List ℕ) (hand : Hand) (started broken : Bool) (clock : ℕ) (ms : List Initialization) (p : Parts) (is : IsMachine w loaded hand (state_seen w (state_of ms p) started broken clock hand) (state_of ms p))
+module _ (w : Setup) (hand : Hand) (started broken : Bool) (clock : ℕ) (ms : List Initialization) (p : Parts) (is : IsMachine w hand (state_seen w (state_of ms p) started broken clock hand) (state_of ms p))
     (v : View) (view : state_seen w (state_of ms p) started broken clock hand ≡ v) (begun_is : started ≡ true) (whole : broken ≡ false) (rests : is_resting v ≡ true)
     (n : ℕ) (after : Parts) (passed : Silent w ms p n after) where
   abbrev s : State
@@ -214,11 +213,11 @@ module _ (w : Setup) (loaded : List ℕ) (hand : Hand) (started broken : Bool) (
       (subst (λ b. Passes (state_seen w s b false clock hand) n (state_seen w new b false (clock + n) hand)) (sym begun_is)
       (silent-passes w hand clock s run_now resting n new passed.leads passed.silent going-on)))
 
-  pub plain-machine : IsMachine w loaded hand (state_seen w new started broken (clock + n) hand) new
+  pub plain-machine : IsMachine w hand (state_seen w new started broken (clock + n) hand) new
   plain-machine =
-      subst (λ b. IsMachine w loaded hand (state_seen w new started b (clock + n) hand) new) (sym whole)
-      (subst (λ b. IsMachine w loaded hand (state_seen w new b false (clock + n) hand) new) (sym begun_is)
-      (silent-machine w hand clock s run_now resting n new passed.leads passed.silent going-on loaded ((is.whole whole).linked ∙ sym passed.loaded)))
+      subst (λ b. IsMachine w hand (state_seen w new started b (clock + n) hand) new) (sym whole)
+      (subst (λ b. IsMachine w hand (state_seen w new b false (clock + n) hand) new) (sym begun_is)
+      (silent-machine w hand clock s run_now resting n new passed.leads passed.silent going-on))
 
   pub plain-tidy : IsTidy w.versions s.stack → IsTidy w.versions new.stack
   plain-tidy tidy = silent-tidy w hand clock s run_now resting n new passed.leads passed.silent going-on tidy

@@ -14,11 +14,13 @@ use Rattle.jvm_model.specs.declared.state.State.{State}
 use Rattle.prepared_code.specs.declared.initializations.Initialization.{Initialization}
 use Rattle.prepared_code.specs.declared.parts.Parts.{Parts}
 use Rattle.prepared_code.specs.Initializations.{above, beneath, initializing_entry, stack_of, state_of}
+use Rattle.prepared_code.specs.Linked.{Linked, setup_in}
 use Rattle.prepared_code.specs.States.{active}
 use Rattle.prepared_code.specs.Tables.{Adds, AreAllCurrent, AreOfMethods, IsAdded, Releases, Version, Versions, version_at}
 use Rattle.jvm_model.specs.Running.Run.{starts_with, with_loaded}
 use Rattle.interpreter.specs.declared.turns.hands.Hand.{Hand}
 use Rattle.prepared_code.specs.Versions.{Setup}
+use Rattle.symbolic_references.specs.Runtimes.{RuntimeView}
 use Rattle.jvm_machine.specs.Advances.{taken_state}
 use Rattle.jvm_machine.specs.Machine.{IsTidy, Keeps, holds_stale, is_stale, state_seen, state_viewed}
 use Rattle.interpreter.specs.Instructions.Passing.{runs}
@@ -39,22 +41,22 @@ tidy-seen v stack tidy =
     any-none (is_stale v stack) (range_with_len 0 (length v.slots)) (λ k. not-stale (is_superseded_in v.slots v.current k) (runs k stack) (tidy k))
 
 -- no version is seen that is held needlessly
-pub plain-view : (w : Setup) (loaded : List ℕ) (hand : Hand) (started broken : Bool) (clock : ℕ) (s : State) → (broken ≡ false → IsTidy w.versions s.stack)
+pub plain-view : (w : Setup) (hand : Hand) (started broken : Bool) (clock : ℕ) (s : State) → (broken ≡ false → IsTidy w.versions s.stack)
     → state_viewed w s started broken clock hand ≡ state_seen w s started broken clock hand
-plain-view w loaded hand started true clock s tidy = refl
-plain-view w loaded hand started false clock s tidy = ap (λ b. record (state_seen w s started false clock hand) { stale = b }) (tidy-seen w.versions s.stack (tidy refl))
+plain-view w hand started true clock s tidy = refl
+plain-view w hand started false clock s tidy = ap (λ b. record (state_seen w s started false clock hand) { stale = b }) (tidy-seen w.versions s.stack (tidy refl))
 
 -- what is seen is that
-pub seen-is : {w : Setup} {loaded : List ℕ} {hand : Hand} {started broken : Bool} {clock : ℕ} {s : State} {v : View} (is : Keeps w loaded hand started broken clock s)
-    → state_viewed w s started broken clock hand ≡ v → state_seen w s started broken clock hand ≡ v
-seen-is {w} {loaded} {hand} {started} {broken} {clock} {s} is view = sym (plain-view w loaded hand started broken clock s is.tidy) ∙ view
+pub seen-is : {o : Linked} {r : RuntimeView} {hand : Hand} {started broken : Bool} {clock : ℕ} {s : State} {v : View} (is : Keeps o r hand started broken clock s)
+    → state_viewed (setup_in r o) s started broken clock hand ≡ v → state_seen (setup_in r o) s started broken clock hand ≡ v
+seen-is {o} {r} {hand} {started} {broken} {clock} {s} is view = sym (plain-view (setup_in r o) hand started broken clock s is.tidy) ∙ view
 
-pub never-stale : {w : Setup} {loaded : List ℕ} {hand : Hand} {started broken : Bool} {clock : ℕ} {s : State} {v : View} (is : Keeps w loaded hand started broken clock s)
-    → state_viewed w s started broken clock hand ≡ v → v.stale ≡ false
+pub never-stale : {o : Linked} {r : RuntimeView} {hand : Hand} {started broken : Bool} {clock : ℕ} {s : State} {v : View} (is : Keeps o r hand started broken clock s)
+    → state_viewed (setup_in r o) s started broken clock hand ≡ v → v.stale ≡ false
 never-stale is view = sym (ap (λ (v : View). v.stale) (seen-is is view))
 
-pub as-viewed : (w : Setup) (loaded : List ℕ) (hand : Hand) (clock : ℕ) (s : State) (P : View → Type 0) → IsTidy w.versions s.stack → P (state_seen w s true false clock hand) → P (state_viewed w s true false clock hand)
-as-viewed w loaded hand clock s P tidy holds = subst P (sym (plain-view w loaded hand true false clock s (λ whole. tidy))) holds
+pub as-viewed : (w : Setup) (hand : Hand) (clock : ℕ) (s : State) (P : View → Type 0) → IsTidy w.versions s.stack → P (state_seen w s true false clock hand) → P (state_viewed w s true false clock hand)
+as-viewed w hand clock s P tidy holds = subst P (sym (plain-view w hand true false clock s (λ whole. tidy))) holds
 
 pub unless-some : {A : Type 0} (o : Option A) → ((a : A) → o ≡ Some a → ⊥) → (P : Type 0) → IfNone o P → P
 unless-some None other P holds = holds

@@ -30,12 +30,12 @@ use Rattle.jvm_machine.proofs.Versions.ImagedMethods.{method-images, version-mar
 use Rattle.jvm_machine.proofs.Versions.Kept.{AreKept, hand-stays, kept-of-sound, kept-once, once-stays, same-helds, sound-stays, stands-stays}
 use Rattle.jvm_machine.proofs.Versions.MarkedClasses.{class-marks, marks-all}
 
-module _ (started broken : Bool) (clock : ℕ) (hand : Hand) (s : State) (loaded : List ℕ) (whole : broken ≡ false) where
+module _ (started broken : Bool) (clock : ℕ) (hand : Hand) (s : State) (whole : broken ≡ false) where
   abbrev view : Setup → View
   view w = state_seen w s started broken clock hand
 
   -- the frames run held versions
-  machine-kept : (w : Setup) → IsMachine w loaded hand (view w) s → AreKept w.versions s.stack
+  machine-kept : (w : Setup) → IsMachine w hand (view w) s → AreKept w.versions s.stack
   machine-kept w is = by started refl (is_resting (view w)) refl where
     by : (b : Bool) → started ≡ b → (r : Bool) → is_resting (view w) ≡ r → AreKept w.versions s.stack
     by b f false e = kept-once w hand s ((is.whole whole).sound e)
@@ -45,7 +45,7 @@ module _ (started broken : Bool) (clock : ℕ) (hand : Hand) (s : State) (loaded
   -- ---- a version more
 
   module _ (w : Setup) (fs : List PlacedFrame) (after : Versions) (number : ℕ) (x : Version) (of : IsOfProgram w.world.program x) (added : IsAdded fs number x w.versions after)
-      (pinned : IsPinned fs s.stack) (is : IsMachine w loaded hand (view w) s) where
+      (pinned : IsPinned fs s.stack) (is : IsMachine w hand (view w) s) where
     abbrev u : Setup
     u = record w { versions = after }
 
@@ -64,7 +64,7 @@ module _ (started broken : Bool) (clock : ℕ) (hand : Hand) (s : State) (loaded
     pub one-helds : helds (mark_of after) s.stack ≡ helds (mark_of w.versions) s.stack
     one-helds = same-helds w is.homes is.has fs after news count same s.stack are pinned
 
-    pub one-machine : IsMachine u loaded hand (view u) s
+    pub one-machine : IsMachine u hand (view u) s
     one-machine =
         let now = is.whole whole in
         record {
@@ -72,7 +72,6 @@ module _ (started broken : Bool) (clock : ℕ) (hand : Hand) (s : State) (loaded
           has = has-one w fs after number x of added is.homes is.has;
           before_the_run = λ unstarted. let e = is.before_the_run unstarted in record { clock = e.clock; passed = e.passed; delivered = e.delivered };
           whole = λ unbroken. record {
-            linked = now.linked;
             stands = λ resting yes. stands-stays w is.homes is.has fs after news count same s (run_state (view w)) pinned (now.rests resting yes) (now.stands resting yes);
             rests = λ resting yes. sound-stays w is.homes is.has fs after news count same s pinned (now.rests resting yes);
             in_hand = λ busy. subst (λ live. HasInHand u news (turn w.world clock) hand live s) (sym one-helds)
@@ -85,13 +84,13 @@ module _ (started broken : Bool) (clock : ℕ) (hand : Hand) (s : State) (loaded
   -- ---- versions more
 
   all-machine : (fs : List PlacedFrame) (xs : List Version) (w : Setup) (after : Versions) → AllByRecursion (IsOfProgram w.world.program) xs → Adds fs xs w.versions after → IsPinned fs s.stack
-      → IsMachine w loaded hand (view w) s → IsMachine (record w { versions = after }) loaded hand (view (record w { versions = after })) s
-  all-machine fs [] w after of adds pinned is = subst (λ (v : Versions). IsMachine (record w { versions = v }) loaded hand (view (record w { versions = v })) s) (sym adds) is
+      → IsMachine w hand (view w) s → IsMachine (record w { versions = after }) hand (view (record w { versions = after })) s
+  all-machine fs [] w after of adds pinned is = subst (λ (v : Versions). IsMachine (record w { versions = v }) hand (view (record w { versions = v })) s) (sym adds) is
   all-machine fs (x ∷ xs) w after of adds pinned is =
       all-machine fs xs (record w { versions = adds.1 }) after of.1 adds.3 pinned (one-machine w fs adds.1 adds.0 x of.0 adds.2 pinned is)
 
   all-helds : (fs : List PlacedFrame) (xs : List Version) (w : Setup) (after : Versions) → AllByRecursion (IsOfProgram w.world.program) xs → Adds fs xs w.versions after → IsPinned fs s.stack
-      → IsMachine w loaded hand (view w) s → helds (mark_of after) s.stack ≡ helds (mark_of w.versions) s.stack
+      → IsMachine w hand (view w) s → helds (mark_of after) s.stack ≡ helds (mark_of w.versions) s.stack
   all-helds fs [] w after of adds pinned is = ap (λ (v : Versions). helds (mark_of v) s.stack) adds
   all-helds fs (x ∷ xs) w after of adds pinned is =
       all-helds fs xs (record w { versions = adds.1 }) after of.1 adds.3 pinned (one-machine w fs adds.1 adds.0 x of.0 adds.2 pinned is)
@@ -99,7 +98,7 @@ module _ (started broken : Bool) (clock : ℕ) (hand : Hand) (s : State) (loaded
 
   -- ---- those of a class
 
-  module _ (w : Setup) (fs : List PlacedFrame) (pinned : IsPinned fs s.stack) (is : IsMachine w loaded hand (view w) s) (formed : IsFormed w.world.program) (class : ℕ) (marks : List Mark)
+  module _ (w : Setup) (fs : List PlacedFrame) (pinned : IsPinned fs s.stack) (is : IsMachine w hand (view w) s) (formed : IsFormed w.world.program) (class : ℕ) (marks : List Mark)
       (image : ClassFile) (homes : List (Option Homes)) (of : IsImageOf w.world.program class marks image homes) (few : length image.pool < 2 ^ 16) (after : Setup) (world : after.world ≡ w.world)
       (adds : Adds fs (class_versions w.world.program class image homes) w.versions after.versions) where
     each : AllByRecursion (IsOfProgram w.world.program) (class_versions w.world.program class image homes)
@@ -108,9 +107,9 @@ module _ (started broken : Bool) (clock : ℕ) (hand : Hand) (s : State) (loaded
     whole-after : record w { versions = after.versions } ≡ after
     whole-after = ap (λ (x : World). let z : Setup = record { world = x; versions = after.versions } in z) (sym world)
 
-    pub installed-machine : IsMachine after loaded hand (view after) s
+    pub installed-machine : IsMachine after hand (view after) s
     installed-machine =
-        subst (λ (z : Setup). IsMachine z loaded hand (view z) s) whole-after
+        subst (λ (z : Setup). IsMachine z hand (view z) s) whole-after
         (all-machine fs (class_versions w.world.program class image homes) w after.versions each adds pinned is)
 
     then-marks : marks_of after.versions ≡ marks_over class marks w.world.program.methods (marks_of w.versions)

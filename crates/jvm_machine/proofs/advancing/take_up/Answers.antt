@@ -8,11 +8,11 @@ take_start-requires-clause-at_start c = c.requires.at_start c.if-not-started.tru
 
 pub returns-then-not-started-clause-loads : goal.returns-then-not-started-clause-loads
 returns-then-not-started-clause-loads c =
-    subst (λ x. IfOk c.take_start.result (λ t. t.loads ≡ x)) (sym (ap₂ (taken_loads c.args.originals.now.setup.world) c.if-not-resting.false c.if-not-started.true))
+    subst (λ x. IfOk c.take_start.result (λ t. t.loads ≡ x)) (sym (ap₂ (taken_loads c.args.parts.now.runtime.world) c.if-not-resting.false c.if-not-started.true))
     c.take_start.ensures.loads
 
 pub returns-then-not-started-clause-hand : goal.returns-then-not-started-clause-hand
 returns-then-not-started-clause-hand c =
     subst (λ x. IfOk c.take_start.result (λ t. t.hand ≡ x))
-    (sym (ap₂ (λ resting started. taken_hand c.args.originals.now.setup.world resting started c.args.hand) c.if-not-resting.false c.if-not-started.true))
+    (sym (ap₂ (λ resting started. taken_hand c.args.parts.now.runtime.world resting started c.args.hand) c.if-not-resting.false c.if-not-started.true))
     c.take_start.ensures.hand

@@ -1,10 +1,13 @@
-use Rattle.std.proofs.Common.{◌≡◌, true, false, drop, sym, ap, subst, ◌∙◌}
+use Rattle.std.proofs.Common.{◌≡◌, true, false, drop, length, sym, ap, ap₂, subst, ◌∙◌}
+use Rattle.class_linker.specs.Linkers.{LinkerView}
 use Rattle.jvm_model.specs.declared.state.State.{State}
 use Rattle.prepared_code.specs.Initializations.{state_of}
 use Rattle.interpreter.specs.Moves.Turning.{loads_in}
 use Rattle.prepared_code.specs.Versions.{Setup}
-use Rattle.prepared_code.specs.Tables.{Releases}
+use Rattle.prepared_code.specs.Tables.{Releases, Versions}
 use Rattle.prepared_code.proofs.Tables.StandingSteps.{parts-pinned}
+use Rattle.prepared_code.specs.Linked.{setup_in}
+use Rattle.jvm_machine.proofs.States.LinkedParts.{same-setup}
 use Rattle.jvm_machine.specs.declared.advancing.Telling.TheVariants as telling
 use Rattle.jvm_machine.specs.Advances.{Stops, TellsClasses}
 use Rattle.jvm_machine.specs.Machine.{IsMachine, state_seen}
@@ -19,199 +22,203 @@ pub take_up-requires-clause-at_start : goal.take_up-requires-clause-at_start
 take_up-requires-clause-at_start c = λ early resting. (c.self.invariant.machine.whole (ap (λ (v : View). v.broken) (seen-is c.self.invariant c.self.view_is) ∙ c.requires.whole)).first early
 
 pub take_up-requires-clause-linked : goal.take_up-requires-clause-linked
-take_up-requires-clause-linked c = (c.self.invariant.machine.whole (ap (λ (v : View). v.broken) (seen-is c.self.invariant c.self.view_is) ∙ c.requires.whole)).linked
+take_up-requires-clause-linked c = c.self.invariant.linked (ap (λ (v : View). v.broken) (seen-is c.self.invariant c.self.view_is) ∙ c.requires.whole)
 
 pub take_up-requires-clause-fit : goal.take_up-requires-clause-fit
 take_up-requires-clause-fit c = c.self.invariant.machine.has.fit
 
 pub invariant_of-self : goal.invariant_of-self
 invariant_of-self c = record {
-  machine = broken-machine c.self.inside.originals.setup c.self.inside.hand c.self.inside.started c.self.inside.broken c.self.inside.clock (state_of c.self.inside.initializing c.self.inside.parts) c.self.inside.originals.loaded
+  machine = broken-machine (setup_in c.self.inside.parts.runtime c.self.inside.originals) c.self.inside.hand c.self.inside.started c.self.inside.broken c.self.inside.clock (state_of c.self.inside.initializing c.self.inside.parts)
       (ap (λ (v : View). v.broken) (seen-is c.self.invariant c.self.view_is) ∙ c.requires.whole) c.self.invariant.machine c.args.self.now (seen-is c.self.invariant c.self.view_is) c.is_resting-resting.result c.is_resting-resting.ensures
-      c.clock_in-self-inside.result c.clock_in-self-inside.ensures c.take_up.new.originals.setup c.take_up.ensures.world c.self.inside.hand (state_of c.take_up.new.initializing c.take_up.new.parts) c.take_up.new.originals.loaded;
+      c.clock_in-self-inside.result c.clock_in-self-inside.ensures (setup_in c.take_up.new.parts.runtime c.take_up.new.originals) (same-setup c.self.inside.parts.runtime c.take_up.new.parts.runtime c.self.inside.originals c.take_up.new.originals c.take_up.ensures.world c.take_up.ensures.versions) c.self.inside.hand (state_of c.take_up.new.initializing c.take_up.new.parts);
+  linked = λ whole. absurd (let e : true ≡ false = whole in cc);
   tidy = λ whole. absurd (let e : true ≡ false = whole in cc);
 }
 
 pub returns-in_err-taken-clause-err : goal.returns-in_err-taken-clause-err
 returns-in_err-taken-clause-err c =
     on-err _ c.from_residual.result
-    (broken-seen c.self.inside.originals.setup c.self.inside.hand c.self.inside.started c.self.inside.broken c.self.inside.clock (state_of c.self.inside.initializing c.self.inside.parts) c.self.inside.originals.loaded
+    (broken-seen (setup_in c.self.inside.parts.runtime c.self.inside.originals) c.self.inside.hand c.self.inside.started c.self.inside.broken c.self.inside.clock (state_of c.self.inside.initializing c.self.inside.parts)
     (ap (λ (v : View). v.broken) (seen-is c.self.invariant c.self.view_is) ∙ c.requires.whole) c.self.invariant.machine c.args.self.now (seen-is c.self.invariant c.self.view_is) c.is_resting-resting.result c.is_resting-resting.ensures
-    c.clock_in-self-inside.result c.clock_in-self-inside.ensures c.take_up.new.originals.setup c.take_up.ensures.world c.self.inside.hand (state_of c.take_up.new.initializing c.take_up.new.parts) c.take_up.new.originals.loaded)
+    c.clock_in-self-inside.result c.clock_in-self-inside.ensures (setup_in c.take_up.new.parts.runtime c.take_up.new.originals) (same-setup c.self.inside.parts.runtime c.take_up.new.parts.runtime c.self.inside.originals c.take_up.new.originals c.take_up.ensures.world c.take_up.ensures.versions) c.self.inside.hand (state_of c.take_up.new.initializing c.take_up.new.parts))
 
 pub invariant_of-self-then-not-is_empty : goal.invariant_of-self-then-not-is_empty
 invariant_of-self-then-not-is_empty c = record {
-  machine = (tells-start c.self.inside.originals.setup c.self.inside.hand c.self.inside.started c.self.inside.broken c.self.inside.clock (state_of c.self.inside.initializing c.self.inside.parts) c.self.inside.originals.loaded
+  machine = (tells-start (setup_in c.self.inside.parts.runtime c.self.inside.originals) c.self.inside.hand c.self.inside.started c.self.inside.broken c.self.inside.clock (state_of c.self.inside.initializing c.self.inside.parts)
       (ap (λ (v : View). v.broken) (seen-is c.self.invariant c.self.view_is) ∙ c.requires.whole) c.self.invariant.machine c.args.self.now (seen-is c.self.invariant c.self.view_is) c.is_resting-resting.result c.is_resting-resting.ensures
       c.clock_in-self-inside.result c.clock_in-self-inside.ensures
-      c.take_up.new.originals.setup c.take_up.ensures.world c.in_ok-taken.taken.loads c.in_ok-taken.ensures.loads c.in_ok-taken.taken.hand c.in_ok-taken.ensures.hand
-      (state_of c.take_up.new.initializing c.take_up.new.parts) c.in_ok-taken.ensures.state (sym c.if-not-is_empty.ensures) c.take_up.new.originals.loaded c.in_ok-taken.ensures.linked).1;
-  tidy = λ whole. tidy-taken c.self.inside.originals.setup c.take_up.new.originals.setup c.is_resting-resting.result c.self.inside.started
-      (state_of c.self.inside.initializing c.self.inside.parts) (state_of c.take_up.new.initializing c.take_up.new.parts) c.take_up.ensures.world c.in_ok-taken.ensures.state
+      (setup_in c.take_up.new.parts.runtime c.take_up.new.originals) (same-setup c.self.inside.parts.runtime c.take_up.new.parts.runtime c.self.inside.originals c.take_up.new.originals c.take_up.ensures.world c.take_up.ensures.versions) c.in_ok-taken.taken.loads c.in_ok-taken.ensures.loads c.in_ok-taken.taken.hand c.in_ok-taken.ensures.hand
+      (state_of c.take_up.new.initializing c.take_up.new.parts) c.in_ok-taken.ensures.state (sym c.if-not-is_empty.ensures)).1;
+  linked = λ whole. c.in_ok-taken.ensures.linked;
+  tidy = λ whole. tidy-taken (setup_in c.self.inside.parts.runtime c.self.inside.originals) (setup_in c.take_up.new.parts.runtime c.take_up.new.originals) c.is_resting-resting.result c.self.inside.started
+      (state_of c.self.inside.initializing c.self.inside.parts) (state_of c.take_up.new.initializing c.take_up.new.parts) (same-setup c.self.inside.parts.runtime c.take_up.new.parts.runtime c.self.inside.originals c.take_up.new.originals c.take_up.ensures.world c.take_up.ensures.versions) c.in_ok-taken.ensures.state
       (λ early. ap (λ (z : State). z.stack) ((c.self.invariant.machine.whole (ap (λ (v : View). v.broken) c.self.view_is ∙ c.requires.whole)).first early).before) (c.self.invariant.tidy (ap (λ (v : View). v.broken) c.self.view_is ∙ c.requires.whole));
 }
 
 pub returns-then-not-is_empty-clause-ok : goal.returns-then-not-is_empty-clause-ok
 returns-then-not-is_empty-clause-ok c =
-    as-viewed c.take_up.new.originals.setup c.take_up.new.originals.loaded c.in_ok-taken.taken.hand c.clock_in-self-inside.result (state_of c.take_up.new.initializing c.take_up.new.parts)
+    as-viewed (setup_in c.take_up.new.parts.runtime c.take_up.new.originals) c.in_ok-taken.taken.hand c.clock_in-self-inside.result (state_of c.take_up.new.initializing c.take_up.new.parts)
     (TellsClasses c.args.self.now c.in_ok-taken.taken.loads)
-    (tidy-taken c.self.inside.originals.setup c.take_up.new.originals.setup c.is_resting-resting.result c.self.inside.started
-    (state_of c.self.inside.initializing c.self.inside.parts) (state_of c.take_up.new.initializing c.take_up.new.parts) c.take_up.ensures.world c.in_ok-taken.ensures.state
+    (tidy-taken (setup_in c.self.inside.parts.runtime c.self.inside.originals) (setup_in c.take_up.new.parts.runtime c.take_up.new.originals) c.is_resting-resting.result c.self.inside.started
+    (state_of c.self.inside.initializing c.self.inside.parts) (state_of c.take_up.new.initializing c.take_up.new.parts) (same-setup c.self.inside.parts.runtime c.take_up.new.parts.runtime c.self.inside.originals c.take_up.new.originals c.take_up.ensures.world c.take_up.ensures.versions) c.in_ok-taken.ensures.state
     (λ early. ap (λ (z : State). z.stack) ((c.self.invariant.machine.whole (ap (λ (v : View). v.broken) c.self.view_is ∙ c.requires.whole)).first early).before) (c.self.invariant.tidy (ap (λ (v : View). v.broken) c.self.view_is ∙ c.requires.whole)))
-    ((tells-start c.self.inside.originals.setup c.self.inside.hand c.self.inside.started c.self.inside.broken c.self.inside.clock (state_of c.self.inside.initializing c.self.inside.parts) c.self.inside.originals.loaded
+    ((tells-start (setup_in c.self.inside.parts.runtime c.self.inside.originals) c.self.inside.hand c.self.inside.started c.self.inside.broken c.self.inside.clock (state_of c.self.inside.initializing c.self.inside.parts)
     (ap (λ (v : View). v.broken) (seen-is c.self.invariant c.self.view_is) ∙ c.requires.whole) c.self.invariant.machine c.args.self.now (seen-is c.self.invariant c.self.view_is) c.is_resting-resting.result c.is_resting-resting.ensures
     c.clock_in-self-inside.result c.clock_in-self-inside.ensures
-    c.take_up.new.originals.setup c.take_up.ensures.world c.in_ok-taken.taken.loads c.in_ok-taken.ensures.loads c.in_ok-taken.taken.hand c.in_ok-taken.ensures.hand
-    (state_of c.take_up.new.initializing c.take_up.new.parts) c.in_ok-taken.ensures.state (sym c.if-not-is_empty.ensures) c.take_up.new.originals.loaded c.in_ok-taken.ensures.linked).0)
+    (setup_in c.take_up.new.parts.runtime c.take_up.new.originals) (same-setup c.self.inside.parts.runtime c.take_up.new.parts.runtime c.self.inside.originals c.take_up.new.originals c.take_up.ensures.world c.take_up.ensures.versions) c.in_ok-taken.taken.loads c.in_ok-taken.ensures.loads c.in_ok-taken.taken.hand c.in_ok-taken.ensures.hand
+    (state_of c.take_up.new.initializing c.take_up.new.parts) c.in_ok-taken.ensures.state (sym c.if-not-is_empty.ensures)).0)
 
 pub go-requires-clause-fit : goal.go-requires-clause-fit
-go-requires-clause-fit c = can-run c.self.inside.originals.setup c.self.inside.hand c.self.inside.started c.self.inside.broken c.self.inside.clock (state_of c.self.inside.initializing c.self.inside.parts) c.self.inside.originals.loaded
+go-requires-clause-fit c = can-run (setup_in c.self.inside.parts.runtime c.self.inside.originals) c.self.inside.hand c.self.inside.started c.self.inside.broken c.self.inside.clock (state_of c.self.inside.initializing c.self.inside.parts)
     (ap (λ (v : View). v.broken) (seen-is c.self.invariant c.self.view_is) ∙ c.requires.whole) c.self.invariant.machine c.args.self.now (seen-is c.self.invariant c.self.view_is) c.is_resting-resting.result c.is_resting-resting.ensures
     c.clock_in-self-inside.result c.clock_in-self-inside.ensures
-    c.take_up.new.originals.setup c.take_up.ensures.world c.in_ok-taken.taken.loads c.in_ok-taken.ensures.loads c.in_ok-taken.taken.hand c.in_ok-taken.ensures.hand
+    (setup_in c.take_up.new.parts.runtime c.take_up.new.originals) (same-setup c.self.inside.parts.runtime c.take_up.new.parts.runtime c.self.inside.originals c.take_up.new.originals c.take_up.ensures.world c.take_up.ensures.versions) c.in_ok-taken.taken.loads c.in_ok-taken.ensures.loads c.in_ok-taken.taken.hand c.in_ok-taken.ensures.hand
     (state_of c.take_up.new.initializing c.take_up.new.parts) c.in_ok-taken.ensures.state
 
 pub go-requires-clause-sound : goal.go-requires-clause-sound
-go-requires-clause-sound c = is-attempted c.self.inside.originals.setup c.self.inside.hand c.self.inside.started c.self.inside.broken c.self.inside.clock (state_of c.self.inside.initializing c.self.inside.parts) c.self.inside.originals.loaded
+go-requires-clause-sound c = is-attempted (setup_in c.self.inside.parts.runtime c.self.inside.originals) c.self.inside.hand c.self.inside.started c.self.inside.broken c.self.inside.clock (state_of c.self.inside.initializing c.self.inside.parts)
     (ap (λ (v : View). v.broken) (seen-is c.self.invariant c.self.view_is) ∙ c.requires.whole) c.self.invariant.machine c.args.self.now (seen-is c.self.invariant c.self.view_is) c.is_resting-resting.result c.is_resting-resting.ensures
     c.clock_in-self-inside.result c.clock_in-self-inside.ensures
-    c.take_up.new.originals.setup c.take_up.ensures.world c.in_ok-taken.taken.loads c.in_ok-taken.ensures.loads c.in_ok-taken.taken.hand c.in_ok-taken.ensures.hand
+    (setup_in c.take_up.new.parts.runtime c.take_up.new.originals) (same-setup c.self.inside.parts.runtime c.take_up.new.parts.runtime c.self.inside.originals c.take_up.new.originals c.take_up.ensures.world c.take_up.ensures.versions) c.in_ok-taken.taken.loads c.in_ok-taken.ensures.loads c.in_ok-taken.taken.hand c.in_ok-taken.ensures.hand
     (state_of c.take_up.new.initializing c.take_up.new.parts) c.in_ok-taken.ensures.state
 
 pub invariant_of-self-in_err-gone : goal.invariant_of-self-in_err-gone
 invariant_of-self-in_err-gone c = record {
-  machine = broken-machine c.self.inside.originals.setup c.self.inside.hand c.self.inside.started c.self.inside.broken c.self.inside.clock (state_of c.self.inside.initializing c.self.inside.parts) c.self.inside.originals.loaded
+  machine = broken-machine (setup_in c.self.inside.parts.runtime c.self.inside.originals) c.self.inside.hand c.self.inside.started c.self.inside.broken c.self.inside.clock (state_of c.self.inside.initializing c.self.inside.parts)
       (ap (λ (v : View). v.broken) (seen-is c.self.invariant c.self.view_is) ∙ c.requires.whole) c.self.invariant.machine c.args.self.now (seen-is c.self.invariant c.self.view_is) c.is_resting-resting.result c.is_resting-resting.ensures
-      c.clock_in-self-inside.result c.clock_in-self-inside.ensures c.go.new.originals.setup (c.go.ensures.world ∙ c.take_up.ensures.world) c.in_ok-taken.taken.hand (state_of c.go.new.initializing c.go.new.parts) c.go.new.originals.loaded;
+      c.clock_in-self-inside.result c.clock_in-self-inside.ensures (setup_in c.go.new.parts.runtime c.go.new.originals) ((same-setup c.take_up.new.parts.runtime c.go.new.parts.runtime c.take_up.new.originals c.go.new.originals c.go.ensures.world c.go.ensures.versions) ∙ (same-setup c.self.inside.parts.runtime c.take_up.new.parts.runtime c.self.inside.originals c.take_up.new.originals c.take_up.ensures.world c.take_up.ensures.versions)) c.in_ok-taken.taken.hand (state_of c.go.new.initializing c.go.new.parts);
+  linked = λ whole. absurd (let e : true ≡ false = whole in cc);
   tidy = λ whole. absurd (let e : true ≡ false = whole in cc);
 }
 
 pub returns-in_err-gone-clause-err : goal.returns-in_err-gone-clause-err
 returns-in_err-gone-clause-err c =
     on-err _ c.from_residual-in_err-gone.result
-    (broken-seen c.self.inside.originals.setup c.self.inside.hand c.self.inside.started c.self.inside.broken c.self.inside.clock (state_of c.self.inside.initializing c.self.inside.parts) c.self.inside.originals.loaded
+    (broken-seen (setup_in c.self.inside.parts.runtime c.self.inside.originals) c.self.inside.hand c.self.inside.started c.self.inside.broken c.self.inside.clock (state_of c.self.inside.initializing c.self.inside.parts)
     (ap (λ (v : View). v.broken) (seen-is c.self.invariant c.self.view_is) ∙ c.requires.whole) c.self.invariant.machine c.args.self.now (seen-is c.self.invariant c.self.view_is) c.is_resting-resting.result c.is_resting-resting.ensures
-    c.clock_in-self-inside.result c.clock_in-self-inside.ensures c.go.new.originals.setup (c.go.ensures.world ∙ c.take_up.ensures.world) c.in_ok-taken.taken.hand (state_of c.go.new.initializing c.go.new.parts) c.go.new.originals.loaded)
+    c.clock_in-self-inside.result c.clock_in-self-inside.ensures (setup_in c.go.new.parts.runtime c.go.new.originals) ((same-setup c.take_up.new.parts.runtime c.go.new.parts.runtime c.take_up.new.originals c.go.new.originals c.go.ensures.world c.go.ensures.versions) ∙ (same-setup c.self.inside.parts.runtime c.take_up.new.parts.runtime c.self.inside.originals c.take_up.new.originals c.take_up.ensures.world c.take_up.ensures.versions)) c.in_ok-taken.taken.hand (state_of c.go.new.initializing c.go.new.parts))
 
 pub invariant_of-self-in_err-classes : goal.invariant_of-self-in_err-classes
 invariant_of-self-in_err-classes c = record {
-  machine = broken-machine c.self.inside.originals.setup c.self.inside.hand c.self.inside.started c.self.inside.broken c.self.inside.clock (state_of c.self.inside.initializing c.self.inside.parts) c.self.inside.originals.loaded
+  machine = broken-machine (setup_in c.self.inside.parts.runtime c.self.inside.originals) c.self.inside.hand c.self.inside.started c.self.inside.broken c.self.inside.clock (state_of c.self.inside.initializing c.self.inside.parts)
       (ap (λ (v : View). v.broken) (seen-is c.self.invariant c.self.view_is) ∙ c.requires.whole) c.self.invariant.machine c.args.self.now (seen-is c.self.invariant c.self.view_is) c.is_resting-resting.result c.is_resting-resting.ensures
-      c.clock_in-self-inside.result c.clock_in-self-inside.ensures c.go.new.originals.setup (c.go.ensures.world ∙ c.take_up.ensures.world) c.in_ok-taken.taken.hand (state_of c.go.new.initializing c.go.new.parts) c.go.new.originals.loaded;
+      c.clock_in-self-inside.result c.clock_in-self-inside.ensures (setup_in c.go.new.parts.runtime c.go.new.originals) ((same-setup c.take_up.new.parts.runtime c.go.new.parts.runtime c.take_up.new.originals c.go.new.originals c.go.ensures.world c.go.ensures.versions) ∙ (same-setup c.self.inside.parts.runtime c.take_up.new.parts.runtime c.self.inside.originals c.take_up.new.originals c.take_up.ensures.world c.take_up.ensures.versions)) c.in_ok-taken.taken.hand (state_of c.go.new.initializing c.go.new.parts);
+  linked = λ whole. absurd (let e : true ≡ false = whole in cc);
   tidy = λ whole. absurd (let e : true ≡ false = whole in cc);
 }
 
 pub returns-in_err-classes-clause-err : goal.returns-in_err-classes-clause-err
 returns-in_err-classes-clause-err c =
     on-err _ c.from_residual-in_err-classes.result
-    (broken-seen c.self.inside.originals.setup c.self.inside.hand c.self.inside.started c.self.inside.broken c.self.inside.clock (state_of c.self.inside.initializing c.self.inside.parts) c.self.inside.originals.loaded
+    (broken-seen (setup_in c.self.inside.parts.runtime c.self.inside.originals) c.self.inside.hand c.self.inside.started c.self.inside.broken c.self.inside.clock (state_of c.self.inside.initializing c.self.inside.parts)
     (ap (λ (v : View). v.broken) (seen-is c.self.invariant c.self.view_is) ∙ c.requires.whole) c.self.invariant.machine c.args.self.now (seen-is c.self.invariant c.self.view_is) c.is_resting-resting.result c.is_resting-resting.ensures
-    c.clock_in-self-inside.result c.clock_in-self-inside.ensures c.go.new.originals.setup (c.go.ensures.world ∙ c.take_up.ensures.world) c.in_ok-taken.taken.hand (state_of c.go.new.initializing c.go.new.parts) c.go.new.originals.loaded)
+    c.clock_in-self-inside.result c.clock_in-self-inside.ensures (setup_in c.go.new.parts.runtime c.go.new.originals) ((same-setup c.take_up.new.parts.runtime c.go.new.parts.runtime c.take_up.new.originals c.go.new.originals c.go.ensures.world c.go.ensures.versions) ∙ (same-setup c.self.inside.parts.runtime c.take_up.new.parts.runtime c.self.inside.originals c.take_up.new.originals c.take_up.ensures.world c.take_up.ensures.versions)) c.in_ok-taken.taken.hand (state_of c.go.new.initializing c.go.new.parts))
 
 pub invariant_of-self-in_default : goal.invariant_of-self-in_default
 invariant_of-self-in_default c = record {
-  machine = subst (λ (x : Setup). IsMachine x c.go.new.originals.loaded (one_passed c.in_ok-taken.taken.hand)
+  machine = subst (λ (x : Setup). IsMachine x (one_passed c.in_ok-taken.taken.hand)
       (state_seen x (state_of c.go.new.initializing c.go.new.parts) true false c.clock_in-self-inside.result (one_passed c.in_ok-taken.taken.hand)) (state_of c.go.new.initializing c.go.new.parts))
-      (sym c.go.ensures.world)
-      (tells-step c.self.inside.originals.setup c.self.inside.hand c.self.inside.started c.self.inside.broken c.self.inside.clock (state_of c.self.inside.initializing c.self.inside.parts) c.self.inside.originals.loaded
+      (sym (same-setup c.take_up.new.parts.runtime c.go.new.parts.runtime c.take_up.new.originals c.go.new.originals c.go.ensures.world c.go.ensures.versions))
+      (tells-step (setup_in c.self.inside.parts.runtime c.self.inside.originals) c.self.inside.hand c.self.inside.started c.self.inside.broken c.self.inside.clock (state_of c.self.inside.initializing c.self.inside.parts)
       (ap (λ (v : View). v.broken) (seen-is c.self.invariant c.self.view_is) ∙ c.requires.whole) c.self.invariant.machine c.args.self.now (seen-is c.self.invariant c.self.view_is) c.is_resting-resting.result c.is_resting-resting.ensures
       c.clock_in-self-inside.result c.clock_in-self-inside.ensures
-      c.take_up.new.originals.setup c.take_up.ensures.world c.in_ok-taken.taken.loads c.in_ok-taken.ensures.loads c.in_ok-taken.taken.hand c.in_ok-taken.ensures.hand
+      (setup_in c.take_up.new.parts.runtime c.take_up.new.originals) (same-setup c.self.inside.parts.runtime c.take_up.new.parts.runtime c.self.inside.originals c.take_up.new.originals c.take_up.ensures.world c.take_up.ensures.versions) c.in_ok-taken.taken.loads c.in_ok-taken.ensures.loads c.in_ok-taken.taken.hand c.in_ok-taken.ensures.hand
       (state_of c.take_up.new.initializing c.take_up.new.parts) c.in_ok-taken.ensures.state
-      c.in_ok-gone.gone c.in_default.not-Some c.in_ok-gone.ensures.some (state_of c.go.new.initializing c.go.new.parts) c.in_ok-gone.ensures.loads c.in_ok-gone.ensures.sound
-      c.go.new.originals.loaded c.in_ok-gone.ensures.linked).1;
-  tidy = λ whole. tidy-loaded c.take_up.new.originals.setup c.go.new.originals.setup (loads_in c.take_up.new.originals.setup (state_of c.take_up.new.initializing c.take_up.new.parts)) (state_of c.take_up.new.initializing c.take_up.new.parts) (state_of c.go.new.initializing c.go.new.parts) c.go.ensures.world
+      c.in_ok-gone.gone c.in_default.not-Some c.in_ok-gone.ensures.some (state_of c.go.new.initializing c.go.new.parts) c.in_ok-gone.ensures.loads c.in_ok-gone.ensures.sound).1;
+  linked = λ whole. c.in_ok-gone.ensures.linked;
+  tidy = λ whole. tidy-loaded (setup_in c.take_up.new.parts.runtime c.take_up.new.originals) (setup_in c.go.new.parts.runtime c.go.new.originals) (loads_in (setup_in c.take_up.new.parts.runtime c.take_up.new.originals) (state_of c.take_up.new.initializing c.take_up.new.parts)) (state_of c.take_up.new.initializing c.take_up.new.parts) (state_of c.go.new.initializing c.go.new.parts) (same-setup c.take_up.new.parts.runtime c.go.new.parts.runtime c.take_up.new.originals c.go.new.originals c.go.ensures.world c.go.ensures.versions)
       (unless-some c.in_ok-gone.gone c.in_default.not-Some _ c.in_ok-gone.ensures.loads)
-      (tidy-taken c.self.inside.originals.setup c.take_up.new.originals.setup c.is_resting-resting.result c.self.inside.started
-      (state_of c.self.inside.initializing c.self.inside.parts) (state_of c.take_up.new.initializing c.take_up.new.parts) c.take_up.ensures.world c.in_ok-taken.ensures.state
+      (tidy-taken (setup_in c.self.inside.parts.runtime c.self.inside.originals) (setup_in c.take_up.new.parts.runtime c.take_up.new.originals) c.is_resting-resting.result c.self.inside.started
+      (state_of c.self.inside.initializing c.self.inside.parts) (state_of c.take_up.new.initializing c.take_up.new.parts) (same-setup c.self.inside.parts.runtime c.take_up.new.parts.runtime c.self.inside.originals c.take_up.new.originals c.take_up.ensures.world c.take_up.ensures.versions) c.in_ok-taken.ensures.state
       (λ early. ap (λ (z : State). z.stack) ((c.self.invariant.machine.whole (ap (λ (v : View). v.broken) c.self.view_is ∙ c.requires.whole)).first early).before) (c.self.invariant.tidy (ap (λ (v : View). v.broken) c.self.view_is ∙ c.requires.whole)));
 }
 
 pub returns-in_default-clause-ok : goal.returns-in_default-clause-ok
 returns-in_default-clause-ok c =
-    as-viewed c.go.new.originals.setup c.go.new.originals.loaded (one_passed c.in_ok-taken.taken.hand) c.clock_in-self-inside.result (state_of c.go.new.initializing c.go.new.parts)
+    as-viewed (setup_in c.go.new.parts.runtime c.go.new.originals) (one_passed c.in_ok-taken.taken.hand) c.clock_in-self-inside.result (state_of c.go.new.initializing c.go.new.parts)
     (TellsClasses c.args.self.now c.in_ok-classes.classes)
-    (tidy-loaded c.take_up.new.originals.setup c.go.new.originals.setup (loads_in c.take_up.new.originals.setup (state_of c.take_up.new.initializing c.take_up.new.parts)) (state_of c.take_up.new.initializing c.take_up.new.parts) (state_of c.go.new.initializing c.go.new.parts) c.go.ensures.world
+    (tidy-loaded (setup_in c.take_up.new.parts.runtime c.take_up.new.originals) (setup_in c.go.new.parts.runtime c.go.new.originals) (loads_in (setup_in c.take_up.new.parts.runtime c.take_up.new.originals) (state_of c.take_up.new.initializing c.take_up.new.parts)) (state_of c.take_up.new.initializing c.take_up.new.parts) (state_of c.go.new.initializing c.go.new.parts) (same-setup c.take_up.new.parts.runtime c.go.new.parts.runtime c.take_up.new.originals c.go.new.originals c.go.ensures.world c.go.ensures.versions)
     (unless-some c.in_ok-gone.gone c.in_default.not-Some _ c.in_ok-gone.ensures.loads)
-    (tidy-taken c.self.inside.originals.setup c.take_up.new.originals.setup c.is_resting-resting.result c.self.inside.started
-    (state_of c.self.inside.initializing c.self.inside.parts) (state_of c.take_up.new.initializing c.take_up.new.parts) c.take_up.ensures.world c.in_ok-taken.ensures.state
+    (tidy-taken (setup_in c.self.inside.parts.runtime c.self.inside.originals) (setup_in c.take_up.new.parts.runtime c.take_up.new.originals) c.is_resting-resting.result c.self.inside.started
+    (state_of c.self.inside.initializing c.self.inside.parts) (state_of c.take_up.new.initializing c.take_up.new.parts) (same-setup c.self.inside.parts.runtime c.take_up.new.parts.runtime c.self.inside.originals c.take_up.new.originals c.take_up.ensures.world c.take_up.ensures.versions) c.in_ok-taken.ensures.state
     (λ early. ap (λ (z : State). z.stack) ((c.self.invariant.machine.whole (ap (λ (v : View). v.broken) c.self.view_is ∙ c.requires.whole)).first early).before) (c.self.invariant.tidy (ap (λ (v : View). v.broken) c.self.view_is ∙ c.requires.whole))))
     (subst (λ (x : Setup). TellsClasses c.args.self.now c.in_ok-classes.classes (state_seen x (state_of c.go.new.initializing c.go.new.parts) true false c.clock_in-self-inside.result (one_passed c.in_ok-taken.taken.hand)))
-    (sym c.go.ensures.world)
+    (sym (same-setup c.take_up.new.parts.runtime c.go.new.parts.runtime c.take_up.new.originals c.go.new.originals c.go.ensures.world c.go.ensures.versions))
     (subst (λ l. TellsClasses c.args.self.now l
-    (state_seen c.take_up.new.originals.setup (state_of c.go.new.initializing c.go.new.parts) true false c.clock_in-self-inside.result (one_passed c.in_ok-taken.taken.hand)))
-    (sym (c.in_ok-classes.ensures ∙ ap (λ n. drop n c.go.new.parts.shared.loaded) c.len-count.ensures))
-    (tells-step c.self.inside.originals.setup c.self.inside.hand c.self.inside.started c.self.inside.broken c.self.inside.clock (state_of c.self.inside.initializing c.self.inside.parts) c.self.inside.originals.loaded
+    (state_seen (setup_in c.take_up.new.parts.runtime c.take_up.new.originals) (state_of c.go.new.initializing c.go.new.parts) true false c.clock_in-self-inside.result (one_passed c.in_ok-taken.taken.hand)))
+    (sym (c.in_ok-classes.ensures ∙ ap₂ drop (ap length (c.loaded-count.ensures ∙ ap (λ (l : LinkerView). l.loaded) c.linker.ensures)) (ap (λ (l : LinkerView). l.loaded) c.linker-in_default.ensures)))
+    (tells-step (setup_in c.self.inside.parts.runtime c.self.inside.originals) c.self.inside.hand c.self.inside.started c.self.inside.broken c.self.inside.clock (state_of c.self.inside.initializing c.self.inside.parts)
     (ap (λ (v : View). v.broken) (seen-is c.self.invariant c.self.view_is) ∙ c.requires.whole) c.self.invariant.machine c.args.self.now (seen-is c.self.invariant c.self.view_is) c.is_resting-resting.result c.is_resting-resting.ensures
     c.clock_in-self-inside.result c.clock_in-self-inside.ensures
-    c.take_up.new.originals.setup c.take_up.ensures.world c.in_ok-taken.taken.loads c.in_ok-taken.ensures.loads c.in_ok-taken.taken.hand c.in_ok-taken.ensures.hand
+    (setup_in c.take_up.new.parts.runtime c.take_up.new.originals) (same-setup c.self.inside.parts.runtime c.take_up.new.parts.runtime c.self.inside.originals c.take_up.new.originals c.take_up.ensures.world c.take_up.ensures.versions) c.in_ok-taken.taken.loads c.in_ok-taken.ensures.loads c.in_ok-taken.taken.hand c.in_ok-taken.ensures.hand
     (state_of c.take_up.new.initializing c.take_up.new.parts) c.in_ok-taken.ensures.state
-    c.in_ok-gone.gone c.in_default.not-Some c.in_ok-gone.ensures.some (state_of c.go.new.initializing c.go.new.parts) c.in_ok-gone.ensures.loads c.in_ok-gone.ensures.sound
-    c.go.new.originals.loaded c.in_ok-gone.ensures.linked).0))
+    c.in_ok-gone.gone c.in_default.not-Some c.in_ok-gone.ensures.some (state_of c.go.new.initializing c.go.new.parts) c.in_ok-gone.ensures.loads c.in_ok-gone.ensures.sound).0))
 
 pub invariant_of-self-2 : goal.invariant_of-self-2
 invariant_of-self-2 c = record {
-  machine = (goes-there c.self.inside.originals.setup c.self.inside.hand c.self.inside.started c.self.inside.broken c.self.inside.clock (state_of c.self.inside.initializing c.self.inside.parts) c.self.inside.originals.loaded
+  machine = (goes-there (setup_in c.self.inside.parts.runtime c.self.inside.originals) c.self.inside.hand c.self.inside.started c.self.inside.broken c.self.inside.clock (state_of c.self.inside.initializing c.self.inside.parts)
       (ap (λ (v : View). v.broken) (seen-is c.self.invariant c.self.view_is) ∙ c.requires.whole) c.self.invariant.machine c.args.self.now (seen-is c.self.invariant c.self.view_is) c.is_resting-resting.result c.is_resting-resting.ensures
       c.clock_in-self-inside.result c.clock_in-self-inside.ensures
-      c.take_up.new.originals.setup c.take_up.ensures.world c.in_ok-taken.taken.loads c.in_ok-taken.ensures.loads c.in_ok-taken.taken.hand c.in_ok-taken.ensures.hand
+      (setup_in c.take_up.new.parts.runtime c.take_up.new.originals) (same-setup c.self.inside.parts.runtime c.take_up.new.parts.runtime c.self.inside.originals c.take_up.new.originals c.take_up.ensures.world c.take_up.ensures.versions) c.in_ok-taken.taken.loads c.in_ok-taken.ensures.loads c.in_ok-taken.taken.hand c.in_ok-taken.ensures.hand
       (state_of c.take_up.new.initializing c.take_up.new.parts) c.in_ok-taken.ensures.state
       (sym c.if-not-is_empty.ensures) c.in_ok-gone.gone c.in-Some.gone c.in-Some.is c.in_ok-gone.ensures.some (state_of c.go.new.initializing c.go.new.parts)
-      c.in_ok-gone.ensures.left c.in_ok-gone.ensures.sound c.in_ok-gone.ensures.starts c.in_ok-gone.ensures.hands c.release.new.self.loaded (c.release.ensures.loaded ∙ c.in_ok-gone.ensures.linked)
-      c.go.new.parts.frames.frames (parts-pinned c.go.new.initializing c.go.new.parts) c.release.new.self.setup (c.release.ensures.world ∙ ap (λ (x : Setup). x.world) c.go.ensures.world)
-      (subst (λ (x : Setup). Releases c.go.new.parts.frames.frames x.versions c.release.new.self.setup.versions) c.go.ensures.world c.release.ensures.released) c.hand_left-self-inside.result c.hand_left-self-inside.ensures).1;
-  tidy = λ whole. tidy-released c.go.new.initializing c.go.new.parts c.go.new.originals.setup.versions c.release.new.self.setup.versions c.release.ensures.released;
+      c.in_ok-gone.ensures.left c.in_ok-gone.ensures.sound c.in_ok-gone.ensures.starts c.in_ok-gone.ensures.hands
+      c.go.new.parts.frames.frames (parts-pinned c.go.new.initializing c.go.new.parts) (setup_in c.go.new.parts.runtime c.release.new.self) c.go.ensures.world
+      (subst (λ (x : Versions). Releases c.go.new.parts.frames.frames x c.release.new.self.versions) c.go.ensures.versions c.release.ensures.released) c.hand_left-self-inside.result c.hand_left-self-inside.ensures).1;
+  linked = λ whole. c.release.ensures.linked c.go.new.parts.runtime c.in_ok-gone.ensures.linked;
+  tidy = λ whole. tidy-released c.go.new.initializing c.go.new.parts c.go.new.originals.versions c.release.new.self.versions c.release.ensures.released;
 }
 
 pub returns-clause-ok : goal.returns-clause-ok
 returns-clause-ok c =
-    as-viewed c.release.new.self.setup c.release.new.self.loaded c.hand_left-self-inside.result c.clock_in-self-inside.result (state_of c.go.new.initializing c.go.new.parts)
+    as-viewed (setup_in c.go.new.parts.runtime c.release.new.self) c.hand_left-self-inside.result c.clock_in-self-inside.result (state_of c.go.new.initializing c.go.new.parts)
     (Stops c.args.self.now c.in-Some.gone.due)
-    (tidy-released c.go.new.initializing c.go.new.parts c.go.new.originals.setup.versions c.release.new.self.setup.versions c.release.ensures.released)
-    ((goes-there c.self.inside.originals.setup c.self.inside.hand c.self.inside.started c.self.inside.broken c.self.inside.clock (state_of c.self.inside.initializing c.self.inside.parts) c.self.inside.originals.loaded
+    (tidy-released c.go.new.initializing c.go.new.parts c.go.new.originals.versions c.release.new.self.versions c.release.ensures.released)
+    ((goes-there (setup_in c.self.inside.parts.runtime c.self.inside.originals) c.self.inside.hand c.self.inside.started c.self.inside.broken c.self.inside.clock (state_of c.self.inside.initializing c.self.inside.parts)
     (ap (λ (v : View). v.broken) (seen-is c.self.invariant c.self.view_is) ∙ c.requires.whole) c.self.invariant.machine c.args.self.now (seen-is c.self.invariant c.self.view_is) c.is_resting-resting.result c.is_resting-resting.ensures
     c.clock_in-self-inside.result c.clock_in-self-inside.ensures
-    c.take_up.new.originals.setup c.take_up.ensures.world c.in_ok-taken.taken.loads c.in_ok-taken.ensures.loads c.in_ok-taken.taken.hand c.in_ok-taken.ensures.hand
+    (setup_in c.take_up.new.parts.runtime c.take_up.new.originals) (same-setup c.self.inside.parts.runtime c.take_up.new.parts.runtime c.self.inside.originals c.take_up.new.originals c.take_up.ensures.world c.take_up.ensures.versions) c.in_ok-taken.taken.loads c.in_ok-taken.ensures.loads c.in_ok-taken.taken.hand c.in_ok-taken.ensures.hand
     (state_of c.take_up.new.initializing c.take_up.new.parts) c.in_ok-taken.ensures.state
     (sym c.if-not-is_empty.ensures) c.in_ok-gone.gone c.in-Some.gone c.in-Some.is c.in_ok-gone.ensures.some (state_of c.go.new.initializing c.go.new.parts)
-    c.in_ok-gone.ensures.left c.in_ok-gone.ensures.sound c.in_ok-gone.ensures.starts c.in_ok-gone.ensures.hands c.release.new.self.loaded (c.release.ensures.loaded ∙ c.in_ok-gone.ensures.linked)
-    c.go.new.parts.frames.frames (parts-pinned c.go.new.initializing c.go.new.parts) c.release.new.self.setup (c.release.ensures.world ∙ ap (λ (x : Setup). x.world) c.go.ensures.world)
-    (subst (λ (x : Setup). Releases c.go.new.parts.frames.frames x.versions c.release.new.self.setup.versions) c.go.ensures.world c.release.ensures.released) c.hand_left-self-inside.result c.hand_left-self-inside.ensures).0)
+    c.in_ok-gone.ensures.left c.in_ok-gone.ensures.sound c.in_ok-gone.ensures.starts c.in_ok-gone.ensures.hands
+    c.go.new.parts.frames.frames (parts-pinned c.go.new.initializing c.go.new.parts) (setup_in c.go.new.parts.runtime c.release.new.self) c.go.ensures.world
+    (subst (λ (x : Versions). Releases c.go.new.parts.frames.frames x c.release.new.self.versions) c.go.ensures.versions c.release.ensures.released) c.hand_left-self-inside.result c.hand_left-self-inside.ensures).0)
 
 pub returns-clause-leaves : goal.returns-clause-leaves
 returns-clause-leaves c =
-    as-viewed c.release.new.self.setup c.release.new.self.loaded c.hand_left-self-inside.result c.clock_in-self-inside.result (state_of c.go.new.initializing c.go.new.parts)
+    as-viewed (setup_in c.go.new.parts.runtime c.release.new.self) c.hand_left-self-inside.result c.clock_in-self-inside.result (state_of c.go.new.initializing c.go.new.parts)
     (IfLeaves (telling.Due c.in-Some.gone.due))
-    (tidy-released c.go.new.initializing c.go.new.parts c.go.new.originals.setup.versions c.release.new.self.setup.versions c.release.ensures.released)
-    (leaves-by c.release.new.self.setup c.release.new.self.loaded c.hand_left-self-inside.result c.clock_in-self-inside.result (state_of c.go.new.initializing c.go.new.parts) c.in-Some.gone c.hand_left-self-inside.ensures
+    (tidy-released c.go.new.initializing c.go.new.parts c.go.new.originals.versions c.release.new.self.versions c.release.ensures.released)
+    (leaves-by (setup_in c.go.new.parts.runtime c.release.new.self) c.hand_left-self-inside.result c.clock_in-self-inside.result (state_of c.go.new.initializing c.go.new.parts) c.in-Some.gone c.hand_left-self-inside.ensures
     (some-left c.in_ok-gone.gone c.in-Some.gone c.in-Some.is c.in_ok-gone.ensures.left)
-    (goes-there c.self.inside.originals.setup c.self.inside.hand c.self.inside.started c.self.inside.broken c.self.inside.clock (state_of c.self.inside.initializing c.self.inside.parts) c.self.inside.originals.loaded
+    (goes-there (setup_in c.self.inside.parts.runtime c.self.inside.originals) c.self.inside.hand c.self.inside.started c.self.inside.broken c.self.inside.clock (state_of c.self.inside.initializing c.self.inside.parts)
     (ap (λ (v : View). v.broken) (seen-is c.self.invariant c.self.view_is) ∙ c.requires.whole) c.self.invariant.machine c.args.self.now (seen-is c.self.invariant c.self.view_is) c.is_resting-resting.result c.is_resting-resting.ensures
     c.clock_in-self-inside.result c.clock_in-self-inside.ensures
-    c.take_up.new.originals.setup c.take_up.ensures.world c.in_ok-taken.taken.loads c.in_ok-taken.ensures.loads c.in_ok-taken.taken.hand c.in_ok-taken.ensures.hand
+    (setup_in c.take_up.new.parts.runtime c.take_up.new.originals) (same-setup c.self.inside.parts.runtime c.take_up.new.parts.runtime c.self.inside.originals c.take_up.new.originals c.take_up.ensures.world c.take_up.ensures.versions) c.in_ok-taken.taken.loads c.in_ok-taken.ensures.loads c.in_ok-taken.taken.hand c.in_ok-taken.ensures.hand
     (state_of c.take_up.new.initializing c.take_up.new.parts) c.in_ok-taken.ensures.state
     (sym c.if-not-is_empty.ensures) c.in_ok-gone.gone c.in-Some.gone c.in-Some.is c.in_ok-gone.ensures.some (state_of c.go.new.initializing c.go.new.parts)
-    c.in_ok-gone.ensures.left c.in_ok-gone.ensures.sound c.in_ok-gone.ensures.starts c.in_ok-gone.ensures.hands c.release.new.self.loaded (c.release.ensures.loaded ∙ c.in_ok-gone.ensures.linked)
-    c.go.new.parts.frames.frames (parts-pinned c.go.new.initializing c.go.new.parts) c.release.new.self.setup (c.release.ensures.world ∙ ap (λ (x : Setup). x.world) c.go.ensures.world)
-    (subst (λ (x : Setup). Releases c.go.new.parts.frames.frames x.versions c.release.new.self.setup.versions) c.go.ensures.world c.release.ensures.released) c.hand_left-self-inside.result c.hand_left-self-inside.ensures).1)
+    c.in_ok-gone.ensures.left c.in_ok-gone.ensures.sound c.in_ok-gone.ensures.starts c.in_ok-gone.ensures.hands
+    c.go.new.parts.frames.frames (parts-pinned c.go.new.initializing c.go.new.parts) (setup_in c.go.new.parts.runtime c.release.new.self) c.go.ensures.world
+    (subst (λ (x : Versions). Releases c.go.new.parts.frames.frames x c.release.new.self.versions) c.go.ensures.versions c.release.ensures.released) c.hand_left-self-inside.result c.hand_left-self-inside.ensures).1)
 
 pub returns-then-not-is_empty-clause-held : goal.returns-then-not-is_empty-clause-held
 returns-then-not-is_empty-clause-held c =
-    tidy-seen c.take_up.new.originals.setup.versions (state_of c.take_up.new.initializing c.take_up.new.parts).stack
-    (tidy-taken c.self.inside.originals.setup c.take_up.new.originals.setup c.is_resting-resting.result c.self.inside.started
-    (state_of c.self.inside.initializing c.self.inside.parts) (state_of c.take_up.new.initializing c.take_up.new.parts) c.take_up.ensures.world c.in_ok-taken.ensures.state
+    tidy-seen c.take_up.new.originals.versions (state_of c.take_up.new.initializing c.take_up.new.parts).stack
+    (tidy-taken (setup_in c.self.inside.parts.runtime c.self.inside.originals) (setup_in c.take_up.new.parts.runtime c.take_up.new.originals) c.is_resting-resting.result c.self.inside.started
+    (state_of c.self.inside.initializing c.self.inside.parts) (state_of c.take_up.new.initializing c.take_up.new.parts) (same-setup c.self.inside.parts.runtime c.take_up.new.parts.runtime c.self.inside.originals c.take_up.new.originals c.take_up.ensures.world c.take_up.ensures.versions) c.in_ok-taken.ensures.state
     (λ early. ap (λ (z : State). z.stack) ((c.self.invariant.machine.whole (ap (λ (v : View). v.broken) c.self.view_is ∙ c.requires.whole)).first early).before) (c.self.invariant.tidy (ap (λ (v : View). v.broken) c.self.view_is ∙ c.requires.whole)))
 
 pub returns-in_default-clause-held : goal.returns-in_default-clause-held
 returns-in_default-clause-held c =
-    tidy-seen c.go.new.originals.setup.versions (state_of c.go.new.initializing c.go.new.parts).stack
-    (tidy-loaded c.take_up.new.originals.setup c.go.new.originals.setup (loads_in c.take_up.new.originals.setup (state_of c.take_up.new.initializing c.take_up.new.parts)) (state_of c.take_up.new.initializing c.take_up.new.parts) (state_of c.go.new.initializing c.go.new.parts) c.go.ensures.world
+    tidy-seen c.go.new.originals.versions (state_of c.go.new.initializing c.go.new.parts).stack
+    (tidy-loaded (setup_in c.take_up.new.parts.runtime c.take_up.new.originals) (setup_in c.go.new.parts.runtime c.go.new.originals) (loads_in (setup_in c.take_up.new.parts.runtime c.take_up.new.originals) (state_of c.take_up.new.initializing c.take_up.new.parts)) (state_of c.take_up.new.initializing c.take_up.new.parts) (state_of c.go.new.initializing c.go.new.parts) (same-setup c.take_up.new.parts.runtime c.go.new.parts.runtime c.take_up.new.originals c.go.new.originals c.go.ensures.world c.go.ensures.versions)
     (unless-some c.in_ok-gone.gone c.in_default.not-Some _ c.in_ok-gone.ensures.loads)
-    (tidy-taken c.self.inside.originals.setup c.take_up.new.originals.setup c.is_resting-resting.result c.self.inside.started
-    (state_of c.self.inside.initializing c.self.inside.parts) (state_of c.take_up.new.initializing c.take_up.new.parts) c.take_up.ensures.world c.in_ok-taken.ensures.state
+    (tidy-taken (setup_in c.self.inside.parts.runtime c.self.inside.originals) (setup_in c.take_up.new.parts.runtime c.take_up.new.originals) c.is_resting-resting.result c.self.inside.started
+    (state_of c.self.inside.initializing c.self.inside.parts) (state_of c.take_up.new.initializing c.take_up.new.parts) (same-setup c.self.inside.parts.runtime c.take_up.new.parts.runtime c.self.inside.originals c.take_up.new.originals c.take_up.ensures.world c.take_up.ensures.versions) c.in_ok-taken.ensures.state
     (λ early. ap (λ (z : State). z.stack) ((c.self.invariant.machine.whole (ap (λ (v : View). v.broken) c.self.view_is ∙ c.requires.whole)).first early).before) (c.self.invariant.tidy (ap (λ (v : View). v.broken) c.self.view_is ∙ c.requires.whole))))
 
 pub returns-clause-held : goal.returns-clause-held
 returns-clause-held c =
-    tidy-seen c.release.new.self.setup.versions (state_of c.go.new.initializing c.go.new.parts).stack
-    (tidy-released c.go.new.initializing c.go.new.parts c.go.new.originals.setup.versions c.release.new.self.setup.versions c.release.ensures.released)
+    tidy-seen c.release.new.self.versions (state_of c.go.new.initializing c.go.new.parts).stack
+    (tidy-released c.go.new.initializing c.go.new.parts c.go.new.originals.versions c.release.new.self.versions c.release.ensures.released)

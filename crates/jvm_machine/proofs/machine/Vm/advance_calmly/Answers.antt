@@ -6,9 +6,13 @@ use Rattle.prepared_code.specs.Initializations.{state_of}
 use Rattle.prepared_code.specs.Ready.{IsSoundIn}
 use Rattle.interpreter.specs.Moves.Calmly.{GoesCalmly}
 use Rattle.prepared_code.proofs.Tables.StandingSteps.{set-up-runs}
+use Rattle.prepared_code.specs.Linked.{setup_in}
+use Rattle.symbolic_references.specs.Runtimes.{RuntimeView}
+use Rattle.jvm_model.specs.declared.state.State.{State}
+use Rattle.jvm_machine.proofs.States.LinkedParts.{keeps-on}
 use Rattle.jvm_machine.specs.Advances.{Stops}
 use Rattle.jvm_machine.specs.declared.advancing.Telling.TheVariants as telling
-use Rattle.jvm_machine.specs.Machine.{Keeps}
+use Rattle.jvm_machine.specs.Machine.{Keeps, state_viewed}
 use Rattle.jvm_machine.specs.Probes.{IfLeaves}
 use Rattle.jvm_machine.proofs.Steps.Calmly.{calm-going, calm-leaves, calm-machine, calm-stops, calm-tidy}
 use Rattle.jvm_machine.proofs.Steps.Exits.{GoesOnFrom}
@@ -19,7 +23,7 @@ pub returns-then-self-clause-held : goal.returns-then-self-clause-held
 returns-then-self-clause-held c = never-stale c.self.invariant c.self.view_is
 
 pub go_calmly-gone-requires-clause-fit : goal.go_calmly-gone-requires-clause-fit
-go_calmly-gone-requires-clause-fit c = set-up-runs c.self.inside.originals.setup c.self.invariant.machine.homes c.self.invariant.machine.has
+go_calmly-gone-requires-clause-fit c = set-up-runs (setup_in c.self.inside.parts.runtime c.self.inside.originals) c.self.invariant.machine.homes c.self.invariant.machine.has
 
 pub go_calmly-gone-requires-clause-at_instruction : goal.go_calmly-gone-requires-clause-at_instruction
 go_calmly-gone-requires-clause-at_instruction c = c.is_at_instruction.ensures c.if-not-is_at_instruction.false
@@ -27,84 +31,95 @@ go_calmly-gone-requires-clause-at_instruction c = c.is_at_instruction.ensures c.
 -- nothing was done
 pub invariant_of-self : goal.invariant_of-self
 invariant_of-self c =
-    subst (λ s. Keeps c.self.inside.originals.setup c.self.inside.originals.loaded c.self.inside.hand c.self.inside.started c.self.inside.broken c.self.inside.clock s) (sym (subst (λ o. IfNone o (state_of c.self.inside.initializing c.go_calmly-gone.new.parts ≡ state_of c.self.inside.initializing c.self.inside.parts)) c.in_default.is c.go_calmly-gone.ensures.none)) c.self.invariant
+    subst (λ (r : RuntimeView). Keeps c.self.inside.originals r c.self.inside.hand c.self.inside.started c.self.inside.broken c.self.inside.clock (state_of c.self.inside.initializing c.go_calmly-gone.new.parts)) (sym c.go_calmly-gone.ensures.runtime)
+    (subst (λ s. Keeps c.self.inside.originals c.self.inside.parts.runtime c.self.inside.hand c.self.inside.started c.self.inside.broken c.self.inside.clock s)
+    (sym (subst (λ o. IfNone o (state_of c.self.inside.initializing c.go_calmly-gone.new.parts ≡ state_of c.self.inside.initializing c.self.inside.parts)) c.in_default.is c.go_calmly-gone.ensures.none))
+    c.self.invariant)
 
 pub returns-in_default-clause-held : goal.returns-in_default-clause-held
-returns-in_default-clause-held c =
-    never-stale (subst (λ s. Keeps c.self.inside.originals.setup c.self.inside.originals.loaded c.self.inside.hand c.self.inside.started c.self.inside.broken c.self.inside.clock s) (sym (subst (λ o. IfNone o (state_of c.self.inside.initializing c.go_calmly-gone.new.parts ≡ state_of c.self.inside.initializing c.self.inside.parts)) c.in_default.is c.go_calmly-gone.ensures.none)) c.self.invariant) refl
+returns-in_default-clause-held c = never-stale (invariant_of-self c) refl
+
+pub returns-in_default-clause-none : goal.returns-in_default-clause-none
+returns-in_default-clause-none c =
+    subst (λ (r : RuntimeView). state_viewed (setup_in r c.self.inside.originals) (state_of c.self.inside.initializing c.go_calmly-gone.new.parts) c.self.inside.started c.self.inside.broken c.self.inside.clock c.self.inside.hand ≡ c.args.self.now) (sym c.go_calmly-gone.ensures.runtime)
+    (ap (λ (s : State). state_viewed (setup_in c.self.inside.parts.runtime c.self.inside.originals) s c.self.inside.started c.self.inside.broken c.self.inside.clock c.self.inside.hand)
+    (subst (λ o. IfNone o (state_of c.self.inside.initializing c.go_calmly-gone.new.parts ≡ state_of c.self.inside.initializing c.self.inside.parts)) c.in_default.is c.go_calmly-gone.ensures.none)
+    ∙ c.self.view_is)
 
 -- it has gone on
 pub invariant_of-self-2 : goal.invariant_of-self-2
-invariant_of-self-2 c = record {
-  machine = calm-machine c.self.inside.originals.setup c.self.inside.originals.loaded c.self.inside.hand c.self.inside.started c.self.inside.broken c.self.inside.clock
+invariant_of-self-2 c =
+    keeps-on c.self.inside.originals c.self.inside.parts.runtime c.go_calmly-gone.new.parts.runtime (ap (λ (r : RuntimeView). r.world) c.go_calmly-gone.ensures.runtime) (ap (λ (r : RuntimeView). r.shared.loaded) c.go_calmly-gone.ensures.runtime) c.self.invariant.linked
+      (calm-machine (setup_in c.self.inside.parts.runtime c.self.inside.originals) c.self.inside.hand c.self.inside.started c.self.inside.broken c.self.inside.clock
       c.self.inside.initializing c.self.inside.parts c.self.invariant.machine c.args.self.now (seen-is c.self.invariant c.self.view_is) c.if-not-self.false c.if-self.false
       c.is_resting-resting.result c.is_resting-resting.ensures
-      c.hand_now-hand.result (c.hand_now-hand.ensures c.self.inside.originals.setup.world) c.go_calmly-gone.new.parts c.in-Some.gone
-      (subst (λ o. IfSome o (λ gone. GoesCalmly c.self.inside.originals.setup c.self.inside.initializing c.hand_now-hand.result c.self.inside.parts gone c.go_calmly-gone.new.parts)) c.in-Some.is c.go_calmly-gone.ensures.goes)
-      (subst (λ o. IfSome o (λ gone. GoesOnFrom c.self.inside.originals.setup c.hand_now-hand.result (state_of c.self.inside.initializing c.self.inside.parts) gone (state_of c.self.inside.initializing c.go_calmly-gone.new.parts))) c.in-Some.is c.go_calmly-gone.ensures.hands)
-      (subst (λ o. IfSome o (λ gone. IsSoundIn c.self.inside.originals.setup (state_of c.self.inside.initializing c.self.inside.parts) → IsSoundIn c.self.inside.originals.setup (state_of c.self.inside.initializing c.go_calmly-gone.new.parts))) c.in-Some.is c.go_calmly-gone.ensures.sound)
-      (subst (λ o. IfSome o (λ gone. c.hand_now-hand.result.moves ≡ true → c.hand_now-hand.result.delivered ≡ false → state_of c.self.inside.initializing c.self.inside.parts ≡ starts_with c.self.inside.originals.setup.world → IsSoundIn c.self.inside.originals.setup (state_of c.self.inside.initializing c.go_calmly-gone.new.parts))) c.in-Some.is c.go_calmly-gone.ensures.starts)
-      c.clock_in-self-inside.result c.clock_in-self-inside.ensures c.hand_left-self-inside.result c.hand_left-self-inside.ensures;
-  tidy = λ whole. calm-tidy c.self.inside.originals.setup c.self.inside.originals.loaded c.self.inside.hand c.self.inside.started c.self.inside.broken c.self.inside.clock
+      c.hand_now-hand.result (c.hand_now-hand.ensures c.self.inside.parts.runtime.world) c.go_calmly-gone.new.parts c.in-Some.gone
+      (subst (λ o. IfSome o (λ gone. GoesCalmly (setup_in c.self.inside.parts.runtime c.self.inside.originals) c.self.inside.initializing c.hand_now-hand.result c.self.inside.parts gone c.go_calmly-gone.new.parts)) c.in-Some.is c.go_calmly-gone.ensures.goes)
+      (subst (λ o. IfSome o (λ gone. GoesOnFrom (setup_in c.self.inside.parts.runtime c.self.inside.originals) c.hand_now-hand.result (state_of c.self.inside.initializing c.self.inside.parts) gone (state_of c.self.inside.initializing c.go_calmly-gone.new.parts))) c.in-Some.is c.go_calmly-gone.ensures.hands)
+      (subst (λ o. IfSome o (λ gone. IsSoundIn (setup_in c.self.inside.parts.runtime c.self.inside.originals) (state_of c.self.inside.initializing c.self.inside.parts) → IsSoundIn (setup_in c.self.inside.parts.runtime c.self.inside.originals) (state_of c.self.inside.initializing c.go_calmly-gone.new.parts))) c.in-Some.is c.go_calmly-gone.ensures.sound)
+      (subst (λ o. IfSome o (λ gone. c.hand_now-hand.result.moves ≡ true → c.hand_now-hand.result.delivered ≡ false → state_of c.self.inside.initializing c.self.inside.parts ≡ starts_with c.self.inside.parts.runtime.world → IsSoundIn (setup_in c.self.inside.parts.runtime c.self.inside.originals) (state_of c.self.inside.initializing c.go_calmly-gone.new.parts))) c.in-Some.is c.go_calmly-gone.ensures.starts)
+      c.clock_in-self-inside.result c.clock_in-self-inside.ensures c.hand_left-self-inside.result c.hand_left-self-inside.ensures)
+      (λ whole. calm-tidy (setup_in c.self.inside.parts.runtime c.self.inside.originals) c.self.inside.hand c.self.inside.started c.self.inside.broken c.self.inside.clock
       c.self.inside.initializing c.self.inside.parts c.self.invariant.machine c.args.self.now (seen-is c.self.invariant c.self.view_is) c.if-not-self.false c.if-self.false
       c.is_resting-resting.result c.is_resting-resting.ensures
-      c.hand_now-hand.result (c.hand_now-hand.ensures c.self.inside.originals.setup.world) c.go_calmly-gone.new.parts c.in-Some.gone
-      (subst (λ o. IfSome o (λ gone. GoesCalmly c.self.inside.originals.setup c.self.inside.initializing c.hand_now-hand.result c.self.inside.parts gone c.go_calmly-gone.new.parts)) c.in-Some.is c.go_calmly-gone.ensures.goes)
-      (subst (λ o. IfSome o (λ gone. GoesOnFrom c.self.inside.originals.setup c.hand_now-hand.result (state_of c.self.inside.initializing c.self.inside.parts) gone (state_of c.self.inside.initializing c.go_calmly-gone.new.parts))) c.in-Some.is c.go_calmly-gone.ensures.hands)
-      (subst (λ o. IfSome o (λ gone. IsSoundIn c.self.inside.originals.setup (state_of c.self.inside.initializing c.self.inside.parts) → IsSoundIn c.self.inside.originals.setup (state_of c.self.inside.initializing c.go_calmly-gone.new.parts))) c.in-Some.is c.go_calmly-gone.ensures.sound)
-      (subst (λ o. IfSome o (λ gone. c.hand_now-hand.result.moves ≡ true → c.hand_now-hand.result.delivered ≡ false → state_of c.self.inside.initializing c.self.inside.parts ≡ starts_with c.self.inside.originals.setup.world → IsSoundIn c.self.inside.originals.setup (state_of c.self.inside.initializing c.go_calmly-gone.new.parts))) c.in-Some.is c.go_calmly-gone.ensures.starts)
-      c.clock_in-self-inside.result c.clock_in-self-inside.ensures c.hand_left-self-inside.result c.hand_left-self-inside.ensures (c.self.invariant.tidy whole);
-}
+      c.hand_now-hand.result (c.hand_now-hand.ensures c.self.inside.parts.runtime.world) c.go_calmly-gone.new.parts c.in-Some.gone
+      (subst (λ o. IfSome o (λ gone. GoesCalmly (setup_in c.self.inside.parts.runtime c.self.inside.originals) c.self.inside.initializing c.hand_now-hand.result c.self.inside.parts gone c.go_calmly-gone.new.parts)) c.in-Some.is c.go_calmly-gone.ensures.goes)
+      (subst (λ o. IfSome o (λ gone. GoesOnFrom (setup_in c.self.inside.parts.runtime c.self.inside.originals) c.hand_now-hand.result (state_of c.self.inside.initializing c.self.inside.parts) gone (state_of c.self.inside.initializing c.go_calmly-gone.new.parts))) c.in-Some.is c.go_calmly-gone.ensures.hands)
+      (subst (λ o. IfSome o (λ gone. IsSoundIn (setup_in c.self.inside.parts.runtime c.self.inside.originals) (state_of c.self.inside.initializing c.self.inside.parts) → IsSoundIn (setup_in c.self.inside.parts.runtime c.self.inside.originals) (state_of c.self.inside.initializing c.go_calmly-gone.new.parts))) c.in-Some.is c.go_calmly-gone.ensures.sound)
+      (subst (λ o. IfSome o (λ gone. c.hand_now-hand.result.moves ≡ true → c.hand_now-hand.result.delivered ≡ false → state_of c.self.inside.initializing c.self.inside.parts ≡ starts_with c.self.inside.parts.runtime.world → IsSoundIn (setup_in c.self.inside.parts.runtime c.self.inside.originals) (state_of c.self.inside.initializing c.go_calmly-gone.new.parts))) c.in-Some.is c.go_calmly-gone.ensures.starts)
+      c.clock_in-self-inside.result c.clock_in-self-inside.ensures c.hand_left-self-inside.result c.hand_left-self-inside.ensures (c.self.invariant.tidy whole))
 
 pub returns-clause-stops : goal.returns-clause-stops
 returns-clause-stops c =
-    subst (Stops c.args.self.now c.in-Some.gone.due)
-    (sym (plain-view c.self.inside.originals.setup c.self.inside.originals.loaded c.hand_left-self-inside.result c.self.inside.started c.self.inside.broken c.clock_in-self-inside.result
-    (state_of c.self.inside.initializing c.go_calmly-gone.new.parts) (λ whole. calm-tidy c.self.inside.originals.setup c.self.inside.originals.loaded c.self.inside.hand c.self.inside.started c.self.inside.broken c.self.inside.clock
+    subst (λ (r : RuntimeView). Stops c.args.self.now c.in-Some.gone.due (state_viewed (setup_in r c.self.inside.originals) (state_of c.self.inside.initializing c.go_calmly-gone.new.parts) c.self.inside.started c.self.inside.broken c.clock_in-self-inside.result c.hand_left-self-inside.result)) (sym c.go_calmly-gone.ensures.runtime)
+    (subst (Stops c.args.self.now c.in-Some.gone.due)
+    (sym (plain-view (setup_in c.self.inside.parts.runtime c.self.inside.originals) c.hand_left-self-inside.result c.self.inside.started c.self.inside.broken c.clock_in-self-inside.result
+    (state_of c.self.inside.initializing c.go_calmly-gone.new.parts) (λ whole. calm-tidy (setup_in c.self.inside.parts.runtime c.self.inside.originals) c.self.inside.hand c.self.inside.started c.self.inside.broken c.self.inside.clock
     c.self.inside.initializing c.self.inside.parts c.self.invariant.machine c.args.self.now (seen-is c.self.invariant c.self.view_is) c.if-not-self.false c.if-self.false
     c.is_resting-resting.result c.is_resting-resting.ensures
-    c.hand_now-hand.result (c.hand_now-hand.ensures c.self.inside.originals.setup.world) c.go_calmly-gone.new.parts c.in-Some.gone
-    (subst (λ o. IfSome o (λ gone. GoesCalmly c.self.inside.originals.setup c.self.inside.initializing c.hand_now-hand.result c.self.inside.parts gone c.go_calmly-gone.new.parts)) c.in-Some.is c.go_calmly-gone.ensures.goes)
-    (subst (λ o. IfSome o (λ gone. GoesOnFrom c.self.inside.originals.setup c.hand_now-hand.result (state_of c.self.inside.initializing c.self.inside.parts) gone (state_of c.self.inside.initializing c.go_calmly-gone.new.parts))) c.in-Some.is c.go_calmly-gone.ensures.hands)
-    (subst (λ o. IfSome o (λ gone. IsSoundIn c.self.inside.originals.setup (state_of c.self.inside.initializing c.self.inside.parts) → IsSoundIn c.self.inside.originals.setup (state_of c.self.inside.initializing c.go_calmly-gone.new.parts))) c.in-Some.is c.go_calmly-gone.ensures.sound)
-    (subst (λ o. IfSome o (λ gone. c.hand_now-hand.result.moves ≡ true → c.hand_now-hand.result.delivered ≡ false → state_of c.self.inside.initializing c.self.inside.parts ≡ starts_with c.self.inside.originals.setup.world → IsSoundIn c.self.inside.originals.setup (state_of c.self.inside.initializing c.go_calmly-gone.new.parts))) c.in-Some.is c.go_calmly-gone.ensures.starts)
+    c.hand_now-hand.result (c.hand_now-hand.ensures c.self.inside.parts.runtime.world) c.go_calmly-gone.new.parts c.in-Some.gone
+    (subst (λ o. IfSome o (λ gone. GoesCalmly (setup_in c.self.inside.parts.runtime c.self.inside.originals) c.self.inside.initializing c.hand_now-hand.result c.self.inside.parts gone c.go_calmly-gone.new.parts)) c.in-Some.is c.go_calmly-gone.ensures.goes)
+    (subst (λ o. IfSome o (λ gone. GoesOnFrom (setup_in c.self.inside.parts.runtime c.self.inside.originals) c.hand_now-hand.result (state_of c.self.inside.initializing c.self.inside.parts) gone (state_of c.self.inside.initializing c.go_calmly-gone.new.parts))) c.in-Some.is c.go_calmly-gone.ensures.hands)
+    (subst (λ o. IfSome o (λ gone. IsSoundIn (setup_in c.self.inside.parts.runtime c.self.inside.originals) (state_of c.self.inside.initializing c.self.inside.parts) → IsSoundIn (setup_in c.self.inside.parts.runtime c.self.inside.originals) (state_of c.self.inside.initializing c.go_calmly-gone.new.parts))) c.in-Some.is c.go_calmly-gone.ensures.sound)
+    (subst (λ o. IfSome o (λ gone. c.hand_now-hand.result.moves ≡ true → c.hand_now-hand.result.delivered ≡ false → state_of c.self.inside.initializing c.self.inside.parts ≡ starts_with c.self.inside.parts.runtime.world → IsSoundIn (setup_in c.self.inside.parts.runtime c.self.inside.originals) (state_of c.self.inside.initializing c.go_calmly-gone.new.parts))) c.in-Some.is c.go_calmly-gone.ensures.starts)
     c.clock_in-self-inside.result c.clock_in-self-inside.ensures c.hand_left-self-inside.result c.hand_left-self-inside.ensures (c.self.invariant.tidy whole))))
-    (calm-stops c.self.inside.originals.setup c.self.inside.originals.loaded c.self.inside.hand c.self.inside.started c.self.inside.broken c.self.inside.clock
+    (calm-stops (setup_in c.self.inside.parts.runtime c.self.inside.originals) c.self.inside.hand c.self.inside.started c.self.inside.broken c.self.inside.clock
     c.self.inside.initializing c.self.inside.parts c.self.invariant.machine c.args.self.now (seen-is c.self.invariant c.self.view_is) c.if-not-self.false c.if-self.false
     c.is_resting-resting.result c.is_resting-resting.ensures
-    c.hand_now-hand.result (c.hand_now-hand.ensures c.self.inside.originals.setup.world) c.go_calmly-gone.new.parts c.in-Some.gone
-    (subst (λ o. IfSome o (λ gone. GoesCalmly c.self.inside.originals.setup c.self.inside.initializing c.hand_now-hand.result c.self.inside.parts gone c.go_calmly-gone.new.parts)) c.in-Some.is c.go_calmly-gone.ensures.goes)
-    (subst (λ o. IfSome o (λ gone. GoesOnFrom c.self.inside.originals.setup c.hand_now-hand.result (state_of c.self.inside.initializing c.self.inside.parts) gone (state_of c.self.inside.initializing c.go_calmly-gone.new.parts))) c.in-Some.is c.go_calmly-gone.ensures.hands)
-    (subst (λ o. IfSome o (λ gone. IsSoundIn c.self.inside.originals.setup (state_of c.self.inside.initializing c.self.inside.parts) → IsSoundIn c.self.inside.originals.setup (state_of c.self.inside.initializing c.go_calmly-gone.new.parts))) c.in-Some.is c.go_calmly-gone.ensures.sound)
-    (subst (λ o. IfSome o (λ gone. c.hand_now-hand.result.moves ≡ true → c.hand_now-hand.result.delivered ≡ false → state_of c.self.inside.initializing c.self.inside.parts ≡ starts_with c.self.inside.originals.setup.world → IsSoundIn c.self.inside.originals.setup (state_of c.self.inside.initializing c.go_calmly-gone.new.parts))) c.in-Some.is c.go_calmly-gone.ensures.starts)
-    c.clock_in-self-inside.result c.clock_in-self-inside.ensures c.hand_left-self-inside.result c.hand_left-self-inside.ensures)
+    c.hand_now-hand.result (c.hand_now-hand.ensures c.self.inside.parts.runtime.world) c.go_calmly-gone.new.parts c.in-Some.gone
+    (subst (λ o. IfSome o (λ gone. GoesCalmly (setup_in c.self.inside.parts.runtime c.self.inside.originals) c.self.inside.initializing c.hand_now-hand.result c.self.inside.parts gone c.go_calmly-gone.new.parts)) c.in-Some.is c.go_calmly-gone.ensures.goes)
+    (subst (λ o. IfSome o (λ gone. GoesOnFrom (setup_in c.self.inside.parts.runtime c.self.inside.originals) c.hand_now-hand.result (state_of c.self.inside.initializing c.self.inside.parts) gone (state_of c.self.inside.initializing c.go_calmly-gone.new.parts))) c.in-Some.is c.go_calmly-gone.ensures.hands)
+    (subst (λ o. IfSome o (λ gone. IsSoundIn (setup_in c.self.inside.parts.runtime c.self.inside.originals) (state_of c.self.inside.initializing c.self.inside.parts) → IsSoundIn (setup_in c.self.inside.parts.runtime c.self.inside.originals) (state_of c.self.inside.initializing c.go_calmly-gone.new.parts))) c.in-Some.is c.go_calmly-gone.ensures.sound)
+    (subst (λ o. IfSome o (λ gone. c.hand_now-hand.result.moves ≡ true → c.hand_now-hand.result.delivered ≡ false → state_of c.self.inside.initializing c.self.inside.parts ≡ starts_with c.self.inside.parts.runtime.world → IsSoundIn (setup_in c.self.inside.parts.runtime c.self.inside.originals) (state_of c.self.inside.initializing c.go_calmly-gone.new.parts))) c.in-Some.is c.go_calmly-gone.ensures.starts)
+    c.clock_in-self-inside.result c.clock_in-self-inside.ensures c.hand_left-self-inside.result c.hand_left-self-inside.ensures))
 
 pub returns-clause-leaves : goal.returns-clause-leaves
 returns-clause-leaves c =
-    subst (IfLeaves (telling.Due c.in-Some.gone.due))
-    (sym (plain-view c.self.inside.originals.setup c.self.inside.originals.loaded c.hand_left-self-inside.result c.self.inside.started c.self.inside.broken c.clock_in-self-inside.result
-    (state_of c.self.inside.initializing c.go_calmly-gone.new.parts) (λ whole. calm-tidy c.self.inside.originals.setup c.self.inside.originals.loaded c.self.inside.hand c.self.inside.started c.self.inside.broken c.self.inside.clock
+    subst (λ (r : RuntimeView). IfLeaves (telling.Due c.in-Some.gone.due) (state_viewed (setup_in r c.self.inside.originals) (state_of c.self.inside.initializing c.go_calmly-gone.new.parts) c.self.inside.started c.self.inside.broken c.clock_in-self-inside.result c.hand_left-self-inside.result)) (sym c.go_calmly-gone.ensures.runtime)
+    (subst (IfLeaves (telling.Due c.in-Some.gone.due))
+    (sym (plain-view (setup_in c.self.inside.parts.runtime c.self.inside.originals) c.hand_left-self-inside.result c.self.inside.started c.self.inside.broken c.clock_in-self-inside.result
+    (state_of c.self.inside.initializing c.go_calmly-gone.new.parts) (λ whole. calm-tidy (setup_in c.self.inside.parts.runtime c.self.inside.originals) c.self.inside.hand c.self.inside.started c.self.inside.broken c.self.inside.clock
     c.self.inside.initializing c.self.inside.parts c.self.invariant.machine c.args.self.now (seen-is c.self.invariant c.self.view_is) c.if-not-self.false c.if-self.false
     c.is_resting-resting.result c.is_resting-resting.ensures
-    c.hand_now-hand.result (c.hand_now-hand.ensures c.self.inside.originals.setup.world) c.go_calmly-gone.new.parts c.in-Some.gone
-    (subst (λ o. IfSome o (λ gone. GoesCalmly c.self.inside.originals.setup c.self.inside.initializing c.hand_now-hand.result c.self.inside.parts gone c.go_calmly-gone.new.parts)) c.in-Some.is c.go_calmly-gone.ensures.goes)
-    (subst (λ o. IfSome o (λ gone. GoesOnFrom c.self.inside.originals.setup c.hand_now-hand.result (state_of c.self.inside.initializing c.self.inside.parts) gone (state_of c.self.inside.initializing c.go_calmly-gone.new.parts))) c.in-Some.is c.go_calmly-gone.ensures.hands)
-    (subst (λ o. IfSome o (λ gone. IsSoundIn c.self.inside.originals.setup (state_of c.self.inside.initializing c.self.inside.parts) → IsSoundIn c.self.inside.originals.setup (state_of c.self.inside.initializing c.go_calmly-gone.new.parts))) c.in-Some.is c.go_calmly-gone.ensures.sound)
-    (subst (λ o. IfSome o (λ gone. c.hand_now-hand.result.moves ≡ true → c.hand_now-hand.result.delivered ≡ false → state_of c.self.inside.initializing c.self.inside.parts ≡ starts_with c.self.inside.originals.setup.world → IsSoundIn c.self.inside.originals.setup (state_of c.self.inside.initializing c.go_calmly-gone.new.parts))) c.in-Some.is c.go_calmly-gone.ensures.starts)
+    c.hand_now-hand.result (c.hand_now-hand.ensures c.self.inside.parts.runtime.world) c.go_calmly-gone.new.parts c.in-Some.gone
+    (subst (λ o. IfSome o (λ gone. GoesCalmly (setup_in c.self.inside.parts.runtime c.self.inside.originals) c.self.inside.initializing c.hand_now-hand.result c.self.inside.parts gone c.go_calmly-gone.new.parts)) c.in-Some.is c.go_calmly-gone.ensures.goes)
+    (subst (λ o. IfSome o (λ gone. GoesOnFrom (setup_in c.self.inside.parts.runtime c.self.inside.originals) c.hand_now-hand.result (state_of c.self.inside.initializing c.self.inside.parts) gone (state_of c.self.inside.initializing c.go_calmly-gone.new.parts))) c.in-Some.is c.go_calmly-gone.ensures.hands)
+    (subst (λ o. IfSome o (λ gone. IsSoundIn (setup_in c.self.inside.parts.runtime c.self.inside.originals) (state_of c.self.inside.initializing c.self.inside.parts) → IsSoundIn (setup_in c.self.inside.parts.runtime c.self.inside.originals) (state_of c.self.inside.initializing c.go_calmly-gone.new.parts))) c.in-Some.is c.go_calmly-gone.ensures.sound)
+    (subst (λ o. IfSome o (λ gone. c.hand_now-hand.result.moves ≡ true → c.hand_now-hand.result.delivered ≡ false → state_of c.self.inside.initializing c.self.inside.parts ≡ starts_with c.self.inside.parts.runtime.world → IsSoundIn (setup_in c.self.inside.parts.runtime c.self.inside.originals) (state_of c.self.inside.initializing c.go_calmly-gone.new.parts))) c.in-Some.is c.go_calmly-gone.ensures.starts)
     c.clock_in-self-inside.result c.clock_in-self-inside.ensures c.hand_left-self-inside.result c.hand_left-self-inside.ensures (c.self.invariant.tidy whole))))
-    (calm-leaves c.self.inside.originals.setup c.self.inside.originals.loaded c.self.inside.hand c.self.inside.started c.self.inside.broken c.self.inside.clock
+    (calm-leaves (setup_in c.self.inside.parts.runtime c.self.inside.originals) c.self.inside.hand c.self.inside.started c.self.inside.broken c.self.inside.clock
     c.self.inside.initializing c.self.inside.parts c.self.invariant.machine c.args.self.now (seen-is c.self.invariant c.self.view_is) c.if-not-self.false c.if-self.false
     c.is_resting-resting.result c.is_resting-resting.ensures
-    c.hand_now-hand.result (c.hand_now-hand.ensures c.self.inside.originals.setup.world) c.go_calmly-gone.new.parts c.in-Some.gone
-    (subst (λ o. IfSome o (λ gone. GoesCalmly c.self.inside.originals.setup c.self.inside.initializing c.hand_now-hand.result c.self.inside.parts gone c.go_calmly-gone.new.parts)) c.in-Some.is c.go_calmly-gone.ensures.goes)
-    (subst (λ o. IfSome o (λ gone. GoesOnFrom c.self.inside.originals.setup c.hand_now-hand.result (state_of c.self.inside.initializing c.self.inside.parts) gone (state_of c.self.inside.initializing c.go_calmly-gone.new.parts))) c.in-Some.is c.go_calmly-gone.ensures.hands)
-    (subst (λ o. IfSome o (λ gone. IsSoundIn c.self.inside.originals.setup (state_of c.self.inside.initializing c.self.inside.parts) → IsSoundIn c.self.inside.originals.setup (state_of c.self.inside.initializing c.go_calmly-gone.new.parts))) c.in-Some.is c.go_calmly-gone.ensures.sound)
-    (subst (λ o. IfSome o (λ gone. c.hand_now-hand.result.moves ≡ true → c.hand_now-hand.result.delivered ≡ false → state_of c.self.inside.initializing c.self.inside.parts ≡ starts_with c.self.inside.originals.setup.world → IsSoundIn c.self.inside.originals.setup (state_of c.self.inside.initializing c.go_calmly-gone.new.parts))) c.in-Some.is c.go_calmly-gone.ensures.starts)
-    c.clock_in-self-inside.result c.clock_in-self-inside.ensures c.hand_left-self-inside.result c.hand_left-self-inside.ensures)
+    c.hand_now-hand.result (c.hand_now-hand.ensures c.self.inside.parts.runtime.world) c.go_calmly-gone.new.parts c.in-Some.gone
+    (subst (λ o. IfSome o (λ gone. GoesCalmly (setup_in c.self.inside.parts.runtime c.self.inside.originals) c.self.inside.initializing c.hand_now-hand.result c.self.inside.parts gone c.go_calmly-gone.new.parts)) c.in-Some.is c.go_calmly-gone.ensures.goes)
+    (subst (λ o. IfSome o (λ gone. GoesOnFrom (setup_in c.self.inside.parts.runtime c.self.inside.originals) c.hand_now-hand.result (state_of c.self.inside.initializing c.self.inside.parts) gone (state_of c.self.inside.initializing c.go_calmly-gone.new.parts))) c.in-Some.is c.go_calmly-gone.ensures.hands)
+    (subst (λ o. IfSome o (λ gone. IsSoundIn (setup_in c.self.inside.parts.runtime c.self.inside.originals) (state_of c.self.inside.initializing c.self.inside.parts) → IsSoundIn (setup_in c.self.inside.parts.runtime c.self.inside.originals) (state_of c.self.inside.initializing c.go_calmly-gone.new.parts))) c.in-Some.is c.go_calmly-gone.ensures.sound)
+    (subst (λ o. IfSome o (λ gone. c.hand_now-hand.result.moves ≡ true → c.hand_now-hand.result.delivered ≡ false → state_of c.self.inside.initializing c.self.inside.parts ≡ starts_with c.self.inside.parts.runtime.world → IsSoundIn (setup_in c.self.inside.parts.runtime c.self.inside.originals) (state_of c.self.inside.initializing c.go_calmly-gone.new.parts))) c.in-Some.is c.go_calmly-gone.ensures.starts)
+    c.clock_in-self-inside.result c.clock_in-self-inside.ensures c.hand_left-self-inside.result c.hand_left-self-inside.ensures))
 
 pub returns-clause-going : goal.returns-clause-going
 returns-clause-going c =
-    calm-going c.self.inside.originals.setup c.self.inside.originals.loaded c.self.inside.hand c.self.inside.started c.self.inside.broken c.self.inside.clock
+    calm-going (setup_in c.self.inside.parts.runtime c.self.inside.originals) c.self.inside.hand c.self.inside.started c.self.inside.broken c.self.inside.clock
     c.self.inside.initializing c.self.inside.parts c.self.invariant.machine c.args.self.now (seen-is c.self.invariant c.self.view_is) c.if-not-self.false c.if-self.false
     c.is_resting-resting.result c.is_resting-resting.ensures
     (c.is_at_instruction.ensures c.if-not-is_at_instruction.false).ending

@@ -1,11 +1,12 @@
 use Rattle.std.proofs.Common.{◌∙◌}
 use Rattle.prepared_code.specs.Initializations.{state_of}
+use Rattle.prepared_code.specs.Linked.{setup_in}
 use Rattle.jvm_machine.proofs.States.Shown.{rest-shows}
 use Rattle.jvm_machine.proofs.Versions.HeldVersions.{seen-is}
 use Rattle.jvm_machine.proofs.machine.Vm.output.Goals as goal
 
 pub returns : goal.returns
 returns c = λ whole resting.
-    c.as_slice.ensures
-    ∙ (rest-shows c.self.inside.originals.setup c.self.inside.originals.loaded c.self.inside.hand c.self.inside.started c.self.inside.broken c.self.inside.clock
+    c.output.ensures
+    ∙ (rest-shows (setup_in c.self.inside.parts.runtime c.self.inside.originals) c.self.inside.hand c.self.inside.started c.self.inside.broken c.self.inside.clock
     (state_of c.self.inside.initializing c.self.inside.parts) c.self.invariant.machine c.args.self.now (seen-is c.self.invariant c.self.view_is) whole resting).output

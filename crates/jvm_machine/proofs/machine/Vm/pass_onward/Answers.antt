@@ -2,6 +2,7 @@ use Rattle.std.proofs.Common.{◌≡◌, ◌+◌, ◌<◌, ap, sym, subst, ◌�
 use Rattle.std.specs.Option.{IfSome}
 use Rattle.interpreter.specs.declared.turns.hands.Gone.{Gone}
 use Rattle.prepared_code.proofs.Tables.StandingSteps.{set-up-runs}
+use Rattle.prepared_code.specs.Linked.{setup_in}
 use Rattle.jvm_machine.specs.Several.{PassesUpTo, none}
 use Rattle.jvm_machine.specs.View.{View, is_resting}
 use Rattle.jvm_machine.proofs.Versions.HeldVersions.{seen-is}
@@ -12,10 +13,10 @@ pub returns-then-self-clause-passes : goal.returns-then-self-clause-passes
 returns-then-self-clause-passes c = record { between = c.args.self.now; passes = none; reaches = refl }
 
 pub pass_steps-passed-requires-clause-run : goal.pass_steps-passed-requires-clause-run
-pass_steps-passed-requires-clause-run c = set-up-runs c.self.inside.originals.setup c.self.invariant.machine.homes c.self.invariant.machine.has
+pass_steps-passed-requires-clause-run c = set-up-runs (setup_in c.self.inside.parts.runtime c.self.inside.originals) c.self.invariant.machine.homes c.self.invariant.machine.has
 
 pub pass_steps-passed-requires-clause-linked : goal.pass_steps-passed-requires-clause-linked
-pass_steps-passed-requires-clause-linked c = (c.self.invariant.machine.whole c.if-self.false).linked
+pass_steps-passed-requires-clause-linked c = c.self.invariant.linked c.if-self.false
 
 pub pass_steps-passed-requires-clause-sound : goal.pass_steps-passed-requires-clause-sound
 pass_steps-passed-requires-clause-sound c =
@@ -27,13 +28,13 @@ pass_steps-passed-requires-clause-at_instruction c = c.is_at_instruction.ensures
 -- nothing is told of the next step
 pub invariant_of-self : goal.invariant_of-self
 invariant_of-self c =
-    (behind-none c.self.inside.originals.setup c.self.inside.originals.loaded c.self.inside.hand c.self.inside.started c.self.inside.broken c.self.inside.clock c.self.inside.initializing c.self.inside.parts
+    (behind-none c.self.inside.originals c.self.inside.hand c.self.inside.started c.self.inside.broken c.self.inside.clock c.self.inside.initializing c.self.inside.parts
     c.args.self.now c.self.invariant c.self.view_is c.if-not-self.false c.if-self.false c.requires.resting c.pass_steps-passed.result.made c.pass_steps-passed.ensures.made.between
     c.pass_steps-passed.ensures.made.passes c.pass_steps-passed.result.gone c.pass_steps-passed.new.parts (sym c.in_default.is) c.pass_steps-passed.ensures.made.stops).kept
 
 pub returns-in_default-clause-passes : goal.returns-in_default-clause-passes
 returns-in_default-clause-passes c =
-    (behind-none c.self.inside.originals.setup c.self.inside.originals.loaded c.self.inside.hand c.self.inside.started c.self.inside.broken c.self.inside.clock c.self.inside.initializing c.self.inside.parts
+    (behind-none c.self.inside.originals c.self.inside.hand c.self.inside.started c.self.inside.broken c.self.inside.clock c.self.inside.initializing c.self.inside.parts
     c.args.self.now c.self.invariant c.self.view_is c.if-not-self.false c.if-self.false c.requires.resting c.pass_steps-passed.result.made c.pass_steps-passed.ensures.made.between
     c.pass_steps-passed.ensures.made.passes c.pass_steps-passed.result.gone c.pass_steps-passed.new.parts (sym c.in_default.is) c.pass_steps-passed.ensures.made.stops).passes
 
@@ -46,14 +47,14 @@ overflow_add-self-2 c =
 
 pub invariant_of-self-2 : goal.invariant_of-self-2
 invariant_of-self-2 c =
-    (behind-some c.self.inside.originals.setup c.self.inside.originals.loaded c.self.inside.hand c.self.inside.started c.self.inside.broken c.self.inside.clock c.self.inside.initializing c.self.inside.parts
+    (behind-some c.self.inside.originals c.self.inside.hand c.self.inside.started c.self.inside.broken c.self.inside.clock c.self.inside.initializing c.self.inside.parts
     c.args.self.now c.self.invariant c.self.view_is c.if-not-self.false c.if-self.false c.requires.resting c.pass_steps-passed.result.made c.pass_steps-passed.ensures.made.between
     c.pass_steps-passed.ensures.made.passes c.pass_steps-passed.result.gone c.in-Some.gone c.pass_steps-passed.new.parts (sym c.in-Some.is) c.pass_steps-passed.ensures.made.stops
     (c.self.inside.clock + c.pass_steps-passed.result.made + 1) refl c.hand_left-self-inside.result c.hand_left-self-inside.ensures).kept
 
 pub returns-clause-passes : goal.returns-clause-passes
 returns-clause-passes c =
-    (behind-some c.self.inside.originals.setup c.self.inside.originals.loaded c.self.inside.hand c.self.inside.started c.self.inside.broken c.self.inside.clock c.self.inside.initializing c.self.inside.parts
+    (behind-some c.self.inside.originals c.self.inside.hand c.self.inside.started c.self.inside.broken c.self.inside.clock c.self.inside.initializing c.self.inside.parts
     c.args.self.now c.self.invariant c.self.view_is c.if-not-self.false c.if-self.false c.requires.resting c.pass_steps-passed.result.made c.pass_steps-passed.ensures.made.between
     c.pass_steps-passed.ensures.made.passes c.pass_steps-passed.result.gone c.in-Some.gone c.pass_steps-passed.new.parts (sym c.in-Some.is) c.pass_steps-passed.ensures.made.stops
     (c.self.inside.clock + c.pass_steps-passed.result.made + 1) refl c.hand_left-self-inside.result c.hand_left-self-inside.ensures).passes
