@@ -1,7 +1,7 @@
 //! How a step is taken up, and what it has come to.
 
 ghost use Rattle.prepared_code.specs.Linked.{IsLinked};
-ghost use Rattle.std.specs.Prelude.{◌≡◌, ◌+◌, ◌++◌, ◌^◌, ◌<◌, drop, false, true, IfOk, OnErr, OnOk};
+ghost use Rattle.std.specs.Prelude.{◌≡◌, ◌^◌, ◌<◌, drop, false, true, IfOk, OnOk};
 ghost use Rattle.jvm_model.specs.Basis.Data.{World};
 ghost use Rattle.jvm_model.specs.Turns.InHand.{behind_load};
 ghost use Rattle.jvm_model.specs.Running.Run.{main_loads, starts_with};
@@ -19,14 +19,16 @@ use jvm_model::Due;
 use prepared_code::{Initialization, Originals, Parts};
 use std::alloc::Global;
 
-/// What a call of `step` has come to: classes were loaded, or something is due, or nothing more of the step.
+/// What a call of `step` has come to: classes were loaded, or something is due, or nothing more of
+/// the step.
 #[derive(Debug, Drop)]
 pub enum Telling {
     Classes(Seq<u32>),
     Due(Due),
 }
 
-/// How many steps that tell nothing were made, and what is due where the one behind them has stopped, if it has.
+/// How many steps that tell nothing were made, and what is due where the one behind them has
+/// stopped, if it has.
 #[derive(Clone, Copy, Debug, PartialEq, Eq)]
 pub struct Passage {
     pub made: u64,

@@ -9,7 +9,6 @@ ghost use Rattle.jvm_model.specs.Soundness.Sound.{IsFit};
 ghost use Rattle.interpreter.specs.Machine.Before.{CanStart};
 ghost use Rattle.prepared_code.specs.Prepared.{FitsOriginals};
 ghost use Rattle.prepared_code.specs.Runs.{IsAtInstruction};
-ghost use Rattle.jvm_machine.specs.declared.advancing.Telling.TheVariants as telling;
 ghost use Rattle.jvm_machine.specs.Advances.{Advances, Stops, broken_in};
 ghost use Rattle.jvm_machine.specs.Installs.{IsFormed, IsImageOf, with_class};
 ghost use Rattle.jvm_machine.specs.Probes.{IfLeaves};
@@ -35,8 +34,9 @@ use std::alloc::Global;
 use std::marker::Model;
 use std::rc::Rc;
 
-/// A machine that runs versions of a program's methods. A clause sees the program, how far it has come, what of the step in hand
-/// is behind it, and the marks of the versions in which methods begin and of those that are live.
+/// A machine that runs versions of a program's methods. A clause sees the program, how far it has
+/// come, what of the step in hand is behind it, and the marks of the versions in which methods
+/// begin and of those that are live.
 #[derive(Drop)]
 pub struct Vm {
     alloc: Global,
@@ -57,7 +57,8 @@ impl Model for Vm {
 
     ghost Value = { View };
 
-    ghost view = { λ v. state_viewed (setup_in v.parts.runtime v.originals) (state_of v.initializing v.parts) v.started
+    ghost view = { λ v. state_viewed (setup_in v.parts.runtime v.originals) (state_of v.initializing v.parts)
+        v.started
         v.broken v.clock v.hand };
 
     ghost invariant = { λ v. Keeps v.originals v.parts.runtime v.hand v.started
@@ -89,7 +90,8 @@ fn is_at_instruction(parts: &Parts, initializing: &Stack<Initialization>) -> boo
 }
 
 impl Vm {
-    /// A machine that will run the program from its main method, in original code at first. It looks up every offset of every code once.
+    /// A machine that will run the program from its main method, in original code at first. It
+    /// looks up every offset of every code once.
     pub fn new(alloc: Global, program: Program, input: Vec<u8>) -> Result<Vm, NoMemory>
         requires fits { FitsOriginals program }
         requires fit { IsFit program }
@@ -176,7 +178,8 @@ impl Vm {
         Ok(Telling::Due(gone.due))
     }
 
-    /// The same where that is quickly done and takes no memory. None, with nothing changed, where it is not.
+    /// The same where that is quickly done and takes no memory. None, with nothing changed, where
+    /// it is not.
     #[inline(always)]
     fn advance_calmly(&mut self) -> Option<Due>
         requires below { self.old.clock < 2 ^ 63 }
@@ -240,7 +243,8 @@ impl Vm {
         }
     }
 
-    /// One turn, however long it takes. It is a call of its own, so that a turn that is quickly done stays small.
+    /// One turn, however long it takes. It is a call of its own, so that a turn that is quickly
+    /// done stays small.
     #[inline(never)]
     fn step_fully(&mut self) -> Turn
         requires { self.old.clock < 2 ^ 63 }
@@ -260,10 +264,11 @@ impl Vm {
         }
     }
 
-    /// Goes on with the step in hand, or begins the next one, the start first: one turn. Where it loads classes these are told first.
-    /// Each probe that a frame executes tells its event in a turn of its own, an entry probe behind the instruction, the others before
-    /// the activation ends; then comes Settled, or Ended, exactly where the run has ended. After want of memory the machine is broken, and
-    /// does no more.
+    /// Goes on with the step in hand, or begins the next one, the start first: one turn. Where it
+    /// loads classes these are told first. Each probe that a frame executes tells its event in a
+    /// turn of its own, an entry probe behind the instruction, the others before the activation
+    /// ends; then comes Settled, or Ended, exactly where the run has ended. After want of memory
+    /// the machine is broken, and does no more.
     #[inline(always)]
     pub fn step(&mut self) -> Turn
         requires { self.old.clock < 2 ^ 63 }
@@ -277,8 +282,8 @@ impl Vm {
         }
     }
 
-    /// Makes steps from which nothing follows, at most so many. Where the next one is within them, and a probe tells of it, it goes on to
-    /// there.
+    /// Makes steps from which nothing follows, at most so many. Where the next one is within them,
+    /// and a probe tells of it, it goes on to there.
     #[inline(always)]
     fn pass_onward(&mut self, most: u64) -> Passage
         requires resting { is_resting self.old ≡ true }
@@ -326,9 +331,9 @@ impl Vm {
         }
     }
 
-    /// Makes steps from a state of rest, at most so many, while they tell nothing; the answer is the
-    /// turn of the last one. It is a call of its own, so that `run_on`, which has it three times,
-    /// stays small enough to be inlined.
+    /// Makes steps from a state of rest, at most so many, while they tell nothing; the answer is
+    /// the turn of the last one. It is a call of its own, so that `run_on`, which has it three
+    /// times, stays small enough to be inlined.
     #[inline(never)]
     fn run_rested(&mut self, most: u64) -> Turn
         requires some { 0 < most }
@@ -349,8 +354,9 @@ impl Vm {
         }
     }
 
-    /// Ends the step in hand, where that is quickly done, and makes steps as `pass_onward` does, so many with the step in hand and a last
-    /// one. None, with nothing changed, where it is not, or they are too few.
+    /// Ends the step in hand, where that is quickly done, and makes steps as `pass_onward` does, so
+    /// many with the step in hand and a last one. None, with nothing changed, where it is not, or
+    /// they are too few.
     #[inline(always)]
     fn pass_behind(&mut self, most: u64) -> Option<Passage>
         requires in_hand { is_resting self.old ≡ false }
@@ -416,7 +422,8 @@ impl Vm {
         }
     }
 
-    /// `run_on` where a step is in hand, by a whole turn of it. It is a call of its own, so that what is quickly done stays small.
+    /// `run_on` where a step is in hand, by a whole turn of it. It is a call of its own, so that
+    /// what is quickly done stays small.
     #[inline(never)]
     fn run_fully(&mut self, most: u64) -> Turn
         requires some { 0 < most }
@@ -433,8 +440,8 @@ impl Vm {
         self.run_rested(most - 1)
     }
 
-    /// Ends the step in hand, if there is one, and makes steps, with it at most so many, while they tell nothing; the answer is the turn of
-    /// the last one.
+    /// Ends the step in hand, if there is one, and makes steps, with it at most so many, while they
+    /// tell nothing; the answer is the turn of the last one.
     #[inline(always)]
     pub fn run_on(&mut self, most: u64) -> Turn
         requires some { 0 < most }
@@ -457,8 +464,9 @@ impl Vm {
         self.run_rested(most - made)
     }
 
-    /// Makes the versions of an image current: the methods of the class begin in them from now on, also within a step in hand. Live
-    /// activations stay in theirs. It takes all memory first: after want of memory nothing has changed.
+    /// Makes the versions of an image current: the methods of the class begin in them from now on,
+    /// also within a step in hand. Live activations stay in theirs. It takes all memory first:
+    /// after want of memory nothing has changed.
     pub fn install(
         &mut self,
         class: u32,
@@ -493,7 +501,8 @@ impl Vm {
         self.parts.runtime.program()
     }
 
-    /// What links its classes: it has loaded those that the run has loaded, the step in hand included.
+    /// What links its classes: it has loaded those that the run has loaded, the step in hand
+    /// included.
     pub fn linker(&self) -> &Linker
         ensures program { result.now.program ≡ self.now.program }
         ensures loaded { self.now.broken ≡ false
