@@ -9,6 +9,7 @@ ghost use Rattle.jvm_model.specs.Soundness.Sound.{IsFit};
 ghost use Rattle.interpreter.specs.Machine.Before.{CanStart};
 ghost use Rattle.prepared_code.specs.Prepared.{FitsOriginals};
 ghost use Rattle.prepared_code.specs.Runs.{IsAtInstruction};
+ghost use Rattle.jvm_machine.specs.declared.advancing.Telling.TheVariants as telling;
 ghost use Rattle.jvm_machine.specs.Advances.{Advances, Stops, broken_in};
 ghost use Rattle.jvm_machine.specs.Installs.{IsFormed, IsImageOf, with_class};
 ghost use Rattle.jvm_machine.specs.Probes.{IfLeaves};
