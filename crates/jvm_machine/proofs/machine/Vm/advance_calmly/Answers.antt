@@ -50,24 +50,24 @@ returns-in_default-clause-none c =
 pub invariant_of-self-2 : goal.invariant_of-self-2
 invariant_of-self-2 c =
     keeps-on c.self.inside.originals c.self.inside.parts.runtime c.go_calmly-gone.new.parts.runtime (ap (λ (r : RuntimeView). r.world) c.go_calmly-gone.ensures.runtime) (ap (λ (r : RuntimeView). r.shared.loaded) c.go_calmly-gone.ensures.runtime) c.self.invariant.linked
-      (calm-machine (setup_in c.self.inside.parts.runtime c.self.inside.originals) c.self.inside.hand c.self.inside.started c.self.inside.broken c.self.inside.clock
-      c.self.inside.initializing c.self.inside.parts c.self.invariant.machine c.args.self.now (seen-is c.self.invariant c.self.view_is) c.if-not-self.false c.if-self.false
-      c.is_resting-resting.result c.is_resting-resting.ensures
-      c.hand_now-hand.result (c.hand_now-hand.ensures c.self.inside.parts.runtime.world) c.go_calmly-gone.new.parts c.in-Some.gone
-      (subst (λ o. IfSome o (λ gone. GoesCalmly (setup_in c.self.inside.parts.runtime c.self.inside.originals) c.self.inside.initializing c.hand_now-hand.result c.self.inside.parts gone c.go_calmly-gone.new.parts)) c.in-Some.is c.go_calmly-gone.ensures.goes)
-      (subst (λ o. IfSome o (λ gone. GoesOnFrom (setup_in c.self.inside.parts.runtime c.self.inside.originals) c.hand_now-hand.result (state_of c.self.inside.initializing c.self.inside.parts) gone (state_of c.self.inside.initializing c.go_calmly-gone.new.parts))) c.in-Some.is c.go_calmly-gone.ensures.hands)
-      (subst (λ o. IfSome o (λ gone. IsSoundIn (setup_in c.self.inside.parts.runtime c.self.inside.originals) (state_of c.self.inside.initializing c.self.inside.parts) → IsSoundIn (setup_in c.self.inside.parts.runtime c.self.inside.originals) (state_of c.self.inside.initializing c.go_calmly-gone.new.parts))) c.in-Some.is c.go_calmly-gone.ensures.sound)
-      (subst (λ o. IfSome o (λ gone. c.hand_now-hand.result.moves ≡ true → c.hand_now-hand.result.delivered ≡ false → state_of c.self.inside.initializing c.self.inside.parts ≡ starts_with c.self.inside.parts.runtime.world → IsSoundIn (setup_in c.self.inside.parts.runtime c.self.inside.originals) (state_of c.self.inside.initializing c.go_calmly-gone.new.parts))) c.in-Some.is c.go_calmly-gone.ensures.starts)
-      c.clock_in-self-inside.result c.clock_in-self-inside.ensures c.hand_left-self-inside.result c.hand_left-self-inside.ensures)
-      (λ whole. calm-tidy (setup_in c.self.inside.parts.runtime c.self.inside.originals) c.self.inside.hand c.self.inside.started c.self.inside.broken c.self.inside.clock
-      c.self.inside.initializing c.self.inside.parts c.self.invariant.machine c.args.self.now (seen-is c.self.invariant c.self.view_is) c.if-not-self.false c.if-self.false
-      c.is_resting-resting.result c.is_resting-resting.ensures
-      c.hand_now-hand.result (c.hand_now-hand.ensures c.self.inside.parts.runtime.world) c.go_calmly-gone.new.parts c.in-Some.gone
-      (subst (λ o. IfSome o (λ gone. GoesCalmly (setup_in c.self.inside.parts.runtime c.self.inside.originals) c.self.inside.initializing c.hand_now-hand.result c.self.inside.parts gone c.go_calmly-gone.new.parts)) c.in-Some.is c.go_calmly-gone.ensures.goes)
-      (subst (λ o. IfSome o (λ gone. GoesOnFrom (setup_in c.self.inside.parts.runtime c.self.inside.originals) c.hand_now-hand.result (state_of c.self.inside.initializing c.self.inside.parts) gone (state_of c.self.inside.initializing c.go_calmly-gone.new.parts))) c.in-Some.is c.go_calmly-gone.ensures.hands)
-      (subst (λ o. IfSome o (λ gone. IsSoundIn (setup_in c.self.inside.parts.runtime c.self.inside.originals) (state_of c.self.inside.initializing c.self.inside.parts) → IsSoundIn (setup_in c.self.inside.parts.runtime c.self.inside.originals) (state_of c.self.inside.initializing c.go_calmly-gone.new.parts))) c.in-Some.is c.go_calmly-gone.ensures.sound)
-      (subst (λ o. IfSome o (λ gone. c.hand_now-hand.result.moves ≡ true → c.hand_now-hand.result.delivered ≡ false → state_of c.self.inside.initializing c.self.inside.parts ≡ starts_with c.self.inside.parts.runtime.world → IsSoundIn (setup_in c.self.inside.parts.runtime c.self.inside.originals) (state_of c.self.inside.initializing c.go_calmly-gone.new.parts))) c.in-Some.is c.go_calmly-gone.ensures.starts)
-      c.clock_in-self-inside.result c.clock_in-self-inside.ensures c.hand_left-self-inside.result c.hand_left-self-inside.ensures (c.self.invariant.tidy whole))
+    (calm-machine (setup_in c.self.inside.parts.runtime c.self.inside.originals) c.self.inside.hand c.self.inside.started c.self.inside.broken c.self.inside.clock
+    c.self.inside.initializing c.self.inside.parts c.self.invariant.machine c.args.self.now (seen-is c.self.invariant c.self.view_is) c.if-not-self.false c.if-self.false
+    c.is_resting-resting.result c.is_resting-resting.ensures
+    c.hand_now-hand.result (c.hand_now-hand.ensures c.self.inside.parts.runtime.world) c.go_calmly-gone.new.parts c.in-Some.gone
+    (subst (λ o. IfSome o (λ gone. GoesCalmly (setup_in c.self.inside.parts.runtime c.self.inside.originals) c.self.inside.initializing c.hand_now-hand.result c.self.inside.parts gone c.go_calmly-gone.new.parts)) c.in-Some.is c.go_calmly-gone.ensures.goes)
+    (subst (λ o. IfSome o (λ gone. GoesOnFrom (setup_in c.self.inside.parts.runtime c.self.inside.originals) c.hand_now-hand.result (state_of c.self.inside.initializing c.self.inside.parts) gone (state_of c.self.inside.initializing c.go_calmly-gone.new.parts))) c.in-Some.is c.go_calmly-gone.ensures.hands)
+    (subst (λ o. IfSome o (λ gone. IsSoundIn (setup_in c.self.inside.parts.runtime c.self.inside.originals) (state_of c.self.inside.initializing c.self.inside.parts) → IsSoundIn (setup_in c.self.inside.parts.runtime c.self.inside.originals) (state_of c.self.inside.initializing c.go_calmly-gone.new.parts))) c.in-Some.is c.go_calmly-gone.ensures.sound)
+    (subst (λ o. IfSome o (λ gone. c.hand_now-hand.result.moves ≡ true → c.hand_now-hand.result.delivered ≡ false → state_of c.self.inside.initializing c.self.inside.parts ≡ starts_with c.self.inside.parts.runtime.world → IsSoundIn (setup_in c.self.inside.parts.runtime c.self.inside.originals) (state_of c.self.inside.initializing c.go_calmly-gone.new.parts))) c.in-Some.is c.go_calmly-gone.ensures.starts)
+    c.clock_in-self-inside.result c.clock_in-self-inside.ensures c.hand_left-self-inside.result c.hand_left-self-inside.ensures)
+    (λ whole. calm-tidy (setup_in c.self.inside.parts.runtime c.self.inside.originals) c.self.inside.hand c.self.inside.started c.self.inside.broken c.self.inside.clock
+    c.self.inside.initializing c.self.inside.parts c.self.invariant.machine c.args.self.now (seen-is c.self.invariant c.self.view_is) c.if-not-self.false c.if-self.false
+    c.is_resting-resting.result c.is_resting-resting.ensures
+    c.hand_now-hand.result (c.hand_now-hand.ensures c.self.inside.parts.runtime.world) c.go_calmly-gone.new.parts c.in-Some.gone
+    (subst (λ o. IfSome o (λ gone. GoesCalmly (setup_in c.self.inside.parts.runtime c.self.inside.originals) c.self.inside.initializing c.hand_now-hand.result c.self.inside.parts gone c.go_calmly-gone.new.parts)) c.in-Some.is c.go_calmly-gone.ensures.goes)
+    (subst (λ o. IfSome o (λ gone. GoesOnFrom (setup_in c.self.inside.parts.runtime c.self.inside.originals) c.hand_now-hand.result (state_of c.self.inside.initializing c.self.inside.parts) gone (state_of c.self.inside.initializing c.go_calmly-gone.new.parts))) c.in-Some.is c.go_calmly-gone.ensures.hands)
+    (subst (λ o. IfSome o (λ gone. IsSoundIn (setup_in c.self.inside.parts.runtime c.self.inside.originals) (state_of c.self.inside.initializing c.self.inside.parts) → IsSoundIn (setup_in c.self.inside.parts.runtime c.self.inside.originals) (state_of c.self.inside.initializing c.go_calmly-gone.new.parts))) c.in-Some.is c.go_calmly-gone.ensures.sound)
+    (subst (λ o. IfSome o (λ gone. c.hand_now-hand.result.moves ≡ true → c.hand_now-hand.result.delivered ≡ false → state_of c.self.inside.initializing c.self.inside.parts ≡ starts_with c.self.inside.parts.runtime.world → IsSoundIn (setup_in c.self.inside.parts.runtime c.self.inside.originals) (state_of c.self.inside.initializing c.go_calmly-gone.new.parts))) c.in-Some.is c.go_calmly-gone.ensures.starts)
+    c.clock_in-self-inside.result c.clock_in-self-inside.ensures c.hand_left-self-inside.result c.hand_left-self-inside.ensures (c.self.invariant.tidy whole))
 
 pub returns-clause-stops : goal.returns-clause-stops
 returns-clause-stops c =

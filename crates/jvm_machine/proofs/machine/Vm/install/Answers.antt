@@ -60,16 +60,16 @@ returns-clause-ok c =
     (λ adds. plain-view (setup_in c.self.inside.parts.runtime c.install.new.self) c.self.inside.hand c.self.inside.started c.self.inside.broken c.self.inside.clock
     (state_of c.self.inside.initializing c.self.inside.parts) (λ whole.
     tidy-added (state_of c.self.inside.initializing c.self.inside.parts).stack c.self.inside.parts.frames.frames (λ k. pinned-runs k c.self.inside.parts.frames.frames c.self.inside.initializing)
-      (class_versions c.self.inside.parts.runtime.world.program c.args.class c.args.image c.args.homes.now)
-      c.self.inside.originals.versions c.install.new.self.versions
-      (subst (λ n. AreOfMethods n (class_versions c.self.inside.parts.runtime.world.program c.args.class c.args.image c.args.homes.now)) (sym c.self.invariant.machine.has.are.count)
-      (versions-below c.self.inside.parts.runtime.world.program c.args.class c.args.image c.args.homes.now))
-      adds (c.self.invariant.tidy whole))
+    (class_versions c.self.inside.parts.runtime.world.program c.args.class c.args.image c.args.homes.now)
+    c.self.inside.originals.versions c.install.new.self.versions
+    (subst (λ n. AreOfMethods n (class_versions c.self.inside.parts.runtime.world.program c.args.class c.args.image c.args.homes.now)) (sym c.self.invariant.machine.has.are.count)
+    (versions-below c.self.inside.parts.runtime.world.program c.args.class c.args.image c.args.homes.now))
+    adds (c.self.invariant.tidy whole))
     ∙ (installed-seen c.self.inside.started c.self.inside.broken c.self.inside.clock c.self.inside.hand (state_of c.self.inside.initializing c.self.inside.parts)
-      (ap (λ (v : View). v.broken) (seen-is c.self.invariant c.self.view_is) ∙ c.requires.whole) (setup_in c.self.inside.parts.runtime c.self.inside.originals) c.self.inside.parts.frames.frames
-      (parts-pinned c.self.inside.initializing c.self.inside.parts) c.self.invariant.machine (subst (λ (v : View). IsFormed v.program) (sym (seen-is c.self.invariant c.self.view_is)) c.requires.formed)
-      c.args.class c.args.marks.now c.args.image c.args.homes.now (subst (λ (v : View). IsImageOf v.program c.args.class c.args.marks.now c.args.image c.args.homes.now) (sym (seen-is c.self.invariant c.self.view_is)) c.requires.image)
-      c.requires.pool (setup_in c.self.inside.parts.runtime c.install.new.self) refl adds
+    (ap (λ (v : View). v.broken) (seen-is c.self.invariant c.self.view_is) ∙ c.requires.whole) (setup_in c.self.inside.parts.runtime c.self.inside.originals) c.self.inside.parts.frames.frames
+    (parts-pinned c.self.inside.initializing c.self.inside.parts) c.self.invariant.machine (subst (λ (v : View). IsFormed v.program) (sym (seen-is c.self.invariant c.self.view_is)) c.requires.formed)
+    c.args.class c.args.marks.now c.args.image c.args.homes.now (subst (λ (v : View). IsImageOf v.program c.args.class c.args.marks.now c.args.image c.args.homes.now) (sym (seen-is c.self.invariant c.self.view_is)) c.requires.image)
+    c.requires.pool (setup_in c.self.inside.parts.runtime c.install.new.self) refl adds
     ∙ ap (with_class c.args.class c.args.marks.now) (seen-is c.self.invariant c.self.view_is)))
     (subst (λ (p : Program). OnOk c.install.result (Adds c.self.inside.parts.frames.frames (class_versions p c.args.class c.args.image c.args.homes.now) c.self.inside.originals.versions c.install.new.self.versions)) (sym (c.self.invariant.linked (ap (λ (v : View). v.broken) (seen-is c.self.invariant c.self.view_is) ∙ c.requires.whole)).program) c.install.ensures.ok)
 

@@ -42,13 +42,13 @@ pub returns : goal.returns
 returns c =
     plain-view (setup_in c.in_ok-parts.parts.runtime c.in_ok-originals.originals) (record { moves = false; delivered = false; passed = 0 }) false false 0 (state_of c.new-4.result c.in_ok-parts.parts)
     (λ whole. tidy-current c.in_ok-originals.originals.versions (state_of c.new-4.result c.in_ok-parts.parts).stack
-      (subst AreAllCurrent (sym (c.in_ok-originals.ensures.versions ∙ ap original_versions (c.in_ok-shared.ensures.ok ∙ c.in_ok-index.ensures))) (original-current c.args.program)))
+    (subst AreAllCurrent (sym (c.in_ok-originals.ensures.versions ∙ ap original_versions (c.in_ok-shared.ensures.ok ∙ c.in_ok-index.ensures))) (original-current c.args.program)))
     ∙ fresh-seen (setup_in c.in_ok-parts.parts.runtime c.in_ok-originals.originals) (state_of c.new-4.result c.in_ok-parts.parts)
-      (c.in_ok-originals.ensures.set_up c.in_ok-parts.parts.runtime.world (ap (λ (w : World). w.program) c.in_ok-parts.ensures.world ∙ c.in_ok-originals.ensures.program)
-      (subst IsFit (sym (c.in_ok-shared.ensures.ok ∙ c.in_ok-index.ensures)) c.requires.fit) (subst HasClosedCodes (sym (c.in_ok-shared.ensures.ok ∙ c.in_ok-index.ensures)) c.requires.closed))
-      (record {
-        before = plain-state c.new-4.result c.in_ok-parts.parts c.new-4.ensures ∙ (c.in_ok-parts.ensures.state ∙ ap before (sym c.in_ok-parts.ensures.world));
-        room = subst (λ (w : World). 1024 ≤ w.program.heap) (sym c.in_ok-parts.ensures.world) (subst (λ (p : Program). 1024 ≤ p.heap) (sym (c.in_ok-originals.ensures.program ∙ (c.in_ok-shared.ensures.ok ∙ c.in_ok-index.ensures))) c.requires.starts.room);
-      })
+    (c.in_ok-originals.ensures.set_up c.in_ok-parts.parts.runtime.world (ap (λ (w : World). w.program) c.in_ok-parts.ensures.world ∙ c.in_ok-originals.ensures.program)
+    (subst IsFit (sym (c.in_ok-shared.ensures.ok ∙ c.in_ok-index.ensures)) c.requires.fit) (subst HasClosedCodes (sym (c.in_ok-shared.ensures.ok ∙ c.in_ok-index.ensures)) c.requires.closed))
+    (record {
+      before = plain-state c.new-4.result c.in_ok-parts.parts c.new-4.ensures ∙ (c.in_ok-parts.ensures.state ∙ ap before (sym c.in_ok-parts.ensures.world));
+      room = subst (λ (w : World). 1024 ≤ w.program.heap) (sym c.in_ok-parts.ensures.world) (subst (λ (p : Program). 1024 ≤ p.heap) (sym (c.in_ok-originals.ensures.program ∙ (c.in_ok-shared.ensures.ok ∙ c.in_ok-index.ensures))) c.requires.starts.room);
+    })
     c.args.program c.args.input.items (ap (λ (w : World). w.program) c.in_ok-parts.ensures.world ∙ (c.in_ok-originals.ensures.program ∙ (c.in_ok-shared.ensures.ok ∙ c.in_ok-index.ensures)))
     (ap (λ (w : World). w.input) c.in_ok-parts.ensures.world ∙ c.from_vec.ensures) (c.in_ok-originals.ensures.versions ∙ ap original_versions (c.in_ok-shared.ensures.ok ∙ c.in_ok-index.ensures))

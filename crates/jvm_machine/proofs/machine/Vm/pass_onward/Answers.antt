@@ -1,9 +1,9 @@
-use Rattle.std.proofs.Common.{◌≡◌, ◌+◌, ◌<◌, ap, sym, subst, ◌∙◌, refl, arith}
+use Rattle.std.proofs.Common.{◌+◌, ◌<◌, ap, sym, subst, ◌∙◌, refl, arith}
 use Rattle.std.specs.Option.{IfSome}
 use Rattle.interpreter.specs.declared.turns.hands.Gone.{Gone}
 use Rattle.prepared_code.proofs.Tables.StandingSteps.{set-up-runs}
 use Rattle.prepared_code.specs.Linked.{setup_in}
-use Rattle.jvm_machine.specs.Several.{PassesUpTo, none}
+use Rattle.jvm_machine.specs.Several.{none}
 use Rattle.jvm_machine.specs.View.{View, is_resting}
 use Rattle.jvm_machine.proofs.Versions.HeldVersions.{seen-is}
 use Rattle.jvm_machine.proofs.Steps.Onward.{behind-none, behind-some}
