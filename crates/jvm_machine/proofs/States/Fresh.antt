@@ -10,7 +10,6 @@ use Rattle.jvm_model.specs.declared.program.MethodPlace.{MethodPlace}
 use Rattle.jvm_model.specs.declared.program.Program.{Program}
 use Rattle.jvm_model.specs.declared.state.State.{State}
 use Rattle.jvm_model.specs.Basis.Programs.{class_at}
-use Rattle.jvm_model.specs.Running.Run.{before}
 use Rattle.jvm_model.specs.Turns.Told.{helds}
 use Rattle.interpreter.specs.declared.turns.hands.Hand.{Hand}
 use Rattle.interpreter.specs.Machine.Before.{IsAtStart}
