@@ -184,7 +184,6 @@ fn act_beneath(
     requires family { line.now.family ≡ family_of line.now.instr.op }
     requires alone { is_named line.now.action ≡ false }
     requires arrays { IfNewarray line.now.action IsPrimitiveArray }
-    requires arrays { IfNewarray line.now.action IsPrimitiveArray }
     requires executing { initialization_on (length parts.old.frames.frames) initializing.now
         ≡ None }
     ensures state { BecomesBeneath result initializing.now parts.new

@@ -286,6 +286,7 @@ pub fn leave(
     // Where the version has no probes nothing is told of it.
     ensures silent { let w = setup_in parts.old.runtime originals.now in is_off (mark_of w.versions here.version) ≡ true
         → Passes w initializing.now parts.old (steps_if result) parts.new }
+    ensures runtime { parts.new.runtime ≡ parts.old.runtime }
 {
     if !begins_in(originals, version, here.version) {
         return false;

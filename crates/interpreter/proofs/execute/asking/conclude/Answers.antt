@@ -18,8 +18,8 @@ returns-in-Goes-clause-state c =
     let p = c.args.parts.now in
     subst (λ a. state_in c.go_on.new.parts ≡ on_parts (λ s f. acts_asked w c.args.line.now s f (asked a p.frames)) p) (sym c.in-Goes.is) c.go_on.ensures.state
 
-pub returns-in-Invokes-clause-state : goal.returns-in-Invokes-clause-state
-returns-in-Invokes-clause-state c =
+pub returns-in_ok-call-in-Invokes-clause-state : goal.returns-in_ok-call-in-Invokes-clause-state
+returns-in_ok-call-in-Invokes-clause-state c =
     let w = setup_in c.args.parts.now.runtime c.args.originals.now in
     let p = c.args.parts.now in
     let o = top_operands p.frames.frames in

@@ -1,4 +1,5 @@
-use Rattle.std.proofs.Common.{◌≡◌, sym, ap, subst, ◌∙◌}
+use Rattle.std.proofs.Common.{◌≡◌, Some, sym, ap, subst, ◌∙◌}
+use Rattle.jvm_model.specs.declared.ending.Ending.TheVariants.{Exited}
 use Rattle.jvm_model.specs.Instructions.Exceptions.{exception_name}
 use Rattle.symbolic_references.specs.Answers.{abrupt_view}
 use Rattle.prepared_code.specs.Linked.{setup_in}
@@ -7,8 +8,8 @@ use Rattle.interpreter.specs.Instructions.Acts.{acts_asked, on_parts}
 use Rattle.interpreter.proofs.Instructions.Concluded.{breaks-is, exits-is, raises-is, throws-is}
 use Rattle.interpreter.proofs.execute.asking.refuse.Goals as goal
 
-pub returns-in-Raises-clause-state : goal.returns-in-Raises-clause-state
-returns-in-Raises-clause-state c =
+pub returns-in_ok-raise_named-in-Raises-clause-state : goal.returns-in_ok-raise_named-in-Raises-clause-state
+returns-in_ok-raise_named-in-Raises-clause-state c =
     let w = setup_in c.args.parts.now.runtime c.args.originals.now in
     subst (λ e. state_in c.raise_named.new.parts ≡ on_parts (λ s f. acts_asked w c.args.line.now s f (abrupt_view e)) c.args.parts.now) (sym c.in-Raises.is)
     (ap state_in c.in_ok-raise_named.ensures.state
@@ -17,13 +18,13 @@ returns-in-Raises-clause-state c =
 pub returns-in-Throws-clause-state : goal.returns-in-Throws-clause-state
 returns-in-Throws-clause-state c =
     let w = setup_in c.args.parts.now.runtime c.args.originals.now in
-    subst (λ e. _ ≡ on_parts (λ s f. acts_asked w c.args.line.now s f (abrupt_view e)) c.args.parts.now) (sym c.in-Throws.is)
+    subst (λ e. state_in (record c.args.parts.now { thrown = Some c.in-Throws.object }) ≡ on_parts (λ s f. acts_asked w c.args.line.now s f (abrupt_view e)) c.args.parts.now) (sym c.in-Throws.is)
     (throws-is w c.args.line.now c.args.method c.args.parts.now c.in-Throws.object c.args.parts.now.frames.frames c.requires.top)
 
 pub returns-in-Exits-clause-state : goal.returns-in-Exits-clause-state
 returns-in-Exits-clause-state c =
     let w = setup_in c.args.parts.now.runtime c.args.originals.now in
-    subst (λ e. _ ≡ on_parts (λ s f. acts_asked w c.args.line.now s f (abrupt_view e)) c.args.parts.now) (sym c.in-Exits.is)
+    subst (λ e. state_in (record c.args.parts.now { ending = Some (Exited c.in-Exits.status) }) ≡ on_parts (λ s f. acts_asked w c.args.line.now s f (abrupt_view e)) c.args.parts.now) (sym c.in-Exits.is)
     (exits-is w c.args.line.now c.args.method c.args.parts.now c.in-Exits.status c.args.parts.now.frames.frames c.requires.top)
 
 pub returns-in-Breaks-clause-state : goal.returns-in-Breaks-clause-state

@@ -12,6 +12,7 @@ use Rattle.interpreter.specs.Instructions.Acts.{named_in}
 use Rattle.interpreter.proofs.Instructions.Concluded.{stays-given}
 use Rattle.interpreter.proofs.Instructions.NamedAttempts.{awaits-told, begins-on, goes-on, linked-kept, same-setup, takes-there}
 use Rattle.interpreter.proofs.Moves.Sounded.{caller-linked}
+use Rattle.interpreter.proofs.Initializing.Beneath.{top-there}
 use Rattle.interpreter.proofs.execute.attempting.attempt_name.Goals as goal
 
 pub attempt_named-requires-clause-caller : goal.attempt_named-requires-clause-caller
@@ -72,3 +73,6 @@ pub returns-in_default-clause-answer : goal.returns-in_default-clause-answer
 returns-in_default-clause-answer c = absurd
     (false≢true (ap named_in (c.in_default.ensures.kept
     ∙ (ap (λ (v : Versions). line_at v c.args.here.version c.args.here.place) c.in_ok-outcome.ensures.kept ∙ c.requires.ready c.args.here.place)) ∙ c.requires.named))
+
+pub conclude-requires-clause-top : goal.conclude-requires-clause-top
+conclude-requires-clause-top c = top-there (setup_in c.args.parts.now.runtime c.args.originals.now) c.args.initializing.now c.args.parts.now c.args.here c.args.parts.now.frames.frames c.requires.here

@@ -7,4 +7,4 @@ returns c =
     let w = setup_in c.args.parts.now.runtime c.args.originals.now in
     let p = c.args.parts.now in
     access-passes w c.requires.run c.args.initializing.now c.args.here c.args.line.now c.args.reference.now p c.requires.here c.requires.line c.requires.named c.requires.at_instruction
-    c.pass_field.ensures.loads c.pass_field.result c.pass_field.new.frames c.pass_field.new.runtime c.pass_field.ensures.passed
+    c.pass_field.ensures.loads c.pass_field.result c.pass_field.new.frames c.pass_field.new.self c.pass_field.ensures.passed

@@ -48,9 +48,9 @@ returns-in-Native c =
     (λ x. IsInvoked p.runtime.world x d p.runtime.shared p.frames.frames) c.known_call.ensures.called in
     let passes =
     native-passes w c.requires.run c.args.initializing.now c.args.here c.args.line.now c.args.reference.now p c.requires.here c.requires.line c.requires.named c.requires.at_instruction
-    c.known_call.ensures.loads c.pass_native.result c.pass_native.new.frames c.pass_native.new.runtime c.in-Native.native native c.pass_native.ensures.passed in
-    subst (λ o. GoesOnward w c.args.initializing.now p o (record p { frames = c.pass_native.new.frames; runtime = c.pass_native.new.runtime })) (sym c.made_if.ensures)
-    (onward-if w c.args.initializing.now p (record p { frames = c.pass_native.new.frames; runtime = c.pass_native.new.runtime }) c.pass_native.result passes)
+    c.known_call.ensures.loads c.pass_native.result c.pass_native.new.frames c.pass_native.new.self c.in-Native.native native c.pass_native.ensures.passed in
+    subst (λ o. GoesOnward w c.args.initializing.now p o (record p { frames = c.pass_native.new.frames; runtime = c.pass_native.new.self })) (sym c.made_if.ensures)
+    (onward-if w c.args.initializing.now p (record p { frames = c.pass_native.new.frames; runtime = c.pass_native.new.self }) c.pass_native.result passes)
 
 pub returns-in_default : goal.returns-in_default
 returns-in_default c = passes_none (setup_in c.args.parts.now.runtime c.args.originals.now) c.args.initializing.now c.args.parts.now c.requires.at_instruction

@@ -12,12 +12,14 @@ use Rattle.interpreter.proofs.execute.passing.pass_named.Goals as goal
 pub pass_call-requires-clause-known : goal.pass_call-requires-clause-known
 pass_call-requires-clause-known c =
     held-there (line_at c.args.originals.now.versions c.args.here.version c.args.here.place) c.args.line.now c.args.reference.now c.requires.line c.requires.named
-    (λ n next. IsKnown (linker_in c.args.parts.now.runtime) n c.in-Some.known.now) c.in-Some.ensures
+    (λ n next. IsKnown (linker_in c.args.parts.now.runtime) n c.in-Some.known.now)
+    (c.requires.linked.known.each c.args.here.version c.args.here.place c.in-Some.known.now (sym c.in-Some.ensures))
 
 pub pass_access-requires-clause-known : goal.pass_access-requires-clause-known
 pass_access-requires-clause-known c =
     held-there (line_at c.args.originals.now.versions c.args.here.version c.args.here.place) c.args.line.now c.args.reference.now c.requires.line c.requires.named
-    (λ n next. IsKnown (linker_in c.args.parts.now.runtime) n c.in-Some.known.now) c.in-Some.ensures
+    (λ n next. IsKnown (linker_in c.args.parts.now.runtime) n c.in-Some.known.now)
+    (c.requires.linked.known.each c.args.here.version c.args.here.place c.in-Some.known.now (sym c.in-Some.ensures))
 
 pub returns-in_default : goal.returns-in_default
 returns-in_default c = passes_none (setup_in c.args.parts.now.runtime c.args.originals.now) c.args.initializing.now c.args.parts.now c.requires.at_instruction

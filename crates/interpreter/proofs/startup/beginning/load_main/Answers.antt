@@ -15,9 +15,10 @@ make_arguments-requires-clause-room c =
 pub make_arguments-requires-clause-limit : goal.make_arguments-requires-clause-limit
 make_arguments-requires-clause-limit c = limit-before c.args.parts.now.runtime.world (state_of c.args.initializing.now c.args.parts.now) c.requires.at_start.before
 
-pub load_main-requires-clause-linked : goal.load_main-requires-clause-linked
-load_main-requires-clause-linked c =
-    linked-kept c.args.originals.now c.args.parts.now.runtime c.make_arguments.new.self c.make_arguments.ensures.world c.make_arguments.ensures.same_loaded c.requires.linked
+pub load_main-requires : goal.load_main-requires
+load_main-requires c = record {
+  linked = linked-kept c.args.originals.now c.args.parts.now.runtime c.make_arguments.new.self c.make_arguments.ensures.world c.make_arguments.ensures.same_loaded c.requires.linked;
+}
 
 pub returns-clause-linked : goal.returns-clause-linked
 returns-clause-linked c =

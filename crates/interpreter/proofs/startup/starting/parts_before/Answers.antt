@@ -1,4 +1,5 @@
 use Rattle.std.proofs.Common.{subst, sym, ap, ◌∙◌}
+use Rattle.frame_stack.specs.FrameLists.{FramesView}
 use Rattle.jvm_model.specs.declared.program.Program.{Program}
 use Rattle.jvm_model.specs.Basis.Data.{World}
 use Rattle.jvm_model.specs.Basis.SharedState.{shared_before}
@@ -9,23 +10,23 @@ use Rattle.symbolic_references.specs.ProgramFacts.{AreTablesOf}
 use Rattle.interpreter.proofs.Loads.BeforeStart.{built-in-before, exceptions-before, objects-before, shared-before, state-before}
 use Rattle.interpreter.proofs.startup.starting.parts_before.Goals as goal
 
-pub new-2-requires-clause-tables : goal.new-2-requires-clause-tables
-new-2-requires-clause-tables c = subst (λ p. AreTablesOf p c.in_ok-tables.tables) (sym c.in_ok-linker.ensures.program) c.in_ok-tables.ensures
+pub new-requires-2-clause-tables : goal.new-requires-2-clause-tables
+new-requires-2-clause-tables c = subst (λ p. AreTablesOf p c.in_ok-tables.tables) (sym c.in_ok-linker.ensures.program) c.in_ok-tables.ensures
 
-pub new-2-requires-clause-built_in : goal.new-2-requires-clause-built_in
-new-2-requires-clause-built_in c = built-in-before c.args.originals.now.program c.requires.fit c.in_ok-linker.linker c.in_ok-linker.ensures.program c.in_ok-linker.ensures.loaded
+pub new-requires-2-clause-built_in : goal.new-requires-2-clause-built_in
+new-requires-2-clause-built_in c = built-in-before c.args.originals.now.program c.requires.fit c.in_ok-linker.linker c.in_ok-linker.ensures.program c.in_ok-linker.ensures.loaded
 
-pub new-2-requires-clause-exceptions : goal.new-2-requires-clause-exceptions
-new-2-requires-clause-exceptions c = exceptions-before c.args.originals.now.program c.requires.fit c.in_ok-linker.linker c.in_ok-linker.ensures.program c.in_ok-linker.ensures.loaded
+pub new-requires-2-clause-exceptions : goal.new-requires-2-clause-exceptions
+new-requires-2-clause-exceptions c = exceptions-before c.args.originals.now.program c.requires.fit c.in_ok-linker.linker c.in_ok-linker.ensures.program c.in_ok-linker.ensures.loaded
 
-pub new-2-requires-clause-objects : goal.new-2-requires-clause-objects
-new-2-requires-clause-objects c =
+pub new-requires-2-clause-objects : goal.new-requires-2-clause-objects
+new-requires-2-clause-objects c =
     objects-before c.args.originals.now.program c.requires.fit c.in_ok-linker.linker c.in_ok-beginning.beginning.heap c.in_ok-linker.ensures.program c.in_ok-linker.ensures.loaded
     (c.in_ok-beginning.ensures.heap ∙ ap (λ (p : Program). (shared_before p).heap) c.program.ensures.program)
 
 pub returns-clause-state : goal.returns-clause-state
 returns-clause-state c =
-    state-before (record { program = c.args.originals.now.program; input = c.args.input }) c.new.result.frames c.new-2.result.shared c.new-2.result.output c.new.ensures
+    state-before (record { program = c.args.originals.now.program; input = c.args.input }) c.new.result.frames c.new-2.result.shared c.new-2.result.output (ap (λ (f : FramesView). f.frames) c.new.ensures)
     (c.new-2.ensures.shared
     ∙ shared-before c.args.originals.now.program c.program.result.now c.in_ok-linker.linker.loaded c.in_ok-beginning.beginning c.program.ensures.program c.in_ok-linker.ensures.loaded
     c.in_ok-beginning.ensures.phases c.in_ok-beginning.ensures.statics c.in_ok-beginning.ensures.heap c.in_ok-beginning.ensures.made)

@@ -15,11 +15,12 @@ loop-passed-smaller-in-On c =
 
 pub loop-passed-preserved-in-On : goal.loop-passed-preserved-in-On
 loop-passed-preserved-in-On c = (
-    (moves-as c.args.originals.now c.args.parts.now.runtime c.loop-passed.parts.runtime c.loop-passed.invariant.1 c.loop-passed.passed (state_of c.loop-passed.initializing c.loop-passed.parts) (state_of c.make_move.new.initializing c.make_move.new.parts)
-    c.in_ok-make_move.field-0 moved.On c.in_ok-make_move.ensures.answer c.in_ok-make_move.ensures.state c.in-On.is).0
-    ∙ c.loop-passed.invariant.0,
-    c.in_ok-make_move.ensures.world ∙ c.loop-passed.invariant.1,
-    c.in_ok-make_move.ensures.same_loaded ∙ c.loop-passed.invariant.2)
+  (moves-as c.args.originals.now c.args.parts.now.runtime c.loop-passed.parts.runtime c.loop-passed.invariant.1 c.loop-passed.passed (state_of c.loop-passed.initializing c.loop-passed.parts) (state_of c.make_move.new.initializing c.make_move.new.parts)
+      c.in_ok-make_move.field-0 moved.On c.in_ok-make_move.ensures.answer c.in_ok-make_move.ensures.state c.in-On.is).0
+      ∙ c.loop-passed.invariant.0,
+  c.in_ok-make_move.ensures.world ∙ c.loop-passed.invariant.1,
+  c.in_ok-make_move.ensures.same_loaded ∙ c.loop-passed.invariant.2,
+)
 
 pub loop-passed-smaller : goal.loop-passed-smaller
 loop-passed-smaller c =
@@ -28,12 +29,13 @@ loop-passed-smaller c =
 
 pub loop-passed-preserved : goal.loop-passed-preserved
 loop-passed-preserved c = (
-    ap (λ k. paused_in (setup_in c.args.parts.now.runtime c.args.originals.now) k (state_of c.make_move.new.initializing c.make_move.new.parts)) c.in_ok-passed-in-Unwound.ensures
-    ∙ ((moves-as c.args.originals.now c.args.parts.now.runtime c.loop-passed.parts.runtime c.loop-passed.invariant.1 c.loop-passed.passed (state_of c.loop-passed.initializing c.loop-passed.parts) (state_of c.make_move.new.initializing c.make_move.new.parts)
-    c.in_ok-make_move.field-0 moved.Unwound c.in_ok-make_move.ensures.answer c.in_ok-make_move.ensures.state c.in-Unwound.is).0
-    ∙ c.loop-passed.invariant.0),
-    c.in_ok-make_move.ensures.world ∙ c.loop-passed.invariant.1,
-    c.in_ok-make_move.ensures.same_loaded ∙ c.loop-passed.invariant.2)
+  ap (λ k. paused_in (setup_in c.args.parts.now.runtime c.args.originals.now) k (state_of c.make_move.new.initializing c.make_move.new.parts)) c.in_ok-passed-in-Unwound.ensures
+      ∙ ((moves-as c.args.originals.now c.args.parts.now.runtime c.loop-passed.parts.runtime c.loop-passed.invariant.1 c.loop-passed.passed (state_of c.loop-passed.initializing c.loop-passed.parts) (state_of c.make_move.new.initializing c.make_move.new.parts)
+      c.in_ok-make_move.field-0 moved.Unwound c.in_ok-make_move.ensures.answer c.in_ok-make_move.ensures.state c.in-Unwound.is).0
+      ∙ c.loop-passed.invariant.0),
+  c.in_ok-make_move.ensures.world ∙ c.loop-passed.invariant.1,
+  c.in_ok-make_move.ensures.same_loaded ∙ c.loop-passed.invariant.2,
+)
 
 pub returns-in-Unwinds-clause-state : goal.returns-in-Unwinds-clause-state
 returns-in-Unwinds-clause-state c =
