@@ -24,7 +24,7 @@ returns-in_ok-call-in-Invokes-clause-state c =
     let p = c.args.parts.now in
     let o = top_operands p.frames.frames in
     subst (λ a. state_in c.call.new.parts ≡ on_parts (λ s f. acts_asked w c.args.line.now s f (asked a p.frames)) p) (sym c.in-Invokes.is)
-    (c.in_ok-call.ensures.state
+    (c.in_ok-call-in-Invokes.ensures.state
     ∙ invokes-is w c.args.line.now c.args.method p c.in-Invokes.callee c.in-Invokes.args (data_in c.in-Invokes.args o) (drop c.in-Invokes.args o) p.frames.frames c.requires.top
     (length-data c.in-Invokes.args o (subst (λ a. HasOperands a o) c.in-Invokes.is c.requires.enough))
     (subst (λ a. TakesArguments (asked a p.frames) o) c.in-Invokes.is c.requires.takes))

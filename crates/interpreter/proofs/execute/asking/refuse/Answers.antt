@@ -1,4 +1,5 @@
-use Rattle.std.proofs.Common.{◌≡◌, Some, sym, ap, subst, ◌∙◌}
+use Rattle.std.proofs.Common.{◌≡◌, Some, sym, ap, subst, ◌∙◌, rules, w32}
+use Rattle.std.proofs.lemmas.Int.{to_z-of_z}
 use Rattle.jvm_model.specs.declared.ending.Ending.TheVariants.{Exited}
 use Rattle.jvm_model.specs.Instructions.Exceptions.{exception_name}
 use Rattle.symbolic_references.specs.Answers.{abrupt_view}
@@ -12,7 +13,7 @@ pub returns-in_ok-raise_named-in-Raises-clause-state : goal.returns-in_ok-raise_
 returns-in_ok-raise_named-in-Raises-clause-state c =
     let w = setup_in c.args.parts.now.runtime c.args.originals.now in
     subst (λ e. state_in c.raise_named.new.parts ≡ on_parts (λ s f. acts_asked w c.args.line.now s f (abrupt_view e)) c.args.parts.now) (sym c.in-Raises.is)
-    (ap state_in c.in_ok-raise_named.ensures.state
+    (ap state_in c.in_ok-raise_named-in-Raises.ensures.state
     ∙ raises-is w c.args.line.now c.args.method c.args.parts.now (exception_name c.in-Raises.exception) c.in-Raises.message c.args.parts.now.frames.frames c.requires.top)
 
 pub returns-in-Throws-clause-state : goal.returns-in-Throws-clause-state
@@ -24,8 +25,11 @@ returns-in-Throws-clause-state c =
 pub returns-in-Exits-clause-state : goal.returns-in-Exits-clause-state
 returns-in-Exits-clause-state c =
     let w = setup_in c.args.parts.now.runtime c.args.originals.now in
-    subst (λ e. state_in (record c.args.parts.now { ending = Some (Exited c.in-Exits.status) }) ≡ on_parts (λ s f. acts_asked w c.args.line.now s f (abrupt_view e)) c.args.parts.now) (sym c.in-Exits.is)
-    (exits-is w c.args.line.now c.args.method c.args.parts.now c.in-Exits.status c.args.parts.now.frames.frames c.requires.top)
+    let p = c.args.parts.now in
+    subst (λ n. state_in (record p { ending = Some (Exited n) }) ≡ on_parts (λ s f. acts_asked w c.args.line.now s f (abrupt_view c.args.refusal)) p)
+    (sym (to_z-of_z w32 c.in-Exits.status (search rules)))
+    (subst (λ e. state_in (record p { ending = Some (Exited c.in-Exits.status) }) ≡ on_parts (λ s f. acts_asked w c.args.line.now s f (abrupt_view e)) p) (sym c.in-Exits.is)
+    (exits-is w c.args.line.now c.args.method p c.in-Exits.status p.frames.frames c.requires.top))
 
 pub returns-in-Breaks-clause-state : goal.returns-in-Breaks-clause-state
 returns-in-Breaks-clause-state c =
