@@ -1,5 +1,5 @@
-//! One step of original code (JVM Specification 2.6, 2.10, 2.11, 6.5): what the current frame's instruction does to the parts of a
-//! machine, with all that follows from it.
+//! One step of original code (JVM Specification 2.6, 2.10, 2.11, 6.5): what the current frame's
+//! instruction does to the parts of a machine, with all that follows from it.
 #![tactic(auto)]
 
 mod execute;

@@ -52,7 +52,8 @@ pub fn measure(runtime: &Runtime, frames: &Frames) -> Result<Outcome, NoMemory>
     Ok(Outcome::Goes(1, Some(Value::Int(count as i32))))
 }
 
-/// arraylength, where nothing is raised. False, with nothing changed, where the frame does not go on.
+/// arraylength, where nothing is raised. False, with nothing changed, where the frame does not go
+/// on.
 pub fn pass_length(parts: &mut Parts, line: &Line) -> bool
     ensures gone { result ≡ true → IsMeasured line.now parts.old parts.new }
     ensures kept { result ≡ false → parts.new ≡ parts.old }

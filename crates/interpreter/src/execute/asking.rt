@@ -60,7 +60,8 @@ fn go_on(
     break_off(parts, method, line.instr.at);
 }
 
-/// What is asked for in place of going on. The class that is initialized before is the answer, where one is.
+/// What is asked for in place of going on. The class that is initialized before is the answer,
+/// where one is.
 fn refuse(
     originals: &Originals,
     parts: &mut Parts,
@@ -98,7 +99,8 @@ fn refuse(
     }
 }
 
-/// Does what an instruction of the current frame asks for. The class that is initialized before is the answer, where one is.
+/// Does what an instruction of the current frame asks for. The class that is initialized before is
+/// the answer, where one is.
 pub fn conclude(
     originals: &Originals,
     parts: &mut Parts,

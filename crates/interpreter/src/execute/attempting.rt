@@ -198,8 +198,8 @@ fn act_beneath(
     }
 }
 
-/// Does the line at which the current frame stands, which names nothing; where there is none the run
-/// ends.
+/// Does the line at which the current frame stands, which names nothing; where there is none the
+/// run ends.
 #[inline(always)]
 fn attempt_line(
     alloc: Global,
@@ -217,7 +217,8 @@ fn attempt_line(
         ≡ false }
     requires executing { initialization_on (length parts.old.frames.frames) initializing.now
         ≡ None }
-    ensures state { let w = setup_in parts.old.runtime originals.now in let s = state_of initializing.now parts.old in
+    ensures state { let w = setup_in parts.old.runtime originals.now in
+        let s = state_of initializing.now parts.old in
         OnOk result (state_of initializing.now parts.new ≡ attempts_on w s s.stack) }
     ensures world { parts.new.runtime.world ≡ parts.old.runtime.world }
     ensures same_loaded { parts.new.runtime.shared.loaded ≡ parts.old.runtime.shared.loaded }
@@ -266,7 +267,8 @@ fn attempt_name(
     requires ready { IsReady originals.old here.version }
     requires linked { IsLinked originals.old parts.old.runtime }
     requires fit { CanRun (setup_in parts.old.runtime originals.old) }
-    requires sound { IsSoundIn (setup_in parts.old.runtime originals.old) (state_of initializing.old parts.old) }
+    requires sound { IsSoundIn (setup_in parts.old.runtime originals.old)
+        (state_of initializing.old parts.old) }
     requires here { here_of parts.old.frames.frames ≡ Some here }
     requires named { named_in (line_at originals.old.versions here.version here.place)
         ≡ true }
@@ -276,8 +278,11 @@ fn attempt_name(
     ensures world { parts.new.runtime.world ≡ parts.old.runtime.world }
     ensures linked { OnOk result (IsLinked originals.new parts.new.runtime) }
     ensures answer { IfOk result (λ o.
-        o ≡ awaited_in (setup_in parts.old.runtime originals.old) (state_of initializing.old parts.old)) }
-    ensures state { let w = setup_in parts.old.runtime originals.old in let s = state_of initializing.old parts.old in
+        o
+        ≡ awaited_in (setup_in parts.old.runtime originals.old)
+        (state_of initializing.old parts.old)) }
+    ensures state { let w = setup_in parts.old.runtime originals.old in
+        let s = state_of initializing.old parts.old in
         OnOk result (state_of initializing.new parts.new ≡ attempts_on w s s.stack) }
 {
     let outcome = originals.attempt_named(
@@ -313,7 +318,8 @@ fn attempt_there(
     requires ready { IsReady originals.old here.version }
     requires linked { IsLinked originals.old parts.old.runtime }
     requires fit { CanRun (setup_in parts.old.runtime originals.old) }
-    requires sound { IsSoundIn (setup_in parts.old.runtime originals.old) (state_of initializing.old parts.old) }
+    requires sound { IsSoundIn (setup_in parts.old.runtime originals.old)
+        (state_of initializing.old parts.old) }
     requires here { here_of parts.old.frames.frames ≡ Some here }
     requires executing { initialization_on (length parts.old.frames.frames) initializing.old
         ≡ None }
@@ -321,8 +327,11 @@ fn attempt_there(
     ensures world { parts.new.runtime.world ≡ parts.old.runtime.world }
     ensures linked { OnOk result (IsLinked originals.new parts.new.runtime) }
     ensures answer { IfOk result (λ o.
-        o ≡ awaited_in (setup_in parts.old.runtime originals.old) (state_of initializing.old parts.old)) }
-    ensures state { let w = setup_in parts.old.runtime originals.old in let s = state_of initializing.old parts.old in
+        o
+        ≡ awaited_in (setup_in parts.old.runtime originals.old)
+        (state_of initializing.old parts.old)) }
+    ensures state { let w = setup_in parts.old.runtime originals.old in
+        let s = state_of initializing.old parts.old in
         OnOk result (state_of initializing.new parts.new ≡ attempts_on w s s.stack) }
 {
     if named_at(originals, here) {
@@ -333,8 +342,8 @@ fn attempt_there(
 }
 
 /// Attempts what stands at the current frame's place: its instruction alone, without what follows
-/// from it. The classes that it names are loaded before. Where a class has to be initialized before,
-/// that has begun, and the class is the answer.
+/// from it. The classes that it names are loaded before. Where a class has to be initialized
+/// before, that has begun, and the class is the answer.
 pub fn attempt(
     alloc: Global,
     originals: &mut Originals,
@@ -343,15 +352,19 @@ pub fn attempt(
 ) -> Result<Option<u32>, NoMemory>
     requires linked { IsLinked originals.old parts.old.runtime }
     requires fit { CanRun (setup_in parts.old.runtime originals.old) }
-    requires sound { IsSoundIn (setup_in parts.old.runtime originals.old) (state_of initializing.old parts.old) }
+    requires sound { IsSoundIn (setup_in parts.old.runtime originals.old)
+        (state_of initializing.old parts.old) }
     requires executing { initialization_on (length parts.old.frames.frames) initializing.old
         ≡ None }
     ensures versions { originals.new.versions ≡ originals.old.versions }
     ensures world { parts.new.runtime.world ≡ parts.old.runtime.world }
     ensures linked { OnOk result (IsLinked originals.new parts.new.runtime) }
     ensures answer { IfOk result (λ o.
-        o ≡ awaited_in (setup_in parts.old.runtime originals.old) (state_of initializing.old parts.old)) }
-    ensures state { let w = setup_in parts.old.runtime originals.old in let s = state_of initializing.old parts.old in
+        o
+        ≡ awaited_in (setup_in parts.old.runtime originals.old)
+        (state_of initializing.old parts.old)) }
+    ensures state { let w = setup_in parts.old.runtime originals.old in
+        let s = state_of initializing.old parts.old in
         OnOk result (state_of initializing.new parts.new ≡ attempts_on w s s.stack) }
 {
     let Some(here) = where_now(&parts.frames) else {
@@ -363,7 +376,8 @@ pub fn attempt(
 
 // ---- in two parts
 
-/// The same of a line that names something: where it loads classes nothing else is done, and None is the answer.
+/// The same of a line that names something: where it loads classes nothing else is done, and None
+/// is the answer.
 fn attempt_name_loaded(
     alloc: Global,
     originals: &mut Originals,
@@ -374,7 +388,8 @@ fn attempt_name_loaded(
     requires ready { IsReady originals.old here.version }
     requires linked { IsLinked originals.old parts.old.runtime }
     requires fit { CanRun (setup_in parts.old.runtime originals.old) }
-    requires sound { IsSoundIn (setup_in parts.old.runtime originals.old) (state_of initializing.old parts.old) }
+    requires sound { IsSoundIn (setup_in parts.old.runtime originals.old)
+        (state_of initializing.old parts.old) }
     requires ending { parts.old.ending ≡ None }
     requires here { here_of parts.old.frames.frames ≡ Some here }
     requires named { named_in (line_at originals.old.versions here.version here.place)
@@ -385,13 +400,18 @@ fn attempt_name_loaded(
     ensures world { parts.new.runtime.world ≡ parts.old.runtime.world }
     ensures linked { OnOk result (IsLinked originals.new parts.new.runtime) }
     ensures some { IfOk result (λ o. is_some o
-        ≡ loads_none (setup_in parts.old.runtime originals.old) (state_of initializing.old parts.old)) }
+        ≡ loads_none (setup_in parts.old.runtime originals.old)
+        (state_of initializing.old parts.old)) }
     ensures answer { IfOk result (λ o. IfSome o (λ a.
-        a ≡ awaited_in (setup_in parts.old.runtime originals.old) (state_of initializing.old parts.old))) }
-    ensures state { let w = setup_in parts.old.runtime originals.old in let s = state_of initializing.old parts.old in
+        a
+        ≡ awaited_in (setup_in parts.old.runtime originals.old)
+        (state_of initializing.old parts.old))) }
+    ensures state { let w = setup_in parts.old.runtime originals.old in
+        let s = state_of initializing.old parts.old in
         IfOk result (λ o. IfSome o (λ _.
         state_of initializing.new parts.new ≡ attempts_on w s s.stack)) }
-    ensures loads { let w = setup_in parts.old.runtime originals.old in let s = state_of initializing.old parts.old in
+    ensures loads { let w = setup_in parts.old.runtime originals.old in
+        let s = state_of initializing.old parts.old in
         IfOk result (λ o. IfNone o
         (state_of initializing.new parts.new ≡ with_loaded (loads_in w s) s)) }
 {
@@ -429,7 +449,8 @@ fn attempt_loaded_there(
     requires ready { IsReady originals.old here.version }
     requires linked { IsLinked originals.old parts.old.runtime }
     requires fit { CanRun (setup_in parts.old.runtime originals.old) }
-    requires sound { IsSoundIn (setup_in parts.old.runtime originals.old) (state_of initializing.old parts.old) }
+    requires sound { IsSoundIn (setup_in parts.old.runtime originals.old)
+        (state_of initializing.old parts.old) }
     requires ending { parts.old.ending ≡ None }
     requires here { here_of parts.old.frames.frames ≡ Some here }
     requires executing { initialization_on (length parts.old.frames.frames) initializing.old
@@ -438,13 +459,18 @@ fn attempt_loaded_there(
     ensures world { parts.new.runtime.world ≡ parts.old.runtime.world }
     ensures linked { OnOk result (IsLinked originals.new parts.new.runtime) }
     ensures some { IfOk result (λ o. is_some o
-        ≡ loads_none (setup_in parts.old.runtime originals.old) (state_of initializing.old parts.old)) }
+        ≡ loads_none (setup_in parts.old.runtime originals.old)
+        (state_of initializing.old parts.old)) }
     ensures answer { IfOk result (λ o. IfSome o (λ a.
-        a ≡ awaited_in (setup_in parts.old.runtime originals.old) (state_of initializing.old parts.old))) }
-    ensures state { let w = setup_in parts.old.runtime originals.old in let s = state_of initializing.old parts.old in
+        a
+        ≡ awaited_in (setup_in parts.old.runtime originals.old)
+        (state_of initializing.old parts.old))) }
+    ensures state { let w = setup_in parts.old.runtime originals.old in
+        let s = state_of initializing.old parts.old in
         IfOk result (λ o. IfSome o (λ _.
         state_of initializing.new parts.new ≡ attempts_on w s s.stack)) }
-    ensures loads { let w = setup_in parts.old.runtime originals.old in let s = state_of initializing.old parts.old in
+    ensures loads { let w = setup_in parts.old.runtime originals.old in
+        let s = state_of initializing.old parts.old in
         IfOk result (λ o. IfNone o
         (state_of initializing.new parts.new ≡ with_loaded (loads_in w s) s)) }
 {
@@ -455,8 +481,9 @@ fn attempt_loaded_there(
     Ok(Some(None))
 }
 
-/// Attempts what stands at the current frame's place, in two parts. Where its classes are still to be loaded they are loaded, nothing
-/// else is done, and None is the answer. Else it is attempted, and the answer is the class that is initialized before.
+/// Attempts what stands at the current frame's place, in two parts. Where its classes are still to
+/// be loaded they are loaded, nothing else is done, and None is the answer. Else it is attempted,
+/// and the answer is the class that is initialized before.
 pub fn attempt_loaded(
     alloc: Global,
     originals: &mut Originals,
@@ -465,7 +492,8 @@ pub fn attempt_loaded(
 ) -> Result<Option<Option<u32>>, NoMemory>
     requires linked { IsLinked originals.old parts.old.runtime }
     requires fit { CanRun (setup_in parts.old.runtime originals.old) }
-    requires sound { IsSoundIn (setup_in parts.old.runtime originals.old) (state_of initializing.old parts.old) }
+    requires sound { IsSoundIn (setup_in parts.old.runtime originals.old)
+        (state_of initializing.old parts.old) }
     requires ending { parts.old.ending ≡ None }
     requires executing { initialization_on (length parts.old.frames.frames) initializing.old
         ≡ None }
@@ -473,13 +501,18 @@ pub fn attempt_loaded(
     ensures world { parts.new.runtime.world ≡ parts.old.runtime.world }
     ensures linked { OnOk result (IsLinked originals.new parts.new.runtime) }
     ensures some { IfOk result (λ o. is_some o
-        ≡ loads_none (setup_in parts.old.runtime originals.old) (state_of initializing.old parts.old)) }
+        ≡ loads_none (setup_in parts.old.runtime originals.old)
+        (state_of initializing.old parts.old)) }
     ensures answer { IfOk result (λ o. IfSome o (λ a.
-        a ≡ awaited_in (setup_in parts.old.runtime originals.old) (state_of initializing.old parts.old))) }
-    ensures state { let w = setup_in parts.old.runtime originals.old in let s = state_of initializing.old parts.old in
+        a
+        ≡ awaited_in (setup_in parts.old.runtime originals.old)
+        (state_of initializing.old parts.old))) }
+    ensures state { let w = setup_in parts.old.runtime originals.old in
+        let s = state_of initializing.old parts.old in
         IfOk result (λ o. IfSome o (λ _.
         state_of initializing.new parts.new ≡ attempts_on w s s.stack)) }
-    ensures loads { let w = setup_in parts.old.runtime originals.old in let s = state_of initializing.old parts.old in
+    ensures loads { let w = setup_in parts.old.runtime originals.old in
+        let s = state_of initializing.old parts.old in
         IfOk result (λ o. IfNone o
         (state_of initializing.new parts.new ≡ with_loaded (loads_in w s) s)) }
 {

@@ -301,7 +301,8 @@ fn int_for(heap: &Heap, array: u32, index: i32) -> Option<i32>
     heap.int_at(array, index as u32)
 }
 
-/// The reference to which an instruction is led, by one look-up. None does not say that there is none.
+/// The reference to which an instruction is led, by one look-up. None does not say that there is
+/// none.
 #[inline(always)]
 fn reference_for(heap: &Heap, array: u32, index: i32) -> Option<u32>
     ensures { IfSome result
@@ -332,7 +333,8 @@ fn element_for(heap: &Heap, kind: Kind, place: &ArrayElement) -> Option<Datum>
     }
 }
 
-/// The slot of the int to which an instruction is led, by one look-up. None does not say that there is none.
+/// The slot of the int to which an instruction is led, by one look-up. None does not say that there
+/// is none.
 #[inline(always)]
 fn int_slot(heap: &Heap, array: u32, index: i32) -> Option<u32>
     ensures { IfSome result (λ slot. access_to Int array index heap.now ≡ Inside slot) }
@@ -379,7 +381,8 @@ fn put_element(frames: &mut Frames, datum: Datum, next: u16) -> Effect
     }
 }
 
-/// Loads an element where nothing is raised. False, with nothing changed, where the frame does not go on.
+/// Loads an element where nothing is raised. False, with nothing changed, where the frame does not
+/// go on.
 #[inline(always)]
 pub fn pass_load(parts: &mut Parts, line: &Line, kind: Kind) -> bool
     ensures gone { result ≡ true → IsLoaded line.now kind parts.old parts.new }
@@ -421,7 +424,8 @@ fn drop_stored(frames: &mut Frames, kind: Kind, next: u16) -> Effect
     }
 }
 
-/// Stores a number where nothing is raised. False, with nothing changed, where the frame does not go on.
+/// Stores a number where nothing is raised. False, with nothing changed, where the frame does not
+/// go on.
 #[inline(always)]
 pub fn pass_store(parts: &mut Parts, line: &Line, kind: Kind) -> bool
     ensures gone { result ≡ true → IsStored line.now kind parts.old parts.new }

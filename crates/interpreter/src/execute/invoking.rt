@@ -106,7 +106,8 @@ fn begin(
     requires few { may_begin parts.old.frames.frames ≡ true }
     ensures state { let w = setup_in parts.old.runtime originals.now in
         let fs = parts.old.frames.frames in OnOk result (state_in parts.new
-        ≡ method_called w method own callee args fs parts.old true (can_begin w.world callee args fs)) }
+        ≡ method_called w method own callee args fs parts.old true
+        (can_begin w.world callee args fs)) }
     ensures runtime { parts.new.runtime ≡ parts.old.runtime }
 {
     if !begin_frame(originals, &parts.runtime, &mut parts.frames, callee, args)? {
@@ -127,7 +128,8 @@ fn overflow(
 ) -> Result<(), NoMemory>
     ensures state { let w = setup_in parts.old.runtime originals.now in
         let fs = parts.old.frames.frames in OnOk result (state_in parts.new
-        ≡ method_called w method own callee args fs parts.old false (can_begin w.world callee args fs)) }
+        ≡ method_called w method own callee args fs parts.old false
+        (can_begin w.world callee args fs)) }
     ensures world { parts.new.runtime.world ≡ parts.old.runtime.world }
     ensures same_loaded { parts.new.runtime.shared.loaded ≡ parts.old.runtime.shared.loaded }
 {
@@ -138,8 +140,8 @@ fn overflow(
     Ok(())
 }
 
-/// Begins a method with so many arguments, unless that were one activation too many. Where they don't fit the run ends at this offset
-/// of the caller's method.
+/// Begins a method with so many arguments, unless that were one activation too many. Where they
+/// don't fit the run ends at this offset of the caller's method.
 pub fn call(
     originals: &Originals,
     parts: &mut Parts,

@@ -1,5 +1,6 @@
-//! Several steps that tell nothing: those of the current frame alone, and between them accesses of fields that raise nothing, calls and
-//! returns, by what their names came to. They go on up to a call into a version with probes, or a return from one.
+//! Several steps that tell nothing: those of the current frame alone, and between them accesses of
+//! fields that raise nothing, calls and returns, by what their names came to. They go on up to a
+//! call into a version with probes, or a return from one.
 
 ghost use Rattle.std.specs.Prelude.{◌≡◌, ◌≤◌, ◌<◌, true, false, length};
 ghost use Rattle.std.specs.Prelude.{IfSome, Some, is_some, not};
@@ -59,8 +60,8 @@ fn begun_due(marked: bool) -> Due
     if marked { Due::Begins } else { Due::Nothing }
 }
 
-/// A method begins on the current frame, in its current version: what is due then. None, with nothing of the frames changed, where it
-/// can't.
+/// A method begins on the current frame, in its current version: what is due then. None, with
+/// nothing of the frames changed, where it can't.
 #[inline(always)]
 fn begin_call(originals: &Originals, parts: &mut Parts, call: Call) -> Option<Due>
     ensures few { is_some result ≡ true → may_begin parts.old.frames.frames ≡ true }
@@ -109,14 +110,16 @@ fn pass_call(
 ) -> Option<Due>
     requires run { CanRun (setup_in parts.old.runtime originals.now) }
     requires linked { IsLinked originals.now parts.old.runtime }
-    requires sound { IsSoundIn (setup_in parts.old.runtime originals.now) (state_of initializing.now parts.old) }
+    requires sound { IsSoundIn (setup_in parts.old.runtime originals.now)
+        (state_of initializing.now parts.old) }
     requires at_instruction { IsAtInstruction
         (length parts.old.frames.frames) initializing.now parts.old }
     requires here { here_of parts.old.frames.frames ≡ Some here }
     requires line { line_at originals.now.versions here.version here.place ≡ Some line.now }
     requires named { line.now.action ≡ action.Named reference.now }
     requires known { IsKnown (linker_in parts.old.runtime) reference.now known.now }
-    ensures { GoesOnward (setup_in parts.old.runtime originals.now) initializing.now parts.old result parts.new }
+    ensures { GoesOnward (setup_in parts.old.runtime originals.now) initializing.now parts.old
+        result parts.new }
 {
     let Some(invoked) = parts.runtime.known_call(&parts.frames, reference, known) else {
         return None;
@@ -147,14 +150,16 @@ fn pass_access(
 ) -> bool
     requires run { CanRun (setup_in parts.old.runtime originals.now) }
     requires linked { IsLinked originals.now parts.old.runtime }
-    requires sound { IsSoundIn (setup_in parts.old.runtime originals.now) (state_of initializing.now parts.old) }
+    requires sound { IsSoundIn (setup_in parts.old.runtime originals.now)
+        (state_of initializing.now parts.old) }
     requires at_instruction { IsAtInstruction
         (length parts.old.frames.frames) initializing.now parts.old }
     requires here { here_of parts.old.frames.frames ≡ Some here }
     requires line { line_at originals.now.versions here.version here.place ≡ Some line.now }
     requires named { line.now.action ≡ action.Named reference.now }
     requires known { IsKnown (linker_in parts.old.runtime) reference.now known.now }
-    ensures { Passes (setup_in parts.old.runtime originals.now) initializing.now parts.old (steps_if result) parts.new }
+    ensures { Passes (setup_in parts.old.runtime originals.now) initializing.now parts.old
+        (steps_if result) parts.new }
 {
     parts
         .runtime
@@ -175,7 +180,8 @@ fn pass_measure(
     requires here { here_of parts.old.frames.frames ≡ Some here }
     requires line { line_at originals.now.versions here.version here.place ≡ Some line.now }
     requires measures { line.now.action ≡ action.Arraylength }
-    ensures { Passes (setup_in parts.old.runtime originals.now) initializing.now parts.old (steps_if result) parts.new }
+    ensures { Passes (setup_in parts.old.runtime originals.now) initializing.now parts.old
+        (steps_if result) parts.new }
 {
     pass_length(parts, line)
 }
@@ -207,7 +213,8 @@ pub fn result_of(frames: &Frames, kind: Option<Kind>) -> Option<Option<Datum>>
     Some(Some(datum))
 }
 
-/// Where the caller of the current frame goes on. None where nothing does, or where an initialization stands on it.
+/// Where the caller of the current frame goes on. None where nothing does, or where an
+/// initialization stands on it.
 #[inline(always)]
 pub fn goes_back(
     originals: &Originals,
@@ -260,8 +267,8 @@ fn is_probed(version: &Version) -> bool
     }
 }
 
-/// A return from a version that is its method's current one; its probe has told, if it has one. False, with nothing changed, where the
-/// caller can't go on.
+/// A return from a version that is its method's current one; its probe has told, if it has one.
+/// False, with nothing changed, where the caller can't go on.
 #[inline(always)]
 pub fn leave(
     originals: &Originals,
@@ -284,7 +291,8 @@ pub fn leave(
     ensures calm { result ≡ true → IsAtInstruction
         (length parts.new.frames.frames) initializing.now parts.new }
     // Where the version has no probes nothing is told of it.
-    ensures silent { let w = setup_in parts.old.runtime originals.now in is_off (mark_of w.versions here.version) ≡ true
+    ensures silent { let w = setup_in parts.old.runtime originals.now in
+        is_off (mark_of w.versions here.version) ≡ true
         → Passes w initializing.now parts.old (steps_if result) parts.new }
     ensures runtime { parts.new.runtime ≡ parts.old.runtime }
 {
@@ -318,7 +326,8 @@ fn pass_return(
     requires runs { version_at originals.now.versions here.version ≡ Some version.now }
     requires line { line_at originals.now.versions here.version here.place ≡ Some line.now }
     requires ends { line.now.action ≡ action.Return kind }
-    ensures { GoesOnward (setup_in parts.old.runtime originals.now) initializing.now parts.old result parts.new }
+    ensures { GoesOnward (setup_in parts.old.runtime originals.now) initializing.now parts.old
+        result parts.new }
 {
     if is_probed(version) {
         return Some(Due::Ends(EventKind::Leave));
@@ -342,7 +351,8 @@ fn pass_throw(
     requires here { here_of parts.old.frames.frames ≡ Some here }
     requires line { line_at originals.now.versions here.version here.place ≡ Some line.now }
     requires throws { line.now.action ≡ action.Athrow }
-    ensures { Passes (setup_in parts.old.runtime originals.now) initializing.now parts.old (steps_if result) parts.new }
+    ensures { Passes (setup_in parts.old.runtime originals.now) initializing.now parts.old
+        (steps_if result) parts.new }
 {
     let Some(object) = thrown_object(&parts.runtime, &parts.frames) else {
         return false;
@@ -386,13 +396,15 @@ fn pass_named(
 ) -> Option<Due>
     requires run { CanRun (setup_in parts.old.runtime originals.now) }
     requires linked { IsLinked originals.now parts.old.runtime }
-    requires sound { IsSoundIn (setup_in parts.old.runtime originals.now) (state_of initializing.now parts.old) }
+    requires sound { IsSoundIn (setup_in parts.old.runtime originals.now)
+        (state_of initializing.now parts.old) }
     requires at_instruction { IsAtInstruction
         (length parts.old.frames.frames) initializing.now parts.old }
     requires here { here_of parts.old.frames.frames ≡ Some here }
     requires line { line_at originals.now.versions here.version here.place ≡ Some line.now }
     requires named { line.now.action ≡ action.Named reference.now }
-    ensures { GoesOnward (setup_in parts.old.runtime originals.now) initializing.now parts.old result parts.new }
+    ensures { GoesOnward (setup_in parts.old.runtime originals.now) initializing.now parts.old
+        result parts.new }
 {
     let Some(known) = originals.known(here.version, here.place) else {
         return None;
@@ -403,9 +415,10 @@ fn pass_named(
     made_if(pass_access(originals, parts, initializing, here, line, reference, known))
 }
 
-/// A step by a line at which the current frame stands, in the version that it runs, up to what a probe tells of it: what is due there,
-/// and nothing where the step is made. Nothing of the run is changed where the answer is None: the line does something else, or raises
-/// something, or nothing is known of its names.
+/// A step by a line at which the current frame stands, in the version that it runs, up to what a
+/// probe tells of it: what is due there, and nothing where the step is made. Nothing of the run is
+/// changed where the answer is None: the line does something else, or raises something, or nothing
+/// is known of its names.
 fn pass_line(
     originals: &Originals,
     parts: &mut Parts,
@@ -415,12 +428,15 @@ fn pass_line(
 ) -> Option<Due>
     requires run { CanRun (setup_in parts.old.runtime originals.now) }
     requires linked { IsLinked originals.now parts.old.runtime }
-    requires sound { IsSoundIn (setup_in parts.old.runtime originals.now) (state_of initializing.now parts.old) }
+    requires sound { IsSoundIn (setup_in parts.old.runtime originals.now)
+        (state_of initializing.now parts.old) }
     requires at_instruction { IsAtInstruction
         (length parts.old.frames.frames) initializing.now parts.old }
-    requires runs { RunsVersion (setup_in parts.old.runtime originals.now) version.now parts.old.frames.frames }
+    requires runs { RunsVersion (setup_in parts.old.runtime originals.now) version.now
+        parts.old.frames.frames }
     requires stands { IsLineIn version.now parts.old.frames.frames line.now }
-    ensures { GoesOnward (setup_in parts.old.runtime originals.now) initializing.now parts.old result parts.new }
+    ensures { GoesOnward (setup_in parts.old.runtime originals.now) initializing.now parts.old
+        result parts.new }
 {
     let Some(here) = where_now(&parts.frames) else {
         return None;
@@ -471,8 +487,9 @@ fn passed_there(due: Due) -> u64
     }
 }
 
-/// Steps from which nothing follows, and of which nothing is told, at most so many, and up to what a probe tells of the next one: what
-/// is due there, if it does. How many were made is put beside it, since a record would be copied with its gaps.
+/// Steps from which nothing follows, and of which nothing is told, at most so many, and up to what
+/// a probe tells of the next one: what is due there, if it does. How many were made is put beside
+/// it, since a record would be copied with its gaps.
 fn pass_to(
     originals: &Originals,
     parts: &mut Parts,
@@ -482,7 +499,8 @@ fn pass_to(
 ) -> Option<Due>
     requires run { CanRun (setup_in parts.old.runtime originals.now) }
     requires linked { IsLinked originals.now parts.old.runtime }
-    requires sound { IsSoundIn (setup_in parts.old.runtime originals.now) (state_of initializing.now parts.old) }
+    requires sound { IsSoundIn (setup_in parts.old.runtime originals.now)
+        (state_of initializing.now parts.old) }
     requires at_instruction { IsAtInstruction
         (length parts.old.frames.frames) initializing.now parts.old }
     ensures within { count.new ≤ most }
@@ -517,8 +535,8 @@ fn pass_to(
     None
 }
 
-/// Steps from which nothing follows, and of which nothing is told, at most so many: how many it has made. Where the next one is within
-/// them, and a probe tells of it, it goes on to there.
+/// Steps from which nothing follows, and of which nothing is told, at most so many: how many it has
+/// made. Where the next one is within them, and a probe tells of it, it goes on to there.
 #[inline(always)]
 pub fn pass_steps(
     originals: &Originals,
@@ -528,12 +546,14 @@ pub fn pass_steps(
 ) -> Passed
     requires run { CanRun (setup_in parts.old.runtime originals.now) }
     requires linked { IsLinked originals.now parts.old.runtime }
-    requires sound { IsSoundIn (setup_in parts.old.runtime originals.now) (state_of initializing.now parts.old) }
+    requires sound { IsSoundIn (setup_in parts.old.runtime originals.now)
+        (state_of initializing.now parts.old) }
     requires at_instruction { IsAtInstruction
         (length parts.old.frames.frames) initializing.now parts.old }
     ensures within { result.made ≤ most }
     ensures below { IfSome result.gone (λ gone. result.made < most) }
-    ensures made { PassesOnward (setup_in parts.old.runtime originals.now) initializing.now parts.old result parts.new }
+    ensures made { PassesOnward (setup_in parts.old.runtime originals.now) initializing.now
+        parts.old result parts.new }
 {
     let mut made = 0;
     match pass_to(originals, parts, initializing, most, &mut made) {

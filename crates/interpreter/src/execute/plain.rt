@@ -1,5 +1,6 @@
-//! Steps of instructions that the current frame does by itself, and of those that load or store an element and raise nothing: nothing
-//! but the current frame and the heap changes, and nothing follows.
+//! Steps of instructions that the current frame does by itself, and of those that load or store an
+//! element and raise nothing: nothing but the current frame and the heap changes, and nothing
+//! follows.
 
 ghost use Rattle.std.specs.Prelude.{Some, ◌≡◌, ◌≢◌, ◌≤◌, ◌<◌, true, false};
 ghost use Rattle.std.specs.Option.{IfSome, option_and_then};
@@ -27,7 +28,8 @@ use jvm_basic::{
 use jvm_model::Test;
 use prepared_code::{Action, Line, Originals, Parts, Version, line_in, where_now};
 
-/// The version that the current frame runs. None where there is no frame, or its lines are still to be made.
+/// The version that the current frame runs. None where there is no frame, or its lines are still to
+/// be made.
 #[inline(always)]
 pub fn version_now<'a>(originals: &'a Originals, frames: &Frames) -> Option<&'a Version>
     ensures runs { let v = originals.now.versions in IfSome result
@@ -71,8 +73,9 @@ fn pass_alone(line: &Line, frames: &mut Frames) -> bool
     matches!(effect, Effect::Next)
 }
 
-/// Does a line that the current frame does by itself, or that loads or stores an element and raises nothing, by its action. False, with
-/// nothing changed, where the frame does not go on. It is a call of its own, so that the loop stays small.
+/// Does a line that the current frame does by itself, or that loads or stores an element and raises
+/// nothing, by its action. False, with nothing changed, where the frame does not go on. It is a
+/// call of its own, so that the loop stays small.
 #[inline(never)]
 fn pass_by_action(line: &Line, parts: &mut Parts) -> bool
     requires { line.now.family ≡ family_of line.now.instr.op }
@@ -159,7 +162,8 @@ fn do_line(line: &Line, parts: &mut Parts) -> Effect
     }
 }
 
-/// Does a line where nothing is raised. False, with nothing changed, where the frame does not go on.
+/// Does a line where nothing is raised. False, with nothing changed, where the frame does not go
+/// on.
 #[inline(always)]
 fn pass_line(line: &Line, parts: &mut Parts) -> bool
     requires { IsPrepared line.now }
@@ -170,8 +174,9 @@ fn pass_line(line: &Line, parts: &mut Parts) -> bool
     matches!(effect, Effect::Next)
 }
 
-/// Steps in the version that the current frame runs, at most so many, by lines that its frame does by itself, or that load or store an
-/// element and raise nothing; up to a line that is none: that line, where it has come to one. How many were made is put beside it.
+/// Steps in the version that the current frame runs, at most so many, by lines that its frame does
+/// by itself, or that load or store an element and raise nothing; up to a line that is none: that
+/// line, where it has come to one. How many were made is put beside it.
 #[inline(never)]
 pub fn plain_to<'a>(
     version: &'a Version,

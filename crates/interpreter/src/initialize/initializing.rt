@@ -137,7 +137,8 @@ fn begin_initializer(
     requires few { may_begin parts.old.frames.frames ≡ true }
     requires below { initialization_on (suc (length parts.old.frames.frames)) initializing.now
         ≡ None }
-    ensures state { let w = setup_in parts.old.runtime originals.now in OnOk result (state_of initializing.now parts.new
+    ensures state { let w = setup_in parts.old.runtime originals.now in
+        OnOk result (state_of initializing.now parts.new
         ≡ with_frame (state_of initializing.now parts.old)
         (new_frame w.world (listing_of w.versions) method [])) }
     ensures world { parts.new.runtime.world ≡ parts.old.runtime.world }
@@ -165,11 +166,13 @@ fn run_initializer(
     initializing: &mut Stack<Initialization>,
     class: u32,
 ) -> Result<Option<u32>, NoMemory>
-    ensures begun { let w = setup_in parts.old.runtime originals.now in IfOk result (λ o. o ≡ begun_in
+    ensures begun { let w = setup_in parts.old.runtime originals.now in
+        IfOk result (λ o. o ≡ begun_in
         (runs_initializer w.world (listing_of w.versions)
         (state_of initializing.old parts.old) class
         (initializer_of w.world.program class)).changes) }
-    ensures state { let w = setup_in parts.old.runtime originals.now in OnOk result (state_of initializing.new parts.new
+    ensures state { let w = setup_in parts.old.runtime originals.now in
+        OnOk result (state_of initializing.new parts.new
         ≡ (runs_initializer w.world (listing_of w.versions)
         (state_of initializing.old parts.old) class
         (initializer_of w.world.program class)).after) }
@@ -210,8 +213,8 @@ fn run_constants(
 
 // ---- every part
 
-/// The initialization of a class goes on with this part, after its initialization was taken off. The answer is the
-/// method that has begun.
+/// The initialization of a class goes on with this part, after its initialization was taken off.
+/// The answer is the method that has begun.
 pub fn go_on(
     originals: &Originals,
     parts: &mut Parts,
@@ -219,10 +222,12 @@ pub fn go_on(
     class: u32,
     part: Part,
 ) -> Result<Option<u32>, NoMemory>
-    ensures begun { let w = setup_in parts.old.runtime originals.now in let s = state_of initializing.old parts.old in
+    ensures begun { let w = setup_in parts.old.runtime originals.now in
+        let s = state_of initializing.old parts.old in
         IfOk result (λ o. o ≡ begun_in
         (initializes w.world (listing_of w.versions) s class part).changes) }
-    ensures state { let w = setup_in parts.old.runtime originals.now in let s = state_of initializing.old parts.old in
+    ensures state { let w = setup_in parts.old.runtime originals.now in
+        let s = state_of initializing.old parts.old in
         OnOk result (state_of initializing.new parts.new
         ≡ (initializes w.world (listing_of w.versions) s class part).after) }
     ensures world { parts.new.runtime.world ≡ parts.old.runtime.world }

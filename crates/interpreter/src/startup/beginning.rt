@@ -46,8 +46,8 @@ fn begin_class(
     }
 }
 
-/// The arguments are made, for which there is room, and the main class is loaded: its initialization
-/// begins, or what stopped its loading is raised.
+/// The arguments are made, for which there is room, and the main class is loaded: its
+/// initialization begins, or what stopped its loading is raised.
 fn load_main(
     alloc: Global,
     originals: &mut Originals,
@@ -70,8 +70,8 @@ fn load_main(
     begin_class(parts, initializing, class, found)
 }
 
-/// What the start does before its moves: the same, or, where there is no room for the arguments, object 1 is thrown. The classes that
-/// it loads are the last ones then.
+/// What the start does before its moves: the same, or, where there is no room for the arguments,
+/// object 1 is thrown. The classes that it loads are the last ones then.
 pub fn begin_start(
     alloc: Global,
     originals: &mut Originals,

@@ -1,4 +1,5 @@
-//! The state before the start, in which the built-in classes are loaded and ready, and the start (JVM Specification 5.2, 5.3, 5.5).
+//! The state before the start, in which the built-in classes are loaded and ready, and the start
+//! (JVM Specification 5.2, 5.3, 5.5).
 
 ghost use Rattle.std.specs.Prelude.{◌≡◌, ◌<◌, ◌≤◌, ◌^◌, [], IfOk, length, map, unwrap_or};
 ghost use Rattle.std.specs.Option.{option_and_then};

@@ -1,5 +1,5 @@
-//! A step in hand goes on to what is told next of it, where that is quickly done: to its end, behind a call of which was told, or by a
-//! return of which its probe has told.
+//! A step in hand goes on to what is told next of it, where that is quickly done: to its end,
+//! behind a call of which was told, or by a return of which its probe has told.
 
 ghost use Rattle.std.specs.Prelude.{ℕ, List, ◌≡◌, true, false, length, IfNone, IfSome};
 ghost use Rattle.jvm_model.specs.Basis.Data.{Turn};
@@ -21,7 +21,8 @@ use jf_bytes::Stack;
 use jvm_model::Due;
 use prepared_code::{Action, Initialization, Originals, Parts, line_in, where_now};
 
-/// A return of which its probe has told. False, with nothing of the run changed, where the line is none, or the caller can't go on.
+/// A return of which its probe has told. False, with nothing of the run changed, where the line is
+/// none, or the caller can't go on.
 #[inline(always)]
 fn end_told(originals: &Originals, parts: &mut Parts, initializing: &Stack<Initialization>) -> bool
     requires run { CanRun (setup_in parts.old.runtime originals.now) }
@@ -48,8 +49,8 @@ fn end_told(originals: &Originals, parts: &mut Parts, initializing: &Stack<Initi
     }
 }
 
-/// Goes on with a step in hand to its end, where that is quickly done. None, with nothing of the run changed, where it is not, or where
-/// nothing of a step is in hand: `go` does it then.
+/// Goes on with a step in hand to its end, where that is quickly done. None, with nothing of the
+/// run changed, where it is not, or where nothing of a step is in hand: `go` does it then.
 #[inline(always)]
 pub fn go_calmly(
     originals: &Originals,
@@ -66,14 +67,17 @@ pub fn go_calmly(
     ensures calm { IfSome result (λ gone. IsAtInstruction
         (length parts.new.frames.frames) initializing.now parts.new) }
     // The rest of the same step is in hand then, at the next of its changes that is told.
-    ensures hands { let w = setup_in parts.old.runtime originals.now in let s = state_of initializing.now parts.old in
+    ensures hands { let w = setup_in parts.old.runtime originals.now in
+        let s = state_of initializing.now parts.old in
         IfSome result (λ gone. (homes : ℕ → ℕ → ℕ) (turn : Turn) (live : List Held)
         → HasVersions w homes → HasInHand w homes turn hand live s
         → HasGoneOn w homes turn hand live gone (state_of initializing.now parts.new)) }
-    ensures sound { let w = setup_in parts.old.runtime originals.now in let s = state_of initializing.now parts.old in
+    ensures sound { let w = setup_in parts.old.runtime originals.now in
+        let s = state_of initializing.now parts.old in
         IfSome result (λ gone. IsSoundIn w s → IsSoundIn w (state_of initializing.now parts.new)) }
     // The moves of the start leave a sound state too.
-    ensures starts { let w = setup_in parts.old.runtime originals.now in IfSome result (λ gone. hand.moves ≡ true
+    ensures starts { let w = setup_in parts.old.runtime originals.now in
+        IfSome result (λ gone. hand.moves ≡ true
         → hand.delivered ≡ false → state_of initializing.now parts.old ≡ starts_with w.world
         → IsSoundIn w (state_of initializing.now parts.new)) }
     ensures none { IfNone result (state_of initializing.now parts.new

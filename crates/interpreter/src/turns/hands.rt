@@ -20,8 +20,9 @@ use jvm_model::{Due, EventKind};
 use prepared_code::{Initialization, Originals, Parts};
 use std::alloc::Global;
 
-/// What is in hand of a step: whether moves alone are left of it, or an attempt before them; whether the probe of the end that
-/// comes next has told; and how many of the step's changes are behind it.
+/// What is in hand of a step: whether moves alone are left of it, or an attempt before them;
+/// whether the probe of the end that comes next has told; and how many of the step's changes are
+/// behind it.
 #[derive(Clone, Copy, Debug, PartialEq, Eq)]
 pub struct Hand {
     pub moves: bool,
@@ -36,7 +37,8 @@ pub struct Gone {
     pub due: Due,
 }
 
-/// How many steps that tell nothing were made, and where the one behind them has stopped, if a probe tells of it.
+/// How many steps that tell nothing were made, and where the one behind them has stopped, if a
+/// probe tells of it.
 #[derive(Clone, Copy, Debug, PartialEq, Eq)]
 pub struct Passed {
     pub made: u64,
@@ -85,8 +87,8 @@ pub fn gone_to(due: Due, passed: u64) -> Gone
     }
 }
 
-/// Goes on with a step up to what is told next. Where classes are still to be loaded they are loaded, nothing else is done, and
-/// None is the answer.
+/// Goes on with a step up to what is told next. Where classes are still to be loaded they are
+/// loaded, nothing else is done, and None is the answer.
 #[inline(always)]
 pub fn go(
     alloc: Global,
@@ -106,7 +108,8 @@ pub fn go(
         OnOk result (IsSoundIn w (state_of initializing.old parts.old)
         → IsSoundIn w (state_of initializing.new parts.new)) }
     // The moves of the start leave a sound state too.
-    ensures starts { let w = setup_in parts.old.runtime originals.old in OnOk result (hand.moves ≡ true
+    ensures starts { let w = setup_in parts.old.runtime originals.old in
+        OnOk result (hand.moves ≡ true
         → hand.delivered ≡ false → state_of initializing.old parts.old ≡ starts_with w.world
         → IsSoundIn w (state_of initializing.new parts.new)) }
     ensures some { let s = state_of initializing.old parts.old in IfOk result (λ o. is_some o
@@ -116,11 +119,13 @@ pub fn go(
         pause_at (state_of initializing.new parts.new) gone.hand.passed gone.due
         ≡ goes_in (setup_in parts.old.runtime originals.old) hand s)) }
     ensures left { IfOk result (λ o. IfSome o (λ gone. IsLeft gone)) }
-    ensures loads { let w = setup_in parts.old.runtime originals.old in let s = state_of initializing.old parts.old in
+    ensures loads { let w = setup_in parts.old.runtime originals.old in
+        let s = state_of initializing.old parts.old in
         IfOk result (λ o. IfNone o
         (state_of initializing.new parts.new ≡ with_loaded (loads_in w s) s)) }
     // The rest of the same step is in hand then, at the next of its changes that is told.
-    ensures hands { let w = setup_in parts.old.runtime originals.old in let s = state_of initializing.old parts.old in
+    ensures hands { let w = setup_in parts.old.runtime originals.old in
+        let s = state_of initializing.old parts.old in
         IfOk result (λ o. IfSome o (λ gone. (homes : ℕ → ℕ → ℕ) (turn : Turn) (live : List Held)
         → HasVersions w homes → HasInHand w homes turn hand live s
         → HasGoneOn w homes turn hand live gone (state_of initializing.new parts.new))) }

@@ -1,4 +1,5 @@
-//! All moves behind an instruction over versions with probes, up to the first of which a probe tells.
+//! All moves behind an instruction over versions with probes, up to the first of which a probe
+//! tells.
 
 ghost use Rattle.std.specs.Prelude.{◌≡◌, suc, OnOk, IfOk};
 ghost use Rattle.jvm_model.specs.Turns.InHand.{frame_popped};
@@ -24,8 +25,8 @@ pub fn one_more(passed: u64) -> Result<u64, NoMemory>
     }
 }
 
-/// Makes moves up to where none applies, or to the first of which a probe tells: what is due then. It counts the changes of
-/// the step that are behind it.
+/// Makes moves up to where none applies, or to the first of which a probe tells: what is due then.
+/// It counts the changes of the step that are behind it.
 fn pause_on(
     alloc: Global,
     originals: &Originals,
@@ -80,7 +81,8 @@ pub fn pause(
 
 // ---- where moves alone are left of a step
 
-/// Takes the current frame off, behind its unwind probe. (There is one then, and no initialization stands on it.)
+/// Takes the current frame off, behind its unwind probe. (There is one then, and no initialization
+/// stands on it.)
 fn take_off(parts: &mut Parts, initializing: &Stack<Initialization>) -> Result<(), NoMemory>
     ensures state { OnOk result
         (state_of initializing.now parts.new ≡ frame_popped (state_of initializing.now parts.old)) }
@@ -119,7 +121,8 @@ fn resume(
     Ok(())
 }
 
-/// Goes on with the moves that are left of a step; where the unwind probe of the current frame has told, it is taken off first.
+/// Goes on with the moves that are left of a step; where the unwind probe of the current frame has
+/// told, it is taken off first.
 pub fn go_by_moves(
     alloc: Global,
     originals: &Originals,

@@ -1,4 +1,5 @@
-//! A step over versions with probes that begins with an attempt, up to the first of its changes of which a probe tells.
+//! A step over versions with probes that begins with an attempt, up to the first of its changes of
+//! which a probe tells.
 
 ghost use Rattle.std.specs.Prelude.{◌≡◌, ◌&&◌, ◌==◌, false, length, true, None, is_some, not};
 ghost use Rattle.std.specs.Prelude.{IfNone, IfOk, OnOk};
@@ -114,7 +115,8 @@ fn is_nothing(due: Due) -> bool
     }
 }
 
-/// Whether the instruction is attempted once more: its class is ready, and nothing else has happened.
+/// Whether the instruction is attempted once more: its class is ready, and nothing else has
+/// happened.
 #[inline(always)]
 fn tries_again(parts: &Parts, class: u32, due: Due, same: bool) -> bool
     ensures { result ≡ (is_nothing due && same && is_ready (phase_of parts.now.runtime.shared class)
@@ -138,13 +140,15 @@ fn try_again(
 ) -> Result<Due, NoMemory>
     requires linked { IsLinked originals.old parts.old.runtime }
     requires fit { CanRun (setup_in parts.old.runtime originals.old) }
-    requires sound { IsSoundIn (setup_in parts.old.runtime originals.old) (state_of initializing.old parts.old) }
+    requires sound { IsSoundIn (setup_in parts.old.runtime originals.old)
+        (state_of initializing.old parts.old) }
     requires executing { initialization_on (length parts.old.frames.frames) initializing.old
         ≡ None }
     ensures versions { originals.new.versions ≡ originals.old.versions }
     ensures world { parts.new.runtime.world ≡ parts.old.runtime.world }
     ensures linked { OnOk result (IsLinked originals.new parts.new.runtime) }
-    ensures reaches { let w = setup_in parts.old.runtime originals.old in let s = state_of initializing.old parts.old in
+    ensures reaches { let w = setup_in parts.old.runtime originals.old in
+        let s = state_of initializing.old parts.old in
         IfOk result (λ due. pause_at (state_of initializing.new parts.new) passed.new due
         ≡ pause_behind_attempt w depth passed.old (attempts_on w s s.stack)) }
 {
@@ -152,8 +156,8 @@ fn try_again(
     follow(alloc, originals, parts, initializing, depth, passed)
 }
 
-/// The same in two parts, and once more where its class is ready behind it. Where classes are still to be loaded they are loaded,
-/// nothing else is done, and None is the answer.
+/// The same in two parts, and once more where its class is ready behind it. Where classes are still
+/// to be loaded they are loaded, nothing else is done, and None is the answer.
 #[inline(always)]
 fn try_line(
     alloc: Global,
@@ -164,18 +168,21 @@ fn try_line(
 ) -> Result<Option<Due>, NoMemory>
     requires linked { IsLinked originals.old parts.old.runtime }
     requires fit { CanRun (setup_in parts.old.runtime originals.old) }
-    requires sound { IsSoundIn (setup_in parts.old.runtime originals.old) (state_of initializing.old parts.old) }
+    requires sound { IsSoundIn (setup_in parts.old.runtime originals.old)
+        (state_of initializing.old parts.old) }
     requires goes { goes_on_in initializing.old parts.old ≡ true }
     ensures versions { originals.new.versions ≡ originals.old.versions }
     ensures world { parts.new.runtime.world ≡ parts.old.runtime.world }
     ensures linked { OnOk result (IsLinked originals.new parts.new.runtime) }
     ensures some { IfOk result (λ o. is_some o
-        ≡ loads_none (setup_in parts.old.runtime originals.old) (state_of initializing.old parts.old)) }
+        ≡ loads_none (setup_in parts.old.runtime originals.old)
+        (state_of initializing.old parts.old)) }
     ensures reaches { let s = state_of initializing.old parts.old in IfOk result
         (λ o. IfSome o (λ due.
         pause_at (state_of initializing.new parts.new) passed.new due
         ≡ tried_in (setup_in parts.old.runtime originals.old) true passed.old s)) }
-    ensures loads { let w = setup_in parts.old.runtime originals.old in let s = state_of initializing.old parts.old in
+    ensures loads { let w = setup_in parts.old.runtime originals.old in
+        let s = state_of initializing.old parts.old in
         IfOk result (λ o. IfNone o
         (state_of initializing.new parts.new ≡ with_loaded (loads_in w s) s)) }
     ensures same { IfOk result (λ o. IfNone o (passed.new ≡ passed.old)) }
@@ -198,9 +205,9 @@ fn try_line(
 
 // ---- where a step begins with an attempt
 
-/// Goes on with a step from an attempt, up to what is told next, and counts the changes that are behind it. `told` says that the
-/// leave probe of the current frame has told. Where classes are still to be loaded they are loaded, nothing else is done, and
-/// None is the answer.
+/// Goes on with a step from an attempt, up to what is told next, and counts the changes that are
+/// behind it. `told` says that the leave probe of the current frame has told. Where classes are
+/// still to be loaded they are loaded, nothing else is done, and None is the answer.
 #[inline(always)]
 pub fn go_by_attempt(
     alloc: Global,
@@ -212,17 +219,20 @@ pub fn go_by_attempt(
 ) -> Result<Option<Due>, NoMemory>
     requires linked { IsLinked originals.old parts.old.runtime }
     requires fit { CanRun (setup_in parts.old.runtime originals.old) }
-    requires sound { IsSoundIn (setup_in parts.old.runtime originals.old) (state_of initializing.old parts.old) }
+    requires sound { IsSoundIn (setup_in parts.old.runtime originals.old)
+        (state_of initializing.old parts.old) }
     ensures versions { originals.new.versions ≡ originals.old.versions }
     ensures world { parts.new.runtime.world ≡ parts.old.runtime.world }
     ensures linked { OnOk result (IsLinked originals.new parts.new.runtime) }
     ensures some { IfOk result (λ o. is_some o
-        ≡ loads_none (setup_in parts.old.runtime originals.old) (state_of initializing.old parts.old)) }
+        ≡ loads_none (setup_in parts.old.runtime originals.old)
+        (state_of initializing.old parts.old)) }
     ensures reaches { let s = state_of initializing.old parts.old in IfOk result
         (λ o. IfSome o (λ due.
         pause_at (state_of initializing.new parts.new) passed.new due
         ≡ tried_in (setup_in parts.old.runtime originals.old) delivered passed.old s)) }
-    ensures loads { let w = setup_in parts.old.runtime originals.old in let s = state_of initializing.old parts.old in
+    ensures loads { let w = setup_in parts.old.runtime originals.old in
+        let s = state_of initializing.old parts.old in
         IfOk result (λ o. IfNone o
         (state_of initializing.new parts.new ≡ with_loaded (loads_in w s) s)) }
     ensures same { IfOk result (λ o. IfNone o (passed.new ≡ passed.old)) }

@@ -1,4 +1,5 @@
-//! The moves behind an instruction over versions with probes, one at a time, up to the first of which a probe tells.
+//! The moves behind an instruction over versions with probes, one at a time, up to the first of
+//! which a probe tells.
 
 ghost use Rattle.std.specs.Prelude.{◌≡◌, [], ◌∷◌, not, None, Some, IfOk, OnOk};
 ghost use Rattle.jvm_model.specs.Rewriting.Images.{is_off};
@@ -27,7 +28,8 @@ pub enum Moved {
     On,
     /// The current frame was taken off, of which no probe tells.
     Unwound,
-    /// The current frame is to be taken off: its unwind probe tells of it first, and nothing else is done.
+    /// The current frame is to be taken off: its unwind probe tells of it first, and nothing else
+    /// is done.
     Unwinds,
     /// A method began, of which no probe tells.
     Began,
@@ -184,7 +186,9 @@ pub fn make_move(
     ensures answer { let s = state_of initializing.old parts.old in
         IfOk result (λ m. m ≡ moved_as (setup_in parts.old.runtime originals.now) s) }
     ensures state { let s = state_of initializing.old parts.old in
-        OnOk result (state_of initializing.new parts.new ≡ moved_to (setup_in parts.old.runtime originals.now) s) }
+        OnOk result
+        (state_of initializing.new parts.new
+        ≡ moved_to (setup_in parts.old.runtime originals.now) s) }
     ensures world { parts.new.runtime.world ≡ parts.old.runtime.world }
     ensures same_loaded { parts.new.runtime.shared.loaded ≡ parts.old.runtime.shared.loaded }
 {

@@ -1,4 +1,5 @@
-//! A throw by which an activation ends and that its caller catches, where nothing is told of it (JVM Specification 2.10).
+//! A throw by which an activation ends and that its caller catches, where nothing is told of it
+//! (JVM Specification 2.10).
 
 ghost use Rattle.std.specs.Prelude.{◌≡◌, true, IfSome, Some};
 ghost use Rattle.frame_stack.specs.FrameLists.{top_operands};
@@ -75,9 +76,9 @@ fn is_off(mark: Mark) -> bool
     }
 }
 
-/// Where the caller of the current frame goes on when an object of this class is thrown there. None where the frame catches it itself or the
-/// caller does not, where an initialization stands on the caller, or where the frame's version has probes, or is not its method's current
-/// one.
+/// Where the caller of the current frame goes on when an object of this class is thrown there. None
+/// where the frame catches it itself or the caller does not, where an initialization stands on the
+/// caller, or where the frame's version has probes, or is not its method's current one.
 pub fn caught_below(
     originals: &Originals,
     runtime: &Runtime,
@@ -111,8 +112,9 @@ pub fn caught_below(
     handler_for(originals, runtime, version, class, place)
 }
 
-/// The current frame is taken off, and its caller goes on at a handler with the object alone on its operands. False, with nothing changed,
-/// where it has no room for the object on top of those that it has.
+/// The current frame is taken off, and its caller goes on at a handler with the object alone on its
+/// operands. False, with nothing changed, where it has no room for the object on top of those that
+/// it has.
 pub fn catch_below(frames: &mut Frames, object: u32, target: u16) -> bool
     ensures fits { result ≡ true → fits_caught frames.old.frames ≡ true }
     ensures frames { frames.new.frames ≡ caught_if result object target frames.old.frames }

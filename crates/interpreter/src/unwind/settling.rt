@@ -1,5 +1,5 @@
-//! What a move behind an instruction does (JVM Specification 2.10, 5.5): a frame goes on at a handler, an initialization goes
-//! on, `main` begins.
+//! What a move behind an instruction does (JVM Specification 2.10, 5.5): a frame goes on at a
+//! handler, an initialization goes on, `main` begins.
 
 ghost use Rattle.std.specs.Prelude.{◌≡◌, [], false, map, Some, IfOk, OnOk};
 ghost use Rattle.jvm_model.specs.Running.Applies.{has_room};
@@ -36,8 +36,8 @@ fn empty(frames: &mut Frames)
     while frames.pop().is_some() {}
 }
 
-/// Puts an object in the place of the operands. False, with nothing changed, where they have no room
-/// for it.
+/// Puts an object in the place of the operands. False, with nothing changed, where they have no
+/// room for it.
 pub fn put_alone(frames: &mut Frames, object: u32) -> bool
     ensures answer { result ≡ fits_alone frames.old.frames }
     ensures frames { frames.new.frames ≡ with_alone object frames.old.frames }
@@ -96,12 +96,15 @@ fn begin_frame(
     Ok(true)
 }
 
-/// `main` begins, or the run ends where it has no local for its argument. The answer is the method that has begun.
+/// `main` begins, or the run ends where it has no local for its argument. The answer is the method
+/// that has begun.
 pub fn begin_main(originals: &Originals, parts: &mut Parts) -> Result<Option<u32>, NoMemory>
     requires { parts.old.frames.frames ≡ [] }
-    ensures begun { let w = setup_in parts.old.runtime originals.now in IfOk result (λ o. o ≡ begun_in
+    ensures begun { let w = setup_in parts.old.runtime originals.now in
+        IfOk result (λ o. o ≡ begun_in
         (main_or_end w.world (listing_of w.versions) (state_in parts.old) false).changes) }
-    ensures state { let w = setup_in parts.old.runtime originals.now in OnOk result (state_in parts.new ≡
+    ensures state { let w = setup_in parts.old.runtime originals.now in
+        OnOk result (state_in parts.new ≡
         (main_or_end w.world (listing_of w.versions) (state_in parts.old) false).after) }
     ensures world { parts.new.runtime.world ≡ parts.old.runtime.world }
     ensures same_loaded { parts.new.runtime.shared.loaded ≡ parts.old.runtime.shared.loaded }
@@ -117,8 +120,8 @@ pub fn begin_main(originals: &Originals, parts: &mut Parts) -> Result<Option<u32
 
 // ---- every move
 
-/// A throw meets the initialization of a class, or it goes on, after its initialization was taken off. The answer is
-/// the method that has begun.
+/// A throw meets the initialization of a class, or it goes on, after its initialization was taken
+/// off. The answer is the method that has begun.
 pub fn move_initialization(
     alloc: Global,
     originals: &Originals,
@@ -126,7 +129,8 @@ pub fn move_initialization(
     initializing: &mut Stack<Initialization>,
     initialization: Initialization,
 ) -> Result<Option<u32>, NoMemory>
-    ensures begun { IfOk result (λ o. o ≡ initialization_begins (setup_in parts.old.runtime originals.now)
+    ensures begun { IfOk result
+        (λ o. o ≡ initialization_begins (setup_in parts.old.runtime originals.now)
         (state_of initializing.old parts.old) parts.old.thrown initialization.class
         initialization.part) }
     ensures state { OnOk result (state_of initializing.new parts.new

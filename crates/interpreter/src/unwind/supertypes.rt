@@ -52,8 +52,9 @@ fn is_within(program: &Program, left: usize, lower: usize, upper: usize) -> bool
     }
 }
 
-/// Whether a class is another one, or inherits from it, or implements it. Of a loaded class, as the class of each object is, the
-/// linker's row of it tells that in one look-up; walks by names are left for the others.
+/// Whether a class is another one, or inherits from it, or implements it. Of a loaded class, as the
+/// class of each object is, the linker's row of it tells that in one look-up; walks by names are
+/// left for the others.
 pub fn is_subtype(linker: &Linker, lower: usize, upper: usize) -> bool
     ensures { result ≡ is_subtype linker.now.program lower upper }
 {
