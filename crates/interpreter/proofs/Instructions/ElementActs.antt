@@ -1,6 +1,6 @@
 -- What an instruction on an element asks for, where its array and index lead.
 use Rattle.std.proofs.Common.{◌≡◌, ◌≤◌, ℕ, ℤ, Bool, true, false, [], ◌∷◌, drop, length, refl, sym, ap, subst, ◌∙◌, arith}
-use Rattle.std.specs.Prelude.{Option, Some, None, pos, negsuc, ◌==◌, if◌then◌else◌}
+use Rattle.std.specs.Prelude.{Some, None, pos, negsuc, ◌==◌, if◌then◌else◌}
 use Rattle.std.specs.Option.{option_map}
 use Rattle.std.proofs.lemmas.Option.{none-some}
 use Rattle.heap_objects.specs.declared.datum.Datum.{Datum}
