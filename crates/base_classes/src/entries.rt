@@ -53,7 +53,8 @@ fn add_name_type(
     name: &str,
     descriptor: &str,
 ) -> Result<u16, NoMemory>
-    ensures { GivesEntry result pool.new.items (name_type_added pool.old.items name.now descriptor.now) }
+    ensures { GivesEntry result pool.new.items
+        (name_type_added pool.old.items name.now descriptor.now) }
 {
     let name = add_text(alloc, pool, name)?;
     let descriptor = add_text(alloc, pool, descriptor)?;

@@ -16,7 +16,8 @@ use std::alloc::Global;
 
 #[tactic(auto, unfolding(crate::specs::Making::member_added))]
 fn add_member(alloc: Global, pool: &mut Vec<Const>, row: &MemberRow) -> Result<Member, NoMemory>
-    ensures { GivesMember result pool.new.items (member_added pool.old.items (member_view row.now)) }
+    ensures { GivesMember result pool.new.items
+        (member_added pool.old.items (member_view row.now)) }
 {
     let name = add_text(alloc, pool, row.name)?;
     let descriptor = add_text(alloc, pool, row.descriptor)?;

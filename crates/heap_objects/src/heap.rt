@@ -294,21 +294,6 @@ impl Heap {
         put_at(&mut self.objects, object as usize - 1, slot as usize, value)
     }
 
-    /// Puts an int into an element of an array of ints. False, with nothing changed, where it is none, or has no such element.
-    #[inline(always)]
-    pub fn put_int_at(&mut self, object: u32, slot: u32, n: i32) -> bool
-        ensures ints { result ≡ true
-            → option_map element_of (kind_at object self.old) ≡ Some Element.Int }
-        ensures there { result ≡ true → has_slot_at object slot self.old ≡ true }
-        ensures heap { self.new
-            ≡ changed_if result (with_slot_at object slot (Datum.Int n)) self.old }
-    {
-        if self.int_at(object, slot).is_none() {
-            return false;
-        }
-        self.put(object, slot, Datum::Int(n))
-    }
-
     /// Puts a unit at a place of a text. False, with nothing changed, where there is no such text or place.
     pub fn put_unit(&mut self, object: u32, at: u32, unit: u16) -> bool
         ensures answer { result ≡ has_unit_at object at self.old }

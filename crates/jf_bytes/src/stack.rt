@@ -1,6 +1,6 @@
 //! A stack that contracts see as a list with the top first.
 
-ghost use Rattle.std.specs.Prelude.{◌≡◌, ◌≤◌, ◌∷◌, [], ◌==◌, length, reverse, take, drop, is_ok, IfOk, IfErr, MatchOption, slice_get, if◌then◌else◌};
+ghost use Rattle.std.specs.Prelude.{◌≡◌, ◌∷◌, [], ◌==◌, length, reverse, is_ok, IfOk, IfErr, MatchOption, slice_get, if◌then◌else◌};
 ghost use Rattle.std.specs.Option.{option_copied};
 
 use std::alloc::{AllocError, AllocFailed, Global};
@@ -67,31 +67,11 @@ impl<T> Stack<T> {
         self.items.pop()
     }
 
-    /// The topmost items, so many of them, the deepest of them first.
-    pub fn topmost(&self, count: usize) -> &[T]
-        requires { count ≤ length self.now }
-        ensures { result.now ≡ reverse (take count self.now) }
-    {
-        let below = self.items.len() - count;
-        &self.items[below..]
-    }
-
     /// The top item, where there is one.
     pub fn top(&self) -> Option<&T>
         ensures { option_copied result ≡ slice_get self.now 0 }
     {
         self.items.last()
-    }
-}
-
-impl<T: Drop> Stack<T> {
-    /// Takes the topmost items off, so many of them.
-    pub fn discard(&mut self, count: usize)
-        requires { count ≤ length self.old }
-        ensures { self.new ≡ drop count self.old }
-    {
-        let below = self.items.len() - count;
-        self.items.truncate(below);
     }
 }
 

@@ -46,10 +46,12 @@ impl<T> Model for Versions<T> {
       slots = v.first.items ++ v.later.slots;
       current = v.current.items;
       spare = spare_of (length v.first.items + v.later.capacity)
-          (min (v.later.capacity - slab_len v.later) (vec_capacity v.superseded - length v.superseded.items));
+          (min (v.later.capacity - slab_len v.later)
+          (vec_capacity v.superseded - length v.superseded.items));
     } };
 
-    ghost invariant = { λ v. IsTable v.first.items v.later.slots v.current.items v.superseded.items };
+    ghost invariant = { λ v. IsTable v.first.items v.later.slots v.current.items
+        v.superseded.items };
 }
 
 impl<T> Versions<T> {

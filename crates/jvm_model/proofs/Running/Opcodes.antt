@@ -74,7 +74,7 @@ agree-same true false e = sym e
 agree-same false true e = absurd cc
 agree-same false false e = refl
 
--- the families of which operations run so far, and those that return
+-- the families of which operations stand in a small class, and those that return
 abbrev runs : Family → Bool
 runs family.Nop = true
 runs (family.Constant d) = true
@@ -91,7 +91,7 @@ abbrev returns : Family → Bool
 returns (family.Return k) = true
 returns _ = false
 
--- where a family runs so far, both tests of the opcode say whether it returns
+-- where a family stands in a small class, both tests of the opcode say whether it returns
 abbrev agrees_by : ℕ → Family → Bool
 agrees_by op f = not (runs f) || (agree (returns f) (is_return_opcode op) && agree (returns f) (op == 172 || op == 177))
 
@@ -134,7 +134,7 @@ in_map : {A B : Type 0} (f : A → B) (o : Option A) (y : B) → option_map f o 
 in_map f None y e = absurd (none-some y e)
 in_map f (Some x) y e = (x, same_Some (f x) y e)
 
--- ---- what an operation of a family does, where it runs so far
+-- ---- what an operation of a family does, where it stands in a small class
 
 abbrev goes_on : Resolved → Type 0
 goes_on q = is_return_operation q ≡ false
@@ -142,7 +142,7 @@ goes_on q = is_return_operation q ≡ false
 only : (o p : Resolved) → goes_on o → Some o ≡ Some p → goes_on p
 only o p is e = subst goes_on (same_Some o p e) is
 
--- the family runs so far, and the operation returns where the family does
+-- the family stands in a small class, and the operation returns where the family does
 abbrev Fits : Family → Local → Type 0
 Fits f i = (q : Resolved) → resolved_local i ≡ Some q → (runs f ≡ true) × (is_return_operation q ≡ returns f)
 
@@ -357,7 +357,7 @@ returns-instr c i q lt e =
           (ap (resolved_in c) local.2 ∙ rest)
     ])
 
--- Control ends behind an operation of the part that runs so far exactly where it returns.
+-- Control ends behind an operation of a small class exactly where it returns.
 pub ends-resolved : (c : ClassFile) (o : Operation) (q : Resolved) → resolved_in c o ≡ Some q → ends o ≡ is_return_operation q
 ends-resolved c (Within Nop) q e = ap is_return_operation (same_Some resolved.Nop q e)
 ends-resolved c (Within (Constant (datum.Int n))) q e = ap is_return_operation (same_Some (resolved.Constant n) q e)

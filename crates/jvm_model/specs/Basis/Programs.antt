@@ -52,7 +52,7 @@ super_name p class = option_and_then (λ (c : ClassFile). named_class c.pool c.s
 abbrev pub super_of : Program → ℕ → Option ℕ
 super_of p class = option_and_then (class_named p) (super_name p class)
 
--- the class that a program begins with: that of its own which runs so far
+-- the class that a program begins with: the first of its own
 abbrev pub first_class : Program → ClassFile
 first_class p = unwrap_or (class_at p 0) no_class
 

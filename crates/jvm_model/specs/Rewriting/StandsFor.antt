@@ -26,7 +26,7 @@ use Rattle.jvm_model.specs.Basis.Methods.{method_code}
 use Rattle.jvm_model.specs.Small.SmallClass.{IsSmallClass}
 use Rattle.jvm_model.specs.Small.PlainShape.{HasPlainShape}
 
--- A class of the part of the language that is built so far.
+-- A small class with a plain shape.
 pub record IsBuilt (class : ClassFile) : Type 0 where
   pub formed : IsClassFile class
   pub plain : HasPlainShape class

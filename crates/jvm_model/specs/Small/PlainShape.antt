@@ -1,4 +1,4 @@
--- The shape of a class that runs so far. Entries of its pool, texts and attributes may be any.
+-- The shape of a small class. Entries of its pool, texts and attributes may be any.
 use Rattle.std.specs.Prelude.{◌≡◌, ◌≤◌, [], length, IfSome}
 use Rattle.std.specs.List.{AllByRecursion}
 use Rattle.const_pool.specs.declared.class.ClassFile.{ClassFile}

@@ -1,5 +1,5 @@
 -- Operations with their names looked up in the class itself (JVM Specification 5.4.3), as the machine keeps them: those of
--- the part that runs so far.
+-- a small class.
 use Rattle.std.specs.Prelude.{ℕ, Option, Some, None, if◌then◌else◌}
 use Rattle.std.specs.Option.{option_and_then, option_map}
 use Rattle.heap_objects.specs.declared.datum.Datum.{Datum}
@@ -35,7 +35,7 @@ resolved_return None = Some resolved.Return
 resolved_return (Some kind.Int) = Some resolved.Ireturn
 resolved_return _ = None
 
--- so far three of the operators run
+-- three of the operators stand in a small class
 abbrev pub resolved_binary : IntOperator → Option Resolved
 resolved_binary Iadd = Some (resolved.Binary Iadd)
 resolved_binary Isub = Some (resolved.Binary Isub)

@@ -1,4 +1,4 @@
--- A small class: the part of the language that is built so far.
+-- A small class: int arithmetic, and calls of static methods of the class that stand earlier in it.
 use Rattle.std.specs.Prelude.{◌≡◌, ℕ, ◌≤◌, Bool, true, false, not, List, [], ◌∷◌, length, Option, Some, None, codes, ◌==◌, ◌&&◌, ◌||◌, nat_lt, nat_le, is_none, if◌then◌else◌}
 use Rattle.std.specs.Option.{option_and_then, option_map, option_map_or}
 use Rattle.std.specs.List.{list_any, list_all, slice_get}
