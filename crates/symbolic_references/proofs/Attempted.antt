@@ -84,7 +84,7 @@ module _ (l new : LinkerView) (more : List ℕ) (is : new ≡ with_more l more) 
 
   exceptions_more : HasExceptions l → HasExceptions (with_more l more)
   exceptions_more has = record {
-    each = λ e machines. usable_more l more (exception_kind l.program e) (has.each e machines);
+    each = λ e. usable_more l more (exception_kind l.program e) (has.each e);
     text = usable_more l more (kind_for l.program string) has.text;
   }
 

@@ -4,7 +4,7 @@ use Rattle.jvm_model.specs.declared.exception.Exception.{Exception}
 use Rattle.class_linker.specs.Linkers.{LinkerView}
 use Rattle.symbolic_references.specs.declared.program_tables.ProgramTables.{ProgramTables}
 use Rattle.symbolic_references.specs.Objects.{IsUsable}
-use Rattle.symbolic_references.specs.ProgramFacts.{AreTablesOf, HasExceptions, IsMachines, exception_in, exception_kind}
+use Rattle.symbolic_references.specs.ProgramFacts.{AreTablesOf, HasExceptions, exception_in, exception_kind}
 use Rattle.symbolic_references.specs.Runtimes.{RuntimeView, linker_in}
 
 module _ (l : LinkerView) (v : RuntimeView) (t : ProgramTables) (e : Exception) where
@@ -13,8 +13,8 @@ module _ (l : LinkerView) (v : RuntimeView) (t : ProgramTables) (e : Exception) 
   kept_kind given tables same is =
       tables.raised e ∙ (ap (λ (l : LinkerView). exception_kind l.program e) same ∙ ap (exception_kind v.world.program) (sym is))
 
-  pub kept_usable : AreTablesOf l.program t → HasExceptions l → IsMachines e → l ≡ linker_in v
+  pub kept_usable : AreTablesOf l.program t → HasExceptions l → l ≡ linker_in v
       → IsUsable (linker_in v) (exception_in l.program t.exceptions e)
-  kept_usable tables there machines same =
+  kept_usable tables there same =
       subst (λ k. IsUsable k (exception_in l.program t.exceptions e)) same
-      (subst (IsUsable l) (sym (tables.raised e)) (there.each e machines))
+      (subst (IsUsable l) (sym (tables.raised e)) (there.each e))

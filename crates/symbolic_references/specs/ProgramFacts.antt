@@ -53,12 +53,7 @@ pub record AreTablesOf (p : Program) (t : ProgramTables) : Type 0 where
   pub string : t.exceptions.string ≡ kind_for p string
   pub small : t.exceptions.string < 2 ^ 25
 
--- exceptions that the machine makes: those that native methods throw are of built-in classes
-abbrev pub IsMachines : Exception → Type 0
-IsMachines (BuiltIn place) = place < 53
-IsMachines _ = Unit {0}
-
--- their classes and java/lang/String are loaded
+-- the classes of all exceptions that the machine makes and java/lang/String are loaded
 pub record HasExceptions (l : LinkerView) : Type 0 where
-  pub each : (e : Exception) → IsMachines e → IsUsable l (exception_kind l.program e)
+  pub each : (e : Exception) → IsUsable l (exception_kind l.program e)
   pub text : IsUsable l (kind_for l.program string)

@@ -1,6 +1,6 @@
 -- Before the start the built-in classes are loaded, those of exceptions among them, and so is the class of each object that is there.
-use Rattle.std.proofs.Common.{◌≡◌, ◌<◌, ℕ, zero, suc, Bool, true, false, List, [], ◌∷◌, length, refl, sym, ap, subst, ◌∙◌, arith}
-use Rattle.std.specs.Prelude.{map, slice_get, unwrap_or, ◌||◌}
+use Rattle.std.proofs.Common.{◌≡◌, ℕ, zero, suc, Bool, true, false, List, [], ◌∷◌, Option, None, Some, refl, sym, ap, subst, ◌∙◌, arith}
+use Rattle.std.specs.Prelude.{IfSome, map, slice_get, unwrap_or, ◌||◌}
 use Rattle.std.specs.List.{AllByRecursion, list_any}
 use Rattle.std.proofs.lemmas.Slice.Eq.{bytes_eq-Decides}
 use Rattle.const_pool.specs.BuiltIn.{built_in_names}
@@ -14,7 +14,7 @@ use Rattle.jvm_model.specs.declared.state.Shared.{Shared}
 use Rattle.jvm_model.specs.declared.state.State.{State}
 use Rattle.jvm_model.specs.Basis.Data.{World}
 use Rattle.jvm_model.specs.Basis.Descriptors.{same_text}
-use Rattle.jvm_model.specs.Basis.SharedState.{kind_for, shared_before, string}
+use Rattle.jvm_model.specs.Basis.SharedState.{kind_for, shared_before, string, throwable}
 use Rattle.jvm_model.specs.Instructions.Exceptions.{exception_name}
 use Rattle.jvm_model.specs.Running.Run.{before}
 use Rattle.jvm_model.specs.Soundness.Sound as sound
@@ -25,39 +25,48 @@ use Rattle.class_linker.specs.Linkers.{LinkerView}
 use Rattle.symbolic_references.specs.declared.runtime.Beginning.{Beginning}
 use Rattle.symbolic_references.specs.Natives.{HasBuiltIn}
 use Rattle.symbolic_references.specs.Objects.{AreLoaded, IsOfLoaded, IsUsable}
-use Rattle.symbolic_references.specs.ProgramFacts.{HasExceptions, IsMachines}
+use Rattle.symbolic_references.specs.ProgramFacts.{HasExceptions}
 use Rattle.prepared_code.specs.States.{active}
 
 -- ---- names of built-in classes
 
-known-at : (names : List (List ℕ)) (place : ℕ) → place < length names → list_any (same_text (unwrap_or (slice_get names place) [])) names ≡ true
-known-at [] place few = absurd (omega (arith, few))
-known-at (x ∷ names) zero few = ap (λ b. b || list_any (same_text x) names) ((bytes_eq-Decides x x).1 refl)
-known-at (x ∷ names) (suc place) few = by (same_text (unwrap_or (slice_get names place) []) x) (known-at names place (omega (arith, few)))
+-- a name of the list, where there is one, is among them
+found-among : (names : List (List ℕ)) (place : ℕ) → IfSome (slice_get names place) (λ name. list_any (same_text name) names ≡ true)
+found-among [] place = tt
+found-among (x ∷ names) zero = ap (λ b. b || list_any (same_text x) names) ((bytes_eq-Decides x x).1 refl)
+found-among (x ∷ names) (suc place) = among-more x names (slice_get names place) (found-among names place)
   where
-    by : (b : Bool) → list_any (same_text (unwrap_or (slice_get names place) [])) names ≡ true
-        → (b || list_any (same_text (unwrap_or (slice_get names place) [])) names) ≡ true
-    by true rest = refl
-    by false rest = rest
+    by : (b c : Bool) → c ≡ true → (b || c) ≡ true
+    by true c is = refl
+    by false c is = is
+    among-more : (x : List ℕ) (names : List (List ℕ)) (found : Option (List ℕ)) → IfSome found (λ name. list_any (same_text name) names ≡ true)
+        → IfSome found (λ name. list_any (same_text name) (x ∷ names) ≡ true)
+    among-more x names None is = tt
+    among-more x names (Some name) is = by (same_text name x) (list_any (same_text name) names) is
 
-named-built-in : (e : Exception) → IsMachines e → IsBuiltInName (exception_name e)
-named-built-in AbstractMethod is = refl
-named-built-in Arithmetic is = refl
-named-built-in ArrayStore is = refl
-named-built-in ClassCast is = refl
-named-built-in ClassCircularity is = refl
-named-built-in IncompatibleClassChange is = refl
-named-built-in InInitializer is = refl
-named-built-in IndexOutside is = refl
-named-built-in Instantiation is = refl
-named-built-in NegativeArraySize is = refl
-named-built-in NoClassDefinition is = refl
-named-built-in NoSuchField is = refl
-named-built-in NoSuchMethod is = refl
-named-built-in NullPointer is = refl
-named-built-in StackOverflow is = refl
-named-built-in UnsatisfiedLink is = refl
-named-built-in (BuiltIn place) is = known-at built_in_names place is
+-- the name at a place, or another that is built-in too
+named-or : (found : Option (List ℕ)) (other : List ℕ) → IfSome found IsBuiltInName → IsBuiltInName other → IsBuiltInName (unwrap_or found other)
+named-or None other is is_other = is_other
+named-or (Some name) other is is_other = is
+
+named-built-in : (e : Exception) → IsBuiltInName (exception_name e)
+named-built-in AbstractMethod = refl
+named-built-in Arithmetic = refl
+named-built-in ArrayStore = refl
+named-built-in ClassCast = refl
+named-built-in ClassCircularity = refl
+named-built-in IncompatibleClassChange = refl
+named-built-in InInitializer = refl
+named-built-in IndexOutside = refl
+named-built-in Instantiation = refl
+named-built-in NegativeArraySize = refl
+named-built-in NoClassDefinition = refl
+named-built-in NoSuchField = refl
+named-built-in NoSuchMethod = refl
+named-built-in NullPointer = refl
+named-built-in StackOverflow = refl
+named-built-in UnsatisfiedLink = refl
+named-built-in (BuiltIn place) = named-or (slice_get built_in_names place) throwable (found-among built_in_names place) refl
 
 -- ---- over a linker
 
@@ -85,7 +94,7 @@ module _ (p : Program) (fit : IsFit p) where
 
   pub exceptions-before : (l : LinkerView) → l.program ≡ p → l.loaded ≡ (shared_before p).loaded → HasExceptions l
   exceptions-before l program loaded =
-      subst HasExceptions (linker-is l program loaded) (record { each = λ e is. usable (exception_name e) (named-built-in e is); text = usable string refl })
+      subst HasExceptions (linker-is l program loaded) (record { each = λ e. usable (exception_name e) (named-built-in e); text = usable string refl })
 
   pub objects-before : (l : LinkerView) (heap : HeapView) → l.program ≡ p → l.loaded ≡ (shared_before p).loaded → heap ≡ (shared_before p).heap → AreLoaded l heap
   objects-before l heap program loaded objects =

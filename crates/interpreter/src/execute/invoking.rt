@@ -20,7 +20,7 @@ use heap_objects::Value;
 use jf_bytes::NoMemory;
 use jvm_model::Exception;
 use prepared_code::{Here, Originals, Parts};
-use symbolic_references::{AbruptCompletion, Runtime};
+use symbolic_references::Runtime;
 
 /// How many activations are live at most.
 const MOST_LIVE: u32 = 1024;
@@ -173,9 +173,6 @@ pub fn raise_unusable(parts: &mut Parts, class: u32) -> Result<(), NoMemory>
     ensures world { parts.new.runtime.world ≡ parts.old.runtime.world }
     ensures same_loaded { parts.new.runtime.shared.loaded ≡ parts.old.runtime.shared.loaded }
 {
-    match parts.runtime.unusable(class)? {
-        AbruptCompletion::Raises(exception, message) => raise_named(parts, exception, message),
-        // None of these comes.
-        _ => Err(NoMemory),
-    }
+    let message = parts.runtime.class_name(class)?;
+    raise_named(parts, Exception::NoClassDefinition, message)
 }

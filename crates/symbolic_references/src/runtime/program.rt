@@ -11,7 +11,7 @@ ghost use Rattle.symbolic_references.specs.ProgramFacts.{exception_kind};
 ghost use Rattle.symbolic_references.specs.Runtimes.{linker_in};
 
 use crate::runtime::Runtime;
-use base_classes::{BUILT_IN_CLASSES, built_in_name};
+use base_classes::built_in_name;
 use class_index::{Index, base_of_class};
 use const_pool::Kind;
 use jf_bytes::{NoMemory, Seq};
@@ -29,13 +29,13 @@ pub fn units_of(alloc: Global, bytes: &[u8]) -> Result<Seq<u16>, NoMemory>
     Ok(units)
 }
 
-/// The name of the built-in class at this place of their order; none has an empty one.
+/// The name of the built-in class at this place of their order, and Throwable's past the last one.
 fn built_in_named(place: u16) -> &'static str
     ensures { result.now ≡ exception_name (BuiltIn place) }
 {
     match built_in_name(place as usize) {
         Some(name) => name,
-        None => "",
+        None => "java/lang/Throwable",
     }
 }
 
@@ -98,17 +98,13 @@ impl Runtime {
         self.tables.methods.get(method as usize)?.params.as_ref()
     }
 
-    /// The kind of the class of this built-in name, by its place. There is none past the last one,
-    /// and native methods throw none.
+    /// The kind of the class of this built-in name, by its place.
     fn built_in_kind(&self, place: u16) -> Result<u32, NoMemory>
         ensures kind { IfOk result
             (λ kind. kind ≡ exception_kind self.now.world.program (BuiltIn place)) }
         ensures usable { IfOk result (IsUsable (linker_in self.now)) }
     {
         let _ = &self.tables;
-        if place >= BUILT_IN_CLASSES {
-            return Err(NoMemory);
-        }
         let name = units_of(self.alloc, built_in_named(place).as_bytes())?;
         Ok(kind_named(self.linker.index(), name.as_slice()))
     }

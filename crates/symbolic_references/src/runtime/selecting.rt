@@ -239,15 +239,23 @@ impl Runtime {
         self.target_by_name(frames, by, method, kind, found)
     }
 
+    /// The name of the class of this number. NoClassDefFoundError tells it of one that can not be
+    /// used.
+    pub fn class_name(&self, class: u32) -> Result<Option<Text16>, NoMemory>
+        ensures { IfOk result (λ name. name ≡ name_at self.now.world.program class) }
+    {
+        match self.linker.index().name_at(class) {
+            Some(name) => Ok(Some(text_copied(self.alloc, name)?)),
+            None => Ok(None),
+        }
+    }
+
     /// NoClassDefFoundError, with the name of the class that can not be used.
     pub fn unusable(&self, class: u32) -> Result<AbruptCompletion, NoMemory>
         ensures { IfOk result (λ refusal. abrupt_view refusal
             ≡ Raises no_class_definition (name_at self.now.world.program class)) }
     {
-        let message = match self.linker.index().name_at(class) {
-            Some(name) => Some(text_copied(self.alloc, name)?),
-            None => None,
-        };
+        let message = self.class_name(class)?;
         Ok(AbruptCompletion::Raises(Exception::NoClassDefinition, message))
     }
 

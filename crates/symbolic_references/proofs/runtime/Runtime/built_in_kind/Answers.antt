@@ -1,4 +1,4 @@
-use Rattle.std.proofs.Common.{◌≡◌, ◌<◌, arith, rules, subst, sym}
+use Rattle.std.proofs.Common.{◌≡◌, rules, subst, sym}
 use Rattle.jvm_model.specs.declared.exception.Exception.TheVariants.{BuiltIn}
 use Rattle.symbolic_references.specs.Objects.{IsUsable}
 use Rattle.symbolic_references.specs.ProgramFacts.{exception_kind}
@@ -9,7 +9,6 @@ pub returns-clause-usable : goal.returns-clause-usable
 returns-clause-usable c =
     let v = c.args.self.now in
     let is : c.kind_named.result ≡ exception_kind v.world.program (BuiltIn c.args.place) = search rules in
-    let below : c.args.place < 53 = omega arith in
     subst (IsUsable (linker_in v)) (sym is)
     (subst (λ (v : RuntimeView). IsUsable (linker_in v) (exception_kind v.world.program (BuiltIn c.args.place))) c.self.view_is
-    (c.self.invariant.exceptions.each (BuiltIn c.args.place) below))
+    (c.self.invariant.exceptions.each (BuiltIn c.args.place)))
