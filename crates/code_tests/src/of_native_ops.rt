@@ -5,7 +5,7 @@ ghost use Rattle.std.specs.Prelude.{◌≡◌};
 use base_classes::native_of;
 use heap_objects::{Datum, Heap, HeapError};
 use jf_bytes::{Seq, Text16, from_utf8};
-use native_ops::{Kinds, Made, Native, call};
+use native_ops::{Invocation, Kinds, Made, Native, call};
 use std::alloc::Global;
 use tables::{Row, boxes, builders, others, strings};
 
@@ -91,11 +91,14 @@ fn answer(alloc: Global, row: &Row, heap: &mut Heap, output: &mut Seq<u8>) -> Op
     )?;
     let mut made = Made::new(alloc);
     let mut read = 0;
+    let invocation = Invocation {
+        native,
+        args: row.args,
+        kinds: &Alone,
+    };
     Some(call(
         alloc,
-        native,
-        row.args,
-        &Alone,
+        &invocation,
         heap,
         &mut made,
         &[255],

@@ -11,4 +11,4 @@ mod methods;
 pub use effects::answer::Native;
 pub use effects::made::Made;
 pub use inputs::kinds::Kinds;
-pub use methods::calls::call;
+pub use methods::calls::{Invocation, call};

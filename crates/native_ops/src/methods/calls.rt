@@ -107,37 +107,52 @@ fn native_of_answer(answer: Answer) -> Native
     }
 }
 
-/// Calls the native method of a number that `native_of` gives, with the arguments, the receiver first where it has one. Of the
-/// input, so many bytes were read; what is written goes behind the output. What it throws is left to the caller to make. After
-/// NoMemory nothing is changed.
+/// An invocation of a native method: its number, which `native_of` gives, the arguments, the receiver
+/// first where it has one, and the classes that are loaded.
+pub struct Invocation<'a, K> {
+    pub native: u16,
+    pub args: &'a [Datum],
+    pub kinds: &'a K,
+}
+
+/// Calls a native method. Of the input, so many bytes were read; what is written goes behind the
+/// output. What it throws is left to the caller to make. After NoMemory nothing is changed.
 #[tactic(auto, using(crate::proofs::NameLemmas::numbered, crate::proofs::NameLemmas::named_at))]
 pub fn call<K: Kinds>(
     alloc: Global,
-    native: u16,
-    args: &[Datum],
-    kinds: &K,
+    invocation: &Invocation<'_, K>,
     heap: &mut Heap,
     made: &mut Made,
     input: &[u8],
     read: &mut usize,
     output: &mut Seq<u8>,
 ) -> Native
-    requires number { IsSome (slice_get native_methods native) }
+    requires number { IsSome (slice_get native_methods invocation.now.native) }
     ensures limit { heap.new.limit ≡ heap.old.limit }
-    ensures named { option_map reference_of (slice_get rows native)
-        ≡ slice_get native_methods native }
-    ensures answer { IsAnswer result (answer_by native (K.seen kinds.now) args.now
+    ensures named { let i = invocation.now in option_map reference_of (slice_get rows i.native)
+        ≡ slice_get native_methods i.native }
+    ensures answer { let i = invocation.now in
+        IsAnswer result (answer_by i.native (K.seen i.kinds.now) i.args.now
         (world heap.old made.old input.now read.old)) }
-    ensures heap { heap.new ≡ (left_by (is_done result) native (K.seen kinds.now) args.now
+    ensures heap { let i = invocation.now in
+        heap.new ≡ (left_by (is_done result) i.native (K.seen i.kinds.now) i.args.now
         (world heap.old made.old input.now read.old)).heap }
-    ensures made { made.new ≡ (left_by (is_done result) native (K.seen kinds.now) args.now
+    ensures made { let i = invocation.now in
+        made.new ≡ (left_by (is_done result) i.native (K.seen i.kinds.now) i.args.now
         (world heap.old made.old input.now read.old)).made }
-    ensures read { read.new ≡ (left_by (is_done result) native (K.seen kinds.now) args.now
+    ensures read { let i = invocation.now in
+        read.new ≡ (left_by (is_done result) i.native (K.seen i.kinds.now) i.args.now
         (world heap.old made.old input.now read.old)).read }
-    ensures output { output.new ≡ output.old
-        ++ (left_by (is_done result) native (K.seen kinds.now) args.now
+    ensures output { let i = invocation.now in
+        output.new ≡ output.old
+        ++ (left_by (is_done result) i.native (K.seen i.kinds.now) i.args.now
         (world heap.old made.old input.now read.old)).wrote }
 {
+    let Invocation {
+        native,
+        args,
+        kinds,
+    } = *invocation;
     let Ok(effect) = effect_of(alloc, native, args, kinds, heap, made) else {
         return Native::NoMemory;
     };

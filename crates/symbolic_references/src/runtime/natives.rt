@@ -41,7 +41,7 @@ use jf_bytes::{NoMemory, Seq};
 use jvm_basic::{recall, value_of};
 use jvm_model::{Exception, Program, Shared};
 use jvm_natives::LinkedKinds;
-use native_ops::{Native, call};
+use native_ops::{Invocation, Native, call};
 use std::alloc::Global;
 
 // ---- its arguments
@@ -162,11 +162,14 @@ impl Runtime {
         let kinds = LinkedKinds {
             linker: &self.linker,
         };
+        let invocation = Invocation {
+            native: number,
+            args,
+            kinds: &kinds,
+        };
         call(
             self.alloc,
-            number,
-            args,
-            &kinds,
+            &invocation,
             &mut self.heap,
             &mut self.made,
             self.input.as_slice(),
