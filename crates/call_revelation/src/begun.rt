@@ -31,6 +31,13 @@ use jvm_model::{MemberName, SymbolicReference};
 use std::alloc::Global;
 use symbolic_references::{DeclaredMember, MethodNumbers, resolved_name};
 
+/// The class that invokevirtual or invokeinterface names, and which of them does.
+#[derive(Clone, Copy)]
+struct NamedClass {
+    class: u32,
+    interface: bool,
+}
+
 // ---- of one method or class
 
 /// Adds the number, if there is one.
@@ -94,17 +101,17 @@ fn add_selections_of(
     linker: &Linker,
     numbers: &MethodNumbers,
     lineage: &Lineage,
-    interface: bool,
-    class: u32,
+    named: NamedClass,
     m: DeclaredMember,
     classes: &[u32],
     found: &mut Order,
 ) -> Result<(), NoMemory>
     requires { AreKnown linker.now numbers.now lineage.now }
     ensures { OnOk result (found.new ≡ with_classes found.old (filter_map
-        (selection_of linker.now.program lineage.now.loaded interface class (at_place m))
-        classes.now)) }
+        (selection_of linker.now.program lineage.now.loaded named.interface named.class
+        (at_place m)) classes.now)) }
 {
+    let NamedClass { class, interface } = named;
     for lower in classes {
         let number = selection_of(linker, numbers, lineage, interface, class, m, *lower);
         add_number(found, number)?;
@@ -118,20 +125,19 @@ fn add_selections(
     linker: &Linker,
     numbers: &MethodNumbers,
     lineage: &Lineage,
-    interface: bool,
-    class: u32,
+    named: NamedClass,
     m: DeclaredMember,
     found: &mut Order,
 ) -> Result<(), NoMemory>
     requires known { AreKnown linker.now numbers.now lineage.now }
-    requires class { class < length linker.now.program.classes }
+    requires class { named.class < length linker.now.program.classes }
     ensures { OnOk result (Adds found.old found.new
-        (selections linker.now.program lineage.now.loaded class (selecting interface)
+        (selections linker.now.program lineage.now.loaded named.class (selecting named.interface)
         (at_place m))) }
 {
-    let lower = lineage.at_or_below(alloc, class)?;
+    let lower = lineage.at_or_below(alloc, named.class)?;
     let lower = lower.as_slice();
-    add_selections_of(linker, numbers, lineage, interface, class, m, lower, found)
+    add_selections_of(linker, numbers, lineage, named, m, lower, found)
 }
 
 // ---- by instruction
@@ -142,19 +148,18 @@ fn add_begun_on(
     linker: &Linker,
     numbers: &MethodNumbers,
     lineage: &Lineage,
-    interface: bool,
-    class: u32,
+    named: NamedClass,
     member: &MemberName,
     found: &mut Order,
 ) -> Result<(), NoMemory>
     requires known { AreKnown linker.now numbers.now lineage.now }
-    requires class { class < length linker.now.program.classes }
-    requires loaded { is_among class lineage.now.loaded ≡ true }
+    requires class { named.class < length linker.now.program.classes }
+    requires loaded { is_among named.class lineage.now.loaded ≡ true }
     ensures { OnOk result (Adds found.old found.new (begun_on linker.now.program lineage.now.loaded
-        class (selecting interface) member.now)) }
+        named.class (selecting named.interface) member.now)) }
 {
-    match method_found(linker, class, interface, false, member) {
-        Some(m) => add_selections(alloc, linker, numbers, lineage, interface, class, m, found),
+    match method_found(linker, named.class, named.interface, false, member) {
+        Some(m) => add_selections(alloc, linker, numbers, lineage, named, m, found),
         None => Ok(()),
     }
 }
@@ -297,12 +302,20 @@ fn add_begun_at(
             add_static_on(alloc, linker, numbers, lineage, class, member, found)
         }
         SymbolicReference::Invokevirtual(method) => {
+            let named = NamedClass {
+                class,
+                interface: false,
+            };
             let member = method.member();
-            add_begun_on(alloc, linker, numbers, lineage, false, class, member, found)
+            add_begun_on(alloc, linker, numbers, lineage, named, member, found)
         }
         SymbolicReference::Invokeinterface(method) => {
+            let named = NamedClass {
+                class,
+                interface: true,
+            };
             let member = method.member();
-            add_begun_on(alloc, linker, numbers, lineage, true, class, member, found)
+            add_begun_on(alloc, linker, numbers, lineage, named, member, found)
         }
         _ => Ok(()),
     }

@@ -61,45 +61,7 @@ fn class_version(
     rewritten_version(alloc, method, image, code, homes, old.code.len() as u16)
 }
 
-/// The same of the method at a position of a class, where it has Code.
-fn member_version(
-    alloc: Global,
-    program: &Program,
-    numbers: &MethodNumbers,
-    class: u32,
-    image: &ClassFile,
-    homes: &[Option<Homes>],
-    at: u16,
-    member: &Member,
-) -> Result<Option<Version>, NoMemory>
-    requires fits { FitsOriginals program.now }
-    requires numbers { AreNumbers program.now numbers.now }
-    requires image { FitsImage image.now homes.now }
-    requires short { IfSome (code_of member.now) (λ code. length code.code < 2 ^ 16) }
-    ensures { IfOk result (λ version. version
-        ≡ member_version program.now class image.now homes.now at member.now) }
-{
-    let Some(old) = code_of(member) else {
-        return Ok(None);
-    };
-    let Some(method) = numbers.number(class, at) else {
-        return Ok(None);
-    };
-    let version = class_version(alloc, program, image, homes, at as usize, old, method)?;
-    Ok(Some(version))
-}
-
 // ---- all that have Code
-
-/// Adds a version, where there is one.
-fn push_some(all: &mut Seq<Version>, version: Option<Version>) -> Result<(), NoMemory>
-    ensures { OnOk result (all.new ≡ all.old ++ alone version) }
-{
-    if let Some(version) = version {
-        all.push(version)?;
-    }
-    Ok(())
-}
 
 /// The versions of a class's methods.
 fn versions_of(
@@ -121,10 +83,14 @@ fn versions_of(
 {
     let mut versions = Seq::new(alloc);
     for (at, member) in file.methods.as_slice().iter().enumerate() {
-        let version = member_version(
-            alloc, program, numbers, class, image, homes, at as u16, member,
-        )?;
-        push_some(&mut versions, version)?;
+        let Some(old) = code_of(member) else {
+            continue;
+        };
+        let Some(method) = numbers.number(class, at as u16) else {
+            continue;
+        };
+        let version = class_version(alloc, program, image, homes, at, old, method)?;
+        versions.push(version)?;
     }
     Ok(versions)
 }

@@ -18,10 +18,10 @@ returns c =
     let old = c.args.found.now in
     let new = c.add_selections_of.new.found in
     let lower = c.in_ok-lower.lower in
-    let made = filter_map (selection_of p v.loaded c.args.interface c.args.class m) lower in
-    let begun = selections p v.loaded c.args.class (selecting c.args.interface) m in
-    let to : new ≡ with_classes old (filter_map (selection_of p v.loaded c.args.interface c.args.class m) c.as_slice-lower.result.now) → Adds old new begun =
+    let made = filter_map (selection_of p v.loaded c.args.named.interface c.args.named.class m) lower in
+    let begun = selections p v.loaded c.args.named.class (selecting c.args.named.interface) m in
+    let to : new ≡ with_classes old (filter_map (selection_of p v.loaded c.args.named.interface c.args.named.class m) c.as_slice-lower.result.now) → Adds old new begun =
     λ e. adds-alike old new made begun
-    (selections-of p v c.args.class c.args.interface m lower c.requires.known.lineage c.requires.class c.in_ok-lower.ensures.own c.in_ok-lower.ensures.closed)
-    (adds-equal old new made (e ∙ ap (λ l. with_classes old (filter_map (selection_of p v.loaded c.args.interface c.args.class m) l)) c.as_slice-lower.ensures)) in
+    (selections-of p v c.args.named.class c.args.named.interface m lower c.requires.known.lineage c.requires.class c.in_ok-lower.ensures.own c.in_ok-lower.ensures.closed)
+    (adds-equal old new made (e ∙ ap (λ l. with_classes old (filter_map (selection_of p v.loaded c.args.named.interface c.args.named.class m) l)) c.as_slice-lower.ensures)) in
     on_ok_weaker c.add_selections_of.result to c.add_selections_of.ensures

@@ -8,5 +8,5 @@ use Rattle.call_revelation.proofs.begun.add_selections_of.Given as goal
 
 abbrev pub invariant-loop-lower : goal.invariant-loop-lower
 invariant-loop-lower l =
-    with_classes l.found (filter_map (selection_of l.linker.program l.lineage.loaded l.interface l.class (at_place l.m)) (drop l.lower-index l.classes))
-    ≡ with_classes l.initial.found (filter_map (selection_of l.linker.program l.lineage.loaded l.interface l.class (at_place l.m)) l.classes)
+    with_classes l.found (filter_map (selection_of l.linker.program l.lineage.loaded l.named.interface l.named.class (at_place l.m)) (drop l.lower-index l.classes))
+    ≡ with_classes l.initial.found (filter_map (selection_of l.linker.program l.lineage.loaded l.named.interface l.named.class (at_place l.m)) l.classes)
