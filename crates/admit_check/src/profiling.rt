@@ -5,11 +5,11 @@ ghost use Rattle.inject_events.specs.Answers.{IsReadableClass};
 ghost use Rattle.inject_events.specs.Rewriting.{plain_mark, all_plain};
 ghost use Rattle.admit_check.specs.Profiling.{profiling_fault};
 
-use code_admission::{AdmitError, code_of};
+use code_admission::AdmitError;
 use const_pool::{ClassFile, Member};
 use inject_events::{InjectError, instrument, is_surely_profilable};
 use jf_bytes::{NoMemory, Seq};
-use jvm_model::Mark;
+use jvm_model::{Mark, code_of};
 use std::alloc::Global;
 
 /// The mark with which a method is tried.

@@ -14,31 +14,15 @@ ghost use Rattle.admit_check.specs.Stages.{Answers, HasNumbers};
 ghost use Rattle.admit_check.specs.Admission.{root_in};
 ghost use Rattle.jvm_model.specs.Soundness.SoundPrograms.{declared_main, main_in, main_of_class};
 
+use base_classes::{PUBLIC, STATIC};
 use code_admission::AdmitError;
-use const_pool::{Attribute, ClassFile, Member, Pool};
+use const_pool::{ClassFile, Member, Pool};
 use jf_bytes::{NoMemory, Seq, Text16};
-use jvm_model::{Act, MethodPlace, Program};
+use jvm_model::{Act, MethodPlace, Program, code_of};
 use plan_text::{Action, RootName};
 use std::alloc::Global;
 
-/// ACC_PUBLIC and ACC_STATIC (4.6).
-const PUBLIC: u16 = 1;
-
-const STATIC: u16 = 8;
-
 // ---- the methods, by numbers
-
-/// Whether a method has Code.
-fn has_code(method: &Member) -> bool
-    ensures { result ≡ is_some (code_of method.now) }
-{
-    for attribute in method.attributes.as_slice() {
-        if let Attribute::Code(..) = attribute {
-            return true;
-        }
-    }
-    false
-}
 
 /// Adds the places of a class's methods that have Code.
 fn add_coded(places: &mut Seq<MethodPlace>, class: u32, methods: &[Member]) -> Result<(), NoMemory>
@@ -46,7 +30,7 @@ fn add_coded(places: &mut Seq<MethodPlace>, class: u32, methods: &[Member]) -> R
     ensures { OnOk result (places.new ≡ places.old ++ coded_from class 0 methods.now) }
 {
     for (at, method) in methods.iter().enumerate() {
-        if has_code(method) {
+        if code_of(method).is_some() {
             places.push(MethodPlace {
                 class,
                 position: at as u16,

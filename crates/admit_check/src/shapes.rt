@@ -14,29 +14,14 @@ ghost use Rattle.admit_check.specs.Shapes.{constants_of, fits_constant, has_righ
 ghost use Rattle.admit_check.specs.Shapes.{has_wrong_constant, shape_fault};
 
 use crate::twins::has_member_twice;
-use base_classes::is_built_in;
+use base_classes::{ABSTRACT, NATIVE, STATIC, is_built_in};
 use code_admission::{
     AdmitError, ShapeCause, field_kind, is_array_name, is_field_text, method_kinds,
 };
 use const_pool::{Attribute, ClassFile, Const, Kind, Member, Pool};
 use jf_bytes::{NoMemory, Seq, Text16};
+use jvm_model::has_flag;
 use std::alloc::Global;
-
-/// ACC_STATIC.
-const STATIC: u16 = 8;
-
-/// ACC_NATIVE.
-const NATIVE: u16 = 256;
-
-/// ACC_ABSTRACT.
-const ABSTRACT: u16 = 1024;
-
-/// Whether a member has this flag (4.5, 4.6).
-fn has_flag(flag: u16, access: u16) -> bool
-    ensures { result ≡ has_flag flag access }
-{
-    access & flag != 0
-}
 
 /// Whether no class of a program may have the name.
 fn is_taken_name(name: &Text16) -> bool
@@ -185,7 +170,7 @@ pub fn has_wrong_descriptor(alloc: Global, class: &ClassFile) -> Result<bool, No
 fn has_no_body(method: &Member) -> bool
     ensures { result ≡ has_no_body method.now }
 {
-    has_flag(NATIVE, method.access) || has_flag(ABSTRACT, method.access)
+    has_flag(method.access, NATIVE) || has_flag(method.access, ABSTRACT)
 }
 
 /// Whether an attribute is a Code.
@@ -299,7 +284,7 @@ fn has_right_constants(pool: &Pool, field: &Member, indices: &[u16]) -> bool
 fn has_wrong_constant(alloc: Global, pool: &Pool, field: &Member) -> Result<bool, NoMemory>
     ensures { IfOk result (λ wrong. wrong ≡ has_wrong_constant pool.now field.now) }
 {
-    if !has_flag(STATIC, field.access) {
+    if !has_flag(field.access, STATIC) {
         return Ok(false);
     }
     let indices = constants_of(alloc, field.attributes.as_slice())?;

@@ -14,8 +14,8 @@ use crate::tables::add_some;
 use code_model::{Instr, instr_at};
 use const_pool::{ClassFile, Member};
 use jf_bytes::{NoMemory, Seq};
-use jvm_model::{Program, SymbolicReference};
-use prepared_code::{Action, Line, code_of, line_of};
+use jvm_model::{Program, SymbolicReference, code_of};
+use prepared_code::{Action, Line, line_of};
 use std::alloc::Global;
 
 /// What names something and can begin a method.

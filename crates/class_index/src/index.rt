@@ -11,12 +11,12 @@ ghost use Rattle.class_index.specs.Indices.{IsLinkable, class_of_entry, interfac
 ghost use Rattle.class_index.specs.Members.{HasFewMembers};
 ghost use Rattle.class_index.specs.Names.{named_from};
 
-use crate::access::{INTERFACE, has_flag};
 use crate::names::Names;
 use crate::table::{Table, table_of};
+use base_classes::INTERFACE;
 use const_pool::ClassFile;
 use jf_bytes::{NoMemory, Seq};
-use jvm_model::Program;
+use jvm_model::{Program, has_flag};
 use std::alloc::Global;
 use std::marker::Model;
 
@@ -123,7 +123,8 @@ impl Index {
 
     /// The position of a class's superclass.
     pub fn super_of(&self, class: u32) -> Option<u32>
-        ensures { result ≡ super_of self.now class }
+        ensures found { result ≡ super_of self.now class }
+        ensures within { IfSome result (λ above. above < length self.now.classes) }
     {
         let file = self.file(class)?;
         self.named_at(file, file.super_class)

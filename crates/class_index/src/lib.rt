@@ -2,7 +2,6 @@
 //! tables that are made once.
 #![tactic(auto)]
 
-mod access;
 mod fields;
 mod index;
 mod meaning;
@@ -14,7 +13,6 @@ mod package;
 mod table;
 mod wanted;
 
-pub use access::{ABSTRACT, INTERFACE, PRIVATE, PROTECTED, PUBLIC, STATIC, has_flag};
 pub use fields::{field_kind, held_by};
 pub use index::Index;
 pub use meaning::{Element, Meaning, is_array_name, meaning_of};

@@ -13,9 +13,11 @@ ghost use Rattle.class_linker.specs.LoadedClasses.{supertypes_in, superclasses_i
 ghost use Rattle.class_linker.specs.LoadedClasses.{supertypes_made, with_interface, with_interfaces};
 ghost use Rattle.class_linker.specs.LoadedClasses.{with_supertypes};
 
-use class_index::{Index, Order, STATIC, field_kind, has_flag};
+use base_classes::STATIC;
+use class_index::{Index, Order, field_kind};
 use const_pool::{ClassFile, Kind};
 use jf_bytes::{NoMemory, Seq};
+use jvm_model::has_flag;
 use std::alloc::Global;
 
 /// The walks over the supertypes of a class, and the kinds of an object's slots.

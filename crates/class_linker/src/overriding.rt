@@ -15,10 +15,9 @@ ghost use Rattle.class_linker.specs.LoadedClasses.{AreLoadedClasses, holds_all, 
 use crate::declared_method::DeclaredMethod;
 use crate::loaded_classes::LoadedClass;
 use crate::walks::{is_subtype, supertypes_of};
-use class_index::{
-    ABSTRACT, Index, PRIVATE, PROTECTED, PUBLIC, STATIC, Wanted, has_flag, in_same_package,
-    method_at,
-};
+use base_classes::{ABSTRACT, PRIVATE, PROTECTED, PUBLIC, STATIC};
+use class_index::{Index, Wanted, in_same_package, method_at};
+use jvm_model::has_flag;
 
 // ---- a method
 

@@ -16,6 +16,7 @@ ghost use Rattle.class_linker.specs.LoadedClasses.{AreLoadedClasses, holds_class
 use crate::answers::Resolved;
 use crate::loaded_classes::LoadedClass;
 use crate::walks::{superclasses_of, superinterfaces_of, supertypes_of};
+use base_classes::{INCOMPATIBLE_CLASS_CHANGE_ERROR, NO_SUCH_FIELD_ERROR, NO_SUCH_METHOD_ERROR};
 use class_index::{Index, Wanted, first_field, first_method, method_at};
 
 /// The name of the class above all others.
@@ -34,19 +35,19 @@ fn object_name() -> &'static [u16]
 fn no_such_field() -> u16
     ensures { result ≡ error_number no_such_field }
 {
-    49
+    NO_SUCH_FIELD_ERROR
 }
 
 fn no_such_method() -> u16
     ensures { result ≡ error_number no_such_method }
 {
-    50
+    NO_SUCH_METHOD_ERROR
 }
 
 pub fn incompatible_change() -> u16
     ensures { result ≡ error_number incompatible_change }
 {
-    44
+    INCOMPATIBLE_CLASS_CHANGE_ERROR
 }
 
 // ---- fields

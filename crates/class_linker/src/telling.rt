@@ -12,6 +12,7 @@ use crate::answers::Loaded;
 use crate::kinds::kind_named;
 use crate::loading::{Fault, State, load_all};
 use crate::resolving::incompatible_change;
+use base_classes::{CLASS_CIRCULARITY_ERROR, NO_CLASS_DEF_FOUND_ERROR};
 use class_index::Index;
 use jf_bytes::{NoMemory, Seq};
 use std::alloc::Global;
@@ -19,13 +20,13 @@ use std::alloc::Global;
 fn no_class_definition() -> u16
     ensures { result ≡ error_number no_class_definition }
 {
-    42
+    NO_CLASS_DEF_FOUND_ERROR
 }
 
 fn circular_class() -> u16
     ensures { result ≡ error_number circular_class }
 {
-    45
+    CLASS_CIRCULARITY_ERROR
 }
 
 /// The classes were loaded, if there are any.

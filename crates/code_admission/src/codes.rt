@@ -1,7 +1,6 @@
 //! The first fault of a code (JVM Specification 4.7.3, 4.9.1).
 
 ghost use Rattle.std.specs.Prelude.{◌≡◌, None, Ok, map, IfOk, IfErr, IfSome, OnOk};
-ghost use Rattle.std.specs.Option.{option_copied};
 ghost use Rattle.const_pool.specs.ClassFile.{IsClassFile};
 ghost use Rattle.jvm_model.specs.Basis.Methods.{code_of};
 ghost use Rattle.code_admission.specs.Checks.{first_in};
@@ -20,8 +19,9 @@ use crate::starts::Body;
 use crate::texts::method_kinds;
 use crate::uses::{fits_locals, fits_pool, fits_return, fits_type};
 use code_model::{Code, CodeError, Instr, decode};
-use const_pool::{Attribute, ClassFile, CodeAttribute, Handler, Kind, Member, Pool, Raw};
+use const_pool::{ClassFile, CodeAttribute, Handler, Kind, Member, Pool, Raw};
 use jf_bytes::{NoMemory, Seq};
+use jvm_model::code_of;
 use op_table::row;
 use std::alloc::Global;
 
@@ -284,18 +284,6 @@ fn check_code(
             len,
         }),
     }
-}
-
-/// A method's Code, where it has one.
-pub fn code_of(method: &Member) -> Option<&CodeAttribute>
-    ensures { option_copied result ≡ code_of method.now }
-{
-    for attribute in method.attributes.as_slice() {
-        if let Attribute::Code(_, code) = attribute {
-            return Some(code);
-        }
-    }
-    None
 }
 
 /// What a method gives.

@@ -12,10 +12,10 @@ ghost use Rattle.code_admission.specs.FloatingFrames.{first_floating_frame, floa
 ghost use Rattle.code_admission.specs.FloatingFrames.{floating_frames_of, floating_frames};
 
 use crate::code_tables::is_frame_name;
-use crate::codes::code_of;
 use crate::error::{AdmitError, FloatingPointUse};
 use const_pool::{ClassFile, Member, Pool, Raw};
 use jf_bytes::NoMemory;
+use jvm_model::code_of;
 use stackmap_shift::{Frame, FrameError, FrameKind, VType, read_frames};
 use std::alloc::Global;
 

@@ -10,7 +10,7 @@ mod starts;
 mod texts;
 mod uses;
 
-pub use codes::{check_codes, code_of};
+pub use codes::check_codes;
 pub use error::{AdmitError, CodeCause, FloatingPointUse, ShapeCause};
 pub use floating::floating_fault;
 pub use texts::{field_kind, is_array_name, is_field_text, method_kinds};

@@ -7,15 +7,13 @@ ghost use Rattle.inject_events.specs.Probing.{image_with};
 ghost use Rattle.inject_events.specs.Rewriting.{cause_of_coded, cause_of_method, image_of_coded, image_of_method, images_from, methods_of_images, refused_from};
 
 use crate::error::{InjectError, NoVersion};
-use crate::methods::{
-    MethodImage, Methods, code_of, next_number, original_image, refusal, with_code,
-};
+use crate::methods::{MethodImage, Methods, next_number, original_image, refusal, with_code};
 use crate::rewriting::version_of;
 use crate::settings::Setting;
 use crate::versions::Version;
 use const_pool::Member;
 use jf_bytes::{NoMemory, Seq};
-use jvm_model::Mark;
+use jvm_model::{Mark, code_of};
 use std::alloc::Global;
 
 /// A method with this version of its code.

@@ -1,7 +1,6 @@
 //! The methods of a class in its image.
 
 ghost use Rattle.std.specs.Prelude.{◌≡◌, ◌<◌, length, true, false, None, IfOk};
-ghost use Rattle.std.specs.Option.{option_copied};
 ghost use Rattle.jvm_model.specs.Basis.Methods.{code_of};
 ghost use Rattle.jvm_model.specs.Rewriting.Images.{is_off, all_off, with_code, next_number};
 ghost use Rattle.inject_events.specs.Answers.{MarkedHaveCode, can_be_marked, can_all_be_marked};
@@ -12,7 +11,7 @@ use crate::error::{InjectError, NoVersion};
 use code_model::Homes;
 use const_pool::{Attribute, CodeAttribute, Member};
 use jf_bytes::{NoMemory, Seq};
-use jvm_model::Mark;
+use jvm_model::{Mark, code_of};
 use std::alloc::Global;
 
 /// Whether a method is the original.
@@ -59,18 +58,6 @@ pub fn marked_have_code(marks: &[Mark], methods: &[Member]) -> bool
     ensures lack { result ≡ false → MarkedHaveCode marks.now methods.now → ⊥ }
 {
     can_all_be_marked(marks, methods)
-}
-
-/// A method's code, where it has one.
-pub(crate) fn code_of(member: &Member) -> Option<&CodeAttribute>
-    ensures { option_copied result ≡ code_of member.now }
-{
-    for attribute in member.attributes.as_slice() {
-        if let Attribute::Code(_, code) = attribute {
-            return Some(code);
-        }
-    }
-    None
 }
 
 /// The number of the next method that has code, where this one would have this number.

@@ -5,9 +5,9 @@ ghost use Rattle.std.specs.List.{list_all};
 ghost use Rattle.inject_events.specs.Answers.{IsProfilable, IsReadableClass};
 ghost use Rattle.inject_events.specs.SmallCodes.{has_room, has_small_body, has_small_codes, is_small_code};
 
-use crate::methods::code_of;
 use crate::rewriting::raws_fit;
 use const_pool::{ClassFile, CodeAttribute, Member, Pool};
+use jvm_model::code_of;
 
 /// So many bytes of code have at most seven times as many in a version, and a branch of two bytes reaches as far.
 const MOST_CODE: usize = 4_096;

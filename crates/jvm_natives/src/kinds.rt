@@ -2,7 +2,6 @@
 
 ghost use Rattle.std.specs.Prelude.{◌≡◌, ◌<◌, IfSome, length, true};
 ghost use Rattle.class_linker.specs.Linkers.{IsKnown};
-ghost use Rattle.jvm_model.specs.Basis.Programs.{super_of};
 ghost use Rattle.jvm_model.specs.Instructions.NativeRules.{is_known, loaded_class};
 
 use class_index::FIRST_ARRAY;
@@ -28,14 +27,6 @@ fn loaded_class(linker: &Linker, kind: u32) -> Option<u32>
     }
 }
 
-/// The position of a class's superclass.
-fn super_of(linker: &Linker, class: u32) -> Option<u32>
-    ensures found { result ≡ super_of linker.now.program class }
-    ensures within { IfSome result (λ above. above < length linker.now.program.classes) }
-{
-    linker.index().super_of(class)
-}
-
 /// Whether the class of a kind is loaded, or that of an array's elements, or these are primitive.
 fn is_known(linker: &Linker, kind: u32) -> bool
     ensures test { result ≡ is_known linker.now.program linker.now.loaded kind }
@@ -59,7 +50,7 @@ impl Kinds for LinkedKinds<'_> {
 
     fn above(&self, kind: u32) -> Option<u32> {
         let class = loaded_class(self.linker, kind)?;
-        let above = super_of(self.linker, class)?;
+        let above = self.linker.index().super_of(class)?;
         Some(self.linker.index().base_of_class(above))
     }
 

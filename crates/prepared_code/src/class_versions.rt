@@ -1,22 +1,21 @@
 //! The versions of a class's methods for an image of the class.
 
-ghost use Rattle.std.specs.Prelude.{◌≡◌, ◌<◌, ◌^◌, ◌++◌, length, IfOk, OnOk};
-ghost use Rattle.std.specs.Option.{option_copied, IfSome};
+ghost use Rattle.std.specs.Prelude.{◌≡◌, ◌<◌, ◌^◌, length, IfOk};
+ghost use Rattle.std.specs.Option.{option_copied};
 ghost use Rattle.jvm_model.specs.Basis.Methods.{code_of, method_code};
 ghost use Rattle.symbolic_references.specs.Numbers.{AreNumbers};
 ghost use Rattle.prepared_code.specs.ClassVersions.{FitsImage, class_version, class_versions};
-ghost use Rattle.prepared_code.specs.ClassVersions.{alone, homes_at, member_version};
+ghost use Rattle.prepared_code.specs.ClassVersions.{homes_at};
 ghost use Rattle.prepared_code.specs.ClassVersions.{versions_from};
 ghost use Rattle.prepared_code.specs.Prepared.{FitsOriginals, HasShortCodes};
 
-use crate::members::code_of;
 use crate::preparing::original_version;
 use crate::rewritten::rewritten_version;
 use crate::versions::Version;
 use code_model::Homes;
-use const_pool::{ClassFile, CodeAttribute, Member};
+use const_pool::{ClassFile, CodeAttribute};
 use jf_bytes::{NoMemory, Seq};
-use jvm_model::Program;
+use jvm_model::{Program, code_of};
 use std::alloc::Global;
 use symbolic_references::MethodNumbers;
 

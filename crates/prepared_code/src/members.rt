@@ -2,28 +2,16 @@
 //! 4.4, 4.6, 5.4.3).
 
 ghost use Rattle.std.specs.Prelude.{◌≡◌, ◌<◌, length, IfSome};
-ghost use Rattle.std.specs.Option.{option_copied, option_map};
+ghost use Rattle.std.specs.Option.{option_map};
 ghost use Rattle.const_pool.specs.Members.{reference_view};
 ghost use Rattle.const_pool.specs.References.{name_type_of, named_field, named_method};
 ghost use Rattle.jvm_model.specs.Codes.Lines.{named_interface_method};
-ghost use Rattle.jvm_model.specs.Basis.Methods.{code_of, same_text_at, is_member, method_named};
+ghost use Rattle.jvm_model.specs.Basis.Methods.{same_text_at, is_member, method_named};
 ghost use Rattle.jvm_model.specs.Basis.Programs.{initializer_name};
 ghost use Rattle.jvm_model.specs.Instructions.Rules.{is_reference, is_out, is_println};
 
-use const_pool::{Attribute, ClassFile, CodeAttribute, Const, Member, MemberRef, Pool};
+use const_pool::{ClassFile, Const, Member, MemberRef, Pool};
 use jf_bytes::Text16;
-
-/// A method's code, where it has one (4.7.3).
-pub fn code_of(member: &Member) -> Option<&CodeAttribute>
-    ensures { option_copied result ≡ code_of member.now }
-{
-    for attribute in member.attributes.as_slice() {
-        if let Attribute::Code(_, code) = attribute {
-            return Some(code);
-        }
-    }
-    None
-}
 
 /// Whether an entry is this text.
 fn is_text_at(pool: &Pool, index: u16, text: &Text16) -> bool

@@ -14,7 +14,6 @@ ghost use Rattle.symbolic_references.specs.ProgramFacts.{AreTablesOf, exception_
 
 use crate::descriptor::shape_of;
 use crate::line::Line;
-use crate::members::code_of;
 use crate::objects::kind_for;
 use crate::resolving::line_of;
 use crate::symbolic_reference::class_in;
@@ -22,7 +21,7 @@ use crate::versions::{Catching, PreparedCode, Version, Versions};
 use code_model::instr_at;
 use const_pool::{ClassFile, Handler, Kind, Member};
 use jf_bytes::{NoMemory, Seq, Text16};
-use jvm_model::{Mark, MethodPlace, Program};
+use jvm_model::{Mark, MethodPlace, Program, code_of};
 use method_versions::Held;
 use std::alloc::Global;
 use symbolic_references::{Exceptions, Method, MethodNumbers, ProgramTables};

@@ -15,10 +15,10 @@ ghost use Rattle.symbolic_references.specs.Resolved.{field_found};
 use crate::declared_member::DeclaredMember;
 use crate::outcome::AbruptCompletion;
 use crate::resolution::exception_numbered;
-use class_index::{STATIC, has_flag};
+use base_classes::STATIC;
 use class_linker::{Linker, Resolved};
 use jf_bytes::Text16;
-use jvm_model::{Exception, MemberName};
+use jvm_model::{Exception, MemberName, has_flag};
 
 /// Whether the field is static.
 pub fn is_static_field(linker: &Linker, m: DeclaredMember) -> bool

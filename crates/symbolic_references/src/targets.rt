@@ -35,12 +35,12 @@ use crate::numbers::MethodNumbers;
 use crate::outcome::AbruptCompletion;
 use crate::receivers::{argument_count, receiver_below};
 use crate::resolution::exception_numbered;
-use class_index::{ABSTRACT, STATIC, has_flag};
+use base_classes::{ABSTRACT, STATIC};
 use class_linker::{Linker, Resolved};
 use frame_stack::Frames;
 use heap_objects::Heap;
 use jf_bytes::{NoMemory, Text16};
-use jvm_model::{Exception, MemberName, MethodName, Phase, Program, Shared};
+use jvm_model::{Exception, MemberName, MethodName, Phase, Program, Shared, has_flag};
 use std::alloc::Global;
 
 /// Which invocation it is: invokespecial with the name of the class in which it stands, and whether

@@ -17,10 +17,12 @@ ghost use Rattle.symbolic_references.specs.Runtimes.{linker_in, with_fields, wit
 use crate::held::field_narrowed;
 use crate::runtime::Runtime;
 use crate::static_fields::set_static;
-use class_index::{STATIC, field_kind, has_flag};
+use base_classes::STATIC;
+use class_index::field_kind;
 use const_pool::{Attribute, ClassFile, Const, Kind, Member, Pool};
 use heap_objects::{Datum, Heap, HeapError};
 use jf_bytes::{NoMemory, Seq, Text16};
+use jvm_model::has_flag;
 use std::alloc::Global;
 
 /// The OutOfMemoryError that the machine makes before the start.

@@ -34,14 +34,15 @@ use crate::outcome::{AbruptCompletion, Outcome};
 use crate::owners::{Owner, Putting};
 use crate::runtime::Runtime;
 use crate::values::datum_of;
-use class_index::{STATIC, has_flag, held_by};
+use base_classes::STATIC;
+use class_index::held_by;
 use class_linker::Linker;
 use const_pool::{ClassFile, Kind, Member};
 use frame_stack::Frames;
 use heap_objects::{Datum, Heap, Value};
 use jf_bytes::NoMemory;
 use jvm_basic::{ref_of, value_of};
-use jvm_model::{Exception, MemberName, Shared};
+use jvm_model::{Exception, MemberName, Shared, has_flag};
 
 /// The first fields, as many as there are up to so many.
 #[tactic(auto, using(std::proofs::lemmas::List::take_all))]

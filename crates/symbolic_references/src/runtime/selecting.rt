@@ -40,12 +40,12 @@ use crate::runtime::Runtime;
 use crate::targets::{
     Selecting, Target, method_found, names_interface, receiver_kind, selected_by,
 };
-use class_index::{ABSTRACT, STATIC, has_flag};
+use base_classes::{ABSTRACT, STATIC};
 use class_linker::{Linker, Resolved};
 use frame_stack::Frames;
 use heap_objects::Heap;
 use jf_bytes::{NoMemory, Text16};
-use jvm_model::{Exception, MemberName, MethodName, Phase, Program, Shared};
+use jvm_model::{Exception, MemberName, MethodName, Phase, Program, Shared, has_flag};
 use std::alloc::Global;
 
 /// A text with the same units.

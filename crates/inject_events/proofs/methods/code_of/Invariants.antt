@@ -1,7 +1,0 @@
--- what is left of the attributes decides
-use Rattle.std.proofs.Common.{◌≡◌, drop}
-use Rattle.jvm_model.specs.Basis.Methods.{code_among, code_of}
-use Rattle.inject_events.proofs.methods.code_of.Given as goal
-
-abbrev pub invariant-loop-attribute : goal.invariant-loop-attribute
-invariant-loop-attribute l = code_among (drop l.attribute-index l.member.attributes) ≡ code_of l.member
