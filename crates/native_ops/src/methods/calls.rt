@@ -109,6 +109,7 @@ fn native_of_answer(answer: Answer) -> Native
 
 /// An invocation of a native method: its number, which `native_of` gives, the arguments, the receiver
 /// first where it has one, and the classes that are loaded.
+#[derive(Drop)]
 pub struct Invocation<'a, K> {
     pub native: u16,
     pub args: &'a [Datum],
