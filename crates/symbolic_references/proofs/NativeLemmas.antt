@@ -25,6 +25,7 @@ use Rattle.native_ops.specs.Effects.Making.{heap_after_class}
 use Rattle.jvm_model.specs.declared.state.Shared.{Shared}
 use Rattle.jvm_model.specs.Basis.Data.{Locals, Operands, World, Outcome, Throws, Raises, Breaks, Done}
 use Rattle.jvm_model.specs.Basis.KindNumbers.{class_of_base, user_count}
+use Rattle.jvm_model.specs.Basis.SharedState.{throwable}
 use Rattle.jvm_model.specs.Instructions.NativeRules.{kinds_in, outcome_of, runs_number, seen_by_natives, thrown_by}
 use Rattle.class_linker.specs.Linkers.{IsLoaded, LinkerView}
 use Rattle.symbolic_references.specs.declared.outcome.Outcome.{Outcome as TheOutcome}
@@ -147,10 +148,10 @@ module _ (place : ℕ) (ne : place ≢ 51) where
   other : thrown_by place ≡ rest (slice_get built_in_names place)
   other = ap (λ b. if b then Throws 1 else rest (slice_get built_in_names place)) (ne_eqb place 51 ne)
 
-  pub throws-named : place < 53 → Raises (unwrap_or (slice_get built_in_names place) []) None ≡ thrown_by place
+  pub throws-named : place < 53 → Raises (unwrap_or (slice_get built_in_names place) throwable) None ≡ thrown_by place
   throws-named few =
       let found = slice_get-get_or built_in_names place [] few in
-      ap (λ (o : Option (List ℕ)). Raises (unwrap_or o []) None) found ∙ sym (other ∙ ap rest found)
+      ap (λ (o : Option (List ℕ)). Raises (unwrap_or o throwable) None) found ∙ sym (other ∙ ap rest found)
 
   pub throws-past : 53 ≤ place → Breaks false ≡ thrown_by place
   throws-past past = sym (other ∙ ap rest (slice_get_past built_in_names place past))
