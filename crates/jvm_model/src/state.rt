@@ -3,7 +3,7 @@
 use crate::ending::Ending;
 use heap_objects::{Datum, Heap, Value};
 use jf_bytes::{Seq, Stack};
-use native_ops::Made;
+use native_effects::Made;
 
 /// A frame (JVM Specification 2.6): the number of its method, the version of it that the frame runs, the place in that
 /// version of the instruction that is executed next (or, while a callee runs, of the invoking one), its locals, of which

@@ -7,7 +7,7 @@ ghost use Rattle.jvm_model.specs.Instructions.NativeRules.{is_known, loaded_clas
 use class_index::FIRST_ARRAY;
 use class_linker::Linker;
 use jf_bytes::Text16;
-use native_ops::Kinds;
+use native_effects::Kinds;
 
 /// The classes that a linker has loaded, by their kinds.
 #[derive(Clone, Copy)]

@@ -5,9 +5,9 @@ use Rattle.heap_objects.specs.declared.datum.Datum.{Datum}
 use Rattle.heap_objects.specs.Heaps.{HeapView}
 use Rattle.native_ops.specs.declared.methods.signature.Parameter.{Parameter}
 use Rattle.native_ops.specs.declared.methods.signature.Parameter.TheVariants as parameter
-use Rattle.native_ops.specs.Inputs.KindsViews.{KindsView}
+use Rattle.native_effects.specs.Inputs.KindsViews.{KindsView}
 use Rattle.native_ops.specs.Methods.Signatures.{fit_all}
-use Rattle.native_ops.proofs.ListLemmas.{drop_is}
+use Rattle.native_effects.proofs.ListLemmas.{drop_is}
 
 -- a parameter is left and no argument
 pub missing : (i : ℕ) (parameters : List Parameter) (kinds : KindsView) (args : List Datum) (h : HeapView) → i < length parameters

@@ -9,14 +9,14 @@ use Rattle.heap_objects.specs.declared.object.Object.TheVariants.{Instance, Arra
 use Rattle.heap_objects.specs.Objects.{kind_of, changed_at, with_slot, with_unit, with_units, with_more_units}
 use Rattle.heap_objects.specs.Interning.{number_of, with_number}
 use Rattle.heap_objects.specs.Heaps.{HeapView, kind_at, new_array, has_slot_at, with_slot_at, has_unit_at, with_unit_at, units_at, growth_of, with_units_added, with_units_replaced, with_interned, with_text, with_instance, with_array, next_number}
-use Rattle.native_ops.specs.declared.effects.effect.Effect.{Effect}
-use Rattle.native_ops.specs.declared.effects.effect.Effect.TheVariants.{Answers, MakesText, MakesArray, MakesInstance, Appends, Replaces, PutsUnit, Resizes, Interns, Prints, Reads, Stores, SetsFields, GivesClass, GivesBox}
-use Rattle.native_ops.specs.Inputs.Numbers.{string_kind, class_kind}
-use Rattle.native_ops.specs.Inputs.Objects.{size_at, text_at}
-use Rattle.native_ops.specs.Inputs.KindsViews.{KindsView}
-use Rattle.native_ops.specs.Inputs.MadeViews.{MadeView, object_of_class, object_of_box}
-use Rattle.native_ops.specs.Effects.Making.{is_full, put_at, with_values, heap_with_append, heap_with_replace, heap_with_interned, heap_after_class, units_resized}
-use Rattle.native_ops.specs.Effects.Worlds.{World, after, world}
+use Rattle.native_effects.specs.declared.effects.effect.Effect.{Effect}
+use Rattle.native_effects.specs.declared.effects.effect.Effect.TheVariants.{Answers, MakesText, MakesArray, MakesInstance, Appends, Replaces, PutsUnit, Resizes, Interns, Prints, Reads, Stores, SetsFields, GivesClass, GivesBox}
+use Rattle.native_effects.specs.Inputs.Numbers.{string_kind, class_kind}
+use Rattle.native_effects.specs.Inputs.Objects.{size_at, text_at}
+use Rattle.native_effects.specs.Inputs.KindsViews.{KindsView}
+use Rattle.native_effects.specs.Inputs.MadeViews.{MadeView, object_of_class, object_of_box}
+use Rattle.native_effects.specs.Effects.Making.{is_full, put_at, with_values, heap_with_append, heap_with_replace, heap_with_interned, heap_after_class, units_resized}
+use Rattle.native_effects.specs.Effects.Worlds.{World, after, world}
 use Rattle.native_ops.specs.Methods.Calls.{effect_of, world_by}
 use Rattle.native_ops.proofs.KindsMade.{AreMade, HaveKinds, IsMadeOf, effect-made}
 

@@ -1,14 +1,6 @@
-pub mod KindLemmas
-pub mod ListLemmas
-pub mod ObjectLemmas
-pub mod TextLemmas
-pub mod DigitLemmas
-pub mod StoreLemmas
-pub mod WorldLemmas
 pub mod RowLemmas
 pub mod FitLemmas
 pub mod NameLemmas
 pub mod WorkedCalls
-pub mod LimitLemmas
 pub mod KindsMade
 pub mod KindsKept

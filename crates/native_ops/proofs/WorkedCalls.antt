@@ -8,12 +8,12 @@ use Rattle.heap_objects.specs.declared.datum.Datum.{Datum}
 use Rattle.heap_objects.specs.declared.datum.Datum.TheVariants.{Int, Long, Ref}
 use Rattle.heap_objects.specs.declared.object.Object.{Object}
 use Rattle.heap_objects.specs.declared.object.Object.TheVariants.{Instance, Array, Text}
-use Rattle.native_ops.specs.declared.effects.answer.Answer.{Answer}
-use Rattle.native_ops.specs.declared.effects.answer.Answer.TheVariants.{Value, Throws, Exit, Bad}
-use Rattle.native_ops.specs.Inputs.KindsViews.{KindsView, is_among}
-use Rattle.native_ops.specs.Inputs.MadeViews.{nothing_made}
+use Rattle.native_effects.specs.declared.effects.answer.Answer.{Answer}
+use Rattle.native_effects.specs.declared.effects.answer.Answer.TheVariants.{Value, Throws, Exit, Bad}
+use Rattle.native_effects.specs.Inputs.KindsViews.{KindsView, is_among}
+use Rattle.native_effects.specs.Inputs.MadeViews.{nothing_made}
 use Rattle.native_ops.specs.Methods.Rows.{rows}
-use Rattle.native_ops.specs.Effects.Worlds.{World}
+use Rattle.native_effects.specs.Effects.Worlds.{World}
 use Rattle.native_ops.specs.Methods.Calls.{answer_by, world_by}
 
 -- the classes: of the program's, 256 and 258 extend java/lang/Enum, and 257 extends 256

@@ -1,4 +1,2 @@
-pub mod Inputs
 pub mod Classes
-pub mod Effects
 pub mod Methods

@@ -4,11 +4,6 @@
 #![tactic(auto)]
 
 mod classes;
-mod effects;
-mod inputs;
 mod methods;
 
-pub use effects::answer::Native;
-pub use effects::made::Made;
-pub use inputs::kinds::Kinds;
 pub use methods::calls::{Invocation, call};

@@ -7,9 +7,9 @@ use Rattle.int_ops.specs.Arithmetic.{comparison}
 use Rattle.heap_objects.specs.declared.datum.Datum.{Datum}
 use Rattle.heap_objects.specs.declared.datum.Datum.TheVariants as datum
 use Rattle.heap_objects.specs.Heaps.{HeapView}
-use Rattle.native_ops.specs.declared.effects.answer.Answer.TheVariants as answer
-use Rattle.native_ops.specs.declared.effects.effect.Effect.{Effect}
-use Rattle.native_ops.specs.declared.effects.effect.Effect.TheVariants.{Answers, MakesText, MakesArray, MakesInstance, Appends, Replaces, PutsUnit, Resizes, Interns, Prints, Reads, Stores, SetsFields, GivesClass, GivesBox}
+use Rattle.native_effects.specs.declared.effects.answer.Answer.TheVariants as answer
+use Rattle.native_effects.specs.declared.effects.effect.Effect.{Effect}
+use Rattle.native_effects.specs.declared.effects.effect.Effect.TheVariants.{Answers, MakesText, MakesArray, MakesInstance, Appends, Replaces, PutsUnit, Resizes, Interns, Prints, Reads, Stores, SetsFields, GivesClass, GivesBox}
 use Rattle.native_ops.specs.declared.methods.method.Method.{Method}
 use Rattle.native_ops.specs.declared.methods.method.Method.TheVariants as method
 use Rattle.native_ops.specs.declared.methods.method.ObjectMethod.{ObjectMethod}
@@ -41,15 +41,15 @@ use Rattle.native_ops.specs.declared.methods.method.EnumMethod.TheVariants as en
 use Rattle.native_ops.specs.declared.methods.method.ThrowableMethod.{ThrowableMethod}
 use Rattle.native_ops.specs.declared.methods.method.ThrowableMethod.TheVariants as throwable
 use Rattle.native_ops.specs.declared.methods.rows.Row.{Row}
-use Rattle.native_ops.specs.Inputs.Numbers.{string_kind, integer_kind, long_kind, character_kind, cloneable_kind, enum_kind, first_array_kind, clone_not_supported_exception, class_cast_exception, null_pointer_exception, string_index_out_of_bounds_exception}
-use Rattle.native_ops.specs.Inputs.Arguments.{int_in, long_in, reference_in, char_in}
-use Rattle.native_ops.specs.Inputs.Objects.{text_at, size_at, kind_or_none, values_at, has_kind, int_field, long_field}
-use Rattle.native_ops.specs.Inputs.KindsViews.{KindsView, is_instance}
-use Rattle.native_ops.specs.Inputs.MadeViews.{MadeView}
-use Rattle.native_ops.specs.Effects.Answers.{gives_int, gives_long, gives_reference, throws, unless_null}
-use Rattle.native_ops.specs.Inputs.Places.{place_in, range_in, range_from, counted_range, between}
-use Rattle.native_ops.specs.Inputs.Shown.{is_null_array}
-use Rattle.native_ops.specs.Inputs.Parsing.{number_parsed}
+use Rattle.native_effects.specs.Inputs.Numbers.{string_kind, integer_kind, long_kind, character_kind, cloneable_kind, enum_kind, first_array_kind, clone_not_supported_exception, class_cast_exception, null_pointer_exception, string_index_out_of_bounds_exception}
+use Rattle.native_effects.specs.Inputs.Arguments.{int_in, long_in, reference_in, char_in}
+use Rattle.native_effects.specs.Inputs.Objects.{text_at, size_at, kind_or_none, values_at, has_kind, int_field, long_field}
+use Rattle.native_effects.specs.Inputs.KindsViews.{KindsView, is_instance}
+use Rattle.native_effects.specs.Inputs.MadeViews.{MadeView}
+use Rattle.native_effects.specs.Effects.Answers.{gives_int, gives_long, gives_reference, throws, unless_null}
+use Rattle.native_effects.specs.Inputs.Places.{place_in, range_in, range_from, counted_range, between}
+use Rattle.native_effects.specs.Inputs.Shown.{is_null_array}
+use Rattle.native_effects.specs.Inputs.Parsing.{number_parsed}
 use Rattle.native_ops.specs.Classes.Boxes.{small_place, char_place, box_of, compared_if}
 use Rattle.native_ops.specs.Classes.Roots.{clone, object_effect, class_effect}
 use Rattle.native_ops.specs.Classes.Strings.{init_text, char_at, part_of, substring, string_effect}
@@ -63,17 +63,17 @@ use Rattle.native_ops.specs.Classes.Enums.{declaring_class, compare_constants, e
 use Rattle.native_ops.specs.Classes.Throwables.{throwable_effect}
 use Rattle.native_ops.specs.Methods.Signatures.{parameters_of, fit}
 use Rattle.native_ops.specs.Methods.Rows.{rows}
-use Rattle.native_ops.specs.Effects.Worlds.{World}
+use Rattle.native_effects.specs.Effects.Worlds.{World}
 use Rattle.native_ops.specs.Methods.Calls.{method_effect, row_effect, effect_of}
 use Rattle.std.specs.Bool.{beq}
 use Rattle.std.proofs.lemmas.Bool.{false≢true}
-use Rattle.native_ops.specs.declared.effects.answer.Answer.{Answer}
+use Rattle.native_effects.specs.declared.effects.answer.Answer.{Answer}
 use Rattle.heap_objects.specs.Heaps.{growth_of, has_unit_at, units_at}
 use Rattle.heap_objects.specs.Interning.{number_of}
-use Rattle.native_ops.specs.Effects.Making.{is_full, units_resized}
-use Rattle.native_ops.specs.Inputs.MadeViews.{object_of_box, object_of_class}
-use Rattle.native_ops.specs.Inputs.Numbers.{out_of_memory_error}
-use Rattle.native_ops.specs.Effects.Worlds.{after, answer_of}
+use Rattle.native_effects.specs.Effects.Making.{is_full, units_resized}
+use Rattle.native_effects.specs.Inputs.MadeViews.{object_of_box, object_of_class}
+use Rattle.native_effects.specs.Inputs.Numbers.{out_of_memory_error}
+use Rattle.native_effects.specs.Effects.Worlds.{after, answer_of}
 use Rattle.native_ops.specs.Methods.Calls.{answer_by, world_by}
 
 -- ---- answers that have room in place of an argument

@@ -11,14 +11,14 @@ use Rattle.heap_objects.specs.declared.datum.Datum.TheVariants as datum
 use Rattle.frame_stack.specs.FrameLists.{AreSound, FramesView, PlacedFrame, top_operands}
 use Rattle.frame_stack.specs.Widths.{height_of, width}
 use Rattle.jvm_basic.specs.Outcomes.{can_hold, top_locals}
-use Rattle.native_ops.specs.declared.effects.answer.Answer.{Answer}
-use Rattle.native_ops.specs.declared.effects.answer.Answer.TheVariants as answer
-use Rattle.native_ops.specs.declared.effects.answer.Native.{Native}
-use Rattle.native_ops.specs.declared.effects.answer.Native.TheVariants as native
+use Rattle.native_effects.specs.declared.effects.answer.Answer.{Answer}
+use Rattle.native_effects.specs.declared.effects.answer.Answer.TheVariants as answer
+use Rattle.native_effects.specs.declared.effects.answer.Native.{Native}
+use Rattle.native_effects.specs.declared.effects.answer.Native.TheVariants as native
 use Rattle.native_ops.specs.Methods.Calls.{IsAnswer, answer_by, is_done, left_by, native_of_answer, world_by}
-use Rattle.native_ops.specs.Inputs.KindsViews.{KindsView}
-use Rattle.native_ops.specs.Inputs.MadeViews.{MadeView}
-use Rattle.native_ops.specs.Effects.Worlds as natives
+use Rattle.native_effects.specs.Inputs.KindsViews.{KindsView}
+use Rattle.native_effects.specs.Inputs.MadeViews.{MadeView}
+use Rattle.native_effects.specs.Effects.Worlds as natives
 use Rattle.jvm_model.specs.declared.state.Shared.{Shared}
 use Rattle.jvm_model.specs.Basis.Data.{Locals, Operands, Outcome, Done, World}
 use Rattle.jvm_model.specs.Instructions.NativeRules.{kinds_in, runs_number, seen_by_natives}

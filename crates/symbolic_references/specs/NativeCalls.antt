@@ -1,10 +1,10 @@
 -- What a call of a native method answers, and what it leaves of a runtime.
 use Rattle.std.specs.Prelude.{ℕ, List, ◌++◌}
 use Rattle.heap_objects.specs.declared.datum.Datum.{Datum}
-use Rattle.native_ops.specs.declared.effects.answer.Answer.{Answer}
-use Rattle.native_ops.specs.declared.effects.answer.Native.{Native}
+use Rattle.native_effects.specs.declared.effects.answer.Answer.{Answer}
+use Rattle.native_effects.specs.declared.effects.answer.Native.{Native}
 use Rattle.native_ops.specs.Methods.Calls.{answer_by, is_done, left_by}
-use Rattle.native_ops.specs.Effects.Worlds as natives
+use Rattle.native_effects.specs.Effects.Worlds as natives
 use Rattle.jvm_model.specs.Instructions.NativeRules.{kinds_in, seen_by_natives}
 use Rattle.symbolic_references.specs.Runtimes.{RuntimeView}
 

@@ -37,7 +37,7 @@ use class_linker::Linker;
 use heap_objects::{Datum, Heap};
 use jf_bytes::Seq;
 use jvm_model::{Phase, SymbolicReference};
-use native_ops::Made;
+use native_effects::Made;
 pub use program::units_of;
 use std::alloc::Global;
 use std::marker::Model;

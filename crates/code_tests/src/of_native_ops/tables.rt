@@ -1,7 +1,7 @@
 //! Calls of native methods, a row each: the method, its arguments, what is answered, and the text that is answered or written.
 
 use heap_objects::Datum;
-use native_ops::Native;
+use native_effects::Native;
 
 pub struct Row {
     pub class: &'static str,

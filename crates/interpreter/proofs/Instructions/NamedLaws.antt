@@ -12,11 +12,11 @@ use Rattle.const_pool.specs.declared.descriptor.Shape.{Shape}
 use Rattle.const_pool.specs.BuiltIn.{built_in_names}
 use Rattle.const_pool.specs.References.{NameAndType, Reference}
 use Rattle.base_classes.specs.Natives.{native_number}
-use Rattle.native_ops.specs.declared.effects.answer.Answer.{Answer}
-use Rattle.native_ops.specs.declared.effects.answer.Answer.TheVariants as answer
+use Rattle.native_effects.specs.declared.effects.answer.Answer.{Answer}
+use Rattle.native_effects.specs.declared.effects.answer.Answer.TheVariants as answer
 use Rattle.native_ops.specs.Methods.Calls.{answer_by}
-use Rattle.native_ops.specs.Effects.Making.{answer_of_class}
-use Rattle.native_ops.specs.Inputs.Numbers.{out_of_memory_error}
+use Rattle.native_effects.specs.Effects.Making.{answer_of_class}
+use Rattle.native_effects.specs.Inputs.Numbers.{out_of_memory_error}
 use Rattle.jvm_model.specs.declared.state.Phase.{Phase}
 use Rattle.jvm_model.specs.declared.state.Phase.TheVariants.{Fresh, Running, Ready, Erroneous}
 use Rattle.jvm_model.specs.declared.program.Program.{Program}

@@ -39,6 +39,7 @@ found-among (x ∷ names) (suc place) = among-more x names (slice_get names plac
     by : (b c : Bool) → c ≡ true → (b || c) ≡ true
     by true c is = refl
     by false c is = is
+
     among-more : (x : List ℕ) (names : List (List ℕ)) (found : Option (List ℕ)) → IfSome found (λ name. list_any (same_text name) names ≡ true)
         → IfSome found (λ name. list_any (same_text name) (x ∷ names) ≡ true)
     among-more x names None is = tt

@@ -16,7 +16,7 @@ use frame_stack::Frames;
 use heap_objects::Datum;
 use jf_bytes::{NoMemory, Seq, Text16};
 use jvm_model::{Phase, Program};
-use native_ops::Made;
+use native_effects::Made;
 use prepared_code::{Originals, Parts, has_built_in_name, has_bytes, heap_before};
 use std::alloc::Global;
 use symbolic_references::{Beginning, Runtime};

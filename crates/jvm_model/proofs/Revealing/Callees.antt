@@ -17,11 +17,11 @@ use Rattle.heap_objects.specs.declared.Value.{Value}
 use Rattle.heap_objects.specs.declared.Value.TheVariants.{Int, Ref}
 use Rattle.heap_objects.specs.Heaps.{HeapView, interned_number, kind_at, next_number, slot_at, with_array, with_instance, with_interned, with_slot_at, with_text}
 use Rattle.base_classes.specs.Natives.{native_number}
-use Rattle.native_ops.specs.declared.effects.answer.Answer.{Answer}
-use Rattle.native_ops.specs.declared.effects.answer.Answer.TheVariants as answer
+use Rattle.native_effects.specs.declared.effects.answer.Answer.{Answer}
+use Rattle.native_effects.specs.declared.effects.answer.Answer.TheVariants as answer
 use Rattle.native_ops.specs.Methods.Calls.{answer_by}
-use Rattle.native_ops.specs.Effects.Making.{answer_of_class}
-use Rattle.native_ops.specs.Inputs.Numbers.{out_of_memory_error}
+use Rattle.native_effects.specs.Effects.Making.{answer_of_class}
+use Rattle.native_effects.specs.Inputs.Numbers.{out_of_memory_error}
 use Rattle.jvm_model.specs.Basis.Data.{MethodPlace, Program, Phase, Fresh, Running, Ready, Erroneous, Shared, Local, Operation, Within, Athrow, Monitor, Newarray, Arraylength, LoadElement, StoreElement, LdcString, Locals, Operands, World, Outcome, GoesOn, Next, Invokes, Initializes, Throws, Raises, Breaks, Done}
 use Rattle.jvm_model.specs.Basis.Values.{as_value, int_of, ref_of}
 use Rattle.jvm_model.specs.Basis.Data as operation

@@ -10,9 +10,9 @@ use Rattle.heap_objects.specs.declared.Value.TheVariants.{Int, Ref, Addr}
 use Rattle.const_pool.specs.declared.descriptor.Kind.{Kind}
 use Rattle.const_pool.specs.BuiltIn.{built_in_names}
 use Rattle.const_pool.specs.References.{Reference}
-use Rattle.native_ops.specs.declared.effects.answer.Answer.{Answer}
-use Rattle.native_ops.specs.declared.effects.answer.Answer.TheVariants as answer
-use Rattle.native_ops.specs.Inputs.Numbers.{out_of_memory_error}
+use Rattle.native_effects.specs.declared.effects.answer.Answer.{Answer}
+use Rattle.native_effects.specs.declared.effects.answer.Answer.TheVariants as answer
+use Rattle.native_effects.specs.Inputs.Numbers.{out_of_memory_error}
 use Rattle.base_classes.specs.Natives.{native_number}
 use Rattle.jvm_model.specs.declared.program.Program.{Program}
 use Rattle.jvm_model.specs.declared.state.Phase.{Phase}
@@ -33,7 +33,7 @@ use Rattle.std.specs.Bool.{beq}
 use Rattle.std.proofs.Common.{map}
 use Rattle.heap_objects.specs.Heaps.{slot_at, with_instance, with_text, interned_number, with_interned}
 use Rattle.native_ops.specs.Methods.Calls.{answer_by}
-use Rattle.native_ops.specs.Effects.Making.{answer_of_class}
+use Rattle.native_effects.specs.Effects.Making.{answer_of_class}
 use Rattle.jvm_model.specs.Running.Constants.{can_intern}
 use Rattle.jvm_model.specs.Instructions.ConstantRules.{pushes_string, pushes_object_of}
 use Rattle.jvm_model.specs.Instructions.CreationRules.{allocates, answers, array_over, casts_to, class_cast, counts_of, has_no_instances, instantiation_error, is_text_class, lengths_of, makes_arrays, makes_by_counts, makes_instance, makes_object, slots_of_arrays, with_arrays, zero_of}

@@ -18,7 +18,7 @@ use Rattle.base_classes.specs.StreamClasses.{stream_classes}
 use Rattle.base_classes.specs.ValueClasses.{value_classes}
 use Rattle.base_classes.specs.ThrowableClasses.{throwable_classes}
 use Rattle.base_classes.specs.Natives.{native_methods}
-use Rattle.native_ops.specs.Inputs.KindsViews.{is_among}
+use Rattle.native_effects.specs.Inputs.KindsViews.{is_among}
 use Rattle.native_ops.specs.Methods.Rows.{rows as native_rows}
 use Rattle.jvm_model.specs.Basis.Data.{Datum, Operands, Frame, Active, Initializing, Constants, Finish, Returned, Unverifiable, State, Quotient, Constant, Store, DivisionOfInts, Operation, Within, Athrow, Monitor, Newarray, Arraylength, LoadElement, StoreElement, Instruction, Catcher, Began, Unwound, Turn, World}
 use Rattle.jvm_model.specs.Running.Applies.{begins_beside, invokes, live_in, new_frame}

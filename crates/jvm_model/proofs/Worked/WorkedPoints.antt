@@ -8,7 +8,7 @@ use Rattle.base_classes.specs.StreamClasses.{stream_classes}
 use Rattle.base_classes.specs.ValueClasses.{value_classes}
 use Rattle.base_classes.specs.ThrowableClasses.{throwable_classes}
 use Rattle.base_classes.specs.Natives.{native_methods}
-use Rattle.native_ops.specs.Inputs.KindsViews.{is_among}
+use Rattle.native_effects.specs.Inputs.KindsViews.{is_among}
 use Rattle.native_ops.specs.Methods.Rows.{rows}
 use Rattle.jvm_model.specs.declared.event.Act.{Act}
 use Rattle.jvm_model.specs.declared.event.Event.{Event}

@@ -14,7 +14,7 @@ use Rattle.base_classes.specs.StreamClasses.{stream_classes}
 use Rattle.base_classes.specs.ValueClasses.{value_classes}
 use Rattle.base_classes.specs.ThrowableClasses.{throwable_classes}
 use Rattle.base_classes.specs.Natives.{native_methods}
-use Rattle.native_ops.specs.Inputs.KindsViews.{is_among}
+use Rattle.native_effects.specs.Inputs.KindsViews.{is_among}
 use Rattle.native_ops.specs.Methods.Rows.{rows}
 use Rattle.jvm_model.specs.Basis.Data.{Entry, Active, Listing, Isub, Store, BinaryOfInts, Iinc, WithZero, Equal, Greater, Branch, Jsr, Ret, Within, Returned}
 use Rattle.jvm_model.specs.declared.event.Act.{Act}

@@ -14,7 +14,7 @@ use Rattle.base_classes.specs.StreamClasses.{stream_classes}
 use Rattle.base_classes.specs.ValueClasses.{value_classes}
 use Rattle.base_classes.specs.ThrowableClasses.{throwable_classes}
 use Rattle.base_classes.specs.Natives.{native_methods}
-use Rattle.native_ops.specs.Inputs.KindsViews.{is_among}
+use Rattle.native_effects.specs.Inputs.KindsViews.{is_among}
 use Rattle.native_ops.specs.Methods.Rows.{rows}
 use Rattle.jvm_model.specs.Basis.Data.{Dup, ManageStack, BinaryOfInts, Iadd, WithZero, Equal, Branch, Within, Athrow, Fresh, Ready, Erroneous, Returned, Loads, Began, Unwound}
 use Rattle.jvm_model.specs.Classes.Load.{circular_class}

@@ -7,7 +7,7 @@ use Rattle.const_pool.specs.declared.class.ClassFile.{ClassFile}
 use Rattle.const_pool.specs.declared.class.Member.{Member}
 use Rattle.const_pool.specs.References.{NameAndType, named_text}
 use Rattle.heap_objects.specs.Heaps.{HeapView, empty_heap, kind_at, with_instance, with_array, with_text, with_slot_at, next_number}
-use Rattle.native_ops.specs.Inputs.MadeViews.{nothing_made}
+use Rattle.native_effects.specs.Inputs.MadeViews.{nothing_made}
 use Rattle.jvm_model.specs.Basis.Data.{Datum, Phase, Fresh, Ready, Program, Shared, World}
 use Rattle.jvm_model.specs.Basis.KindNumbers.{user_count, base_of_class, class_of_base, first_array, kind_number}
 use Rattle.jvm_model.specs.Basis.Descriptors.{same_text}

@@ -2,7 +2,7 @@
 use Rattle.std.specs.Prelude.{ℕ, List, ◌∷◌, ◌++◌, [], if◌then◌else◌}
 use Rattle.heap_objects.specs.declared.Value.TheVariants.{Ref}
 use Rattle.heap_objects.specs.Heaps.{interned_number, with_interned}
-use Rattle.native_ops.specs.Effects.Making.{answer_of_class, heap_after_class, made_after_class}
+use Rattle.native_effects.specs.Effects.Making.{answer_of_class, heap_after_class, made_after_class}
 use Rattle.jvm_model.specs.Running.Constants.{can_intern}
 use Rattle.jvm_model.specs.Basis.Data.{Locals, Operands, Program, Shared, Next, GoesOn, Throws, Done}
 use Rattle.jvm_model.specs.Instructions.SymbolicReference.{resolved_kind, unless_refused}

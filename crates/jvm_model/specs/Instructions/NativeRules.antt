@@ -5,12 +5,12 @@ use Rattle.std.specs.Option.{option_and_then, option_map, option_map_or}
 use Rattle.const_pool.specs.BuiltIn.{built_in_names}
 use Rattle.const_pool.specs.References.{Reference}
 use Rattle.base_classes.specs.Natives.{native_number}
-use Rattle.native_ops.specs.declared.effects.answer.Answer.{Answer}
-use Rattle.native_ops.specs.declared.effects.answer.Answer.TheVariants as answer
+use Rattle.native_effects.specs.declared.effects.answer.Answer.{Answer}
+use Rattle.native_effects.specs.declared.effects.answer.Answer.TheVariants as answer
 use Rattle.native_ops.specs.Methods.Calls.{answer_by, world_by}
-use Rattle.native_ops.specs.Inputs.KindsViews.{KindsView}
-use Rattle.native_ops.specs.Inputs.Numbers.{out_of_memory_error}
-use Rattle.native_ops.specs.Effects.Worlds as natives
+use Rattle.native_effects.specs.Inputs.KindsViews.{KindsView}
+use Rattle.native_effects.specs.Inputs.Numbers.{out_of_memory_error}
+use Rattle.native_effects.specs.Effects.Worlds as natives
 use Rattle.jvm_model.specs.Basis.Data.{Datum, Locals, Operands, Program, Shared, World, Next, Outcome, GoesOn, Throws, Raises, Exits, Breaks, Done}
 use Rattle.jvm_model.specs.Basis.KindNumbers.{base_of_class, class_of_base, first_array, kind_parts}
 use Rattle.jvm_model.specs.Classes.Kinds.{is_subkind}

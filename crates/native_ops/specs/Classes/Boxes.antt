@@ -2,10 +2,10 @@
 use Rattle.std.specs.Prelude.{ℕ, ◌+◌, ◌-◌, ◌==◌, ℤ, pos, negsuc, Bool, [], ◌∷◌, Option, Some, None, nat_le, if◌then◌else◌}
 use Rattle.std.specs.Option.{option_map_or}
 use Rattle.heap_objects.specs.declared.datum.Datum.{Datum}
-use Rattle.native_ops.specs.declared.effects.effect.Effect.{Effect}
-use Rattle.native_ops.specs.declared.effects.effect.Effect.TheVariants.{MakesInstance, GivesBox}
-use Rattle.native_ops.specs.Inputs.Numbers.{number_format_exception, class_cast_exception, null_pointer_exception}
-use Rattle.native_ops.specs.Effects.Answers.{gives_int, gives_long, throws}
+use Rattle.native_effects.specs.declared.effects.effect.Effect.{Effect}
+use Rattle.native_effects.specs.declared.effects.effect.Effect.TheVariants.{MakesInstance, GivesBox}
+use Rattle.native_effects.specs.Inputs.Numbers.{number_format_exception, class_cast_exception, null_pointer_exception}
+use Rattle.native_effects.specs.Effects.Answers.{gives_int, gives_long, throws}
 
 -- The place of a value among those whose box is made once: from -128 to 127, counted from 0.
 abbrev pub small_place : ℤ → Option ℕ

@@ -5,17 +5,17 @@ use Rattle.std.specs.Option.{option_map_or}
 use Rattle.heap_objects.specs.declared.datum.Datum.{Datum}
 use Rattle.heap_objects.specs.declared.datum.Datum.TheVariants.{Ref}
 use Rattle.heap_objects.specs.Heaps.{HeapView}
-use Rattle.native_ops.specs.declared.effects.effect.Effect.{Effect}
-use Rattle.native_ops.specs.declared.effects.effect.Effect.TheVariants.{MakesText, Appends, Replaces, PutsUnit, Resizes}
-use Rattle.native_ops.specs.declared.methods.method.Printable.{Printable}
+use Rattle.native_effects.specs.declared.effects.effect.Effect.{Effect}
+use Rattle.native_effects.specs.declared.effects.effect.Effect.TheVariants.{MakesText, Appends, Replaces, PutsUnit, Resizes}
+use Rattle.native_effects.specs.declared.inputs.printable.Printable.{Printable}
 use Rattle.native_ops.specs.declared.methods.method.BuilderMethod.{BuilderMethod}
 use Rattle.native_ops.specs.declared.methods.method.BuilderMethod.TheVariants.{Init, InitCapacity, InitText, Append, Length, CharAt, SetCharAt, SetLength, DeleteCharAt, ToText}
-use Rattle.native_ops.specs.Inputs.Numbers.{negative_array_size_exception, null_pointer_exception, string_index_out_of_bounds_exception}
-use Rattle.native_ops.specs.Inputs.Arguments.{int_in, reference_in, char_in}
-use Rattle.native_ops.specs.Inputs.Objects.{text_at, size_at, number_as_int}
-use Rattle.native_ops.specs.Effects.Answers.{gives_int, throws}
-use Rattle.native_ops.specs.Inputs.Places.{place_in}
-use Rattle.native_ops.specs.Inputs.Shown.{argument_shown, is_null_array}
+use Rattle.native_effects.specs.Inputs.Numbers.{negative_array_size_exception, null_pointer_exception, string_index_out_of_bounds_exception}
+use Rattle.native_effects.specs.Inputs.Arguments.{int_in, reference_in, char_in}
+use Rattle.native_effects.specs.Inputs.Objects.{text_at, size_at, number_as_int}
+use Rattle.native_effects.specs.Effects.Answers.{gives_int, throws}
+use Rattle.native_effects.specs.Inputs.Places.{place_in}
+use Rattle.native_effects.specs.Inputs.Shown.{argument_shown, is_null_array}
 use Rattle.native_ops.specs.Classes.Strings.{init_text, char_at}
 
 -- a capacity is no part of a text

@@ -7,22 +7,22 @@ use Rattle.int_ops.specs.Arithmetic.{wrapped_negation}
 use Rattle.heap_objects.specs.declared.datum.Datum.{Datum}
 use Rattle.heap_objects.specs.declared.datum.Datum.TheVariants.{Int}
 use Rattle.heap_objects.specs.Heaps.{HeapView}
-use Rattle.native_ops.specs.declared.effects.effect.Effect.{Effect}
-use Rattle.native_ops.specs.declared.effects.effect.Effect.TheVariants.{MakesText, GivesBox}
+use Rattle.native_effects.specs.declared.effects.effect.Effect.{Effect}
+use Rattle.native_effects.specs.declared.effects.effect.Effect.TheVariants.{MakesText, GivesBox}
 use Rattle.native_ops.specs.declared.methods.method.CharacterMethod.{CharacterMethod}
 use Rattle.native_ops.specs.declared.methods.method.CharacterMethod.TheVariants as character
 use Rattle.native_ops.specs.declared.methods.method.BooleanMethod.{BooleanMethod}
 use Rattle.native_ops.specs.declared.methods.method.BooleanMethod.TheVariants as boolean
 use Rattle.native_ops.specs.declared.methods.method.MathMethod.{MathMethod}
 use Rattle.native_ops.specs.declared.methods.method.MathMethod.TheVariants.{AbsInt, MaxInt, MinInt, AbsLong, MaxLong, MinLong}
-use Rattle.native_ops.specs.Inputs.Numbers.{character_kind, boolean_kind}
-use Rattle.native_ops.specs.Inputs.Arguments.{int_in, long_in, reference_in, char_in, char_of, boolean_in}
-use Rattle.native_ops.specs.Inputs.Objects.{text_at, int_field}
-use Rattle.native_ops.specs.Inputs.KindsViews.{KindsView, is_instance}
-use Rattle.native_ops.specs.Inputs.Texts.{text_of_boolean}
-use Rattle.native_ops.specs.Inputs.Parsing.{is_digit, is_true}
+use Rattle.native_effects.specs.Inputs.Numbers.{character_kind, boolean_kind}
+use Rattle.native_effects.specs.Inputs.Arguments.{int_in, long_in, reference_in, char_in, char_of, boolean_in}
+use Rattle.native_effects.specs.Inputs.Objects.{text_at, int_field}
+use Rattle.native_effects.specs.Inputs.KindsViews.{KindsView, is_instance}
+use Rattle.native_effects.specs.Inputs.Texts.{text_of_boolean}
+use Rattle.native_effects.specs.Inputs.Parsing.{is_digit, is_true}
 use Rattle.native_ops.specs.Classes.Boxes.{char_place, box_of}
-use Rattle.native_ops.specs.Effects.Answers.{gives_int, gives_long, gives_boolean}
+use Rattle.native_effects.specs.Effects.Answers.{gives_int, gives_long, gives_boolean}
 
 -- ---- java/lang/Character
 

@@ -3,17 +3,17 @@ use Rattle.std.specs.Prelude.{ℕ, ◌-◌, ◌==◌, ℤ, Bool, List, [], ◌�
 use Rattle.heap_objects.specs.declared.datum.Datum.{Datum}
 use Rattle.heap_objects.specs.Heaps.{HeapView}
 use Rattle.heap_objects.specs.Kept.{reference_of}
-use Rattle.native_ops.specs.declared.effects.answer.Answer.TheVariants.{Value, Throws, Exit as Exits}
-use Rattle.native_ops.specs.declared.effects.effect.Effect.{Effect}
-use Rattle.native_ops.specs.declared.effects.effect.Effect.TheVariants.{Answers, Stores}
+use Rattle.native_effects.specs.declared.effects.answer.Answer.TheVariants.{Value, Throws, Exit as Exits}
+use Rattle.native_effects.specs.declared.effects.effect.Effect.{Effect}
+use Rattle.native_effects.specs.declared.effects.effect.Effect.TheVariants.{Answers, Stores}
 use Rattle.native_ops.specs.declared.methods.method.SystemMethod.{SystemMethod}
 use Rattle.native_ops.specs.declared.methods.method.SystemMethod.TheVariants.{Exit, Arraycopy, IdentityHashCode}
-use Rattle.native_ops.specs.Inputs.Numbers.{array_store_exception, array_index_out_of_bounds_exception, null_pointer_exception, first_array_kind, first_reference_array_kind}
-use Rattle.native_ops.specs.Inputs.Arguments.{int_in, reference_in}
-use Rattle.native_ops.specs.Inputs.Objects.{kind_or_none, values_at, size_at, number_as_int}
-use Rattle.native_ops.specs.Inputs.Places.{counted_range, between}
-use Rattle.native_ops.specs.Inputs.KindsViews.{KindsView}
-use Rattle.native_ops.specs.Effects.Answers.{gives_int, throws}
+use Rattle.native_effects.specs.Inputs.Numbers.{array_store_exception, array_index_out_of_bounds_exception, null_pointer_exception, first_array_kind, first_reference_array_kind}
+use Rattle.native_effects.specs.Inputs.Arguments.{int_in, reference_in}
+use Rattle.native_effects.specs.Inputs.Objects.{kind_or_none, values_at, size_at, number_as_int}
+use Rattle.native_effects.specs.Inputs.Places.{counted_range, between}
+use Rattle.native_effects.specs.Inputs.KindsViews.{KindsView}
+use Rattle.native_effects.specs.Effects.Answers.{gives_int, throws}
 
 -- what arrays of a kind hold: one primitive type, told by the kind, or references
 abbrev pub sort_of_array : ℕ → ℕ

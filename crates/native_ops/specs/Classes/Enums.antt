@@ -6,15 +6,15 @@ use Rattle.int_ops.specs.Arithmetic.{wrapped_difference}
 use Rattle.heap_objects.specs.declared.datum.Datum.{Datum}
 use Rattle.heap_objects.specs.declared.datum.Datum.TheVariants.{Int, Ref}
 use Rattle.heap_objects.specs.Heaps.{HeapView}
-use Rattle.native_ops.specs.declared.effects.effect.Effect.{Effect}
-use Rattle.native_ops.specs.declared.effects.effect.Effect.TheVariants.{SetsFields}
+use Rattle.native_effects.specs.declared.effects.effect.Effect.{Effect}
+use Rattle.native_effects.specs.declared.effects.effect.Effect.TheVariants.{SetsFields}
 use Rattle.native_ops.specs.declared.methods.method.EnumMethod.{EnumMethod}
 use Rattle.native_ops.specs.declared.methods.method.EnumMethod.TheVariants.{Init, Name, Ordinal, TextOf, Equals, HashCode, CompareTo, CompareToObject}
-use Rattle.native_ops.specs.Inputs.Numbers.{class_cast_exception, enum_kind}
-use Rattle.native_ops.specs.Inputs.Arguments.{int_in, reference_in}
-use Rattle.native_ops.specs.Inputs.Objects.{kind_or_none, int_field, reference_field, number_as_int}
-use Rattle.native_ops.specs.Inputs.KindsViews.{KindsView, is_instance}
-use Rattle.native_ops.specs.Effects.Answers.{gives_int, gives_boolean, gives_reference, throws, unless_null}
+use Rattle.native_effects.specs.Inputs.Numbers.{class_cast_exception, enum_kind}
+use Rattle.native_effects.specs.Inputs.Arguments.{int_in, reference_in}
+use Rattle.native_effects.specs.Inputs.Objects.{kind_or_none, int_field, reference_field, number_as_int}
+use Rattle.native_effects.specs.Inputs.KindsViews.{KindsView, is_instance}
+use Rattle.native_effects.specs.Effects.Answers.{gives_int, gives_boolean, gives_reference, throws, unless_null}
 
 -- The class that declares a constant, by the kind of its class: that class where it extends java/lang/Enum directly, else its superclass.
 abbrev pub declaring_class : KindsView → ℕ → ℕ

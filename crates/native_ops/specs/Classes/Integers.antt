@@ -7,18 +7,18 @@ use Rattle.int_ops.specs.Arithmetic.{comparison}
 use Rattle.heap_objects.specs.declared.datum.Datum.{Datum}
 use Rattle.heap_objects.specs.declared.datum.Datum.TheVariants.{Int}
 use Rattle.heap_objects.specs.Heaps.{HeapView}
-use Rattle.native_ops.specs.declared.effects.effect.Effect.{Effect}
-use Rattle.native_ops.specs.declared.effects.effect.Effect.TheVariants.{MakesText}
+use Rattle.native_effects.specs.declared.effects.effect.Effect.{Effect}
+use Rattle.native_effects.specs.declared.effects.effect.Effect.TheVariants.{MakesText}
 use Rattle.native_ops.specs.declared.methods.method.IntegerMethod.{IntegerMethod}
 use Rattle.native_ops.specs.declared.methods.method.IntegerMethod.TheVariants.{ValueOf, Parse, TextOf, HexOf, IntValue, LongValue, Equals, HashCode, ToText, CompareTo}
-use Rattle.native_ops.specs.Inputs.Numbers.{integer_kind}
-use Rattle.native_ops.specs.Inputs.Arguments.{int_in, reference_in}
-use Rattle.native_ops.specs.Inputs.Objects.{text_at, int_field}
-use Rattle.native_ops.specs.Inputs.KindsViews.{KindsView, is_instance}
-use Rattle.native_ops.specs.Inputs.Texts.{text_of_number}
-use Rattle.native_ops.specs.Inputs.Parsing.{number_parsed}
+use Rattle.native_effects.specs.Inputs.Numbers.{integer_kind}
+use Rattle.native_effects.specs.Inputs.Arguments.{int_in, reference_in}
+use Rattle.native_effects.specs.Inputs.Objects.{text_at, int_field}
+use Rattle.native_effects.specs.Inputs.KindsViews.{KindsView, is_instance}
+use Rattle.native_effects.specs.Inputs.Texts.{text_of_number}
+use Rattle.native_effects.specs.Inputs.Parsing.{number_parsed}
 use Rattle.native_ops.specs.Classes.Boxes.{small_place, box_of, gives_parsed_int, compared_if}
-use Rattle.native_ops.specs.Effects.Answers.{gives_int, gives_long, gives_boolean}
+use Rattle.native_effects.specs.Effects.Answers.{gives_int, gives_long, gives_boolean}
 
 -- null is no number
 abbrev pub parse_int : ℕ → HeapView → Effect

@@ -4,18 +4,18 @@ use Rattle.std.specs.Prelude.{ℕ, ◌-◌, ◌/◌, ◌%◌, ◌==◌, pos, fal
 use Rattle.std.specs.Fmt.{digits}
 use Rattle.heap_objects.specs.declared.datum.Datum.{Datum}
 use Rattle.heap_objects.specs.Heaps.{HeapView}
-use Rattle.native_ops.specs.declared.effects.effect.Effect.{Effect}
-use Rattle.native_ops.specs.declared.effects.effect.Effect.TheVariants.{MakesText, MakesArray, MakesInstance, GivesClass}
+use Rattle.native_effects.specs.declared.effects.effect.Effect.{Effect}
+use Rattle.native_effects.specs.declared.effects.effect.Effect.TheVariants.{MakesText, MakesArray, MakesInstance, GivesClass}
 use Rattle.native_ops.specs.declared.methods.method.ObjectMethod.{ObjectMethod}
 use Rattle.native_ops.specs.declared.methods.method.ObjectMethod.TheVariants.{Init, Equals, HashCode, ToText, GetClass, Clone}
 use Rattle.native_ops.specs.declared.methods.method.ClassMethod.{ClassMethod}
 use Rattle.native_ops.specs.declared.methods.method.ClassMethod.TheVariants.{GetName, DesiredAssertionStatus}
-use Rattle.native_ops.specs.Inputs.Numbers.{clone_not_supported_exception, cloneable_kind, first_array_kind}
-use Rattle.native_ops.specs.Inputs.Arguments.{reference_in}
-use Rattle.native_ops.specs.Inputs.Objects.{kind_or_none, values_at, number_as_int}
-use Rattle.native_ops.specs.Inputs.KindsViews.{KindsView}
-use Rattle.native_ops.specs.Inputs.MadeViews.{MadeView, class_of_object}
-use Rattle.native_ops.specs.Effects.Answers.{gives_nothing, gives_int, gives_boolean, throws}
+use Rattle.native_effects.specs.Inputs.Numbers.{clone_not_supported_exception, cloneable_kind, first_array_kind}
+use Rattle.native_effects.specs.Inputs.Arguments.{reference_in}
+use Rattle.native_effects.specs.Inputs.Objects.{kind_or_none, values_at, number_as_int}
+use Rattle.native_effects.specs.Inputs.KindsViews.{KindsView}
+use Rattle.native_effects.specs.Inputs.MadeViews.{MadeView, class_of_object}
+use Rattle.native_effects.specs.Effects.Answers.{gives_nothing, gives_int, gives_boolean, throws}
 
 -- ---- names
 

@@ -2,16 +2,16 @@
 use Rattle.std.specs.Prelude.{ℕ, ◌++◌, List, [], ◌∷◌, if◌then◌else◌}
 use Rattle.heap_objects.specs.declared.datum.Datum.{Datum}
 use Rattle.heap_objects.specs.Heaps.{HeapView}
-use Rattle.native_ops.specs.declared.effects.effect.Effect.{Effect}
-use Rattle.native_ops.specs.declared.effects.effect.Effect.TheVariants.{Prints, Reads}
-use Rattle.native_ops.specs.declared.methods.method.Printable.{Printable}
+use Rattle.native_effects.specs.declared.effects.effect.Effect.{Effect}
+use Rattle.native_effects.specs.declared.effects.effect.Effect.TheVariants.{Prints, Reads}
+use Rattle.native_effects.specs.declared.inputs.printable.Printable.{Printable}
 use Rattle.native_ops.specs.declared.methods.method.InputMethod.{InputMethod}
 use Rattle.native_ops.specs.declared.methods.method.InputMethod.TheVariants.{Read, Close}
 use Rattle.native_ops.specs.declared.methods.method.PrintMethod.{PrintMethod}
 use Rattle.native_ops.specs.declared.methods.method.PrintMethod.TheVariants.{Print, Println, EndLine, Flush}
-use Rattle.native_ops.specs.Inputs.Numbers.{null_pointer_exception}
-use Rattle.native_ops.specs.Effects.Answers.{gives_nothing, throws}
-use Rattle.native_ops.specs.Inputs.Shown.{argument_shown, is_null_array}
+use Rattle.native_effects.specs.Inputs.Numbers.{null_pointer_exception}
+use Rattle.native_effects.specs.Effects.Answers.{gives_nothing, throws}
+use Rattle.native_effects.specs.Inputs.Shown.{argument_shown, is_null_array}
 
 abbrev pub input_effect : InputMethod → Effect
 input_effect Read = Reads

@@ -5,18 +5,18 @@ use Rattle.std.specs.Str.{bytes_eq}
 use Rattle.heap_objects.specs.declared.datum.Datum.{Datum}
 use Rattle.heap_objects.specs.Cells.{char_datum}
 use Rattle.heap_objects.specs.Heaps.{HeapView}
-use Rattle.native_ops.specs.declared.effects.effect.Effect.{Effect}
-use Rattle.native_ops.specs.declared.effects.effect.Effect.TheVariants.{MakesText, MakesArray, Replaces, Interns}
-use Rattle.native_ops.specs.declared.methods.method.Printable.{Printable}
+use Rattle.native_effects.specs.declared.effects.effect.Effect.{Effect}
+use Rattle.native_effects.specs.declared.effects.effect.Effect.TheVariants.{MakesText, MakesArray, Replaces, Interns}
+use Rattle.native_effects.specs.declared.inputs.printable.Printable.{Printable}
 use Rattle.native_ops.specs.declared.methods.method.StringMethod.{StringMethod}
 use Rattle.native_ops.specs.declared.methods.method.StringMethod.TheVariants.{Init, InitText, InitChars, InitPart, Length, CharAt, IsEmpty, Equals, HashCode, Same, CompareTo, CompareToObject, Concat, SubstringFrom, Substring, IndexOf, StartsWith, Intern, ToCharArray, ValueOf}
-use Rattle.native_ops.specs.Inputs.Numbers.{class_cast_exception, null_pointer_exception, string_index_out_of_bounds_exception, string_kind, chars_kind}
-use Rattle.native_ops.specs.Inputs.Arguments.{int_in, reference_in}
-use Rattle.native_ops.specs.Inputs.Objects.{text_at, chars_at, size_at, has_kind, number_as_int}
-use Rattle.native_ops.specs.Effects.Answers.{gives_int, gives_boolean, gives_reference, throws, unless_null}
-use Rattle.native_ops.specs.Inputs.Texts.{hash_of_text, compared_texts, begins_with}
-use Rattle.native_ops.specs.Inputs.Places.{place_in, range_in, range_from, counted_range, between, place_of_character}
-use Rattle.native_ops.specs.Inputs.Shown.{argument_shown, is_null_array}
+use Rattle.native_effects.specs.Inputs.Numbers.{class_cast_exception, null_pointer_exception, string_index_out_of_bounds_exception, string_kind, chars_kind}
+use Rattle.native_effects.specs.Inputs.Arguments.{int_in, reference_in}
+use Rattle.native_effects.specs.Inputs.Objects.{text_at, chars_at, size_at, has_kind, number_as_int}
+use Rattle.native_effects.specs.Effects.Answers.{gives_int, gives_boolean, gives_reference, throws, unless_null}
+use Rattle.native_effects.specs.Inputs.Texts.{hash_of_text, compared_texts, begins_with}
+use Rattle.native_effects.specs.Inputs.Places.{place_in, range_in, range_from, counted_range, between, place_of_character}
+use Rattle.native_effects.specs.Inputs.Shown.{argument_shown, is_null_array}
 
 -- ---- constructors: the text has units in place of its own
 

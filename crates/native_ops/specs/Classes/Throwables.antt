@@ -4,14 +4,14 @@ use Rattle.std.specs.Prelude.{ℕ, List, if◌then◌else◌}
 use Rattle.heap_objects.specs.declared.datum.Datum.{Datum}
 use Rattle.heap_objects.specs.declared.datum.Datum.TheVariants.{Ref}
 use Rattle.heap_objects.specs.Heaps.{HeapView}
-use Rattle.native_ops.specs.declared.effects.effect.Effect.{Effect}
-use Rattle.native_ops.specs.declared.effects.effect.Effect.TheVariants.{SetsFields}
+use Rattle.native_effects.specs.declared.effects.effect.Effect.{Effect}
+use Rattle.native_effects.specs.declared.effects.effect.Effect.TheVariants.{SetsFields}
 use Rattle.native_ops.specs.declared.methods.method.ThrowableMethod.{ThrowableMethod}
 use Rattle.native_ops.specs.declared.methods.method.ThrowableMethod.TheVariants.{Init, InitMessage, InitMessageCause, InitCause, InitDetail, GetMessage, GetCause}
-use Rattle.native_ops.specs.Inputs.Numbers.{string_kind}
-use Rattle.native_ops.specs.Inputs.Arguments.{reference_in}
-use Rattle.native_ops.specs.Inputs.Objects.{has_kind, reference_field}
-use Rattle.native_ops.specs.Effects.Answers.{gives_reference}
+use Rattle.native_effects.specs.Inputs.Numbers.{string_kind}
+use Rattle.native_effects.specs.Inputs.Arguments.{reference_in}
+use Rattle.native_effects.specs.Inputs.Objects.{has_kind, reference_field}
+use Rattle.native_effects.specs.Effects.Answers.{gives_reference}
 
 abbrev pub sets_both : ℕ → ℕ → ℕ → Effect
 sets_both object message cause = SetsFields object (Ref message) (Ref cause)

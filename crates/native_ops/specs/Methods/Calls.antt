@@ -4,17 +4,17 @@ use Rattle.std.specs.Option.{option_map_or}
 use Rattle.heap_objects.specs.declared.datum.Datum.{Datum}
 use Rattle.heap_objects.specs.Changes.{changed_if}
 use Rattle.heap_objects.specs.Heaps.{HeapView}
-use Rattle.native_ops.specs.declared.effects.answer.Answer.{Answer}
-use Rattle.native_ops.specs.declared.effects.answer.Answer.TheVariants as answer
-use Rattle.native_ops.specs.declared.effects.answer.Native.{Native}
-use Rattle.native_ops.specs.declared.effects.answer.Native.TheVariants as native
-use Rattle.native_ops.specs.declared.effects.effect.Effect.{Effect}
-use Rattle.native_ops.specs.declared.effects.effect.Effect.TheVariants.{Answers}
+use Rattle.native_effects.specs.declared.effects.answer.Answer.{Answer}
+use Rattle.native_effects.specs.declared.effects.answer.Answer.TheVariants as answer
+use Rattle.native_effects.specs.declared.effects.answer.Native.{Native}
+use Rattle.native_effects.specs.declared.effects.answer.Native.TheVariants as native
+use Rattle.native_effects.specs.declared.effects.effect.Effect.{Effect}
+use Rattle.native_effects.specs.declared.effects.effect.Effect.TheVariants.{Answers}
 use Rattle.native_ops.specs.declared.methods.rows.Row.{Row}
 use Rattle.native_ops.specs.declared.methods.method.Method.{Method}
 use Rattle.native_ops.specs.declared.methods.method.Method.TheVariants as method
-use Rattle.native_ops.specs.Inputs.KindsViews.{KindsView}
-use Rattle.native_ops.specs.Inputs.MadeViews.{MadeView}
+use Rattle.native_effects.specs.Inputs.KindsViews.{KindsView}
+use Rattle.native_effects.specs.Inputs.MadeViews.{MadeView}
 use Rattle.native_ops.specs.Classes.Roots.{object_effect, class_effect}
 use Rattle.native_ops.specs.Classes.Strings.{string_effect}
 use Rattle.native_ops.specs.Classes.Builders.{builder_effect}
@@ -27,7 +27,7 @@ use Rattle.native_ops.specs.Classes.Enums.{enum_effect}
 use Rattle.native_ops.specs.Classes.Throwables.{throwable_effect}
 use Rattle.native_ops.specs.Methods.Signatures.{parameters_of, fit}
 use Rattle.native_ops.specs.Methods.Rows.{rows}
-use Rattle.native_ops.specs.Effects.Worlds.{World, answer_of, after}
+use Rattle.native_effects.specs.Effects.Worlds.{World, answer_of, after}
 
 abbrev pub method_effect : Method → KindsView → List Datum → HeapView → MadeView → Effect
 method_effect (method.Object m) kinds args h made = object_effect m kinds args h

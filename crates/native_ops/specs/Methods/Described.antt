@@ -9,7 +9,7 @@ use Rattle.native_ops.specs.declared.methods.signature.Parameter.{Parameter}
 use Rattle.native_ops.specs.declared.methods.signature.Parameter.TheVariants.{Int, Long, Reference, Exactly, Below, Extending}
 use Rattle.native_ops.specs.declared.methods.signature.Receiver.{Receiver}
 use Rattle.native_ops.specs.declared.methods.signature.Receiver.TheVariants as receiver
-use Rattle.native_ops.specs.Inputs.Numbers.{string_kind, chars_kind, enum_kind, throwable_kind}
+use Rattle.native_effects.specs.Inputs.Numbers.{string_kind, chars_kind, enum_kind, throwable_kind}
 
 abbrev pub parameter_of_class : List ℕ → Parameter
 parameter_of_class name =

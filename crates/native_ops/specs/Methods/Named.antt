@@ -6,8 +6,8 @@ use Rattle.base_classes.specs.Natives.{method_named}
 use Rattle.native_ops.specs.declared.methods.rows.Row.{Row}
 use Rattle.native_ops.specs.declared.methods.method.Method.{Method}
 use Rattle.native_ops.specs.declared.methods.method.Method.TheVariants as method
-use Rattle.native_ops.specs.declared.methods.method.Printable.{Printable}
-use Rattle.native_ops.specs.declared.methods.method.Printable.TheVariants as printable
+use Rattle.native_effects.specs.declared.inputs.printable.Printable.{Printable}
+use Rattle.native_effects.specs.declared.inputs.printable.Printable.TheVariants as printable
 use Rattle.native_ops.specs.declared.methods.method.ObjectMethod.{ObjectMethod}
 use Rattle.native_ops.specs.declared.methods.method.ObjectMethod.TheVariants as object
 use Rattle.native_ops.specs.declared.methods.method.ClassMethod.{ClassMethod}

@@ -3,7 +3,7 @@ use Rattle.std.specs.Prelude.{ℕ, zero, suc, ◌+◌, List, [], ◌∷◌, ◌+
 use Rattle.native_ops.specs.declared.methods.rows.Row.{Row}
 use Rattle.native_ops.specs.declared.methods.method.Method.{Method}
 use Rattle.native_ops.specs.declared.methods.method.Method.TheVariants as method
-use Rattle.native_ops.specs.declared.methods.method.Printable.TheVariants as printable
+use Rattle.native_effects.specs.declared.inputs.printable.Printable.TheVariants as printable
 use Rattle.native_ops.specs.declared.methods.method.ObjectMethod.TheVariants as object
 use Rattle.native_ops.specs.declared.methods.method.ClassMethod.TheVariants as class
 use Rattle.native_ops.specs.declared.methods.method.StringMethod.TheVariants as string

@@ -11,9 +11,9 @@ use Rattle.native_ops.specs.declared.methods.signature.Receiver.{Receiver}
 use Rattle.native_ops.specs.declared.methods.signature.Receiver.TheVariants as receiver
 use Rattle.native_ops.specs.declared.methods.signature.Parameters.{Parameters}
 use Rattle.native_ops.specs.declared.methods.signature.Parameters.TheVariants.{Nothing, OneInt, OneLong, TwoInts, TwoLongs, OneObject, OneString, OneArray, ArrayAndRange, TwoArrays, StringAndInt, OneConstant, StringAndThrowable, OneThrowable}
-use Rattle.native_ops.specs.Inputs.Numbers.{string_kind, chars_kind, enum_kind, throwable_kind}
-use Rattle.native_ops.specs.Inputs.Objects.{has_kind}
-use Rattle.native_ops.specs.Inputs.KindsViews.{KindsView, is_instance}
+use Rattle.native_effects.specs.Inputs.Numbers.{string_kind, chars_kind, enum_kind, throwable_kind}
+use Rattle.native_effects.specs.Inputs.Objects.{has_kind}
+use Rattle.native_effects.specs.Inputs.KindsViews.{KindsView, is_instance}
 
 abbrev pub parameters_of : Parameters → List Parameter
 parameters_of Nothing = []

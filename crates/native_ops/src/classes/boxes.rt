@@ -3,12 +3,10 @@
 ghost use Rattle.std.specs.Prelude.{◌≡◌, IfOk};
 ghost use Rattle.native_ops.specs.Classes.Boxes.{small_place, char_place, box_of, gives_parsed_int, gives_parsed_long, compared_if};
 
-use crate::effects::effect::{Effect, gives_int, gives_long, throws};
-use crate::inputs::numbers::{
-    CLASS_CAST_EXCEPTION, NULL_POINTER_EXCEPTION, NUMBER_FORMAT_EXCEPTION,
-};
+use base_classes::{CLASS_CAST_EXCEPTION, NULL_POINTER_EXCEPTION, NUMBER_FORMAT_EXCEPTION};
 use heap_objects::Datum;
 use jf_bytes::{NoMemory, Seq};
+use native_effects::{Effect, gives_int, gives_long, throws};
 use std::alloc::Global;
 
 /// The place of a value among those whose box is made once.

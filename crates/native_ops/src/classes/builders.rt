@@ -4,18 +4,16 @@ ghost use Rattle.std.specs.Prelude.{◌≡◌, ◌<◌, IfOk, length};
 ghost use Rattle.native_ops.specs.Classes.Builders.{init_capacity, append, set_char_at, set_length, without, delete_char_at, builder_effect};
 
 use crate::classes::strings::{char_at, init_text, own_units};
-use crate::effects::effect::{Effect, gives_int, throws};
-use crate::inputs::arguments::{char_in, int_in, reference_in};
-use crate::inputs::numbers::{
+use crate::methods::method::BuilderMethod;
+use base_classes::{
     NEGATIVE_ARRAY_SIZE_EXCEPTION, NULL_POINTER_EXCEPTION, STRING_INDEX_OUT_OF_BOUNDS_EXCEPTION,
 };
-use crate::inputs::places::{place_in, small_place_in};
-use crate::inputs::reading::{number_as_int, size_at, text_at};
-use crate::inputs::shown::{argument_shown, is_null_array};
-use crate::inputs::texts::units_joined;
-use crate::methods::method::{BuilderMethod, Printable};
 use heap_objects::{Datum, Heap};
 use jf_bytes::{NoMemory, Seq};
+use native_effects::{
+    Effect, Printable, argument_shown, char_in, gives_int, int_in, is_null_array, number_as_int,
+    place_in, reference_in, size_at, small_place_in, text_at, throws, units_joined,
+};
 use std::alloc::Global;
 
 /// <init>(I)V.

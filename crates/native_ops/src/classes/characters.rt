@@ -2,25 +2,22 @@
 
 ghost use Rattle.std.specs.Prelude.{◌≡◌, ◌∷◌, [], IfOk, pos};
 ghost use Rattle.heap_objects.specs.declared.datum.Datum.TheVariants.{Int};
-ghost use Rattle.native_ops.specs.declared.effects.effect.Effect.TheVariants.{GivesBox};
-ghost use Rattle.native_ops.specs.Inputs.Numbers.{boolean_kind};
+ghost use Rattle.native_effects.specs.declared.effects.effect.Effect.TheVariants.{GivesBox};
+ghost use Rattle.native_effects.specs.Inputs.Numbers.{boolean_kind};
 ghost use Rattle.native_ops.specs.Classes.Characters.{is_letter, is_whitespace, char_value, same_boxes, character_effect};
 ghost use Rattle.native_ops.specs.Classes.Characters.{bit_of, hash_of_boolean, boolean_value, parse_boolean, boolean_effect};
 ghost use Rattle.native_ops.specs.Classes.Characters.{absolute_int, absolute_long, math_effect};
 
 use crate::classes::boxes::{box_of, char_place};
-use crate::effects::effect::{Effect, gives_boolean, gives_int, gives_long};
-use crate::inputs::arguments::{boolean_in, char_in, char_of, int_in, long_in, reference_in};
-use crate::inputs::kinds::{Kinds, is_instance};
-use crate::inputs::numbers::{BOOLEAN_KIND, CHARACTER_KIND};
-use crate::inputs::parsing::{is_digit, is_true};
-use crate::inputs::reading::{int_field, text_at};
-use crate::inputs::shown::unit_alone;
-use crate::inputs::texts::text_of_boolean;
 use crate::methods::method::{BooleanMethod, CharacterMethod, MathMethod};
 use heap_objects::{Datum, Heap};
 use int_ops::{neg_i32, neg_i64};
 use jf_bytes::NoMemory;
+use native_effects::{
+    BOOLEAN_KIND, CHARACTER_KIND, Effect, Kinds, boolean_in, char_in, char_of, gives_boolean,
+    gives_int, gives_long, int_field, int_in, is_digit, is_instance, is_true, long_in,
+    reference_in, text_at, text_of_boolean, unit_alone,
+};
 use std::alloc::Global;
 
 fn is_letter(unit: u16) -> bool

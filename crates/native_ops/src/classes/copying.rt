@@ -1,24 +1,21 @@
 //! java/lang/System.
 
 ghost use Rattle.std.specs.Prelude.{◌≡◌, ◌≤◌, ◌-◌, ◌==◌, ◌||◌, IfOk, IfSome};
-ghost use Rattle.native_ops.specs.Inputs.Numbers.{first_array_kind, first_reference_array_kind};
-ghost use Rattle.native_ops.specs.Inputs.Objects.{kind_or_none, size_at};
+ghost use Rattle.native_effects.specs.Inputs.Numbers.{first_array_kind, first_reference_array_kind};
+ghost use Rattle.native_effects.specs.Inputs.Objects.{kind_or_none, size_at};
 ghost use Rattle.native_ops.specs.declared.methods.method.SystemMethod.TheVariants.{Arraycopy};
 ghost use Rattle.native_ops.specs.Classes.Copying.{sort_of_array, can_copy, may_store, storable, store, copy_ranges, arraycopy, system_effect};
 
-use crate::effects::answer::Answer;
-use crate::effects::effect::{Effect, gives_int, throws};
-use crate::inputs::arguments::{int_in, reference_in};
-use crate::inputs::kinds::Kinds;
-use crate::inputs::numbers::{
-    ARRAY_INDEX_OUT_OF_BOUNDS_EXCEPTION, ARRAY_STORE_EXCEPTION, FIRST_ARRAY_KIND,
-    FIRST_REFERENCE_ARRAY_KIND, NULL_POINTER_EXCEPTION,
-};
-use crate::inputs::places::counted_range;
-use crate::inputs::reading::{kind_or_none, number_as_int, size_at, values_between};
 use crate::methods::method::SystemMethod;
+use base_classes::{
+    ARRAY_INDEX_OUT_OF_BOUNDS_EXCEPTION, ARRAY_STORE_EXCEPTION, NULL_POINTER_EXCEPTION,
+};
 use heap_objects::{Datum, Heap};
 use jf_bytes::{NoMemory, Seq};
+use native_effects::{
+    Answer, Effect, FIRST_ARRAY_KIND, FIRST_REFERENCE_ARRAY_KIND, Kinds, counted_range, gives_int,
+    int_in, kind_or_none, number_as_int, reference_in, size_at, throws, values_between,
+};
 use std::alloc::Global;
 
 /// What arrays of a kind hold: one primitive type, told by the kind, or references.

@@ -3,14 +3,14 @@
 ghost use Rattle.std.specs.Prelude.{◌≡◌};
 ghost use Rattle.native_ops.specs.Classes.Enums.{declaring_class, compare_constants, compare_to_constant, compare_to_any, enum_effect};
 
-use crate::effects::effect::{Effect, gives_boolean, gives_int, gives_reference, throws};
-use crate::inputs::arguments::{int_in, reference_in};
-use crate::inputs::kinds::{Kinds, is_instance};
-use crate::inputs::numbers::{CLASS_CAST_EXCEPTION, ENUM_KIND, NULL_POINTER_EXCEPTION};
-use crate::inputs::reading::{int_field, kind_or_none, number_as_int, reference_field};
 use crate::methods::method::EnumMethod;
+use base_classes::{CLASS_CAST_EXCEPTION, NULL_POINTER_EXCEPTION};
 use heap_objects::{Datum, Heap};
 use int_ops::sub_i32;
+use native_effects::{
+    ENUM_KIND, Effect, Kinds, gives_boolean, gives_int, gives_reference, int_field, int_in,
+    is_instance, kind_or_none, number_as_int, reference_field, reference_in, throws,
+};
 
 /// The class that declares a constant, by the kind of its class.
 fn declaring_class<K: Kinds>(kinds: &K, kind: u32) -> u32

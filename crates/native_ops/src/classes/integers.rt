@@ -5,17 +5,14 @@ ghost use Rattle.native_ops.specs.Classes.Integers.{parse_int, same_integers, co
 
 use crate::classes::boxes::{box_of, compared_if, gives_parsed_int, small_place};
 use crate::classes::roots::hex_of;
-use crate::effects::effect::{Effect, gives_boolean, gives_int, gives_long};
-use crate::inputs::arguments::{int_in, reference_in};
-use crate::inputs::kinds::{Kinds, is_instance};
-use crate::inputs::numbers::INTEGER_KIND;
-use crate::inputs::parsing::parsed_int;
-use crate::inputs::reading::{int_field, text_at};
-use crate::inputs::texts::text_of_int;
 use crate::methods::method::IntegerMethod;
 use heap_objects::{Datum, Heap};
 use int_ops::cmp_i64;
 use jf_bytes::NoMemory;
+use native_effects::{
+    Effect, INTEGER_KIND, Kinds, gives_boolean, gives_int, gives_long, int_field, int_in,
+    is_instance, parsed_int, reference_in, text_at, text_of_int,
+};
 use std::alloc::Global;
 
 /// parseInt(S)I.

@@ -4,17 +4,14 @@ ghost use Rattle.std.specs.Prelude.{◌≡◌, IfOk};
 ghost use Rattle.native_ops.specs.Classes.Longs.{parse_long, hash_of_long, same_longs, compare_longs, long_effect};
 
 use crate::classes::boxes::{box_of, compared_if, gives_parsed_long, small_place};
-use crate::effects::effect::{Effect, gives_boolean, gives_int, gives_long};
-use crate::inputs::arguments::{long_in, reference_in};
-use crate::inputs::kinds::{Kinds, is_instance};
-use crate::inputs::numbers::LONG_KIND;
-use crate::inputs::parsing::parsed_long;
-use crate::inputs::reading::{long_field, text_at};
-use crate::inputs::texts::text_of_long;
 use crate::methods::method::LongMethod;
 use heap_objects::{Datum, Heap};
 use int_ops::{cmp_i64, l2i};
 use jf_bytes::NoMemory;
+use native_effects::{
+    Effect, Kinds, LONG_KIND, gives_boolean, gives_int, gives_long, is_instance, long_field,
+    long_in, parsed_long, reference_in, text_at, text_of_long,
+};
 use std::alloc::Global;
 
 /// parseLong(S)J.

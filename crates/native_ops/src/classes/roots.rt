@@ -1,21 +1,19 @@
 //! java/lang/Object and java/lang/Class, and the names of classes and arrays.
 
 ghost use Rattle.std.specs.Prelude.{◌≡◌, ◌<◌, ◌++◌, IfOk, OnOk, map, replicate, codes, false, unwrap_or};
-ghost use Rattle.native_ops.specs.Inputs.MadeViews.{class_of_object};
+ghost use Rattle.native_effects.specs.Inputs.MadeViews.{class_of_object};
 ghost use Rattle.std.specs.Fmt.{digits};
 ghost use Rattle.native_ops.specs.Classes.Roots.{with_dot, class_name, letter_of, element_name, array_name, name_of_kind};
 ghost use Rattle.native_ops.specs.Classes.Roots.{object_text, clone, object_effect, class_effect};
 
-use crate::effects::effect::{Effect, gives_boolean, gives_int, gives_nothing, throws};
-use crate::effects::made::Made;
-use crate::inputs::arguments::reference_in;
-use crate::inputs::kinds::Kinds;
-use crate::inputs::numbers::{CLONE_NOT_SUPPORTED_EXCEPTION, CLONEABLE_KIND, FIRST_ARRAY_KIND};
-use crate::inputs::reading::{kind_or_none, number_as_int, values_at};
-use crate::inputs::texts::units_of;
 use crate::methods::method::{ClassMethod, ObjectMethod};
+use base_classes::CLONE_NOT_SUPPORTED_EXCEPTION;
 use heap_objects::{Datum, Heap};
 use jf_bytes::{NoMemory, Seq};
+use native_effects::{
+    CLONEABLE_KIND, Effect, FIRST_ARRAY_KIND, Kinds, Made, gives_boolean, gives_int, gives_nothing,
+    kind_or_none, number_as_int, reference_in, throws, units_of, values_at,
+};
 use std::alloc::Global;
 
 fn with_dot(unit: u16) -> u16

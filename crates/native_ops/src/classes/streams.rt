@@ -3,12 +3,13 @@
 ghost use Rattle.std.specs.Prelude.{◌≡◌, IfOk};
 ghost use Rattle.native_ops.specs.Classes.Streams.{input_effect, prints, print_effect};
 
-use crate::effects::effect::{Effect, gives_nothing, throws};
-use crate::inputs::numbers::NULL_POINTER_EXCEPTION;
-use crate::inputs::shown::{argument_shown, is_null_array, unit_alone};
-use crate::methods::method::{InputMethod, PrintMethod, Printable};
+use crate::methods::method::{InputMethod, PrintMethod};
+use base_classes::NULL_POINTER_EXCEPTION;
 use heap_objects::{Datum, Heap};
 use jf_bytes::NoMemory;
+use native_effects::{
+    Effect, Printable, argument_shown, gives_nothing, is_null_array, throws, unit_alone,
+};
 use std::alloc::Global;
 
 const LINE_FEED: u16 = 10;

@@ -1,25 +1,24 @@
 //! java/lang/String.
 
 ghost use Rattle.std.specs.Prelude.{◌≡◌, ◌≤◌, IfOk, IfSome, length, map, option_and_then, slice_get};
-ghost use Rattle.native_ops.specs.Inputs.Objects.{text_at, size_at, chars_at};
-ghost use Rattle.native_ops.specs.Inputs.Places.{place_in, range_in, range_from};
+ghost use Rattle.native_effects.specs.Inputs.Objects.{text_at, size_at, chars_at};
+ghost use Rattle.native_effects.specs.Inputs.Places.{place_in, range_in, range_from};
 ghost use Rattle.heap_objects.specs.Cells.{char_datum};
 ghost use Rattle.native_ops.specs.Classes.Strings.{init_text, init_chars, init_range, init_part, char_at, equals, compare_to, compare_to_object};
 ghost use Rattle.native_ops.specs.Classes.Strings.{index_of, starts_with, concat, part_of, substring, substring_from, substring_to, to_char_array, value_of, string_effect};
 
-use crate::effects::effect::{Effect, gives_boolean, gives_int, gives_reference, throws};
-use crate::inputs::arguments::{int_in, reference_in};
-use crate::inputs::numbers::{
-    CHARS_KIND, CLASS_CAST_EXCEPTION, NULL_POINTER_EXCEPTION, STRING_INDEX_OUT_OF_BOUNDS_EXCEPTION,
-    STRING_KIND,
+use crate::methods::method::StringMethod;
+use base_classes::{
+    CLASS_CAST_EXCEPTION, NULL_POINTER_EXCEPTION, STRING_INDEX_OUT_OF_BOUNDS_EXCEPTION,
 };
-use crate::inputs::places::{counted_range, place_in, place_of_character, range_from, range_in};
-use crate::inputs::reading::{chars_at, chars_between, has_kind, number_as_int, size_at, text_at};
-use crate::inputs::shown::{argument_shown, is_null_array};
-use crate::inputs::texts::{begins_with, compared_texts, hash_of_text, same_units, units_joined};
-use crate::methods::method::{Printable, StringMethod};
 use heap_objects::{Datum, Heap};
 use jf_bytes::{NoMemory, Seq};
+use native_effects::{
+    CHARS_KIND, Effect, Printable, STRING_KIND, argument_shown, begins_with, chars_at,
+    chars_between, compared_texts, counted_range, gives_boolean, gives_int, gives_reference,
+    has_kind, hash_of_text, int_in, is_null_array, number_as_int, place_in, place_of_character,
+    range_from, range_in, reference_in, same_units, size_at, text_at, throws, units_joined,
+};
 use std::alloc::Global;
 
 /// <init>(S)V.

@@ -3,12 +3,11 @@
 ghost use Rattle.std.specs.Prelude.{◌≡◌};
 ghost use Rattle.native_ops.specs.Classes.Throwables.{sets_both, message_of_detail, throwable_effect};
 
-use crate::effects::effect::{Effect, gives_reference};
-use crate::inputs::arguments::reference_in;
-use crate::inputs::numbers::STRING_KIND;
-use crate::inputs::reading::{has_kind, reference_field};
 use crate::methods::method::ThrowableMethod;
 use heap_objects::{Datum, Heap};
+use native_effects::{
+    Effect, STRING_KIND, gives_reference, has_kind, reference_field, reference_in,
+};
 
 fn sets_both(object: u32, message: u32, cause: u32) -> Effect
     ensures { result ≡ sets_both object message cause }

@@ -5,7 +5,7 @@ ghost use Rattle.std.specs.Option.{option_map};
 ghost use Rattle.base_classes.specs.Natives.{native_methods};
 ghost use Rattle.native_ops.specs.Methods.Named.{reference_of};
 ghost use Rattle.native_ops.specs.Methods.Rows.{rows};
-ghost use Rattle.native_ops.specs.Effects.Worlds.{world};
+ghost use Rattle.native_effects.specs.Effects.Worlds.{world};
 ghost use Rattle.native_ops.specs.Methods.Calls.{method_effect, row_effect, effect_of, native_of_answer, is_done};
 ghost use Rattle.native_ops.specs.Methods.Calls.{answer_by, left_by, IsAnswer};
 
@@ -19,16 +19,12 @@ use crate::classes::roots::{class_effect, object_effect};
 use crate::classes::streams::{input_effect, print_effect};
 use crate::classes::strings::string_effect;
 use crate::classes::throwables::throwable_effect;
-use crate::effects::answer::{Answer, Native};
-use crate::effects::carrying::carry_out;
-use crate::effects::effect::Effect;
-use crate::effects::made::Made;
-use crate::inputs::kinds::Kinds;
 use crate::methods::fitting::fit;
 use crate::methods::method::Method;
 use crate::methods::rows::{Row, row_of};
 use heap_objects::{Datum, Heap};
 use jf_bytes::{NoMemory, Seq};
+use native_effects::{Answer, Effect, Kinds, Made, Native, carry_out};
 use std::alloc::Global;
 
 /// What a method does by arguments that fit.

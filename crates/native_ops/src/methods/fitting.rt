@@ -4,11 +4,11 @@ ghost use Rattle.std.specs.Prelude.{◌≡◌};
 ghost use Rattle.native_ops.specs.Methods.Signatures.{parameters_of, is_below, fits_reference, is_int, is_long, fits, fit_all};
 ghost use Rattle.native_ops.specs.Methods.Signatures.{receives, fits_receiver, fit_behind, fit};
 
-use crate::inputs::kinds::{Kinds, is_instance};
-use crate::inputs::numbers::{CHARS_KIND, ENUM_KIND, STRING_KIND, THROWABLE_KIND};
-use crate::inputs::reading::has_kind;
 use crate::methods::signature::{Parameter, Parameters, Receiver};
 use heap_objects::{Datum, Heap};
+use native_effects::{
+    CHARS_KIND, ENUM_KIND, Kinds, STRING_KIND, THROWABLE_KIND, has_kind, is_instance,
+};
 
 /// The types of the parameters, one by one.
 fn parameters_of(parameters: Parameters) -> &'static [Parameter]

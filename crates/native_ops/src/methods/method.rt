@@ -1,15 +1,6 @@
 //! The native methods, as the table of them names them.
 
-/// What is made a text of: an argument of this type.
-#[derive(Clone, Copy)]
-pub enum Printable {
-    Boolean,
-    Char,
-    Int,
-    Long,
-    Text,
-    Chars,
-}
+use native_effects::Printable;
 
 /// Those of java/lang/String.
 #[derive(Clone, Copy)]

@@ -5,10 +5,11 @@ ghost use Rattle.native_ops.specs.Methods.Rows.{rows};
 
 use crate::methods::method::{
     BooleanMethod, BuilderMethod, CharacterMethod, ClassMethod, EnumMethod, InputMethod,
-    IntegerMethod, LongMethod, MathMethod, Method, ObjectMethod, PrintMethod, Printable,
-    StringMethod, SystemMethod, ThrowableMethod,
+    IntegerMethod, LongMethod, MathMethod, Method, ObjectMethod, PrintMethod, StringMethod,
+    SystemMethod, ThrowableMethod,
 };
 use crate::methods::signature::{Parameters, Receiver};
+use native_effects::Printable;
 
 /// What a native method does, and what it takes.
 #[derive(Clone, Copy)]

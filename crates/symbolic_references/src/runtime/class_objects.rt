@@ -2,7 +2,7 @@
 
 ghost use Rattle.std.specs.Prelude.{◌≡◌, IfOk, OnErr, OnOk};
 ghost use Rattle.jvm_model.specs.Instructions.ConstantRules.{pushes_object_of};
-ghost use Rattle.native_ops.specs.Effects.Making.{answer_of_class, heap_after_class, made_after_class};
+ghost use Rattle.native_effects.specs.Effects.Making.{answer_of_class, heap_after_class, made_after_class};
 ghost use Rattle.symbolic_references.specs.Objects.{AreLoaded};
 ghost use Rattle.symbolic_references.specs.Answers.{asked_on, done_on, shared_by, wrote_by};
 ghost use Rattle.symbolic_references.specs.Outcomes.{Asks, HasOperands, HaveOperands, Leaves, Sets, asked, ruled};
@@ -17,7 +17,7 @@ use frame_stack::Frames;
 use heap_objects::{Heap, HeapError, Value};
 use jf_bytes::NoMemory;
 use jvm_model::Shared;
-use native_ops::Made;
+use native_effects::Made;
 
 /// The Class object of a kind; none where there is no room for it.
 fn class_object(heap: &mut Heap, made: &mut Made, kind: u32) -> Result<Option<u32>, NoMemory>

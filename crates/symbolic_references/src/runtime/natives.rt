@@ -41,7 +41,8 @@ use jf_bytes::{NoMemory, Seq};
 use jvm_basic::{recall, value_of};
 use jvm_model::{Exception, Program, Shared};
 use jvm_natives::LinkedKinds;
-use native_ops::{Invocation, Native, call};
+use native_effects::Native;
+use native_ops::{Invocation, call};
 use std::alloc::Global;
 
 // ---- its arguments

@@ -1,6 +1,6 @@
 use Rattle.std.proofs.Common.{is_ok}
-use Rattle.native_ops.specs.Effects.Worlds.{world, after}
-use Rattle.native_ops.proofs.LimitLemmas.{kept-limit, after-limit}
+use Rattle.native_effects.specs.Effects.Worlds.{world, after}
+use Rattle.native_effects.proofs.LimitLemmas.{kept-limit, after-limit}
 use Rattle.native_ops.proofs.methods.calls.call.Goals as goal
 
 pub returns-in-Ok-carry_out-clause-limit : goal.returns-in-Ok-carry_out-clause-limit

@@ -1,0 +1,80 @@
+//! What a native method does, as its rule tells it by what is there.
+
+ghost use Rattle.std.specs.Prelude.{◌≡◌};
+ghost use Rattle.native_effects.specs.Effects.Answers.{gives_nothing, gives_int, gives_long, gives_boolean, gives_reference, throws};
+
+use crate::effects::answer::Answer;
+use heap_objects::Datum;
+use jf_bytes::Seq;
+
+/// What is to be done, and answered.
+#[derive(Drop)]
+pub enum Effect {
+    /// Nothing but an answer.
+    Answers(Answer),
+    /// A new String of these units is made, and is the answer.
+    MakesText(Seq<u16>),
+    /// A new array of this kind with these values is made, and is the answer.
+    MakesArray(u32, Seq<Datum>),
+    /// A new instance of this kind with these fields is made, and is the answer.
+    MakesInstance(u32, Seq<Datum>),
+    /// Units are added to a text, which is the answer.
+    Appends(u32, Seq<u16>),
+    /// A text gets units in place of its own.
+    Replaces(u32, Seq<u16>, Option<Datum>),
+    /// A unit is put at a place of a text.
+    PutsUnit(u32, u32, u16),
+    /// A text is cut, or gets units of 0 at its end, until it has so many.
+    Resizes(u32, u32),
+    /// The text that units are interned as is the answer.
+    Interns(Seq<u16>),
+    /// A text is printed.
+    Prints(Seq<u16>),
+    /// The next byte of the input is the answer, and -1 at its end.
+    Reads,
+    /// Values are put into an array from a place on, and then this is the answer.
+    Stores(u32, usize, Seq<Datum>, Answer),
+    /// The first two fields of an object are set.
+    SetsFields(u32, Datum, Datum),
+    /// The Class object of a kind is the answer.
+    GivesClass(u32),
+    /// The object that is made once of this kind for this value, which has this place, is the answer.
+    GivesBox(u32, u32, Datum),
+}
+
+pub fn gives_nothing() -> Effect
+    ensures { result ≡ gives_nothing }
+{
+    Effect::Answers(Answer::Value(None))
+}
+
+pub fn gives_int(n: i32) -> Effect
+    ensures { result ≡ gives_int n }
+{
+    Effect::Answers(Answer::Value(Some(Datum::Int(n))))
+}
+
+pub fn gives_long(n: i64) -> Effect
+    ensures { result ≡ gives_long n }
+{
+    Effect::Answers(Answer::Value(Some(Datum::Long(n))))
+}
+
+pub fn gives_boolean(b: bool) -> Effect
+    ensures { result ≡ gives_boolean b }
+{
+    gives_int(if b { 1 } else { 0 })
+}
+
+pub fn gives_reference(r: u32) -> Effect
+    ensures { result ≡ gives_reference r }
+{
+    Effect::Answers(Answer::Value(Some(Datum::Ref(r))))
+}
+
+/// An exception of the built-in class at this place.
+pub fn throws(class: u16) -> Effect
+    ensures { result ≡ throws class }
+{
+    Effect::Answers(Answer::Throws(class))
+}

@@ -1,7 +1,0 @@
-use Rattle.std.proofs.Common.{◌≡◌, ◌-◌, drop}
-use Rattle.std.specs.Prelude.{take}
-use Rattle.native_ops.specs.Inputs.Objects.{chars_at}
-use Rattle.native_ops.proofs.inputs.reading.chars_between.Given as goal
-
-abbrev pub invariant-loop-slot : goal.invariant-loop-slot
-invariant-loop-slot l = l.units ≡ take (l.slot - l.fn.from) (drop l.fn.from (chars_at l.fn.object l.fn.heap))
