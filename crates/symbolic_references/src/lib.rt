@@ -35,7 +35,7 @@ pub use members::is_static_field;
 pub use numbers::MethodNumbers;
 pub use outcome::{AbruptCompletion, Outcome};
 pub use program_tables::{Exceptions, Method, ProgramTables};
-pub use runtime::{Beginning, Runtime, resolved_name, units_of};
+pub use runtime::{Beginning, Runtime, resolved_name};
 pub use selections::{Selection, Selections};
 pub use targets::is_static;
 pub use values::datum_of;

@@ -38,7 +38,6 @@ use heap_objects::{Datum, Heap};
 use jf_bytes::Seq;
 use jvm_model::{Phase, SymbolicReference};
 use native_effects::Made;
-pub use program::units_of;
 use std::alloc::Global;
 use std::marker::Model;
 

@@ -26,9 +26,10 @@ use heap_objects::{Datum, Element, Heap, Value, element_of};
 use jf_bytes::{NoMemory, Text16};
 use jvm_basic::{Effect, drop_narrow, drop_three, exchange_two, recall, replace_two, value_of};
 use jvm_model::Exception;
+use native_effects::units_of;
 use prepared_code::{Line, Parts, fits_array};
 use std::alloc::Global;
-use symbolic_references::{AbruptCompletion, Outcome, Runtime, datum_of, units_of};
+use symbolic_references::{AbruptCompletion, Outcome, Runtime, datum_of};
 
 /// Where an array and an index lead: the array is null, or the object none that the instruction
 /// serves, or the index is outside, or it is that of an element.

@@ -16,18 +16,8 @@ use class_index::{Index, base_of_class};
 use const_pool::Kind;
 use jf_bytes::{NoMemory, Seq};
 use jvm_model::{Exception, Program};
+use native_effects::units_of;
 use std::alloc::Global;
-
-/// The units of a text in ASCII.
-pub fn units_of(alloc: Global, bytes: &[u8]) -> Result<Seq<u16>, NoMemory>
-    ensures { IfOk result (λ units. units ≡ bytes.now) }
-{
-    let mut units = Seq::with_capacity(alloc, bytes.len())?;
-    for byte in bytes {
-        units.push(u16::from(*byte))?;
-    }
-    Ok(units)
-}
 
 /// The name of the built-in class at this place of their order, and Throwable's past the last one.
 fn built_in_named(place: u16) -> &'static str
