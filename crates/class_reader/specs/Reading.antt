@@ -14,7 +14,8 @@ use Rattle.const_pool.specs.declared.class.Attribute.TheVariants.{ConstantValue,
 use Rattle.const_pool.specs.Pool.{is_utf8, is_class, is_constant, is_wide}
 use Rattle.const_pool.specs.ClassFile.{code_name, constant_value_name}
 use Rattle.byte_formats.specs.Reading as reading
-pub use Rattle.byte_formats.specs.Reading.{◌>>=◌, with_rest, many_at, with_front}
+pub use Rattle.byte_formats.specs.Reading.{◌>>=◌, with_rest, with_front}
+unfoldable pub use Rattle.byte_formats.specs.Reading.{many_at}
 use Rattle.class_reader.specs.declared.tags.Tag.{Tag}
 use Rattle.class_reader.specs.declared.tags.Tag.TheVariants as tag
 use Rattle.class_reader.specs.declared.error.ReadError.{ReadError}
