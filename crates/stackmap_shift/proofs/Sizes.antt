@@ -23,7 +23,7 @@ use Rattle.stackmap_shift.specs.DebugTables.{line_at, variable_at, lines_of, var
 use Rattle.stackmap_shift.specs.Frames.{plain_type, known_type, object_at, uninit_at, behind_tag, type_at, form_of, short_delta, delta_by, delta_at, offset_at, known_form, one_item_at, append_at, full_at, kind_at, frame_at, frames_at, table_at, frames_of}
 use Rattle.stackmap_shift.specs.Moves.{moved_kind, moved_frames, moved_type}
 use Rattle.stackmap_shift.specs.Spelling.{u1, u2, type_bytes, types_bytes, counted_bytes, short_or_long, kind_bytes, frame_bytes, delta_of, frames_bytes, table_bytes}
-use Rattle.stackmap_shift.specs.Tables.{◌>>=◌, Read, place, number_at, many_at, counted_at, nothing_left, whole_of}
+use Rattle.stackmap_shift.specs.Tables.{Read, place, number_at, many_at, counted_at, nothing_left, whole_of}
 
 -- ---- what was read in turn
 
