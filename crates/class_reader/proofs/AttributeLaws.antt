@@ -11,9 +11,10 @@ use Rattle.class_reader.specs.ClassFormat.{names, names_text}
 use Rattle.class_reader.specs.ClassFormat as format
 use Rattle.class_reader.specs.Reading.{Read, counted_at, ref_at, optional_ref_at, raw_contents_at, raw_at, other_at, handler_at, code_bytes_at, code_at, constant_value_at, code_attribute_at, field_attribute_at, method_attribute_at, class_attribute_at}
 use Rattle.class_reader.proofs.Items.{IsRead}
-use Rattle.class_reader.proofs.Turns.{made_is_read, in_turn_is_read, many_is_read}
+use Rattle.byte_formats.proofs.Turns.{made_is_read, in_turn_is_read, many_is_read}
 use Rattle.class_reader.proofs.Widths.{u2_is_read, u4_is_read, run_is_read}
-use Rattle.class_reader.proofs.Conditions.{tested_is_read, either_is_read}
+use Rattle.byte_formats.proofs.Conditions.{either_is_read}
+use Rattle.class_reader.proofs.Conditions.{tested_is_read}
 use Rattle.class_reader.proofs.Enclosed.{sized_is_read, enclosed_is_read}
 
 pub counted_is_read : {A : Type 0} {item : ℕ → List ℕ → Read A} {P : Format A} → IsRead item P

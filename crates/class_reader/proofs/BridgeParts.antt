@@ -1,13 +1,14 @@
 -- What a format spells, said by a function: its texts are the bytes of the values that fit. Single items, items one after the
 -- other, and contents with their length.
-use Rattle.std.proofs.Common.{◌≡◌, ℕ, zero, suc, ◌*◌, ◌^◌, ◌<◌, Bool, true, false, cond, List, [], ◌∷◌, ◌++◌, length, Some, None, flat_map, refl, sym, ap, subst, ◌∙◌, ◌⊎◌, inl, inr, append-nil, arith}
+use Rattle.std.proofs.Common.{◌≡◌, ℕ, zero, suc, ◌*◌, ◌^◌, ◌<◌, Bool, true, false, List, [], ◌∷◌, ◌++◌, length, flat_map, refl, sym, ap, subst, ◌∙◌, ◌⊎◌, inl, inr, append-nil, arith}
 use Rattle.std.specs.List.{AllByRecursion}
 use Rattle.std.specs.Int.{Width, w16, w32, byte_len, to_be_bytes}
 use Rattle.const_pool.specs.Pool.{u2, u4}
 use Rattle.const_pool.specs.ClassFile.{IsByte, IsU2, FitsCount}
 use Rattle.const_pool.specs.ClassFile as file
+use Rattle.byte_formats.proofs.Conditions.{tested_to, tested_from}
 use Rattle.class_reader.specs.declared.error.ReadError.{ReadError}
-use Rattle.class_reader.specs.Formats.{Format, number, run, value_made, in_turn, AreInTurn, many, IsConverted, kept_where, value_tested, either, bytes_sized, contents_enclosed}
+use Rattle.class_reader.specs.Formats.{Format, number, run, value_made, in_turn, AreInTurn, many, value_tested, either, bytes_sized, contents_enclosed}
 use Rattle.class_reader.specs.ClassFormat.{items_counted}
 
 -- The texts of the format are the bytes of the values that fit.
@@ -125,23 +126,6 @@ module _ {A : Type 0} {P : Format A} {bytes : A → List ℕ} {Fits : A → Type
   counted_law = record { «to» = counted_to; «from» = λ xs h. turn u2_law (many P) (length xs) h.0 (many_from (length xs) xs refl h.1) }
 
 -- ---- values with a condition
-
-kept_is : {A : Type 0} (test : A → Bool) (b : Bool) (x y : A) → test x ≡ b → cond b (Some x) None ≡ Some y → (x ≡ y) × (test x ≡ true)
-kept_is test true x y e h = (cc, e)
-kept_is test false x y e h = absurd cc
-
-kept_from : {A : Type 0} (b : Bool) (x : A) → b ≡ true → cond b (Some x) None ≡ Some x
-kept_from true x e = refl
-kept_from false x e = absurd cc
-
--- what is tested is spelled as before, and passes
-pub tested_to : {A : Type 0} (P : Format A) (test : A → Bool) (text : List ℕ) (y : A) → IsConverted P (kept_where test) text y → P.Spells text y × (test y ≡ true)
-tested_to P test text y s =
-    let h = kept_is test (test s.x) s.x y refl s.made in
-    subst (λ (z : _). P.Spells text z × (test z ≡ true)) h.0 (s.spelled, h.1)
-
-pub tested_from : {A : Type 0} (P : Format A) (test : A → Bool) (text : List ℕ) (y : A) → P.Spells text y → test y ≡ true → IsConverted P (kept_where test) text y
-tested_from P test text y s e = record { x = y; spelled = s; made = kept_from (test y) y e }
 
 pub tested_law : {A : Type 0} {P : Format A} {bytes : A → List ℕ} {Fits : A → Type 0} → IsSpelledBy P bytes Fits → (test : A → Bool) (why : ℕ → A → ReadError)
     → IsSpelledBy (value_tested P test why) bytes (λ x. Fits x × (test x ≡ true))

@@ -8,7 +8,8 @@ use Rattle.const_pool.specs.ClassFile.{IsU2}
 use Rattle.class_reader.specs.declared.error.ReadError.TheVariants.{BadIndex}
 use Rattle.class_reader.specs.Formats.{Format, value_made, in_turn, either}
 use Rattle.class_reader.specs.ClassFormat.{entries, fits_in, lowest_bad_from, lowest_bad, pool_count, all_entries, constant_pool}
-use Rattle.class_reader.proofs.BridgeParts.{IsSpelledBy, u2_law, opened, closed, ended, ends, behind, turn, tested_to, tested_from, tested_law, either_cases, either_true, either_false}
+use Rattle.byte_formats.proofs.Conditions.{tested_to, tested_from}
+use Rattle.class_reader.proofs.BridgeParts.{IsSpelledBy, u2_law, opened, closed, ended, ends, behind, turn, tested_law, either_cases, either_true, either_false}
 use Rattle.class_reader.proofs.BridgeEntries.{FitsEntry, entry_law, is_entry, entry_parts}
 
 -- ---- no entry is bad

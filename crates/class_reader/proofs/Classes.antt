@@ -10,7 +10,7 @@ use Rattle.class_reader.specs.ClassFormat.{class_with}
 use Rattle.class_reader.specs.ClassFormat as format
 use Rattle.class_reader.specs.Reading.{Read, member_at, magic_at, major_at, body_at, class_at}
 use Rattle.class_reader.proofs.Items.{IsRead}
-use Rattle.class_reader.proofs.Turns.{made_is_read, in_turn_is_read}
+use Rattle.byte_formats.proofs.Turns.{made_is_read, in_turn_is_read}
 use Rattle.class_reader.proofs.Widths.{u2_is_read, u4_is_read}
 use Rattle.class_reader.proofs.Conditions.{tested_is_read}
 use Rattle.class_reader.proofs.Entries.{pool_is_read}

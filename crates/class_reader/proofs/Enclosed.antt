@@ -7,7 +7,7 @@ use Rattle.class_reader.specs.declared.error.ReadError.TheVariants.{Truncated, B
 use Rattle.class_reader.specs.Formats.{Format, place, bytes_sized, HasMore, IsTruncated, FaultsWithin, IsEnclosed, FaultsInside, contents_enclosed}
 use Rattle.class_reader.specs.Reading.{◌>>=◌, Read, sized_at, whole_of, enclosed_at}
 use Rattle.class_reader.proofs.Items.{IsBytes, each-IsBytes, Takes, IsRead, one_read, read_parts, no_fault, ok_parts, err_parts}
-use Rattle.class_reader.proofs.Turns.{in_turn_is_read}
+use Rattle.byte_formats.proofs.Turns.{in_turn_is_read}
 use Rattle.class_reader.proofs.Widths.{u4_is_read, run_is_read}
 
 pub sized_is_read : IsRead sized_at bytes_sized

@@ -13,10 +13,11 @@ use Rattle.class_reader.specs.ClassFormat.{tag_of, lowest_bad}
 use Rattle.class_reader.specs.ClassFormat as format
 use Rattle.class_reader.specs.Reading.{◌>>=◌, Read, number_at, known_tag, tag_at, pair_at, single_at, utf8_at, contents_at, entry_at, entries_at, all_entries_at, sound_pool, pool_at}
 use Rattle.class_reader.proofs.Items.{IsRead, same_read}
-use Rattle.class_reader.proofs.Turns.{made_is_read, in_turn_is_read}
+use Rattle.byte_formats.proofs.Turns.{made_is_read, in_turn_is_read}
 use Rattle.class_reader.proofs.Widths.{u1_is_read, u2_is_read, u4_is_read, u8_is_read}
 use Rattle.class_reader.proofs.Texts.{text_is_read}
-use Rattle.class_reader.proofs.Conditions.{made_or, then_made, converted_at, converted_is_read, tested_is_read, either_is_read}
+use Rattle.byte_formats.proofs.Conditions.{made_or, then_made, converted_at, converted_is_read, either_is_read}
+use Rattle.class_reader.proofs.Conditions.{tested_is_read}
 
 -- ---- tags
 

@@ -5,10 +5,10 @@ use Rattle.std.proofs.lemmas.Bool.{ltb-true, ltb-false}
 use Rattle.const_pool.specs.declared.pool.Const.{Const}
 use Rattle.const_pool.specs.declared.pool.Const.TheVariants.{Gap}
 use Rattle.const_pool.specs.Pool.{is_wide}
+use Rattle.byte_formats.proofs.Many.{with_front-cons}
 use Rattle.class_reader.specs.declared.error.ReadError.{ReadError}
 use Rattle.class_reader.specs.declared.error.ReadError.TheVariants.{NoMemory}
 use Rattle.class_reader.specs.Reading.{◌>>=◌, Read, with_front, entry_gapped, entry_at, entries_at}
-use Rattle.class_reader.proofs.Many.{with_front-cons}
 
 with_front-both : (front : List Const) (c : Const) (read : Read (List Const)) → with_front front (read >>= λ cs. Ok (c ∷ Gap ∷ cs.0, cs.1)) ≡ with_front (front ++ c ∷ Gap ∷ []) read
 with_front-both front c (Ok cs) = ap (λ (xs : List Const). Ok (xs, cs.1)) (simp append_assoc)

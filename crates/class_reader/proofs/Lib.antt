@@ -1,9 +1,7 @@
 pub mod Decoded
 pub mod Items
 pub mod TextAnswers
-pub mod Many
 pub mod EntryLists
-pub mod Turns
 pub mod Widths
 pub mod Texts
 pub mod Conditions

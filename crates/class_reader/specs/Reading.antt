@@ -1,7 +1,6 @@
 -- Reading a class file from left to right: the item at the front of the bytes and the bytes after it, or the first fault.
 -- Only functions of this crate cite it; what the readers owe their callers is in Files.
-use Rattle.std.specs.Prelude.{◌≡◌, ◌≢◌, ℕ, zero, suc, ◌+◌, ◌-◌, Bool, not, ◌&&◌, ◌||◌, List, [], ◌∷◌, ◌++◌, length, take, drop, Option, Some, None, Result, Ok, Err, nat_lt, nat_le, ◌==◌, if◌then◌else◌}
-use Rattle.std.specs.Borrow.{Bor}
+use Rattle.std.specs.Prelude.{ℕ, zero, suc, ◌+◌, ◌-◌, Bool, not, ◌&&◌, ◌||◌, List, [], ◌∷◌, ◌++◌, length, take, drop, Option, Some, None, Result, Ok, Err, nat_lt, nat_le, ◌==◌, if◌then◌else◌}
 use Rattle.std.specs.Int.{Width, w8, w16, w32, w64, byte_len, from_be_bytes, cast_signed}
 use Rattle.const_pool.specs.declared.pool.Const.{Const}
 use Rattle.const_pool.specs.declared.pool.Const.TheVariants.{Gap, Utf8, Integer, Float, Long, Double, Class, Text, Field, Method, InterfaceMethod, NameType}
@@ -14,6 +13,9 @@ use Rattle.const_pool.specs.declared.class.Attribute.{Attribute}
 use Rattle.const_pool.specs.declared.class.Attribute.TheVariants.{ConstantValue, Code, Other}
 use Rattle.const_pool.specs.Pool.{is_utf8, is_class, is_constant, is_wide}
 use Rattle.const_pool.specs.ClassFile.{code_name, constant_value_name}
+use Rattle.byte_formats.specs.Reading as reading
+pub use Rattle.byte_formats.specs.Reading.{◌>>=◌, with_rest, with_front}
+unfoldable pub use Rattle.byte_formats.specs.Reading.{many_at}
 use Rattle.class_reader.specs.declared.tags.Tag.{Tag}
 use Rattle.class_reader.specs.declared.tags.Tag.TheVariants as tag
 use Rattle.class_reader.specs.declared.error.ReadError.{ReadError}
@@ -23,23 +25,13 @@ use Rattle.class_reader.specs.Formats.{place}
 use Rattle.class_reader.specs.Files.{most_bytes}
 use Rattle.class_reader.specs.ClassFormat.{tag_of, names, names_text, lowest_bad, Body, class_with}
 
-infixl 10 ◌>>=◌
-abbrev pub ◌>>=◌ : {A B : Type 0} → Result A ReadError → (A → Result B ReadError) → Result B ReadError
-(Ok x) >>= f = f x
-(Err e) >>= f = Err e
-
 -- what was read from the front of the bytes, and the bytes after it
 abbrev pub Read : Type 0 → Type 0
-Read A = Result (A × List ℕ) ReadError
+Read = reading.Read ReadError
 
 -- What a function returned, seen by view, is what reading gives, unless memory ran out.
 abbrev pub Gives : {X Y : Type 0} → (X → Y) → Result X ReadError → Result Y ReadError → Type 0
-Gives view (Ok x) read = read ≡ Ok (view x)
-Gives view (Err e) read = e ≢ NoMemory → read ≡ Err e
-
--- an item with the bytes after it, which the code holds by a reference
-abbrev pub with_rest : {A : Type 0} → A × Bor (List ℕ) → A × List ℕ
-with_rest x = (x.0, x.1.now)
+Gives = reading.Gives NoMemory
 
 -- ---- numbers, runs of bytes, and items one after the other
 
@@ -65,17 +57,11 @@ tested_at w test why limit bytes = do
   n ← number_at w limit bytes
   if test n.0 then Ok n else Err (why (place limit bytes) n.0)
 
-unfoldable pub many_at : {A : Type 0} → (ℕ → List ℕ → Read A) → ℕ → ℕ → List ℕ → Read (List A)
-many_at item zero limit bytes = Ok ([], bytes)
-many_at item (suc n) limit bytes = do
-  first ← item limit bytes
-  others ← many_at item n limit first.1
-  Ok (first.0 ∷ others.0, others.1)
-
+-- items behind a u2 that counts them
 unfoldable pub counted_at : {A : Type 0} → (ℕ → List ℕ → Read A) → ℕ → List ℕ → Read (List A)
 counted_at item limit bytes = do
   count ← number_at w16 limit bytes
-  many_at item count.0 limit count.1
+  many_at (item limit) count.0 count.1
 
 -- a u4 length, and so many bytes
 unfoldable pub sized_at : ℕ → List ℕ → Read (List ℕ)
@@ -145,10 +131,6 @@ unfoldable pub entry_at : ℕ → List ℕ → Read Const
 entry_at limit bytes = do
   t ← tag_at limit bytes
   contents_at t.0 limit t.1
-
--- what was read before, and what is still read
-abbrev pub with_front : {A : Type 0} → List A → Read (List A) → Read (List A)
-with_front front read = read >>= λ x. Ok (front ++ x.0, x.1)
 
 -- an entry, with a gap behind it where it takes two indices and the second is there
 abbrev pub entry_gapped : Const → Bool → List Const

@@ -6,8 +6,9 @@ ghost use Rattle.class_reader.specs.Reading.{Gives, with_rest, fault_within as w
 use crate::code::code_of;
 use crate::error::ReadError;
 use crate::lists::ReadItem;
-use crate::numbers::{place_of, sized_of};
+use crate::numbers::sized_of;
 use crate::references::{constant_ref_of, names_code, names_constant_value, utf8_ref_of};
+use byte_formats::place_of;
 use const_pool::{Attribute, CodeAttribute, Const, Raw};
 use jf_bytes::Seq;
 use std::alloc::Global;

@@ -5,8 +5,9 @@ ghost use Rattle.class_reader.specs.Reading.{Gives, with_rest, handler_at, code_
 use crate::attributes::Raws;
 use crate::error::ReadError;
 use crate::lists::{ReadItem, counted_of};
-use crate::numbers::{place_of, run_of, u16_of, u32_of};
+use crate::numbers::{run_of, u16_of, u32_of};
 use crate::references::optional_class_of;
+use byte_formats::place_of;
 use const_pool::{CodeAttribute, Const, Handler};
 use jf_bytes::Seq;
 use std::alloc::Global;

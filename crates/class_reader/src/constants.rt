@@ -5,8 +5,9 @@ ghost use Rattle.class_reader.specs.Decoding.{text_decoded};
 ghost use Rattle.class_reader.specs.Reading.{Gives, with_rest, tag_at, text_at, utf8_at, contents_at, entry_at};
 
 use crate::error::ReadError;
-use crate::numbers::{place_of, run_of, u8_of, u16_of, u32_of, u64_of};
+use crate::numbers::{run_of, u8_of, u16_of, u32_of, u64_of};
 use crate::tags::{Tag, find_tag};
+use byte_formats::place_of;
 use const_pool::Const;
 use jf_bytes::{Text16, TextError, from_modified};
 use std::alloc::Global;

@@ -31,7 +31,7 @@ fn many_of<'a, T: Drop, R: ReadItem<T>>(
     limit: usize,
     bytes: &'a [u8],
 ) -> Result<(Seq<T>, &'a [u8]), ReadError>
-    ensures { Gives with_rest result (many_at (R.item reader.now) count limit bytes.now) }
+    ensures { Gives with_rest result (many_at (R.item reader.now limit) count bytes.now) }
 {
     let mut items = Seq::new(alloc);
     let mut rest = bytes;

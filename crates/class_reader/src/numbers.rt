@@ -2,20 +2,13 @@
 //! that are left and the offset at which they end, so that it can tell the place of a fault; it answers the bytes after its
 //! item.
 
-ghost use Rattle.std.specs.Prelude.{◌≡◌, ◌≤◌, length, IfOk};
+ghost use Rattle.std.specs.Prelude.{◌≤◌, length, IfOk};
 ghost use Rattle.std.specs.Int.{w8, w16, w32, w64};
-ghost use Rattle.class_reader.specs.Formats.{place};
 ghost use Rattle.class_reader.specs.Reading.{Gives, with_rest, number_at, run_at, sized_at};
 
 use crate::error::ReadError;
+use byte_formats::place_of;
 use byteorder::{BigEndian, ByteOrder};
-
-/// The offset of bytes that end at this one.
-pub(crate) fn place_of(limit: usize, bytes: &[u8]) -> usize
-    ensures { result ≡ place limit bytes.now }
-{
-    limit.saturating_sub(bytes.len())
-}
 
 /// A u1.
 #[tactic(auto, unfolding(crate::specs::Reading::number_at))]

@@ -13,8 +13,9 @@ ghost use Rattle.class_reader.specs.Reading.{Gives, with_rest, class_at, image_o
 
 use crate::error::ReadError;
 use crate::heading::{Body, body_of, magic_of, major_of};
-use crate::numbers::{place_of, u16_of};
+use crate::numbers::u16_of;
 use crate::pool::pool_of;
+use byte_formats::place_of;
 use const_pool::{ClassFile, Const, Pool};
 use std::alloc::Global;
 

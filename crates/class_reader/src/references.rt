@@ -9,7 +9,8 @@ ghost use Rattle.class_reader.specs.ClassFormat.{names, names_text};
 ghost use Rattle.class_reader.specs.Reading.{Gives, with_rest, ref_at, optional_ref_at};
 
 use crate::error::ReadError;
-use crate::numbers::{place_of, u16_of};
+use crate::numbers::u16_of;
+use byte_formats::place_of;
 use const_pool::Const;
 use jf_bytes::Text16;
 

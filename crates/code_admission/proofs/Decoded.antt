@@ -108,7 +108,7 @@ stops_from bytes (suc most) at (i ∷ is) stop fault enough reads more e =
 pub fault_is_read : (bytes : List ℕ) (fault : CodeError) → IsFirstFault bytes fault → instructions_of bytes ≡ Err fault
 unfolding instructions_of
 fault_is_read bytes fault f =
-    stops_from bytes (length bytes) 0 f.before f.at fault (omega arith) f.reads f.more ((instruction_is_read f.at).stops (drop f.at bytes) fault f.faults)
+    stops_from bytes (length bytes) 0 f.before f.at fault (omega arith) f.reads f.more ((instruction_is_read f.at).stops (length bytes) (drop f.at bytes) fault f.faults)
 
 -- ---- what a call answers
 
@@ -201,4 +201,4 @@ pub fault_found : (bytes : List ℕ) (fault : CodeError) → instructions_of byt
 unfolding instructions_of
 fault_found bytes fault e =
     let s = stops_at bytes (length bytes) 0 fault (omega arith) e in
-    record { before = s.before; at = s.stop; reads = s.reads; more = s.more; faults = (instruction_is_read s.stop).faults (drop s.stop bytes) fault s.read }
+    record { before = s.before; at = s.stop; reads = s.reads; more = s.more; faults = (instruction_is_read s.stop).faults (length bytes) (drop s.stop bytes) fault tt s.read }

@@ -19,19 +19,19 @@ use Rattle.code_admission.proofs.Decoded.{fault_found}
 -- ---- the first fault of bytes that are no code is one of the format
 
 abbrev IsTold : {A : Type 0} → Format A → Type 0
-IsTold P = (bytes : List ℕ) → P.Faults bytes NoMemory → ⊥
+IsTold P = (limit : ℕ) (bytes : List ℕ) → P.Faults limit bytes NoMemory → ⊥
 
 in_turn-told : {A B : Type 0} {P : Format A} {Q : A → Format B} → IsTold P → ((x : A) → IsTold (Q x)) → IsTold (in_turn P Q)
-in_turn-told first behind bytes (inl faults) = first bytes faults
-in_turn-told first behind bytes (inr faults) = behind faults.x faults.rest faults.second
+in_turn-told first behind limit bytes (inl faults) = first limit bytes faults
+in_turn-told first behind limit bytes (inr faults) = behind faults.x limit faults.rest faults.second
 
 many-told : {A : Type 0} (P : Format A) → IsTold P → (n : ℕ) → IsTold (many P n)
-many-told P one zero = λ bytes faults. faults
-many-told P one (suc n) = in_turn-told one (λ x. in_turn-told (many-told P one n) (λ xs bytes faults. faults))
+many-told P one zero = λ limit bytes faults. faults
+many-told P one (suc n) = in_turn-told one (λ x. in_turn-told (many-told P one n) (λ xs limit bytes faults. faults))
 
 tested-told : {A : Type 0} {P : Format A} (test : A → Bool) (at : ℕ) → IsTold P → IsTold (value_tested P test (BadSwitch at))
-tested-told test at one bytes (inl faults) = one bytes faults
-tested-told test at one bytes (inr refused) = absurd (let told : NoMemory ≡ BadSwitch at = refused.told in cc)
+tested-told test at one limit bytes (inl faults) = one limit bytes faults
+tested-told test at one limit bytes (inr refused) = absurd (let told : NoMemory ≡ BadSwitch at = refused.told in cc)
 
 either-told : {A : Type 0} (P Q : Format A) (b : Bool) → IsTold P → IsTold Q → IsTold (either b P Q)
 either-told P Q true first other = first
@@ -44,52 +44,52 @@ opcode-told : (at : ℕ) → NoMemory ≡ BadOpcode at → ⊥
 opcode-told at e = cc e
 
 operand-told : (f : Form) (wide : Bool) (at : ℕ) → IsTold (operand f wide at)
-operand-told form.Plain wide at = λ bytes faults. faults
-operand-told form.Byte wide at = in_turn-told (in_turn-told (λ bytes faults. cut-told at faults.1) (λ x bytes faults. faults)) (λ x bytes faults. faults)
-operand-told form.Short wide at = in_turn-told (in_turn-told (λ bytes faults. cut-told at faults.1) (λ x bytes faults. faults)) (λ x bytes faults. faults)
-operand-told form.PoolByte wide at = in_turn-told (λ bytes faults. cut-told at faults.1) (λ x bytes faults. faults)
-operand-told form.Pool wide at = in_turn-told (λ bytes faults. cut-told at faults.1) (λ x bytes faults. faults)
-operand-told form.Local wide at = in_turn-told (λ bytes faults. cut-told at faults.1) (λ x bytes faults. faults)
+operand-told form.Plain wide at = λ limit bytes faults. faults
+operand-told form.Byte wide at = in_turn-told (in_turn-told (λ limit bytes faults. cut-told at faults.1) (λ x limit bytes faults. faults)) (λ x limit bytes faults. faults)
+operand-told form.Short wide at = in_turn-told (in_turn-told (λ limit bytes faults. cut-told at faults.1) (λ x limit bytes faults. faults)) (λ x limit bytes faults. faults)
+operand-told form.PoolByte wide at = in_turn-told (λ limit bytes faults. cut-told at faults.1) (λ x limit bytes faults. faults)
+operand-told form.Pool wide at = in_turn-told (λ limit bytes faults. cut-told at faults.1) (λ x limit bytes faults. faults)
+operand-told form.Local wide at = in_turn-told (λ limit bytes faults. cut-told at faults.1) (λ x limit bytes faults. faults)
 operand-told form.Inc wide at =
-    in_turn-told (λ bytes faults. cut-told at faults.1)
-    (λ slot. in_turn-told (in_turn-told (λ bytes faults. cut-told at faults.1) (λ x bytes faults. faults)) (λ x bytes faults. faults))
+    in_turn-told (λ limit bytes faults. cut-told at faults.1)
+    (λ slot. in_turn-told (in_turn-told (λ limit bytes faults. cut-told at faults.1) (λ x limit bytes faults. faults)) (λ x limit bytes faults. faults))
 operand-told form.Jump wide at =
-    in_turn-told (in_turn-told (in_turn-told (λ bytes faults. cut-told at faults.1) (λ x bytes faults. faults)) (λ x bytes faults. faults)) (λ x bytes faults. faults)
+    in_turn-told (in_turn-told (in_turn-told (λ limit bytes faults. cut-told at faults.1) (λ x limit bytes faults. faults)) (λ x limit bytes faults. faults)) (λ x limit bytes faults. faults)
 operand-told form.JumpWide wide at =
-    in_turn-told (in_turn-told (in_turn-told (λ bytes faults. cut-told at faults.1) (λ x bytes faults. faults)) (λ x bytes faults. faults)) (λ x bytes faults. faults)
+    in_turn-told (in_turn-told (in_turn-told (λ limit bytes faults. cut-told at faults.1) (λ x limit bytes faults. faults)) (λ x limit bytes faults. faults)) (λ x limit bytes faults. faults)
 operand-told form.Table wide at =
-    in_turn-told (λ bytes faults. cut-told at faults.1)
-    (λ padding. in_turn-told (in_turn-told (in_turn-told (λ bytes faults. cut-told at faults.1) (λ x bytes faults. faults)) (λ x bytes faults. faults))
-    (λ default. in_turn-told (in_turn-told (λ bytes faults. cut-told at faults.1) (λ x bytes faults. faults))
-    (λ low. in_turn-told (tested-told (λ high. int_le low high) at (in_turn-told (λ bytes faults. cut-told at faults.1) (λ x bytes faults. faults)))
-    (λ high. in_turn-told (many-told _ (in_turn-told (in_turn-told (λ bytes faults. cut-told at faults.1) (λ x bytes faults. faults)) (λ x bytes faults. faults)) (case_count low high))
-    (λ targets bytes faults. faults)))))
+    in_turn-told (λ limit bytes faults. cut-told at faults.1)
+    (λ padding. in_turn-told (in_turn-told (in_turn-told (λ limit bytes faults. cut-told at faults.1) (λ x limit bytes faults. faults)) (λ x limit bytes faults. faults))
+    (λ default. in_turn-told (in_turn-told (λ limit bytes faults. cut-told at faults.1) (λ x limit bytes faults. faults))
+    (λ low. in_turn-told (tested-told (λ high. int_le low high) at (in_turn-told (λ limit bytes faults. cut-told at faults.1) (λ x limit bytes faults. faults)))
+    (λ high. in_turn-told (many-told _ (in_turn-told (in_turn-told (λ limit bytes faults. cut-told at faults.1) (λ x limit bytes faults. faults)) (λ x limit bytes faults. faults)) (case_count low high))
+    (λ targets limit bytes faults. faults)))))
 operand-told form.Lookup wide at =
-    in_turn-told (λ bytes faults. cut-told at faults.1)
-    (λ padding. in_turn-told (in_turn-told (in_turn-told (λ bytes faults. cut-told at faults.1) (λ x bytes faults. faults)) (λ x bytes faults. faults))
-    (λ default. in_turn-told (tested-told is_count at (λ bytes faults. cut-told at faults.1))
+    in_turn-told (λ limit bytes faults. cut-told at faults.1)
+    (λ padding. in_turn-told (in_turn-told (in_turn-told (λ limit bytes faults. cut-told at faults.1) (λ x limit bytes faults. faults)) (λ x limit bytes faults. faults))
+    (λ default. in_turn-told (tested-told is_count at (λ limit bytes faults. cut-told at faults.1))
     (λ count. in_turn-told (tested-told (λ pairs. keys_rise (map key_of pairs)) at
-    (many-told _ (in_turn-told (in_turn-told (λ bytes faults. cut-told at faults.1) (λ x bytes faults. faults))
-    (λ key. in_turn-told (in_turn-told (in_turn-told (λ bytes faults. cut-told at faults.1) (λ x bytes faults. faults)) (λ x bytes faults. faults)) (λ x bytes faults. faults))) count))
-    (λ pairs bytes faults. faults))))
+    (many-told _ (in_turn-told (in_turn-told (λ limit bytes faults. cut-told at faults.1) (λ x limit bytes faults. faults))
+    (λ key. in_turn-told (in_turn-told (in_turn-told (λ limit bytes faults. cut-told at faults.1) (λ x limit bytes faults. faults)) (λ x limit bytes faults. faults)) (λ x limit bytes faults. faults))) count))
+    (λ pairs limit bytes faults. faults))))
 operand-told form.Interface wide at =
-    in_turn-told (λ bytes faults. cut-told at faults.1)
-    (λ index. in_turn-told (λ bytes faults. cut-told at faults.1) (λ count. in_turn-told (λ bytes faults. cut-told at faults.1) (λ x bytes faults. faults)))
-operand-told form.Multi wide at = in_turn-told (λ bytes faults. cut-told at faults.1) (λ index. in_turn-told (λ bytes faults. cut-told at faults.1) (λ x bytes faults. faults))
-operand-told form.Array wide at = in_turn-told (λ bytes faults. cut-told at faults.1) (λ x bytes faults. faults)
-operand-told form.Wide wide at = λ bytes faults. opcode-told at faults
-operand-told form.Unknown wide at = λ bytes faults. opcode-told at faults
+    in_turn-told (λ limit bytes faults. cut-told at faults.1)
+    (λ index. in_turn-told (λ limit bytes faults. cut-told at faults.1) (λ count. in_turn-told (λ limit bytes faults. cut-told at faults.1) (λ x limit bytes faults. faults)))
+operand-told form.Multi wide at = in_turn-told (λ limit bytes faults. cut-told at faults.1) (λ index. in_turn-told (λ limit bytes faults. cut-told at faults.1) (λ x limit bytes faults. faults))
+operand-told form.Array wide at = in_turn-told (λ limit bytes faults. cut-told at faults.1) (λ x limit bytes faults. faults)
+operand-told form.Wide wide at = λ limit bytes faults. opcode-told at faults
+operand-told form.Unknown wide at = λ limit bytes faults. opcode-told at faults
 
 behind_opcode-told : (at : ℕ) (wide : Bool) (op : ℕ) → IsTold (behind_opcode at wide op)
-behind_opcode-told at wide op = in_turn-told (operand-told (form_of wide op) wide at) (λ x bytes faults. faults)
+behind_opcode-told at wide op = in_turn-told (operand-told (form_of wide op) wide at) (λ x limit bytes faults. faults)
 
 instruction-told : (at : ℕ) → IsTold (instruction at)
 instruction-told at =
-    in_turn-told (λ bytes faults. cut-told at faults.1)
-    (λ op. either-told _ _ (is_wide (row_of op).form) (in_turn-told (λ bytes faults. cut-told at faults.1) (λ op. behind_opcode-told at true op)) (behind_opcode-told at false op))
+    in_turn-told (λ limit bytes faults. cut-told at faults.1)
+    (λ op. either-told _ _ (is_wide (row_of op).form) (in_turn-told (λ limit bytes faults. cut-told at faults.1) (λ op. behind_opcode-told at true op)) (behind_opcode-told at false op))
 
 never-memory : (bytes : List ℕ) → instructions_of bytes ≡ Err NoMemory → ⊥
-never-memory bytes e = let fault = fault_found bytes NoMemory e in instruction-told fault.at _ fault.faults
+never-memory bytes e = let fault = fault_found bytes NoMemory e in instruction-told fault.at _ _ fault.faults
 
 -- ---- a code
 

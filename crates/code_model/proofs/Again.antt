@@ -9,6 +9,7 @@ use Rattle.std.proofs.lemmas.Bool.{le-leb, lt-ltb}
 use Rattle.std.proofs.lemmas.List.{length-append, length-replicate, append-nil, get_or_at}
 use Rattle.std.proofs.lemmas.Nat.{from_be_bytes-to_be_bytes_2, from_be_bytes-to_be_bytes_4}
 use Rattle.std.proofs.lemmas.Option.{slice_get-get_or}
+use Rattle.byte_formats.proofs.Conditions.{tested_from}
 use Rattle.op_table.specs.declared.Form.{Form}
 use Rattle.op_table.specs.declared.Form.TheVariants as form
 use Rattle.op_table.specs.Opcodes.{row_of, groups}
@@ -122,7 +123,7 @@ table_again home place w default low targets fits leads =
     turn (run place (padding_len place)) _ (padding place) _ (padding place) (Table (home default) low (map home targets)) (refl, length-replicate (padding_len place) 0)
     (turn (target place w32) _ (target_bytes home place w32 default) _ (home default) (Table (home default) low (map home targets)) (target_again home place w32 default back32 leads.0.0 leads.0.1)
     (turn (number_signed place w32) _ (s4 low) _ low (Table (home default) low (map home targets)) (signed_again place w32 low back32 fits.1)
-    (turn (value_tested (number_signed place w32) (λ (h : ℤ). int_le low h) _) _ (s4 high) cases high (Table (home default) low (map home targets)) (signed_again place w32 high back32 fits.2, count.0)
+    (turn (value_tested (number_signed place w32) (λ (h : ℤ). int_le low h) _) _ (s4 high) cases high (Table (home default) low (map home targets)) (tested_from (number_signed place w32) (λ (h : ℤ). int_le low h) (s4 high) high (signed_again place w32 high back32 fits.2) count.0)
     (made_of (many (target place w32) (case_count low high)) (λ (ts : List ℕ). Table (home default) low ts) cases (map home targets) some_cases))))
 
 -- pairs with their targets where `home` has them
@@ -172,8 +173,8 @@ lookup_again home place w default keys targets fits rise leads =
     subst (λ (a : Arg). (lookup place).Spells (operand_bytes home place w (Lookup default keys targets)) a) same
     (turn (run place (padding_len place)) _ (padding place) _ (padding place) result (refl, length-replicate (padding_len place) 0)
     (turn (target place w32) _ (target_bytes home place w32 default) _ (home default) result (target_again home place w32 default back32 leads.0.0 leads.0.1)
-    (turn (value_tested (number place w32) is_count _) _ (u4 (length keys)) text (length keys) result (number_again place w32 (length keys) back32 (omega (arith, fits.1)), few)
-    (made_of (value_tested (many (pair place) (length keys)) (λ (ps : List (ℤ × ℕ)). keys_rise (map key_of ps)) _) (λ (ps : List (ℤ × ℕ)). Lookup (home default) (map key_of ps) (map target_of ps)) text pairs (spelled, ap keys_rise ks ∙ rise)))))
+    (turn (value_tested (number place w32) is_count _) _ (u4 (length keys)) text (length keys) result (tested_from (number place w32) is_count (u4 (length keys)) (length keys) (number_again place w32 (length keys) back32 (omega (arith, fits.1))) few)
+    (made_of (value_tested (many (pair place) (length keys)) (λ (ps : List (ℤ × ℕ)). keys_rise (map key_of ps)) _) (λ (ps : List (ℤ × ℕ)). Lookup (home default) (map key_of ps) (map target_of ps)) text pairs (tested_from (many (pair place) (length keys)) (λ (ps : List (ℤ × ℕ)). keys_rise (map key_of ps)) text pairs spelled (ap keys_rise ks ∙ rise))))))
 
 -- ---- operands
 

@@ -62,11 +62,11 @@ is_whole bytes at front so_far le =
 -- bytes behind a front that are no instruction
 pub refused : (bytes : List ℕ) (at : ℕ) (front : List Instr) (fault : CodeError) → IsFront bytes at front → at < length bytes → read_instruction at (drop at bytes) ≡ Err fault → IsFirstFault bytes fault
 refused bytes at front fault so_far more read =
-    record { before = front; at = at; reads = so_far.reads; more = more; faults = (instruction_is_read at).faults (drop at bytes) fault read }
+    record { before = front; at = at; reads = so_far.reads; more = more; faults = (instruction_is_read at).faults (length bytes) (drop at bytes) fault tt read }
 
 -- the fault of bytes is read where it stands
 fault_read : (bytes : List ℕ) (fault : CodeError) (f : IsFirstFault bytes fault) → read_instruction f.at (drop f.at bytes) ≡ Err fault
-fault_read bytes fault f = (instruction_is_read f.at).stops (drop f.at bytes) fault f.faults
+fault_read bytes fault f = (instruction_is_read f.at).stops (length bytes) (drop f.at bytes) fault f.faults
 
 pub no_code : (bytes : List ℕ) (fault : CodeError) → IsFirstFault bytes fault → (code : Code) → IsReading bytes code → ⊥
 no_code bytes fault f code reads =

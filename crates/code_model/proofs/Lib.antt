@@ -1,5 +1,4 @@
 pub mod Items
-pub mod Turns
 pub mod Conditions
 pub mod NumberLaws
 pub mod OperandLaws

@@ -9,7 +9,7 @@ use Rattle.code_model.specs.Formats.{Format, IsCut, number, run}
 use Rattle.code_model.specs.Operands.{number_signed, target, target_reached}
 use Rattle.code_model.specs.Reading.{Read, number_at, run_at, signed_at, target_at}
 use Rattle.code_model.proofs.Items.{Takes, IsRead, one_read, read_parts, no_fault}
-use Rattle.code_model.proofs.Turns.{made_is_read, in_turn_is_read}
+use Rattle.byte_formats.proofs.Turns.{made_is_read, in_turn_is_read}
 
 -- so many bytes are taken, where there are as many
 abbrev cut_at : {A : Type 0} → ℕ → ℕ → (List ℕ → A) → List ℕ → Read A
@@ -32,6 +32,7 @@ module _ {A : Type 0} (at len : ℕ) (make : List ℕ → A) where
             front = take len bytes;
             parts = subst (λ r. bytes ≡ take len bytes ++ r) same.1 (sym (take-append-drop len bytes));
             spelled = (omega (arith, length-take len bytes), same.0);
+            rest_fits = tt;
           }
 
   cut_again : (front rest : List ℕ) (x : A) → (length front ≡ len) × (make front ≡ x) → cut_at at len make (front ++ rest) ≡ Ok (x, rest)
@@ -41,18 +42,23 @@ module _ {A : Type 0} (at len : ℕ) (make : List ℕ → A) where
       let whole : cut_at at len make (front ++ rest) ≡ one_read (make front) rest = rw (long, take_at front rest len e, drop_at front rest len e) refl in
       whole ∙ ap (λ y. one_read y rest) h.1
 
-  cut_faults : (bytes : List ℕ) (fault : CodeError) → cut_at at len make bytes ≡ Err fault → IsCut at len bytes fault
-  cut_faults bytes fault = by_case (ltb (length bytes) len) refl
+  cut_faults : (limit : ℕ) (bytes : List ℕ) (fault : CodeError) → cut_at at len make bytes ≡ Err fault → IsCut at len limit bytes fault
+  cut_faults limit bytes fault = by_case (ltb (length bytes) len) refl
     where
-      by_case : (b : Bool) → ltb (length bytes) len ≡ b → cond b (Err (Cut at)) (one_read (make (take len bytes)) (drop len bytes)) ≡ Err fault → IsCut at len bytes fault
+      by_case : (b : Bool) → ltb (length bytes) len ≡ b → cond b (Err (Cut at)) (one_read (make (take len bytes)) (drop len bytes)) ≡ Err fault → IsCut at len limit bytes fault
       by_case true is e = let told : Cut at ≡ fault = cc in (ltb-true _ _ is, sym told)
       by_case false is e = absurd (no_fault _ _ _ e)
 
-  cut_stops : (bytes : List ℕ) (fault : CodeError) → IsCut at len bytes fault → cut_at at len make bytes ≡ Err fault
-  cut_stops bytes fault h = rw (lt-ltb _ _ h.0, h.1) refl
+  cut_stops : (limit : ℕ) (bytes : List ℕ) (fault : CodeError) → IsCut at len limit bytes fault → cut_at at len make bytes ≡ Err fault
+  cut_stops limit bytes fault h = rw (lt-ltb _ _ h.0, h.1) refl
 
   cut_is_read : IsRead (cut_at at len make) (cut at len make)
-  cut_is_read = record { takes = cut_takes; again = cut_again; faults = cut_faults; stops = cut_stops }
+  cut_is_read = record {
+    takes = λ limit bytes x rest fits e. cut_takes bytes x rest e;
+    again = λ limit front rest x h. cut_again front rest x h;
+    faults = λ limit bytes fault fits e. cut_faults limit bytes fault e;
+    stops = cut_stops;
+  }
 
 pub number_is_read : (at : ℕ) (w : Width) → IsRead (number_at at w) (number at w)
 unfolding number_at
@@ -68,8 +74,8 @@ unfolding run_at
 run_is_read at len =
     let law = cut_is_read at len itself in
     record {
-      takes = λ bytes x rest e. (let t = law.takes bytes x rest e in record { front = t.front; parts = t.parts; spelled = (t.spelled.1, ap length (sym t.spelled.1) ∙ t.spelled.0) });
-      again = λ front rest x h. law.again front rest x (ap length h.0 ∙ h.1, h.0);
+      takes = λ limit bytes x rest fits e. (let t = law.takes limit bytes x rest fits e in record { front = t.front; parts = t.parts; spelled = (t.spelled.1, ap length (sym t.spelled.1) ∙ t.spelled.0); rest_fits = tt });
+      again = λ limit front rest x h. law.again limit front rest x (ap length h.0 ∙ h.1, h.0);
       faults = law.faults;
       stops = law.stops;
     }

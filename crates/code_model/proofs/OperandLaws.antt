@@ -5,6 +5,9 @@ use Rattle.std.specs.Int.{w8, w16, w32}
 use Rattle.op_table.specs.declared.Form.{Form}
 use Rattle.op_table.specs.declared.Form.TheVariants as form
 use Rattle.op_table.specs.Opcodes.{row_of}
+use Rattle.byte_formats.proofs.Items.{same_read}
+use Rattle.byte_formats.proofs.Turns.{made_is_read, fails_is_read, in_turn_is_read, many_is_read}
+use Rattle.byte_formats.proofs.Conditions.{either_is_read}
 use Rattle.code_model.specs.declared.instr.Arg.{Arg}
 use Rattle.code_model.specs.declared.instr.Arg.TheVariants.{Plain, Value, Pool, Local, Inc, Target, Table, Lookup, Interface, Multi, Array}
 use Rattle.code_model.specs.declared.error.CodeError.TheVariants.{BadOpcode, BadSwitch}
@@ -12,9 +15,8 @@ use Rattle.code_model.specs.Formats.{number, in_turn, value_made, value_tested, 
 use Rattle.code_model.specs.Operands.{slot_width, padding_len, case_count, is_count, keys_rise, key_of, target_of, pair, number_signed, operand, form_of, instr_with, behind_opcode, behind_wide, is_wide, instruction}
 use Rattle.code_model.specs.Operands as format
 use Rattle.code_model.specs.Reading.{◌>>=◌, Read, number_at, signed_at, many_at, pair_at, high_at, table_at, count_at, columns_at, lookup_at, value_at, index_at, local_at, increment_at, branch_at, interface_at, multi_at, array_at, operand_at, behind_opcode_at, behind_wide_at, read_instruction}
-use Rattle.code_model.proofs.Items.{IsRead, same_read}
-use Rattle.code_model.proofs.Turns.{next, made_at, made_is_read, fails_is_read, in_turn_is_read, many_is_read}
-use Rattle.code_model.proofs.Conditions.{kept, tested_at, tested_is_read, either_is_read}
+use Rattle.code_model.proofs.Items.{IsRead}
+use Rattle.code_model.proofs.Conditions.{kept, tested_at, tested_is_read}
 use Rattle.code_model.proofs.NumberLaws.{number_is_read, run_is_read, signed_is_read, target_is_read}
 
 -- ---- switches
@@ -49,11 +51,11 @@ abbrev by_columns : ℕ → ℕ → ℕ → List ℕ → Read Arg
 by_columns at default count bytes =
     columns_at at count bytes >>= λ columns. cond (keys_rise columns.0.0) (Ok (Lookup default columns.0.0 columns.0.1, columns.1)) (Err (BadSwitch at))
 
-abbrev by_pairs : ℕ → ℕ → ℕ → List ℕ → Read Arg
-by_pairs at default count = next (tested_at (many_at (pair_at at) count) rising (BadSwitch at)) (λ pairs. made_at (Lookup default (map key_of pairs) (map target_of pairs)))
-
 abbrev made_of : ℕ → List (ℤ × ℕ) × List ℕ → Read Arg
 made_of default x = Ok (Lookup default (map key_of x.0) (map target_of x.0), x.1)
+
+abbrev by_pairs : ℕ → ℕ → ℕ → List ℕ → Read Arg
+by_pairs at default count bytes = tested_at (many_at (pair_at at) count) rising (BadSwitch at) bytes >>= made_of default
 
 abbrev as_columns : List (ℤ × ℕ) × List ℕ → Read (List ℤ × List ℕ)
 as_columns x = Ok ((map key_of x.0, map target_of x.0), x.1)
@@ -76,7 +78,7 @@ same_pairs at default count bytes = by_case (many_at (pair_at at) count bytes)
 pairs_is_read : (at default count : ℕ) → IsRead (by_columns at default count)
     (in_turn (value_tested (many (pair at) count) rising (BadSwitch at)) (λ pairs. value_made (Lookup default (map key_of pairs) (map target_of pairs))))
 pairs_is_read at default count =
-    same_read (by_pairs at default count) (by_columns at default count) _ (same_pairs at default count)
+    same_read (λ limit. by_pairs at default count) (λ limit. by_columns at default count) _ (λ limit. same_pairs at default count)
     (in_turn_is_read
     (tested_is_read (many_at (pair_at at) count) (many (pair at) count) rising (BadSwitch at) (many_is_read (pair_is_read at) count))
     (λ pairs. made_is_read (Lookup default (map key_of pairs) (map target_of pairs))))

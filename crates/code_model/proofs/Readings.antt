@@ -37,7 +37,7 @@ instruction_at-fault bytes at fault e = ap found_in e
 -- no instruction begins at the end
 read_nothing : (at : ℕ) (i : Instr) (rest : List ℕ) → read_instruction at [] ≡ Ok (i, rest) → ⊥
 read_nothing at i rest e =
-    let t = (instruction_is_read at).takes [] i rest e in
+    let t = (instruction_is_read at).takes 0 [] i rest tt e in
     let known = instruction_spelled at t.front i t.spelled in
     let long = known.long in
     let some = size_at-some at i in
@@ -56,7 +56,7 @@ instruction_at_within bytes at i e =
 pub stands_from : (bytes : List ℕ) (at : ℕ) (i : Instr) → instruction_at bytes at ≡ Some i → StandsAt bytes at i
 stands_from bytes at i e =
     let r = read-instruction_at bytes at i e in
-    let t = (instruction_is_read at).takes (drop at bytes) i r.0 r.1 in
+    let t = (instruction_is_read at).takes (length bytes) (drop at bytes) i r.0 tt r.1 in
     let within = instruction_at_within bytes at i e in
     record {
       front = take at bytes;
@@ -70,7 +70,7 @@ stands_from bytes at i e =
 pub stands_to : (bytes : List ℕ) (at : ℕ) (i : Instr) → StandsAt bytes at i → instruction_at bytes at ≡ Some i
 stands_to bytes at i s =
     let behind : drop at bytes ≡ s.text ++ s.rest = ap (drop at) s.parts ∙ drop_at s.front (s.text ++ s.rest) at s.place in
-    instruction_at-read bytes at i s.rest (ap (read_instruction at) behind ∙ (instruction_is_read at).again s.text s.rest i s.spelled)
+    instruction_at-read bytes at i s.rest (ap (read_instruction at) behind ∙ (instruction_is_read at).again (length bytes) s.text s.rest i s.spelled)
 
 -- an instruction carries the offset at which it stands
 pub at-instruction_at : (bytes : List ℕ) (at : ℕ) (i : Instr) → instruction_at bytes at ≡ Some i → i.at ≡ at
@@ -79,7 +79,7 @@ at-instruction_at bytes at i e = let s = stands_from bytes at i e in (instructio
 -- what is left behind it
 pub rest-instruction_at : (bytes : List ℕ) (at : ℕ) (i : Instr) (rest : List ℕ) → read_instruction at (drop at bytes) ≡ Ok (i, rest) → end_of i + length rest ≡ length bytes
 rest-instruction_at bytes at i rest e =
-    let t = (instruction_is_read at).takes (drop at bytes) i rest e in
+    let t = (instruction_is_read at).takes (length bytes) (drop at bytes) i rest tt e in
     let known = instruction_spelled at t.front i t.spelled in
     let here = known.here in
     let long : length t.front ≡ end_of i - at = subst (λ n. length t.front ≡ end_of i - n) here (known.long ∙ by_size i.at at here) in

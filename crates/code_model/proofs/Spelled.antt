@@ -9,6 +9,7 @@ use Rattle.std.specs.Int.Signed.{◌≤ℤ◌, le_z_yes}
 use Rattle.std.proofs.lemmas.Int.{ints}
 use Rattle.std.proofs.lemmas.Bool.{ltb-true, ltb-false, leb-true}
 use Rattle.std.proofs.lemmas.List.{length-append}
+use Rattle.byte_formats.proofs.Conditions.{tested_to}
 use Rattle.op_table.specs.declared.Form.{Form}
 use Rattle.op_table.specs.declared.Form.TheVariants as form
 use Rattle.op_table.specs.Opcodes.{row_of}
@@ -16,7 +17,7 @@ use Rattle.code_model.specs.declared.instr.Arg.{Arg}
 use Rattle.code_model.specs.declared.instr.Arg.TheVariants.{Plain, Value, Pool, Local, Inc, Target, Table, Lookup, Interface, Multi, Array}
 use Rattle.code_model.specs.declared.instr.Instr.{Instr}
 use Rattle.code_model.specs.Formats.{Format, AreInTurn, number, value_made, many, either}
-use Rattle.code_model.specs.Operands.{slot_width, number_signed, target, target_reached, target_clamped, case_count, offsets_counted, keys_rise, key_of, target_of, pair, table, lookup, operand, form_of, instr_with, behind_opcode, behind_wide, is_wide, instruction}
+use Rattle.code_model.specs.Operands.{slot_width, number_signed, target, target_reached, target_clamped, case_count, offsets_counted, is_count, keys_rise, key_of, target_of, pair, table, lookup, operand, form_of, instr_with, behind_opcode, behind_wide, is_wide, instruction}
 use Rattle.code_model.specs.Layout.{distance, operand_width, operand_len, opcode_bytes, width_of, size_at}
 use Rattle.code_model.specs.Groups.{IsBytes, FitsNumber, FitsOperand, targets_of}
 use Rattle.code_model.proofs.Lengths.{size_at-is}
@@ -301,19 +302,20 @@ table_spelled wide at text arg h =
     let cases_spelled = many_spelled (target at w32) 4 (target_len at w32) (case_count l.x g.x) ts.front ts.x ts.first in
     let count = cases_spelled.count in
     let long = cases_spelled.long in
-    let cases = cases_from l.x g.x (length ts.x) g.first.1 count in
+    let high_tested = tested_to (number_signed at w32) (λ high. int_le l.x high) g.front g.x g.first in
+    let cases = cases_from l.x g.x (length ts.x) high_tested.1 count in
     let none = ap length ts.second.1 in
     let pad = ap length h.first.0 ∙ h.first.1 in
     let one = target_len at w32 d.front d.x d.first in
     let two = signed_len at w32 l.front l.x l.first in
-    let three = signed_len at w32 g.front g.x g.first.0 in
+    let three = signed_len at w32 g.front g.x high_tested.0 in
     subst (IsSpelled form.Table wide at text) (sym same) (record {
       shape = (d.x, l.x, ts.x, refl);
       long = by_sum (length ts.x) (turn_len h) (turn_len d) (turn_len l) (turn_len g) (turn_len ts) pad one two three (long ∙ ap (λ n. 4 * n) (sym count)) none;
       fits = λ bytes. (
           let at_low = rest_fits d (rest_fits h bytes) in
           let low = signed_number at w32 l.front l.x wide32 l.first (front_fits l at_low) in
-          let high = signed_number at w32 g.front g.x wide32 g.first.0 (front_fits g (rest_fits l at_low)) in
+          let high = signed_number at w32 g.front g.x wide32 high_tested.0 (front_fits g (rest_fits l at_low)) in
           (cases.0, low, subst (FitsSigned w32) (sym cases.1) high));
       targets = (target_le at w32 d.front d.x d.first, many_le at (case_count l.x g.x) ts.front ts.x ts.first);
       near = λ bytes. tt;
@@ -368,25 +370,27 @@ lookup_spelled wide at text arg h =
     let keys = map key_of ps.x in
     let targets = map target_of ps.x in
     let same : arg ≡ Lookup d.x keys targets = ps.second.0 in
-    let pairs_spelled = many_spelled (pair at) 8 (pair_len at) n.x ps.front ps.x ps.first.0 in
+    let counted = tested_to (number at w32) is_count n.front n.x n.first in
+    let rising = tested_to (many (pair at) n.x) (λ pairs. keys_rise (map key_of pairs)) ps.front ps.x ps.first in
+    let pairs_spelled = many_spelled (pair at) 8 (pair_len at) n.x ps.front ps.x rising.0 in
     let count = pairs_spelled.count in
     let long = pairs_spelled.long in
     let none = ap length ps.second.1 in
     let pad = ap length h.first.0 ∙ h.first.1 in
     let one = target_len at w32 d.front d.x d.first in
-    let two = n.first.0.0 in
-    let few : n.x < 2147483648 = ltb-true n.x 2147483648 n.first.1 in
+    let two = counted.0.0 in
+    let few : n.x < 2147483648 = ltb-true n.x 2147483648 counted.1 in
     let ks = length-keys ps.x in
     let us = length-targets ps.x in
     subst (IsSpelled form.Lookup wide at text) (sym same) (record {
-      shape = (d.x, keys, targets, refl, ps.first.1);
+      shape = (d.x, keys, targets, refl, rising.1);
       long = by_sum (turn_len h) (turn_len d) (turn_len n) (turn_len ps) pad one two long none (ks ∙ count) (us ∙ count);
       fits = λ bytes. (
         ks ∙ sym us,
         omega arith,
-        keys_fit ps.x (many_each (pair at) (λ (x : ℤ × ℕ). FitsSigned w32 x.0) (pair_key at) n.x ps.front ps.x (front_fits ps (rest_fits n (rest_fits d (rest_fits h bytes)))) ps.first.0),
+        keys_fit ps.x (many_each (pair at) (λ (x : ℤ × ℕ). FitsSigned w32 x.0) (pair_key at) n.x ps.front ps.x (front_fits ps (rest_fits n (rest_fits d (rest_fits h bytes)))) rising.0),
       );
-      targets = (target_le at w32 d.front d.x d.first, targets_le at n.x ps.front ps.x ps.first.0);
+      targets = (target_le at w32 d.front d.x d.first, targets_le at n.x ps.front ps.x rising.0);
       near = λ bytes. tt;
     })
   where

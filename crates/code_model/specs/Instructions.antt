@@ -62,7 +62,7 @@ pub record IsFirstFault (bytes : List ℕ) (fault : CodeError) : Type 0 where
   pub at : ℕ
   pub reads : ReadsTo bytes 0 before at
   pub more : at < length bytes
-  pub faults : (instruction at).Faults (drop at bytes) fault
+  pub faults : (instruction at).Faults (length bytes) (drop at bytes) fault
 
 -- it is the first fault, unless memory ran out
 abbrev pub IsToldFault : List ℕ → CodeError → Type 0

@@ -1,9 +1,12 @@
 -- Reading an instruction from left to right: what stands at the front of the bytes, and the bytes after it, or the first fault.
-use Rattle.std.specs.Prelude.{◌≡◌, ◌≢◌, ℕ, zero, suc, Bool, List, [], ◌∷◌, ◌++◌, length, take, drop, map, Result, Ok, Err, ℤ, int_le, nat_lt, true, false, if◌then◌else◌}
+use Rattle.std.specs.Prelude.{ℕ, Bool, List, [], ◌++◌, length, take, drop, map, Result, Ok, Err, ℤ, int_le, nat_lt, true, false, if◌then◌else◌}
 use Rattle.std.specs.Int.{Width, w8, w16, w32, byte_len, from_be_bytes, cast_signed}
 use Rattle.op_table.specs.declared.Form.{Form}
 use Rattle.op_table.specs.declared.Form.TheVariants as form
 use Rattle.op_table.specs.Opcodes.{row_of}
+use Rattle.byte_formats.specs.Reading as reading
+pub use Rattle.byte_formats.specs.Reading.{◌>>=◌, with_front}
+unfoldable pub use Rattle.byte_formats.specs.Reading.{many_at}
 use Rattle.code_model.specs.declared.instr.Arg.{Arg}
 use Rattle.code_model.specs.declared.instr.Arg.TheVariants.{Plain, Value, Pool, Local, Inc, Target, Table, Lookup, Interface, Multi, Array}
 use Rattle.code_model.specs.declared.instr.Instr.{Instr}
@@ -11,19 +14,13 @@ use Rattle.code_model.specs.declared.error.CodeError.{CodeError}
 use Rattle.code_model.specs.declared.error.CodeError.TheVariants.{BadOpcode, Cut, BadSwitch, NoMemory}
 use Rattle.code_model.specs.Operands.{slot_width, target_reached, padding_len, case_count, is_count, keys_rise, key_of, target_of, form_of, instr_with, is_wide}
 
-infixl 10 ◌>>=◌
-abbrev pub ◌>>=◌ : {A B : Type 0} → Result A CodeError → (A → Result B CodeError) → Result B CodeError
-(Ok x) >>= f = f x
-(Err e) >>= f = Err e
-
 -- what was read from the front of the bytes, and the bytes after it
 abbrev pub Read : Type 0 → Type 0
-Read A = Result (A × List ℕ) CodeError
+Read = reading.Read CodeError
 
 -- What a function returned, seen by view, is what reading gives, unless memory ran out.
 abbrev pub Gives : {X Y : Type 0} → (X → Y) → Result X CodeError → Result Y CodeError → Type 0
-Gives view (Ok x) read = read ≡ Ok (view x)
-Gives view (Err e) read = e ≢ NoMemory → read ≡ Err e
+Gives = reading.Gives NoMemory
 
 -- ---- numbers
 
@@ -42,17 +39,6 @@ unfoldable pub target_at : ℕ → Width → List ℕ → Read ℕ
 target_at at w bytes = do
   distance ← signed_at at w bytes
   Ok (target_reached at distance.0, distance.1)
-
-unfoldable pub many_at : {A : Type 0} → (List ℕ → Read A) → ℕ → List ℕ → Read (List A)
-many_at item zero bytes = Ok ([], bytes)
-many_at item (suc n) bytes = do
-  first ← item bytes
-  others ← many_at item n first.1
-  Ok (first.0 ∷ others.0, others.1)
-
--- what was read before, and what is still read
-abbrev pub with_front : {A : Type 0} → List A → Read (List A) → Read (List A)
-with_front front read = read >>= λ x. Ok (front ++ x.0, x.1)
 
 -- ---- switches
 

@@ -16,7 +16,7 @@ use Rattle.code_model.proofs.OperandLaws.{instruction_is_read}
 read-form : (f : Form) (at op : ℕ) (text rest : List ℕ) (a : Arg) → (row_of op).form ≡ f → is_wide f ≡ false → (operand f false at).Spells text a
     → read_instruction at (op ∷ text ++ rest) ≡ Ok (instr_with at false op a, rest)
 read-form f at op text rest a has plain spelled =
-    (instruction_is_read at).again (op ∷ text) rest (instr_with at false op a)
+    (instruction_is_read at).again 0 (op ∷ text) rest (instr_with at false op a)
     (instr_of_operand at false op text a (ap is_wide has ∙ plain) (subst (λ (g : Form). (operand g false at).Spells text a) (sym has) spelled))
 
 pub read-plain : (at op : ℕ) (rest : List ℕ) → (row_of op).form ≡ form.Plain → read_instruction at (op ∷ rest) ≡ Ok (instr_with at false op arg.Plain, rest)

@@ -69,13 +69,13 @@ type_again limit (Uninit n) rest narrow = plain_again limit 8 (u2 n ++ rest) (om
 
 -- ---- lists of types
 
-pub types_again : (limit : ℕ) (types : List VType) (rest : List ℕ) → list_all is_narrow_type types ≡ true → many_at type_at (length types) limit (types_bytes types ++ rest) ≡ Ok (types, rest)
+pub types_again : (limit : ℕ) (types : List VType) (rest : List ℕ) → list_all is_narrow_type types ≡ true → many_at (type_at limit) (length types) (types_bytes types ++ rest) ≡ Ok (types, rest)
 unfolding many_at
 types_again limit [] rest narrow = refl
 types_again limit (t ∷ types) rest narrow =
-    let others : VType × List ℕ → Read (List VType) = λ x. many_at type_at (length types) limit x.1 >>= λ xs. Ok (x.0 ∷ xs.0, xs.1) in
+    let others : VType × List ℕ → Read (List VType) = λ x. many_at (type_at limit) (length types) x.1 >>= λ xs. Ok (x.0 ∷ xs.0, xs.1) in
     let first = type_again limit t (types_bytes types ++ rest) (both (is_narrow_type t) (list_all is_narrow_type types) narrow).0 in
-    ap (many_at type_at (suc (length types)) limit) (append_assoc (type_bytes t) (types_bytes types) rest)
+    ap (many_at (type_at limit) (suc (length types))) (append_assoc (type_bytes t) (types_bytes types) rest)
     ∙ next_is others _ (t, types_bytes types ++ rest) first
     ∙ next_is (λ (xs : List VType × List ℕ). Ok (t ∷ xs.0, xs.1)) _ (types, rest) (types_again limit types rest (both (is_narrow_type t) (list_all is_narrow_type types) narrow).1)
 
@@ -83,7 +83,7 @@ pub counted_again : (limit : ℕ) (types : List VType) (rest : List ℕ) → len
 unfolding counted_at
 counted_again limit types rest few narrow =
     ap (counted_at type_at limit) (append_assoc (u2 (length types)) (types_bytes types) rest)
-    ∙ next_is (λ (n : ℕ × List ℕ). many_at type_at n.0 limit n.1) _ (length types, types_bytes types ++ rest) (u2_again limit (length types) (types_bytes types ++ rest) (omega arith))
+    ∙ next_is (λ (n : ℕ × List ℕ). many_at (type_at limit) n.0 n.1) _ (length types, types_bytes types ++ rest) (u2_again limit (length types) (types_bytes types ++ rest) (omega arith))
     ∙ types_again limit types rest narrow
 
 -- ---- frames

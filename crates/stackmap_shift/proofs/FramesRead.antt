@@ -1,10 +1,11 @@
 -- Frames that were read of bytes can be written: their offsets rise, and each is of a kind that has bytes (JVM Specification 4.7.4).
-use Rattle.std.proofs.Common.{◌≡◌, ℕ, zero, suc, ◌+◌, ◌-◌, ◌<◌, ◌≤◌, Bool, true, false, cond, eqb, ltb, List, [], ◌∷◌, length, Option, Some, None, refl, sym, ap, subst, ◌∙◌, arith}
-use Rattle.std.specs.Prelude.{Result, Ok, Err, All, nat_lt, ◌==◌}
+use Rattle.std.proofs.Common.{◌≡◌, ℕ, zero, suc, ◌-◌, ◌<◌, ◌≤◌, Bool, true, false, cond, eqb, ltb, List, [], ◌∷◌, length, Option, Some, None, refl, ap, subst, arith}
+use Rattle.std.specs.Prelude.{Result, Ok, Err, nat_lt, ◌==◌}
 use Rattle.std.specs.Int.{w8, w16, from_be_bytes}
 use Rattle.std.specs.List.{AllByRecursion}
 use Rattle.std.proofs.lemmas.Bool.{le-ltb, ltb-true, ltb-false, eqb-false}
 use Rattle.std.proofs.lemmas.List.Elements.{All-from_recursion}
+use Rattle.byte_formats.proofs.Items.{ok_parts}
 use Rattle.stackmap_shift.specs.declared.error.FrameError.{FrameError}
 use Rattle.stackmap_shift.specs.declared.error.FrameError.TheVariants.{BadFrame}
 use Rattle.stackmap_shift.specs.declared.forms.Form.{Form}
@@ -14,16 +15,12 @@ use Rattle.stackmap_shift.specs.declared.frames.FrameKind.{FrameKind}
 use Rattle.stackmap_shift.specs.declared.frames.VType.{VType}
 use Rattle.stackmap_shift.specs.Conditions.{FitsKind, FitsForm, FitsFrame, IsBehind, Rise, AreWritable}
 use Rattle.stackmap_shift.specs.Frames.{plain_type, known_type, object_at, uninit_at, behind_tag, type_at, form_of, short_delta, delta_by, delta_at, offset_behind, offset_at, known_form, one_item_at, append_at, full_at, kind_at, frame_at, frames_at, table_at, frames_of}
-use Rattle.stackmap_shift.specs.Tables.{◌>>=◌, Read, place, number_at, many_at, counted_at, nothing_left, whole_of}
+use Rattle.stackmap_shift.specs.Tables.{place, number_at, many_at, counted_at, nothing_left}
 
 abbrev AreBytes : List ℕ → Type 0
 AreBytes bytes = AllByRecursion (λ byte. byte < 256) bytes
 
 -- ---- what was read in turn
-
-bind-ok : {A B : Type 0} (r : Result A FrameError) (f : A → Result B FrameError) (y : B) → (r >>= f) ≡ Ok y → (x : A) × (r ≡ Ok x) × (f x ≡ Ok y)
-bind-ok (Ok x) f y e = (x, refl, e)
-bind-ok (Err fault) f y e = absurd cc
 
 ok_is : {A : Type 0} (x y : A) → (let r : Result A FrameError = Ok x in r ≡ Ok y) → x ≡ y
 ok_is x y e = cc e
@@ -60,13 +57,13 @@ u1-read limit (a ∷ rest) x all e =
 object-read : (limit : ℕ) (bytes : List ℕ) (x : VType × List ℕ) → AreBytes bytes → object_at limit bytes ≡ Ok x → AreBytes x.1
 unfolding object_at
 object-read limit bytes x all e =
-    let index = bind-ok (number_at w16 limit bytes) _ x e in
+    let index = ok_parts (number_at w16 limit bytes) _ x e in
     subst (λ (y : VType × List ℕ). AreBytes y.1) (ok_is _ x index.2) (u2-read limit bytes index.0 all index.1).rest
 
 uninit-read : (limit : ℕ) (bytes : List ℕ) (x : VType × List ℕ) → AreBytes bytes → uninit_at limit bytes ≡ Ok x → AreBytes x.1
 unfolding uninit_at
 uninit-read limit bytes x all e =
-    let offset = bind-ok (number_at w16 limit bytes) _ x e in
+    let offset = ok_parts (number_at w16 limit bytes) _ x e in
     subst (λ (y : VType × List ℕ). AreBytes y.1) (ok_is _ x offset.2) (u2-read limit bytes offset.0 all offset.1).rest
 
 known-read : (start : ℕ) (bytes : List ℕ) (o : Option VType) (x : VType × List ℕ) → AreBytes bytes → known_type start bytes o ≡ Ok x → AreBytes x.1
@@ -88,19 +85,19 @@ tag-read start tag limit bytes x all e = by_object (tag == 7) e
 type-read : (limit : ℕ) (bytes : List ℕ) (x : VType × List ℕ) → AreBytes bytes → type_at limit bytes ≡ Ok x → AreBytes x.1
 unfolding type_at
 type-read limit bytes x all e =
-    let tag = bind-ok (number_at w8 limit bytes) _ x e in
+    let tag = ok_parts (number_at w8 limit bytes) _ x e in
     tag-read (place limit bytes) tag.0.0 limit tag.0.1 x (u1-read limit bytes tag.0 all tag.1) tag.2
 
 record AreRead (n : ℕ) (x : List VType × List ℕ) : Type 0 where
   count : length x.0 ≡ n
   rest : AreBytes x.1
 
-types-read : (n limit : ℕ) (bytes : List ℕ) (x : List VType × List ℕ) → AreBytes bytes → many_at type_at n limit bytes ≡ Ok x → AreRead n x
+types-read : (n limit : ℕ) (bytes : List ℕ) (x : List VType × List ℕ) → AreBytes bytes → many_at (type_at limit) n bytes ≡ Ok x → AreRead n x
 unfolding many_at
 types-read zero limit bytes x all e = subst (AreRead 0) (ok_is _ x e) (record { count = refl; rest = all })
 types-read (suc n) limit bytes x all e =
-    let first = bind-ok (type_at limit bytes) _ x e in
-    let others = bind-ok (many_at type_at n limit first.0.1) _ x first.2 in
+    let first = ok_parts (type_at limit bytes) _ x e in
+    let others = ok_parts (many_at (type_at limit) n first.0.1) _ x first.2 in
     let more = types-read n limit first.0.1 others.0 (type-read limit bytes first.0 all first.1) others.1 in
     subst (AreRead (suc n)) (ok_is _ x others.2) (record { count = ap suc more.count; rest = more.rest })
 
@@ -111,7 +108,7 @@ record AreCounted (x : List VType × List ℕ) : Type 0 where
 counted-read : (limit : ℕ) (bytes : List ℕ) (x : List VType × List ℕ) → AreBytes bytes → counted_at type_at limit bytes ≡ Ok x → AreCounted x
 unfolding counted_at
 counted-read limit bytes x all e =
-    let count = bind-ok (number_at w16 limit bytes) _ x e in
+    let count = ok_parts (number_at w16 limit bytes) _ x e in
     let number = u2-read limit bytes count.0 all count.1 in
     let types = types-read count.0.0 limit count.0.1 x number.rest count.2 in
     let same = types.count in
@@ -127,13 +124,13 @@ record IsReadKind (x : FrameKind × List ℕ) : Type 0 where
 one-read : (limit : ℕ) (bytes : List ℕ) (x : FrameKind × List ℕ) → AreBytes bytes → one_item_at limit bytes ≡ Ok x → IsReadKind x
 unfolding one_item_at
 one-read limit bytes x all e =
-    let item = bind-ok (type_at limit bytes) _ x e in
+    let item = ok_parts (type_at limit bytes) _ x e in
     subst IsReadKind (ok_is _ x item.2) (record { fits = tt; rest = type-read limit bytes item.0 all item.1 })
 
 append-read : (count limit : ℕ) (bytes : List ℕ) (x : FrameKind × List ℕ) → (1 ≤ count) × (count ≤ 3) → AreBytes bytes → append_at count limit bytes ≡ Ok x → IsReadKind x
 unfolding append_at
 append-read count limit bytes x fits all e =
-    let locals = bind-ok (many_at type_at count limit bytes) _ x e in
+    let locals = ok_parts (many_at (type_at limit) count bytes) _ x e in
     let types = types-read count limit bytes locals.0 all locals.1 in
     let same = types.count in
     let some = fits.0 in
@@ -143,8 +140,8 @@ append-read count limit bytes x fits all e =
 full-read : (limit : ℕ) (bytes : List ℕ) (x : FrameKind × List ℕ) → AreBytes bytes → full_at limit bytes ≡ Ok x → IsReadKind x
 unfolding full_at
 full-read limit bytes x all e =
-    let locals = bind-ok (counted_at type_at limit bytes) _ x e in
-    let operands = bind-ok (counted_at type_at limit locals.0.1) _ x locals.2 in
+    let locals = ok_parts (counted_at type_at limit bytes) _ x e in
+    let operands = ok_parts (counted_at type_at limit locals.0.1) _ x locals.2 in
     let first = counted-read limit bytes locals.0 all locals.1 in
     let second = counted-read limit locals.0.1 operands.0 first.rest operands.1 in
     subst IsReadKind (ok_is _ x operands.2) (record { fits = (first.few, second.few); rest = second.rest })
@@ -229,11 +226,11 @@ frame-read : (before : Option ℕ) (limit : ℕ) (bytes : List ℕ) (x : Frame �
 unfolding frame_at
 frame-read before limit bytes x all e =
     let start : ℕ = place limit bytes in
-    let kind = bind-ok (number_at w8 limit bytes) _ x e in
-    let form = bind-ok (known_form start (form_of kind.0.0)) _ x kind.2 in
-    let delta = bind-ok (delta_at kind.0.0 limit kind.0.1) _ x form.2 in
-    let offset = bind-ok (offset_at start before delta.0.0) _ x delta.2 in
-    let contents = bind-ok (kind_at form.0 limit delta.0.1) _ x offset.2 in
+    let kind = ok_parts (number_at w8 limit bytes) _ x e in
+    let form = ok_parts (known_form start (form_of kind.0.0)) _ x kind.2 in
+    let delta = ok_parts (delta_at kind.0.0 limit kind.0.1) _ x form.2 in
+    let offset = ok_parts (offset_at start before delta.0.0) _ x delta.2 in
+    let contents = ok_parts (kind_at form.0 limit delta.0.1) _ x offset.2 in
     let behind_kind = u1-read limit bytes kind.0 all kind.1 in
     let behind_delta = delta-read limit kind.0.1 (short_delta kind.0.0) delta.0 behind_kind delta.1 in
     let fits = known-form start (form_of kind.0.0) form.0 (form-fits kind.0.0) form.1 in
@@ -250,8 +247,8 @@ frames-read : (n : ℕ) (before : Option ℕ) (limit : ℕ) (bytes : List ℕ) (
 unfolding frames_at
 frames-read zero before limit bytes x all e = subst (AreReadFrames 0 before) (ok_is _ x e) (record { count = refl; rise = tt; fit = tt })
 frames-read (suc n) before limit bytes x all e =
-    let first = bind-ok (frame_at before limit bytes) _ x e in
-    let others = bind-ok (frames_at n (Some first.0.0.at) limit first.0.1) _ x first.2 in
+    let first = ok_parts (frame_at before limit bytes) _ x e in
+    let others = ok_parts (frames_at n (Some first.0.0.at) limit first.0.1) _ x first.2 in
     let one = frame-read before limit bytes first.0 all first.1 in
     let more = frames-read n (Some first.0.0.at) limit first.0.1 others.0 one.rest others.1 in
     subst (AreReadFrames (suc n) before) (ok_is _ x others.2)
@@ -260,7 +257,7 @@ frames-read (suc n) before limit bytes x all e =
 table-read : (limit : ℕ) (bytes : List ℕ) (x : List Frame × List ℕ) → AreBytes bytes → table_at limit bytes ≡ Ok x → AreWritable x.0
 unfolding table_at
 table-read limit bytes x all e =
-    let count = bind-ok (number_at w16 limit bytes) _ x e in
+    let count = ok_parts (number_at w16 limit bytes) _ x e in
     let number = u2-read limit bytes count.0 all count.1 in
     let frames = frames-read count.0.0 None limit count.0.1 x number.rest count.2 in
     let same = frames.count in
@@ -270,6 +267,6 @@ table-read limit bytes x all e =
 pub frames_of-writable : (bytes : List ℕ) (frames : List Frame) → AreBytes bytes → frames_of bytes ≡ Ok frames → AreWritable frames
 unfolding frames_of
 frames_of-writable bytes frames all e =
-    let table = bind-ok (table_at (length bytes) bytes) _ frames e in
-    let ends = bind-ok (nothing_left (length bytes) table.0.1) _ frames table.2 in
+    let table = ok_parts (table_at (length bytes) bytes) _ frames e in
+    let ends = ok_parts (nothing_left (length bytes) table.0.1) _ frames table.2 in
     subst AreWritable (ok_is table.0.0 frames ends.2) (table-read (length bytes) bytes table.0 all table.1)

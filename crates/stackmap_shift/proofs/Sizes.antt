@@ -7,6 +7,7 @@ use Rattle.std.specs.List.{flat_map}
 use Rattle.std.proofs.lemmas.Bool.{le-ltb}
 use Rattle.std.proofs.lemmas.List.{length-append}
 use Rattle.code_model.specs.declared.laying.Homes.{Homes}
+use Rattle.byte_formats.proofs.Items.{ok_parts}
 use Rattle.stackmap_shift.specs.declared.debug.Line.{Line}
 use Rattle.stackmap_shift.specs.declared.debug.Variable.{Variable}
 use Rattle.stackmap_shift.specs.declared.error.FrameError.{FrameError}
@@ -22,13 +23,9 @@ use Rattle.stackmap_shift.specs.DebugTables.{line_at, variable_at, lines_of, var
 use Rattle.stackmap_shift.specs.Frames.{plain_type, known_type, object_at, uninit_at, behind_tag, type_at, form_of, short_delta, delta_by, delta_at, offset_at, known_form, one_item_at, append_at, full_at, kind_at, frame_at, frames_at, table_at, frames_of}
 use Rattle.stackmap_shift.specs.Moves.{moved_kind, moved_frames, moved_type}
 use Rattle.stackmap_shift.specs.Spelling.{u1, u2, type_bytes, types_bytes, counted_bytes, short_or_long, kind_bytes, frame_bytes, delta_of, frames_bytes, table_bytes}
-use Rattle.stackmap_shift.specs.Tables.{◌>>=◌, Read, place, number_at, many_at, counted_at, nothing_left, whole_of}
+use Rattle.stackmap_shift.specs.Tables.{Read, place, number_at, many_at, counted_at, nothing_left, whole_of}
 
 -- ---- what was read in turn
-
-bind-ok : {A B : Type 0} (r : Result A FrameError) (f : A → Result B FrameError) (y : B) → (r >>= f) ≡ Ok y → (x : A) × (r ≡ Ok x) × (f x ≡ Ok y)
-bind-ok (Ok x) f y e = (x, refl, e)
-bind-ok (Err fault) f y e = absurd cc
 
 ok_is : {A : Type 0} (x y : A) → (let r : Result A FrameError = Ok x in r ≡ Ok y) → x ≡ y
 ok_is x y e = cc e
@@ -63,13 +60,13 @@ total weight (x ∷ xs) = weight x + total weight xs
 abbrev Takes : {A : Type 0} → (A → ℕ) → (ℕ → List ℕ → Read A) → Type 0
 Takes {A} weight item = (limit : ℕ) (bytes : List ℕ) (x : A × List ℕ) → item limit bytes ≡ Ok x → weight x.0 + length x.1 ≤ length bytes
 
-many-left : {A : Type 0} (weight : A → ℕ) (item : ℕ → List ℕ → Read A) → Takes weight item → (n limit : ℕ) (bytes : List ℕ) (x : List A × List ℕ) → many_at item n limit bytes ≡ Ok x
+many-left : {A : Type 0} (weight : A → ℕ) (item : ℕ → List ℕ → Read A) → Takes weight item → (n limit : ℕ) (bytes : List ℕ) (x : List A × List ℕ) → many_at (item limit) n bytes ≡ Ok x
     → total weight x.0 + length x.1 ≤ length bytes
 unfolding many_at
 many-left {A} weight item takes zero limit bytes x e = subst (λ (y : List A × List ℕ). total weight y.0 + length y.1 ≤ length bytes) (ok_is _ x e) (omega arith)
 many-left {A} weight item takes (suc n) limit bytes x e =
-    let first = bind-ok (item limit bytes) _ x e in
-    let others = bind-ok (many_at item n limit first.0.1) _ x first.2 in
+    let first = ok_parts (item limit bytes) _ x e in
+    let others = ok_parts (many_at (item limit) n first.0.1) _ x first.2 in
     let one = takes limit bytes first.0 first.1 in
     let more = many-left weight item takes n limit first.0.1 others.0 others.1 in
     subst (λ (y : List A × List ℕ). total weight y.0 + length y.1 ≤ length bytes) (ok_is _ x others.2) (omega arith)
@@ -78,7 +75,7 @@ counted-left : {A : Type 0} (weight : A → ℕ) (item : ℕ → List ℕ → Re
     → total weight x.0 + length x.1 + 2 ≤ length bytes
 unfolding counted_at
 counted-left weight item takes limit bytes x e =
-    let count = bind-ok (number_at w16 limit bytes) _ x e in
+    let count = ok_parts (number_at w16 limit bytes) _ x e in
     let number = u2-left limit bytes count.0 count.1 in
     let rest = many-left weight item takes count.0.0 limit count.0.1 x count.2 in
     omega arith
@@ -91,14 +88,14 @@ one t = 1
 object-left : (limit : ℕ) (bytes : List ℕ) (x : VType × List ℕ) → object_at limit bytes ≡ Ok x → length x.1 ≤ length bytes
 unfolding object_at
 object-left limit bytes x e =
-    let index = bind-ok (number_at w16 limit bytes) _ x e in
+    let index = ok_parts (number_at w16 limit bytes) _ x e in
     let left = u2-left limit bytes index.0 index.1 in
     subst (λ (y : VType × List ℕ). length y.1 ≤ length bytes) (ok_is _ x index.2) (omega arith)
 
 uninit-left : (limit : ℕ) (bytes : List ℕ) (x : VType × List ℕ) → uninit_at limit bytes ≡ Ok x → length x.1 ≤ length bytes
 unfolding uninit_at
 uninit-left limit bytes x e =
-    let offset = bind-ok (number_at w16 limit bytes) _ x e in
+    let offset = ok_parts (number_at w16 limit bytes) _ x e in
     let left = u2-left limit bytes offset.0 offset.1 in
     subst (λ (y : VType × List ℕ). length y.1 ≤ length bytes) (ok_is _ x offset.2) (omega arith)
 
@@ -121,7 +118,7 @@ tag-left start tag limit bytes x e = by_object (tag == 7) e
 type-left : Takes one type_at
 unfolding type_at
 type-left = λ limit bytes x e.
-    let tag = bind-ok (number_at w8 limit bytes) _ x e in
+    let tag = ok_parts (number_at w8 limit bytes) _ x e in
     let left = u1-left limit bytes tag.0 tag.1 in
     let behind = tag-left (place limit bytes) tag.0.0 limit tag.0.1 x tag.2 in
     omega arith
@@ -145,22 +142,22 @@ HasKind bytes x = weight_of x.0 + 3 * length x.1 ≤ 3 * length bytes + 3
 one-left : (limit : ℕ) (bytes : List ℕ) (x : FrameKind × List ℕ) → one_item_at limit bytes ≡ Ok x → HasKind bytes x
 unfolding one_item_at
 one-left limit bytes x e =
-    let item = bind-ok (type_at limit bytes) _ x e in
+    let item = ok_parts (type_at limit bytes) _ x e in
     let left = type-left limit bytes item.0 item.1 in
     subst (HasKind bytes) (ok_is _ x item.2) (omega arith)
 
 append-left : (count limit : ℕ) (bytes : List ℕ) (x : FrameKind × List ℕ) → append_at count limit bytes ≡ Ok x → HasKind bytes x
 unfolding append_at
 append-left count limit bytes x e =
-    let locals = bind-ok (many_at type_at count limit bytes) _ x e in
+    let locals = ok_parts (many_at (type_at limit) count bytes) _ x e in
     let left = many-left one type_at type-left count limit bytes locals.0 locals.1 in
     subst (HasKind bytes) (ok_is _ x locals.2) (omega arith)
 
 full-left : (limit : ℕ) (bytes : List ℕ) (x : FrameKind × List ℕ) → full_at limit bytes ≡ Ok x → HasKind bytes x
 unfolding full_at
 full-left limit bytes x e =
-    let locals = bind-ok (counted_at type_at limit bytes) _ x e in
-    let operands = bind-ok (counted_at type_at limit locals.0.1) _ x locals.2 in
+    let locals = ok_parts (counted_at type_at limit bytes) _ x e in
+    let operands = ok_parts (counted_at type_at limit locals.0.1) _ x locals.2 in
     let first = counted-left one type_at type-left limit bytes locals.0 locals.1 in
     let second = counted-left one type_at type-left limit locals.0.1 operands.0 operands.1 in
     subst (HasKind bytes) (ok_is _ x operands.2) (omega arith)
@@ -181,11 +178,11 @@ frame-left : (before : Option ℕ) (limit : ℕ) (bytes : List ℕ) (x : Frame �
 unfolding frame_at
 frame-left before limit bytes x e =
     let start : ℕ = place limit bytes in
-    let kind = bind-ok (number_at w8 limit bytes) _ x e in
-    let form = bind-ok (known_form start (form_of kind.0.0)) _ x kind.2 in
-    let delta = bind-ok (delta_at kind.0.0 limit kind.0.1) _ x form.2 in
-    let offset = bind-ok (offset_at start before delta.0.0) _ x delta.2 in
-    let contents = bind-ok (kind_at form.0 limit delta.0.1) _ x offset.2 in
+    let kind = ok_parts (number_at w8 limit bytes) _ x e in
+    let form = ok_parts (known_form start (form_of kind.0.0)) _ x kind.2 in
+    let delta = ok_parts (delta_at kind.0.0 limit kind.0.1) _ x form.2 in
+    let offset = ok_parts (offset_at start before delta.0.0) _ x delta.2 in
+    let contents = ok_parts (kind_at form.0 limit delta.0.1) _ x offset.2 in
     let behind_kind = u1-left limit bytes kind.0 kind.1 in
     let behind_delta = delta-left limit kind.0.1 (short_delta kind.0.0) delta.0 delta.1 in
     let read = kind-left form.0 limit delta.0.1 contents.0 contents.1 in
@@ -195,8 +192,8 @@ frames-left : (n : ℕ) (before : Option ℕ) (limit : ℕ) (bytes : List ℕ) (
 unfolding frames_at
 frames-left zero before limit bytes x e = subst (λ (y : List Frame × List ℕ). total weight y.0 + 3 * length y.1 ≤ 3 * length bytes) (ok_is _ x e) (omega arith)
 frames-left (suc n) before limit bytes x e =
-    let first = bind-ok (frame_at before limit bytes) _ x e in
-    let others = bind-ok (frames_at n (Some first.0.0.at) limit first.0.1) _ x first.2 in
+    let first = ok_parts (frame_at before limit bytes) _ x e in
+    let others = ok_parts (frames_at n (Some first.0.0.at) limit first.0.1) _ x first.2 in
     let one = frame-left before limit bytes first.0 first.1 in
     let more = frames-left n (Some first.0.0.at) limit first.0.1 others.0 others.1 in
     subst (λ (y : List Frame × List ℕ). total weight y.0 + 3 * length y.1 ≤ 3 * length bytes) (ok_is _ x others.2) (omega arith)
@@ -204,7 +201,7 @@ frames-left (suc n) before limit bytes x e =
 table-left : (limit : ℕ) (bytes : List ℕ) (x : List Frame × List ℕ) → table_at limit bytes ≡ Ok x → total weight x.0 + 6 ≤ 3 * length bytes
 unfolding table_at
 table-left limit bytes x e =
-    let count = bind-ok (number_at w16 limit bytes) _ x e in
+    let count = ok_parts (number_at w16 limit bytes) _ x e in
     let number = u2-left limit bytes count.0 count.1 in
     let frames = frames-left count.0.0 None limit count.0.1 x count.2 in
     omega arith
@@ -212,8 +209,8 @@ table-left limit bytes x e =
 read-weigh : (bytes : List ℕ) (frames : List Frame) → frames_of bytes ≡ Ok frames → total weight frames + 6 ≤ 3 * length bytes
 unfolding frames_of
 read-weigh bytes frames e =
-    let table = bind-ok (table_at (length bytes) bytes) _ frames e in
-    let ends = bind-ok (nothing_left (length bytes) table.0.1) _ frames table.2 in
+    let table = ok_parts (table_at (length bytes) bytes) _ frames e in
+    let ends = ok_parts (nothing_left (length bytes) table.0.1) _ frames table.2 in
     subst (λ (fs : List Frame). total weight fs + 6 ≤ 3 * length bytes) (ok_is table.0.0 frames ends.2) (table-left (length bytes) bytes table.0 table.1)
 
 -- ---- how long frames are
@@ -320,8 +317,8 @@ ten v = 10
 line-left : Takes four line_at
 unfolding line_at
 line-left = λ limit bytes x e.
-    let start = bind-ok (number_at w16 limit bytes) _ x e in
-    let number = bind-ok (number_at w16 limit start.0.1) _ x start.2 in
+    let start = ok_parts (number_at w16 limit bytes) _ x e in
+    let number = ok_parts (number_at w16 limit start.0.1) _ x start.2 in
     let a = u2-left limit bytes start.0 start.1 in
     let b = u2-left limit start.0.1 number.0 number.1 in
     subst (λ (y : Line × List ℕ). 4 + length y.1 ≤ length bytes) (ok_is _ x number.2) (omega arith)
@@ -329,11 +326,11 @@ line-left = λ limit bytes x e.
 variable-left : Takes ten variable_at
 unfolding variable_at
 variable-left = λ limit bytes x e.
-    let start = bind-ok (number_at w16 limit bytes) _ x e in
-    let len = bind-ok (number_at w16 limit start.0.1) _ x start.2 in
-    let name = bind-ok (number_at w16 limit len.0.1) _ x len.2 in
-    let descriptor = bind-ok (number_at w16 limit name.0.1) _ x name.2 in
-    let slot = bind-ok (number_at w16 limit descriptor.0.1) _ x descriptor.2 in
+    let start = ok_parts (number_at w16 limit bytes) _ x e in
+    let len = ok_parts (number_at w16 limit start.0.1) _ x start.2 in
+    let name = ok_parts (number_at w16 limit len.0.1) _ x len.2 in
+    let descriptor = ok_parts (number_at w16 limit name.0.1) _ x name.2 in
+    let slot = ok_parts (number_at w16 limit descriptor.0.1) _ x descriptor.2 in
     let a = u2-left limit bytes start.0 start.1 in
     let b = u2-left limit start.0.1 len.0 len.1 in
     let c = u2-left limit len.0.1 name.0 name.1 in
@@ -343,8 +340,8 @@ variable-left = λ limit bytes x e.
 
 rows-weigh : {A : Type 0} (each : A → ℕ) (item : ℕ → List ℕ → Read A) → Takes each item → (bytes : List ℕ) (rows : List A) → whole_of (counted_at item) bytes ≡ Ok rows → total each rows + 2 ≤ length bytes
 rows-weigh each item takes bytes rows e =
-    let found = bind-ok (counted_at item (length bytes) bytes) _ rows e in
-    let ends = bind-ok (nothing_left (length bytes) found.0.1) _ rows found.2 in
+    let found = ok_parts (counted_at item (length bytes) bytes) _ rows e in
+    let ends = ok_parts (nothing_left (length bytes) found.0.1) _ rows found.2 in
     let left = counted-left each item takes (length bytes) bytes found.0 found.1 in
     subst (λ (rs : List _). total each rs + 2 ≤ length bytes) (ok_is found.0.0 rows ends.2) (omega arith)
 
@@ -365,7 +362,7 @@ length-variables homes (v ∷ rest) =
 pub length-shifted_lines : (homes : Homes) (bytes new : List ℕ) → shifted_lines homes bytes ≡ Ok new → length new ≤ length bytes
 unfolding shifted_lines lines_of
 length-shifted_lines homes bytes new e =
-    let lines = bind-ok (lines_of bytes) _ new e in
+    let lines = ok_parts (lines_of bytes) _ new e in
     let read = rows-weigh four line_at line-left bytes lines.0 lines.1 in
     let long = length-lines homes lines.0 in
     subst (λ (xs : List ℕ). length xs ≤ length bytes) (ok_is _ new lines.2) (omega arith)
@@ -373,7 +370,7 @@ length-shifted_lines homes bytes new e =
 pub length-shifted_variables : (homes : Homes) (bytes new : List ℕ) → shifted_variables homes bytes ≡ Ok new → length new ≤ length bytes
 unfolding shifted_variables variables_of
 length-shifted_variables homes bytes new e =
-    let variables = bind-ok (variables_of bytes) _ new e in
+    let variables = ok_parts (variables_of bytes) _ new e in
     let read = rows-weigh ten variable_at variable-left bytes variables.0 variables.1 in
     let long = length-variables homes variables.0 in
     subst (λ (xs : List ℕ). length xs ≤ length bytes) (ok_is _ new variables.2) (omega arith)

@@ -101,7 +101,7 @@ one_item_at limit bytes = do
 
 unfoldable pub append_at : ℕ → ℕ → List ℕ → Read FrameKind
 append_at count limit bytes = do
-  locals ← many_at type_at count limit bytes
+  locals ← many_at (type_at limit) count bytes
   Ok (Append locals.0, locals.1)
 
 unfoldable pub full_at : ℕ → List ℕ → Read FrameKind

@@ -27,7 +27,7 @@ pub(crate) fn many_of<'a, T: Drop, R: ReadItem<T>>(
     limit: usize,
     bytes: &'a [u8],
 ) -> Result<(Seq<T>, &'a [u8]), FrameError>
-    ensures items { Gives with_rest result (many_at (R.item reader.now) count limit bytes.now) }
+    ensures items { Gives with_rest result (many_at (R.item reader.now limit) count bytes.now) }
     ensures many { IfOk result (λ x. length x.0 ≡ count) }
 {
     let mut items = Seq::new(alloc);

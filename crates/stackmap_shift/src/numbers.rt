@@ -1,19 +1,12 @@
 //! Big-endian numbers (JVM Specification 4). Each reader here and in the other modules is given the table's length and the bytes
 //! that are left of the table; it answers the bytes behind its item.
 
-ghost use Rattle.std.specs.Prelude.{◌≡◌};
 ghost use Rattle.std.specs.Int.{w8, w16};
-ghost use Rattle.stackmap_shift.specs.Tables.{Gives, place, with_rest, number_at, nothing_left};
+ghost use Rattle.stackmap_shift.specs.Tables.{Gives, with_rest, number_at, nothing_left};
 
 use crate::error::FrameError;
+use byte_formats::place_of;
 use byteorder::{BigEndian, ByteOrder};
-
-/// The offset in the table of the bytes that are left.
-pub(crate) fn place_of(limit: usize, bytes: &[u8]) -> usize
-    ensures { result ≡ place limit bytes.now }
-{
-    limit.saturating_sub(bytes.len())
-}
 
 /// A u1.
 #[tactic(auto, unfolding(crate::specs::Tables::number_at))]

@@ -9,8 +9,9 @@ use crate::error::FrameError;
 use crate::forms::{Form, delta_of, known_form, offset_of};
 use crate::frames::{Frame, FrameKind, Frames};
 use crate::lists::{counted_of, many_of};
-use crate::numbers::{nothing_left, place_of, u8_of, u16_of};
+use crate::numbers::{nothing_left, u8_of, u16_of};
 use crate::types::{Types, type_of};
+use byte_formats::place_of;
 use jf_bytes::Seq;
 use std::alloc::Global;
 

@@ -7,7 +7,8 @@ ghost use Rattle.stackmap_shift.specs.Frames.{plain_type, known_type, object_at,
 use crate::error::FrameError;
 use crate::frames::VType;
 use crate::lists::ReadItem;
-use crate::numbers::{place_of, u8_of, u16_of};
+use crate::numbers::{u8_of, u16_of};
+use byte_formats::place_of;
 
 /// The type that is this tag alone.
 fn plain_type(tag: u8) -> Option<VType>

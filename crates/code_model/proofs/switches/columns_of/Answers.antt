@@ -1,14 +1,16 @@
 use Rattle.std.proofs.Common.{rules, FitsSigned, w32}
 use Rattle.std.proofs.lemmas.Int.{to_z-of_z}
 use Rattle.std.proofs.lemmas.Result.{err_from_is_err_and}
+use Rattle.byte_formats.proofs.Many.{goes_on, ends}
+use Rattle.code_model.specs.declared.error.CodeError.TheVariants.{NoMemory}
 use Rattle.code_model.specs.Reading.{pair_at, columns_at}
-use Rattle.code_model.proofs.Many.{goes_on, ends, columns_done, in_columns, one_row_more, in_columns-cons, in_columns-fails}
+use Rattle.code_model.proofs.Many.{columns_done, in_columns, one_row_more, in_columns-cons, in_columns-fails}
 use Rattle.code_model.proofs.switches.columns_of.Goals as goal
 
 pub returns-in_err-pair : goal.returns-in_err-pair
 returns-in_err-pair c =
     let p = err_from_is_err_and c.from_residual.result c.from_residual.ensures.1 in
-    rw (p.1, p.2) (ends (pair_at c.args.at) in_columns one_row_more in_columns-cons in_columns-fails c.in_err-pair.field-0.0 (c.loop.keys, c.loop.targets) c.args.count c.loop.counter c.loop.rest.now (columns_at c.args.at c.args.count c.args.bytes.now) c.loop-test.true c.in_err-pair.ensures c.loop.invariant)
+    rw (p.1, p.2) (ends (pair_at c.args.at) in_columns one_row_more in_columns-cons in_columns-fails NoMemory c.in_err-pair.field-0.0 (c.loop.keys, c.loop.targets) c.args.count c.loop.counter c.loop.rest.now (columns_at c.args.at c.args.count c.args.bytes.now) c.loop-test.true c.in_err-pair.ensures c.loop.invariant)
 
 pub loop-preserved : goal.loop-preserved
 loop-preserved c =

@@ -1,20 +1,21 @@
 use Rattle.std.proofs.Common.{[], ◌∷◌, arith}
 use Rattle.std.proofs.lemmas.List.{length-append}
 use Rattle.std.proofs.lemmas.Result.{err_from_is_err_and}
+use Rattle.byte_formats.proofs.Many.{list_goes_on, list_ends, list_done}
+use Rattle.stackmap_shift.specs.declared.error.FrameError.TheVariants.{NoMemory}
 use Rattle.stackmap_shift.specs.Tables.{many_at}
-use Rattle.stackmap_shift.proofs.Many.{goes_on, ends, is_done}
 use Rattle.stackmap_shift.proofs.lists.many_of.Goals as goal
 
 pub returns-in_err-item-clause-items : goal.returns-in_err-item-clause-items
 returns-in_err-item-clause-items g c =
-    let item = g.R.ReadItem.item c.args.reader.now in
+    let item = g.R.ReadItem.item c.args.reader.now c.args.limit in
     let p = err_from_is_err_and c.from_residual.result c.from_residual.ensures.1 in
-    rw (p.1, p.2) (ends item c.args.limit c.in_err-item.field-0.0 c.loop.items c.args.count c.loop.counter c.loop.rest.now (many_at item c.args.count c.args.limit c.args.bytes.now) c.loop-test.true c.in_err-item.ensures c.loop.invariant.joined)
+    rw (p.1, p.2) (list_ends item NoMemory c.in_err-item.field-0.0 c.loop.items c.args.count c.loop.counter c.loop.rest.now (many_at item c.args.count c.args.bytes.now) c.loop-test.true c.in_err-item.ensures c.loop.invariant.joined)
 
 pub loop-preserved : goal.loop-preserved
 loop-preserved g c =
-    let item = g.R.ReadItem.item c.args.reader.now in
-    let joined = goes_on item c.args.limit c.loop.items c.args.count c.loop.counter c.loop.rest.now c.in_ok-item.item c.in_ok-item.after.now (many_at item c.args.count c.args.limit c.args.bytes.now) c.loop-test.true c.in_ok-item.ensures c.loop.invariant.joined in
+    let item = g.R.ReadItem.item c.args.reader.now c.args.limit in
+    let joined = list_goes_on item c.loop.items c.args.count c.loop.counter c.loop.rest.now c.in_ok-item.item c.in_ok-item.after.now (many_at item c.args.count c.args.bytes.now) c.loop-test.true c.in_ok-item.ensures c.loop.invariant.joined in
     record {
       joined = rw c.in_ok-push.ensures.items joined;
       many = rw c.in_ok-push.ensures.items (omega (arith, length-append c.loop.items (c.in_ok-item.item ∷ []), c.loop.invariant.many));
@@ -22,5 +23,5 @@ loop-preserved g c =
 
 pub returns-clause-items : goal.returns-clause-items
 returns-clause-items g c =
-    let item = g.R.ReadItem.item c.args.reader.now in
-    is_done item c.args.limit c.loop.items c.args.count c.loop.counter c.loop.rest.now (many_at item c.args.count c.args.limit c.args.bytes.now) c.loop-test.false c.loop.invariant.joined
+    let item = g.R.ReadItem.item c.args.reader.now c.args.limit in
+    list_done item c.loop.items c.args.count c.loop.counter c.loop.rest.now (many_at item c.args.count c.args.bytes.now) c.loop-test.false c.loop.invariant.joined

@@ -5,6 +5,6 @@ use Rattle.stackmap_shift.proofs.lists.many_of.Given as goal
 
 abbrev pub invariant-loop : goal.invariant-loop
 invariant-loop g l = record {
-  joined : with_front l.items (many_at (g.R.ReadItem.item l.reader) (l.count - l.counter) l.limit l.rest) ≡ many_at (g.R.ReadItem.item l.reader) l.count l.limit l.bytes;
+  joined : with_front l.items (many_at (g.R.ReadItem.item l.reader l.limit) (l.count - l.counter) l.rest) ≡ many_at (g.R.ReadItem.item l.reader l.limit) l.count l.bytes;
   many : length l.items ≡ l.counter;
 }

@@ -1,21 +1,20 @@
 -- Reading one item after the other reads a format in turn.
 use Rattle.std.proofs.Common.{◌≡◌, ℕ, zero, suc, ◌⊎◌, inl, inr, List, [], ◌∷◌, ◌++◌, Ok, Err, refl, sym, ap, ◌∙◌, append_assoc}
-use Rattle.class_reader.specs.declared.error.ReadError.{ReadError}
-use Rattle.class_reader.specs.Formats.{Format, AreInTurn, FaultsBehind, value_made, in_turn, many}
-use Rattle.class_reader.specs.Reading.{◌>>=◌, Read, many_at}
-use Rattle.class_reader.proofs.Items.{IsBytes, Takes, IsRead, one_read, read_parts, no_fault, ok_parts, err_parts}
+use Rattle.byte_formats.specs.Formats.{Format, AreInTurn, FaultsBehind, value_made, fails, in_turn, many}
+use Rattle.byte_formats.specs.Reading.{◌>>=◌, Read, many_at}
+use Rattle.byte_formats.proofs.Items.{Takes, IsRead, one_read, read_parts, no_fault, ok_parts, err_parts}
 
 -- nothing is read: the value is known
-abbrev pub made_at : {A : Type 0} → A → ℕ → List ℕ → Read A
+abbrev pub made_at : {E A : Type 0} → A → ℕ → List ℕ → Read E A
 made_at x limit bytes = Ok (x, bytes)
 
 -- what is read after an item goes on behind it
-abbrev pub next : {A B : Type 0} → (ℕ → List ℕ → Read A) → (A → ℕ → List ℕ → Read B)
-    → ℕ → List ℕ → Read B
+abbrev pub next : {E A B : Type 0} → (ℕ → List ℕ → Read E A) → (A → ℕ → List ℕ → Read E B)
+    → ℕ → List ℕ → Read E B
 next p q limit bytes = p limit bytes >>= λ a. q a.0 limit a.1
 
-made_takes : {A : Type 0} (value : A) (bytes : List ℕ) (x : A) (rest : List ℕ) → IsBytes bytes
-    → one_read value bytes ≡ one_read x rest → Takes (value_made value) bytes x rest
+made_takes : {E A : Type 0} {Fits : List ℕ → Type 0} (value : A) (bytes : List ℕ) (x : A) (rest : List ℕ) → Fits bytes
+    → one_read {E = E} value bytes ≡ one_read x rest → Takes {E = E} Fits (value_made value) bytes x rest
 made_takes value bytes x rest fits e =
     let same = read_parts value bytes x rest e in
     record {
@@ -25,11 +24,12 @@ made_takes value bytes x rest fits e =
       rest_fits = rw (← same.1) fits;
     }
 
-made_again : {A : Type 0} (value : A) (front rest : List ℕ) (x : A) → (x ≡ value) × (front ≡ [])
-    → one_read value (front ++ rest) ≡ one_read x rest
+made_again : {E A : Type 0} (value : A) (front rest : List ℕ) (x : A) → (x ≡ value) × (front ≡ [])
+    → one_read {E = E} value (front ++ rest) ≡ one_read x rest
 made_again value front rest x h = rw (h.0, h.1) refl
 
-pub made_is_read : {A : Type 0} (value : A) → IsRead (made_at value) (value_made value)
+pub made_is_read : {E A : Type 0} {Fits : List ℕ → Type 0} (value : A)
+    → IsRead {E = E} Fits (made_at value) (value_made value)
 made_is_read value = record {
   takes = λ limit bytes x rest fits e. made_takes value bytes x rest fits e;
   again = λ limit front rest x h. made_again value front rest x h;
@@ -37,16 +37,33 @@ made_is_read value = record {
   stops = λ limit bytes fault h. absurd h;
 }
 
-module _ {A B : Type 0} (p : ℕ → List ℕ → Read A) (q : A → ℕ → List ℕ → Read B)
-    (P : Format A) (Q : A → Format B)
-    (first : IsRead p P) (second : (x : A) → IsRead (q x) (Q x)) where
+-- nothing is read: the fault is known
+abbrev pub fails_at : {E A : Type 0} → E → ℕ → List ℕ → Read E A
+fails_at why limit bytes = Err why
+
+fails_faults : {E A : Type 0} (why fault : E) → ◌≡◌ {A = Read E A} (Err why) (Err fault)
+    → fault ≡ why
+fails_faults why fault e = cc
+
+pub fails_is_read : {E A : Type 0} {Fits : List ℕ → Type 0} (why : E)
+    → IsRead {A = A} Fits (fails_at why) (fails why)
+fails_is_read {A = A} why = record {
+  takes = λ limit bytes x rest fits e. absurd (no_fault x rest why (sym e));
+  again = λ limit front rest x h. absurd h;
+  faults = λ limit bytes fault fits e. fails_faults {A = A} why fault e;
+  stops = λ limit bytes fault h. ap Err (sym h);
+}
+
+module _ {E A B : Type 0} {Fits : List ℕ → Type 0} (p : ℕ → List ℕ → Read E A) (q : A → ℕ → List ℕ → Read E B)
+    (P : Format E A) (Q : A → Format E B)
+    (first : IsRead Fits p P) (second : (x : A) → IsRead Fits (q x) (Q x)) where
   -- what follows an item that was read
-  abbrev then_read : ℕ → Read A → Read B
+  abbrev then_read : ℕ → Read E A → Read E B
   then_read limit read = read >>= λ a. q a.0 limit a.1
 
-  turn_takes : (limit : ℕ) (bytes : List ℕ) (y : B) (rest : List ℕ) → IsBytes bytes
+  turn_takes : (limit : ℕ) (bytes : List ℕ) (y : B) (rest : List ℕ) → Fits bytes
       → next p q limit bytes ≡ Ok (y, rest)
-      → Takes (in_turn P Q) bytes y rest
+      → Takes Fits (in_turn P Q) bytes y rest
   turn_takes limit bytes y rest fits e =
       let a = ok_parts _ _ _ e in
       let one = first.takes limit bytes a.0.0 a.0.1 fits a.1 in
@@ -80,7 +97,7 @@ module _ {A B : Type 0} (p : ℕ → List ℕ → Read A) (q : A → ℕ → Lis
       ∙ ap (then_read limit) (first.again limit h.front (h.rest ++ rest) h.x h.first)
       ∙ (second h.x).again limit h.rest rest y h.second
 
-  turn_faults : (limit : ℕ) (bytes : List ℕ) (fault : ReadError) → IsBytes bytes
+  turn_faults : (limit : ℕ) (bytes : List ℕ) (fault : E) → Fits bytes
       → next p q limit bytes ≡ Err fault
       → P.Faults limit bytes fault ⊎ FaultsBehind P Q limit bytes fault
   turn_faults limit bytes fault fits e = elim (err_parts _ _ _ e) [
@@ -97,7 +114,7 @@ module _ {A B : Type 0} (p : ℕ → List ℕ → Read A) (q : A → ℕ → Lis
         })
   ]
 
-  turn_stops : (limit : ℕ) (bytes : List ℕ) (fault : ReadError)
+  turn_stops : (limit : ℕ) (bytes : List ℕ) (fault : E)
       → P.Faults limit bytes fault ⊎ FaultsBehind P Q limit bytes fault
       → next p q limit bytes ≡ Err fault
   turn_stops limit bytes fault (inl h) =
@@ -107,17 +124,20 @@ module _ {A B : Type 0} (p : ℕ → List ℕ → Read A) (q : A → ℕ → Lis
       ∙ ap (then_read limit) (first.again limit h.front h.rest h.x h.first)
       ∙ (second h.x).stops limit h.rest fault h.second
 
-  made_in_turn : IsRead (next p q) (in_turn P Q)
+  made_in_turn : IsRead Fits (next p q) (in_turn P Q)
   made_in_turn =
       record { takes = turn_takes; again = turn_again; faults = turn_faults; stops = turn_stops }
 
-pub in_turn_is_read : {A B : Type 0} {p : ℕ → List ℕ → Read A} {q : A → ℕ → List ℕ → Read B}
-    {P : Format A} {Q : A → Format B} → IsRead p P → ((x : A) → IsRead (q x) (Q x))
-    → IsRead (next p q) (in_turn P Q)
+pub in_turn_is_read : {E A B : Type 0} {Fits : List ℕ → Type 0} {p : ℕ → List ℕ → Read E A}
+    {q : A → ℕ → List ℕ → Read E B} {P : Format E A} {Q : A → Format E B}
+    → IsRead Fits p P → ((x : A) → IsRead Fits (q x) (Q x))
+    → IsRead Fits (next p q) (in_turn P Q)
 in_turn_is_read first second = made_in_turn _ _ _ _ first second
 
-pub many_is_read : {A : Type 0} {item : ℕ → List ℕ → Read A} {P : Format A} → IsRead item P
-    → (n : ℕ) → IsRead (many_at item n) (many P n)
+-- so many, one after the other
+pub many_is_read : {E A : Type 0} {Fits : List ℕ → Type 0} {item : ℕ → List ℕ → Read E A}
+    {P : Format E A} → IsRead Fits item P
+    → (n : ℕ) → IsRead Fits (λ limit. many_at (item limit) n) (many P n)
 unfolding many_at
 many_is_read law zero = made_is_read []
 many_is_read law (suc n) =

@@ -1,0 +1,4 @@
+pub mod Items
+pub mod Turns
+pub mod Conditions
+pub mod Many
