@@ -1,22 +1,17 @@
 -- How multianewarray reads its operands, counts slots and makes arrays.
-use Rattle.std.proofs.Common.{◌≡◌, ℕ, zero, suc, ◌+◌, ◌-◌, ◌<◌, ◌≤◌, true, false, List, [], ◌∷◌, ◌++◌, ap, sym, subst, refl, ◌∙◌, arith}
+use Rattle.std.proofs.Common.{◌≡◌, ℕ, zero, suc, ◌+◌, ◌-◌, ◌<◌, ◌≤◌, List, [], ◌∷◌, ◌++◌, ap, sym, refl, ◌∙◌, arith}
 use Rattle.std.proofs.lemmas.List.{append-nil, append_assoc}
-use Rattle.std.specs.Prelude.{◌/◌, length, drop, Option, Some, None, ℤ, pos, negsuc, nat_le, slice_get, if◌then◌else◌}
+use Rattle.std.specs.Prelude.{◌/◌, length, Option, Some, None, ℤ, pos, negsuc, slice_get}
 use Rattle.std.specs.Option.{option_and_then, option_map}
-use Rattle.heap_objects.specs.declared.Value.{Value}
 use Rattle.heap_objects.specs.declared.datum.Datum.TheVariants as datum
 use Rattle.heap_objects.specs.Heaps.{HeapView, new_array, next_number, with_array, with_slot_at}
 use Rattle.heap_objects.specs.declared.Value.TheVariants.{Int, Long, Ref, Addr}
-use Rattle.frame_stack.specs.FrameLists.{FramesView, PlacedFrame, AreSound, top_operands, with_frames, without_arguments}
-use Rattle.frame_stack.specs.Widths.{height_of}
-use Rattle.jvm_basic.specs.Outcomes.{can_hold}
 use Rattle.jvm_model.specs.Instructions.CreationRules.{counts_from, counts_of, lengths_of, with_arrays, with_parts}
 use Rattle.jvm_model.specs.Basis.KindNumbers.{first_array, user_count}
 use Rattle.class_linker.specs.Linkers.{IsLoaded, LinkerView}
-use Rattle.jvm_model.specs.Basis.Data.{Operands, GoesOn, Next}
+use Rattle.jvm_model.specs.Basis.Data.{Operands}
 use Rattle.symbolic_references.specs.Arrays.{AreUsable, int_at, lengths_from}
 use Rattle.symbolic_references.specs.Objects.{AreLoaded, IsUsable}
-use Rattle.symbolic_references.proofs.Going.{height-dropped, within-limit}
 use Rattle.symbolic_references.proofs.KindLemmas.{under_usable}
 use Rattle.symbolic_references.proofs.ObjectLemmas.{objects_slot, objects_with}
 

@@ -7,7 +7,7 @@ use Rattle.heap_objects.specs.Heaps.{HeapView}
 use Rattle.jvm_basic.specs.Outcomes.{top_locals}
 use Rattle.jvm_model.specs.declared.program.Program.{Program}
 use Rattle.jvm_model.specs.declared.state.Shared.{Shared}
-use Rattle.jvm_model.specs.Basis.Data.{Operands, Outcome, World, Done}
+use Rattle.jvm_model.specs.Basis.Data.{Operands, World, Done}
 use Rattle.jvm_model.specs.Classes.Load.{load_of}
 use Rattle.jvm_model.specs.Instructions.SymbolicReference.{newly_loaded, resolved_kind, resolved_name, resolves, unless_refused}
 use Rattle.jvm_model.specs.declared.instruction.SymbolicReference.{SymbolicReference}
@@ -17,7 +17,7 @@ use Rattle.jvm_model.specs.Instructions.ObjectRules.{done}
 use Rattle.jvm_model.proofs.Loading.LoadsAgain.{newly-loaded, resolved-again}
 use Rattle.class_linker.specs.Linkers.{LinkerView}
 use Rattle.symbolic_references.specs.declared.outcome.AbruptCompletion.{AbruptCompletion}
-use Rattle.symbolic_references.specs.Answers.{Rule, done_on, abrupt_view}
+use Rattle.symbolic_references.specs.Answers.{done_on, abrupt_view}
 use Rattle.jf_bytes.specs.declared.error.NoMemory.{NoMemory}
 use Rattle.symbolic_references.specs.declared.outcome.Outcome.{Outcome as TheOutcome}
 use Rattle.symbolic_references.specs.Outcomes.{Asks, Leaves, asked}

@@ -1,11 +1,8 @@
 -- What is invoked of a method that was selected is known by its number.
-use Rattle.std.proofs.Common.{◌≡◌, ◌≤◌, ℕ, false, List, length, drop, Some, None, refl, sym, ap, subst, ◌∙◌}
-use Rattle.std.proofs.lemmas.List.{append-nil}
-use Rattle.std.specs.Prelude.{Ok, if◌then◌else◌}
+use Rattle.std.proofs.Common.{◌≡◌, ℕ, false, List, Some, None, ap, ◌∙◌}
+use Rattle.std.specs.Prelude.{if◌then◌else◌}
 use Rattle.std.specs.Option.{option_map_or}
-use Rattle.frame_stack.specs.FrameLists.{FramesView, top_operands}
 use Rattle.heap_objects.specs.declared.datum.Datum.{Datum}
-use Rattle.jvm_basic.specs.Outcomes.{top_locals}
 use Rattle.jvm_model.specs.declared.state.Shared.{Shared}
 use Rattle.jvm_model.specs.Basis.Data.{Locals, Operands, World, Invokes, Raises, Breaks}
 use Rattle.jvm_model.specs.Instructions.InvocationRules.{abstract_method, invokes_number, invokes_selected, reference_to, unsatisfied_link}
@@ -14,8 +11,6 @@ use Rattle.jvm_model.specs.Instructions.NativeRules.{runs_native, runs_number}
 use Rattle.jvm_model.specs.Instructions.ObjectRules.{done}
 use Rattle.jvm_model.specs.Basis.Programs.{number_of_method}
 use Rattle.symbolic_references.specs.Callees.{IsCode, IsNative}
-use Rattle.symbolic_references.specs.Targets.{data_in}
-use Rattle.symbolic_references.proofs.TargetLemmas.{length-data}
 
 module _ (w : World) (m : MemberPlace) (args : List Datum) (s : Shared) (l : Locals) (below : Operands) where
   -- a method that has Code

@@ -1,5 +1,5 @@
 -- What is proved of a rule holds of another one that asks for the same of the frame, and what a refusal leaves.
-use Rattle.std.proofs.Common.{◌≡◌, ℕ, suc, zero, List, [], ◌∷◌, ◌++◌, ◌≤◌, length, Option, Some, None, ap, sym, subst, ◌∙◌}
+use Rattle.std.proofs.Common.{◌≡◌, ℕ, suc, zero, ◌≤◌, length, Option, Some, None, ap, sym, subst, ◌∙◌}
 use Rattle.std.proofs.lemmas.List.{append-nil}
 use Rattle.std.specs.Prelude.{Result, IfOk, OnOk}
 use Rattle.jf_bytes.specs.declared.error.NoMemory.{NoMemory}

@@ -15,14 +15,13 @@ use Rattle.jvm_basic.specs.Outcomes.{top_locals}
 use Rattle.native_effects.specs.declared.effects.answer.Answer.{Answer}
 use Rattle.native_effects.specs.declared.effects.answer.Answer.TheVariants as answer
 use Rattle.native_effects.specs.declared.effects.answer.Native.{Native}
-use Rattle.native_ops.specs.Methods.Calls.{IsAnswer, answer_by, is_done, left_by, native_of_answer, world_by}
+use Rattle.native_ops.specs.Methods.Calls.{IsAnswer, is_done, left_by, native_of_answer, world_by}
 use Rattle.native_effects.specs.Inputs.KindsViews.{KindsView}
 use Rattle.native_effects.specs.Inputs.MadeViews.{MadeView}
 use Rattle.native_effects.specs.Effects.Worlds as natives
 use Rattle.native_ops.proofs.KindsKept.{class-kept, kinds-kept}
 use Rattle.native_ops.proofs.KindsMade.{AreMade}
 use Rattle.native_effects.specs.Effects.Making.{heap_after_class}
-use Rattle.jvm_model.specs.declared.state.Shared.{Shared}
 use Rattle.jvm_model.specs.Basis.Data.{Locals, Operands, World, Outcome, Throws, Raises, Breaks, Done}
 use Rattle.jvm_model.specs.Basis.KindNumbers.{class_of_base, user_count}
 use Rattle.jvm_model.specs.Basis.SharedState.{throwable}

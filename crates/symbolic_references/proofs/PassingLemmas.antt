@@ -1,5 +1,5 @@
 -- Where a frame has not gone on by a rule, it is as it was.
-use Rattle.std.proofs.Common.{◌≡◌, ◌≤◌, ℕ, Bool, true, false, cond, List, [], length, Option, Some, None, drop, refl, sym, ap, subst, ◌∙◌}
+use Rattle.std.proofs.Common.{◌≡◌, ◌≤◌, ℕ, Bool, true, false, cond, List, length, Option, Some, None, drop, refl, sym, ap, subst, ◌∙◌}
 use Rattle.std.proofs.lemmas.Bool.{false≢true}
 use Rattle.frame_stack.specs.FrameLists.{FramesView, PlacedFrame, top_operands, with_frames}
 use Rattle.jvm_basic.specs.Outcomes.{can_hold, top_locals, with_top}

@@ -1,11 +1,10 @@
 -- A native method that raises nothing is done, and of one that does nothing is changed (JVM Specification 2.11.8, 6.5).
-use Rattle.std.proofs.Common.{◌≡◌, ◌≤◌, ◌<◌, ℕ, zero, suc, Bool, true, false, cond, List, [], ◌∷◌, ◌++◌, length, drop, Option, Some, None, inl, inr, refl, sym, ap, subst, ◌∙◌, arith}
+use Rattle.std.proofs.Common.{◌≡◌, ◌≤◌, ◌<◌, ℕ, zero, suc, Bool, true, false, cond, List, [], ◌∷◌, length, drop, Option, Some, None, inl, inr, refl, sym, ap, subst, ◌∙◌, arith}
 use Rattle.std.specs.Prelude.{◌==◌}
 use Rattle.std.specs.Option.{option_map}
 use Rattle.std.proofs.lemmas.Bool.{false≢true}
 use Rattle.std.proofs.lemmas.List.{append-nil}
 use Rattle.heap_objects.specs.Changes.{changed_if}
-use Rattle.heap_objects.specs.Heaps.{HeapView}
 use Rattle.heap_objects.specs.declared.datum.Datum.{Datum}
 use Rattle.heap_objects.specs.declared.datum.Datum.TheVariants as datum
 use Rattle.frame_stack.specs.FrameLists.{AreSound, FramesView, PlacedFrame, top_operands}
@@ -17,9 +16,7 @@ use Rattle.native_effects.specs.declared.effects.answer.Native.{Native}
 use Rattle.native_effects.specs.declared.effects.answer.Native.TheVariants as native
 use Rattle.native_ops.specs.Methods.Calls.{IsAnswer, answer_by, is_done, left_by, native_of_answer, world_by}
 use Rattle.native_effects.specs.Inputs.KindsViews.{KindsView}
-use Rattle.native_effects.specs.Inputs.MadeViews.{MadeView}
 use Rattle.native_effects.specs.Effects.Worlds as natives
-use Rattle.jvm_model.specs.declared.state.Shared.{Shared}
 use Rattle.jvm_model.specs.Basis.Data.{Locals, Operands, Outcome, Done, World}
 use Rattle.jvm_model.specs.Instructions.NativeRules.{kinds_in, runs_number, seen_by_natives}
 use Rattle.jvm_model.specs.Basis.Values.{as_value, with_value}
@@ -29,7 +26,7 @@ use Rattle.symbolic_references.proofs.NativesKept.{IsNarrow, IsNarrowValue, call
 use Rattle.frame_stack.specs.FrameLists.{with_frames}
 use Rattle.symbolic_references.specs.Answers.{Continues, Exceeds, answer_in, frames_in}
 use Rattle.symbolic_references.specs.Passing.{IfPassed, is_next}
-use Rattle.symbolic_references.specs.Runtimes.{RuntimeView, after}
+use Rattle.symbolic_references.specs.Runtimes.{RuntimeView}
 use Rattle.symbolic_references.proofs.NativeLemmas.{answers, leaves}
 use Rattle.symbolic_references.specs.NativeCalls.{with_left}
 use Rattle.symbolic_references.proofs.PassingLemmas.{next-is, not-moved, passed-on}

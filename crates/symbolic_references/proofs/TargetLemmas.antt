@@ -1,17 +1,16 @@
 -- The rules of invocations by the target that is found before anything is changed (JVM Specification 6.5).
-use Rattle.std.proofs.Common.{◌≡◌, ℕ, ◌≤◌, List, length, drop, take, min, Option, Some, None, refl, sym, ap, subst, ◌∙◌, arith}
+use Rattle.std.proofs.Common.{◌≡◌, ℕ, ◌≤◌, List, length, drop, take, min, Option, Some, None, refl, sym, ap, ◌∙◌, arith}
 use Rattle.std.specs.Prelude.{false, true, reverse, Result, Ok, Err}
 use Rattle.std.specs.Option.{option_map}
 use Rattle.std.proofs.lemmas.Bool.{false≢true}
-use Rattle.std.proofs.lemmas.List.{append-nil, length-map, length-reverse, length-take}
+use Rattle.std.proofs.lemmas.List.{length-map, length-reverse, length-take}
 use Rattle.heap_objects.specs.declared.datum.Datum.{Datum}
 use Rattle.heap_objects.specs.Heaps.{kind_at}
 use Rattle.const_pool.specs.References.{Reference}
-use Rattle.frame_stack.specs.FrameLists.{FramesView}
 use Rattle.jvm_model.specs.declared.state.Phase.{Phase}
 use Rattle.jvm_model.specs.declared.state.Phase.TheVariants.{Fresh, Running, Ready, Erroneous}
 use Rattle.jvm_model.specs.declared.state.Shared.{Shared}
-use Rattle.jvm_model.specs.Basis.Data.{Locals, Operands, World, Outcome, Done}
+use Rattle.jvm_model.specs.Basis.Data.{Locals, Operands, World, Outcome}
 use Rattle.jvm_model.specs.Instructions.InvocationRules.{Selecting, arguments_by, invokes_on, invokes_selected, invokes_with_static, names_interface, not_of_class, receiver_in, selected_by}
 use Rattle.jvm_model.specs.Classes.Lookup.{MemberPlace}
 use Rattle.jvm_model.specs.Instructions.SymbolicReference.{◌>>=◌, is_instance, present, receiver, unless_refused}

@@ -1,17 +1,11 @@
 -- What an instruction comes to, by the outcome of its rule: the answer, and what becomes of the current frame (JVM Specification 2.6,
 -- 4.9.2, 6.5).
-use Rattle.std.specs.Prelude.{◌≡◌, ℕ, false, List, [], length, slice_get, unwrap_or, Result, Ok, Err, IfOk, OnOk, ◌==◌, if◌then◌else◌}
-use Rattle.const_pool.specs.BuiltIn.{built_in_names}
-use Rattle.jf_bytes.specs.declared.error.NoMemory.{NoMemory}
-use Rattle.frame_stack.specs.FrameLists.{PlacedFrame, FramesView, with_frames, top_operands}
+use Rattle.std.specs.Prelude.{ℕ, false, List, Result, Ok, Err, ◌==◌, if◌then◌else◌}
+use Rattle.frame_stack.specs.FrameLists.{PlacedFrame, FramesView, top_operands}
 use Rattle.jvm_basic.specs.Outcomes.{can_hold, top_locals, with_top}
-use Rattle.jvm_model.specs.Instructions.CreationRules.{class_cast, instantiation_error}
 use Rattle.jvm_model.specs.declared.state.Shared.{Shared}
-use Rattle.jvm_model.specs.Basis.Data.{Locals, Operands, Next, Outcome, GoesOn, Invokes, Raises, Throws, Initializes, Exits, Breaks, Done}
-use Rattle.jvm_model.specs.Instructions.InvocationRules.{abstract_method, unsatisfied_link}
-use Rattle.jvm_model.specs.Classes.Load.{circular_class}
-use Rattle.jvm_model.specs.Classes.Lookup.{MemberPlace, incompatible_change}
-use Rattle.jvm_model.specs.Basis.SharedState.{negative_array_size, no_class_definition, no_such_field, no_such_method, null_pointer}
+use Rattle.jvm_model.specs.Basis.Data.{Locals, Operands, Next, Outcome, GoesOn, Raises, Throws, Initializes, Exits, Breaks, Done}
+use Rattle.jvm_model.specs.Classes.Lookup.{MemberPlace}
 use Rattle.symbolic_references.specs.declared.declared_member.DeclaredMember.{DeclaredMember}
 use Rattle.symbolic_references.specs.Members.{at_place}
 use Rattle.jvm_model.specs.declared.exception.Exception.{Exception}

@@ -1,5 +1,5 @@
 -- What the code asks for, as the definitions have it: from the locals and operands of the current frame.
-use Rattle.std.specs.Prelude.{◌≡◌, ◌≤◌, ℕ, suc, drop, length, Option, Some, Result, IfOk, OnOk}
+use Rattle.std.specs.Prelude.{◌≡◌, ◌≤◌, suc, drop, length, Some, Result, IfOk, OnOk}
 use Rattle.jf_bytes.specs.declared.error.NoMemory.{NoMemory}
 use Rattle.frame_stack.specs.FrameLists.{FramesView, top_operands}
 use Rattle.jvm_basic.specs.Outcomes.{top_locals}

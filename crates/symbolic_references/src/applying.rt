@@ -1,8 +1,7 @@
 //! How the frame goes on behind an instruction (JVM Specification 2.6.2, 6.5).
 
-ghost use Rattle.std.specs.Prelude.{◌≡◌, ◌≤◌, ◌∷◌, drop, length, true, None, Some};
+ghost use Rattle.std.specs.Prelude.{◌≡◌, true, None, Some};
 ghost use Rattle.frame_stack.specs.FrameLists.{top_operands, with_frames};
-ghost use Rattle.jvm_basic.specs.Outcomes.{can_hold};
 ghost use Rattle.symbolic_references.specs.Going.{gone, has_gone, holds};
 ghost use Rattle.symbolic_references.specs.Answers.{answer_in, frames_in};
 ghost use Rattle.symbolic_references.specs.Outcomes.{HasOperands, asked};

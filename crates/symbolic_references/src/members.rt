@@ -6,7 +6,6 @@ ghost use Rattle.class_linker.specs.Linkers.{IsLoaded};
 ghost use Rattle.jvm_model.specs.Instructions.FieldRules.{is_static_field};
 ghost use Rattle.jvm_model.specs.Classes.Lookup.{resolved_field};
 ghost use Rattle.jvm_model.specs.Instructions.SymbolicReference.{member_found};
-ghost use Rattle.jvm_model.specs.Basis.SharedState.{class_of_kind};
 ghost use Rattle.symbolic_references.specs.Answers.{place_found};
 ghost use Rattle.symbolic_references.specs.Members.{at_place};
 ghost use Rattle.symbolic_references.specs.Objects.{IsUsable};

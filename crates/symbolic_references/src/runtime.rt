@@ -1,8 +1,7 @@
 //! What all activations of a run share, with the classes that it knows: one owner, whose methods
 //! are the instructions.
 
-ghost use Rattle.std.specs.Prelude.{◌≡◌, [], option_copied};
-ghost use Rattle.class_linker.specs.Linkers.{LinkerView};
+ghost use Rattle.std.specs.Prelude.{◌≡◌, []};
 ghost use Rattle.symbolic_references.specs.Known.{IsKnown};
 ghost use Rattle.symbolic_references.specs.Natives.{HasBuiltIn};
 ghost use Rattle.symbolic_references.specs.Numbers.{AreNumbers};

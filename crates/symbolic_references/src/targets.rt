@@ -1,47 +1,36 @@
 //! Which method an invocation comes to (JVM Specification 5.4.3.3, 5.4.3.4, 6.5), before anything
 //! is changed.
 
-ghost use Rattle.std.specs.Prelude.{◌≡◌, ◌≤◌, ℕ, false, true, length, IfOk, IfSome, Ok, Some};
+ghost use Rattle.std.specs.Prelude.{◌≡◌, ℕ, true, IfOk, IfSome, Some};
 ghost use Rattle.std.specs.Bool.{beq};
 ghost use Rattle.std.specs.Option.{option_and_then, option_map};
 ghost use Rattle.const_pool.specs.References.{name_type_of};
-ghost use Rattle.frame_stack.specs.FrameLists.{top_operands};
 ghost use Rattle.jvm_model.specs.Instructions.InvocationRules.{names_interface, not_of_class, selected_by};
 ghost use Rattle.jvm_model.specs.Classes.Lookup.{resolved_method};
 ghost use Rattle.jvm_model.specs.Instructions.SymbolicReference.{member_found, is_below_kind, where_fitting};
-ghost use Rattle.jvm_model.specs.declared.instruction.SymbolicReference.TheVariants.{Invokestatic};
-ghost use Rattle.jvm_model.specs.Basis.Data.{Raises};
-ghost use Rattle.jvm_model.specs.Basis.Programs.{class_named, name_at};
+ghost use Rattle.jvm_model.specs.Basis.Programs.{class_named};
 ghost use Rattle.jvm_model.specs.Classes.Selection.{access_of, is_abstract, is_static};
-ghost use Rattle.jvm_model.specs.Basis.SharedState.{class_of_kind, no_class_definition};
+ghost use Rattle.jvm_model.specs.Basis.SharedState.{class_of_kind};
 ghost use Rattle.jvm_model.specs.Classes.SuperCalls.{invoked_special};
 ghost use Rattle.class_index.specs.Members.{place_view};
 ghost use Rattle.class_linker.specs.Linkers.{IsLoaded};
 ghost use Rattle.symbolic_references.specs.Answers.{place_found, abrupt_view};
-ghost use Rattle.symbolic_references.specs.Callees.{HasCallee, chosen_place};
-ghost use Rattle.symbolic_references.specs.Known.{IsFoundAs, IsSite, symbolic_reference_by};
 ghost use Rattle.symbolic_references.specs.Members.{at_place};
-ghost use Rattle.symbolic_references.specs.Numbers.{AreNumbers};
 ghost use Rattle.symbolic_references.specs.Objects.{AreLoaded, IsResolved, IsUsable};
 ghost use Rattle.symbolic_references.specs.Resolved.{method_found};
-ghost use Rattle.symbolic_references.specs.Targets.{HasCaller, selecting_view, found_as, instance_target};
-ghost use Rattle.symbolic_references.specs.Targets.{receiver_class, static_target, target_in, unready_by};
+ghost use Rattle.symbolic_references.specs.Targets.{HasCaller, selecting_view, found_as};
+ghost use Rattle.symbolic_references.specs.Targets.{receiver_class};
 
-use crate::callees::callee_of;
 use crate::declared_member::DeclaredMember;
 use crate::instances::kind_of_object;
-use crate::known::{Chosen, Found, Site};
-use crate::numbers::MethodNumbers;
+use crate::known::{Chosen, Found};
 use crate::outcome::AbruptCompletion;
-use crate::receivers::{argument_count, receiver_below};
 use crate::resolution::exception_numbered;
 use base_classes::{ABSTRACT, STATIC};
 use class_linker::{Linker, Resolved};
-use frame_stack::Frames;
 use heap_objects::Heap;
-use jf_bytes::{NoMemory, Text16};
-use jvm_model::{Exception, MemberName, MethodName, Phase, Program, Shared, has_flag};
-use std::alloc::Global;
+use jf_bytes::Text16;
+use jvm_model::{Exception, MemberName, MethodName, Program, has_flag};
 
 /// Which invocation it is: invokespecial with the name of the class in which it stands, and whether
 /// it names an interface's method.

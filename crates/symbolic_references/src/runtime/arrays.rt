@@ -1,25 +1,23 @@
 //! anewarray (JVM Specification 6.5), where the name was resolved.
 
-ghost use Rattle.std.specs.Prelude.{◌≡◌, ◌+◌, ◌<◌, ◌^◌, OnOk};
+ghost use Rattle.std.specs.Prelude.{◌≡◌, ◌+◌, ◌<◌, ◌^◌};
 ghost use Rattle.jvm_model.specs.Instructions.CreationRules.{array_over};
 ghost use Rattle.jvm_model.specs.Instructions.ObjectRules.{makes, makes_array};
 ghost use Rattle.jvm_model.specs.Basis.Values.{int_of};
 ghost use Rattle.symbolic_references.specs.Arrays.{IsPrimitiveArray};
-ghost use Rattle.symbolic_references.specs.Objects.{AreLoaded, IsUsable};
-ghost use Rattle.symbolic_references.specs.Answers.{asked_on, done_on, shared_by, wrote_by};
-ghost use Rattle.symbolic_references.specs.Outcomes.{Asks, HasOperands, HaveOperands, Leaves, Sets, asked, ruled};
-ghost use Rattle.symbolic_references.specs.Runtimes.{after, linker_in, with_loaded, with_shared};
+ghost use Rattle.symbolic_references.specs.Objects.{IsUsable};
+ghost use Rattle.symbolic_references.specs.Outcomes.{Asks, HaveOperands, Sets};
+ghost use Rattle.symbolic_references.specs.Runtimes.{linker_in};
 
 use crate::outcome::{AbruptCompletion, Outcome};
 use crate::runtime::Runtime;
 use crate::runtime::creation::RESERVED;
 use class_index::FIRST_ARRAY;
-use class_linker::Linker;
 use frame_stack::Frames;
 use heap_objects::{Datum, HeapError, Value};
 use jf_bytes::NoMemory;
 use jvm_basic::int_of;
-use jvm_model::{Exception, Shared};
+use jvm_model::Exception;
 
 impl Runtime {
     /// An array of this kind, of so many elements, where there is room for it, in place of the

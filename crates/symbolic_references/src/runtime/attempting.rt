@@ -1,18 +1,16 @@
 //! An attempt of an instruction that names a class or a member.
 
-ghost use Rattle.std.specs.Prelude.{◌≡◌, ◌++◌, is_some, true, IfOk, IfSome, IfNone, OnOk};
-ghost use Rattle.class_linker.specs.Linkers.{IsLoaded};
+ghost use Rattle.std.specs.Prelude.{◌≡◌, is_some, true, IfOk, IfSome, IfNone, OnOk};
 ghost use Rattle.frame_stack.specs.FrameLists.{top_operands};
-ghost use Rattle.jvm_model.specs.Basis.KindNumbers.{user_count};
-ghost use Rattle.jvm_model.specs.Instructions.SymbolicReference.{is_null, newly_loaded, resolved_name, resolves};
+ghost use Rattle.jvm_model.specs.Instructions.SymbolicReference.{is_null, resolved_name, resolves};
 ghost use Rattle.jvm_model.specs.Instructions.ReferenceRules.{does_named};
 ghost use Rattle.symbolic_references.specs.Attempts.{IsFound, attempts, is_loaded, loaded_for, with_more};
 ghost use Rattle.symbolic_references.specs.Known.{IsKnown, LoadsNothing};
-ghost use Rattle.symbolic_references.specs.Objects.{AreLoaded, HasDimensions, HasLoadedCaller};
+ghost use Rattle.symbolic_references.specs.Objects.{HasDimensions, HasLoadedCaller};
 ghost use Rattle.symbolic_references.specs.Resolved.{skips};
-ghost use Rattle.symbolic_references.specs.Answers.{asked_on, done_on, shared_by, wrote_by};
-ghost use Rattle.symbolic_references.specs.Outcomes.{Asks, HasOperands, HaveOperands, Leaves, Sets, asked, ruled};
-ghost use Rattle.symbolic_references.specs.Runtimes.{after, linker_in, with_loaded, with_shared};
+ghost use Rattle.symbolic_references.specs.Answers.{asked_on, done_on};
+ghost use Rattle.symbolic_references.specs.Outcomes.{Asks, HasOperands, HaveOperands, Leaves, asked, ruled};
+ghost use Rattle.symbolic_references.specs.Runtimes.{after, linker_in, with_loaded};
 ghost use Rattle.std.specs.Prelude.{drop, length};
 ghost use Rattle.jvm_model.specs.Classes.Load.{load_of};
 ghost use Rattle.jvm_model.specs.Instructions.SymbolicReference.{resolved_kind};
@@ -20,17 +18,14 @@ ghost use Rattle.symbolic_references.specs.Answers.{found_view};
 ghost use Rattle.symbolic_references.specs.Objects.{IsResolved};
 
 use crate::known::{Found, Known};
-use crate::numbers::MethodNumbers;
 use crate::outcome::{AbruptCompletion, Outcome};
 use crate::resolution::resolve;
 use crate::runtime::Runtime;
-use class_linker::Linker;
 use frame_stack::Frames;
 use heap_objects::Value;
-use jf_bytes::{NoMemory, Seq, Text16};
+use jf_bytes::{NoMemory, Text16};
 use jvm_basic::ref_of;
-use jvm_model::{Shared, SymbolicReference};
-use std::alloc::Global;
+use jvm_model::SymbolicReference;
 
 // ---- what is resolved
 

@@ -1,35 +1,28 @@
 //! invokestatic, invokevirtual, invokeinterface and invokespecial (JVM Specification 5.4.3.3,
 //! 5.4.3.4, 6.5), where the class of the method's name was resolved.
 
-ghost use Rattle.std.specs.Prelude.{◌≡◌, ◌≤◌, ◌++◌, Some, length, drop, IfSome, OnOk};
+ghost use Rattle.std.specs.Prelude.{◌≡◌, ◌≤◌, Some, length, drop, IfSome};
 ghost use Rattle.std.specs.Option.{option_map};
 ghost use Rattle.frame_stack.specs.FrameLists.{top_operands};
-ghost use Rattle.jvm_basic.specs.Outcomes.{top_locals};
-ghost use Rattle.jvm_model.specs.Instructions.InvocationRules.{OfInterface, Special, Virtual};
 ghost use Rattle.jvm_model.specs.Instructions.InvocationRules.{invokes_native, invokes_selected};
-ghost use Rattle.jvm_model.specs.declared.instruction.SymbolicReference.TheVariants as model;
-ghost use Rattle.jvm_model.specs.declared.instruction.SymbolicReference.TheVariants.{Invokeinterface, Invokespecial, Invokestatic};
-ghost use Rattle.jvm_model.specs.declared.instruction.SymbolicReference.TheVariants.{Invokevirtual};
+ghost use Rattle.jvm_model.specs.declared.instruction.SymbolicReference.TheVariants.{Invokestatic};
 ghost use Rattle.symbolic_references.specs.Callees.{HasCallee, chosen_place};
 ghost use Rattle.symbolic_references.specs.Known.{IsFoundAs, symbolic_reference_by};
-ghost use Rattle.symbolic_references.specs.Objects.{AreLoaded, HasLoadedCaller, IsResolved};
+ghost use Rattle.symbolic_references.specs.Objects.{IsResolved};
 ghost use Rattle.symbolic_references.specs.Members.{at_place};
 ghost use Rattle.symbolic_references.specs.Resolved.{invokes_instance, invokes_static_method};
 ghost use Rattle.symbolic_references.specs.Targets.{HasCaller, selecting_view, data_in};
-ghost use Rattle.symbolic_references.specs.Answers.{asked_on, done_on, shared_by, wrote_by};
-ghost use Rattle.symbolic_references.specs.Outcomes.{Asks, HasOperands, HaveOperands, Leaves, Sets, asked, ruled};
-ghost use Rattle.symbolic_references.specs.Runtimes.{after, linker_in, with_loaded, with_shared};
+ghost use Rattle.symbolic_references.specs.Outcomes.{Asks, HaveOperands, Leaves};
+ghost use Rattle.symbolic_references.specs.Runtimes.{linker_in};
 
 use crate::declared_member::DeclaredMember;
 use crate::known::{Callee, Chosen, Found};
 use crate::outcome::{AbruptCompletion, Outcome};
 use crate::runtime::Runtime;
 use crate::targets::{Selecting, is_abstract};
-use class_linker::Linker;
 use frame_stack::Frames;
-use jf_bytes::{NoMemory, Seq, Text16};
-use jvm_model::{Exception, MethodName, Shared};
-use std::alloc::Global;
+use jf_bytes::NoMemory;
+use jvm_model::{Exception, MethodName};
 
 impl Runtime {
     /// A native method: a user's class has none that could be linked.

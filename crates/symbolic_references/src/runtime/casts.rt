@@ -8,22 +8,21 @@ ghost use Rattle.jvm_model.specs.Classes.Kinds.{kind_named};
 ghost use Rattle.jvm_model.specs.Instructions.SymbolicReference.{is_instance};
 ghost use Rattle.jvm_model.specs.Basis.Values.{ref_of};
 ghost use Rattle.symbolic_references.specs.Known.{IsClassFound};
-ghost use Rattle.symbolic_references.specs.Objects.{AreLoaded, IsResolved};
-ghost use Rattle.symbolic_references.specs.Answers.{asked_on, done_on, shared_by, wrote_by};
-ghost use Rattle.symbolic_references.specs.Outcomes.{Asks, HasOperands, HaveOperands, Leaves, Sets, asked, ruled};
-ghost use Rattle.symbolic_references.specs.Runtimes.{after, linker_in, with_loaded, with_shared};
+ghost use Rattle.symbolic_references.specs.Objects.{IsResolved};
+ghost use Rattle.symbolic_references.specs.Answers.{asked_on};
+ghost use Rattle.symbolic_references.specs.Outcomes.{HasOperands, asked};
+ghost use Rattle.symbolic_references.specs.Runtimes.{linker_in};
 ghost use Rattle.frame_stack.specs.FrameLists.{top_operands};
 
 use crate::instances::kind_of_object;
 use crate::known::Found;
 use crate::outcome::{AbruptCompletion, Outcome};
 use crate::runtime::Runtime;
-use class_linker::Linker;
 use frame_stack::Frames;
 use heap_objects::Value;
 use jf_bytes::Text16;
 use jvm_basic::ref_of;
-use jvm_model::{Exception, Shared};
+use jvm_model::Exception;
 
 /// An int for an answer.
 fn int_for(answer: bool) -> Value

@@ -3,20 +3,15 @@
 ghost use Rattle.std.specs.Prelude.{◌≡◌, IfOk, OnErr, OnOk};
 ghost use Rattle.jvm_model.specs.Instructions.ConstantRules.{pushes_object_of};
 ghost use Rattle.native_effects.specs.Effects.Making.{answer_of_class, heap_after_class, made_after_class};
-ghost use Rattle.symbolic_references.specs.Objects.{AreLoaded};
-ghost use Rattle.symbolic_references.specs.Answers.{asked_on, done_on, shared_by, wrote_by};
-ghost use Rattle.symbolic_references.specs.Outcomes.{Asks, HasOperands, HaveOperands, Leaves, Sets, asked, ruled};
-ghost use Rattle.symbolic_references.specs.Runtimes.{after, linker_in, with_loaded, with_shared};
+ghost use Rattle.symbolic_references.specs.Outcomes.{Asks, HaveOperands, Sets};
 ghost use Rattle.symbolic_references.specs.Natives.{object_or_full};
 
 use crate::outcome::{AbruptCompletion, Outcome};
 use crate::runtime::Runtime;
 use crate::runtime::creation::RESERVED;
-use class_linker::Linker;
 use frame_stack::Frames;
 use heap_objects::{Heap, HeapError, Value};
 use jf_bytes::NoMemory;
-use jvm_model::Shared;
 use native_effects::Made;
 
 /// The Class object of a kind; none where there is no room for it.

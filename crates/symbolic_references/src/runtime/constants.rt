@@ -12,7 +12,7 @@ ghost use Rattle.class_linker.specs.Linkers.{LinkerView};
 ghost use Rattle.jvm_model.specs.declared.program.Program.{Program};
 ghost use Rattle.jvm_model.specs.declared.state.Shared.{Shared};
 ghost use Rattle.symbolic_references.specs.Objects.{AreLoaded, IsUsable};
-ghost use Rattle.symbolic_references.specs.Runtimes.{linker_in, with_fields, with_shared};
+ghost use Rattle.symbolic_references.specs.Runtimes.{with_fields, with_shared};
 
 use crate::held::field_narrowed;
 use crate::runtime::Runtime;
@@ -129,7 +129,8 @@ fn set_field(
     ensures set { (p : Program) (s : Shared) → string_kind ≡ kind_for p string →
         let constant_then = option_map constant_view constant.entry in
         IsSetting result (with_fields heap.new statics.new s)
-        (sets_field p (field_of class position) constant_then (with_fields heap.old statics.old s)) }
+        (sets_field p (field_of class position) constant_then
+        (with_fields heap.old statics.old s)) }
     ensures loaded { (l : LinkerView) → IsUsable l string_kind → AreLoaded l heap.old
         → AreLoaded l heap.new }
 {

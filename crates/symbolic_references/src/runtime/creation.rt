@@ -1,30 +1,28 @@
 //! new (JVM Specification 2.3, 2.4, 5.5, 6.5), where the name was resolved.
 
-ghost use Rattle.std.specs.Prelude.{◌≡◌, ◌+◌, [], true, length, map, IfNone, IfOk, IfSome, OnOk};
+ghost use Rattle.std.specs.Prelude.{◌≡◌, ◌+◌, [], true, length, map, IfNone, IfOk, IfSome};
 ghost use Rattle.heap_objects.specs.Heaps.{with_instance, with_text};
 ghost use Rattle.jvm_model.specs.Instructions.CreationRules.{allocates, has_no_instances, makes_instance};
-ghost use Rattle.jvm_model.specs.Instructions.CreationRules.{makes_object, zero_of};
+ghost use Rattle.jvm_model.specs.Instructions.CreationRules.{zero_of};
 ghost use Rattle.jvm_model.specs.Classes.Layouts.{layout};
 ghost use Rattle.jvm_model.specs.Instructions.Rules.{class_initialized};
 ghost use Rattle.jvm_model.specs.Basis.SharedState.{class_of_kind};
 ghost use Rattle.class_linker.specs.Linkers.{IsLoaded};
 ghost use Rattle.symbolic_references.specs.Known.{IsClassFound, IsMade};
-ghost use Rattle.symbolic_references.specs.Objects.{AreLoaded, IsUsable};
+ghost use Rattle.symbolic_references.specs.Objects.{IsUsable};
 ghost use Rattle.symbolic_references.specs.Resolved.{makes_new};
-ghost use Rattle.symbolic_references.specs.Answers.{asked_on, done_on, shared_by, wrote_by};
-ghost use Rattle.symbolic_references.specs.Outcomes.{Asks, HasOperands, HaveOperands, Leaves, Sets, asked, ruled};
-ghost use Rattle.symbolic_references.specs.Runtimes.{after, linker_in, with_loaded, with_shared};
+ghost use Rattle.symbolic_references.specs.Outcomes.{Asks, HaveOperands, Sets};
+ghost use Rattle.symbolic_references.specs.Runtimes.{linker_in};
 
 use crate::classes::{has_no_instances, is_text_class};
 use crate::known::Found;
 use crate::outcome::{AbruptCompletion, Outcome};
 use crate::runtime::Runtime;
-use class_linker::Linker;
 use const_pool::Kind;
 use frame_stack::Frames;
 use heap_objects::{Datum, HeapError, Value};
 use jf_bytes::{NoMemory, Seq};
-use jvm_model::{Exception, Phase, Shared};
+use jvm_model::{Exception, Phase};
 use std::alloc::Global;
 
 /// The OutOfMemoryError that the machine makes before the start.
@@ -60,11 +58,13 @@ impl Runtime {
         requires class { IsLoaded (linker_in self.old) class }
         requires usable { IsUsable (linker_in self.old) kind }
         ensures answer { Asks result (allocates (1 + length (layout self.old.world.program class))
-            (with_instance kind (map zero_of (layout self.old.world.program class))) 0 self.old.shared)
+            (with_instance kind (map zero_of (layout self.old.world.program class)))
+            0 self.old.shared)
             frames.now }
         ensures runtime { Sets result self.new
             (allocates (1 + length (layout self.old.world.program class))
-            (with_instance kind (map zero_of (layout self.old.world.program class))) 0 self.old.shared)
+            (with_instance kind (map zero_of (layout self.old.world.program class)))
+            0 self.old.shared)
             frames.now self.old }
         ensures world { self.new.world ≡ self.old.world }
         ensures same_loaded { self.new.shared.loaded ≡ self.old.shared.loaded }
@@ -87,7 +87,8 @@ impl Runtime {
     #[tactic(auto, using(crate::proofs::ObjectLemmas::objects_with))]
     fn make_text(&mut self, frames: &Frames, kind: u32) -> Result<Outcome, NoMemory>
         requires usable { IsUsable (linker_in self.old) kind }
-        ensures answer { Asks result (allocates 1 (with_text kind []) 0 self.old.shared) frames.now }
+        ensures answer { Asks result (allocates 1 (with_text kind []) 0 self.old.shared)
+            frames.now }
         ensures runtime { Sets result self.new (allocates 1 (with_text kind []) 0 self.old.shared)
             frames.now self.old }
         ensures world { self.new.world ≡ self.old.world }
@@ -183,7 +184,8 @@ impl Runtime {
             (makes_instance self.old.world.program kind class self.old.shared l o)) frames.now }
         ensures runtime { Sets result self.new
             (λ l o. class_initialized self.old.world.program class self.old.shared
-            (makes_instance self.old.world.program kind class self.old.shared l o)) frames.now self.old }
+            (makes_instance self.old.world.program kind class self.old.shared l o))
+            frames.now self.old }
         ensures found { IsClassFound found.new self.old.world.program kind }
         ensures world { self.new.world ≡ self.old.world }
         ensures same_loaded { self.new.shared.loaded ≡ self.old.shared.loaded }

@@ -1,23 +1,20 @@
 //! What an instruction that names a class or a member does, where the name was resolved.
 
-ghost use Rattle.std.specs.Prelude.{◌≡◌, ◌++◌, OnOk};
+ghost use Rattle.std.specs.Prelude.{◌≡◌};
 ghost use Rattle.jvm_model.specs.Instructions.SymbolicReference.{resolved_name};
 ghost use Rattle.symbolic_references.specs.Known.{IsFoundAs};
-ghost use Rattle.symbolic_references.specs.Objects.{AreLoaded, HasDimensions, HasLoadedCaller, IsResolved};
+ghost use Rattle.symbolic_references.specs.Objects.{HasDimensions, HasLoadedCaller, IsResolved};
 ghost use Rattle.symbolic_references.specs.Resolved.{does_resolved};
-ghost use Rattle.symbolic_references.specs.Answers.{asked_on, done_on, shared_by, wrote_by};
-ghost use Rattle.symbolic_references.specs.Outcomes.{Asks, HasOperands, HaveOperands, Leaves, Sets, asked, ruled};
-ghost use Rattle.symbolic_references.specs.Runtimes.{after, linker_in, with_loaded, with_shared};
+ghost use Rattle.symbolic_references.specs.Outcomes.{Asks, HaveOperands, Leaves};
+ghost use Rattle.symbolic_references.specs.Runtimes.{linker_in};
 
 use crate::known::Found;
-use crate::outcome::{AbruptCompletion, Outcome};
+use crate::outcome::Outcome;
 use crate::runtime::Runtime;
 use crate::targets::Selecting;
-use class_linker::Linker;
 use frame_stack::Frames;
-use jf_bytes::{NoMemory, Seq};
-use jvm_model::{Shared, SymbolicReference};
-use std::alloc::Global;
+use jf_bytes::NoMemory;
+use jvm_model::SymbolicReference;
 
 impl Runtime {
     /// What the instruction does, with what it names resolved to this kind; of checkcast and

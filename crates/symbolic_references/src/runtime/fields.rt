@@ -2,7 +2,7 @@
 //! was resolved.
 
 ghost use Rattle.std.specs.Prelude.{◌≡◌, ◌==◌, count_by, false, is_some};
-ghost use Rattle.std.specs.Prelude.{take, true, IfOk, IfSome, Ok, OnOk, Some};
+ghost use Rattle.std.specs.Prelude.{take, true, IfOk, IfSome, Ok, Some};
 ghost use Rattle.std.specs.Option.{option_map};
 ghost use Rattle.frame_stack.specs.FrameLists.{top_operands};
 ghost use Rattle.heap_objects.specs.Heaps.{kind_at, slot_at, with_slot_at};
@@ -18,11 +18,11 @@ ghost use Rattle.symbolic_references.specs.Fields.{has_field_at, is_of_instances
 ghost use Rattle.symbolic_references.specs.Fields.{putting_view, writes};
 ghost use Rattle.symbolic_references.specs.Known.{IsFoundAs};
 ghost use Rattle.symbolic_references.specs.Members.{at_place};
-ghost use Rattle.symbolic_references.specs.Objects.{AreLoaded, IsResolved};
+ghost use Rattle.symbolic_references.specs.Objects.{IsResolved};
 ghost use Rattle.symbolic_references.specs.Resolved.{field_found, gets_instance, puts_instance};
-ghost use Rattle.symbolic_references.specs.Answers.{asked_on, done_on, shared_by, wrote_by};
-ghost use Rattle.symbolic_references.specs.Outcomes.{Asks, HasOperands, HaveOperands, Leaves, Sets, asked, ruled};
-ghost use Rattle.symbolic_references.specs.Runtimes.{after, linker_in, with_loaded, with_shared};
+ghost use Rattle.symbolic_references.specs.Answers.{asked_on, shared_by};
+ghost use Rattle.symbolic_references.specs.Outcomes.{Asks, HasOperands, HaveOperands, Sets, asked, ruled};
+ghost use Rattle.symbolic_references.specs.Runtimes.{linker_in, with_shared};
 ghost use Rattle.symbolic_references.specs.Answers.{found_view};
 
 use crate::declared_member::DeclaredMember;
@@ -36,13 +36,12 @@ use crate::runtime::Runtime;
 use crate::values::datum_of;
 use base_classes::STATIC;
 use class_index::held_by;
-use class_linker::Linker;
 use const_pool::{ClassFile, Kind, Member};
 use frame_stack::Frames;
 use heap_objects::{Datum, Heap, Value};
 use jf_bytes::NoMemory;
 use jvm_basic::{ref_of, value_of};
-use jvm_model::{Exception, MemberName, Shared, has_flag};
+use jvm_model::{Exception, MemberName, has_flag};
 
 /// The first fields, as many as there are up to so many.
 #[tactic(auto, using(std::proofs::lemmas::List::take_all))]
@@ -130,7 +129,8 @@ impl Runtime {
             field.class }
         ensures object { IfSome result (λ owner. owner.object ≡ object) }
         ensures own { IfSome result
-            (λ owner. has_field_at self.now.world.program (Some owner.kind) kind field.class ≡ true) }
+            (λ owner. has_field_at self.now.world.program (Some owner.kind) kind field.class
+            ≡ true) }
         ensures loaded { IfSome result (λ owner. IsLoaded (linker_in self.now) owner.class) }
         ensures extends { IfSome result
             (λ owner. extends self.now.world.program owner.class field.class ≡ true) }
@@ -168,7 +168,8 @@ impl Runtime {
             (λ owner. extends self.now.world.program owner.class field.class ≡ true) }
         ensures object { IfOk result (λ owner. (owner.object == 0) ≡ false) }
         ensures own { IfOk result
-            (λ owner. has_field_at self.now.world.program (Some owner.kind) kind field.class ≡ true) }
+            (λ owner. has_field_at self.now.world.program (Some owner.kind) kind field.class
+            ≡ true) }
     {
         if object == 0 {
             return Err(AbruptCompletion::Raises(Exception::NullPointer, None));
@@ -229,7 +230,8 @@ impl Runtime {
     /// The value in a slot of an object takes the object's place.
     fn read_slot(&self, frames: &Frames, object: u32, slot: u32) -> Outcome
         ensures answer { asked result frames.now ≡ asked_on
-            (replaces 1 (option_map as_value (slot_at object slot self.now.shared.heap))) frames.now }
+            (replaces 1 (option_map as_value (slot_at object slot self.now.shared.heap)))
+            frames.now }
         ensures enough { HasOperands result (top_operands frames.now.frames) }
     {
         match self.heap.get(object, slot) {
@@ -468,7 +470,8 @@ impl Runtime {
         ensures answer { Asks result
             (puts_instance self.old.world.program kind member.now self.old.shared) frames.now }
         ensures runtime { Sets result self.new
-            (puts_instance self.old.world.program kind member.now self.old.shared) frames.now self.old }
+            (puts_instance self.old.world.program kind member.now self.old.shared)
+            frames.now self.old }
         ensures found { let n = Putfield member.now in
             IsFoundAs found.new self.old.world.program kind n }
         ensures world { self.new.world ≡ self.old.world }
@@ -495,7 +498,8 @@ impl Runtime {
         ensures answer { Asks result
             (puts_instance self.old.world.program kind member.now self.old.shared) frames.now }
         ensures runtime { Sets result self.new
-            (puts_instance self.old.world.program kind member.now self.old.shared) frames.now self.old }
+            (puts_instance self.old.world.program kind member.now self.old.shared)
+            frames.now self.old }
         ensures found { let n = Putfield member.now in
             IsFoundAs found.new self.old.world.program kind n }
         ensures world { self.new.world ≡ self.old.world }

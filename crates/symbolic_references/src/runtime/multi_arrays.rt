@@ -1,20 +1,17 @@
 //! multianewarray (JVM Specification 6.5), where the name was resolved.
 
-ghost use Rattle.std.specs.Prelude.{◌≡◌, ◌≤◌, ◌<◌, ◌+◌, ◌*◌, ◌/◌, ◌∷◌, drop, length, nat_le, pos};
-ghost use Rattle.std.specs.Prelude.{[], slice_get, true, ℕ, IfOk, OnOk};
+ghost use Rattle.std.specs.Prelude.{◌≡◌, ◌≤◌, ◌+◌, ◌*◌, ◌/◌, length, nat_le, pos};
+ghost use Rattle.std.specs.Prelude.{[], slice_get, IfOk, OnOk};
 ghost use Rattle.frame_stack.specs.FrameLists.{top_operands};
 ghost use Rattle.heap_objects.specs.Heaps.{next_number, with_array};
 ghost use Rattle.heap_objects.specs.declared.datum.Datum.TheVariants.{Int};
-ghost use Rattle.heap_objects.specs.declared.Value.TheVariants.{Ref};
-ghost use Rattle.jvm_basic.specs.Outcomes.{can_hold};
 ghost use Rattle.jvm_model.specs.Instructions.CreationRules.{allocates, counts_of, lengths_of, makes_arrays};
 ghost use Rattle.jvm_model.specs.Instructions.CreationRules.{makes_by_counts, slots_of_arrays, with_arrays};
 ghost use Rattle.symbolic_references.specs.Arrays.{number_capped, int_at, lengths_from};
 ghost use Rattle.symbolic_references.specs.Objects.{AreLoaded, IsUsable};
 ghost use Rattle.class_linker.specs.Linkers.{LinkerView};
-ghost use Rattle.symbolic_references.specs.Answers.{asked_on, done_on, shared_by, wrote_by};
-ghost use Rattle.symbolic_references.specs.Outcomes.{Asks, HasOperands, HaveOperands, Leaves, Sets, asked, ruled};
-ghost use Rattle.symbolic_references.specs.Runtimes.{after, linker_in, with_loaded, with_shared};
+ghost use Rattle.symbolic_references.specs.Outcomes.{Asks, HaveOperands, Sets};
+ghost use Rattle.symbolic_references.specs.Runtimes.{linker_in};
 ghost use Rattle.symbolic_references.specs.Arrays.{AreUsable};
 
 use crate::outcome::{AbruptCompletion, Outcome};
@@ -22,11 +19,10 @@ use crate::runtime::Runtime;
 use crate::runtime::creation::RESERVED;
 use crate::runtime::fields::put_slot;
 use class_index::FIRST_ARRAY;
-use class_linker::Linker;
 use frame_stack::Frames;
 use heap_objects::{Datum, Heap, HeapError, Value};
 use jf_bytes::{NoMemory, Seq};
-use jvm_model::{Exception, Shared};
+use jvm_model::Exception;
 use std::alloc::Global;
 
 // ---- the operands
@@ -230,7 +226,8 @@ impl Runtime {
         ensures answer { Asks result
             (makes_arrays kind dimensions (lengths_of counts.now) self.old.shared) frames.now }
         ensures runtime { Sets result self.new
-            (makes_arrays kind dimensions (lengths_of counts.now) self.old.shared) frames.now self.old }
+            (makes_arrays kind dimensions (lengths_of counts.now) self.old.shared)
+            frames.now self.old }
         ensures world { self.new.world ≡ self.old.world }
         ensures same_loaded { self.new.shared.loaded ≡ self.old.shared.loaded }
         ensures enough { HaveOperands result frames.now }

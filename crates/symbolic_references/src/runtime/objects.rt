@@ -94,7 +94,8 @@ impl Runtime {
         ensures number { let name = exception_name exception in IfOk result (λ r. r
             ≡ (exception_raised self.old.world self.old.shared name (Some message.now)).reference) }
         ensures runtime { let name = exception_name exception in OnOk result (self.new ≡ with_shared
-            (exception_raised self.old.world self.old.shared name (Some message.now)).shared self.old) }
+            (exception_raised self.old.world self.old.shared name
+            (Some message.now)).shared self.old) }
         ensures world { self.new.world ≡ self.old.world }
         ensures same_loaded { self.new.shared.loaded ≡ self.old.shared.loaded }
     {

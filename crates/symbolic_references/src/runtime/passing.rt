@@ -1,7 +1,7 @@
 //! Accesses of fields, and which methods are invoked, where it is known what their names came to.
 //! Accesses are done only where they raise nothing; else nothing is done.
 
-ghost use Rattle.std.specs.Prelude.{◌≡◌, ◌≤◌, ℕ, List, drop, length, true, IfSome, Ok, Some};
+ghost use Rattle.std.specs.Prelude.{◌≡◌, ◌≤◌, ℕ, drop, length, true, IfSome, Ok, Some};
 ghost use Rattle.const_pool.specs.References.{Reference};
 ghost use Rattle.std.specs.Option.{option_map};
 ghost use Rattle.jvm_basic.specs.Outcomes.{top_locals};
@@ -11,37 +11,32 @@ ghost use Rattle.jvm_model.specs.declared.instruction.SymbolicReference.TheVaria
 ghost use Rattle.symbolic_references.specs.Attempts.{attempts, loads_nothing};
 ghost use Rattle.symbolic_references.specs.Callees.{HasCallee, chosen_place};
 ghost use Rattle.symbolic_references.specs.Known.{IsFixed, IsFoundAs, IsKnown, IsSite, symbolic_reference_by};
-ghost use Rattle.symbolic_references.specs.Objects.{AreLoaded, IsResolved, IsUsable};
-ghost use Rattle.symbolic_references.specs.Passing.{IfPassed, IsCall, IsInvoked, is_next, is_usable};
+ghost use Rattle.symbolic_references.specs.Objects.{IsResolved, IsUsable};
+ghost use Rattle.symbolic_references.specs.Passing.{IfPassed, IsCall, IsInvoked, is_usable};
 ghost use Rattle.jvm_model.specs.declared.program.Program.{Program};
 ghost use Rattle.jvm_model.specs.Basis.SharedState.{phase_of};
 ghost use Rattle.symbolic_references.specs.Resolved.{gets_instance, gets_static, puts_instance};
 ghost use Rattle.symbolic_references.specs.Resolved.{puts_static};
 ghost use Rattle.symbolic_references.specs.Resolved.{invokes_instance, invokes_static_method};
-ghost use Rattle.symbolic_references.specs.Selections.{AreSelections, site_for};
+ghost use Rattle.symbolic_references.specs.Selections.{site_for};
 ghost use Rattle.symbolic_references.specs.Targets.{data_in, instance_target, static_target};
 ghost use Rattle.symbolic_references.specs.Targets.{selecting_view, target_in};
-ghost use Rattle.symbolic_references.specs.Answers.{asked_on, done_on, shared_by, wrote_by};
-ghost use Rattle.symbolic_references.specs.Outcomes.{Asks, HasOperands, HaveOperands, Leaves, Sets, asked, ruled};
-ghost use Rattle.symbolic_references.specs.Runtimes.{after, linker_in, with_loaded, with_shared};
+ghost use Rattle.symbolic_references.specs.Answers.{done_on};
+ghost use Rattle.symbolic_references.specs.Runtimes.{linker_in};
 
 use crate::applying::pass_by;
 use crate::instances::kind_of_object;
 use crate::invoked::{Call, Invoked, NativeCall};
 use crate::known::{Callee, Chosen, Found, Known, Site};
-use crate::outcome::{AbruptCompletion, Outcome};
+use crate::outcome::Outcome;
 use crate::receivers::{argument_count, receiver_below};
 use crate::runtime::Runtime;
 use crate::runtime::fields::putting_of;
 use crate::runtime::statics::held_of;
-use crate::selections::Selections;
 use crate::targets::{Selecting, Target};
 use class_index::held_by;
-use class_linker::Linker;
 use frame_stack::Frames;
-use heap_objects::Heap;
-use jvm_model::{MemberName, MethodName, Phase, Shared, SymbolicReference};
-use std::alloc::Global;
+use jvm_model::{MemberName, MethodName, Phase, SymbolicReference};
 
 impl Runtime {
     /// getfield.
@@ -56,7 +51,8 @@ impl Runtime {
         requires resolved { IsResolved (linker_in self.now) member.now.class kind }
         requires found { IsFoundAs found self.now.world.program kind (Getfield member.now) }
         ensures { let r = member.now in
-            let d = done_on (gets_instance self.now.world.program kind r self.now.shared) frames.old in
+            let d = done_on (gets_instance self.now.world.program kind r self.now.shared)
+            frames.old in
             IfPassed result d next frames.old self.now frames.new self.now }
     {
         let Found::Field(field, slot, last) = found else {
@@ -78,7 +74,8 @@ impl Runtime {
         requires resolved { IsResolved (linker_in self.old) member.now.class kind }
         requires found { IsFoundAs found self.old.world.program kind (Putfield member.now) }
         ensures passed { let r = member.now in
-            let d = done_on (puts_instance self.old.world.program kind r self.old.shared) frames.old in
+            let d = done_on (puts_instance self.old.world.program kind r self.old.shared)
+            frames.old in
             IfPassed result d next frames.old self.old frames.new self.new }
         ensures world { self.new.world ≡ self.old.world }
         ensures same_loaded { self.new.shared.loaded ≡ self.old.shared.loaded }
@@ -110,7 +107,8 @@ impl Runtime {
     ) -> bool
         requires found { IsFoundAs found self.now.world.program kind (Getstatic member.now) }
         ensures { let r = member.now in
-            let d = done_on (gets_static self.now.world.program kind r self.now.shared) frames.old in
+            let d = done_on (gets_static self.now.world.program kind r self.now.shared)
+            frames.old in
             IfPassed result d next frames.old self.now frames.new self.now }
     {
         let Found::Static(field) = found else {
@@ -134,7 +132,8 @@ impl Runtime {
     ) -> bool
         requires found { IsFoundAs found self.old.world.program kind (Putstatic member.now) }
         ensures passed { let r = member.now in
-            let d = done_on (puts_static self.old.world.program kind r self.old.shared) frames.old in
+            let d = done_on (puts_static self.old.world.program kind r self.old.shared)
+            frames.old in
             IfPassed result d next frames.old self.old frames.new self.new }
         ensures world { self.new.world ≡ self.old.world }
         ensures same_loaded { self.new.shared.loaded ≡ self.old.shared.loaded }

@@ -17,7 +17,6 @@ use const_pool::Kind;
 use jf_bytes::{NoMemory, Seq};
 use jvm_model::{Exception, Program};
 use native_effects::units_of;
-use std::alloc::Global;
 
 /// The name of the built-in class at this place of their order, and Throwable's past the last one.
 fn built_in_named(place: u16) -> &'static str

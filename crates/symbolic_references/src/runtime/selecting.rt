@@ -1,51 +1,37 @@
 //! What invocations come to before anything is changed (JVM Specification 5.4.3.3, 5.4.3.4, 5.4.6,
 //! 6.5): the method that is selected, and how many operands are its arguments.
 
-ghost use Rattle.std.specs.Prelude.{◌≡◌, ◌≤◌, ℕ, false, true, length, IfOk, IfSome, Ok, Some};
-ghost use Rattle.std.specs.Bool.{beq};
-ghost use Rattle.std.specs.Option.{option_and_then, option_map};
-ghost use Rattle.const_pool.specs.References.{name_type_of};
+ghost use Rattle.std.specs.Prelude.{◌≡◌, ◌≤◌, false, true, length, IfOk, IfSome, Ok, Some};
+ghost use Rattle.std.specs.Option.{option_map};
 ghost use Rattle.frame_stack.specs.FrameLists.{top_operands};
-ghost use Rattle.jvm_model.specs.Instructions.InvocationRules.{names_interface, not_of_class, selected_by};
-ghost use Rattle.jvm_model.specs.Classes.Lookup.{resolved_method};
-ghost use Rattle.jvm_model.specs.Instructions.SymbolicReference.{member_found, is_below_kind, where_fitting};
+ghost use Rattle.jvm_model.specs.Instructions.InvocationRules.{names_interface, selected_by};
+ghost use Rattle.jvm_model.specs.Instructions.SymbolicReference.{is_below_kind};
 ghost use Rattle.jvm_model.specs.declared.instruction.SymbolicReference.TheVariants.{Invokestatic};
 ghost use Rattle.jvm_model.specs.Basis.Data.{Raises};
-ghost use Rattle.jvm_model.specs.Basis.Programs.{class_named, name_at};
-ghost use Rattle.jvm_model.specs.Classes.Selection.{access_of, is_abstract, is_static};
+ghost use Rattle.jvm_model.specs.Basis.Programs.{name_at};
 ghost use Rattle.jvm_model.specs.Basis.SharedState.{class_of_kind, no_class_definition};
-ghost use Rattle.jvm_model.specs.Classes.SuperCalls.{invoked_special};
-ghost use Rattle.class_index.specs.Members.{place_view};
-ghost use Rattle.class_linker.specs.Linkers.{IsLoaded};
 ghost use Rattle.symbolic_references.specs.Callees.{HasCallee, chosen_place};
 ghost use Rattle.symbolic_references.specs.Known.{IsFoundAs, IsSite, symbolic_reference_by};
 ghost use Rattle.symbolic_references.specs.Members.{at_place};
-ghost use Rattle.symbolic_references.specs.Objects.{AreLoaded, IsResolved, IsUsable};
+ghost use Rattle.symbolic_references.specs.Objects.{IsResolved, IsUsable};
 ghost use Rattle.symbolic_references.specs.Resolved.{method_found};
 ghost use Rattle.symbolic_references.specs.Targets.{HasCaller, selecting_view, found_as, instance_target};
-ghost use Rattle.symbolic_references.specs.Targets.{receiver_class, static_target, target_in, unready_by};
-ghost use Rattle.symbolic_references.specs.Answers.{abrupt_view, asked_on, done_on, shared_by, wrote_by};
-ghost use Rattle.symbolic_references.specs.Outcomes.{Asks, HasOperands, HaveOperands, Leaves, Sets, asked, ruled};
-ghost use Rattle.symbolic_references.specs.Runtimes.{after, linker_in, with_loaded, with_shared};
+ghost use Rattle.symbolic_references.specs.Targets.{static_target, target_in, unready_by};
+ghost use Rattle.symbolic_references.specs.Answers.{abrupt_view};
+ghost use Rattle.symbolic_references.specs.Runtimes.{linker_in};
 
 use crate::callees::callee_of;
 use crate::declared_member::DeclaredMember;
-use crate::instances::kind_of_object;
 use crate::known::{Chosen, Found, Site};
-use crate::numbers::MethodNumbers;
-use crate::outcome::{AbruptCompletion, Outcome};
+use crate::outcome::AbruptCompletion;
 use crate::receivers::{argument_count, receiver_below};
-use crate::resolution::exception_numbered;
 use crate::runtime::Runtime;
 use crate::targets::{
     Selecting, Target, method_found, names_interface, receiver_kind, selected_by,
 };
-use base_classes::{ABSTRACT, STATIC};
-use class_linker::{Linker, Resolved};
 use frame_stack::Frames;
-use heap_objects::Heap;
 use jf_bytes::{NoMemory, Text16};
-use jvm_model::{Exception, MemberName, MethodName, Phase, Program, Shared, has_flag};
+use jvm_model::{Exception, MethodName, Phase};
 use std::alloc::Global;
 
 /// A text with the same units.
@@ -117,7 +103,8 @@ impl Runtime {
         requires found { IsFoundAs found.old self.now.world.program kind
             (symbolic_reference_by (selecting_view by) method.now) }
         ensures chosen { let p = self.now.world.program in option_map chosen_place result
-            ≡ selected_by p (selecting_view by.entry) (at_place site.method) (class_of_kind p lower) }
+            ≡ selected_by p (selecting_view by.entry) (at_place site.method)
+            (class_of_kind p lower) }
         ensures callee { IfSome result (HasCallee self.now.world.program) }
         ensures found { IsFoundAs found.new self.now.world.program kind
             (symbolic_reference_by (selecting_view by.entry) method.now) }

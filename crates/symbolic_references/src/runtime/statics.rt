@@ -6,7 +6,7 @@ ghost use Rattle.std.specs.Option.{option_map};
 ghost use Rattle.frame_stack.specs.FrameLists.{top_operands};
 ghost use Rattle.symbolic_references.specs.Held.{with_static_in};
 ghost use Rattle.jvm_model.specs.Basis.Data.{Raises};
-ghost use Rattle.jvm_model.specs.Instructions.FieldRules.{held_of, kind_by};
+ghost use Rattle.jvm_model.specs.Instructions.FieldRules.{held_of};
 ghost use Rattle.jvm_model.specs.Instructions.FieldRules.{pushes_static, sets_static, static_field};
 ghost use Rattle.jvm_model.specs.Instructions.LocalRules.{pushes};
 ghost use Rattle.jvm_model.specs.declared.instruction.SymbolicReference.TheVariants.{Getstatic, Putstatic};
@@ -18,9 +18,9 @@ ghost use Rattle.symbolic_references.specs.Known.{IsFoundAs};
 ghost use Rattle.symbolic_references.specs.Members.{at_place};
 ghost use Rattle.symbolic_references.specs.Objects.{IsUsable};
 ghost use Rattle.symbolic_references.specs.Resolved.{gets_static, puts_static};
-ghost use Rattle.symbolic_references.specs.Answers.{asked_on, done_on, shared_by, wrote_by};
-ghost use Rattle.symbolic_references.specs.Outcomes.{Asks, HasOperands, HaveOperands, Leaves, Sets, asked, ruled};
-ghost use Rattle.symbolic_references.specs.Runtimes.{after, linker_in, with_loaded, with_shared};
+ghost use Rattle.symbolic_references.specs.Answers.{asked_on, shared_by};
+ghost use Rattle.symbolic_references.specs.Outcomes.{Asks, HasOperands, HaveOperands, Sets, asked, ruled};
+ghost use Rattle.symbolic_references.specs.Runtimes.{linker_in, with_shared};
 
 use crate::declared_member::DeclaredMember;
 use crate::held::field_narrowed;
@@ -31,14 +31,12 @@ use crate::runtime::Runtime;
 use crate::static_fields::set_static;
 use crate::values::datum_of;
 use class_index::held_by;
-use class_linker::Linker;
 use const_pool::Kind;
 use frame_stack::Frames;
 use heap_objects::Datum;
-use jf_bytes::{NoMemory, Text16};
+use jf_bytes::NoMemory;
 use jvm_basic::value_of;
-use jvm_model::{Exception, MemberName, Phase, Shared};
-use std::alloc::Global;
+use jvm_model::{MemberName, Phase};
 
 // ---- classes that are not initialized
 
@@ -194,7 +192,8 @@ impl Runtime {
             (sets_static (at_place field) (held_of kind o) self.old.shared l o)) frames.now }
         ensures runtime { Sets result self.new
             (λ l o. class_initialized self.old.world.program field.class self.old.shared
-            (sets_static (at_place field) (held_of kind o) self.old.shared l o)) frames.now self.old }
+            (sets_static (at_place field) (held_of kind o) self.old.shared l o))
+            frames.now self.old }
         ensures world { self.new.world ≡ self.old.world }
         ensures same_loaded { self.new.shared.loaded ≡ self.old.shared.loaded }
         ensures enough { HaveOperands result frames.now }
@@ -223,7 +222,8 @@ impl Runtime {
         ensures answer { Asks result
             (puts_static self.old.world.program kind member.now self.old.shared) frames.now }
         ensures runtime { Sets result self.new
-            (puts_static self.old.world.program kind member.now self.old.shared) frames.now self.old }
+            (puts_static self.old.world.program kind member.now self.old.shared)
+            frames.now self.old }
         ensures found { let n = Putstatic member.now in
             IsFoundAs found.new self.old.world.program kind n }
         ensures world { self.new.world ≡ self.old.world }
@@ -254,7 +254,8 @@ impl Runtime {
         ensures answer { Asks result
             (puts_static self.old.world.program kind member.now self.old.shared) frames.now }
         ensures runtime { Sets result self.new
-            (puts_static self.old.world.program kind member.now self.old.shared) frames.now self.old }
+            (puts_static self.old.world.program kind member.now self.old.shared)
+            frames.now self.old }
         ensures found { let n = Putstatic member.now in
             IsFoundAs found.new self.old.world.program kind n }
         ensures world { self.new.world ≡ self.old.world }

@@ -1,4 +1,3 @@
-use Rattle.std.proofs.Common.{◌≡◌}
 use Rattle.jvm_model.specs.declared.program.Program.{Program}
 use Rattle.symbolic_references.specs.Selections.{AreSelections}
 use Rattle.symbolic_references.proofs.selections.free_slots.Given as goal

@@ -1,5 +1,4 @@
 -- what is kept stays right
-use Rattle.std.proofs.Common.{◌≡◌}
 use Rattle.jvm_model.specs.declared.program.Program.{Program}
 use Rattle.symbolic_references.specs.Selections.{AreSelections}
 use Rattle.symbolic_references.proofs.selections.slots_widened.Given as goal

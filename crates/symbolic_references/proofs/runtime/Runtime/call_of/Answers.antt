@@ -1,5 +1,3 @@
-use Rattle.frame_stack.specs.FrameLists.{top_operands}
-use Rattle.jvm_basic.specs.Outcomes.{top_locals}
 use Rattle.symbolic_references.proofs.PassingLemmas.{call-of, native-of}
 use Rattle.symbolic_references.proofs.runtime.Runtime.call_of.Goals as goal
 

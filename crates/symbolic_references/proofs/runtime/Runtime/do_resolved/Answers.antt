@@ -1,4 +1,4 @@
-use Rattle.std.proofs.Common.{◌≡◌, ◌++◌, OnOk, subst, sym, refl}
+use Rattle.std.proofs.Common.{◌≡◌, subst, sym}
 use Rattle.frame_stack.specs.FrameLists.{top_operands}
 use Rattle.jvm_basic.specs.Outcomes.{top_locals}
 use Rattle.jvm_model.specs.Basis.Values.{int_of}

@@ -1,14 +1,13 @@
-use Rattle.std.proofs.Common.{◌≤◌, length, drop, sym, ap, subst, ◌∙◌}
-use Rattle.std.specs.Prelude.{IfOk}
+use Rattle.std.proofs.Common.{drop, sym, ap, ◌∙◌}
 use Rattle.std.specs.Option.{option_map}
 use Rattle.frame_stack.specs.FrameLists.{top_operands}
 use Rattle.jvm_basic.specs.Outcomes.{top_locals}
 use Rattle.jvm_model.specs.Basis.Data.{Done}
 use Rattle.jvm_model.specs.Instructions.InvocationRules.{invokes_selected}
 use Rattle.symbolic_references.specs.Answers.{abrupt_view}
-use Rattle.symbolic_references.specs.Callees.{HasCallee, chosen_place}
+use Rattle.symbolic_references.specs.Callees.{chosen_place}
 use Rattle.symbolic_references.specs.Resolved.{invokes_instance}
-use Rattle.symbolic_references.specs.Targets.{data_in, found_as, instance_target, selecting_view, target_in}
+use Rattle.symbolic_references.specs.Targets.{data_in, instance_target, selecting_view}
 use Rattle.symbolic_references.proofs.Carried.{asks_by, leaves_by, still}
 use Rattle.symbolic_references.proofs.TargetLemmas.{does-target, instance-rule, refuses-target}
 use Rattle.symbolic_references.proofs.runtime.Runtime.invoke_instance.Goals as goal

@@ -6,7 +6,7 @@ use Rattle.jvm_basic.specs.Outcomes.{top_locals}
 use Rattle.jvm_model.specs.Basis.Data.{Done}
 use Rattle.jvm_model.specs.Instructions.InvocationRules.{invokes_selected}
 use Rattle.symbolic_references.specs.Answers.{abrupt_view}
-use Rattle.symbolic_references.specs.Callees.{HasCallee, chosen_place}
+use Rattle.symbolic_references.specs.Callees.{chosen_place}
 use Rattle.symbolic_references.specs.Resolved.{invokes_static_method}
 use Rattle.symbolic_references.specs.Targets.{data_in, found_as, static_target, target_in}
 use Rattle.symbolic_references.proofs.Carried.{asks_by, leaves_by, still}

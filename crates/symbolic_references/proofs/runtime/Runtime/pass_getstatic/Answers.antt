@@ -1,4 +1,4 @@
-use Rattle.std.proofs.Common.{◌≡◌, [], sym, ap, subst, refl, ◌∙◌}
+use Rattle.std.proofs.Common.{◌≡◌, sym, ap, subst, refl, ◌∙◌}
 use Rattle.std.specs.Option.{option_map}
 use Rattle.frame_stack.specs.FrameLists.{top_operands, with_frames}
 use Rattle.jvm_basic.specs.Outcomes.{top_locals}

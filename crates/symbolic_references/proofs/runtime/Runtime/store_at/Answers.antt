@@ -1,6 +1,4 @@
 use Rattle.std.proofs.Common.{subst, sym}
-use Rattle.heap_objects.specs.Changes.{changed_if}
-use Rattle.heap_objects.specs.Heaps.{with_slot_at}
 use Rattle.symbolic_references.specs.Objects.{AreLoaded}
 use Rattle.symbolic_references.proofs.ObjectLemmas.{objects_slot_if}
 use Rattle.symbolic_references.proofs.runtime.Runtime.store_at.Goals as goal

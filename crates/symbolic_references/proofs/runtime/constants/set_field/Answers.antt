@@ -1,4 +1,4 @@
-use Rattle.std.proofs.Common.{◌≡◌, ◌∙◌, Some, ap, subst, sym, rules}
+use Rattle.std.proofs.Common.{◌≡◌, Some, subst, sym, rules}
 use Rattle.std.specs.Option.{option_map}
 use Rattle.jvm_model.specs.Running.Constants.{sets_field}
 use Rattle.jvm_model.specs.Running.Constants as model

@@ -1,5 +1,4 @@
 use Rattle.std.proofs.Common.{◌≡◌, ◌∙◌, ◌∷◌, ◌+◌, ◌-◌, ◌<◌, ap, length, rules, subst, sym}
-use Rattle.class_linker.specs.Linkers.{LinkerView}
 use Rattle.heap_objects.specs.declared.datum.Datum.TheVariants.{Ref}
 use Rattle.heap_objects.specs.Heaps.{with_slot_at}
 use Rattle.jvm_model.specs.Instructions.CreationRules.{with_arrays, with_parts}
