@@ -13,7 +13,7 @@ use Rattle.jvm_model.specs.Basis.Programs.{initializer_of, number_of_method}
 use Rattle.jvm_model.specs.Classes.Selection.{method_selected}
 use Rattle.jvm_model.specs.Profiling.Targets.{begun_field, begun_on, begun_static, initializers, where_loaded}
 use Rattle.class_linker.specs.Linkers.{IsLoaded, LinkerView}
-use Rattle.symbolic_references.specs.Numbers.{AreNumbers, Row}
+use Rattle.member_selection.specs.Numbers.{AreNumbers, Row}
 use Rattle.call_revelation.specs.declared.lineage.Lineage.{Lineage}
 use Rattle.call_revelation.specs.Tables.{list_at, with_item}
 

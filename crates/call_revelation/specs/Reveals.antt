@@ -17,7 +17,7 @@ use Rattle.jvm_model.specs.Profiling.Swaps.{same_mark}
 use Rattle.jvm_model.specs.Profiling.Targets.{operations_of}
 use Rattle.prepared_code.specs.Prepared.{HasShortCodes}
 use Rattle.class_linker.specs.Linkers.{IsLoaded, LinkerView}
-use Rattle.symbolic_references.specs.Numbers.{AreNumbers}
+use Rattle.member_selection.specs.Numbers.{AreNumbers}
 use Rattle.call_revelation.specs.declared.reveal.Reveal.{Reveal}
 use Rattle.call_revelation.specs.Books.{IsBookOf, code_at}
 use Rattle.call_revelation.specs.CalledClasses.{AreHanded, HasCalled}

@@ -11,8 +11,8 @@ ghost use Rattle.jvm_model.specs.Classes.SuperCalls.{invoked_special};
 ghost use Rattle.class_index.specs.Members.{wanted_view};
 ghost use Rattle.class_index.specs.Orders.{with_classes};
 ghost use Rattle.class_linker.specs.Linkers.{IsLoaded};
-ghost use Rattle.symbolic_references.specs.Members.{at_place};
-ghost use Rattle.symbolic_references.specs.Numbers.{AreNumbers};
+ghost use Rattle.member_selection.specs.Members.{at_place};
+ghost use Rattle.member_selection.specs.Numbers.{AreNumbers};
 ghost use Rattle.call_revelation.specs.Lineages.{AreKnown, begun_at, begun_named, initializer_in};
 ghost use Rattle.call_revelation.specs.Lineages.{number_of, selecting, selection_of};
 ghost use Rattle.call_revelation.specs.Tables.{Adds};
@@ -28,8 +28,8 @@ use class_index::{Order, Wanted};
 use class_linker::Linker;
 use jf_bytes::{NoMemory, Text16, from_utf8};
 use jvm_model::{MemberName, SymbolicReference};
+use member_selection::{DeclaredMember, MethodNumbers, resolved_name};
 use std::alloc::Global;
-use symbolic_references::{DeclaredMember, MethodNumbers, resolved_name};
 
 /// The class that invokevirtual or invokeinterface names, and which of them does.
 #[derive(Clone, Copy)]

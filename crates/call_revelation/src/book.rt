@@ -18,8 +18,8 @@ use crate::uses::Use;
 use class_linker::Linker;
 use jf_bytes::{NoMemory, Seq};
 use jvm_model::SymbolicReference;
+use member_selection::resolved_name;
 use std::alloc::Global;
-use symbolic_references::resolved_name;
 
 /// What was read of methods, by their numbers; and by the class that an instruction names all instructions that name it, and those
 /// that select by their receiver's class. Where memory ran out there are more of them than were read.

@@ -3,7 +3,7 @@
 ghost use Rattle.std.specs.Prelude.{◌≡◌, true, OnOk};
 ghost use Rattle.class_linker.specs.Linkers.{IsLoaded};
 ghost use Rattle.jvm_model.specs.Profiling.Revelation.{gained_on};
-ghost use Rattle.symbolic_references.specs.Numbers.{AreNumbers};
+ghost use Rattle.member_selection.specs.Numbers.{AreNumbers};
 ghost use Rattle.call_revelation.specs.Books.{called_by, called_on};
 ghost use Rattle.call_revelation.specs.Lineages.{selecting};
 ghost use Rattle.call_revelation.specs.Tables.{Adds};
@@ -15,7 +15,7 @@ use class_index::Order;
 use class_linker::Linker;
 use jf_bytes::NoMemory;
 use jvm_model::{MemberName, SymbolicReference};
-use symbolic_references::MethodNumbers;
+use member_selection::MethodNumbers;
 
 /// What a call that names a class begins on a new one.
 fn add_called_on(

@@ -9,7 +9,7 @@ ghost use Rattle.jvm_model.specs.Soundness.Sound.{HasClass, HasLoadedCaller, IsF
 ghost use Rattle.jvm_model.specs.Profiling.Targets.{begun_by, targets};
 ghost use Rattle.class_index.specs.Orders.{with_classes};
 ghost use Rattle.class_linker.specs.Linkers.{IsLoaded};
-ghost use Rattle.symbolic_references.specs.Numbers.{all_coded};
+ghost use Rattle.member_selection.specs.Numbers.{all_coded};
 ghost use Rattle.prepared_code.specs.Prepared.{HasShortCodes};
 ghost use Rattle.call_revelation.specs.Lineages.{AreKnown, IsLineage};
 ghost use Rattle.call_revelation.specs.Tables.{Adds, IsRising};
@@ -21,8 +21,8 @@ use class_index::Order;
 use class_linker::Linker;
 use jf_bytes::{NoMemory, Seq};
 use jvm_model::SymbolicReference;
+use member_selection::MethodNumbers;
 use std::alloc::Global;
-use symbolic_references::MethodNumbers;
 
 /// Classes more that are loaded.
 fn add_classes(lineage: &mut Lineage, linker: &Linker, classes: &[u32]) -> Result<(), NoMemory>

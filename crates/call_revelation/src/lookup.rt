@@ -9,8 +9,8 @@ ghost use Rattle.jvm_model.specs.Basis.Programs.{initializer_name, initializer_o
 ghost use Rattle.jvm_model.specs.Classes.Selection.{is_static, method_selected};
 ghost use Rattle.class_index.specs.Members.{wanted_view};
 ghost use Rattle.class_linker.specs.Linkers.{IsLoaded};
-ghost use Rattle.symbolic_references.specs.Members.{at_place};
-ghost use Rattle.symbolic_references.specs.Numbers.{AreNumbers};
+ghost use Rattle.member_selection.specs.Members.{at_place};
+ghost use Rattle.member_selection.specs.Numbers.{AreNumbers};
 ghost use Rattle.call_revelation.specs.Lineages.{initializer_in, number_of, selected_below, selection_of};
 ghost use Rattle.jvm_model.specs.Profiling.Targets.{class_with_methods, found_where, loaded_class_named};
 ghost use Rattle.call_revelation.specs.Lineages.{AreKnown};
@@ -20,7 +20,7 @@ use class_index::{Wanted, meaning_of, method_at};
 use class_linker::{Linker, Resolved};
 use jf_bytes::Text16;
 use jvm_model::{MemberName, Program};
-use symbolic_references::{DeclaredMember, MethodNumbers, is_static, is_static_field};
+use member_selection::{DeclaredMember, MethodNumbers, is_static, is_static_field};
 
 // ---- classes
 

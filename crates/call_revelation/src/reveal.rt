@@ -23,8 +23,8 @@ use crate::tables::{add_item, items_repeated, no_lists};
 use class_index::Order;
 use jf_bytes::{NoMemory, Seq, Stack};
 use jvm_model::{Mark, MethodPlace, Program};
+use member_selection::MethodNumbers;
 use std::alloc::Global;
-use symbolic_references::MethodNumbers;
 
 /// What is selected, entered and loaded, with what each event needs of it: where methods stand and the methods of each class; the
 /// classes below each; the code that was read, and the classes that its calls name; which methods are entered, by a flag; the targets of what is entered; and the marks

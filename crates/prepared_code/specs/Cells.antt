@@ -1,7 +1,7 @@
 -- What the names of lines came to, kept by version and place (JVM Specification 5.4.3).
 use Rattle.std.specs.Prelude.{◌≡◌, ◌⊎◌, ℕ, List, slice_get, Option, Some, None}
 use Rattle.std.specs.Option.{option_and_then, option_flatten}
-use Rattle.symbolic_references.specs.declared.known.Known.{Known}
+use Rattle.member_selection.specs.declared.known.Known.{Known}
 
 abbrev pub Rows : Type 0
 Rows = List (List (Option Known))

@@ -3,8 +3,8 @@ use Rattle.std.specs.Prelude.{◌≡◌, ℕ, Some}
 use Rattle.class_linker.specs.Linkers.{LinkerView}
 use Rattle.jvm_model.specs.declared.instruction.SymbolicReference.{SymbolicReference}
 use Rattle.jvm_model.specs.declared.program.Program.{Program}
-use Rattle.symbolic_references.specs.declared.known.Known.{Known}
-use Rattle.symbolic_references.specs.Known.{IsKnown}
+use Rattle.member_selection.specs.declared.known.Known.{Known}
+use Rattle.member_selection.specs.Known.{IsKnown}
 use Rattle.prepared_code.specs.Cells.{Rows, cell_at}
 use Rattle.prepared_code.specs.Lines.{IfNamed}
 use Rattle.prepared_code.specs.Making.{AreBare, with_lines}

@@ -15,7 +15,7 @@ use Rattle.jvm_model.specs.Codes.Lines.{local_of, next_of, targets_of}
 use Rattle.jvm_model.specs.declared.family.Family.{Family}
 use Rattle.jvm_model.specs.declared.family.Family.TheVariants as family
 use Rattle.jvm_basic.specs.Rules.{datum_in}
-use Rattle.symbolic_references.specs.Objects.{HasDimensions}
+use Rattle.member_selection.specs.Objects.{HasDimensions}
 use Rattle.prepared_code.specs.Lines.{IfNamedBy, hot_in}
 use Rattle.prepared_code.specs.declared.line.Action.{Action}
 use Rattle.prepared_code.specs.declared.line.Action.TheVariants as action

@@ -5,9 +5,9 @@ ghost use Rattle.std.specs.Option.{option_copied};
 ghost use Rattle.prepared_code.specs.Cells.{Keeps, KeepsItem, Learns, cell_at, item_at};
 
 use jf_bytes::{NoMemory, Seq};
+use member_selection::Known;
 use std::alloc::Global;
 use std::marker::Model;
-use symbolic_references::Known;
 
 /// What is known of the names of lines. A row is made when the first line of its version is
 /// attempted.

@@ -3,7 +3,7 @@
 ghost use Rattle.std.specs.Prelude.{◌≡◌, ◌<◌, ◌^◌, length, IfOk};
 ghost use Rattle.std.specs.Option.{option_copied};
 ghost use Rattle.jvm_model.specs.Basis.Methods.{code_of, method_code};
-ghost use Rattle.symbolic_references.specs.Numbers.{AreNumbers};
+ghost use Rattle.member_selection.specs.Numbers.{AreNumbers};
 ghost use Rattle.prepared_code.specs.ClassVersions.{FitsImage, class_version, class_versions};
 ghost use Rattle.prepared_code.specs.ClassVersions.{homes_at};
 ghost use Rattle.prepared_code.specs.ClassVersions.{versions_from};
@@ -16,8 +16,8 @@ use code_model::Homes;
 use const_pool::{ClassFile, CodeAttribute};
 use jf_bytes::{NoMemory, Seq};
 use jvm_model::{Program, code_of};
+use member_selection::MethodNumbers;
 use std::alloc::Global;
-use symbolic_references::MethodNumbers;
 
 // ---- one method
 

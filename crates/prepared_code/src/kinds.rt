@@ -4,12 +4,12 @@
 ghost use Rattle.std.specs.Prelude.{◌≡◌};
 ghost use Rattle.heap_objects.specs.Heaps.{kind_at};
 ghost use Rattle.jvm_model.specs.Instructions.ObjectRules.{fits_array, is_element};
-ghost use Rattle.symbolic_references.specs.Objects.{AreLoaded};
+ghost use Rattle.member_selection.specs.Objects.{AreLoaded};
 
 use class_index::FIRST_ARRAY;
 use class_linker::Linker;
 use heap_objects::{Datum, Heap};
-use symbolic_references::is_instance;
+use member_selection::is_instance;
 
 /// Whether an object can be an element of an array.
 fn is_element(linker: &Linker, heap: &Heap, object: u32, array: u32) -> bool

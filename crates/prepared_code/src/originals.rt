@@ -5,7 +5,7 @@ ghost use Rattle.std.specs.Prelude.{ℕ, [], ◌≡◌, ◌≢◌, Some, ◌<◌
 ghost use Rattle.std.specs.Prelude.{IfOk, OnErr, OnOk};
 ghost use Rattle.std.specs.Option.{option_copied, option_map, IfSome};
 ghost use Rattle.jvm_model.specs.Basis.Families.{family_of};
-ghost use Rattle.symbolic_references.specs.Numbers.{AreNumbers};
+ghost use Rattle.member_selection.specs.Numbers.{AreNumbers};
 ghost use Rattle.symbolic_references.specs.Runtimes.{RuntimeView};
 ghost use Rattle.prepared_code.specs.Tables.{Adds, AreAllCurrent, Releases, version_at};
 ghost use Rattle.method_versions.specs.Tables.{is_superseded_in};
@@ -42,10 +42,10 @@ use const_pool::ClassFile;
 use frame_stack::Frames;
 use jf_bytes::{NoMemory, Seq};
 use jvm_model::{Mark, Program};
+use member_selection::{Known, MethodNumbers};
 use std::alloc::Global;
 use std::marker::Model;
 use std::rc::Rc;
-use symbolic_references::{Known, MethodNumbers};
 
 /// A program with the versions of its methods and what the names of its lines came to. The lines of
 /// a method's original code are made when it is first run; a clause sees the versions with all

@@ -22,9 +22,10 @@ use code_model::instr_at;
 use const_pool::{ClassFile, Handler, Kind, Member};
 use jf_bytes::{NoMemory, Seq, Text16};
 use jvm_model::{Mark, MethodPlace, Program, code_of};
+use member_selection::MethodNumbers;
 use method_versions::Held;
 use std::alloc::Global;
-use symbolic_references::{Exceptions, Method, MethodNumbers, ProgramTables};
+use symbolic_references::{Exceptions, Method, ProgramTables};
 
 /// The line at an offset of a code.
 pub fn code_line(

@@ -16,7 +16,7 @@ use Rattle.jvm_model.proofs.Soundness.SoundClasses.{named-load}
 use Rattle.class_linker.specs.declared.answers.Loaded.{Loaded}
 use Rattle.class_linker.specs.declared.answers.Loaded.TheVariants.{New, Already, Throws, NoMemory}
 use Rattle.class_linker.specs.Linkers.{IsLoaded, LinkerView, linker_of, loaded_by}
-use Rattle.symbolic_references.specs.Numbers.{all_coded}
+use Rattle.member_selection.specs.Numbers.{all_coded}
 use Rattle.program_fit.specs.Runnable.{IsAdmitted}
 use Rattle.program_fit.proofs.Runs.{runnable}
 use Rattle.call_revelation.specs.declared.reveal.Reveal.{Reveal}

@@ -16,18 +16,18 @@ use Rattle.jvm_model.specs.declared.instruction.SymbolicReference.{SymbolicRefer
 use Rattle.jvm_model.specs.Instructions.ReferenceRules.{does_named}
 use Rattle.jvm_model.specs.Instructions.ObjectRules.{done as done_with}
 use Rattle.class_linker.specs.Linkers.{LinkerView}
-use Rattle.symbolic_references.specs.declared.known.Known.{Known}
+use Rattle.member_selection.specs.declared.known.Known.{Known}
 use Rattle.jvm_basic.specs.Outcomes.{top_locals}
-use Rattle.symbolic_references.specs.Answers.{done_on}
+use Rattle.member_selection.specs.Answers.{done_on}
 use Rattle.symbolic_references.specs.Runtimes.{RuntimeView, linker_in}
-use Rattle.symbolic_references.specs.Attempts.{attempts, linker_with, loaded_for, loads_nothing, shared_loaded}
-use Rattle.symbolic_references.specs.Known.{IsFoundAs, IsKnown, LoadsNothing}
-use Rattle.symbolic_references.specs.Objects.{IsResolved}
-use Rattle.symbolic_references.specs.Resolved.{does_resolved, skips}
+use Rattle.member_selection.specs.Attempts.{attempts, linker_with, loaded_for, loads_nothing, shared_loaded}
+use Rattle.member_selection.specs.Known.{IsFoundAs, IsKnown, LoadsNothing}
+use Rattle.member_selection.specs.Objects.{IsResolved}
+use Rattle.member_selection.specs.Resolved.{does_resolved, skips}
 use Rattle.symbolic_references.proofs.Attempted.{done_found, done_skipped}
-use Rattle.symbolic_references.proofs.Loads.{Loads, loads}
-use Rattle.symbolic_references.proofs.ObjectLemmas.{among-front, usable_more}
-use Rattle.symbolic_references.specs.Attempts.{with_more}
+use Rattle.member_selection.proofs.Loads.{Loads, loads}
+use Rattle.member_selection.proofs.ObjectLemmas.{among-front, usable_more}
+use Rattle.member_selection.specs.Attempts.{with_more}
 
 nothing-by : (p : Program) (loaded : List ℕ) (n : SymbolicReference) (b : Bool) → load_of p loaded (resolved_name n) ≡ loading_done loaded
     → (if b then drop (length loaded) (load_of p loaded (resolved_name n)).loaded else []) ≡ []

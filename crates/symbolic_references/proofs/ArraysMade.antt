@@ -10,10 +10,10 @@ use Rattle.jvm_model.specs.Instructions.CreationRules.{counts_from, counts_of, l
 use Rattle.jvm_model.specs.Basis.KindNumbers.{first_array, user_count}
 use Rattle.class_linker.specs.Linkers.{IsLoaded, LinkerView}
 use Rattle.jvm_model.specs.Basis.Data.{Operands}
-use Rattle.symbolic_references.specs.Arrays.{AreUsable, int_at, lengths_from}
-use Rattle.symbolic_references.specs.Objects.{AreLoaded, IsUsable}
-use Rattle.symbolic_references.proofs.KindLemmas.{under_usable}
-use Rattle.symbolic_references.proofs.ObjectLemmas.{objects_slot, objects_with}
+use Rattle.member_selection.specs.Arrays.{AreUsable, int_at, lengths_from}
+use Rattle.member_selection.specs.Objects.{AreLoaded, IsUsable}
+use Rattle.member_selection.proofs.KindLemmas.{under_usable}
+use Rattle.member_selection.proofs.ObjectLemmas.{objects_slot, objects_with}
 
 -- ---- the operands
 

@@ -11,34 +11,34 @@ use Rattle.jvm_model.specs.Basis.Data.{Operands, World, Done}
 use Rattle.jvm_model.specs.Classes.Load.{load_of}
 use Rattle.jvm_model.specs.Instructions.SymbolicReference.{newly_loaded, resolved_kind, resolved_name, resolves, unless_refused}
 use Rattle.jvm_model.specs.declared.instruction.SymbolicReference.{SymbolicReference}
-use Rattle.jvm_model.specs.declared.instruction.SymbolicReference.TheVariants.{New, Invokespecial}
+use Rattle.jvm_model.specs.declared.instruction.SymbolicReference.TheVariants.{Invokespecial}
 use Rattle.jvm_model.specs.Instructions.ReferenceRules.{does_named}
 use Rattle.jvm_model.specs.Instructions.ObjectRules.{done}
 use Rattle.jvm_model.proofs.Loading.LoadsAgain.{newly-loaded, resolved-again}
 use Rattle.class_linker.specs.Linkers.{LinkerView}
-use Rattle.symbolic_references.specs.declared.outcome.AbruptCompletion.{AbruptCompletion}
-use Rattle.symbolic_references.specs.Answers.{done_on, abrupt_view}
+use Rattle.member_selection.specs.declared.outcome.AbruptCompletion.{AbruptCompletion}
+use Rattle.member_selection.specs.Answers.{done_on, abrupt_view}
 use Rattle.jf_bytes.specs.declared.error.NoMemory.{NoMemory}
-use Rattle.symbolic_references.specs.declared.outcome.Outcome.{Outcome as TheOutcome}
-use Rattle.symbolic_references.specs.Outcomes.{Asks, Leaves, asked}
-use Rattle.symbolic_references.specs.Attempts.{attempts, linker_with, loaded_for, with_more}
+use Rattle.member_selection.specs.declared.outcome.Outcome.{Outcome as TheOutcome}
+use Rattle.member_selection.specs.Outcomes.{Asks, asked}
+use Rattle.symbolic_references.specs.Leaving.{Leaves}
+use Rattle.member_selection.specs.Attempts.{attempts, loaded_for, with_more}
 use Rattle.symbolic_references.specs.Natives.{HasBuiltIn}
-use Rattle.symbolic_references.specs.Objects.{HasLoadedCaller}
+use Rattle.member_selection.specs.Objects.{HasLoadedCaller}
 use Rattle.symbolic_references.specs.declared.program_tables.ProgramTables.{ProgramTables}
 use Rattle.jvm_model.specs.Basis.SharedState.{kind_for, string}
 use Rattle.symbolic_references.specs.ProgramFacts.{HasExceptions, exception_kind}
 use Rattle.symbolic_references.specs.Runtimes.{IsRuntime, RuntimeView, after, with_loaded}
-use Rattle.symbolic_references.specs.Resolved.{does_resolved, skips}
+use Rattle.member_selection.specs.Resolved.{does_resolved, skips}
 use Rattle.symbolic_references.proofs.Behind.{behind, skipped}
-use Rattle.symbolic_references.proofs.ObjectLemmas.{loaded_more, objects_more, usable_more}
+use Rattle.member_selection.proofs.ObjectLemmas.{loaded_more, objects_more, usable_more}
 use Rattle.std.proofs.Common.{Bool, Some}
-use Rattle.std.proofs.Math.Seq.{drop-length}
 use Rattle.std.specs.Prelude.{IfOk}
-use Rattle.symbolic_references.specs.Attempts.{IsFound}
-use Rattle.symbolic_references.specs.Answers.{found_view}
-use Rattle.symbolic_references.specs.Objects.{IsResolved}
+use Rattle.member_selection.specs.Attempts.{IsFound}
+use Rattle.member_selection.specs.Answers.{found_view}
+use Rattle.member_selection.specs.Objects.{IsResolved}
 use Rattle.symbolic_references.specs.Runtimes.{linker_in}
-use Rattle.symbolic_references.specs.Selections.{Slots}
+use Rattle.member_selection.specs.Selections.{Slots}
 
 -- ---- what is loaded
 
@@ -100,14 +100,6 @@ module _ (l new : LinkerView) (more : List ℕ) (is : new ≡ with_more l more) 
         objects = objects_more l more h has.objects;
       })
 
-pub more-loaded : (l : LinkerView) (name : List ℕ)
-    → linker_with l (load_of l.program l.loaded name).loaded ≡ with_more l (drop (length l.loaded) (load_of l.program l.loaded name).loaded)
-more-loaded l name = ap (λ classes. linker_with l classes) (sym (newly-loaded l.program l.loaded (New name) [] refl))
-
-pub more-by : (l new : LinkerView) (name : List ℕ) → new ≡ linker_with l (load_of l.program l.loaded name).loaded
-    → new ≡ with_more l (drop (length l.loaded) new.loaded)
-more-by l new name is = subst (λ (x : LinkerView). x ≡ with_more l (drop (length l.loaded) x.loaded)) (sym is) (more-loaded l name)
-
 -- ---- an attempt, behind what it loads
 
 module _ (v m : RuntimeView) (n : SymbolicReference) (f : FramesView) (mid : m ≡ with_loaded (loaded_for v.world.program n v.shared f) v) where
@@ -151,9 +143,6 @@ loaded-none v n f is =
         → (if b then drop (length loaded) (load_of p loaded (resolved_name n)).loaded else []) ≡ []
     nothing-by p loaded n true is = absurd (let no : true ≡ false → ⊥ = λ e. cc in no is)
     nothing-by p loaded n false is = refl
-
-pub none-more : (l : LinkerView) → l ≡ with_more l (drop (length l.loaded) l.loaded)
-none-more l = sym (ap (λ more. with_more l more) (drop-length l.loaded) ∙ ap (λ classes. linker_with l classes) (append-nil l.loaded))
 
 pub same-linker : (a b : RuntimeView) → a.world ≡ b.world → a.shared.loaded ≡ b.shared.loaded → linker_in a ≡ linker_in b
 same-linker a b world loaded =

@@ -15,7 +15,7 @@ use Rattle.jvm_model.specs.Instructions.ReferenceRules.{does_named}
 use Rattle.jvm_model.specs.Instructions.ObjectRules.{done}
 use Rattle.jvm_model.specs.Instructions.Rules.{class_initialized}
 use Rattle.jvm_model.specs.Basis.Values.{ref_of}
-use Rattle.symbolic_references.specs.Resolved.{does_resolved, field_found, method_found, skips}
+use Rattle.member_selection.specs.Resolved.{does_resolved, field_found, method_found, skips}
 
 false_true : false ≡ true → ⊥
 false_true e = cc

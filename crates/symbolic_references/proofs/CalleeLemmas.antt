@@ -10,7 +10,7 @@ use Rattle.jvm_model.specs.Classes.Lookup.{MemberPlace}
 use Rattle.jvm_model.specs.Instructions.NativeRules.{runs_native, runs_number}
 use Rattle.jvm_model.specs.Instructions.ObjectRules.{done}
 use Rattle.jvm_model.specs.Basis.Programs.{number_of_method}
-use Rattle.symbolic_references.specs.Callees.{IsCode, IsNative}
+use Rattle.member_selection.specs.Callees.{IsCode, IsNative}
 
 module _ (w : World) (m : MemberPlace) (args : List Datum) (s : Shared) (l : Locals) (below : Operands) where
   -- a method that has Code

@@ -8,10 +8,11 @@ use Rattle.frame_stack.specs.FrameLists.{FramesView}
 use Rattle.jvm_model.specs.Basis.Data.{Operands, Done}
 use Rattle.jvm_model.specs.Basis.Data as model
 use Rattle.jvm_model.specs.Instructions.ObjectRules.{done}
-use Rattle.symbolic_references.specs.declared.outcome.Outcome.{Outcome}
-use Rattle.symbolic_references.specs.declared.outcome.Outcome.TheVariants.{Goes}
-use Rattle.symbolic_references.specs.Answers.{Rule, done_on}
-use Rattle.symbolic_references.specs.Outcomes.{Asks, HasOperands, Leaves, Sets, asked}
+use Rattle.member_selection.specs.declared.outcome.Outcome.{Outcome}
+use Rattle.member_selection.specs.declared.outcome.Outcome.TheVariants.{Goes}
+use Rattle.member_selection.specs.Answers.{Rule, done_on}
+use Rattle.member_selection.specs.Outcomes.{Asks, HasOperands, asked}
+use Rattle.symbolic_references.specs.Leaving.{Leaves, Sets}
 use Rattle.symbolic_references.specs.Runtimes.{RuntimeView, after, with_shared}
 use Rattle.jvm_model.specs.declared.program.Program.{Program}
 use Rattle.jvm_model.specs.declared.state.Shared.{Shared}

@@ -3,7 +3,7 @@ use Rattle.std.proofs.Common.{◌≡◌, ◌∙◌, ap, subst, sym}
 use Rattle.jvm_model.specs.declared.exception.Exception.{Exception}
 use Rattle.class_linker.specs.Linkers.{LinkerView}
 use Rattle.symbolic_references.specs.declared.program_tables.ProgramTables.{ProgramTables}
-use Rattle.symbolic_references.specs.Objects.{IsUsable}
+use Rattle.member_selection.specs.Objects.{IsUsable}
 use Rattle.symbolic_references.specs.ProgramFacts.{AreTablesOf, HasExceptions, exception_in, exception_kind}
 use Rattle.symbolic_references.specs.Runtimes.{RuntimeView, linker_in}
 

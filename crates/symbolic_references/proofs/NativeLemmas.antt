@@ -27,15 +27,15 @@ use Rattle.jvm_model.specs.Basis.KindNumbers.{class_of_base, user_count}
 use Rattle.jvm_model.specs.Basis.SharedState.{throwable}
 use Rattle.jvm_model.specs.Instructions.NativeRules.{kinds_in, outcome_of, runs_number, seen_by_natives, thrown_by}
 use Rattle.class_linker.specs.Linkers.{IsLoaded, LinkerView}
-use Rattle.symbolic_references.specs.declared.outcome.Outcome.{Outcome as TheOutcome}
+use Rattle.member_selection.specs.declared.outcome.Outcome.{Outcome as TheOutcome}
 use Rattle.symbolic_references.specs.NativeCalls.{native_answer, native_left, with_left}
-use Rattle.symbolic_references.specs.Outcomes.{asked}
+use Rattle.member_selection.specs.Outcomes.{asked}
 use Rattle.symbolic_references.specs.Runtimes.{RuntimeView, after}
 use Rattle.symbolic_references.specs.Natives.{HasBuiltIn, outcome_by}
-use Rattle.symbolic_references.specs.Objects.{AreLoaded, IsUsable}
-use Rattle.symbolic_references.specs.Targets.{as_datum, data_in}
-use Rattle.symbolic_references.proofs.Arguments.{first-below}
-use Rattle.symbolic_references.proofs.KindLemmas.{of-class, of-primitive}
+use Rattle.member_selection.specs.Objects.{AreLoaded, IsUsable}
+use Rattle.member_selection.specs.Targets.{as_datum, data_in}
+use Rattle.member_selection.proofs.Arguments.{first-below}
+use Rattle.member_selection.proofs.KindLemmas.{of-class, of-primitive}
 
 -- ---- the kinds that native methods make are usable
 

@@ -17,17 +17,17 @@ use Rattle.jvm_model.specs.declared.state.Phase.TheVariants.{Erroneous, Fresh, R
 use Rattle.jvm_model.specs.declared.state.Shared.{Shared}
 use Rattle.jvm_model.specs.Basis.Data.{Back, Breaks, Done, Exits, GoesOn, Initializes, Invokes, Locals, Next, Operands, Outcome, Raises, Returns, Subroutine, Target, Throws, World}
 use Rattle.jvm_model.specs.Instructions.Rules.{when_ready}
-use Rattle.symbolic_references.specs.Answers.{Answer, Continues, Exceeds, Stops, answer_in, frames_in}
+use Rattle.member_selection.specs.Answers.{Answer, Continues, Exceeds, Stops, answer_in, frames_in, is_next}
 use Rattle.symbolic_references.specs.Fields.{writes}
 use Rattle.jvm_model.specs.Instructions.InvocationRules.{invokes_selected}
-use Rattle.symbolic_references.specs.declared.known.Callee.TheVariants as callee
-use Rattle.symbolic_references.specs.declared.known.Chosen.{Chosen}
-use Rattle.symbolic_references.specs.declared.targets.Target.{Target as TheTarget}
-use Rattle.symbolic_references.specs.Callees.{HasCallee, IsCallee, IsCode, IsNative, chosen_place}
-use Rattle.symbolic_references.specs.Passing.{IfPassed, IsCall, IsNativeCall, is_next, is_usable}
+use Rattle.member_selection.specs.declared.known.Callee.TheVariants as callee
+use Rattle.member_selection.specs.declared.known.Chosen.{Chosen}
+use Rattle.member_selection.specs.declared.targets.Target.{Target as TheTarget}
+use Rattle.member_selection.specs.Callees.{HasCallee, IsCallee, IsCode, IsNative, chosen_place}
+use Rattle.symbolic_references.specs.Passing.{IfPassed, IsCall, IsNativeCall, is_usable}
 use Rattle.symbolic_references.specs.Runtimes.{RuntimeView, after}
-use Rattle.symbolic_references.specs.Resolved.{field_found, puts_instance}
-use Rattle.symbolic_references.specs.Targets.{data_in}
+use Rattle.member_selection.specs.Resolved.{field_found, puts_instance}
+use Rattle.member_selection.specs.Targets.{data_in}
 use Rattle.symbolic_references.proofs.CalleeLemmas.{code-invoked, native-invoked}
 
 pub next-is : (a : Answer) → is_next a ≡ true → a ≡ Continues

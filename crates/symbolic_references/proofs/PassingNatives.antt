@@ -21,11 +21,11 @@ use Rattle.jvm_model.specs.Basis.Data.{Locals, Operands, Outcome, Done, World}
 use Rattle.jvm_model.specs.Instructions.NativeRules.{kinds_in, runs_number, seen_by_natives}
 use Rattle.jvm_model.specs.Basis.Values.{as_value, with_value}
 use Rattle.symbolic_references.specs.Natives.{outcome_by}
-use Rattle.symbolic_references.proofs.Going.{height-dropped, least-width, within-limit}
+use Rattle.member_selection.proofs.Going.{height-dropped, least-width, within-limit}
 use Rattle.symbolic_references.proofs.NativesKept.{IsNarrow, IsNarrowValue, call-keeps}
 use Rattle.frame_stack.specs.FrameLists.{with_frames}
-use Rattle.symbolic_references.specs.Answers.{Continues, Exceeds, answer_in, frames_in}
-use Rattle.symbolic_references.specs.Passing.{IfPassed, is_next}
+use Rattle.member_selection.specs.Answers.{Continues, Exceeds, answer_in, frames_in, is_next}
+use Rattle.symbolic_references.specs.Passing.{IfPassed}
 use Rattle.symbolic_references.specs.Runtimes.{RuntimeView}
 use Rattle.symbolic_references.proofs.NativeLemmas.{answers, leaves}
 use Rattle.symbolic_references.specs.NativeCalls.{with_left}

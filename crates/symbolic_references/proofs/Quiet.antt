@@ -20,8 +20,8 @@ use Rattle.jvm_model.specs.Instructions.Rules.{when_ready}
 use Rattle.jvm_model.specs.Basis.SharedState.{class_of_kind, phase_of}
 use Rattle.jvm_model.specs.Basis.Values.{int_of, ref_of}
 use Rattle.const_pool.specs.References.{Reference}
-use Rattle.symbolic_references.specs.Resolved.{field_found, gets_instance, gets_static, makes_new, puts_instance, puts_static}
-use Rattle.symbolic_references.specs.declared.outcome.Outcome.{Outcome as TheOutcome}
+use Rattle.member_selection.specs.Resolved.{field_found, gets_instance, gets_static, makes_new, puts_instance, puts_static}
+use Rattle.member_selection.specs.declared.outcome.Outcome.{Outcome as TheOutcome}
 use Rattle.jf_bytes.specs.declared.error.NoMemory.{NoMemory}
 use Rattle.symbolic_references.specs.Runtimes.{RuntimeView, after, with_shared}
 

@@ -20,8 +20,7 @@ use Rattle.jvm_model.specs.Classes.Kinds.{kind_named}
 use Rattle.jvm_model.specs.Classes.Lookup.{MemberPlace}
 use Rattle.jvm_model.specs.Instructions.SymbolicReference.{extends, is_below_kind, is_instance, unless_refused}
 use Rattle.jvm_model.specs.Instructions.ObjectRules.{done}
-use Rattle.symbolic_references.specs.Fields.{has_field_at}
-use Rattle.symbolic_references.specs.Objects.{class_at_kind}
+use Rattle.member_selection.specs.Objects.{class_at_kind, has_field_at}
 
 pub has_field_named : (p : Program) (s : Shared) (r : Reference) (m : MemberPlace) (object kind : ℕ) → kind_named p r.class ≡ Some kind
     → has_field p s r m object ≡ has_field_at p (kind_at object s.heap) kind m.class

@@ -18,16 +18,16 @@ use Rattle.jvm_model.specs.Instructions.ObjectRules.{done}
 use Rattle.jvm_model.specs.Instructions.Rules.{when_ready}
 use Rattle.jvm_model.specs.Basis.SharedState.{class_of, phase_of}
 use Rattle.jvm_model.specs.declared.program.Program.{Program}
-use Rattle.symbolic_references.specs.declared.known.Chosen.{Chosen}
-use Rattle.symbolic_references.specs.Known.{IsFixed}
+use Rattle.member_selection.specs.declared.known.Chosen.{Chosen}
+use Rattle.member_selection.specs.Known.{IsFixed}
 use Rattle.symbolic_references.specs.Passing.{is_usable}
-use Rattle.symbolic_references.specs.declared.outcome.AbruptCompletion.{AbruptCompletion}
-use Rattle.symbolic_references.specs.declared.targets.Target.{Target as TheTarget}
-use Rattle.symbolic_references.specs.Answers.{abrupt_view}
-use Rattle.symbolic_references.specs.Objects.{class_at_kind}
-use Rattle.symbolic_references.specs.Callees.{chosen_place}
-use Rattle.symbolic_references.specs.Resolved.{invokes_instance, invokes_static_method, method_found}
-use Rattle.symbolic_references.specs.Targets.{Target, as_datum, data_in, instance_target, invokes_target, static_target, target_in, unless_unready, unready_by}
+use Rattle.member_selection.specs.declared.outcome.AbruptCompletion.{AbruptCompletion}
+use Rattle.member_selection.specs.declared.targets.Target.{Target as TheTarget}
+use Rattle.member_selection.specs.Answers.{abrupt_view}
+use Rattle.member_selection.specs.Objects.{class_at_kind}
+use Rattle.member_selection.specs.Callees.{chosen_place}
+use Rattle.member_selection.specs.Resolved.{invokes_instance, invokes_static_method, method_found}
+use Rattle.member_selection.specs.Targets.{Target, as_datum, data_in, instance_target, invokes_target, static_target, target_in, unless_unready, unready_by}
 
 -- ---- instance methods
 

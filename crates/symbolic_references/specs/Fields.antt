@@ -1,27 +1,20 @@
 -- Instance fields of objects, as the code finds them.
-use Rattle.std.specs.Prelude.{ℕ, ◌&&◌, drop, not, Bool, Option, Some, Result, Ok, Err}
+use Rattle.std.specs.Prelude.{ℕ, drop, not, Bool, Result, Ok, Err}
 use Rattle.heap_objects.specs.Heaps.{with_slot_at}
 use Rattle.const_pool.specs.declared.class.Member.{Member}
 use Rattle.jvm_model.specs.Basis.Methods.{has_flag}
-use Rattle.jvm_model.specs.declared.program.Program.{Program}
 use Rattle.jvm_model.specs.declared.state.Shared.{Shared}
 use Rattle.jvm_model.specs.Basis.Data.{Datum, Locals, Operands, Next, Outcome, GoesOn, Done}
 use Rattle.jvm_model.specs.Instructions.FieldRules as rules
-use Rattle.jvm_model.specs.Instructions.SymbolicReference.{extends, is_below_kind}
 use Rattle.jvm_model.specs.Instructions.ObjectRules.{done}
-use Rattle.symbolic_references.specs.declared.outcome.AbruptCompletion.{AbruptCompletion}
+use Rattle.member_selection.specs.declared.outcome.AbruptCompletion.{AbruptCompletion}
 use Rattle.symbolic_references.specs.declared.owners.Owner.{Owner}
 use Rattle.symbolic_references.specs.declared.owners.Putting.{Putting}
-use Rattle.symbolic_references.specs.Answers.{abrupt_view}
-use Rattle.symbolic_references.specs.Objects.{class_at_kind}
+use Rattle.member_selection.specs.Answers.{abrupt_view}
 
 -- the field is not static
 abbrev pub is_of_instances : Member → Bool
 is_of_instances f = not (has_flag 8 f.access)
-
--- an object of the first kind is of the second, and its class is the other one or inherits from it
-abbrev pub has_field_at : Program → Option ℕ → ℕ → ℕ → Bool
-has_field_at p lower upper class = is_below_kind p lower (Some upper) && extends p (class_at_kind p lower) class
 
 -- the object that has a field
 abbrev pub owner_found : Result Owner AbruptCompletion → Result ℕ Outcome

@@ -18,12 +18,8 @@ use Rattle.symbolic_references.specs.declared.invoked.Invoked.{Invoked}
 use Rattle.symbolic_references.specs.declared.invoked.Invoked.TheVariants as invoked
 use Rattle.symbolic_references.specs.declared.invoked.NativeCall.{NativeCall}
 use Rattle.symbolic_references.specs.Runtimes.{RuntimeView, after}
-use Rattle.symbolic_references.specs.Answers.{Answer, Continues, answer_in, frames_in}
-use Rattle.symbolic_references.specs.Targets.{data_in}
-
-abbrev pub is_next : Answer → Bool
-is_next Continues = true
-is_next _ = false
+use Rattle.member_selection.specs.Answers.{Continues, answer_in, frames_in}
+use Rattle.member_selection.specs.Targets.{data_in}
 
 -- a class is initialized, or is being
 abbrev pub is_usable : Option Phase → Bool

@@ -11,8 +11,8 @@ use Rattle.jvm_model.specs.Basis.Programs.{params_of_method, max_stack_of, max_l
 use Rattle.jvm_model.specs.Basis.SharedState.{kind_for, string}
 use Rattle.symbolic_references.specs.declared.program_tables.Exceptions.{Exceptions}
 use Rattle.symbolic_references.specs.declared.program_tables.ProgramTables.{ProgramTables}
-use Rattle.symbolic_references.specs.Numbers.{AreNumbers}
-use Rattle.symbolic_references.specs.Objects.{IsUsable}
+use Rattle.member_selection.specs.Numbers.{AreNumbers}
+use Rattle.member_selection.specs.Objects.{IsUsable}
 use Rattle.class_linker.specs.Linkers.{LinkerView}
 
 abbrev pub world_in : Program → List ℕ → World

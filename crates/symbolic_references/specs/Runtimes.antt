@@ -6,10 +6,10 @@ use Rattle.jvm_model.specs.declared.state.Shared.{Shared}
 use Rattle.jvm_model.specs.Basis.Data.{World, Done}
 use Rattle.class_linker.specs.Linkers.{LinkerView}
 use Rattle.symbolic_references.specs.Natives.{HasBuiltIn}
-use Rattle.symbolic_references.specs.Objects.{AreLoaded}
+use Rattle.member_selection.specs.Objects.{AreLoaded}
 use Rattle.symbolic_references.specs.declared.program_tables.ProgramTables.{ProgramTables}
 use Rattle.symbolic_references.specs.ProgramFacts.{AreTablesOf, HasExceptions}
-use Rattle.symbolic_references.specs.Selections.{AreSelections, Slots}
+use Rattle.member_selection.specs.Selections.{AreSelections, Slots}
 
 pub record RuntimeView : Type 0 where
   pub world : World

@@ -1,8 +1,8 @@
 //! What is asked of a program again and again, in tables that are made once.
 
-use crate::numbers::MethodNumbers;
 use const_pool::Kind;
 use jf_bytes::Seq;
+use member_selection::MethodNumbers;
 
 /// What is kept of a method: what it takes, and its limits.
 #[derive(Drop)]

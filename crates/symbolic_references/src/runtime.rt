@@ -2,10 +2,10 @@
 //! are the instructions.
 
 ghost use Rattle.std.specs.Prelude.{◌≡◌, []};
-ghost use Rattle.symbolic_references.specs.Known.{IsKnown};
+ghost use Rattle.member_selection.specs.Known.{IsKnown};
 ghost use Rattle.symbolic_references.specs.Natives.{HasBuiltIn};
-ghost use Rattle.symbolic_references.specs.Numbers.{AreNumbers};
-ghost use Rattle.symbolic_references.specs.Objects.{AreLoaded};
+ghost use Rattle.member_selection.specs.Numbers.{AreNumbers};
+ghost use Rattle.member_selection.specs.Objects.{AreLoaded};
 ghost use Rattle.symbolic_references.specs.ProgramFacts.{AreTablesOf, HasExceptions};
 ghost use Rattle.symbolic_references.specs.Runtimes.{linker_in};
 
@@ -27,15 +27,12 @@ mod program;
 mod selecting;
 mod statics;
 
-use crate::known::Known;
-use crate::numbers::MethodNumbers;
 use crate::program_tables::ProgramTables;
-use crate::selections::Selections;
-pub use attempting::resolved_name;
 use class_linker::Linker;
 use heap_objects::{Datum, Heap};
 use jf_bytes::Seq;
 use jvm_model::{Phase, SymbolicReference};
+use member_selection::{Known, MethodNumbers, Selections};
 use native_effects::Made;
 use std::alloc::Global;
 use std::marker::Model;
@@ -92,7 +89,7 @@ pub struct Beginning {
 impl Runtime {
     /// A runtime of these parts: the tables are the program's, the built-in classes are loaded, and
     /// so is the class of each object.
-    #[tactic(auto, using(crate::proofs::SelectionLemmas::no_selections))]
+    #[tactic(auto, using(member_selection::proofs::SelectionLemmas::no_selections))]
     pub fn new(
         alloc: Global,
         linker: Linker,

@@ -15,7 +15,7 @@ use Rattle.jvm_model.specs.Basis.Programs.{coded_from, methods_numbered, numbere
 use Rattle.jvm_model.specs.Profiling.Revealed.{mark_of}
 use Rattle.jvm_model.specs.Soundness.Sound.{IsFit}
 use Rattle.jvm_model.specs.Profiling.Targets.{operations_of}
-use Rattle.symbolic_references.specs.Numbers.{AreNumbers}
+use Rattle.member_selection.specs.Numbers.{AreNumbers}
 use Rattle.prepared_code.specs.Prepared.{HasShortCodes}
 use Rattle.call_revelation.specs.declared.reveal.Reveal.{Reveal}
 use Rattle.call_revelation.specs.Books.{IsBookOf}

@@ -14,8 +14,8 @@ use Rattle.const_pool.specs.declared.descriptor.Kind.TheVariants as kind
 use Rattle.frame_stack.specs.Widths.{width, height_of, slots_of_all}
 use Rattle.jvm_model.specs.Basis.Data.{Operands}
 use Rattle.jvm_model.specs.Basis.Values.{as_value, datum_of, data_of, arguments_spread}
-use Rattle.symbolic_references.specs.Targets.{as_datum, data_in}
-use Rattle.symbolic_references.proofs.Arguments.{data_of-unequal}
+use Rattle.member_selection.specs.Targets.{as_datum, data_in}
+use Rattle.member_selection.proofs.Arguments.{data_of-unequal}
 
 -- ---- values of their parameters' kinds
 

@@ -12,11 +12,11 @@ use Rattle.jvm_model.specs.declared.state.State.{State}
 use Rattle.jvm_model.specs.Basis.Data.{Locals, Operands, Next, Outcome, GoesOn, Invokes, Throws, Raises, Exits, Breaks}
 use Rattle.jvm_model.specs.declared.ending.Ending.TheVariants.{Exited}
 use Rattle.jvm_model.specs.Running.Run.{starts}
-use Rattle.symbolic_references.specs.declared.outcome.Outcome.{Outcome as Given}
-use Rattle.symbolic_references.specs.declared.outcome.Outcome.TheVariants as given
-use Rattle.symbolic_references.specs.declared.outcome.AbruptCompletion.TheVariants as refusal
-use Rattle.symbolic_references.specs.Going.{gone, holds, left_with}
-use Rattle.symbolic_references.specs.Outcomes.{outcome_view}
+use Rattle.member_selection.specs.declared.outcome.Outcome.{Outcome as Given}
+use Rattle.member_selection.specs.declared.outcome.Outcome.TheVariants as given
+use Rattle.member_selection.specs.declared.outcome.AbruptCompletion.TheVariants as refusal
+use Rattle.member_selection.specs.Going.{gone, holds, left_with}
+use Rattle.member_selection.specs.Outcomes.{outcome_view}
 use Rattle.prepared_code.specs.declared.line.Line.{Line}
 use Rattle.prepared_code.specs.declared.parts.Parts.{Parts}
 use Rattle.prepared_code.specs.States.{state_with}

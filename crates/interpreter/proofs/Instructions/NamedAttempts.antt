@@ -8,9 +8,9 @@ use Rattle.jvm_model.specs.declared.state.State.{State}
 use Rattle.jvm_model.specs.declared.instruction.SymbolicReference.{SymbolicReference}
 use Rattle.jvm_model.specs.Basis.Data.{Done, Initializes, Outcome, World}
 use Rattle.jvm_model.specs.Running.Run.{starts}
-use Rattle.symbolic_references.specs.Answers.{done_on}
-use Rattle.symbolic_references.specs.Attempts.{attempts, shared_loaded}
-use Rattle.symbolic_references.specs.Outcomes.{ruled}
+use Rattle.member_selection.specs.Answers.{done_on}
+use Rattle.member_selection.specs.Attempts.{attempts, shared_loaded}
+use Rattle.member_selection.specs.Outcomes.{ruled}
 use Rattle.symbolic_references.specs.Runtimes.{RuntimeView, after}
 use Rattle.prepared_code.specs.declared.line.Action.{Action}
 use Rattle.prepared_code.specs.declared.line.Action.TheVariants as action

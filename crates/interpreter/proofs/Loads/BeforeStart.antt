@@ -24,7 +24,7 @@ use Rattle.jvm_model.proofs.Soundness.SoundObjects.{before-sound}
 use Rattle.class_linker.specs.Linkers.{LinkerView}
 use Rattle.symbolic_references.specs.declared.runtime.Beginning.{Beginning}
 use Rattle.symbolic_references.specs.Natives.{HasBuiltIn}
-use Rattle.symbolic_references.specs.Objects.{AreLoaded, IsOfLoaded, IsUsable}
+use Rattle.member_selection.specs.Objects.{AreLoaded, IsOfLoaded, IsUsable}
 use Rattle.symbolic_references.specs.ProgramFacts.{HasExceptions}
 use Rattle.prepared_code.specs.States.{active}
 

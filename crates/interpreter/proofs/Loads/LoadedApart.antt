@@ -11,10 +11,10 @@ use Rattle.jvm_model.specs.Instructions.Does.{loads}
 use Rattle.jvm_model.specs.Instructions.SymbolicReference.{newly_loaded}
 use Rattle.jvm_model.specs.Turns.Rest.{loads_at, loads_on}
 use Rattle.jvm_model.specs.Running.Run.{with_loaded}
-use Rattle.symbolic_references.specs.declared.outcome.Outcome.{Outcome as Given}
-use Rattle.symbolic_references.specs.Answers.{done_on}
-use Rattle.symbolic_references.specs.Attempts.{attempts, is_loaded, loaded_for}
-use Rattle.symbolic_references.specs.Outcomes.{asked, ruled}
+use Rattle.member_selection.specs.declared.outcome.Outcome.{Outcome as Given}
+use Rattle.member_selection.specs.Answers.{done_on}
+use Rattle.member_selection.specs.Attempts.{attempts, is_loaded, loaded_for}
+use Rattle.member_selection.specs.Outcomes.{asked, ruled}
 use Rattle.symbolic_references.specs.Runtimes.{RuntimeView, after}
 use Rattle.symbolic_references.specs.Runtimes as runtimes
 use Rattle.prepared_code.specs.declared.line.Action.{Action}

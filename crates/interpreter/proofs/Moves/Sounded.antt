@@ -26,8 +26,8 @@ use Rattle.jvm_model.proofs.Soundness.SoundListingRuns.{sound-loaded}
 use Rattle.jvm_model.proofs.Soundness.SoundListingSteps.{entry-grows, sound-applied}
 use Rattle.prepared_code.specs.Ready.{CanRun, IsSoundEntryIn, IsSoundIn, IsTied, RunsIn}
 use Rattle.class_linker.specs.Linkers.{LinkerView}
-use Rattle.symbolic_references.specs.Arrays.{IsPrimitiveArray}
-use Rattle.symbolic_references.specs.Objects.{HasLoadedCaller}
+use Rattle.member_selection.specs.Arrays.{IsPrimitiveArray}
+use Rattle.member_selection.specs.Objects.{HasLoadedCaller}
 use Rattle.prepared_code.specs.declared.line.Line.{Line}
 use Rattle.prepared_code.specs.declared.initializations.Initialization.{Initialization}
 use Rattle.prepared_code.specs.declared.parts.Here.{Here}

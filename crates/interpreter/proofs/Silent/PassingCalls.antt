@@ -32,11 +32,11 @@ use Rattle.jvm_model.specs.Turns.Told.{Held, helds, mark_now}
 use Rattle.jvm_model.specs.Basis.Values.{arguments_spread}
 use Rattle.jvm_model.proofs.Running.QuietSettles.{stops}
 use Rattle.symbolic_references.specs.declared.invoked.Call.{Call}
-use Rattle.symbolic_references.specs.Answers.{done_on}
-use Rattle.symbolic_references.specs.Attempts.{attempts, shared_loaded}
+use Rattle.member_selection.specs.Answers.{done_on}
+use Rattle.member_selection.specs.Attempts.{attempts, shared_loaded}
 use Rattle.symbolic_references.specs.Passing.{IsCall}
 use Rattle.symbolic_references.specs.Runtimes.{after}
-use Rattle.symbolic_references.specs.Targets.{data_in}
+use Rattle.member_selection.specs.Targets.{data_in}
 use Rattle.interpreter.proofs.Instructions.Arguments.{length-data}
 use Rattle.prepared_code.specs.declared.line.Action.TheVariants as action
 use Rattle.prepared_code.specs.declared.line.Line.{Line}

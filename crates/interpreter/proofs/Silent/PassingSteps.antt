@@ -21,9 +21,9 @@ use Rattle.jvm_model.specs.Running.Run.{goes_again, loaded_turn, starts, step, s
 use Rattle.symbolic_references.specs.declared.invoked.Invoked.{Invoked}
 use Rattle.symbolic_references.specs.declared.invoked.Invoked.TheVariants as invoked
 use Rattle.symbolic_references.specs.declared.invoked.NativeCall.{NativeCall}
-use Rattle.symbolic_references.specs.Answers.{Continues, Exceeds, answer_in, done_on, frames_in}
-use Rattle.symbolic_references.specs.Attempts.{attempts, loads_nothing, shared_loaded}
-use Rattle.symbolic_references.specs.Outcomes.{ruled}
+use Rattle.member_selection.specs.Answers.{Continues, Exceeds, answer_in, done_on, frames_in}
+use Rattle.member_selection.specs.Attempts.{attempts, loads_nothing, shared_loaded}
+use Rattle.member_selection.specs.Outcomes.{ruled}
 use Rattle.symbolic_references.specs.Runtimes.{RuntimeView, after}
 use Rattle.symbolic_references.specs.Passing.{HasPassed, IfPassed, IsNativeCall, runs_native_call}
 use Rattle.prepared_code.specs.declared.line.Action.TheVariants as action

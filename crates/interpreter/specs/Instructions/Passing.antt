@@ -16,8 +16,8 @@ use Rattle.jvm_model.specs.Turns.Rest.{step_loads}
 use Rattle.jvm_model.specs.Running.Run.{step}
 use Rattle.jvm_model.specs.Turns.Told.{helds, mark_now}
 use Rattle.jvm_model.specs.Basis.Values.{with_value}
-use Rattle.symbolic_references.specs.declared.known.Found.{Found}
-use Rattle.symbolic_references.specs.declared.known.Found.TheVariants as found
+use Rattle.member_selection.specs.declared.known.Found.{Found}
+use Rattle.member_selection.specs.declared.known.Found.TheVariants as found
 use Rattle.prepared_code.specs.declared.initializations.Initialization.{Initialization}
 use Rattle.prepared_code.specs.declared.parts.Parts.{Parts}
 use Rattle.jvm_model.specs.declared.event.Mark.TheVariants.{Off}

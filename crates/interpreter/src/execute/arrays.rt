@@ -3,8 +3,8 @@
 ghost use Rattle.std.specs.Prelude.{◌≡◌, true, false, IfOk};
 ghost use Rattle.jvm_model.specs.Basis.Values.{ref_of};
 ghost use Rattle.jvm_model.specs.Instructions.ObjectRules.{array_length, measures};
-ghost use Rattle.symbolic_references.specs.Answers.{asked_on};
-ghost use Rattle.symbolic_references.specs.Outcomes.{HaveOperands, asked};
+ghost use Rattle.member_selection.specs.Answers.{asked_on};
+ghost use Rattle.member_selection.specs.Outcomes.{HaveOperands, asked};
 ghost use Rattle.interpreter.specs.Instructions.Elements.{IsMeasured};
 
 use class_index::FIRST_ARRAY;
@@ -13,8 +13,9 @@ use heap_objects::{Heap, Value};
 use jf_bytes::NoMemory;
 use jvm_basic::{Effect, ref_of, replace};
 use jvm_model::Exception;
+use member_selection::{AbruptCompletion, Outcome};
 use prepared_code::{Line, Parts};
-use symbolic_references::{AbruptCompletion, Outcome, Runtime};
+use symbolic_references::Runtime;
 
 /// The greatest int.
 const GREATEST: u32 = 2_147_483_647;

@@ -5,9 +5,9 @@ ghost use Rattle.std.specs.Option.{IfSome};
 ghost use Rattle.frame_stack.specs.FrameLists.{top_operands};
 ghost use Rattle.jvm_model.specs.Running.Run.{starts};
 ghost use Rattle.jvm_model.specs.Instructions.Exceptions.{exception_name};
-ghost use Rattle.symbolic_references.specs.Answers.{abrupt_view};
-ghost use Rattle.symbolic_references.specs.Outcomes.{HasOperands, asked};
-ghost use Rattle.symbolic_references.specs.declared.outcome.Outcome.TheVariants.{Goes};
+ghost use Rattle.member_selection.specs.Answers.{abrupt_view};
+ghost use Rattle.member_selection.specs.Outcomes.{HasOperands, asked};
+ghost use Rattle.member_selection.specs.declared.outcome.Outcome.TheVariants.{Goes};
 ghost use Rattle.interpreter.specs.Instructions.Acts.{IsTop, acts_asked, on_parts, raised_in};
 ghost use Rattle.interpreter.specs.Instructions.Asked.{TakesArguments};
 ghost use Rattle.prepared_code.specs.Linked.{setup_in};
@@ -18,8 +18,8 @@ use crate::unwind::raising::{break_off, raise, raise_with};
 use heap_objects::Value;
 use jf_bytes::{NoMemory, Text16};
 use jvm_model::{Ending, Exception};
+use member_selection::{AbruptCompletion, Outcome, apply};
 use prepared_code::{Line, Originals, Parts};
-use symbolic_references::{AbruptCompletion, Outcome, apply};
 
 /// Throws an exception that the instruction raises, with its message.
 pub fn raise_named(

@@ -5,8 +5,9 @@ ghost use Rattle.std.specs.Prelude.{IfNone, IfOk, OnOk};
 ghost use Rattle.std.specs.Option.{IfSome};
 ghost use Rattle.jvm_model.specs.Basis.Families.{family_of};
 ghost use Rattle.jvm_model.specs.Running.Run.{with_loaded};
-ghost use Rattle.symbolic_references.specs.Arrays.{IsPrimitiveArray};
-ghost use Rattle.symbolic_references.specs.Outcomes.{Asks, HaveOperands, Sets};
+ghost use Rattle.member_selection.specs.Arrays.{IsPrimitiveArray};
+ghost use Rattle.member_selection.specs.Outcomes.{Asks, HaveOperands};
+ghost use Rattle.symbolic_references.specs.Leaving.{Sets};
 ghost use Rattle.interpreter.specs.Instructions.Acts.{IsTop, Becomes, run_ended};
 ghost use Rattle.interpreter.specs.Instructions.Acts.{IfNewarray, acts, acts_alone, attempts_on, sees_objects};
 ghost use Rattle.interpreter.specs.Instructions.Acts.{BecomesBeneath, awaited_in, is_named, named_in};
@@ -29,11 +30,12 @@ use frame_stack::Frames;
 use jf_bytes::{NoMemory, Stack};
 use jvm_basic::{Effect, basic_by};
 use jvm_model::Exception;
+use member_selection::{AbruptCompletion, Outcome};
 use prepared_code::{
     Action, Here, Initialization, Line, Originals, Parts, initialization_on, where_now,
 };
 use std::alloc::Global;
-use symbolic_references::{AbruptCompletion, Outcome, Runtime};
+use symbolic_references::Runtime;
 
 /// The message of a division by zero.
 const BY_ZERO: &[u16] = &[47, 32, 98, 121, 32, 122, 101, 114, 111];

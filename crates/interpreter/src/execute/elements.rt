@@ -15,8 +15,9 @@ ghost use Rattle.jvm_model.specs.Instructions.ObjectRules.{serves, serves_object
 ghost use Rattle.jvm_model.specs.Instructions.ObjectRules.{access_refused, loads_element, stores_element};
 ghost use Rattle.jvm_model.specs.Basis.Data.{Operands};
 ghost use Rattle.frame_stack.specs.FrameLists.{FramesView};
-ghost use Rattle.symbolic_references.specs.Answers.{asked_on};
-ghost use Rattle.symbolic_references.specs.Outcomes.{Asks, HasOperands, HaveOperands, Sets, asked};
+ghost use Rattle.member_selection.specs.Answers.{asked_on};
+ghost use Rattle.member_selection.specs.Outcomes.{Asks, HasOperands, HaveOperands, asked};
+ghost use Rattle.symbolic_references.specs.Leaving.{Sets};
 ghost use Rattle.interpreter.specs.Instructions.Elements.{access_of};
 ghost use Rattle.interpreter.specs.Instructions.Elements.{IsLoaded, IsStored, drops_three, element_at, is_number, place_by, storing_by};
 
@@ -26,10 +27,11 @@ use heap_objects::{Datum, Element, Heap, Value, element_of};
 use jf_bytes::{NoMemory, Text16};
 use jvm_basic::{Effect, drop_narrow, drop_three, exchange_two, recall, replace_two, value_of};
 use jvm_model::Exception;
+use member_selection::{AbruptCompletion, Outcome, datum_of};
 use native_effects::units_of;
 use prepared_code::{Line, Parts, fits_array};
 use std::alloc::Global;
-use symbolic_references::{AbruptCompletion, Outcome, Runtime, datum_of};
+use symbolic_references::Runtime;
 
 /// Where an array and an index lead: the array is null, or the object none that the instruction
 /// serves, or the index is outside, or it is that of an element.

@@ -5,13 +5,13 @@ ghost use Rattle.std.specs.Prelude.{◌≡◌};
 ghost use Rattle.frame_stack.specs.FrameLists.{top_operands};
 ghost use Rattle.jvm_model.specs.Basis.Values.{ref_of};
 ghost use Rattle.jvm_model.specs.Instructions.ObjectRules.{watches};
-ghost use Rattle.symbolic_references.specs.Answers.{asked_on};
-ghost use Rattle.symbolic_references.specs.Outcomes.{HasOperands, asked};
+ghost use Rattle.member_selection.specs.Answers.{asked_on};
+ghost use Rattle.member_selection.specs.Outcomes.{HasOperands, asked};
 
 use frame_stack::Frames;
 use jvm_basic::ref_of;
 use jvm_model::Exception;
-use symbolic_references::{AbruptCompletion, Outcome};
+use member_selection::{AbruptCompletion, Outcome};
 
 /// Takes the object off.
 pub fn watch(frames: &Frames) -> Outcome

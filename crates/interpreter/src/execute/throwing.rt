@@ -6,15 +6,16 @@ ghost use Rattle.jvm_model.specs.Basis.SharedState.{class_of, throwable};
 ghost use Rattle.jvm_model.specs.Basis.Values.{ref_of};
 ghost use Rattle.jvm_model.specs.Classes.Lookup.{is_below};
 ghost use Rattle.jvm_model.specs.Instructions.ObjectRules.{throws};
-ghost use Rattle.symbolic_references.specs.Answers.{asked_on};
-ghost use Rattle.symbolic_references.specs.Outcomes.{HasOperands, asked};
+ghost use Rattle.member_selection.specs.Answers.{asked_on};
+ghost use Rattle.member_selection.specs.Outcomes.{HasOperands, asked};
 
 use crate::unwind::handlers::class_of;
 use crate::unwind::supertypes::is_below_bytes;
 use frame_stack::Frames;
 use jvm_basic::ref_of;
 use jvm_model::Exception;
-use symbolic_references::{AbruptCompletion, Outcome, Runtime};
+use member_selection::{AbruptCompletion, Outcome};
+use symbolic_references::Runtime;
 
 /// Whether an object is a Throwable.
 fn is_throwable(runtime: &Runtime, object: u32) -> bool

@@ -5,7 +5,7 @@ ghost use Rattle.std.specs.Prelude.{◌≡◌, ◌++◌, true, OnOk};
 ghost use Rattle.jvm_model.specs.Running.Run.{main_loads, starts_if, starts_with};
 ghost use Rattle.jvm_model.specs.Basis.SharedState.{arguments_fit};
 ghost use Rattle.jvm_model.specs.Soundness.Sound.{IsFit};
-ghost use Rattle.symbolic_references.specs.Answers.{found_view};
+ghost use Rattle.member_selection.specs.Answers.{found_view};
 ghost use Rattle.interpreter.specs.Machine.Before.{IsAtStart, begun_by};
 ghost use Rattle.prepared_code.specs.Initializations.{state_of};
 ghost use Rattle.prepared_code.specs.Linked.{IsLinked};
@@ -13,9 +13,9 @@ ghost use Rattle.prepared_code.specs.Linked.{IsLinked};
 use crate::execute::asking::raise_named;
 use crate::initialize::initializing::initialize;
 use jf_bytes::{NoMemory, Stack};
+use member_selection::AbruptCompletion;
 use prepared_code::{Initialization, Originals, Parts, arguments_fit, main_class};
 use std::alloc::Global;
-use symbolic_references::AbruptCompletion;
 
 /// The OutOfMemoryError that the machine throws.
 const OUT_OF_MEMORY: u32 = 1;

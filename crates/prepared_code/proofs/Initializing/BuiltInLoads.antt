@@ -9,7 +9,7 @@ use Rattle.const_pool.specs.declared.class.Member.{Member}
 use Rattle.jvm_model.specs.declared.program.Program.{Program}
 use Rattle.jvm_model.specs.Basis.Methods.{code_of}
 use Rattle.jvm_model.specs.Basis.Programs.{coded_from, no_class, methods_numbered, numbered_from}
-use Rattle.symbolic_references.specs.Numbers.{all_coded, coded_count}
+use Rattle.member_selection.specs.Numbers.{all_coded, coded_count}
 use Rattle.prepared_code.specs.Prepared.{built_in_then, load_built_in, with_built_in}
 
 -- ---- one more of them

@@ -6,9 +6,9 @@ use Rattle.frame_stack.specs.FrameLists.{PlacedFrame, pins_of}
 use Rattle.method_versions.specs.Tables.{is_superseded_in}
 use Rattle.class_linker.specs.Linkers.{LinkerView}
 use Rattle.jvm_model.specs.declared.instruction.SymbolicReference.{SymbolicReference}
-use Rattle.symbolic_references.specs.Attempts.{with_more}
-use Rattle.symbolic_references.specs.declared.known.Known.{Known}
-use Rattle.symbolic_references.specs.Known.{IsKnown}
+use Rattle.member_selection.specs.Attempts.{with_more}
+use Rattle.member_selection.specs.declared.known.Known.{Known}
+use Rattle.member_selection.specs.Known.{IsKnown}
 use Rattle.symbolic_references.proofs.Again.{known-more}
 use Rattle.prepared_code.specs.Cells.{Keeps, KeepsItem, Learns, Rows, cell_at, item_at}
 use Rattle.prepared_code.specs.Kept.{AreKnown, IsLater}

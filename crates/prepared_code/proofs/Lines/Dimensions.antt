@@ -28,7 +28,7 @@ use Rattle.jvm_model.specs.Classes.Kinds.{meaning_of}
 use Rattle.jvm_model.specs.Codes.Lines.{ObjectRow, constant_in, pool_constant_operation, has_dimensions, interface_reference, local_of, array_reference, named_by, symbolic_reference_of, object_among, object_constant, object_constant_in, object_rows, operation_by, operation_of, other_operation}
 use Rattle.jvm_model.specs.Basis.Methods.{method_code}
 use Rattle.jvm_model.specs.Basis.Programs.{class_at, place_of_method}
-use Rattle.symbolic_references.specs.Objects.{HasDimensions}
+use Rattle.member_selection.specs.Objects.{HasDimensions}
 use Rattle.prepared_code.specs.declared.line.Line.{Line}
 use Rattle.prepared_code.specs.Versions as versions
 use Rattle.prepared_code.specs.Versions.{HasLines}

@@ -15,7 +15,7 @@ use Rattle.jvm_model.specs.Basis.SharedState.{kind_for, string}
 use Rattle.jvm_model.specs.declared.exception.Exception.{Exception}
 use Rattle.symbolic_references.specs.declared.program_tables.Method.{Method}
 use Rattle.symbolic_references.specs.declared.program_tables.ProgramTables.{ProgramTables}
-use Rattle.symbolic_references.specs.Numbers.{AreNumbers}
+use Rattle.member_selection.specs.Numbers.{AreNumbers}
 use Rattle.symbolic_references.specs.ProgramFacts.{AreTablesOf, exception_in, exception_kind}
 use Rattle.prepared_code.specs.Prepared.{FitsOriginals, IsPrepared}
 use Rattle.prepared_code.specs.Entries.{entry_of, no_method, entry_in, entry_at, original_versions, own_number}

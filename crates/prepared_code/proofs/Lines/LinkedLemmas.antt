@@ -3,8 +3,8 @@ use Rattle.std.proofs.Common.{◌≡◌, ℕ, List, Option, Some, ap, ap₂, sym
 use Rattle.std.specs.Option.{IfSome}
 use Rattle.class_linker.specs.Linkers.{LinkerView}
 use Rattle.jvm_model.specs.Basis.Data.{World}
-use Rattle.symbolic_references.specs.declared.known.Known.{Known}
-use Rattle.symbolic_references.specs.Known.{IsKnown}
+use Rattle.member_selection.specs.declared.known.Known.{Known}
+use Rattle.member_selection.specs.Known.{IsKnown}
 use Rattle.symbolic_references.specs.Runtimes.{RuntimeView, linker_in}
 use Rattle.prepared_code.specs.Cells.{Keeps, Learns, Rows}
 use Rattle.prepared_code.specs.Kept.{AreKnown, IsLater}

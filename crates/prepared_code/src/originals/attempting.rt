@@ -4,11 +4,12 @@
 ghost use Rattle.std.specs.Prelude.{◌≡◌, is_some, true, IfNone, IfOk, OnOk};
 ghost use Rattle.std.specs.Option.{IfSome};
 ghost use Rattle.frame_stack.specs.FrameLists.{top_operands};
-ghost use Rattle.symbolic_references.specs.Answers.{done_on};
-ghost use Rattle.symbolic_references.specs.Attempts.{attempts, is_loaded, loaded_for};
-ghost use Rattle.symbolic_references.specs.Known.{IsKnown};
-ghost use Rattle.symbolic_references.specs.Objects.{HasDimensions, HasLoadedCaller};
-ghost use Rattle.symbolic_references.specs.Outcomes.{Asks, HasOperands, HaveOperands, Leaves, asked, ruled};
+ghost use Rattle.member_selection.specs.Answers.{done_on};
+ghost use Rattle.member_selection.specs.Attempts.{attempts, is_loaded, loaded_for};
+ghost use Rattle.member_selection.specs.Known.{IsKnown};
+ghost use Rattle.member_selection.specs.Objects.{HasDimensions, HasLoadedCaller};
+ghost use Rattle.member_selection.specs.Outcomes.{Asks, HasOperands, HaveOperands, asked, ruled};
+ghost use Rattle.symbolic_references.specs.Leaving.{Leaves};
 ghost use Rattle.symbolic_references.specs.Runtimes.{after, linker_in, with_loaded};
 ghost use Rattle.prepared_code.specs.Kept.{IsLater};
 ghost use Rattle.prepared_code.specs.Lines.{IfNamed, IfNamedBy};
@@ -20,8 +21,9 @@ use crate::originals::Originals;
 use crate::versions::line_there;
 use frame_stack::Frames;
 use jf_bytes::NoMemory;
+use member_selection::{AbruptCompletion, Known, Outcome};
 use std::alloc::Global;
-use symbolic_references::{AbruptCompletion, Known, Outcome, Runtime};
+use symbolic_references::Runtime;
 
 /// Attempts a line that names something, and tells what its names came to; another one does
 /// nothing.

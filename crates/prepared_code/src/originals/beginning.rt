@@ -5,7 +5,7 @@ ghost use Rattle.std.specs.Prelude.{◌≡◌, IfOk, OnOk};
 ghost use Rattle.jvm_model.specs.Basis.SharedState.{built_in_from};
 ghost use Rattle.jvm_model.specs.Classes.Load.{load_of};
 ghost use Rattle.jvm_model.specs.Instructions.SymbolicReference.{resolved_kind};
-ghost use Rattle.symbolic_references.specs.Answers.{found_view};
+ghost use Rattle.member_selection.specs.Answers.{found_view};
 ghost use Rattle.symbolic_references.specs.ProgramFacts.{AreTablesOf};
 ghost use Rattle.symbolic_references.specs.Runtimes.{with_loaded};
 ghost use Rattle.prepared_code.specs.Linked.{IsLinked};
@@ -16,8 +16,9 @@ use crate::originals::Originals;
 use crate::preparing::tables_of;
 use class_linker::Linker;
 use jf_bytes::NoMemory;
+use member_selection::AbruptCompletion;
 use std::alloc::Global;
-use symbolic_references::{AbruptCompletion, ProgramTables, Runtime};
+use symbolic_references::{ProgramTables, Runtime};
 
 impl Originals {
     /// A linker for the program, with the built-in classes loaded.

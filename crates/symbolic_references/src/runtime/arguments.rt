@@ -5,7 +5,7 @@ ghost use Rattle.class_linker.specs.Linkers.{LinkerView};
 ghost use Rattle.jvm_model.specs.declared.program.Program.{Program};
 ghost use Rattle.jvm_model.specs.Basis.SharedState.{arguments_cost, kind_for, string, texts_cost};
 ghost use Rattle.jvm_model.specs.Basis.SharedState.{with_arguments, with_text_in, with_texts};
-ghost use Rattle.symbolic_references.specs.Objects.{AreLoaded, IsUsable};
+ghost use Rattle.member_selection.specs.Objects.{AreLoaded, IsUsable};
 ghost use Rattle.symbolic_references.specs.Runtimes.{with_heap};
 
 use crate::runtime::Runtime;
@@ -14,7 +14,7 @@ use heap_objects::{Datum, Heap};
 use jf_bytes::{NoMemory, Text16};
 
 /// A text goes into an element of an array. There is room for it.
-#[tactic(auto, using(crate::proofs::ObjectLemmas::objects_with, crate::proofs::ObjectLemmas::objects_slot))]
+#[tactic(auto, using(member_selection::proofs::ObjectLemmas::objects_with, member_selection::proofs::ObjectLemmas::objects_slot))]
 fn put_text(kind: u32, array: u32, at: u32, units: &[u16], heap: &mut Heap) -> Result<(), NoMemory>
     requires array { (array == 0) ≡ false }
     requires room { heap.old.used + (1 + length units.now) ≤ heap.old.limit }
@@ -48,7 +48,7 @@ fn put_texts(kind: u32, args: &[Text16], array: u32, heap: &mut Heap) -> Result<
 }
 
 /// The array of these arguments, and then their texts. There is room for them.
-#[tactic(auto, using(crate::proofs::KindLemmas::over, crate::proofs::ObjectLemmas::objects_with))]
+#[tactic(auto, using(member_selection::proofs::KindLemmas::over, member_selection::proofs::ObjectLemmas::objects_with))]
 fn make_arguments(kind: u32, args: &[Text16], heap: &mut Heap) -> Result<(), NoMemory>
     requires kind { kind + 16777216 < 2 ^ 32 }
     requires short { length args.now < 2 ^ 32 }

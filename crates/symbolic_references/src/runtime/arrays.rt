@@ -4,12 +4,12 @@ ghost use Rattle.std.specs.Prelude.{◌≡◌, ◌+◌, ◌<◌, ◌^◌};
 ghost use Rattle.jvm_model.specs.Instructions.CreationRules.{array_over};
 ghost use Rattle.jvm_model.specs.Instructions.ObjectRules.{makes, makes_array};
 ghost use Rattle.jvm_model.specs.Basis.Values.{int_of};
-ghost use Rattle.symbolic_references.specs.Arrays.{IsPrimitiveArray};
-ghost use Rattle.symbolic_references.specs.Objects.{IsUsable};
-ghost use Rattle.symbolic_references.specs.Outcomes.{Asks, HaveOperands, Sets};
+ghost use Rattle.member_selection.specs.Arrays.{IsPrimitiveArray};
+ghost use Rattle.member_selection.specs.Objects.{IsUsable};
+ghost use Rattle.member_selection.specs.Outcomes.{Asks, HaveOperands};
+ghost use Rattle.symbolic_references.specs.Leaving.{Sets};
 ghost use Rattle.symbolic_references.specs.Runtimes.{linker_in};
 
-use crate::outcome::{AbruptCompletion, Outcome};
 use crate::runtime::Runtime;
 use crate::runtime::creation::RESERVED;
 use class_index::FIRST_ARRAY;
@@ -18,6 +18,7 @@ use heap_objects::{Datum, HeapError, Value};
 use jf_bytes::NoMemory;
 use jvm_basic::int_of;
 use jvm_model::Exception;
+use member_selection::{AbruptCompletion, Outcome};
 
 impl Runtime {
     /// An array of this kind, of so many elements, where there is room for it, in place of the
@@ -65,7 +66,7 @@ impl Runtime {
     }
 
     /// newarray.
-    #[tactic(auto, using(crate::proofs::KindLemmas::primitive))]
+    #[tactic(auto, using(member_selection::proofs::KindLemmas::primitive))]
     pub fn make_primitives(&mut self, frames: &Frames, kind: u32) -> Result<Outcome, NoMemory>
         requires { IsPrimitiveArray kind }
         ensures answer { Asks result (λ l o. makes kind (int_of o) self.old.shared l o) frames.now }
@@ -81,7 +82,7 @@ impl Runtime {
     }
 
     /// anewarray.
-    #[tactic(auto, using(crate::proofs::KindLemmas::over))]
+    #[tactic(auto, using(member_selection::proofs::KindLemmas::over))]
     pub fn make_array_of(&mut self, frames: &Frames, kind: u32) -> Result<Outcome, NoMemory>
         requires few { kind + 16777216 < 2 ^ 32 }
         requires usable { IsUsable (linker_in self.old) kind }

@@ -2,77 +2,28 @@
 
 ghost use Rattle.std.specs.Prelude.{◌≡◌, is_some, true, IfOk, IfSome, IfNone, OnOk};
 ghost use Rattle.frame_stack.specs.FrameLists.{top_operands};
-ghost use Rattle.jvm_model.specs.Instructions.SymbolicReference.{is_null, resolved_name, resolves};
+ghost use Rattle.jvm_model.specs.Instructions.SymbolicReference.{resolves};
 ghost use Rattle.jvm_model.specs.Instructions.ReferenceRules.{does_named};
-ghost use Rattle.symbolic_references.specs.Attempts.{IsFound, attempts, is_loaded, loaded_for, with_more};
-ghost use Rattle.symbolic_references.specs.Known.{IsKnown, LoadsNothing};
-ghost use Rattle.symbolic_references.specs.Objects.{HasDimensions, HasLoadedCaller};
-ghost use Rattle.symbolic_references.specs.Resolved.{skips};
-ghost use Rattle.symbolic_references.specs.Answers.{asked_on, done_on};
-ghost use Rattle.symbolic_references.specs.Outcomes.{Asks, HasOperands, HaveOperands, Leaves, asked, ruled};
+ghost use Rattle.member_selection.specs.Attempts.{IsFound, attempts, is_loaded, loaded_for, with_more};
+ghost use Rattle.member_selection.specs.Known.{IsKnown, LoadsNothing};
+ghost use Rattle.member_selection.specs.Objects.{HasDimensions, HasLoadedCaller};
+ghost use Rattle.member_selection.specs.Resolved.{skips};
+ghost use Rattle.member_selection.specs.Answers.{asked_on, done_on};
+ghost use Rattle.member_selection.specs.Outcomes.{Asks, HasOperands, HaveOperands, asked, ruled};
+ghost use Rattle.symbolic_references.specs.Leaving.{Leaves};
 ghost use Rattle.symbolic_references.specs.Runtimes.{after, linker_in, with_loaded};
 ghost use Rattle.std.specs.Prelude.{drop, length};
 ghost use Rattle.jvm_model.specs.Classes.Load.{load_of};
 ghost use Rattle.jvm_model.specs.Instructions.SymbolicReference.{resolved_kind};
-ghost use Rattle.symbolic_references.specs.Answers.{found_view};
-ghost use Rattle.symbolic_references.specs.Objects.{IsResolved};
+ghost use Rattle.member_selection.specs.Answers.{found_view};
+ghost use Rattle.member_selection.specs.Objects.{IsResolved};
 
-use crate::known::{Found, Known};
-use crate::outcome::{AbruptCompletion, Outcome};
-use crate::resolution::resolve;
 use crate::runtime::Runtime;
 use frame_stack::Frames;
 use heap_objects::Value;
 use jf_bytes::{NoMemory, Text16};
-use jvm_basic::ref_of;
 use jvm_model::SymbolicReference;
-
-// ---- what is resolved
-
-/// Whether the null reference is on top.
-fn is_null(frames: &Frames) -> bool
-    ensures { result ≡ is_null (top_operands frames.now.frames) }
-{
-    match ref_of(frames) {
-        Some(object) => object == 0,
-        None => false,
-    }
-}
-
-/// Whether the instruction resolves what it names: checkcast and instanceof of null do not.
-fn resolves(frames: &Frames, reference: &SymbolicReference) -> bool
-    ensures { result ≡ resolves reference.now (top_operands frames.now.frames) }
-{
-    match reference {
-        SymbolicReference::Checkcast(_) => !is_null(frames),
-        SymbolicReference::Instanceof(_) => !is_null(frames),
-        _ => true,
-    }
-}
-
-/// The name of the class, or of the array type, that is resolved: of a member its class's.
-pub fn resolved_name(reference: &SymbolicReference) -> &Text16
-    ensures { result.now ≡ resolved_name reference.now }
-{
-    match reference {
-        SymbolicReference::New(name) => name,
-        SymbolicReference::Getfield(member) => member.class(),
-        SymbolicReference::Putfield(member) => member.class(),
-        SymbolicReference::Getstatic(member) => member.class(),
-        SymbolicReference::Putstatic(member) => member.class(),
-        SymbolicReference::Invokevirtual(method) => method.class(),
-        SymbolicReference::Invokespecial(_, method, _) => method.class(),
-        SymbolicReference::Invokestatic(method) => method.class(),
-        SymbolicReference::Invokeinterface(method) => method.class(),
-        SymbolicReference::Checkcast(name) => name,
-        SymbolicReference::Instanceof(name) => name,
-        SymbolicReference::Anewarray(name) => name,
-        SymbolicReference::Multianewarray(name, _) => name,
-        SymbolicReference::LdcClass(name) => name,
-    }
-}
-
-// ---- what is done then
+use member_selection::{AbruptCompletion, Found, Known, Outcome, resolve, resolved_name, resolves};
 
 /// checkcast and instanceof of null.
 fn skip(frames: &Frames, reference: &SymbolicReference) -> Outcome

@@ -6,23 +6,23 @@ ghost use Rattle.std.specs.Option.{option_map};
 ghost use Rattle.frame_stack.specs.FrameLists.{top_operands};
 ghost use Rattle.jvm_model.specs.Instructions.InvocationRules.{invokes_native, invokes_selected};
 ghost use Rattle.jvm_model.specs.declared.instruction.SymbolicReference.TheVariants.{Invokestatic};
-ghost use Rattle.symbolic_references.specs.Callees.{HasCallee, chosen_place};
-ghost use Rattle.symbolic_references.specs.Known.{IsFoundAs, symbolic_reference_by};
-ghost use Rattle.symbolic_references.specs.Objects.{IsResolved};
-ghost use Rattle.symbolic_references.specs.Members.{at_place};
-ghost use Rattle.symbolic_references.specs.Resolved.{invokes_instance, invokes_static_method};
-ghost use Rattle.symbolic_references.specs.Targets.{HasCaller, selecting_view, data_in};
-ghost use Rattle.symbolic_references.specs.Outcomes.{Asks, HaveOperands, Leaves};
+ghost use Rattle.member_selection.specs.Callees.{HasCallee, chosen_place};
+ghost use Rattle.member_selection.specs.Known.{IsFoundAs, symbolic_reference_by};
+ghost use Rattle.member_selection.specs.Objects.{IsResolved};
+ghost use Rattle.member_selection.specs.Members.{at_place};
+ghost use Rattle.member_selection.specs.Resolved.{invokes_instance, invokes_static_method};
+ghost use Rattle.member_selection.specs.Targets.{HasCaller, selecting_view, data_in};
+ghost use Rattle.member_selection.specs.Outcomes.{Asks, HaveOperands};
+ghost use Rattle.symbolic_references.specs.Leaving.{Leaves};
 ghost use Rattle.symbolic_references.specs.Runtimes.{linker_in};
 
-use crate::declared_member::DeclaredMember;
-use crate::known::{Callee, Chosen, Found};
-use crate::outcome::{AbruptCompletion, Outcome};
 use crate::runtime::Runtime;
-use crate::targets::{Selecting, is_abstract};
 use frame_stack::Frames;
 use jf_bytes::NoMemory;
 use jvm_model::{Exception, MethodName};
+use member_selection::{
+    AbruptCompletion, Callee, Chosen, DeclaredMember, Found, Outcome, Selecting, is_abstract,
+};
 
 impl Runtime {
     /// A native method: a user's class has none that could be linked.

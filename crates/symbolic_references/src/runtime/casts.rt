@@ -7,22 +7,20 @@ ghost use Rattle.jvm_model.specs.Instructions.CreationRules.{answers, casts_to, 
 ghost use Rattle.jvm_model.specs.Classes.Kinds.{kind_named};
 ghost use Rattle.jvm_model.specs.Instructions.SymbolicReference.{is_instance};
 ghost use Rattle.jvm_model.specs.Basis.Values.{ref_of};
-ghost use Rattle.symbolic_references.specs.Known.{IsClassFound};
-ghost use Rattle.symbolic_references.specs.Objects.{IsResolved};
-ghost use Rattle.symbolic_references.specs.Answers.{asked_on};
-ghost use Rattle.symbolic_references.specs.Outcomes.{HasOperands, asked};
+ghost use Rattle.member_selection.specs.Known.{IsClassFound};
+ghost use Rattle.member_selection.specs.Objects.{IsResolved};
+ghost use Rattle.member_selection.specs.Answers.{asked_on};
+ghost use Rattle.member_selection.specs.Outcomes.{HasOperands, asked};
 ghost use Rattle.symbolic_references.specs.Runtimes.{linker_in};
 ghost use Rattle.frame_stack.specs.FrameLists.{top_operands};
 
-use crate::instances::kind_of_object;
-use crate::known::Found;
-use crate::outcome::{AbruptCompletion, Outcome};
 use crate::runtime::Runtime;
 use frame_stack::Frames;
 use heap_objects::Value;
 use jf_bytes::Text16;
 use jvm_basic::ref_of;
 use jvm_model::Exception;
+use member_selection::{AbruptCompletion, Found, Outcome, kind_of_object};
 
 /// An int for an answer.
 fn int_for(answer: bool) -> Value

@@ -3,15 +3,16 @@
 ghost use Rattle.std.specs.Prelude.{◌≡◌, IfOk, OnErr, OnOk};
 ghost use Rattle.jvm_model.specs.Instructions.ConstantRules.{pushes_object_of};
 ghost use Rattle.native_effects.specs.Effects.Making.{answer_of_class, heap_after_class, made_after_class};
-ghost use Rattle.symbolic_references.specs.Outcomes.{Asks, HaveOperands, Sets};
+ghost use Rattle.member_selection.specs.Outcomes.{Asks, HaveOperands};
+ghost use Rattle.symbolic_references.specs.Leaving.{Sets};
 ghost use Rattle.symbolic_references.specs.Natives.{object_or_full};
 
-use crate::outcome::{AbruptCompletion, Outcome};
 use crate::runtime::Runtime;
 use crate::runtime::creation::RESERVED;
 use frame_stack::Frames;
 use heap_objects::{Heap, HeapError, Value};
 use jf_bytes::NoMemory;
+use member_selection::{AbruptCompletion, Outcome};
 use native_effects::Made;
 
 /// The Class object of a kind; none where there is no room for it.

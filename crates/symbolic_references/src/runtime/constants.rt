@@ -11,7 +11,7 @@ ghost use Rattle.symbolic_references.specs.Held.{IsSetting, constant_view, field
 ghost use Rattle.class_linker.specs.Linkers.{LinkerView};
 ghost use Rattle.jvm_model.specs.declared.program.Program.{Program};
 ghost use Rattle.jvm_model.specs.declared.state.Shared.{Shared};
-ghost use Rattle.symbolic_references.specs.Objects.{AreLoaded, IsUsable};
+ghost use Rattle.member_selection.specs.Objects.{AreLoaded, IsUsable};
 ghost use Rattle.symbolic_references.specs.Runtimes.{with_fields, with_shared};
 
 use crate::held::field_narrowed;

@@ -8,21 +8,20 @@ ghost use Rattle.jvm_model.specs.Classes.Layouts.{layout};
 ghost use Rattle.jvm_model.specs.Instructions.Rules.{class_initialized};
 ghost use Rattle.jvm_model.specs.Basis.SharedState.{class_of_kind};
 ghost use Rattle.class_linker.specs.Linkers.{IsLoaded};
-ghost use Rattle.symbolic_references.specs.Known.{IsClassFound, IsMade};
-ghost use Rattle.symbolic_references.specs.Objects.{IsUsable};
-ghost use Rattle.symbolic_references.specs.Resolved.{makes_new};
-ghost use Rattle.symbolic_references.specs.Outcomes.{Asks, HaveOperands, Sets};
+ghost use Rattle.member_selection.specs.Known.{IsClassFound, IsMade};
+ghost use Rattle.member_selection.specs.Objects.{IsUsable};
+ghost use Rattle.member_selection.specs.Resolved.{makes_new};
+ghost use Rattle.member_selection.specs.Outcomes.{Asks, HaveOperands};
+ghost use Rattle.symbolic_references.specs.Leaving.{Sets};
 ghost use Rattle.symbolic_references.specs.Runtimes.{linker_in};
 
-use crate::classes::{has_no_instances, is_text_class};
-use crate::known::Found;
-use crate::outcome::{AbruptCompletion, Outcome};
 use crate::runtime::Runtime;
 use const_pool::Kind;
 use frame_stack::Frames;
 use heap_objects::{Datum, HeapError, Value};
 use jf_bytes::{NoMemory, Seq};
 use jvm_model::{Exception, Phase};
+use member_selection::{AbruptCompletion, Found, Outcome, has_no_instances, is_text_class};
 use std::alloc::Global;
 
 /// The OutOfMemoryError that the machine makes before the start.
@@ -53,7 +52,7 @@ fn zeros(alloc: Global, kinds: &[Kind]) -> Result<Seq<Datum>, NoMemory>
 
 impl Runtime {
     /// An object without anything but its fields, where there is room for it.
-    #[tactic(auto, using(crate::proofs::ObjectLemmas::objects_with))]
+    #[tactic(auto, using(member_selection::proofs::ObjectLemmas::objects_with))]
     fn make_fields(&mut self, frames: &Frames, kind: u32, class: u32) -> Result<Outcome, NoMemory>
         requires class { IsLoaded (linker_in self.old) class }
         requires usable { IsUsable (linker_in self.old) kind }
@@ -84,7 +83,7 @@ impl Runtime {
     }
 
     /// A text without units, where there is room for it.
-    #[tactic(auto, using(crate::proofs::ObjectLemmas::objects_with))]
+    #[tactic(auto, using(member_selection::proofs::ObjectLemmas::objects_with))]
     fn make_text(&mut self, frames: &Frames, kind: u32) -> Result<Outcome, NoMemory>
         requires usable { IsUsable (linker_in self.old) kind }
         ensures answer { Asks result (allocates 1 (with_text kind []) 0 self.old.shared)

@@ -2,25 +2,24 @@
 
 ghost use Rattle.std.specs.Prelude.{◌≡◌};
 ghost use Rattle.jvm_model.specs.Instructions.SymbolicReference.{resolved_name};
-ghost use Rattle.symbolic_references.specs.Known.{IsFoundAs};
-ghost use Rattle.symbolic_references.specs.Objects.{HasDimensions, HasLoadedCaller, IsResolved};
-ghost use Rattle.symbolic_references.specs.Resolved.{does_resolved};
-ghost use Rattle.symbolic_references.specs.Outcomes.{Asks, HaveOperands, Leaves};
+ghost use Rattle.member_selection.specs.Known.{IsFoundAs};
+ghost use Rattle.member_selection.specs.Objects.{HasDimensions, HasLoadedCaller, IsResolved};
+ghost use Rattle.member_selection.specs.Resolved.{does_resolved};
+ghost use Rattle.member_selection.specs.Outcomes.{Asks, HaveOperands};
+ghost use Rattle.symbolic_references.specs.Leaving.{Leaves};
 ghost use Rattle.symbolic_references.specs.Runtimes.{linker_in};
 
-use crate::known::Found;
-use crate::outcome::Outcome;
 use crate::runtime::Runtime;
-use crate::targets::Selecting;
 use frame_stack::Frames;
 use jf_bytes::NoMemory;
 use jvm_model::SymbolicReference;
+use member_selection::{Found, Outcome, Selecting};
 
 impl Runtime {
     /// What the instruction does, with what it names resolved to this kind; of checkcast and
     /// instanceof where the operand is not null. What is found of a member is kept, and taken where
     /// it is known.
-    #[tactic(auto, using(crate::proofs::Quiet::writes_new, crate::proofs::Quiet::writes_getfield, crate::proofs::Quiet::writes_putfield, crate::proofs::Quiet::writes_getstatic, crate::proofs::Quiet::writes_putstatic, crate::proofs::Quiet::writes_anewarray, crate::proofs::Quiet::writes_arrays, crate::proofs::Quiet::writes_class, crate::proofs::Quiet::shared_getfield, crate::proofs::Quiet::shared_getstatic, crate::proofs::KindLemmas::few_over, crate::proofs::KnownLemmas::class_found, crate::proofs::KnownLemmas::found_new, crate::proofs::KnownLemmas::found_checkcast, crate::proofs::KnownLemmas::found_instanceof))]
+    #[tactic(auto, using(crate::proofs::Quiet::writes_new, crate::proofs::Quiet::writes_getfield, crate::proofs::Quiet::writes_putfield, crate::proofs::Quiet::writes_getstatic, crate::proofs::Quiet::writes_putstatic, crate::proofs::Quiet::writes_anewarray, crate::proofs::Quiet::writes_arrays, crate::proofs::Quiet::writes_class, crate::proofs::Quiet::shared_getfield, crate::proofs::Quiet::shared_getstatic, member_selection::proofs::KindLemmas::few_over, member_selection::proofs::KnownLemmas::class_found, member_selection::proofs::KnownLemmas::found_new, member_selection::proofs::KnownLemmas::found_checkcast, member_selection::proofs::KnownLemmas::found_instanceof))]
     pub fn do_resolved(
         &mut self,
         frames: &Frames,

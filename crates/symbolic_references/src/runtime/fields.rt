@@ -14,26 +14,21 @@ ghost use Rattle.jvm_model.specs.Instructions.SymbolicReference.{extends};
 ghost use Rattle.jvm_model.specs.declared.instruction.SymbolicReference.TheVariants.{Getfield, Putfield};
 ghost use Rattle.jvm_model.specs.Basis.Values.{as_value, ref_of};
 ghost use Rattle.class_linker.specs.Linkers.{IsLoaded};
-ghost use Rattle.symbolic_references.specs.Fields.{has_field_at, is_of_instances, owner_found};
+ghost use Rattle.symbolic_references.specs.Fields.{is_of_instances, owner_found};
 ghost use Rattle.symbolic_references.specs.Fields.{putting_view, writes};
-ghost use Rattle.symbolic_references.specs.Known.{IsFoundAs};
-ghost use Rattle.symbolic_references.specs.Members.{at_place};
-ghost use Rattle.symbolic_references.specs.Objects.{IsResolved};
-ghost use Rattle.symbolic_references.specs.Resolved.{field_found, gets_instance, puts_instance};
-ghost use Rattle.symbolic_references.specs.Answers.{asked_on, shared_by};
-ghost use Rattle.symbolic_references.specs.Outcomes.{Asks, HasOperands, HaveOperands, Sets, asked, ruled};
+ghost use Rattle.member_selection.specs.Known.{IsFoundAs};
+ghost use Rattle.member_selection.specs.Members.{at_place};
+ghost use Rattle.member_selection.specs.Objects.{IsResolved, has_field_at};
+ghost use Rattle.member_selection.specs.Resolved.{field_found, gets_instance, puts_instance};
+ghost use Rattle.member_selection.specs.Answers.{asked_on, shared_by};
+ghost use Rattle.member_selection.specs.Outcomes.{Asks, HasOperands, HaveOperands, asked, ruled};
+ghost use Rattle.symbolic_references.specs.Leaving.{Sets};
 ghost use Rattle.symbolic_references.specs.Runtimes.{linker_in, with_shared};
-ghost use Rattle.symbolic_references.specs.Answers.{found_view};
+ghost use Rattle.member_selection.specs.Answers.{found_view};
 
-use crate::declared_member::DeclaredMember;
 use crate::held::field_narrowed;
-use crate::instances::kind_of_object;
-use crate::known::Found;
-use crate::members::field_found;
-use crate::outcome::{AbruptCompletion, Outcome};
 use crate::owners::{Owner, Putting};
 use crate::runtime::Runtime;
-use crate::values::datum_of;
 use base_classes::STATIC;
 use class_index::held_by;
 use const_pool::{ClassFile, Kind, Member};
@@ -42,6 +37,9 @@ use heap_objects::{Datum, Heap, Value};
 use jf_bytes::NoMemory;
 use jvm_basic::{ref_of, value_of};
 use jvm_model::{Exception, MemberName, has_flag};
+use member_selection::{
+    AbruptCompletion, DeclaredMember, Found, Outcome, datum_of, field_found, kind_of_object,
+};
 
 /// The first fields, as many as there are up to so many.
 #[tactic(auto, using(std::proofs::lemmas::List::take_all))]

@@ -7,14 +7,14 @@ ghost use Rattle.heap_objects.specs.Heaps.{next_number, with_array};
 ghost use Rattle.heap_objects.specs.declared.datum.Datum.TheVariants.{Int};
 ghost use Rattle.jvm_model.specs.Instructions.CreationRules.{allocates, counts_of, lengths_of, makes_arrays};
 ghost use Rattle.jvm_model.specs.Instructions.CreationRules.{makes_by_counts, slots_of_arrays, with_arrays};
-ghost use Rattle.symbolic_references.specs.Arrays.{number_capped, int_at, lengths_from};
-ghost use Rattle.symbolic_references.specs.Objects.{AreLoaded, IsUsable};
+ghost use Rattle.member_selection.specs.Arrays.{number_capped, int_at, lengths_from};
+ghost use Rattle.member_selection.specs.Objects.{AreLoaded, IsUsable};
 ghost use Rattle.class_linker.specs.Linkers.{LinkerView};
-ghost use Rattle.symbolic_references.specs.Outcomes.{Asks, HaveOperands, Sets};
+ghost use Rattle.member_selection.specs.Outcomes.{Asks, HaveOperands};
+ghost use Rattle.symbolic_references.specs.Leaving.{Sets};
 ghost use Rattle.symbolic_references.specs.Runtimes.{linker_in};
-ghost use Rattle.symbolic_references.specs.Arrays.{AreUsable};
+ghost use Rattle.member_selection.specs.Arrays.{AreUsable};
 
-use crate::outcome::{AbruptCompletion, Outcome};
 use crate::runtime::Runtime;
 use crate::runtime::creation::RESERVED;
 use crate::runtime::fields::put_slot;
@@ -23,6 +23,7 @@ use frame_stack::Frames;
 use heap_objects::{Datum, Heap, HeapError, Value};
 use jf_bytes::{NoMemory, Seq};
 use jvm_model::Exception;
+use member_selection::{AbruptCompletion, Outcome};
 use std::alloc::Global;
 
 // ---- the operands
@@ -137,7 +138,7 @@ pub struct Made {
 
 /// An array of this kind, for which there is room. The classes of all objects stay loaded, also
 /// after want of memory.
-#[tactic(auto, using(crate::proofs::ObjectLemmas::objects_with))]
+#[tactic(auto, using(member_selection::proofs::ObjectLemmas::objects_with))]
 fn make_one(heap: &mut Heap, kind: u32, count: u32) -> Result<Made, NoMemory>
     ensures array { IfOk result (λ m. m.array ≡ next_number heap.old) }
     ensures next { IfOk result (λ m. m.next ≡ next_number heap.new) }

@@ -12,21 +12,22 @@ ghost use Rattle.jvm_model.specs.Instructions.Exceptions.{exception_name};
 ghost use Rattle.jvm_model.specs.Instructions.ConstantRules.{pushes_string};
 ghost use Rattle.symbolic_references.specs.MadeObjects.{heap_made, heap_with_both, reference_made, reference_of_both};
 ghost use Rattle.symbolic_references.specs.MadeObjects.{with_both};
-ghost use Rattle.symbolic_references.specs.Objects.{AreLoaded, IsUsable};
-ghost use Rattle.symbolic_references.specs.Outcomes.{Asks, HaveOperands, Sets};
+ghost use Rattle.member_selection.specs.Objects.{AreLoaded, IsUsable};
+ghost use Rattle.member_selection.specs.Outcomes.{Asks, HaveOperands};
+ghost use Rattle.symbolic_references.specs.Leaving.{Sets};
 ghost use Rattle.symbolic_references.specs.Runtimes.{with_heap, with_shared};
 
-use crate::outcome::{AbruptCompletion, Outcome};
 use crate::runtime::Runtime;
 use crate::runtime::creation::RESERVED;
 use frame_stack::Frames;
 use heap_objects::{Datum, Heap, HeapError, Value};
 use jf_bytes::{NoMemory, Text16};
 use jvm_model::{Exception, Phase};
+use member_selection::{AbruptCompletion, Outcome};
 
 /// Makes an exception of this kind without a message, with this cause, and gives its number. The
 /// class of each object stays loaded.
-#[tactic(auto, using(crate::proofs::ObjectLemmas::objects_with))]
+#[tactic(auto, using(member_selection::proofs::ObjectLemmas::objects_with))]
 fn make(heap: &mut Heap, kind: u32, cause: u32) -> Result<u32, NoMemory>
     ensures heap { OnOk result (heap.new ≡ heap_made kind cause heap.old) }
     ensures number { IfOk result (λ r. r ≡ reference_made heap.old) }
@@ -42,7 +43,7 @@ fn make(heap: &mut Heap, kind: u32, cause: u32) -> Result<u32, NoMemory>
 
 /// Makes the text of a message and then the exception. Where there is room for both nothing but
 /// memory can be wanting.
-#[tactic(auto, using(crate::proofs::ObjectLemmas::objects_with))]
+#[tactic(auto, using(member_selection::proofs::ObjectLemmas::objects_with))]
 fn make_both(heap: &mut Heap, string: u32, kind: u32, message: &[u16]) -> Result<u32, HeapError>
     ensures heap { OnOk result (heap.new ≡ with_both string kind message.now heap.old) }
     ensures number { IfOk result (λ r. r ≡ next_number (with_text string message.now heap.old)) }

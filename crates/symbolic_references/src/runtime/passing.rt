@@ -8,35 +8,33 @@ ghost use Rattle.jvm_basic.specs.Outcomes.{top_locals};
 ghost use Rattle.jvm_model.specs.Instructions.InvocationRules.{invokes_selected};
 ghost use Rattle.frame_stack.specs.FrameLists.{top_operands};
 ghost use Rattle.jvm_model.specs.declared.instruction.SymbolicReference.TheVariants.{Getfield, Getstatic, Invokestatic, Putfield, Putstatic};
-ghost use Rattle.symbolic_references.specs.Attempts.{attempts, loads_nothing};
-ghost use Rattle.symbolic_references.specs.Callees.{HasCallee, chosen_place};
-ghost use Rattle.symbolic_references.specs.Known.{IsFixed, IsFoundAs, IsKnown, IsSite, symbolic_reference_by};
-ghost use Rattle.symbolic_references.specs.Objects.{IsResolved, IsUsable};
+ghost use Rattle.member_selection.specs.Attempts.{attempts, loads_nothing};
+ghost use Rattle.member_selection.specs.Callees.{HasCallee, chosen_place};
+ghost use Rattle.member_selection.specs.Known.{IsFixed, IsFoundAs, IsKnown, IsSite, symbolic_reference_by};
+ghost use Rattle.member_selection.specs.Objects.{IsResolved, IsUsable};
 ghost use Rattle.symbolic_references.specs.Passing.{IfPassed, IsCall, IsInvoked, is_usable};
 ghost use Rattle.jvm_model.specs.declared.program.Program.{Program};
 ghost use Rattle.jvm_model.specs.Basis.SharedState.{phase_of};
-ghost use Rattle.symbolic_references.specs.Resolved.{gets_instance, gets_static, puts_instance};
-ghost use Rattle.symbolic_references.specs.Resolved.{puts_static};
-ghost use Rattle.symbolic_references.specs.Resolved.{invokes_instance, invokes_static_method};
-ghost use Rattle.symbolic_references.specs.Selections.{site_for};
-ghost use Rattle.symbolic_references.specs.Targets.{data_in, instance_target, static_target};
-ghost use Rattle.symbolic_references.specs.Targets.{selecting_view, target_in};
-ghost use Rattle.symbolic_references.specs.Answers.{done_on};
+ghost use Rattle.member_selection.specs.Resolved.{gets_instance, gets_static, puts_instance};
+ghost use Rattle.member_selection.specs.Resolved.{puts_static};
+ghost use Rattle.member_selection.specs.Resolved.{invokes_instance, invokes_static_method};
+ghost use Rattle.member_selection.specs.Selections.{site_for};
+ghost use Rattle.member_selection.specs.Targets.{data_in, instance_target, static_target};
+ghost use Rattle.member_selection.specs.Targets.{selecting_view, target_in};
+ghost use Rattle.member_selection.specs.Answers.{done_on};
 ghost use Rattle.symbolic_references.specs.Runtimes.{linker_in};
 
-use crate::applying::pass_by;
-use crate::instances::kind_of_object;
 use crate::invoked::{Call, Invoked, NativeCall};
-use crate::known::{Callee, Chosen, Found, Known, Site};
-use crate::outcome::Outcome;
-use crate::receivers::{argument_count, receiver_below};
 use crate::runtime::Runtime;
 use crate::runtime::fields::putting_of;
 use crate::runtime::statics::held_of;
-use crate::targets::{Selecting, Target};
 use class_index::held_by;
 use frame_stack::Frames;
 use jvm_model::{MemberName, MethodName, Phase, SymbolicReference};
+use member_selection::{
+    Callee, Chosen, Found, Known, Outcome, Selecting, Site, Target, argument_count, kind_of_object,
+    pass_by, receiver_below,
+};
 
 impl Runtime {
     /// getfield.
@@ -281,7 +279,7 @@ impl Runtime {
     /// What is selected for receivers of a kind, where it is kept. invokespecial selects the same
     /// for those of every kind.
     #[inline(always)]
-    #[tactic(auto, using(crate::proofs::SelectionLemmas::if_kept, crate::proofs::SelectionLemmas::special_kept))]
+    #[tactic(auto, using(member_selection::proofs::SelectionLemmas::if_kept, member_selection::proofs::SelectionLemmas::special_kept))]
     fn kept_for(&self, by: Selecting<'_>, kind: u32, site: Site, last: u32) -> Option<Chosen>
         requires usable { IsUsable (linker_in self.now) last }
         ensures { let p = self.now.world.program in let s = selecting_view by.entry in

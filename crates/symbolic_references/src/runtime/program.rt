@@ -6,7 +6,7 @@ ghost use Rattle.jvm_model.specs.Basis.Programs.{class_named, max_locals_of, max
 ghost use Rattle.jvm_model.specs.Basis.SharedState.{kind_for, string};
 ghost use Rattle.jvm_model.specs.Instructions.Exceptions.{exception_name};
 ghost use Rattle.jvm_model.specs.declared.exception.Exception.TheVariants.{BuiltIn};
-ghost use Rattle.symbolic_references.specs.Objects.{IsUsable};
+ghost use Rattle.member_selection.specs.Objects.{IsUsable};
 ghost use Rattle.symbolic_references.specs.ProgramFacts.{exception_kind};
 ghost use Rattle.symbolic_references.specs.Runtimes.{linker_in};
 

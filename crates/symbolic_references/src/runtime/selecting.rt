@@ -10,28 +10,24 @@ ghost use Rattle.jvm_model.specs.declared.instruction.SymbolicReference.TheVaria
 ghost use Rattle.jvm_model.specs.Basis.Data.{Raises};
 ghost use Rattle.jvm_model.specs.Basis.Programs.{name_at};
 ghost use Rattle.jvm_model.specs.Basis.SharedState.{class_of_kind, no_class_definition};
-ghost use Rattle.symbolic_references.specs.Callees.{HasCallee, chosen_place};
-ghost use Rattle.symbolic_references.specs.Known.{IsFoundAs, IsSite, symbolic_reference_by};
-ghost use Rattle.symbolic_references.specs.Members.{at_place};
-ghost use Rattle.symbolic_references.specs.Objects.{IsResolved, IsUsable};
-ghost use Rattle.symbolic_references.specs.Resolved.{method_found};
-ghost use Rattle.symbolic_references.specs.Targets.{HasCaller, selecting_view, found_as, instance_target};
-ghost use Rattle.symbolic_references.specs.Targets.{static_target, target_in, unready_by};
-ghost use Rattle.symbolic_references.specs.Answers.{abrupt_view};
+ghost use Rattle.member_selection.specs.Callees.{HasCallee, chosen_place};
+ghost use Rattle.member_selection.specs.Known.{IsFoundAs, IsSite, symbolic_reference_by};
+ghost use Rattle.member_selection.specs.Members.{at_place};
+ghost use Rattle.member_selection.specs.Objects.{IsResolved, IsUsable};
+ghost use Rattle.member_selection.specs.Resolved.{method_found};
+ghost use Rattle.member_selection.specs.Targets.{HasCaller, selecting_view, found_as, instance_target};
+ghost use Rattle.member_selection.specs.Targets.{static_target, target_in, unready_by};
+ghost use Rattle.member_selection.specs.Answers.{abrupt_view};
 ghost use Rattle.symbolic_references.specs.Runtimes.{linker_in};
 
-use crate::callees::callee_of;
-use crate::declared_member::DeclaredMember;
-use crate::known::{Chosen, Found, Site};
-use crate::outcome::AbruptCompletion;
-use crate::receivers::{argument_count, receiver_below};
 use crate::runtime::Runtime;
-use crate::targets::{
-    Selecting, Target, method_found, names_interface, receiver_kind, selected_by,
-};
 use frame_stack::Frames;
 use jf_bytes::{NoMemory, Text16};
 use jvm_model::{Exception, MethodName, Phase};
+use member_selection::{
+    AbruptCompletion, Chosen, DeclaredMember, Found, Selecting, Site, Target, argument_count,
+    callee_of, method_found, names_interface, receiver_below, receiver_kind, selected_by,
+};
 use std::alloc::Global;
 
 /// A text with the same units.
@@ -44,7 +40,7 @@ fn text_copied(alloc: Global, text: &Text16) -> Result<Text16, NoMemory>
 impl Runtime {
     /// What is selected for objects of a kind, which is kept.
     #[inline(never)]
-    #[tactic(auto, using(crate::proofs::KnownLemmas::site_of))]
+    #[tactic(auto, using(member_selection::proofs::KnownLemmas::site_of))]
     fn select_anew(
         &self,
         by: Selecting<'_>,
@@ -199,7 +195,7 @@ impl Runtime {
     /// What an instruction other than invokestatic comes to, where the class of the method's name
     /// was resolved to this kind. The method that is found is kept, with what is selected for the
     /// receiver's kind.
-    #[tactic(auto, using(crate::proofs::KnownLemmas::of_site))]
+    #[tactic(auto, using(member_selection::proofs::KnownLemmas::of_site))]
     pub fn instance_target(
         &self,
         frames: &Frames,

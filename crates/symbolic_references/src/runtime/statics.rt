@@ -14,22 +14,18 @@ ghost use Rattle.jvm_model.specs.Basis.Programs.{name_at};
 ghost use Rattle.jvm_model.specs.Instructions.Rules.{class_initialized};
 ghost use Rattle.jvm_model.specs.Basis.SharedState.{no_class_definition, static_at};
 ghost use Rattle.jvm_model.specs.Basis.Values.{as_value};
-ghost use Rattle.symbolic_references.specs.Known.{IsFoundAs};
-ghost use Rattle.symbolic_references.specs.Members.{at_place};
-ghost use Rattle.symbolic_references.specs.Objects.{IsUsable};
-ghost use Rattle.symbolic_references.specs.Resolved.{gets_static, puts_static};
-ghost use Rattle.symbolic_references.specs.Answers.{asked_on, shared_by};
-ghost use Rattle.symbolic_references.specs.Outcomes.{Asks, HasOperands, HaveOperands, Sets, asked, ruled};
+ghost use Rattle.member_selection.specs.Known.{IsFoundAs};
+ghost use Rattle.member_selection.specs.Members.{at_place};
+ghost use Rattle.member_selection.specs.Objects.{IsUsable};
+ghost use Rattle.member_selection.specs.Resolved.{gets_static, puts_static};
+ghost use Rattle.member_selection.specs.Answers.{asked_on, shared_by};
+ghost use Rattle.member_selection.specs.Outcomes.{Asks, HasOperands, HaveOperands, asked, ruled};
+ghost use Rattle.symbolic_references.specs.Leaving.{Sets};
 ghost use Rattle.symbolic_references.specs.Runtimes.{linker_in, with_shared};
 
-use crate::declared_member::DeclaredMember;
 use crate::held::field_narrowed;
-use crate::known::Found;
-use crate::members::field_found;
-use crate::outcome::{AbruptCompletion, Outcome};
 use crate::runtime::Runtime;
 use crate::static_fields::set_static;
-use crate::values::datum_of;
 use class_index::held_by;
 use const_pool::Kind;
 use frame_stack::Frames;
@@ -37,6 +33,7 @@ use heap_objects::Datum;
 use jf_bytes::NoMemory;
 use jvm_basic::value_of;
 use jvm_model::{MemberName, Phase};
+use member_selection::{AbruptCompletion, DeclaredMember, Found, Outcome, datum_of, field_found};
 
 // ---- classes that are not initialized
 

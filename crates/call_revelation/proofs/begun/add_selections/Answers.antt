@@ -3,7 +3,7 @@ use Rattle.std.specs.Prelude.{filter_map}
 use Rattle.std.proofs.lemmas.Result.{on_ok_weaker}
 use Rattle.jvm_model.specs.Profiling.Targets.{selections}
 use Rattle.class_index.specs.Orders.{with_classes}
-use Rattle.symbolic_references.specs.Members.{at_place}
+use Rattle.member_selection.specs.Members.{at_place}
 use Rattle.call_revelation.specs.Lineages.{selecting, selection_of}
 use Rattle.call_revelation.specs.Tables.{Adds}
 use Rattle.call_revelation.proofs.Numbers.Adding.{adds-alike, adds-equal}

@@ -2,7 +2,7 @@
 use Rattle.std.proofs.Common.{◌≡◌, drop}
 use Rattle.std.specs.Prelude.{filter_map}
 use Rattle.class_index.specs.Orders.{with_classes}
-use Rattle.symbolic_references.specs.Members.{at_place}
+use Rattle.member_selection.specs.Members.{at_place}
 use Rattle.call_revelation.specs.Lineages.{selection_of}
 use Rattle.call_revelation.proofs.begun.add_selections_of.Given as goal
 

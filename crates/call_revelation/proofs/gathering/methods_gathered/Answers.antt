@@ -5,7 +5,7 @@ use Rattle.jvm_model.specs.Classes.Load.{is_among}
 use Rattle.jvm_model.specs.Soundness.Sound.{HasLoadedCaller}
 use Rattle.jvm_model.specs.Profiling.Targets.{begun_by, operations_of}
 use Rattle.jvm_model.specs.Profiling.Revelation.{symbolic_references_of}
-use Rattle.symbolic_references.specs.Numbers.{AreNumbers}
+use Rattle.member_selection.specs.Numbers.{AreNumbers}
 use Rattle.call_revelation.specs.Tables.{Adds}
 use Rattle.call_revelation.proofs.Numbers.Adding.{adds-all}
 use Rattle.call_revelation.proofs.References.CallerLemmas.{callers-loaded}

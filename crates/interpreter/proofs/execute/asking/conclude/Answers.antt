@@ -2,8 +2,8 @@ use Rattle.std.proofs.Common.{◌≡◌, sym, subst, ◌∙◌}
 use Rattle.std.specs.Prelude.{IfNone, IfOk, drop}
 use Rattle.frame_stack.specs.FrameLists.{top_operands}
 use Rattle.jvm_model.specs.Running.Run.{starts}
-use Rattle.symbolic_references.specs.Outcomes.{HasOperands, asked}
-use Rattle.symbolic_references.specs.Targets.{data_in}
+use Rattle.member_selection.specs.Outcomes.{HasOperands, asked}
+use Rattle.member_selection.specs.Targets.{data_in}
 use Rattle.prepared_code.specs.Linked.{setup_in}
 use Rattle.prepared_code.specs.States.{state_in}
 use Rattle.interpreter.specs.Instructions.Acts.{acts_asked, on_parts}

@@ -2,7 +2,7 @@ use Rattle.std.proofs.Common.{◌≡◌, Some, sym, ap, subst, ◌∙◌, rules,
 use Rattle.std.proofs.lemmas.Int.{to_z-of_z}
 use Rattle.jvm_model.specs.declared.ending.Ending.TheVariants.{Exited}
 use Rattle.jvm_model.specs.Instructions.Exceptions.{exception_name}
-use Rattle.symbolic_references.specs.Answers.{abrupt_view}
+use Rattle.member_selection.specs.Answers.{abrupt_view}
 use Rattle.prepared_code.specs.Linked.{setup_in}
 use Rattle.prepared_code.specs.States.{state_in}
 use Rattle.interpreter.specs.Instructions.Acts.{acts_asked, on_parts}

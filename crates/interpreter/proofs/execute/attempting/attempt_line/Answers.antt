@@ -1,6 +1,6 @@
 use Rattle.std.proofs.Common.{sym, ap, subst, ◌∙◌}
 use Rattle.std.specs.Option.{IfSome}
-use Rattle.symbolic_references.specs.Arrays.{IsPrimitiveArray}
+use Rattle.member_selection.specs.Arrays.{IsPrimitiveArray}
 use Rattle.prepared_code.specs.declared.line.Line.{Line}
 use Rattle.prepared_code.specs.Initializations.{state_of}
 use Rattle.prepared_code.specs.Linked.{setup_in}

@@ -6,7 +6,7 @@ use Rattle.jvm_basic.specs.Outcomes.{top_locals}
 use Rattle.heap_objects.specs.Heaps.{HeapView}
 use Rattle.jvm_model.specs.Basis.Data.{GoesOn, Next}
 use Rattle.jvm_model.specs.Instructions.ObjectRules.{access_refused, access_to}
-use Rattle.symbolic_references.specs.Outcomes.{asked}
+use Rattle.member_selection.specs.Outcomes.{asked}
 use Rattle.interpreter.specs.Instructions.Elements.{access_of, element_at, place_by}
 use Rattle.interpreter.proofs.Instructions.ElementActs.{is-loaded, is-refused, place-enough}
 use Rattle.interpreter.proofs.execute.elements.load_element.Goals as goal

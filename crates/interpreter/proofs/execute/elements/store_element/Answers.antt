@@ -9,7 +9,7 @@ use Rattle.heap_objects.specs.Heaps.{HeapView, with_slot_at}
 use Rattle.jvm_model.specs.Basis.Data.{Done}
 use Rattle.jvm_model.specs.Instructions.ObjectRules.{access_refused, access_to, fits_array}
 use Rattle.jvm_model.specs.declared.state.Shared.{Shared}
-use Rattle.symbolic_references.specs.Outcomes.{asked}
+use Rattle.member_selection.specs.Outcomes.{asked}
 use Rattle.symbolic_references.specs.Runtimes.{with_heap, with_shared}
 use Rattle.interpreter.specs.Instructions.Elements.{access_of, storing_by}
 use Rattle.interpreter.proofs.Instructions.ElementActs.{is-stored, is-unstored, leads-inside, slot-there}

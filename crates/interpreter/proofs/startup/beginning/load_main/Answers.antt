@@ -1,6 +1,6 @@
 use Rattle.std.proofs.Common.{ap, ◌∙◌}
 use Rattle.jvm_model.specs.Running.Run.{main_class}
-use Rattle.symbolic_references.specs.Answers.{found_view}
+use Rattle.member_selection.specs.Answers.{found_view}
 use Rattle.prepared_code.specs.Initializations.{state_of}
 use Rattle.prepared_code.specs.Linked.{setup_in}
 use Rattle.interpreter.proofs.Instructions.NamedAttempts.{linked-kept}

@@ -1,7 +1,7 @@
 use Rattle.std.proofs.Common.{◌≡◌, refl, sym, ap, subst, ◌∙◌}
 use Rattle.std.specs.Prelude.{OnOk}
 use Rattle.jvm_model.specs.declared.program.Program.{Program}
-use Rattle.symbolic_references.specs.Numbers.{AreNumbers}
+use Rattle.member_selection.specs.Numbers.{AreNumbers}
 use Rattle.prepared_code.specs.ClassVersions.{class_versions}
 use Rattle.prepared_code.specs.Initializations.{state_of}
 use Rattle.prepared_code.specs.Linked.{setup_in}

@@ -1,7 +1,7 @@
 use Rattle.std.proofs.Common.{subst, sym}
 use Rattle.jvm_model.specs.Instructions.NativeRules.{kinds_in}
 use Rattle.native_ops.specs.Methods.Calls.{is_done}
-use Rattle.symbolic_references.specs.Objects.{AreLoaded}
+use Rattle.member_selection.specs.Objects.{AreLoaded}
 use Rattle.symbolic_references.proofs.NativeLemmas.{left-loaded}
 use Rattle.symbolic_references.proofs.runtime.Runtime.answer_native.Goals as goal
 

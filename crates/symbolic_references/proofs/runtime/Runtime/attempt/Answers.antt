@@ -1,8 +1,8 @@
 use Rattle.std.proofs.Common.{ap, subst, sym, refl, ◌∙◌}
 use Rattle.std.specs.Prelude.{IfSome, OnOk, drop, length}
 use Rattle.frame_stack.specs.FrameLists.{top_operands}
-use Rattle.symbolic_references.specs.Attempts.{loaded_for, with_more}
-use Rattle.symbolic_references.specs.Known.{IsKnown}
+use Rattle.member_selection.specs.Attempts.{loaded_for, with_more}
+use Rattle.member_selection.specs.Known.{IsKnown}
 use Rattle.symbolic_references.specs.Runtimes.{linker_in}
 use Rattle.symbolic_references.proofs.Again.{loads-in}
 use Rattle.symbolic_references.proofs.Attempted.{asks-later, caller_later, leaves-later, same-linker}

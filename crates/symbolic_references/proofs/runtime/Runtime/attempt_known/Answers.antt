@@ -1,8 +1,8 @@
 use Rattle.std.proofs.Common.{◌≡◌, true, rules}
 use Rattle.frame_stack.specs.FrameLists.{top_operands}
 use Rattle.jvm_model.specs.Instructions.SymbolicReference.{resolves}
-use Rattle.symbolic_references.specs.Attempts.{attempts}
-use Rattle.symbolic_references.specs.Resolved.{does_resolved}
+use Rattle.member_selection.specs.Attempts.{attempts}
+use Rattle.member_selection.specs.Resolved.{does_resolved}
 use Rattle.symbolic_references.proofs.Again.{done_again}
 use Rattle.symbolic_references.proofs.Carried.{asks_by, leaves_by}
 use Rattle.symbolic_references.proofs.runtime.Runtime.attempt_known.Goals as goal

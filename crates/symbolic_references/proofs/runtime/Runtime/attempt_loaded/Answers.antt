@@ -1,10 +1,10 @@
 use Rattle.std.proofs.Common.{ap, subst, sym, refl, ◌∙◌}
 use Rattle.std.specs.Prelude.{IfOk, IfSome, OnOk, ◌≡◌, drop, length}
 use Rattle.frame_stack.specs.FrameLists.{top_operands}
-use Rattle.symbolic_references.specs.Answers.{done_on}
-use Rattle.symbolic_references.specs.Attempts.{attempts, loaded_for, with_more}
-use Rattle.symbolic_references.specs.Known.{IsKnown}
-use Rattle.symbolic_references.specs.Outcomes.{asked, ruled}
+use Rattle.member_selection.specs.Answers.{done_on}
+use Rattle.member_selection.specs.Attempts.{attempts, loaded_for, with_more}
+use Rattle.member_selection.specs.Known.{IsKnown}
+use Rattle.member_selection.specs.Outcomes.{asked, ruled}
 use Rattle.symbolic_references.specs.Runtimes.{after, linker_in}
 use Rattle.symbolic_references.proofs.Again.{loads-in}
 use Rattle.symbolic_references.proofs.Attempted.{asks-later, caller_later, leaves-later, same-linker}

@@ -1,6 +1,6 @@
 use Rattle.std.proofs.Common.{◌≡◌, rules, subst, sym}
 use Rattle.jvm_model.specs.declared.exception.Exception.TheVariants.{BuiltIn}
-use Rattle.symbolic_references.specs.Objects.{IsUsable}
+use Rattle.member_selection.specs.Objects.{IsUsable}
 use Rattle.symbolic_references.specs.ProgramFacts.{exception_kind}
 use Rattle.symbolic_references.specs.Runtimes.{RuntimeView, linker_in}
 use Rattle.symbolic_references.proofs.runtime.Runtime.built_in_kind.Goals as goal

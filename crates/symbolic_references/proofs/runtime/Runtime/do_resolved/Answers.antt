@@ -5,8 +5,8 @@ use Rattle.jvm_model.specs.Basis.Values.{int_of}
 use Rattle.jvm_model.specs.Instructions.ConstantRules.{pushes_object_of}
 use Rattle.jvm_model.specs.Instructions.CreationRules.{array_over, counts_of, makes_by_counts}
 use Rattle.jvm_model.specs.Instructions.ObjectRules.{makes}
-use Rattle.symbolic_references.specs.Outcomes.{Leaves}
-use Rattle.symbolic_references.specs.Resolved.{does_resolved, gets_instance, gets_static, makes_new, puts_instance, puts_static}
+use Rattle.symbolic_references.specs.Leaving.{Leaves}
+use Rattle.member_selection.specs.Resolved.{does_resolved, gets_instance, gets_static, makes_new, puts_instance, puts_static}
 use Rattle.symbolic_references.specs.Runtimes.{after}
 use Rattle.symbolic_references.proofs.Quiet.{keeps, leaves_set, on_ok, shared_getfield, shared_getstatic, writes_anewarray, writes_arrays, writes_class, writes_getfield, writes_getstatic, writes_new, writes_putfield, writes_putstatic}
 use Rattle.symbolic_references.proofs.runtime.Runtime.do_resolved.Goals as goal

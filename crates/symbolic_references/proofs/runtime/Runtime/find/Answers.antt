@@ -2,10 +2,11 @@ use Rattle.std.proofs.Common.{◌≡◌, ◌∙◌, true, ap, sym, rules, subst,
 use Rattle.frame_stack.specs.FrameLists.{top_operands}
 use Rattle.jvm_model.specs.Classes.Load.{load_of}
 use Rattle.jvm_model.specs.Instructions.SymbolicReference.{resolved_kind, resolves}
-use Rattle.symbolic_references.specs.Objects.{IsResolved}
+use Rattle.member_selection.specs.Objects.{IsResolved}
 use Rattle.jvm_model.specs.Basis.Data.{World}
 use Rattle.symbolic_references.specs.Runtimes.{RuntimeView, linker_in, with_loaded}
-use Rattle.symbolic_references.proofs.Attempted.{found_by, loaded-by, loaded-none, none-more, resolved_later}
+use Rattle.symbolic_references.proofs.Attempted.{found_by, loaded-by, loaded-none, resolved_later}
+use Rattle.member_selection.proofs.MoreLoaded.{none-more}
 use Rattle.symbolic_references.proofs.runtime.Runtime.find.Goals as goal
 
 pub returns-then-not-resolves-clause-runtime : goal.returns-then-not-resolves-clause-runtime

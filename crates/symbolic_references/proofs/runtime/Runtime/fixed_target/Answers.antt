@@ -1,7 +1,7 @@
 use Rattle.std.proofs.Common.{◌≡◌, Some, false, sym, rules, ◌∙◌}
 use Rattle.frame_stack.specs.FrameLists.{top_operands}
 use Rattle.jvm_model.specs.Instructions.InvocationRules.{arguments_by}
-use Rattle.symbolic_references.specs.Targets.{data_in}
+use Rattle.member_selection.specs.Targets.{data_in}
 use Rattle.symbolic_references.proofs.TargetLemmas.{target_fixed}
 use Rattle.symbolic_references.proofs.runtime.Runtime.fixed_target.Goals as goal
 

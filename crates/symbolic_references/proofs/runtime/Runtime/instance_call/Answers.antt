@@ -3,7 +3,7 @@ use Rattle.std.specs.Prelude.{IfSome}
 use Rattle.frame_stack.specs.FrameLists.{top_operands}
 use Rattle.jvm_basic.specs.Outcomes.{top_locals}
 use Rattle.symbolic_references.specs.Passing.{IsInvoked}
-use Rattle.symbolic_references.specs.Targets.{instance_target, selecting_view}
+use Rattle.member_selection.specs.Targets.{instance_target, selecting_view}
 use Rattle.symbolic_references.proofs.TargetLemmas.{does-target, instance-rule}
 use Rattle.symbolic_references.proofs.runtime.Runtime.instance_call.Goals as goal
 

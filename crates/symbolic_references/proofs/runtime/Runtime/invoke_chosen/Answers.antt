@@ -5,8 +5,8 @@ use Rattle.jvm_basic.specs.Outcomes.{top_locals}
 use Rattle.jvm_model.specs.Basis.Data.{Done, Invokes}
 use Rattle.jvm_model.specs.Instructions.InvocationRules.{invokes_selected}
 use Rattle.jvm_model.specs.Instructions.NativeRules.{runs_number}
-use Rattle.symbolic_references.specs.Callees.{IsCallee, chosen_place}
-use Rattle.symbolic_references.specs.Targets.{data_in}
+use Rattle.member_selection.specs.Callees.{IsCallee, chosen_place}
+use Rattle.member_selection.specs.Targets.{data_in}
 use Rattle.symbolic_references.proofs.CalleeLemmas.{code-invoked, native-invoked}
 use Rattle.symbolic_references.proofs.Carried.{asks_by, leaves_by, still}
 use Rattle.symbolic_references.proofs.runtime.Runtime.invoke_chosen.Goals as goal

@@ -1,5 +1,5 @@
 use Rattle.std.proofs.Common.{subst, sym}
-use Rattle.symbolic_references.specs.Known.{IsKnown}
+use Rattle.member_selection.specs.Known.{IsKnown}
 use Rattle.symbolic_references.specs.Runtimes.{RuntimeView, linker_in}
 use Rattle.symbolic_references.proofs.runtime.Runtime.keep_selection.Goals as goal
 

@@ -4,8 +4,8 @@ use Rattle.frame_stack.specs.FrameLists.{top_operands}
 use Rattle.heap_objects.specs.Heaps.{kind_at}
 use Rattle.jvm_model.specs.Instructions.InvocationRules.{arguments_by, receiver_in}
 use Rattle.symbolic_references.specs.Runtimes.{RuntimeView}
-use Rattle.symbolic_references.specs.Targets.{data_in, selecting_view}
-use Rattle.symbolic_references.proofs.SelectionLemmas.{target_kept}
+use Rattle.member_selection.specs.Targets.{data_in, selecting_view}
+use Rattle.member_selection.proofs.SelectionLemmas.{target_kept}
 use Rattle.symbolic_references.proofs.runtime.Runtime.kept_target.Goals as goal
 
 pub returns-clause-target : goal.returns-clause-target

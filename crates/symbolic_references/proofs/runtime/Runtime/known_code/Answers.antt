@@ -1,7 +1,7 @@
 use Rattle.std.proofs.Common.{subst}
 use Rattle.std.specs.Prelude.{IfSome}
-use Rattle.symbolic_references.specs.Answers.{done_on}
-use Rattle.symbolic_references.specs.Attempts.{attempts}
+use Rattle.member_selection.specs.Answers.{done_on}
+use Rattle.member_selection.specs.Attempts.{attempts}
 use Rattle.symbolic_references.specs.Passing.{IsInvoked}
 use Rattle.symbolic_references.proofs.runtime.Runtime.known_code.Goals as goal
 

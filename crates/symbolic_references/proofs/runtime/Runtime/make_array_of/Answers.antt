@@ -1,5 +1,5 @@
 use Rattle.symbolic_references.specs.Runtimes.{linker_in}
-use Rattle.symbolic_references.proofs.KindLemmas.{over}
+use Rattle.member_selection.proofs.KindLemmas.{over}
 use Rattle.symbolic_references.proofs.runtime.Runtime.make_array_of.Goals as goal
 
 pub make_counted-requires : goal.make_counted-requires

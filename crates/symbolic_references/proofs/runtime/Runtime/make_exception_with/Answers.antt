@@ -1,5 +1,5 @@
 use Rattle.std.proofs.Common.{subst, sym}
-use Rattle.symbolic_references.specs.Objects.{IsUsable}
+use Rattle.member_selection.specs.Objects.{IsUsable}
 use Rattle.symbolic_references.specs.Runtimes.{RuntimeView, linker_in}
 use Rattle.symbolic_references.proofs.runtime.Runtime.make_exception_with.Goals as goal
 

@@ -1,5 +1,5 @@
 use Rattle.symbolic_references.specs.Runtimes.{linker_in}
-use Rattle.symbolic_references.proofs.KindLemmas.{primitive}
+use Rattle.member_selection.proofs.KindLemmas.{primitive}
 use Rattle.symbolic_references.proofs.runtime.Runtime.make_primitives.Goals as goal
 
 pub make_counted-requires : goal.make_counted-requires

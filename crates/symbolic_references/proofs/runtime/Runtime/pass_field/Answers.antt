@@ -1,9 +1,9 @@
 use Rattle.std.proofs.Common.{sym, subst, refl}
 use Rattle.jvm_model.specs.declared.instruction.SymbolicReference.TheVariants.{Getfield, Getstatic, Putfield, Putstatic}
 use Rattle.jvm_model.specs.declared.instruction.SymbolicReference.{SymbolicReference as Kept}
-use Rattle.symbolic_references.specs.Answers.{done_on}
-use Rattle.symbolic_references.specs.Attempts.{attempts}
-use Rattle.symbolic_references.specs.Known.{IsKnown}
+use Rattle.member_selection.specs.Answers.{done_on}
+use Rattle.member_selection.specs.Attempts.{attempts}
+use Rattle.member_selection.specs.Known.{IsKnown}
 use Rattle.symbolic_references.specs.Runtimes.{linker_in}
 use Rattle.symbolic_references.specs.Passing.{IfPassed}
 use Rattle.symbolic_references.proofs.Again.{done_again, loads_none}

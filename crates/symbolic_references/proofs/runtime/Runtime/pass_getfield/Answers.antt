@@ -6,11 +6,11 @@ use Rattle.jvm_model.specs.Instructions.FieldRules.{gets_of}
 use Rattle.jvm_model.specs.Instructions.SymbolicReference.{unless_refused}
 use Rattle.jvm_model.specs.declared.instruction.SymbolicReference.TheVariants.{Getfield}
 use Rattle.jvm_model.specs.Basis.Values.{ref_of}
-use Rattle.symbolic_references.specs.Answers.{answer_in, done_on, frames_in}
-use Rattle.symbolic_references.specs.Known.{IsField, IsFoundAs}
-use Rattle.symbolic_references.specs.Outcomes.{asked}
+use Rattle.member_selection.specs.Answers.{answer_in, done_on, frames_in}
+use Rattle.member_selection.specs.Known.{IsField, IsFoundAs}
+use Rattle.member_selection.specs.Outcomes.{asked}
 use Rattle.symbolic_references.specs.Passing.{IfPassed}
-use Rattle.symbolic_references.specs.Resolved.{gets_instance}
+use Rattle.member_selection.specs.Resolved.{gets_instance}
 use Rattle.symbolic_references.proofs.PassingLemmas.{passed-by}
 use Rattle.symbolic_references.proofs.Quiet.{keeps, shared_getfield, writes_getfield}
 use Rattle.symbolic_references.proofs.runtime.Runtime.pass_getfield.Goals as goal

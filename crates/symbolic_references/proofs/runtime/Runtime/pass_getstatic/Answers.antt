@@ -10,12 +10,12 @@ use Rattle.jvm_model.specs.declared.instruction.SymbolicReference.TheVariants.{G
 use Rattle.jvm_model.specs.Instructions.ObjectRules.{done}
 use Rattle.jvm_model.specs.Basis.SharedState.{phase_of, static_at}
 use Rattle.jvm_model.specs.Basis.Values.{as_value}
-use Rattle.symbolic_references.specs.Answers.{answer_in, done_on, frames_in}
-use Rattle.symbolic_references.specs.Outcomes.{asked}
-use Rattle.symbolic_references.specs.Known.{IsFoundAs}
-use Rattle.symbolic_references.specs.Members.{at_place}
+use Rattle.member_selection.specs.Answers.{answer_in, done_on, frames_in}
+use Rattle.member_selection.specs.Outcomes.{asked}
+use Rattle.member_selection.specs.Known.{IsFoundAs}
+use Rattle.member_selection.specs.Members.{at_place}
 use Rattle.symbolic_references.specs.Passing.{IfPassed}
-use Rattle.symbolic_references.specs.Resolved.{gets_static}
+use Rattle.member_selection.specs.Resolved.{gets_static}
 use Rattle.symbolic_references.proofs.PassingLemmas.{passed-by, when-usable}
 use Rattle.symbolic_references.proofs.Quiet.{keeps, shared_getstatic, writes_getstatic}
 use Rattle.symbolic_references.proofs.runtime.Runtime.pass_getstatic.Goals as goal

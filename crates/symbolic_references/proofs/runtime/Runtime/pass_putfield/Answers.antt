@@ -7,12 +7,12 @@ use Rattle.jvm_model.specs.Basis.Data.{GoesOn, Next}
 use Rattle.jvm_model.specs.Instructions.FieldRules.{kind_by, putting_of}
 use Rattle.jvm_model.specs.Classes.Layouts.{held_by}
 use Rattle.jvm_model.specs.declared.instruction.SymbolicReference.TheVariants.{Putfield}
-use Rattle.symbolic_references.specs.Answers.{answer_in, done_on}
+use Rattle.member_selection.specs.Answers.{answer_in, done_on}
 use Rattle.symbolic_references.specs.Fields.{putting_view, writes}
-use Rattle.symbolic_references.specs.Known.{IsField, IsFoundAs}
-use Rattle.symbolic_references.specs.Members.{at_place}
+use Rattle.member_selection.specs.Known.{IsField, IsFoundAs}
+use Rattle.member_selection.specs.Members.{at_place}
 use Rattle.symbolic_references.specs.Passing.{IfPassed}
-use Rattle.symbolic_references.specs.Resolved.{puts_instance}
+use Rattle.member_selection.specs.Resolved.{puts_instance}
 use Rattle.symbolic_references.proofs.PassingLemmas.{next-is, not-moved, passed-on, puts-written}
 use Rattle.symbolic_references.proofs.runtime.Runtime.pass_putfield.Goals as goal
 

@@ -10,11 +10,11 @@ use Rattle.jvm_model.specs.Instructions.SymbolicReference.{unless_refused}
 use Rattle.jvm_model.specs.declared.instruction.SymbolicReference.TheVariants.{Putstatic}
 use Rattle.jvm_model.specs.Instructions.Rules.{class_initialized}
 use Rattle.jvm_model.specs.Basis.SharedState.{phase_of}
-use Rattle.symbolic_references.specs.Answers.{answer_in, done_on}
-use Rattle.symbolic_references.specs.Known.{IsFoundAs}
-use Rattle.symbolic_references.specs.Members.{at_place}
+use Rattle.member_selection.specs.Answers.{answer_in, done_on}
+use Rattle.member_selection.specs.Known.{IsFoundAs}
+use Rattle.member_selection.specs.Members.{at_place}
 use Rattle.symbolic_references.specs.Passing.{IfPassed}
-use Rattle.symbolic_references.specs.Resolved.{puts_static}
+use Rattle.member_selection.specs.Resolved.{puts_static}
 use Rattle.symbolic_references.proofs.PassingLemmas.{next-is, not-moved, passed-on, when-usable}
 use Rattle.symbolic_references.proofs.runtime.Runtime.pass_putstatic.Goals as goal
 

@@ -1,7 +1,7 @@
 use Rattle.std.proofs.Common.{subst, sym}
 use Rattle.std.specs.Prelude.{is_ok}
-use Rattle.symbolic_references.proofs.ObjectLemmas.{objects_interned}
-use Rattle.symbolic_references.specs.Objects.{AreLoaded, IsUsable}
+use Rattle.member_selection.proofs.ObjectLemmas.{objects_interned}
+use Rattle.member_selection.specs.Objects.{AreLoaded, IsUsable}
 use Rattle.symbolic_references.specs.Runtimes.{RuntimeView, linker_in}
 use Rattle.symbolic_references.proofs.runtime.Runtime.push_string.Goals as goal
 

@@ -2,7 +2,7 @@ use Rattle.std.proofs.Common.{◌≡◌, ◌∙◌, subst}
 use Rattle.frame_stack.specs.FrameLists.{top_operands}
 use Rattle.native_ops.specs.Methods.Calls.{IsAnswer}
 use Rattle.symbolic_references.specs.NativeCalls.{native_answer, native_left, with_left}
-use Rattle.symbolic_references.specs.Targets.{data_in}
+use Rattle.member_selection.specs.Targets.{data_in}
 use Rattle.symbolic_references.proofs.NativeLemmas.{leaves-numbered, runs-numbered}
 use Rattle.symbolic_references.proofs.runtime.Runtime.run_numbered.Goals as goal
 

@@ -5,7 +5,7 @@ use Rattle.jvm_model.specs.Basis.SharedState.{kind_for, string}
 use Rattle.jvm_model.specs.Running.Constants.{sets_constants}
 use Rattle.jvm_model.specs.declared.program.Program.{Program}
 use Rattle.symbolic_references.specs.Held.{IsSetting}
-use Rattle.symbolic_references.specs.Objects.{IsUsable}
+use Rattle.member_selection.specs.Objects.{IsUsable}
 use Rattle.symbolic_references.specs.Runtimes.{RuntimeView, linker_in, with_fields, with_shared}
 use Rattle.symbolic_references.proofs.ConstantsSet.{all-set, left-by, thrown-by}
 use Rattle.symbolic_references.proofs.runtime.Runtime.set_constants.Goals as goal

@@ -3,10 +3,10 @@ use Rattle.std.specs.Prelude.{IfSome}
 use Rattle.frame_stack.specs.FrameLists.{top_operands}
 use Rattle.jvm_basic.specs.Outcomes.{top_locals}
 use Rattle.jvm_model.specs.declared.instruction.SymbolicReference.TheVariants.{Invokestatic}
-use Rattle.symbolic_references.specs.Callees.{HasCallee}
-use Rattle.symbolic_references.specs.Known.{IsFixed, IsFoundAs}
+use Rattle.member_selection.specs.Callees.{HasCallee}
+use Rattle.member_selection.specs.Known.{IsFixed, IsFoundAs}
 use Rattle.symbolic_references.specs.Passing.{IsInvoked}
-use Rattle.symbolic_references.specs.Targets.{static_target}
+use Rattle.member_selection.specs.Targets.{static_target}
 use Rattle.symbolic_references.proofs.TargetLemmas.{does-target, static-rule}
 use Rattle.symbolic_references.proofs.runtime.Runtime.static_call.Goals as goal
 

@@ -1,6 +1,6 @@
 use Rattle.std.proofs.Common.{subst, sym}
-use Rattle.symbolic_references.specs.Objects.{AreLoaded}
-use Rattle.symbolic_references.proofs.ObjectLemmas.{objects_slot_if}
+use Rattle.member_selection.specs.Objects.{AreLoaded}
+use Rattle.member_selection.proofs.ObjectLemmas.{objects_slot_if}
 use Rattle.symbolic_references.proofs.runtime.Runtime.store_at.Goals as goal
 
 pub invariant_of-self : goal.invariant_of-self

@@ -4,7 +4,7 @@ use Rattle.jvm_basic.specs.Outcomes.{top_locals}
 use Rattle.jvm_model.specs.Instructions.FieldRules.{kind_by, putting_of}
 use Rattle.jvm_model.specs.Classes.Layouts.{held_by}
 use Rattle.symbolic_references.specs.Fields.{putting_view}
-use Rattle.symbolic_references.specs.Members.{at_place}
+use Rattle.member_selection.specs.Members.{at_place}
 use Rattle.symbolic_references.specs.Runtimes.{with_shared}
 use Rattle.symbolic_references.proofs.Slots.{puts_found}
 use Rattle.symbolic_references.proofs.runtime.Runtime.write_known.Goals as goal

@@ -3,8 +3,8 @@ use Rattle.heap_objects.specs.declared.datum.Datum.TheVariants.{Ref}
 use Rattle.heap_objects.specs.declared.object.Object.TheVariants.{Text}
 use Rattle.heap_objects.specs.Changes.{changed_if}
 use Rattle.heap_objects.specs.Heaps.{with_slot_at}
-use Rattle.symbolic_references.specs.Objects.{AreLoaded}
-use Rattle.symbolic_references.proofs.ObjectLemmas.{objects_slot_if, objects_with}
+use Rattle.member_selection.specs.Objects.{AreLoaded}
+use Rattle.member_selection.proofs.ObjectLemmas.{objects_slot_if, objects_with}
 use Rattle.symbolic_references.proofs.Slots.{slot_put}
 use Rattle.symbolic_references.proofs.runtime.arguments.put_text.Goals as goal
 

@@ -3,7 +3,7 @@ use Rattle.std.proofs.Common.{◌≡◌, ◌+◌, ◌≤◌, drop}
 use Rattle.class_linker.specs.Linkers.{LinkerView}
 use Rattle.jvm_model.specs.declared.program.Program.{Program}
 use Rattle.jvm_model.specs.Basis.SharedState.{kind_for, string, texts_cost, with_texts}
-use Rattle.symbolic_references.specs.Objects.{AreLoaded, IsUsable}
+use Rattle.member_selection.specs.Objects.{AreLoaded, IsUsable}
 use Rattle.symbolic_references.proofs.runtime.arguments.put_texts.Given as goal
 
 abbrev pub invariant-loop-at : goal.invariant-loop-at

@@ -5,7 +5,7 @@ use Rattle.jvm_model.specs.declared.program.Program.{Program}
 use Rattle.jvm_model.specs.declared.state.Shared.{Shared}
 use Rattle.jvm_model.specs.Basis.SharedState.{kind_for, string}
 use Rattle.jvm_model.specs.Running.Constants.{sets_fields}
-use Rattle.symbolic_references.specs.Objects.{AreLoaded, IsUsable}
+use Rattle.member_selection.specs.Objects.{AreLoaded, IsUsable}
 use Rattle.symbolic_references.specs.Runtimes.{with_fields}
 use Rattle.symbolic_references.proofs.runtime.constants.set_fields.Given as goal
 

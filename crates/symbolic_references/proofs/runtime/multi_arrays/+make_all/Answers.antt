@@ -2,10 +2,10 @@ use Rattle.std.proofs.Common.{◌≡◌, ◌∙◌, ◌∷◌, ◌+◌, ◌-◌,
 use Rattle.heap_objects.specs.declared.datum.Datum.TheVariants.{Ref}
 use Rattle.heap_objects.specs.Heaps.{with_slot_at}
 use Rattle.jvm_model.specs.Instructions.CreationRules.{with_arrays, with_parts}
-use Rattle.symbolic_references.specs.Arrays.{AreUsable}
-use Rattle.symbolic_references.specs.Objects.{AreLoaded}
+use Rattle.member_selection.specs.Arrays.{AreUsable}
+use Rattle.member_selection.specs.Objects.{AreLoaded}
 use Rattle.symbolic_references.proofs.ArraysMade.{down-first, down-rest, parts_step}
-use Rattle.symbolic_references.proofs.ObjectLemmas.{objects_slot}
+use Rattle.member_selection.proofs.ObjectLemmas.{objects_slot}
 use Rattle.symbolic_references.proofs.runtime.multi_arrays.+make_all.Goals as goal
 
 pub loop-at-preserved : goal.loop-at-preserved

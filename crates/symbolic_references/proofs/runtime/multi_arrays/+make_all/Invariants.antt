@@ -2,8 +2,8 @@ use Rattle.std.proofs.Common.{◌≡◌, ◌-◌, length}
 use Rattle.class_linker.specs.Linkers.{LinkerView}
 use Rattle.heap_objects.specs.Heaps.{next_number}
 use Rattle.jvm_model.specs.Instructions.CreationRules.{with_arrays, with_parts}
-use Rattle.symbolic_references.specs.Arrays.{AreUsable}
-use Rattle.symbolic_references.specs.Objects.{AreLoaded}
+use Rattle.member_selection.specs.Arrays.{AreUsable}
+use Rattle.member_selection.specs.Objects.{AreLoaded}
 use Rattle.symbolic_references.proofs.runtime.multi_arrays.+make_all.Given as goal
 
 -- the parts that are left lead to what all of them do, and the classes of all objects stay loaded

@@ -3,7 +3,7 @@ use Rattle.std.specs.Prelude.{None, slice_get}
 use Rattle.std.specs.Option.{option_map}
 use Rattle.frame_stack.specs.FrameLists.{top_operands}
 use Rattle.jvm_model.specs.Instructions.CreationRules.{counts_from}
-use Rattle.symbolic_references.specs.Arrays.{int_at}
+use Rattle.member_selection.specs.Arrays.{int_at}
 use Rattle.symbolic_references.proofs.ArraysMade.{count_next, count_none}
 use Rattle.symbolic_references.proofs.runtime.multi_arrays.counts_of.Goals as goal
 

@@ -1,6 +1,6 @@
 use Rattle.std.proofs.Common.{◌≤◌, arith}
 use Rattle.frame_stack.specs.FrameLists.{top_operands}
-use Rattle.symbolic_references.specs.Targets.{data_in}
+use Rattle.member_selection.specs.Targets.{data_in}
 use Rattle.symbolic_references.proofs.NativeLemmas.{argument-taken}
 use Rattle.symbolic_references.proofs.runtime.natives.arguments.Goals as goal
 

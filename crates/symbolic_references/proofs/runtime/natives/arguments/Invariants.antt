@@ -1,7 +1,7 @@
 -- the arguments so far, and those of the operands that are left
 use Rattle.std.proofs.Common.{◌≡◌, ◌≤◌, ◌++◌}
 use Rattle.frame_stack.specs.FrameLists.{top_operands}
-use Rattle.symbolic_references.specs.Targets.{data_in}
+use Rattle.member_selection.specs.Targets.{data_in}
 use Rattle.symbolic_references.proofs.runtime.natives.arguments.Given as goal
 
 abbrev pub invariant-loop-left : goal.invariant-loop-left

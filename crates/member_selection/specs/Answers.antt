@@ -1,0 +1,85 @@
+-- What an instruction comes to, by the outcome of its rule: the answer, and what becomes of the current frame (JVM Specification 2.6,
+-- 4.9.2, 6.5).
+use Rattle.std.specs.Prelude.{ℕ, false, List, Result, Ok, Err, ◌==◌, if◌then◌else◌, Bool, true}
+use Rattle.frame_stack.specs.FrameLists.{PlacedFrame, FramesView, top_operands}
+use Rattle.jvm_basic.specs.Outcomes.{can_hold, top_locals, with_top}
+use Rattle.jvm_model.specs.declared.state.Shared.{Shared}
+use Rattle.jvm_model.specs.Basis.Data.{Locals, Operands, Next, Outcome, GoesOn, Raises, Throws, Initializes, Exits, Breaks, Done}
+use Rattle.jvm_model.specs.Classes.Lookup.{MemberPlace}
+use Rattle.member_selection.specs.declared.declared_member.DeclaredMember.{DeclaredMember}
+use Rattle.member_selection.specs.Members.{at_place}
+use Rattle.jvm_model.specs.declared.exception.Exception.{Exception}
+use Rattle.jvm_model.specs.declared.exception.Exception.TheVariants as exception
+use Rattle.jvm_model.specs.Instructions.Exceptions.{exception_name}
+use Rattle.member_selection.specs.declared.outcome.AbruptCompletion.{AbruptCompletion}
+use Rattle.member_selection.specs.declared.outcome.AbruptCompletion.TheVariants as refusal
+
+-- ---- refusals
+
+-- that of the built-in class at this place, where it is the error of a load or of a resolution
+abbrev pub exception_numbered : ℕ → Exception
+exception_numbered number =
+    if number == 42 then exception.NoClassDefinition else
+    if number == 45 then exception.ClassCircularity else
+    if number == 49 then exception.NoSuchField else
+    if number == 50 then exception.NoSuchMethod else exception.IncompatibleClassChange
+
+abbrev pub abrupt_view : AbruptCompletion → Outcome
+abrupt_view (refusal.Raises e message) = Raises (exception_name e) message
+abrupt_view (refusal.Throws object) = Throws object
+abrupt_view (refusal.Initializes class) = Initializes class
+abrupt_view (refusal.Exits status) = Exits status
+abrupt_view refusal.Breaks = Breaks false
+
+-- what a step finds, or what it asks for where it is refused
+abbrev pub found_view : {A : Type 0} → Result A AbruptCompletion → Result A Outcome
+found_view (Ok x) = Ok x
+found_view (Err e) = Err (abrupt_view e)
+
+abbrev pub place_found : Result DeclaredMember AbruptCompletion → Result MemberPlace Outcome
+place_found (Ok m) = Ok (at_place m)
+place_found (Err e) = Err (abrupt_view e)
+
+-- ---- a frame that goes on, or not
+
+pub data Answer : Type 0 where
+  -- the frame has gone on
+  Continues : Answer
+  -- its operands would be deeper than its limit
+  Exceeds : Answer
+  -- nothing goes on by itself
+  Stops : Outcome → Answer
+
+abbrev pub answer_in : Outcome → List PlacedFrame → Answer
+answer_in (GoesOn l o Next) fs = if can_hold o fs then Continues else Exceeds
+answer_in q fs = Stops q
+
+-- Unless it goes on the frame is as it was.
+abbrev pub frames_in : Outcome → ℕ → List PlacedFrame → List PlacedFrame
+frames_in (GoesOn l o Next) next fs = if can_hold o fs then with_top l o next fs else fs
+frames_in q next fs = fs
+
+-- ---- a rule sees the locals and operands of the current frame
+
+abbrev pub Asking : Type 0
+Asking = Locals → Operands → Outcome
+
+abbrev pub asked_on : Asking → FramesView → Outcome
+asked_on asks f = asks (top_locals f.frames) (top_operands f.frames)
+
+-- a rule that may change what is shared
+abbrev pub Rule : Type 0
+Rule = Locals → Operands → Done
+
+abbrev pub done_on : Rule → FramesView → Done
+done_on rule f = rule (top_locals f.frames) (top_operands f.frames)
+
+abbrev pub shared_by : Rule → FramesView → Shared
+shared_by rule f = (done_on rule f).shared
+
+abbrev pub wrote_by : Rule → FramesView → List ℕ
+wrote_by rule f = (done_on rule f).wrote
+
+abbrev pub is_next : Answer → Bool
+is_next Continues = true
+is_next _ = false

@@ -1,0 +1,13 @@
+pub mod Members
+pub mod Answers
+pub mod Objects
+pub mod Resolved
+pub mod Attempts
+pub mod Numbers
+pub mod Targets
+pub mod Arrays
+pub mod Known
+pub mod Callees
+pub mod Selections
+pub mod Outcomes
+pub mod Going

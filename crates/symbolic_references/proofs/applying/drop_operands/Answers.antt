@@ -1,5 +1,0 @@
-use Rattle.symbolic_references.proofs.Going.{popped}
-use Rattle.symbolic_references.proofs.applying.drop_operands.Goals as goal
-
-pub loop-preserved : goal.loop-preserved
-loop-preserved c = popped c.args.frames.now c.loop.frames c.pop.new.self c.loop.counter c.loop.invariant c.pop.ensures.frames

@@ -1,7 +1,0 @@
--- those that were counted and those that are left
-use Rattle.std.proofs.Common.{◌≡◌, ◌+◌, drop}
-use Rattle.symbolic_references.specs.Numbers.{coded_count}
-use Rattle.symbolic_references.proofs.numbers.coded_count.Given as goal
-
-abbrev pub invariant-loop-method : goal.invariant-loop-method
-invariant-loop-method l = l.count + coded_count (drop l.method-index l.methods) ≡ coded_count l.methods

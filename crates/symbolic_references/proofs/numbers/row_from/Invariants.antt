@@ -1,9 +1,0 @@
--- what was numbered, before the row of what is left
-use Rattle.std.proofs.Common.{◌≡◌, ◌+◌, ◌++◌, drop}
-use Rattle.symbolic_references.specs.Numbers.{coded_count, row_from}
-use Rattle.symbolic_references.proofs.numbers.row_from.Given as goal
-
-abbrev pub invariant-loop-method : goal.invariant-loop-method
-invariant-loop-method l =
-    (l.row ++ row_from l.next (drop l.method-index l.methods) ≡ row_from l.first l.methods)
-    × (l.next + coded_count (drop l.method-index l.methods) ≡ l.first + coded_count l.methods)

@@ -1,6 +1,0 @@
-use Rattle.jvm_model.specs.declared.program.Program.{Program}
-use Rattle.symbolic_references.specs.Selections.{AreSelections}
-use Rattle.symbolic_references.proofs.selections.free_slots.Given as goal
-
-abbrev pub invariant-loop : goal.invariant-loop
-invariant-loop l = (p : Program) → AreSelections p l.slots
