@@ -31,10 +31,7 @@ pub use kinds::fits_array;
 pub use line::{Action, Line};
 pub use loading::has_built_in_name;
 pub use lookup::{has_bytes, initializer_of, main_class, position_of, position_of_bytes};
-pub use members::{
-    field_at, initializer_in, is_initializer, is_out, is_println, is_reference, method_at,
-    method_named,
-};
+pub use members::{field_at, initializer_in, is_initializer, is_reference, method_at};
 pub use objects::{arguments_fit, heap_before};
 pub use originals::Originals;
 pub use parts::{Here, Parts, where_now};

@@ -1,13 +1,12 @@
 //! Classes and methods of a program by their names (JVM Specification 5.4.3).
 
 ghost use Rattle.std.specs.Prelude.{◌≡◌, ◌<◌, ◌^◌, length, position, IfSome};
-ghost use Rattle.const_pool.specs.Members.{reference_view};
 ghost use Rattle.jvm_model.specs.Basis.Programs.{class_named, has_name};
 ghost use Rattle.jvm_model.specs.Running.Run.{main_class};
-ghost use Rattle.jvm_model.specs.Basis.Programs.{declared_method, initializer_of, number_from, same_place};
+ghost use Rattle.jvm_model.specs.Basis.Programs.{initializer_of, number_from, same_place};
 
-use crate::members::{initializer_in, method_named};
-use const_pool::{ClassFile, MemberRef};
+use crate::members::initializer_in;
+use const_pool::ClassFile;
 use jf_bytes::Text16;
 use jvm_model::{MethodPlace, Program};
 
@@ -74,16 +73,6 @@ fn number_of(places: &[MethodPlace], class: usize, at: usize) -> Option<u32>
         }
     }
     None
-}
-
-/// The number of the method that a reference names in the class at a position.
-pub fn declared_method(program: &Program, reference: &MemberRef<'_>, class: u32) -> Option<u32>
-    requires { length program.now.methods < 2 ^ 32 }
-    ensures { result ≡ declared_method program.now (reference_view reference.now).member class }
-{
-    let found = program.classes.get(class as usize)?;
-    let at = method_named(found, reference.name, reference.descriptor)?;
-    number_of(program.methods.as_slice(), class as usize, at)
 }
 
 /// The number of the static initializer of the class at a position, where it has one.

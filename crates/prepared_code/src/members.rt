@@ -1,47 +1,16 @@
 //! What the indices of a class's pool and its methods' names and descriptors say (JVM Specification
 //! 4.4, 4.6, 5.4.3).
 
-ghost use Rattle.std.specs.Prelude.{◌≡◌, ◌<◌, length, IfSome};
+ghost use Rattle.std.specs.Prelude.{◌≡◌};
 ghost use Rattle.std.specs.Option.{option_map};
 ghost use Rattle.const_pool.specs.Members.{reference_view};
-ghost use Rattle.const_pool.specs.References.{name_type_of, named_field, named_method};
+ghost use Rattle.const_pool.specs.References.{named_field, named_method};
 ghost use Rattle.jvm_model.specs.Codes.Lines.{named_interface_method};
 ghost use Rattle.jvm_model.specs.Basis.Methods.{same_text_at, is_member, method_named};
 ghost use Rattle.jvm_model.specs.Basis.Programs.{initializer_name};
-ghost use Rattle.jvm_model.specs.Instructions.Rules.{is_reference, is_out, is_println};
+ghost use Rattle.jvm_model.specs.Instructions.Rules.{is_reference};
 
 use const_pool::{ClassFile, Const, Member, MemberRef, Pool};
-use jf_bytes::Text16;
-
-/// Whether an entry is this text.
-fn is_text_at(pool: &Pool, index: u16, text: &Text16) -> bool
-    ensures { result ≡ same_text_at pool.now index text.now }
-{
-    match pool.text(index) {
-        Ok(found) => found.same(text),
-        Err(_) => false,
-    }
-}
-
-/// Whether a method has this name and this descriptor.
-fn is_member(pool: &Pool, name: &Text16, descriptor: &Text16, member: &Member) -> bool
-    ensures { result ≡ is_member pool.now (name_type_of name.now descriptor.now) member.now }
-{
-    is_text_at(pool, member.name, name) && is_text_at(pool, member.descriptor, descriptor)
-}
-
-/// The position of the first method with this name and this descriptor (5.4.3.3).
-pub fn method_named(class: &ClassFile, name: &Text16, descriptor: &Text16) -> Option<usize>
-    ensures found { result ≡ method_named class.now (name_type_of name.now descriptor.now) }
-    ensures within { IfSome result (λ at. at < length class.now.methods) }
-{
-    for (at, method) in class.methods.as_slice().iter().enumerate() {
-        if is_member(&class.pool, name, descriptor, method) {
-            return Some(at);
-        }
-    }
-    None
-}
 
 /// Whether an entry is the text of these bytes.
 fn are_bytes_at(pool: &Pool, index: u16, bytes: &[u8]) -> bool
@@ -79,25 +48,6 @@ pub fn is_reference(member: &MemberRef<'_>, class: &[u8], name: &[u8], descripto
     member.class.is_bytes(class)
         && member.name.is_bytes(name)
         && member.descriptor.is_bytes(descriptor)
-}
-
-/// Whether a field is System.out.
-pub fn is_out(reference: &MemberRef<'_>) -> bool
-    ensures { result ≡ is_out (reference_view reference.now) }
-{
-    is_reference(
-        reference,
-        b"java/lang/System",
-        b"out",
-        b"Ljava/io/PrintStream;",
-    )
-}
-
-/// Whether a method is PrintStream.println of an int.
-pub fn is_println(reference: &MemberRef<'_>) -> bool
-    ensures { result ≡ is_println (reference_view reference.now) }
-{
-    is_reference(reference, b"java/io/PrintStream", b"println", b"(I)V")
 }
 
 /// What a Fieldref names.

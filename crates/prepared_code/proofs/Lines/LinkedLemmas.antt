@@ -17,12 +17,6 @@ use Rattle.prepared_code.proofs.Lines.CellLemmas.{known-later, learnt-kept, rene
 pub same-linker : (r new : RuntimeView) → new.world ≡ r.world → new.shared.loaded ≡ r.shared.loaded → linker_in new ≡ linker_in r
 same-linker r new world loaded = ap₂ (λ (w : World) (classes : List ℕ). let l : LinkerView = record { program = w.program; loaded = classes } in l) world loaded
 
--- where nothing is loaded
-pub named-same : (r new : RuntimeView) (line : Line) (k : Known) → new.world ≡ r.world → new.shared.loaded ≡ r.shared.loaded
-    → IfNamedBy line.action line.next (λ n next. IsKnown (linker_in r) n k) → IfNamedBy line.action line.next (λ n next. IsKnown (linker_in new) n k)
-named-same r new line k world loaded is =
-    subst (λ l. IfNamedBy line.action line.next (λ n next. IsKnown l n k)) (sym (same-linker r new world loaded)) is
-
 pub linked-later : (o : Linked) (r new : RuntimeView) → new.world ≡ r.world → IsLater (linker_in r) (linker_in new) → IsLinked o r → IsLinked o new
 linked-later o r new world later is = record {
   program = ap (λ (w : World). w.program) world ∙ is.program;
