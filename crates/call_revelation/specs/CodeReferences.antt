@@ -9,8 +9,8 @@ use Rattle.jvm_model.specs.declared.instruction.SymbolicReference.{SymbolicRefer
 use Rattle.jvm_model.specs.Codes.Lines.{operation_of}
 use Rattle.jvm_model.specs.Basis.Methods.{code_of}
 use Rattle.jvm_model.specs.Codes.Places.{read_from}
-use Rattle.prepared_code.specs.declared.line.Action.{Action}
-use Rattle.prepared_code.specs.declared.line.Action.TheVariants as action
+use Rattle.prepared_lines.specs.declared.line.Action.{Action}
+use Rattle.prepared_lines.specs.declared.line.Action.TheVariants as action
 use Rattle.jvm_model.specs.Profiling.Revelation.{symbolic_reference_in}
 
 -- what a line names, where it can begin a method

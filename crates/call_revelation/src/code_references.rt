@@ -15,7 +15,7 @@ use code_model::{Instr, instr_at};
 use const_pool::{ClassFile, Member};
 use jf_bytes::{NoMemory, Seq};
 use jvm_model::{Program, SymbolicReference, code_of};
-use prepared_code::{Action, Line, line_of};
+use prepared_lines::{Action, Line, line_of};
 use std::alloc::Global;
 
 /// What names something and can begin a method.

@@ -1,5 +1,4 @@
 pub mod LineFamilies
-pub mod Actions
 pub mod CellLemmas
 pub mod LinkedLemmas
 pub mod Tied

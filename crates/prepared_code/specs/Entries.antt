@@ -13,11 +13,11 @@ use Rattle.jvm_model.specs.declared.program.MethodPlace.{MethodPlace}
 use Rattle.jvm_model.specs.declared.program.Program.{Program}
 use Rattle.jvm_model.specs.Basis.Methods.{code_of, member_shape}
 use Rattle.jvm_model.specs.Basis.Programs.{class_at}
-use Rattle.prepared_code.specs.declared.line.Line.{Line}
+use Rattle.prepared_lines.specs.declared.line.Line.{Line}
 use Rattle.symbolic_references.specs.declared.program_tables.Method.{Method}
 use Rattle.prepared_code.specs.declared.versions.Catching.{Catching}
 use Rattle.prepared_code.specs.Tables.{Version, Versions}
-use Rattle.prepared_code.specs.Lines.{line_of}
+use Rattle.prepared_lines.specs.Lines.{line_of}
 
 -- ---- of a method of a class
 

@@ -13,8 +13,8 @@ use Rattle.jvm_model.specs.Soundness.Sound.{IsFit}
 use Rattle.jvm_model.specs.declared.state.Entry.{Entry}
 use Rattle.jvm_model.specs.declared.state.State.{State}
 use Rattle.jvm_basic.specs.Rules.{datum_in, outcome_placed, rule_of}
-use Rattle.prepared_code.specs.declared.line.Line.{Line}
-use Rattle.prepared_code.specs.Lines.{action_of}
+use Rattle.prepared_lines.specs.declared.line.Line.{Line}
+use Rattle.prepared_lines.specs.Lines.{action_of}
 use Rattle.jvm_model.specs.Soundness.SoundListings.{IsSound, IsSoundEntry, IsSoundListing}
 use Rattle.prepared_code.specs.Versions.{Setup, line_at, method_of, next_in, operation_in, listing_of}
 

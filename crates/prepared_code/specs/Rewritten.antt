@@ -1,22 +1,17 @@
 -- The version that rewritten code is: at the home of each offset the line that goes with it, behind the leave probe if one stands there.
 use Rattle.std.specs.Prelude.{ℕ, ◌-◌, nat_lt, List, length, map, take, Option, None, true, if◌then◌else◌}
 use Rattle.std.specs.List.{range_with_len}
-use Rattle.std.specs.Option.{option_and_then, option_map, option_map_or}
+use Rattle.std.specs.Option.{option_and_then, option_map}
 use Rattle.const_pool.specs.declared.class.ClassFile.{ClassFile}
 use Rattle.const_pool.specs.declared.class.CodeAttribute.{CodeAttribute}
 use Rattle.code_model.specs.declared.laying.Homes.{Homes}
-use Rattle.code_model.specs.Instructions.{instruction_at}
 use Rattle.code_model.specs.Layout.{home_of, place_in}
-use Rattle.prepared_code.specs.declared.line.Line.{Line}
+use Rattle.prepared_lines.specs.declared.line.Line.{Line}
 use Rattle.prepared_code.specs.declared.versions.Catching.{Catching}
 use Rattle.prepared_code.specs.Tables.{Version}
 use Rattle.prepared_code.specs.Entries.{catching_of, code_line}
-use Rattle.jvm_model.specs.declared.event.EventKind.{EventKind}
-use Rattle.jvm_model.specs.declared.event.EventKind.TheVariants as kind
-use Rattle.jvm_model.specs.declared.event.Mark.{Mark}
-use Rattle.jvm_model.specs.declared.event.Mark.TheVariants.{Off, Plain, Root}
 use Rattle.jvm_model.specs.Codes.Homed.{start_in}
-use Rattle.jvm_model.specs.Rewriting.StandsFor.{invoked_probe}
+use Rattle.prepared_lines.specs.Probes.{entry_mark}
 
 -- with the offset that it has in the original code
 abbrev pub own_line : ℕ → Line → Line
@@ -37,19 +32,6 @@ homed_line image code homes len home = option_and_then (line_for image code home
 
 abbrev pub homed_lines : ClassFile → List ℕ → Homes → ℕ → List (Option Line)
 homed_lines image code homes len = map (homed_line image code homes len) (range_with_len 0 (length code))
-
--- ---- whose probes it has
-
--- whose entry probe is of this kind
-abbrev pub mark_of_kind : EventKind → Mark
-mark_of_kind kind.Root = Root
-mark_of_kind kind.Enter = Plain
-mark_of_kind kind.Leave = Off
-mark_of_kind kind.Unwind = Off
-
--- The probe at a code's entry tells: it invokes a method behind sipush, which has three bytes.
-abbrev pub entry_mark : ClassFile → List ℕ → Mark
-entry_mark image code = option_map_or mark_of_kind (option_and_then (invoked_probe image) (instruction_at code 3)) Off
 
 -- ---- the version
 

@@ -16,10 +16,11 @@ use Rattle.jvm_model.specs.declared.family.Family.{Family}
 use Rattle.jvm_model.specs.declared.family.Family.TheVariants as family
 use Rattle.jvm_basic.specs.Rules.{datum_in}
 use Rattle.member_selection.specs.Objects.{HasDimensions}
-use Rattle.prepared_code.specs.Lines.{IfNamedBy, hot_in}
-use Rattle.prepared_code.specs.declared.line.Action.{Action}
-use Rattle.prepared_code.specs.declared.line.Action.TheVariants as action
-use Rattle.prepared_code.specs.declared.line.Line.{Line}
+use Rattle.prepared_code.specs.Lines.{IfNamedBy}
+use Rattle.prepared_lines.specs.Lines.{hot_in}
+use Rattle.prepared_lines.specs.declared.line.Action.{Action}
+use Rattle.prepared_lines.specs.declared.line.Action.TheVariants as action
+use Rattle.prepared_lines.specs.declared.line.Line.{Line}
 use Rattle.prepared_code.specs.declared.versions.Catching.{Catching}
 use Rattle.prepared_code.specs.Tables.{Version, Versions, version_at}
 

@@ -7,13 +7,12 @@ ghost use Rattle.class_linker.specs.Linkers.{IsAnswer, load_answer, loaded_by};
 ghost use Rattle.jvm_model.specs.Basis.Programs.{class_at, has_built_in_name, name_at, name_of};
 ghost use Rattle.prepared_code.specs.Prepared.{built_in_then, load_built_in, main_name};
 
-use crate::lookup::main_class;
-use crate::symbolic_reference::copy_of;
 use base_classes::is_built_in;
 use class_linker::{Linker, Loaded};
 use const_pool::ClassFile;
 use jf_bytes::{NoMemory, Text16};
 use jvm_model::Program;
+use prepared_lines::{copy_of, main_class};
 use std::alloc::Global;
 
 /// Whether a class has the name of a built-in one.

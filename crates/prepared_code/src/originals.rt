@@ -29,7 +29,6 @@ mod beginning;
 
 use crate::cells::Cells;
 use crate::class_versions::class_versions;
-use crate::line::Line;
 use crate::passage::{Passage, passage_in};
 use crate::preparing::{bare_versions, original_version};
 use crate::versions::{
@@ -43,6 +42,7 @@ use frame_stack::Frames;
 use jf_bytes::{NoMemory, Seq};
 use jvm_model::{Mark, Program};
 use member_selection::{Known, MethodNumbers};
+use prepared_lines::Line;
 use std::alloc::Global;
 use std::marker::Model;
 use std::rc::Rc;

@@ -6,9 +6,9 @@ ghost use Rattle.prepared_code.specs.Making.{passage_of};
 ghost use Rattle.prepared_code.specs.Versions.{ArePrepared, IsPrepared, is_athrow, is_last_family, line_in, next_in};
 ghost use Rattle.jvm_model.specs.Basis.Families.{family_of};
 
-use crate::line::{Action, Line};
 use crate::versions::{Version, line_in};
 use jvm_model::Family;
+use prepared_lines::{Action, Line};
 
 /// Whether control never goes on behind an instruction of this family.
 fn is_last(family: Family) -> bool

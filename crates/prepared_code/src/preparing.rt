@@ -12,11 +12,6 @@ ghost use Rattle.prepared_code.specs.Entries.{version_entry, version_of};
 ghost use Rattle.prepared_code.specs.Prepared.{FitsOriginals, HasShortCode};
 ghost use Rattle.symbolic_references.specs.ProgramFacts.{AreTablesOf, exception_in, exception_kind};
 
-use crate::descriptor::shape_of;
-use crate::line::Line;
-use crate::objects::kind_for;
-use crate::resolving::line_of;
-use crate::symbolic_reference::class_in;
 use crate::versions::{Catching, PreparedCode, Version, Versions};
 use code_model::instr_at;
 use const_pool::{ClassFile, Handler, Kind, Member};
@@ -24,6 +19,7 @@ use jf_bytes::{NoMemory, Seq, Text16};
 use jvm_model::{Mark, MethodPlace, Program, code_of};
 use member_selection::MethodNumbers;
 use method_versions::Held;
+use prepared_lines::{Line, class_in, kind_for, line_of, shape_of};
 use std::alloc::Global;
 use symbolic_references::{Exceptions, Method, ProgramTables};
 

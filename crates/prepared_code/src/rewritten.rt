@@ -6,14 +6,13 @@ ghost use Rattle.code_model.specs.Layout.{found_beside};
 ghost use Rattle.prepared_code.specs.Rewritten.{homed_line, homed_lines, line_for, own_handlers, own_line, placed_line};
 ghost use Rattle.prepared_code.specs.Rewritten.{rewritten_version};
 
-use crate::line::Line;
 use crate::preparing::{code_line, handlers_of};
-use crate::probes::entry_mark;
 use crate::versions::{Catching, PreparedCode, Version};
 use code_model::Homes;
 use const_pool::{ClassFile, CodeAttribute};
 use jf_bytes::{NoMemory, Seq};
 use method_versions::Held;
+use prepared_lines::{Line, entry_mark};
 use std::alloc::Global;
 
 /// What stands beside a number among numbers that rise; it is found by halves.

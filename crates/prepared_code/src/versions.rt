@@ -8,12 +8,12 @@ ghost use Rattle.prepared_code.specs.Making.{HasItsLines, IsReplaced, has_lines,
 ghost use Rattle.prepared_code.specs.Tables.{Adds, AreAllCurrent, AreOfMethods, Releases, table_seen, version_at};
 ghost use Rattle.prepared_code.specs.Versions.{current_of, first_of, line_at, line_in, mark_of};
 
-use crate::line::Line;
 use class_index::Index;
 use frame_stack::Frames;
 use jf_bytes::{NoMemory, Seq, Text16};
 use jvm_model::Mark;
 use method_versions::{Held, Versions as Table};
+use prepared_lines::Line;
 use std::alloc::Global;
 use std::marker::Model;
 use std::rc::Rc;

@@ -25,9 +25,9 @@ use Rattle.jvm_model.specs.Basis.SharedState.{Allocated, class_of, exception_rai
 use Rattle.jvm_model.specs.Basis.Values.{as_value, int_of, ref_of, with_value}
 use Rattle.jvm_basic.specs.Outcomes.{Outcome as Comes, GoesOn as Goes, Raises as Divides, Breaks as Fails, Leaves}
 use Rattle.jvm_basic.specs.Rules.{rule_of}
-use Rattle.prepared_code.specs.declared.line.Action.{Action}
-use Rattle.prepared_code.specs.declared.line.Action.TheVariants as action
-use Rattle.prepared_code.specs.declared.line.Line.{Line}
+use Rattle.prepared_lines.specs.declared.line.Action.{Action}
+use Rattle.prepared_lines.specs.declared.line.Action.TheVariants as action
+use Rattle.prepared_lines.specs.declared.line.Line.{Line}
 use Rattle.prepared_code.specs.declared.initializations.Initialization.{Initialization}
 use Rattle.prepared_code.specs.declared.parts.Parts.{Parts}
 use Rattle.interpreter.specs.Instructions.Acts.{placed_line, comes_to, resumes_line, gives_back_line, returns_or_ends, acts_return, acts_by, acts, is_named, acts_end, ends_initializer}

@@ -8,7 +8,7 @@ use Rattle.jvm_model.specs.Instructions.LocalRules.{by_zero}
 use Rattle.jvm_basic.specs.declared.effect.Effect.TheVariants.{Next, Throws, Bad, Other}
 use Rattle.jvm_basic.specs.Outcomes.{Outcome, GoesOn, Raises, Breaks, Leaves, effect_in, frames_in, with_top, outcome_asked, effect_of, after}
 use Rattle.jvm_basic.specs.Rules.{rule_of}
-use Rattle.prepared_code.specs.declared.line.Line.{Line}
+use Rattle.prepared_lines.specs.declared.line.Line.{Line}
 use Rattle.prepared_code.specs.declared.parts.Parts.{Parts}
 use Rattle.jvm_model.specs.declared.exception.Exception.TheVariants.{Arithmetic}
 use Rattle.interpreter.specs.Instructions.Acts.{IsTop, comes_to, acts_alone, on_top, on_parts, run_ended, raising}

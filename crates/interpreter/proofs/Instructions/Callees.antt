@@ -18,7 +18,7 @@ use Rattle.jvm_model.specs.Basis.Values.{data_of, datum_of, arguments_spread}
 use Rattle.jvm_model.specs.Instructions.Rules.{invokes as invokes_outcome}
 use Rattle.jvm_model.specs.Running.Applies.{still, breaks, begins, live_in, most_live, with_frame, applies}
 use Rattle.prepared_code.specs.declared.parts.Parts.{Parts}
-use Rattle.prepared_code.specs.declared.line.Line.{Line}
+use Rattle.prepared_lines.specs.declared.line.Line.{Line}
 use Rattle.jvm_model.specs.declared.exception.Exception.TheVariants.{StackOverflow}
 use Rattle.interpreter.specs.Instructions.Acts.{run_ended, placed_line, raising}
 use Rattle.interpreter.specs.Instructions.Invoking.{method_called, may_begin}

@@ -17,7 +17,7 @@ use Rattle.member_selection.specs.declared.outcome.Outcome.TheVariants as given
 use Rattle.member_selection.specs.declared.outcome.AbruptCompletion.TheVariants as refusal
 use Rattle.member_selection.specs.Going.{gone, holds, left_with}
 use Rattle.member_selection.specs.Outcomes.{outcome_view}
-use Rattle.prepared_code.specs.declared.line.Line.{Line}
+use Rattle.prepared_lines.specs.declared.line.Line.{Line}
 use Rattle.prepared_code.specs.declared.parts.Parts.{Parts}
 use Rattle.prepared_code.specs.States.{state_with}
 use Rattle.prepared_code.specs.Versions.{Setup}

@@ -21,9 +21,9 @@ use Rattle.jvm_model.specs.Basis.Values.{as_value, ref_of}
 use Rattle.jvm_basic.specs.declared.effect.Effect.TheVariants.{Next}
 use Rattle.jvm_basic.specs.Outcomes.{GoesOn as Goes, Rule, after, outcome_asked, effect_of, frames_in}
 use Rattle.jvm_basic.specs.Rules.{replaces, rule_of}
-use Rattle.prepared_code.specs.declared.line.Action.TheVariants as action
+use Rattle.prepared_lines.specs.declared.line.Action.TheVariants as action
 use Rattle.symbolic_references.specs.Runtimes.{with_shared}
-use Rattle.prepared_code.specs.declared.line.Line.{Line}
+use Rattle.prepared_lines.specs.declared.line.Line.{Line}
 use Rattle.prepared_code.specs.declared.initializations.Initialization.{Initialization}
 use Rattle.prepared_code.specs.declared.parts.Here.{Here}
 use Rattle.prepared_code.specs.declared.parts.Parts.{Parts}

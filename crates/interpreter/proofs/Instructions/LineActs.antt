@@ -38,11 +38,11 @@ use Rattle.jvm_model.specs.Basis.StackForms.{forms_of}
 use Rattle.jvm_model.specs.Basis.Values.{datum_of, local_loaded, local_in, int_of, ref_of, managed_stack}
 use Rattle.jvm_basic.specs.Rules.{goes_at, outcome_placed}
 use Rattle.jvm_basic.proofs.Asked.{is_simple, pushes-simple, replaces-simple, leaves-simple, stores-simple, increments-simple}
-use Rattle.prepared_code.specs.declared.line.Action.{Action}
-use Rattle.prepared_code.specs.declared.line.Action.TheVariants as action
-use Rattle.prepared_code.specs.declared.line.Line.{Line}
+use Rattle.prepared_lines.specs.declared.line.Action.{Action}
+use Rattle.prepared_lines.specs.declared.line.Action.TheVariants as action
+use Rattle.prepared_lines.specs.declared.line.Line.{Line}
 use Rattle.interpreter.specs.Instructions.Acts.{placed_line, comes_to, acts_alone, acts_asked, acts_done, resumes_line, gives_back_line, returns_or_ends, acts_return, acts_by, acts, class_awaited, ready_for, with_done}
-use Rattle.prepared_code.specs.Lines.{action_of, local_action}
+use Rattle.prepared_lines.specs.Lines.{action_of, local_action}
 use Rattle.prepared_code.specs.Ready.{IsRuleOf, IsTied}
 use Rattle.prepared_code.specs.Tables.{Versions}
 use Rattle.prepared_code.specs.Versions.{Setup, listing_of, line_at, instruction_by, instruction_in}

@@ -21,9 +21,9 @@ use Rattle.jvm_model.specs.Instructions.ObjectRules.{Access, ToNull, ToAnother, 
 use Rattle.jvm_model.specs.Running.Constants.{can_intern}
 use Rattle.jvm_model.specs.Running.Run.{starts}
 use Rattle.symbolic_references.specs.Runtimes.{RuntimeView, with_shared}
-use Rattle.prepared_code.specs.declared.line.Action.{Action}
-use Rattle.prepared_code.specs.declared.line.Action.TheVariants as action
-use Rattle.prepared_code.specs.declared.line.Line.{Line}
+use Rattle.prepared_lines.specs.declared.line.Action.{Action}
+use Rattle.prepared_lines.specs.declared.line.Action.TheVariants as action
+use Rattle.prepared_lines.specs.declared.line.Line.{Line}
 use Rattle.prepared_code.specs.declared.parts.Parts.{Parts}
 use Rattle.prepared_code.specs.Linked.{Linked, setup_in}
 use Rattle.prepared_code.specs.States.{frame_in, state_in, state_with}

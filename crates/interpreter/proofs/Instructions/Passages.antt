@@ -8,7 +8,7 @@ use Rattle.heap_objects.specs.declared.datum.Datum.{Datum}
 use Rattle.jvm_model.specs.Basis.Data.{Instruction}
 use Rattle.jvm_model.specs.declared.state.Frame.{Frame}
 use Rattle.jvm_model.specs.declared.state.State.{State}
-use Rattle.prepared_code.specs.declared.line.Line.{Line}
+use Rattle.prepared_lines.specs.declared.line.Line.{Line}
 use Rattle.prepared_code.specs.declared.passage.Passage.{Passage}
 use Rattle.prepared_code.specs.declared.parts.Here.{Here}
 use Rattle.prepared_code.specs.Making.{passage_of}

@@ -23,9 +23,9 @@ use Rattle.jvm_model.specs.Basis.SharedState.{null, exception_raised, stack_over
 use Rattle.jvm_model.specs.Basis.Values.{as_value, int_of, ref_of, with_value}
 use Rattle.jvm_basic.specs.Outcomes.{Outcome as Comes, GoesOn as Goes, Raises as Divides, Breaks as Fails, Leaves}
 use Rattle.jvm_basic.specs.Rules.{rule_of}
-use Rattle.prepared_code.specs.declared.line.Action.{Action}
-use Rattle.prepared_code.specs.declared.line.Action.TheVariants as action
-use Rattle.prepared_code.specs.declared.line.Line.{Line}
+use Rattle.prepared_lines.specs.declared.line.Action.{Action}
+use Rattle.prepared_lines.specs.declared.line.Action.TheVariants as action
+use Rattle.prepared_lines.specs.declared.line.Line.{Line}
 use Rattle.interpreter.specs.Instructions.Acts.{acts_by, acts_named, attempts_line, comes_to, gives_back_line, is_named, named_done, placed_line, ready_for, resumes_line, returns_or_ends, with_done}
 use Rattle.jvm_model.proofs.Loading.LoadedMoves.{made-loaded}
 use Rattle.interpreter.proofs.Instructions.NamedLaws.{is-named}

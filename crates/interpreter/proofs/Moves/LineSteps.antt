@@ -24,7 +24,7 @@ use Rattle.jvm_model.specs.Running.Run.{tries, is_ready, goes_again, steps_by, s
 use Rattle.jvm_model.specs.Basis.SharedState.{phase_of, with_phase}
 use Rattle.jvm_model.proofs.Running.Attempts.{loaded-after}
 use Rattle.jvm_model.proofs.Running.QuietSettles.{stops}
-use Rattle.prepared_code.specs.declared.line.Line.{Line}
+use Rattle.prepared_lines.specs.declared.line.Line.{Line}
 use Rattle.prepared_code.specs.declared.initializations.Initialization.{Initialization}
 use Rattle.prepared_code.specs.declared.parts.Parts.{Parts}
 use Rattle.interpreter.specs.Instructions.Acts.{acts, acts_asked, acts_by, acts_named, attempts_line, attempts_on, class_awaited, awaited_by, awaited_in, awaited_on, is_at_rest, goes_on_in, named_done, ready_for, with_done}

@@ -28,12 +28,13 @@ use Rattle.prepared_code.specs.Ready.{CanRun, IsSoundEntryIn, IsSoundIn, IsTied,
 use Rattle.class_linker.specs.Linkers.{LinkerView}
 use Rattle.member_selection.specs.Arrays.{IsPrimitiveArray}
 use Rattle.member_selection.specs.Objects.{HasLoadedCaller}
-use Rattle.prepared_code.specs.declared.line.Line.{Line}
+use Rattle.prepared_lines.specs.declared.line.Line.{Line}
 use Rattle.prepared_code.specs.declared.initializations.Initialization.{Initialization}
 use Rattle.prepared_code.specs.declared.parts.Here.{Here}
 use Rattle.prepared_code.specs.declared.parts.Parts.{Parts}
 use Rattle.interpreter.specs.Instructions.Acts.{IfNewarray, acts, attempts_line, attempts_on, with_done}
-use Rattle.prepared_code.specs.Lines.{IfNamed, IfNamedBy, action_of, local_action}
+use Rattle.prepared_code.specs.Lines.{IfNamed, IfNamedBy}
+use Rattle.prepared_lines.specs.Lines.{action_of, local_action}
 use Rattle.prepared_code.specs.Initializations.{initialization_on, stack_of, state_of}
 use Rattle.prepared_code.specs.States.{active, here_of}
 use Rattle.interpreter.proofs.Instructions.LineActs.{readied, done_there, steps-as, with-loaded}

@@ -35,12 +35,12 @@ use Rattle.jvm_model.specs.Turns.StepPauses.{again_pause, instruction_attempted,
 use Rattle.jvm_model.proofs.Turns.AttemptPauses.{breaks-pause, goes-again, goes-once, leaves, settled-there, stays-once}
 use Rattle.jvm_model.proofs.Running.ChangesBetween.{applies-tell}
 use Rattle.jvm_model.proofs.Turns.LoopOfPauses.{paused-move}
-use Rattle.prepared_code.specs.declared.line.Action.TheVariants as action
-use Rattle.prepared_code.specs.declared.line.Line.{Line}
+use Rattle.prepared_lines.specs.declared.line.Action.TheVariants as action
+use Rattle.prepared_lines.specs.declared.line.Line.{Line}
 use Rattle.prepared_code.specs.declared.initializations.Initialization.{Initialization}
 use Rattle.prepared_code.specs.declared.parts.Parts.{Parts}
 use Rattle.interpreter.specs.Instructions.Acts.{acts, acts_by, attempts_line, attempts_on, class_awaited, awaited_by, awaited_in, awaited_on, goes_on_in}
-use Rattle.prepared_code.specs.Lines.{action_of, local_action}
+use Rattle.prepared_lines.specs.Lines.{action_of, local_action}
 use Rattle.prepared_code.specs.Initializations.{initializing_entry, initialization_on, stack_of, state_of}
 use Rattle.prepared_code.specs.Ready.{CanRun, IsSoundIn, IsTied}
 use Rattle.prepared_code.specs.States.{active, frame_in}

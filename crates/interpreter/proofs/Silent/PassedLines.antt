@@ -15,12 +15,12 @@ use Rattle.jvm_basic.specs.Outcomes.{after, effect_of}
 use Rattle.jvm_basic.specs.Rules.{rule_of}
 use Rattle.jvm_basic.proofs.Exact.{kept-unless-next}
 use Rattle.jvm_basic.proofs.HotLines.{hot-after, hot-effect, no-element}
-use Rattle.prepared_code.specs.declared.line.Action.{Action}
-use Rattle.prepared_code.specs.declared.line.Action.TheVariants as action
-use Rattle.prepared_code.specs.declared.line.Line.{Line}
+use Rattle.prepared_lines.specs.declared.line.Action.{Action}
+use Rattle.prepared_lines.specs.declared.line.Action.TheVariants as action
+use Rattle.prepared_lines.specs.declared.line.Line.{Line}
 use Rattle.prepared_code.specs.declared.parts.Parts.{Parts}
 use Rattle.interpreter.specs.Instructions.Elements.{IsLoaded, IsPassed, IsStored, is_plain}
-use Rattle.prepared_code.specs.Lines.{hot_in}
+use Rattle.prepared_lines.specs.Lines.{hot_in}
 use Rattle.prepared_code.specs.Ready.{CanRun}
 use Rattle.prepared_code.specs.Runs.{IsPlainLine, LeadsAlone, top_version}
 use Rattle.prepared_code.specs.Versions.{IsPrepared, Setup}

@@ -38,8 +38,8 @@ use Rattle.symbolic_references.specs.Passing.{IsCall}
 use Rattle.symbolic_references.specs.Runtimes.{after}
 use Rattle.member_selection.specs.Targets.{data_in}
 use Rattle.interpreter.proofs.Instructions.Arguments.{length-data}
-use Rattle.prepared_code.specs.declared.line.Action.TheVariants as action
-use Rattle.prepared_code.specs.declared.line.Line.{Line}
+use Rattle.prepared_lines.specs.declared.line.Action.TheVariants as action
+use Rattle.prepared_lines.specs.declared.line.Line.{Line}
 use Rattle.prepared_code.specs.declared.initializations.Initialization.{Initialization}
 use Rattle.prepared_code.specs.declared.parts.Here.{Here}
 use Rattle.prepared_code.specs.declared.parts.Parts.{Parts}

@@ -26,8 +26,8 @@ use Rattle.member_selection.specs.Attempts.{attempts, loads_nothing, shared_load
 use Rattle.member_selection.specs.Outcomes.{ruled}
 use Rattle.symbolic_references.specs.Runtimes.{RuntimeView, after}
 use Rattle.symbolic_references.specs.Passing.{HasPassed, IfPassed, IsNativeCall, runs_native_call}
-use Rattle.prepared_code.specs.declared.line.Action.TheVariants as action
-use Rattle.prepared_code.specs.declared.line.Line.{Line}
+use Rattle.prepared_lines.specs.declared.line.Action.TheVariants as action
+use Rattle.prepared_lines.specs.declared.line.Line.{Line}
 use Rattle.prepared_code.specs.declared.initializations.Initialization.{Initialization}
 use Rattle.prepared_code.specs.declared.parts.Here.{Here}
 use Rattle.prepared_code.specs.declared.parts.Parts.{Parts}

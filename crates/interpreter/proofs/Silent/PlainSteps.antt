@@ -11,8 +11,8 @@ use Rattle.jvm_model.specs.Running.Run.{step}
 use Rattle.jvm_basic.specs.declared.effect.Effect.TheVariants.{Next}
 use Rattle.jvm_basic.specs.Outcomes.{Outcome, GoesOn, Raises, Breaks, Leaves, frames_in, with_top, outcome_asked, effect_of, after}
 use Rattle.jvm_basic.specs.Rules.{rule_of}
-use Rattle.prepared_code.specs.declared.line.Action.TheVariants as action
-use Rattle.prepared_code.specs.declared.line.Line.{Line}
+use Rattle.prepared_lines.specs.declared.line.Action.TheVariants as action
+use Rattle.prepared_lines.specs.declared.line.Line.{Line}
 use Rattle.prepared_code.specs.declared.initializations.Initialization.{Initialization}
 use Rattle.prepared_code.specs.declared.parts.Here.{Here}
 use Rattle.prepared_code.specs.declared.parts.Parts.{Parts}

@@ -26,8 +26,8 @@ use Rattle.jvm_model.proofs.Running.QuietSettles.{stops}
 use Rattle.jvm_basic.specs.declared.effect.Effect.TheVariants.{Next}
 use Rattle.jvm_basic.specs.Outcomes.{effect_in}
 use Rattle.jvm_basic.specs.Rules.{outcome_placed, rule_of}
-use Rattle.prepared_code.specs.declared.line.Action.TheVariants as action
-use Rattle.prepared_code.specs.declared.line.Line.{Line}
+use Rattle.prepared_lines.specs.declared.line.Action.TheVariants as action
+use Rattle.prepared_lines.specs.declared.line.Line.{Line}
 use Rattle.prepared_code.specs.declared.initializations.Initialization.{Initialization}
 use Rattle.prepared_code.specs.declared.parts.Parts.{Parts}
 use Rattle.prepared_code.specs.Initializations.{stack_of, with_initializations}

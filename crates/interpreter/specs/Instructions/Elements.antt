@@ -15,9 +15,9 @@ use Rattle.interpreter.specs.declared.execute.elements.Led.{Led}
 use Rattle.interpreter.specs.declared.execute.elements.Led.TheVariants as led
 use Rattle.interpreter.specs.declared.execute.elements.ArrayElement.{ArrayElement}
 use Rattle.interpreter.specs.declared.execute.elements.Storing.{Storing as TheStoring}
-use Rattle.prepared_code.specs.declared.line.Action.{Action}
-use Rattle.prepared_code.specs.declared.line.Action.TheVariants as action
-use Rattle.prepared_code.specs.declared.line.Line.{Line}
+use Rattle.prepared_lines.specs.declared.line.Action.{Action}
+use Rattle.prepared_lines.specs.declared.line.Action.TheVariants as action
+use Rattle.prepared_lines.specs.declared.line.Line.{Line}
 use Rattle.prepared_code.specs.declared.parts.Parts.{Parts}
 use Rattle.symbolic_references.specs.Runtimes.{with_heap}
 

@@ -12,9 +12,9 @@ use Rattle.jvm_model.specs.Turns.Told.{mark_now}
 use Rattle.jvm_model.specs.Running.Between.{changes_between, depths_compared, attempt_followed}
 use Rattle.jvm_model.specs.Turns.Pauses.{Pause, changes_due}
 use Rattle.jvm_model.specs.Turns.StepPauses.{is_nothing, step_pause}
-use Rattle.prepared_code.specs.declared.line.Action.{Action}
-use Rattle.prepared_code.specs.declared.line.Action.TheVariants as action
-use Rattle.prepared_code.specs.declared.line.Line.{Line}
+use Rattle.prepared_lines.specs.declared.line.Action.{Action}
+use Rattle.prepared_lines.specs.declared.line.Action.TheVariants as action
+use Rattle.prepared_lines.specs.declared.line.Line.{Line}
 use Rattle.prepared_code.specs.Tables.{Versions}
 use Rattle.prepared_code.specs.Versions.{Setup, line_at, listing_of, mark_of}
 

@@ -14,7 +14,8 @@ use jf_bytes::NoMemory;
 use jvm_basic::{Effect, ref_of, replace};
 use jvm_model::Exception;
 use member_selection::{AbruptCompletion, Outcome};
-use prepared_code::{Line, Parts};
+use prepared_code::Parts;
+use prepared_lines::Line;
 use symbolic_references::Runtime;
 
 /// The greatest int.

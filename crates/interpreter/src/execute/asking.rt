@@ -19,7 +19,8 @@ use heap_objects::Value;
 use jf_bytes::{NoMemory, Text16};
 use jvm_model::{Ending, Exception};
 use member_selection::{AbruptCompletion, Outcome, apply};
-use prepared_code::{Line, Originals, Parts};
+use prepared_code::{Originals, Parts};
+use prepared_lines::Line;
 
 /// Throws an exception that the instruction raises, with its message.
 pub fn raise_named(

@@ -31,9 +31,8 @@ use jf_bytes::{NoMemory, Stack};
 use jvm_basic::{Effect, basic_by};
 use jvm_model::Exception;
 use member_selection::{AbruptCompletion, Outcome};
-use prepared_code::{
-    Action, Here, Initialization, Line, Originals, Parts, initialization_on, where_now,
-};
+use prepared_code::{Here, Initialization, Originals, Parts, initialization_on, where_now};
+use prepared_lines::{Action, Line};
 use std::alloc::Global;
 use symbolic_references::Runtime;
 

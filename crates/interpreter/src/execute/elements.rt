@@ -29,7 +29,8 @@ use jvm_basic::{Effect, drop_narrow, drop_three, exchange_two, recall, replace_t
 use jvm_model::Exception;
 use member_selection::{AbruptCompletion, Outcome, datum_of};
 use native_effects::units_of;
-use prepared_code::{Line, Parts, fits_array};
+use prepared_code::{Parts, fits_array};
+use prepared_lines::Line;
 use std::alloc::Global;
 use symbolic_references::Runtime;
 

@@ -12,7 +12,7 @@ use heap_objects::{Datum, Value};
 pub use jvm_basic::value_of;
 use jvm_basic::{Effect, go_on, put, recall};
 use member_selection::datum_of;
-use prepared_code::{Action, Line};
+use prepared_lines::{Action, Line};
 
 /// Goes on as it is.
 fn keep(frames: &mut Frames, next: u16) -> Effect

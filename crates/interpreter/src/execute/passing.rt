@@ -12,7 +12,7 @@ ghost use Rattle.jvm_model.specs.Basis.Values.{as_value};
 ghost use Rattle.jvm_model.specs.Rewriting.Images.{is_off};
 ghost use Rattle.jvm_model.specs.declared.due.Due.TheVariants as due;
 ghost use Rattle.member_selection.specs.Known.{IsKnown};
-ghost use Rattle.prepared_code.specs.declared.line.Action.TheVariants as action;
+ghost use Rattle.prepared_lines.specs.declared.line.Action.TheVariants as action;
 ghost use Rattle.interpreter.specs.Instructions.Arguments.{can_begin, with_begun};
 ghost use Rattle.interpreter.specs.Instructions.Invoking.{may_begin};
 ghost use Rattle.prepared_code.specs.Initializations.{state_of};
@@ -46,9 +46,9 @@ use jvm_basic::recall;
 use jvm_model::{Due, EventKind, Mark, SymbolicReference};
 use member_selection::{Found, Known};
 use prepared_code::{
-    Action, Here, Initialization, Line, Originals, Parts, Version, initialization_on, next_in,
-    where_now,
+    Here, Initialization, Originals, Parts, Version, initialization_on, next_in, where_now,
 };
+use prepared_lines::{Action, Line};
 use symbolic_references::{Call, Invoked};
 
 // ---- a call

@@ -26,7 +26,8 @@ use jvm_basic::{
     store_int, store_to,
 };
 use jvm_model::Test;
-use prepared_code::{Action, Line, Originals, Parts, Version, line_in, where_now};
+use prepared_code::{Originals, Parts, Version, line_in, where_now};
+use prepared_lines::{Action, Line};
 
 /// The version that the current frame runs. None where there is no frame, or its lines are still to
 /// be made.

@@ -13,7 +13,8 @@ use const_pool::Kind;
 use frame_stack::Frames;
 use heap_objects::Datum;
 use jf_bytes::NoMemory;
-use prepared_code::{Line, Originals, Parts, Passage, where_now};
+use prepared_code::{Originals, Parts, Passage, where_now};
+use prepared_lines::Line;
 use std::alloc::Global;
 
 /// What is on top goes on behind its line, with the result.

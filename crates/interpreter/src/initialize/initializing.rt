@@ -23,7 +23,8 @@ use crate::unwind::raising::raise;
 use crate::unwind::supertypes::is_below_bytes;
 use jf_bytes::{NoMemory, Stack};
 use jvm_model::{Exception, Part, Phase};
-use prepared_code::{Initialization, Originals, Parts, initializer_of, put_initialization};
+use prepared_code::{Initialization, Originals, Parts, put_initialization};
+use prepared_lines::initializer_of;
 use symbolic_references::Runtime;
 
 /// The initialization of a class begins: its initialization stands on the current frame.

@@ -14,7 +14,8 @@ use crate::execute::asking::raise_named;
 use crate::initialize::initializing::initialize;
 use jf_bytes::{NoMemory, Stack};
 use member_selection::AbruptCompletion;
-use prepared_code::{Initialization, Originals, Parts, arguments_fit, main_class};
+use prepared_code::{Initialization, Originals, Parts};
+use prepared_lines::{arguments_fit, main_class};
 use std::alloc::Global;
 
 /// The OutOfMemoryError that the machine throws.

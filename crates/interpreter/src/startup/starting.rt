@@ -17,7 +17,8 @@ use heap_objects::Datum;
 use jf_bytes::{NoMemory, Seq, Text16};
 use jvm_model::{Phase, Program};
 use native_effects::Made;
-use prepared_code::{Originals, Parts, has_built_in_name, has_bytes, heap_before};
+use prepared_code::{Originals, Parts, has_built_in_name};
+use prepared_lines::{has_bytes, heap_before};
 use std::alloc::Global;
 use symbolic_references::{Beginning, Runtime};
 

@@ -19,7 +19,8 @@ use crate::turns::hands::{Gone, Hand, gone_to};
 use crate::turns::resting::is_at_rest;
 use jf_bytes::Stack;
 use jvm_model::Due;
-use prepared_code::{Action, Initialization, Originals, Parts, line_in, where_now};
+use prepared_code::{Initialization, Originals, Parts, line_in, where_now};
+use prepared_lines::Action;
 
 /// A return of which its probe has told. False, with nothing of the run changed, where the line is
 /// none, or the caller can't go on.

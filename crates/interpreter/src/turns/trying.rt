@@ -23,7 +23,8 @@ use crate::turns::turning::is_marked;
 use frame_stack::Frames;
 use jf_bytes::{NoMemory, Stack};
 use jvm_model::{Due, EventKind};
-use prepared_code::{Action, Initialization, Originals, Parts, where_now};
+use prepared_code::{Initialization, Originals, Parts, where_now};
+use prepared_lines::Action;
 use std::alloc::Global;
 
 // ---- behind an attempt

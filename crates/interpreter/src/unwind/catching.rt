@@ -21,7 +21,8 @@ use heap_objects::Value;
 use jf_bytes::Stack;
 use jvm_basic::{recall, ref_of};
 use jvm_model::Mark;
-use prepared_code::{Here, Initialization, Originals, has_bytes, initialization_on};
+use prepared_code::{Here, Initialization, Originals, initialization_on};
+use prepared_lines::has_bytes;
 use symbolic_references::Runtime;
 
 /// How many classes of a program stand from java/lang/Throwable on.

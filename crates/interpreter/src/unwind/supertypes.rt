@@ -11,7 +11,7 @@ use class_linker::Linker;
 use const_pool::ClassFile;
 use jf_bytes::Text16;
 use jvm_model::Program;
-use prepared_code::{position_of, position_of_bytes};
+use prepared_lines::{position_of, position_of_bytes};
 
 /// The position of the class that an entry of a class file names.
 #[inline(never)]

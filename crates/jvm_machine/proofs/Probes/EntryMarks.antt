@@ -20,7 +20,7 @@ use Rattle.jvm_model.specs.Rewriting.StandsFor.{invoked_probe, probe_kind}
 use Rattle.jvm_model.specs.Rewriting.Versions.{IsVersion, entry_probe, groups_of, probe_bytes, unwind_code}
 use Rattle.jvm_model.proofs.Images.ImagePools.{enter-named, root-named}
 use Rattle.jvm_model.proofs.Images.ImageProbes.{invokestatic_at}
-use Rattle.prepared_code.specs.Rewritten.{entry_mark, mark_of_kind}
+use Rattle.prepared_lines.specs.Probes.{entry_mark, mark_of_kind}
 
 -- what invokestatic behind three bytes invokes
 invoked-mark : (image : ClassFile) (p ys : List ℕ) (index : ℕ) (r : Reference) (kind : EventKind) → length p ≡ 3 → index < 2 ^ 16 → named_method image.pool index ≡ Some r → probe_kind r ≡ Some kind

@@ -11,9 +11,9 @@ use Rattle.code_model.specs.Instructions.{instruction_at}
 use Rattle.code_model.specs.Layout.{place_in}
 use Rattle.jvm_model.specs.Basis.Families.{family_of}
 use Rattle.jvm_model.specs.Codes.Lines.{instruction_of, operation_of}
-use Rattle.prepared_code.specs.declared.line.Line.{Line}
+use Rattle.prepared_lines.specs.declared.line.Line.{Line}
 use Rattle.jvm_model.specs.Codes.Homed.{start_in}
-use Rattle.prepared_code.specs.Lines.{action_of, line_of}
+use Rattle.prepared_lines.specs.Lines.{action_of, line_of}
 use Rattle.prepared_code.specs.Ready.{IsOwnLine}
 use Rattle.prepared_code.specs.Rewritten.{homed_line, line_for, own_line, placed_line, rewritten_version}
 use Rattle.prepared_code.specs.Versions.{HasOwnLines, IsPrepared, line_in}

@@ -19,14 +19,14 @@ use Rattle.jvm_model.specs.Codes.Lines.{code_instruction, instruction_of}
 use Rattle.jvm_model.specs.Codes.Moved.{IsPlace, moved_catcher, moved_instruction}
 use Rattle.jvm_model.specs.Codes.Originals.{catcher_of, original}
 use Rattle.jvm_model.specs.Rewriting.Versions.{moved_handler}
-use Rattle.prepared_code.specs.declared.line.Line.{Line}
+use Rattle.prepared_lines.specs.declared.line.Line.{Line}
 use Rattle.prepared_code.specs.declared.versions.Catching.{Catching}
 use Rattle.prepared_code.specs.Tables.{Version}
 use Rattle.prepared_code.specs.Entries.{catching_of, code_line}
 use Rattle.jvm_model.specs.Codes.ProgramPlaces.{IsStartOrEnd}
 use Rattle.jvm_model.specs.Codes.Homed.{IsHomed, homed_instruction, instruction_for, start_in, with_own}
 use Rattle.prepared_code.specs.LaidMethods.{NamesClass}
-use Rattle.prepared_code.specs.Lines.{line_of}
+use Rattle.prepared_lines.specs.Lines.{line_of}
 use Rattle.prepared_code.specs.Rewritten.{homed_line, homed_lines, line_for, own_handlers, own_line, placed_line, rewritten_version}
 use Rattle.prepared_code.specs.Versions.{catcher_in, instruction_in, line_in}
 use Rattle.prepared_code.specs.VersionListings.{HasOperation, IsVersionOf}

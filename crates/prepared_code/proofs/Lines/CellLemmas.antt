@@ -15,9 +15,9 @@ use Rattle.prepared_code.specs.Kept.{AreKnown, IsLater}
 use Rattle.prepared_code.specs.Lines.{IfNamed, IfNamedBy}
 use Rattle.prepared_code.specs.Tables.{Releases, Versions, version_at}
 use Rattle.prepared_code.specs.Versions.{line_at, line_in}
-use Rattle.prepared_code.specs.declared.line.Action.{Action}
-use Rattle.prepared_code.specs.declared.line.Action.TheVariants as action
-use Rattle.prepared_code.specs.declared.line.Line.{Line}
+use Rattle.prepared_lines.specs.declared.line.Action.{Action}
+use Rattle.prepared_lines.specs.declared.line.Action.TheVariants as action
+use Rattle.prepared_lines.specs.declared.line.Line.{Line}
 
 no-known : {A : Type 0} (k : A) → None ≡ Some k → ⊥
 no-known k e = cc

@@ -29,11 +29,12 @@ use Rattle.jvm_model.specs.Codes.Lines.{ObjectRow, constant_in, pool_constant_op
 use Rattle.jvm_model.specs.Basis.Methods.{method_code}
 use Rattle.jvm_model.specs.Basis.Programs.{class_at, place_of_method}
 use Rattle.member_selection.specs.Objects.{HasDimensions}
-use Rattle.prepared_code.specs.declared.line.Line.{Line}
+use Rattle.prepared_lines.specs.declared.line.Line.{Line}
 use Rattle.prepared_code.specs.Versions as versions
 use Rattle.prepared_code.specs.Versions.{HasLines}
 use Rattle.prepared_code.specs.Tables.{Versions}
-use Rattle.prepared_code.specs.Lines.{IfNamed, IfNamedBy, action_of, line_at, line_with}
+use Rattle.prepared_code.specs.Lines.{IfNamed, IfNamedBy, line_at}
+use Rattle.prepared_lines.specs.Lines.{action_of, line_with}
 
 -- ---- operations
 

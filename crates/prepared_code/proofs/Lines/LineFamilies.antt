@@ -9,9 +9,10 @@ use Rattle.jvm_model.specs.declared.program.Program.{Program}
 use Rattle.jvm_model.specs.Basis.Families.{family_of}
 use Rattle.jvm_model.specs.Basis.Methods.{method_code}
 use Rattle.jvm_model.specs.Basis.Programs.{class_at, place_of_method}
-use Rattle.prepared_code.specs.declared.line.Action.{Action}
-use Rattle.prepared_code.specs.declared.line.Line.{Line}
-use Rattle.prepared_code.specs.Lines.{line_at, line_with}
+use Rattle.prepared_lines.specs.declared.line.Action.{Action}
+use Rattle.prepared_lines.specs.declared.line.Line.{Line}
+use Rattle.prepared_code.specs.Lines.{line_at}
+use Rattle.prepared_lines.specs.Lines.{line_with}
 use Rattle.prepared_code.specs.Versions as versions
 use Rattle.prepared_code.specs.Versions.{ArePrepared, HasLines, IsPrepared, line_in}
 use Rattle.prepared_code.specs.Tables.{Version, Versions, version_at}

@@ -11,7 +11,7 @@ use Rattle.prepared_code.specs.Kept.{AreKnown, IsLater}
 use Rattle.prepared_code.specs.Lines.{IfNamedBy}
 use Rattle.prepared_code.specs.Linked.{IsLinked, Linked}
 use Rattle.prepared_code.specs.Versions.{line_at}
-use Rattle.prepared_code.specs.declared.line.Line.{Line}
+use Rattle.prepared_lines.specs.declared.line.Line.{Line}
 use Rattle.prepared_code.proofs.Lines.CellLemmas.{known-later, learnt-kept, renewed}
 
 pub same-linker : (r new : RuntimeView) → new.world ≡ r.world → new.shared.loaded ≡ r.shared.loaded → linker_in new ≡ linker_in r

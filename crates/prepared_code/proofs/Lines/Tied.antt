@@ -33,11 +33,12 @@ use Rattle.jvm_model.specs.Codes.Originals.{original}
 use Rattle.jvm_model.specs.Basis.Programs.{class_at, place_of_method}
 use Rattle.jvm_model.specs.Basis.Values.{as_value}
 use Rattle.jvm_basic.specs.Rules.{datum_in, outcome_placed, going, needs, rule_by, rule_of}
-use Rattle.prepared_code.specs.declared.line.Line.{Line}
+use Rattle.prepared_lines.specs.declared.line.Line.{Line}
 use Rattle.prepared_code.specs.Ready.{CanRun, HasLocal, IsOwnLine, IsRuleOf, IsTied}
 use Rattle.prepared_code.specs.Versions.{Setup, instruction_by, instruction_in, is_athrow, is_last_family, next_in, operation_as, operation_in, listing_of}
 use Rattle.prepared_code.specs.Versions as versions
-use Rattle.prepared_code.specs.Lines.{local_action, action_of, line_with, line_of, line_at}
+use Rattle.prepared_code.specs.Lines.{line_at}
+use Rattle.prepared_lines.specs.Lines.{local_action, action_of, line_with, line_of}
 
 -- ---- a line and what it does
 

@@ -7,7 +7,7 @@ use Rattle.std.proofs.lemmas.List.{ext_get_or, length-set}
 use Rattle.frame_stack.specs.FrameLists.{PlacedFrame, pins_of}
 use Rattle.method_versions.specs.Tables.{held_besides, is_number, is_superseded_in}
 use Rattle.member_selection.specs.Objects.{HasDimensions}
-use Rattle.prepared_code.specs.declared.line.Line.{Line}
+use Rattle.prepared_lines.specs.declared.line.Line.{Line}
 use Rattle.prepared_code.specs.Lines.{IfNamedBy}
 use Rattle.prepared_code.specs.Tables.{Adds, AreAllCurrent, AreOfMethods, IsAdded, Releases, Version, Versions, version_at}
 use Rattle.prepared_code.specs.Versions.{HasLines, HasOwnLines, IsPrepared, line_at, line_in}

@@ -13,7 +13,7 @@ use Rattle.jvm_model.specs.declared.program.Program.{Program}
 use Rattle.jvm_model.specs.Basis.Methods.{code_of}
 use Rattle.jvm_model.specs.Codes.Originals.{original}
 use Rattle.jvm_model.specs.Basis.Programs.{class_at}
-use Rattle.prepared_code.specs.declared.line.Line.{Line}
+use Rattle.prepared_lines.specs.declared.line.Line.{Line}
 use Rattle.prepared_code.specs.Entries.{code_line, lines_of, no_version, original_slot, original_versions, version_entry, version_in, version_of}
 use Rattle.prepared_code.specs.Lines.{method_line}
 use Rattle.prepared_code.specs.Lines as originals

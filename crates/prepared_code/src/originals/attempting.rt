@@ -16,12 +16,12 @@ ghost use Rattle.prepared_code.specs.Lines.{IfNamed, IfNamedBy};
 ghost use Rattle.prepared_code.specs.Linked.{IsLinked, IsReady};
 ghost use Rattle.prepared_code.specs.Versions.{line_at};
 
-use crate::line::{Action, Line};
 use crate::originals::Originals;
 use crate::versions::line_there;
 use frame_stack::Frames;
 use jf_bytes::NoMemory;
 use member_selection::{AbruptCompletion, Known, Outcome};
+use prepared_lines::{Action, Line};
 use std::alloc::Global;
 use symbolic_references::Runtime;
 

@@ -2,7 +2,7 @@ use Rattle.std.proofs.Common.{◌≡◌, List, [], ◌∷◌, Option, Some, sym,
 use Rattle.std.specs.Option.{IfSome}
 use Rattle.std.proofs.lemmas.Option.{none-some}
 use Rattle.frame_stack.specs.FrameLists.{PlacedFrame}
-use Rattle.prepared_code.specs.declared.line.Line.{Line}
+use Rattle.prepared_lines.specs.declared.line.Line.{Line}
 use Rattle.prepared_code.specs.declared.parts.Here.{Here}
 use Rattle.prepared_code.specs.Runs.{IsLineIn, RunsVersion}
 use Rattle.prepared_code.specs.States.{here_of}

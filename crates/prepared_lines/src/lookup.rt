@@ -45,7 +45,6 @@ pub fn position_of_bytes(classes: &[ClassFile], name: &[u8]) -> Option<usize>
 }
 
 /// The position of the class whose name is these bytes.
-#[tactic(auto, using(symbolic_references::proofs::Positions::position_within))]
 pub fn class_of_bytes(program: &Program, name: &[u8]) -> Option<u32>
     requires { length program.now.classes < 2 ^ 32 }
     ensures class { result ≡ class_named program.now name.now }

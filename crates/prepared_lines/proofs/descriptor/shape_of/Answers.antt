@@ -5,7 +5,7 @@ use Rattle.const_pool.specs.declared.descriptor.DescriptorError.TheVariants.{Bad
 use Rattle.const_pool.specs.declared.descriptor.Shape.{Shape}
 use Rattle.const_pool.specs.Descriptors.{IsReadAs}
 use Rattle.jvm_model.proofs.Running.Shapes.{method_read, no_shape, shape_grammar}
-use Rattle.prepared_code.proofs.descriptor.shape_of.Goals as goal
+use Rattle.prepared_lines.proofs.descriptor.shape_of.Goals as goal
 
 refused : (error : DescriptorError) (at : ℕ) (shape : Shape) → error ≡ BadDescriptor at → IsReadAs (Err error) shape → ⊥
 refused error at shape is read = subst (λ (e : DescriptorError). IsReadAs (Err e) shape) is read

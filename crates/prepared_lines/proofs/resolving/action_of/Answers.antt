@@ -1,9 +1,9 @@
 use Rattle.std.proofs.Common.{ap, ◌∙◌}
 use Rattle.std.specs.Option.{option_map}
 use Rattle.jvm_model.specs.Codes.Lines.{operation_by}
-use Rattle.prepared_code.specs.Lines.{action_of}
-use Rattle.prepared_code.proofs.Lines.Actions.{family-acted}
-use Rattle.prepared_code.proofs.resolving.action_of.Goals as goal
+use Rattle.prepared_lines.specs.Lines.{action_of}
+use Rattle.prepared_lines.proofs.Actions.{family-acted}
+use Rattle.prepared_lines.proofs.resolving.action_of.Goals as goal
 
 pub returns-in_default : goal.returns-in_default
 returns-in_default c =

@@ -11,7 +11,7 @@ ghost use Rattle.jvm_model.specs.Codes.Lines.{has_dimensions, interface_referenc
 ghost use Rattle.jvm_model.specs.Codes.Lines.{named_interface_method, symbolic_reference_of, special_of};
 ghost use Rattle.jvm_model.specs.Basis.Programs.{name_of};
 ghost use Rattle.jvm_model.specs.Basis.MemberNames.{params_by};
-ghost use Rattle.prepared_code.specs.Lines.{action_of, named_action};
+ghost use Rattle.prepared_lines.specs.Lines.{action_of, named_action};
 
 use crate::descriptor::shape_of;
 use crate::line::Action;

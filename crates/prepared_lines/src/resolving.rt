@@ -12,7 +12,7 @@ ghost use Rattle.jvm_model.specs.declared.family.Family.TheVariants.{PoolConstan
 ghost use Rattle.jvm_model.specs.Codes.Lines.{newarray_of, object_among, object_rows};
 ghost use Rattle.jvm_model.specs.Codes.Lines.{other_operation, operation_of};
 ghost use Rattle.jvm_model.specs.Basis.Families.{family_of};
-ghost use Rattle.prepared_code.specs.Lines.{action_of, hot_in, line_of, line_with, local_action};
+ghost use Rattle.prepared_lines.specs.Lines.{action_of, hot_in, line_of, line_with, local_action};
 
 use crate::line::{Action, Line};
 use crate::symbolic_reference::{
@@ -173,7 +173,7 @@ fn object_action(op: u8) -> Option<Action>
 }
 
 /// What an instruction of no family does, by the form of its operand.
-#[tactic(auto, using(crate::proofs::Lines::Actions::named_acted))]
+#[tactic(auto, using(crate::proofs::Actions::named_acted))]
 fn other_action(
     alloc: Global,
     class: &ClassFile,

@@ -9,8 +9,8 @@ use Rattle.jvm_model.specs.declared.instruction.Local.{Local}
 use Rattle.jvm_model.specs.declared.instruction.Operation.TheVariants.{Within, Named}
 use Rattle.jvm_model.specs.declared.instruction.SymbolicReference.{SymbolicReference}
 use Rattle.jvm_model.specs.Codes.Lines.{local_of, constant_in, has_dimensions, named_by, operation_by}
-use Rattle.prepared_code.specs.declared.line.Action.TheVariants as action
-use Rattle.prepared_code.specs.Lines.{action_of, local_action, named_action}
+use Rattle.prepared_lines.specs.declared.line.Action.TheVariants as action
+use Rattle.prepared_lines.specs.Lines.{action_of, local_action, named_action}
 
 -- ---- names
 

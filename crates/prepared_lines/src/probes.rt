@@ -3,7 +3,7 @@
 ghost use Rattle.std.specs.Prelude.{◌≡◌, IfOk};
 ghost use Rattle.const_pool.specs.Members.{reference_view};
 ghost use Rattle.jvm_model.specs.Rewriting.StandsFor.{probe_kind, invoked_kind};
-ghost use Rattle.prepared_code.specs.Rewritten.{entry_mark, mark_of_kind};
+ghost use Rattle.prepared_lines.specs.Probes.{entry_mark, mark_of_kind};
 
 use crate::members::{is_reference, method_at};
 use code_model::{Arg, instr_at};
