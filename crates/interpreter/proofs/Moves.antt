@@ -1,6 +1,4 @@
-pub mod LineSteps
-pub mod Sounded
-pub mod TurnsCarried
+pub mod Behind
 pub mod OneMove
 pub mod Followed
 pub mod TriedSteps

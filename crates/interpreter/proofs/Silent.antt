@@ -1,13 +1,8 @@
-pub mod Leading
-pub mod QuietLines
-pub mod PlainSteps
-pub mod PassedLines
 pub mod SilentSteps
 pub mod PassingSteps
 pub mod PassingCalls
 pub mod PassingReturns
 pub mod PassingThrows
 pub mod PassingLengths
-pub mod CatchLemmas
 pub mod ReturnLemmas
 pub mod GoingOnward

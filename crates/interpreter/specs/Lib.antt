@@ -1,3 +1,2 @@
 pub mod Machine
-pub mod Instructions
 pub mod Moves

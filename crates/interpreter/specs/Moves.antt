@@ -1,5 +1,4 @@
-pub mod Settling
-pub mod Turning
+pub mod Passing
 pub mod Trying
 pub mod Hands
 pub mod Calmly

@@ -2,7 +2,7 @@
 
 pub mod calmly;
 pub mod hands;
+pub mod passing;
 pub mod pausing;
 pub mod resting;
 pub mod trying;
-pub mod turning;

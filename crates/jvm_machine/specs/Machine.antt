@@ -11,7 +11,7 @@ use Rattle.jvm_model.specs.Turns.Told.{helds}
 use Rattle.interpreter.specs.declared.turns.hands.Hand.{Hand}
 use Rattle.interpreter.specs.Machine.Before.{IsAtStart}
 use Rattle.interpreter.specs.Moves.Hands.{HasInHand}
-use Rattle.interpreter.specs.Instructions.Passing.{runs}
+use Rattle.interpreter.specs.Moves.Passing.{runs}
 use Rattle.prepared_code.specs.Linked.{IsLinked, Linked, setup_in}
 use Rattle.prepared_code.specs.Ready.{IsSoundIn}
 use Rattle.prepared_code.specs.Standing.{HasVersions, places_of}

@@ -10,7 +10,7 @@ use Rattle.prepared_code.specs.declared.initializations.Initialization.{Initiali
 use Rattle.prepared_code.specs.declared.parts.Parts.{Parts}
 use Rattle.prepared_code.specs.Initializations.{state_of}
 use Rattle.prepared_code.specs.Versions.{Setup}
-use Rattle.interpreter.proofs.Instructions.LineActs.{with-loaded}
+use Rattle.instructions.proofs.Attempts.LineActs.{with-loaded}
 use Rattle.jvm_model.proofs.Loading.LoadedMoves.{made-loaded}
 
 module _ (w : Setup) where

@@ -17,7 +17,7 @@ use Rattle.jvm_model.specs.Turns.Told.{helds, mark_now}
 use Rattle.jvm_model.proofs.Turns.LoopOfPauses.{paused-move}
 use Rattle.jvm_model.proofs.Soundness.SoundStart.{IsRefused, begins-if}
 use Rattle.prepared_code.specs.Ready.{CanRun, IsSoundIn, RunsIn}
-use Rattle.interpreter.specs.Moves.Turning.{paused_in}
+use Rattle.activations.specs.Turning.{paused_in}
 use Rattle.prepared_code.specs.Versions.{Setup, listing_of, mark_of}
 use Rattle.interpreter.proofs.Moves.PausesSound.{paused-sound}
 

@@ -14,9 +14,9 @@ use Rattle.jvm_model.specs.Running.Run.{arguments_made, before, main_class, main
 use Rattle.jvm_model.specs.Basis.SharedState.{arguments_cost, arguments_fit, with_arguments}
 use Rattle.jvm_model.proofs.Loading.LoadsAgain.{newly-loaded}
 use Rattle.interpreter.specs.Machine.Before.{begun_by}
-use Rattle.interpreter.specs.Instructions.Initializing.{begins_class}
+use Rattle.activations.specs.Initializing.{begins_class}
 use Rattle.prepared_code.specs.Prepared.{main_name}
-use Rattle.interpreter.proofs.Instructions.LineActs.{with-loaded}
+use Rattle.instructions.proofs.Attempts.LineActs.{with-loaded}
 use Rattle.prepared_code.specs.declared.initializations.Initialization.{Initialization}
 use Rattle.prepared_code.specs.declared.parts.Parts.{Parts}
 use Rattle.prepared_code.specs.Initializations.{state_of}

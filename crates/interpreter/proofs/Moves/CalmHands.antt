@@ -12,16 +12,16 @@ use Rattle.interpreter.specs.declared.turns.hands.Gone.{Gone}
 use Rattle.interpreter.specs.declared.turns.hands.Hand.{Hand}
 use Rattle.prepared_code.specs.declared.parts.Parts.{Parts}
 use Rattle.prepared_code.specs.Versions.{Setup, listing_of}
-use Rattle.interpreter.specs.Instructions.Acts.{is_at_rest}
+use Rattle.instructions.specs.Acts.{is_at_rest}
 use Rattle.prepared_code.specs.Initializations.{state_of}
 use Rattle.prepared_code.specs.Ready.{CanRun, IsSoundIn}
 use Rattle.prepared_code.specs.Standing.{HasVersions}
 use Rattle.interpreter.specs.Moves.Calmly.{GoesCalmly, TriesCalmly, passed_there}
 use Rattle.interpreter.specs.Moves.Hands.{HasGoneOn, HasInHand, IsLeft, goes_as}
 use Rattle.interpreter.specs.Moves.Trying.{tried_in}
-use Rattle.interpreter.specs.Moves.Turning.{goes_by_moves, loads_none, pause_at}
+use Rattle.activations.specs.Turning.{goes_by_moves, loads_none, pause_at}
 use Rattle.interpreter.proofs.Moves.HandLaws.{attempt-sound, hands-on, moves-sound, reaches-attempt, reaches-moves, start-sound}
-use Rattle.interpreter.proofs.Moves.LineSteps.{rest-moves}
+use Rattle.instructions.proofs.Moves.LineSteps.{rest-moves}
 use Rattle.interpreter.proofs.Moves.OneMove.{rest-pauses}
 
 module _ (w : Setup) (ms : List Initialization) (hand : Hand) (p : Parts) (gone : Gone) (left : IsLeft gone) where

@@ -12,20 +12,20 @@ use Rattle.prepared_lines.specs.declared.line.Line.{Line}
 use Rattle.prepared_code.specs.declared.parts.Here.{Here}
 use Rattle.prepared_code.specs.declared.parts.Parts.{Parts}
 use Rattle.prepared_code.specs.Versions.{Setup, current_of, line_at, mark_of, listing_of}
-use Rattle.interpreter.specs.Instructions.Acts.{goes_on_in}
-use Rattle.interpreter.specs.Instructions.Arguments.{with_begun}
+use Rattle.instructions.specs.Acts.{goes_on_in}
+use Rattle.activations.specs.Arguments.{with_begun}
 use Rattle.prepared_code.specs.Initializations.{initialization_on, state_of}
 use Rattle.prepared_code.specs.Ready.{CanRun}
 use Rattle.prepared_code.specs.Runs.{IsAtInstruction}
 use Rattle.prepared_code.specs.States.{here_of}
 use Rattle.interpreter.specs.Moves.Calmly.{Attempted, TriesCalmly}
 use Rattle.interpreter.specs.Moves.Trying.{is_return_line, leaves_at, leaves_in, returns_by}
-use Rattle.interpreter.specs.Moves.Turning.{loads_none, pause_at, paused_in}
+use Rattle.activations.specs.Turning.{loads_none, pause_at, paused_in}
 use Rattle.interpreter.proofs.Moves.Followed.{counts_one, enters_none, enters_top, follows-on, follows-told}
-use Rattle.interpreter.proofs.Moves.LineSteps.{rest-moves}
+use Rattle.instructions.proofs.Moves.LineSteps.{rest-moves}
 use Rattle.interpreter.proofs.Moves.OneMove.{rest-pauses}
 use Rattle.interpreter.proofs.Moves.TriedSteps.{leaves-loads, leaves-pause, tries-once, tries-silently}
-use Rattle.interpreter.proofs.Silent.PlainSteps.{at-rest, framed, goes}
+use Rattle.instructions.proofs.Silent.PlainSteps.{at-rest, framed, goes}
 
 pub has-here : (here : Here) (fs : List PlacedFrame) → here_of fs ≡ Some here → has_frame fs ≡ true
 has-here here [] is = absurd (none-some here is)

@@ -1,6 +1,6 @@
 -- What an attempt has changed, by the frames; and the pause behind it.
 use Rattle.std.proofs.Common.{◌≡◌, ◌≤◌, ◌<◌, ℕ, suc, Bool, true, false, List, [], ◌∷◌, ◌++◌, length, map, nat_lt, Some, None, refl, sym, ap, subst, ◌∙◌, arith}
-use Rattle.std.specs.Prelude.{not, IfOk, OnOk, Result, Ok, Err}
+use Rattle.std.specs.Prelude.{not, IfOk, Result}
 use Rattle.std.proofs.lemmas.Bool.{false≢true, le-ltb, lt-ltb, ltb-false}
 use Rattle.std.proofs.lemmas.Option.{same_Some}
 use Rattle.frame_stack.specs.FrameLists.{PlacedFrame, top_of}
@@ -22,11 +22,11 @@ use Rattle.prepared_code.specs.declared.initializations.Initialization.{Initiali
 use Rattle.prepared_code.specs.declared.parts.Parts.{Parts}
 use Rattle.prepared_code.specs.Initializations.{above, beneath, initializing_entry, stack_of, state_of}
 use Rattle.prepared_code.specs.States.{active}
-use Rattle.interpreter.specs.Moves.Turning.{pause_at, paused_in}
+use Rattle.activations.specs.Turning.{pause_at, paused_in}
 use Rattle.interpreter.specs.Moves.Trying.{changes_since, enters_by, is_begins, pause_behind_attempt, top_frame_method}
 use Rattle.prepared_code.specs.Tables.{Versions}
 use Rattle.prepared_code.specs.Versions.{Setup, current_of, listing_of, mark_of}
-use Rattle.interpreter.proofs.Instructions.InitializerFrames.{live-of}
+use Rattle.activations.proofs.InitializerFrames.{live-of}
 use Rattle.jvm_model.proofs.Loading.LoadedMoves.{settled-loaded}
 
 -- ---- by the frames
@@ -166,10 +166,6 @@ followed-loaded w t v n changes s =
     (step_paused w.world t v (passed_by n changes) s) refl (paused-loaded w t v (passed_by n changes) s)
 
 -- ---- in the world that stays
-
-pub on-either : {A E P : Type 0} (r : Result A E) → P → OnOk r P
-on-either (Ok x) holds = holds
-on-either (Err e) holds = tt
 
 pub follows-in : {E : Type 0} (r : Result Due E) (w v : Setup) (live n passed : ℕ) (mid done new : State) → v ≡ w → mid ≡ done
     → IfOk r (λ due. pause_at new passed due ≡ pause_behind_attempt v live n mid) → IfOk r (λ due. pause_at new passed due ≡ pause_behind_attempt w live n done)

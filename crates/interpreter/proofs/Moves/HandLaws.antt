@@ -18,7 +18,7 @@ use Rattle.interpreter.specs.declared.turns.hands.Hand.{Hand}
 use Rattle.interpreter.specs.Moves.Hands.{HasGoneOn, HasInHand, goes_as, goes_in, todo_of, versioned_in}
 use Rattle.prepared_code.specs.Ready.{CanRun, IsSoundIn}
 use Rattle.prepared_code.specs.Standing.{HasVersions, places_of}
-use Rattle.interpreter.specs.Moves.Turning.{goes_by_moves, loads_in, loads_none, pause_at}
+use Rattle.activations.specs.Turning.{goes_by_moves, loads_in, loads_none, pause_at}
 use Rattle.interpreter.specs.Moves.Trying.{tried_in}
 use Rattle.prepared_code.specs.Versions.{Setup, current_of, listing_of}
 use Rattle.interpreter.proofs.Moves.PausesSound.{loaded-sound, moved-sound, tried-sound}

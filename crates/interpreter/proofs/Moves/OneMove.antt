@@ -14,13 +14,13 @@ use Rattle.jvm_model.specs.Turns.Pauses.{unless_off, end_due, pause_by, passed_b
 use Rattle.jvm_model.proofs.Running.Settles.{move-less}
 use Rattle.jvm_model.proofs.Turns.Pausing.{OneAtMost, none, one, move-one}
 use Rattle.jvm_model.proofs.Turns.LoopOfPauses.{paused-move, begun-stops}
-use Rattle.interpreter.specs.declared.turns.turning.Moved.{Moved}
-use Rattle.interpreter.specs.declared.turns.turning.Moved.TheVariants as moved
+use Rattle.activations.specs.declared.turning.Moved.{Moved}
+use Rattle.activations.specs.declared.turning.Moved.TheVariants as moved
 use Rattle.symbolic_references.specs.Runtimes.{RuntimeView}
 use Rattle.prepared_code.specs.Linked.{Linked, setup_in}
 use Rattle.prepared_code.specs.Versions.{Setup, listing_of, mark_of}
-use Rattle.interpreter.specs.Moves.Turning.{changes_of, due_by, moved_by, moved_if, moved_as, state_by, moved_to, paused_in}
-use Rattle.interpreter.proofs.Instructions.NamedAttempts.{same-setup}
+use Rattle.activations.specs.Turning.{changes_of, due_by, moved_by, moved_if, moved_as, state_by, moved_to, paused_in}
+use Rattle.instructions.proofs.Attempts.NamedAttempts.{same-setup}
 
 abbrev pub Means : Setup → ℕ → State → State → Moved → Type 0
 Means w n s after moved.Nothing = paused_in w n s ≡ record { state = after; passed = n; due = Nothing }

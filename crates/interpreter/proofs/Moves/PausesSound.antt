@@ -25,13 +25,13 @@ use Rattle.jvm_model.specs.Turns.Told.{helds, mark_now}
 use Rattle.jvm_model.proofs.Turns.AttemptPauses.{settled-there}
 use Rattle.jvm_model.proofs.Soundness.SoundListingRuns.{sound-loaded}
 use Rattle.jvm_model.proofs.Soundness.SoundListingSteps.{GoesTo, moves-go}
-use Rattle.interpreter.specs.Instructions.Acts.{attempts_on, awaited_in}
+use Rattle.instructions.specs.Acts.{attempts_on, awaited_in}
 use Rattle.prepared_code.specs.Ready.{CanRun, IsSoundIn, RunsIn}
-use Rattle.interpreter.specs.Moves.Turning.{goes_by_moves, loads_in, paused_in}
+use Rattle.activations.specs.Turning.{goes_by_moves, loads_in, paused_in}
 use Rattle.interpreter.specs.Moves.Trying.{leaves_at, pause_behind_attempt, tried_in, tries_again}
 use Rattle.prepared_code.specs.Versions.{Setup, listing_of, mark_of}
-use Rattle.interpreter.proofs.Moves.LineSteps.{IsGoing, behind, going-again}
-use Rattle.interpreter.proofs.Moves.Sounded.{attempted-sound}
+use Rattle.instructions.proofs.Moves.LineSteps.{IsGoing, behind, going-again}
+use Rattle.instructions.proofs.Moves.Sounded.{attempted-sound}
 use Rattle.interpreter.proofs.Moves.TriedSteps.{again-nothing, again-ready, told-first, told-silent, tried-again, tried-once, tried-stays}
 
 module _ (w : Setup) (run : CanRun w) where

@@ -39,21 +39,22 @@ use Rattle.prepared_lines.specs.declared.line.Action.TheVariants as action
 use Rattle.prepared_lines.specs.declared.line.Line.{Line}
 use Rattle.prepared_code.specs.declared.initializations.Initialization.{Initialization}
 use Rattle.prepared_code.specs.declared.parts.Parts.{Parts}
-use Rattle.interpreter.specs.Instructions.Acts.{acts, acts_by, attempts_line, attempts_on, class_awaited, awaited_by, awaited_in, awaited_on, goes_on_in}
+use Rattle.instructions.specs.Acts.{acts, acts_by, attempts_line, attempts_on, class_awaited, awaited_by, awaited_in, awaited_on, goes_on_in}
 use Rattle.prepared_lines.specs.Lines.{action_of, local_action}
 use Rattle.prepared_code.specs.Initializations.{initializing_entry, initialization_on, stack_of, state_of}
 use Rattle.prepared_code.specs.Ready.{CanRun, IsSoundIn, IsTied}
 use Rattle.prepared_code.specs.States.{active, frame_in}
-use Rattle.interpreter.specs.Moves.Turning.{loads_in, loads_none, pause_at}
+use Rattle.activations.specs.Turning.{loads_in, loads_none, pause_at}
 use Rattle.interpreter.specs.Moves.Trying.{is_return_line, leaves_at, leaves_in, pause_behind_attempt, returns_by, tried_in, tries_again}
 use Rattle.prepared_code.specs.Versions.{Setup, instruction_by, line_at, listing_of, mark_of}
-use Rattle.interpreter.proofs.Loads.ActsLoad.{named-loads}
-use Rattle.interpreter.proofs.Initializing.Behind.{sound-again, executing-again}
+use Rattle.instructions.proofs.Loads.ActsLoad.{named-loads}
+use Rattle.interpreter.proofs.Moves.Behind.{sound-again, executing-again}
 use Rattle.prepared_code.proofs.Initializing.InitializingStacks.{length-active}
 use Rattle.interpreter.proofs.Moves.Followed.{followed-loaded}
-use Rattle.interpreter.proofs.Instructions.InitializerFrames.{live-of}
-use Rattle.interpreter.proofs.Instructions.LineActs.{awaits-named, readied, steps-as}
-use Rattle.interpreter.proofs.Moves.LineSteps.{IsGoing, behind, going-on, stack-again, none-of, top-frame}
+use Rattle.activations.proofs.InitializerFrames.{live-of}
+use Rattle.instructions.proofs.Attempts.LineActs.{awaits-named, readied, steps-as}
+use Rattle.instructions.proofs.Moves.LineSteps.{IsGoing, behind, going-on, stack-again, none-of}
+use Rattle.activations.proofs.TurnsCarried.{top-frame}
 use Rattle.prepared_code.proofs.Initializing.InitializingStacks.{stack-empty, stack-on}
 use Rattle.prepared_code.proofs.Lines.Tied.{Tie, tied-there}
 

@@ -12,7 +12,7 @@ use Rattle.prepared_code.specs.declared.parts.Parts.{Parts}
 use Rattle.prepared_code.specs.Ready.{CanRun}
 use Rattle.prepared_code.specs.Versions.{Setup}
 use Rattle.interpreter.specs.declared.turns.hands.Gone.{Gone}
-use Rattle.interpreter.specs.Instructions.Passing.{Passes, steps_if}
+use Rattle.interpreter.specs.Moves.Passing.{Passes, steps_if}
 use Rattle.interpreter.specs.Moves.Calmly.{GoesCalmly, TriesCalmly, passed_there}
 use Rattle.interpreter.specs.Moves.Hands.{IsLeft}
 use Rattle.interpreter.specs.Moves.Onward.{GoesOnward, StopsCalmly, empty_hand, is_telling, made_if}

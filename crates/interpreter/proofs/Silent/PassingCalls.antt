@@ -37,18 +37,18 @@ use Rattle.member_selection.specs.Attempts.{attempts, shared_loaded}
 use Rattle.symbolic_references.specs.Passing.{IsCall}
 use Rattle.symbolic_references.specs.Runtimes.{after}
 use Rattle.member_selection.specs.Targets.{data_in}
-use Rattle.interpreter.proofs.Instructions.Arguments.{length-data}
+use Rattle.activations.proofs.Arguments.{length-data, height-reverse, length-slots, spread-data}
 use Rattle.prepared_lines.specs.declared.line.Action.TheVariants as action
 use Rattle.prepared_lines.specs.declared.line.Line.{Line}
 use Rattle.prepared_code.specs.declared.initializations.Initialization.{Initialization}
 use Rattle.prepared_code.specs.declared.parts.Here.{Here}
 use Rattle.prepared_code.specs.declared.parts.Parts.{Parts}
-use Rattle.interpreter.specs.Instructions.Arguments.{begun_frame, can_begin, with_begun}
-use Rattle.interpreter.specs.Instructions.Acts.{IsTop, acts_asked, on_parts}
-use Rattle.interpreter.specs.Instructions.Asked.{Takes, done_top}
-use Rattle.interpreter.specs.Instructions.Invoking.{method_called, may_begin}
+use Rattle.activations.specs.Arguments.{begun_frame, can_begin, with_begun}
+use Rattle.activations.specs.Applied.{IsTop, acts_asked, on_parts}
+use Rattle.activations.specs.Asked.{Takes, done_top}
+use Rattle.activations.specs.Invoking.{method_called, may_begin}
 use Rattle.prepared_code.specs.Initializations.{initialization_on, stack_of, state_of, with_initializations}
-use Rattle.interpreter.specs.Instructions.Passing.{AreKeptBy, Passes, on_frames, runs, steps_if}
+use Rattle.interpreter.specs.Moves.Passing.{AreKeptBy, Passes, on_frames, runs, steps_if}
 use Rattle.prepared_code.specs.Ready.{CanRun}
 use Rattle.interpreter.specs.Moves.Calmly.{Attempted, TriesCalmly, TriesIf}
 use Rattle.interpreter.specs.Moves.Onward.{GoesOnward, begun_due}
@@ -57,16 +57,15 @@ use Rattle.interpreter.proofs.Moves.CalmSteps.{begins-calmly, has-here, no-retur
 use Rattle.prepared_code.specs.Runs.{IsAtInstruction, steps_from-zero}
 use Rattle.prepared_code.specs.States.{active, frame_in, here_of, state_in, state_with}
 use Rattle.prepared_code.specs.Versions.{Setup, current_of, instruction_in, line_at, mark_of, operation_as, listing_of}
-use Rattle.interpreter.proofs.Instructions.Arguments.{height-reverse, length-slots, spread-data}
-use Rattle.interpreter.proofs.Instructions.Callees.{live-is, same-length}
-use Rattle.interpreter.proofs.Silent.Leading.{leads-one}
-use Rattle.interpreter.proofs.Moves.LineSteps.{top-frame}
+use Rattle.activations.proofs.Callees.{live-is, same-length}
+use Rattle.instructions.proofs.Silent.Leading.{leads-one}
+use Rattle.activations.proofs.TurnsCarried.{top-frame}
 use Rattle.prepared_code.proofs.Initializing.InitializingStacks.{live-stack, none-more}
-use Rattle.interpreter.proofs.Instructions.Concluded.{invokes-is}
-use Rattle.interpreter.proofs.Instructions.NamedLaws.{Asks, is-named}
+use Rattle.activations.proofs.Concluded.{invokes-is}
+use Rattle.instructions.proofs.Attempts.NamedLaws.{Asks, is-named}
 use Rattle.interpreter.proofs.Silent.PassingSteps.{follows, is-attempt, is-awaited, is-step, reached, step-turn, under}
-use Rattle.interpreter.proofs.Silent.PlainSteps.{at-rest, framed}
-use Rattle.interpreter.proofs.Silent.QuietLines.{with-frame-rests}
+use Rattle.instructions.proofs.Silent.PlainSteps.{at-rest, framed}
+use Rattle.instructions.proofs.Silent.QuietLines.{with-frame-rests}
 use Rattle.interpreter.proofs.Silent.SilentSteps.{silent-one}
 
 is-top : (here : Here) (fs : List PlacedFrame) → here_of fs ≡ Some here → IsTop here.method fs

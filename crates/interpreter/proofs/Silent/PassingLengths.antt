@@ -8,13 +8,13 @@ use Rattle.prepared_lines.specs.declared.line.Line.{Line}
 use Rattle.prepared_code.specs.declared.initializations.Initialization.{Initialization}
 use Rattle.prepared_code.specs.declared.parts.Here.{Here}
 use Rattle.prepared_code.specs.declared.parts.Parts.{Parts}
-use Rattle.interpreter.specs.Instructions.Elements.{IsMeasured}
-use Rattle.interpreter.specs.Instructions.Passing.{Passes, steps_if}
+use Rattle.instructions.specs.Elements.{IsMeasured}
+use Rattle.interpreter.specs.Moves.Passing.{Passes, steps_if}
 use Rattle.prepared_code.specs.Ready.{CanRun}
 use Rattle.prepared_code.specs.Runs.{IsAtInstruction}
 use Rattle.prepared_code.specs.States.{here_of}
 use Rattle.prepared_code.specs.Versions.{Setup, line_at}
-use Rattle.interpreter.proofs.Instructions.ElementSteps.{StandsAt, length-alone}
+use Rattle.instructions.proofs.Attempts.ElementSteps.{StandsAt, length-alone}
 use Rattle.interpreter.proofs.Silent.SilentSteps.{passes-alone, passes_none}
 
 module _ (w : Setup) (run : CanRun w) (ms : List Initialization) (here : Here) (line : Line) (old new : Parts) where

@@ -31,19 +31,21 @@ use Rattle.prepared_lines.specs.declared.line.Line.{Line}
 use Rattle.prepared_code.specs.declared.initializations.Initialization.{Initialization}
 use Rattle.prepared_code.specs.declared.parts.Here.{Here}
 use Rattle.prepared_code.specs.declared.parts.Parts.{Parts}
-use Rattle.interpreter.specs.Instructions.Acts.{acts, acts_by, attempts_on, is_named, named_in, on_top, resumes_line, returns_or_ends}
+use Rattle.instructions.specs.Acts.{acts, acts_by, attempts_on, is_named, named_in}
+use Rattle.activations.specs.Applied.{on_top, resumes_line, returns_or_ends}
 use Rattle.prepared_code.specs.Initializations.{initialization_on, stack_of, state_of, with_initializations}
-use Rattle.interpreter.specs.Instructions.Passing.{AreKeptBy, Passes, caller_line, fits_given, gone_back, on_frames, runs}
+use Rattle.interpreter.specs.Moves.Passing.{AreKeptBy, Passes, caller_line, fits_given, gone_back, on_frames, runs}
 use Rattle.prepared_code.specs.Ready.{CanRun}
 use Rattle.interpreter.specs.Moves.Calmly.{Attempted}
 use Rattle.prepared_code.specs.Runs.{IsAtInstruction}
 use Rattle.prepared_code.specs.States.{active, frame_in, here_of, state_with}
 use Rattle.prepared_code.specs.Versions.{Setup, instruction_in, line_at, mark_of, next_in, operation_as, listing_of}
-use Rattle.interpreter.proofs.Initializing.Beneath.{awaits-unnamed, does-beneath, does-there, top-there}
-use Rattle.interpreter.proofs.Silent.Leading.{leads-one}
-use Rattle.interpreter.proofs.Moves.LineSteps.{going-on, rests, step-attempts, top-frame}
-use Rattle.interpreter.proofs.Silent.PlainSteps.{at-rest, framed, goes as goes-there}
-use Rattle.interpreter.proofs.Silent.QuietLines.{goes-rests, step_by}
+use Rattle.instructions.proofs.Initializing.Beneath.{awaits-unnamed, does-beneath, does-there, top-there}
+use Rattle.instructions.proofs.Silent.Leading.{leads-one}
+use Rattle.instructions.proofs.Moves.LineSteps.{going-on, rests, step-attempts}
+use Rattle.activations.proofs.TurnsCarried.{top-frame}
+use Rattle.instructions.proofs.Silent.PlainSteps.{at-rest, framed, goes as goes-there}
+use Rattle.instructions.proofs.Silent.QuietLines.{goes-rests, step_by}
 use Rattle.interpreter.proofs.Silent.SilentSteps.{silent-one}
 
 either : {A : Type 0} (b : Bool) → (b ≡ true → A) → (b ≡ false → A) → A

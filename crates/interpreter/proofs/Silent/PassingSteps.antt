@@ -31,22 +31,25 @@ use Rattle.prepared_lines.specs.declared.line.Line.{Line}
 use Rattle.prepared_code.specs.declared.initializations.Initialization.{Initialization}
 use Rattle.prepared_code.specs.declared.parts.Here.{Here}
 use Rattle.prepared_code.specs.declared.parts.Parts.{Parts}
-use Rattle.interpreter.specs.Instructions.Acts.{acts_asked, attempts_on, awaited_in, is_at_rest, is_named, named_in, on_parts, on_top}
-use Rattle.interpreter.specs.Instructions.Asked.{done_top}
+use Rattle.activations.specs.Applied.{acts_asked, on_parts, on_top}
+use Rattle.instructions.specs.Acts.{attempts_on, awaited_in, is_at_rest, is_named, named_in}
+use Rattle.activations.specs.Asked.{done_top}
 use Rattle.prepared_code.specs.Lines.{IfNamed, IfNamedBy}
 use Rattle.prepared_code.specs.Initializations.{initialization_on, stack_of, state_of, with_initializations}
-use Rattle.interpreter.specs.Instructions.Passing.{Passes, steps_if}
+use Rattle.interpreter.specs.Moves.Passing.{Passes, steps_if}
 use Rattle.prepared_code.specs.Ready.{CanRun}
 use Rattle.prepared_code.specs.Runs.{IsAtInstruction, steps_from}
 use Rattle.prepared_code.specs.States.{active, frame_in, here_of, state_in, state_with}
 use Rattle.prepared_code.specs.Versions.{Setup, instruction_in, line_at, operation_as, listing_of}
-use Rattle.interpreter.proofs.Silent.Leading.{leads-one, quiet-one}
-use Rattle.interpreter.proofs.Moves.LineSteps.{IsGoing, going-on, rests, step-attempts, top-frame}
-use Rattle.interpreter.proofs.Instructions.LineActs.{stays, stays-starts}
-use Rattle.interpreter.proofs.Instructions.NamedAttempts.{awaits-told, goes-on}
-use Rattle.interpreter.proofs.Instructions.NamedLaws.{is-named}
-use Rattle.interpreter.proofs.Silent.PlainSteps.{at-rest, framed, goes}
-use Rattle.interpreter.proofs.Silent.QuietLines.{IsQuiet, goes-on-quiet, step_by}
+use Rattle.instructions.proofs.Silent.Leading.{leads-one, quiet-one}
+use Rattle.instructions.proofs.Moves.LineSteps.{IsGoing, going-on, rests, step-attempts}
+use Rattle.activations.proofs.TurnsCarried.{top-frame}
+use Rattle.activations.proofs.Concluded.{stays}
+use Rattle.instructions.proofs.Attempts.LineActs.{stays-starts}
+use Rattle.instructions.proofs.Attempts.NamedAttempts.{awaits-told, goes-on}
+use Rattle.instructions.proofs.Attempts.NamedLaws.{is-named}
+use Rattle.instructions.proofs.Silent.PlainSteps.{at-rest, framed, goes}
+use Rattle.instructions.proofs.Silent.QuietLines.{IsQuiet, goes-on-quiet, step_by}
 use Rattle.interpreter.proofs.Silent.SilentSteps.{passes_none, quiet-silent}
 
 -- ---- a frame that has gone on

@@ -33,18 +33,21 @@ use Rattle.prepared_lines.specs.declared.line.Line.{Line}
 use Rattle.prepared_code.specs.declared.initializations.Initialization.{Initialization}
 use Rattle.prepared_code.specs.declared.parts.Here.{Here}
 use Rattle.prepared_code.specs.declared.parts.Parts.{Parts}
-use Rattle.interpreter.specs.Instructions.Acts.{acts, acts_asked, acts_by, attempts_on, is_named, named_in, on_top}
+use Rattle.instructions.specs.Acts.{acts, acts_by, attempts_on, is_named, named_in}
+use Rattle.activations.specs.Applied.{acts_asked, on_top}
 use Rattle.prepared_code.specs.Initializations.{initialization_on, stack_of, state_of, with_initializations}
-use Rattle.interpreter.specs.Instructions.Passing.{AreKeptBy, CatchesBelow, Passes, caught_back, caught_if, fits_caught, on_frames, runs, steps_if}
+use Rattle.interpreter.specs.Moves.Passing.{AreKeptBy, Passes, on_frames, runs, steps_if}
+use Rattle.activations.specs.Catching.{CatchesBelow, caught_back, caught_if, fits_caught}
 use Rattle.prepared_code.specs.Ready.{CanRun}
 use Rattle.prepared_code.specs.Runs.{IsAtInstruction, steps_from-zero}
 use Rattle.prepared_code.specs.States.{active, frame_in, here_of, state_with}
 use Rattle.prepared_code.specs.Versions.{Setup, instruction_in, line_at, mark_of, operation_as, listing_of}
-use Rattle.interpreter.proofs.Initializing.Beneath.{awaits-unnamed, does-beneath, does-there, top-there}
-use Rattle.interpreter.proofs.Silent.Leading.{leads-one}
-use Rattle.interpreter.proofs.Moves.LineSteps.{behind, going-on, step-attempts, top-frame}
-use Rattle.interpreter.proofs.Silent.PlainSteps.{framed, goes as goes-there}
-use Rattle.interpreter.proofs.Silent.QuietLines.{step_by}
+use Rattle.instructions.proofs.Initializing.Beneath.{awaits-unnamed, does-beneath, does-there, top-there}
+use Rattle.instructions.proofs.Silent.Leading.{leads-one}
+use Rattle.instructions.proofs.Moves.LineSteps.{behind, going-on, step-attempts}
+use Rattle.activations.proofs.TurnsCarried.{top-frame}
+use Rattle.instructions.proofs.Silent.PlainSteps.{framed, goes as goes-there}
+use Rattle.instructions.proofs.Silent.QuietLines.{step_by}
 use Rattle.interpreter.proofs.Silent.SilentSteps.{silent-one}
 
 either : {A : Type 0} (b : Bool) → (b ≡ true → A) → (b ≡ false → A) → A

@@ -23,7 +23,7 @@ use Rattle.prepared_code.specs.declared.initializations.Initialization.{Initiali
 use Rattle.prepared_code.specs.declared.parts.Here.{Here}
 use Rattle.prepared_code.specs.declared.parts.Parts.{Parts}
 use Rattle.prepared_code.specs.Initializations.{initialization_on, state_of}
-use Rattle.interpreter.specs.Instructions.Passing.{Passes, caller_line, fits_given, gone_back, on_frames, steps_if}
+use Rattle.interpreter.specs.Moves.Passing.{Passes, caller_line, fits_given, gone_back, on_frames, steps_if}
 use Rattle.prepared_code.specs.Ready.{CanRun}
 use Rattle.interpreter.specs.Moves.Calmly.{GoesBack, TriesIf}
 use Rattle.prepared_code.specs.Runs.{IsAtInstruction}

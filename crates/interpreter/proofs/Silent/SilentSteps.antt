@@ -20,10 +20,10 @@ use Rattle.jvm_model.proofs.Turns.StepPausing.{step-paused}
 use Rattle.prepared_code.specs.declared.initializations.Initialization.{Initialization}
 use Rattle.prepared_code.specs.declared.parts.Parts.{Parts}
 use Rattle.prepared_code.specs.Initializations.{initialization_on, state_of}
-use Rattle.interpreter.specs.Instructions.Passing.{AreSilent, IsSilent, Passes, runs}
+use Rattle.interpreter.specs.Moves.Passing.{AreSilent, IsSilent, Passes, runs}
 use Rattle.prepared_code.specs.Runs.{IsAtInstruction, LeadsAlone, steps_from, steps_from-zero}
 use Rattle.prepared_code.specs.Versions.{Setup, mark_of, listing_of}
-use Rattle.interpreter.proofs.Silent.Leading.{leads-none, leads-on, steps-parts}
+use Rattle.instructions.proofs.Silent.Leading.{leads-none, leads-on, steps-parts}
 
 -- ---- a step without changes
 

@@ -5,7 +5,7 @@ use Rattle.jvm_model.specs.declared.state.State.{State}
 use Rattle.jvm_model.specs.Basis.Data.{World, Outcome, Raises}
 use Rattle.jvm_model.specs.Running.Moves.{raises}
 use Rattle.jvm_model.specs.Running.Run.{before}
-use Rattle.interpreter.specs.Instructions.Initializing.{begins_class}
+use Rattle.activations.specs.Initializing.{begins_class}
 
 -- it holds of that state
 abbrev pub BeforeEach : Program → (State → Type 0) → Type 0

@@ -10,13 +10,13 @@ use Rattle.interpreter.specs.declared.turns.hands.Hand.{Hand}
 use Rattle.prepared_code.specs.declared.parts.Parts.{Parts}
 use Rattle.prepared_code.specs.Tables.{Versions}
 use Rattle.prepared_code.specs.Versions.{Setup, next_in}
-use Rattle.interpreter.specs.Instructions.Acts.{attempts_on, awaited_in}
-use Rattle.interpreter.specs.Instructions.Passing.{AreKeptBy, caller_line}
+use Rattle.instructions.specs.Acts.{attempts_on, awaited_in}
+use Rattle.interpreter.specs.Moves.Passing.{AreKeptBy, caller_line}
 use Rattle.prepared_code.specs.Initializations.{initialization_on, state_of}
 use Rattle.prepared_code.specs.Runs.{IsAtInstruction}
 use Rattle.interpreter.specs.Moves.Hands.{IsLeft, goes_in}
 use Rattle.interpreter.specs.Moves.Trying.{tried_in}
-use Rattle.interpreter.specs.Moves.Turning.{loads_in, loads_none, pause_at}
+use Rattle.activations.specs.Turning.{loads_in, loads_none, pause_at}
 
 -- ---- an attempt
 

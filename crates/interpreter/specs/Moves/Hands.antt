@@ -11,7 +11,7 @@ use Rattle.interpreter.specs.declared.turns.hands.Gone.{Gone}
 use Rattle.interpreter.specs.declared.turns.hands.Hand.{Hand}
 use Rattle.prepared_code.specs.Standing.{places_of}
 use Rattle.interpreter.specs.Moves.Trying.{tried_in}
-use Rattle.interpreter.specs.Moves.Turning.{goes_by_moves, pause_at}
+use Rattle.activations.specs.Turning.{goes_by_moves, pause_at}
 use Rattle.prepared_code.specs.Versions.{Setup, current_of, method_of, mark_of}
 
 abbrev pub todo_of : Bool → Todo

@@ -13,7 +13,7 @@ use Rattle.prepared_code.specs.Versions.{Setup}
 use Rattle.interpreter.specs.declared.turns.hands.Gone.{Gone}
 use Rattle.interpreter.specs.declared.turns.hands.Hand.{Hand}
 use Rattle.interpreter.specs.declared.turns.hands.Passed.{Passed}
-use Rattle.interpreter.specs.Instructions.Passing.{Passes}
+use Rattle.interpreter.specs.Moves.Passing.{Passes}
 use Rattle.interpreter.specs.Moves.Calmly.{GoesCalmly, TriesCalmly}
 use Rattle.interpreter.specs.Moves.Hands.{HasGoneOn, HasInHand}
 

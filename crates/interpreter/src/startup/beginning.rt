@@ -10,8 +10,7 @@ ghost use Rattle.interpreter.specs.Machine.Before.{IsAtStart, begun_by};
 ghost use Rattle.prepared_code.specs.Initializations.{state_of};
 ghost use Rattle.prepared_code.specs.Linked.{IsLinked};
 
-use crate::execute::asking::raise_named;
-use crate::initialize::initializing::initialize;
+use activations::{initialize, raise_named};
 use jf_bytes::{NoMemory, Stack};
 use member_selection::AbruptCompletion;
 use prepared_code::{Initialization, Originals, Parts};

@@ -14,8 +14,8 @@ ghost use Rattle.interpreter.specs.Moves.Calmly.{GoesCalmly, TriesIf};
 ghost use Rattle.interpreter.specs.Moves.Hands.{HasGoneOn, HasInHand};
 ghost use Rattle.prepared_code.specs.Linked.{setup_in};
 
-use crate::execute::passing::leave;
 use crate::turns::hands::{Gone, Hand, gone_to};
+use crate::turns::passing::leave;
 use crate::turns::resting::is_at_rest;
 use jf_bytes::Stack;
 use jvm_model::Due;

@@ -10,7 +10,7 @@ ghost use Rattle.interpreter.specs.Moves.Hands.{HasGoneOn, HasInHand, IsLeft, go
 ghost use Rattle.prepared_code.specs.Initializations.{state_of};
 ghost use Rattle.prepared_code.specs.Ready.{CanRun, IsSoundIn};
 ghost use Rattle.prepared_code.specs.Standing.{HasVersions};
-ghost use Rattle.interpreter.specs.Moves.Turning.{loads_in, loads_none, pause_at};
+ghost use Rattle.activations.specs.Turning.{loads_in, loads_none, pause_at};
 ghost use Rattle.prepared_code.specs.Linked.{IsLinked, setup_in};
 
 use crate::turns::pausing::go_by_moves;

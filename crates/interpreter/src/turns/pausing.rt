@@ -4,12 +4,12 @@
 ghost use Rattle.std.specs.Prelude.{◌≡◌, suc, OnOk, IfOk};
 ghost use Rattle.jvm_model.specs.Turns.InHand.{frame_popped};
 ghost use Rattle.prepared_code.specs.Initializations.{state_of};
-ghost use Rattle.interpreter.specs.Moves.Turning.{goes_by_moves, pause_at, paused_in};
-ghost use Rattle.interpreter.specs.Moves.Turning.{frame_resumed, resumed_count};
+ghost use Rattle.activations.specs.Turning.{goes_by_moves, pause_at, paused_in};
+ghost use Rattle.activations.specs.Turning.{frame_resumed, resumed_count};
 ghost use Rattle.prepared_code.specs.Linked.{setup_in};
 
 use crate::turns::resting::is_at_rest;
-use crate::turns::turning::{Moved, make_move};
+use activations::{Moved, make_move};
 use jf_bytes::{NoMemory, Stack};
 use jvm_model::{Due, EventKind};
 use prepared_code::{Initialization, Originals, Parts, initialization_on, where_now};

@@ -3,7 +3,7 @@
 ghost use Rattle.std.specs.Prelude.{◌≡◌};
 ghost use Rattle.jvm_model.specs.Running.Run.{is_ready};
 ghost use Rattle.jvm_model.specs.Basis.SharedState.{phase_of};
-ghost use Rattle.interpreter.specs.Instructions.Acts.{is_at_rest, goes_on_in};
+ghost use Rattle.instructions.specs.Acts.{is_at_rest, goes_on_in};
 ghost use Rattle.prepared_code.specs.Initializations.{is_executing};
 
 use jf_bytes::Stack;

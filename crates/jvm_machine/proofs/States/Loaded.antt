@@ -27,7 +27,7 @@ use Rattle.interpreter.specs.declared.turns.hands.Hand.{Hand}
 use Rattle.interpreter.specs.Moves.Hands.{HasInHand, todo_of, versioned_in}
 use Rattle.prepared_code.specs.Ready.{IsSoundIn, RunsIn}
 use Rattle.prepared_code.specs.Standing.{HasVersions, places_of}
-use Rattle.interpreter.specs.Moves.Turning.{loads_in}
+use Rattle.activations.specs.Turning.{loads_in}
 use Rattle.prepared_code.specs.Versions.{Setup, mark_of, listing_of}
 use Rattle.prepared_code.proofs.Tables.StandingSteps.{set-up-runs}
 use Rattle.prepared_code.proofs.Tables.VersionsRun.{step-stands}

@@ -18,7 +18,7 @@ use Rattle.interpreter.specs.Moves.Hands.{HasGoneOn, HasInHand, IsLeft}
 use Rattle.prepared_code.specs.Ready.{IsSoundIn}
 use Rattle.prepared_code.specs.Standing.{HasVersions, IsPinned}
 use Rattle.prepared_code.specs.Tables.{Releases, Versions}
-use Rattle.interpreter.specs.Moves.Turning.{loads_in, loads_none}
+use Rattle.activations.specs.Turning.{loads_in, loads_none}
 use Rattle.prepared_code.specs.Versions.{Setup, mark_of}
 use Rattle.jvm_machine.specs.Advances.{Stops, TellsClasses, clock_in, left_in, passed_then, taken_hand, taken_loads, taken_state, told_in}
 use Rattle.jvm_machine.specs.Machine.{IsMachine, IsSoundOnce, IsWhole, Stands, state_seen}

@@ -12,7 +12,7 @@ use Rattle.prepared_code.specs.Initializations.{state_of}
 use Rattle.prepared_code.specs.Ready.{IsSoundIn}
 use Rattle.interpreter.specs.Moves.Calmly.{GoesCalmly}
 use Rattle.interpreter.specs.Moves.Hands.{IsLeft}
-use Rattle.interpreter.specs.Moves.Turning.{loads_none}
+use Rattle.activations.specs.Turning.{loads_none}
 use Rattle.jvm_machine.specs.declared.advancing.Telling.TheVariants as telling
 use Rattle.jvm_machine.specs.Advances.{Stops, clock_in, left_in, taken_hand, taken_loads, taken_state}
 use Rattle.jvm_machine.specs.Machine.{IsMachine, IsSoundOnce, IsTidy, state_seen}

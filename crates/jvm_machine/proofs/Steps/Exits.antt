@@ -13,7 +13,7 @@ use Rattle.interpreter.specs.Moves.Hands.{HasGoneOn, HasInHand, IsLeft}
 use Rattle.prepared_code.specs.Ready.{CanRun, IsSoundIn}
 use Rattle.prepared_code.specs.Standing.{HasVersions, IsPinned}
 use Rattle.prepared_code.specs.Tables.{Releases}
-use Rattle.interpreter.specs.Moves.Turning.{loads_in, loads_none}
+use Rattle.activations.specs.Turning.{loads_in, loads_none}
 use Rattle.prepared_code.specs.Versions.{Setup, mark_of}
 use Rattle.prepared_code.proofs.Tables.StandingSteps.{set-up-runs}
 use Rattle.jvm_machine.specs.Advances.{Stops, TellsClasses, broken_in, clock_in, left_in, taken_hand, taken_loads, taken_state}

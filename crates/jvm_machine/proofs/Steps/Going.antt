@@ -31,7 +31,7 @@ use Rattle.interpreter.specs.declared.turns.hands.Hand.{Hand}
 use Rattle.interpreter.specs.Moves.Hands.{HasGoneOn, HasInHand, IsLeft, todo_of, versioned_in}
 use Rattle.prepared_code.specs.Standing.{HasVersions, places_of}
 use Rattle.prepared_code.specs.Tables.{Version}
-use Rattle.interpreter.specs.Moves.Turning.{loads_in, loads_none}
+use Rattle.activations.specs.Turning.{loads_in, loads_none}
 use Rattle.prepared_code.specs.Versions.{Setup, current_of, mark_of, method_of, listing_of}
 use Rattle.prepared_code.proofs.Tables.VersionsAgree.{versions-agree}
 use Rattle.jvm_machine.specs.Advances.{left_in, passed_then, told_in}

@@ -3,7 +3,7 @@ use Rattle.std.proofs.Common.{◌≡◌, ℕ, ◌+◌, Bool, true, false, List, 
 use Rattle.std.specs.Prelude.{◌&&◌}
 use Rattle.interpreter.specs.declared.turns.hands.Gone.{Gone}
 use Rattle.interpreter.specs.declared.turns.hands.Hand.{Hand}
-use Rattle.interpreter.specs.Instructions.Passing.{Passes as Silent}
+use Rattle.interpreter.specs.Moves.Passing.{Passes as Silent}
 use Rattle.interpreter.specs.Moves.Calmly.{GoesCalmly}
 use Rattle.interpreter.specs.Moves.Onward.{StopsIf}
 use Rattle.jvm_model.specs.Basis.Data.{World}

@@ -2,7 +2,7 @@
 use Rattle.std.proofs.Common.{◌≡◌, ℕ, ◌+◌, Bool, true, false, List, Option, Some, None, sym, ap, subst, ◌∙◌, refl}
 use Rattle.interpreter.specs.declared.turns.hands.Gone.{Gone}
 use Rattle.interpreter.specs.declared.turns.hands.Hand.{Hand}
-use Rattle.interpreter.specs.Instructions.Passing.{Passes as Silent}
+use Rattle.interpreter.specs.Moves.Passing.{Passes as Silent}
 use Rattle.interpreter.specs.Moves.Onward.{StopsIf, empty_hand}
 use Rattle.jvm_model.specs.declared.due.Due.{Due}
 use Rattle.jvm_model.specs.Basis.Data.{World}

@@ -22,7 +22,7 @@ use Rattle.interpreter.specs.declared.turns.hands.Hand.{Hand}
 use Rattle.prepared_code.specs.declared.initializations.Initialization.{Initialization}
 use Rattle.prepared_code.specs.declared.parts.Parts.{Parts}
 use Rattle.prepared_code.specs.Initializations.{state_of}
-use Rattle.interpreter.specs.Instructions.Passing.{AreSilent, IsSilent, Passes as Silent, runs}
+use Rattle.interpreter.specs.Moves.Passing.{AreSilent, IsSilent, Passes as Silent, runs}
 use Rattle.prepared_code.specs.Runs.{Leads, steps_from, steps_from-suc, steps_from-zero}
 use Rattle.prepared_code.specs.Standing.{IsRunOf, places_of}
 use Rattle.prepared_code.specs.Versions.{Setup, current_of, mark_of, method_of, listing_of}

@@ -23,7 +23,7 @@ use Rattle.prepared_code.specs.Versions.{Setup}
 use Rattle.symbolic_references.specs.Runtimes.{RuntimeView}
 use Rattle.jvm_machine.specs.Advances.{taken_state}
 use Rattle.jvm_machine.specs.Machine.{IsTidy, Keeps, holds_stale, is_stale, state_seen, state_viewed}
-use Rattle.interpreter.specs.Instructions.Passing.{runs}
+use Rattle.interpreter.specs.Moves.Passing.{runs}
 use Rattle.jvm_machine.specs.View.{View}
 
 -- ---- what is seen then

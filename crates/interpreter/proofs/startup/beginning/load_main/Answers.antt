@@ -3,9 +3,8 @@ use Rattle.jvm_model.specs.Running.Run.{main_class}
 use Rattle.member_selection.specs.Answers.{found_view}
 use Rattle.prepared_code.specs.Initializations.{state_of}
 use Rattle.prepared_code.specs.Linked.{setup_in}
-use Rattle.interpreter.proofs.Instructions.NamedAttempts.{linked-kept}
+use Rattle.instructions.proofs.Attempts.NamedAttempts.{linked-kept, on-either}
 use Rattle.interpreter.proofs.Loads.Starts.{begins-all, fits-room, limit-before}
-use Rattle.interpreter.proofs.Moves.Followed.{on-either}
 use Rattle.interpreter.proofs.startup.beginning.load_main.Goals as goal
 
 pub make_arguments-requires-clause-room : goal.make_arguments-requires-clause-room

@@ -2,7 +2,7 @@ use Rattle.std.proofs.Common.{sym, ◌∙◌}
 use Rattle.std.proofs.lemmas.Bool.{false≢true}
 use Rattle.prepared_code.specs.Initializations.{state_of}
 use Rattle.prepared_code.specs.Linked.{setup_in}
-use Rattle.interpreter.proofs.Instructions.NamedAttempts.{linked-kept}
+use Rattle.instructions.proofs.Attempts.NamedAttempts.{linked-kept}
 use Rattle.interpreter.proofs.Moves.HandLaws.{attempt-sound, hands-on, moves-sound, reaches-attempt, reaches-moves, start-sound}
 use Rattle.interpreter.proofs.turns.hands.go.Goals as goal
 

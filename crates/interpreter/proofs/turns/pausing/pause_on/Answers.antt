@@ -1,9 +1,9 @@
 use Rattle.std.proofs.Common.{sym, ap, ◌∙◌}
 use Rattle.jvm_model.specs.declared.due.Due.TheVariants.{Nothing, Ends, Begins}
 use Rattle.jvm_model.specs.declared.event.EventKind.TheVariants.{Unwind}
-use Rattle.interpreter.specs.declared.turns.turning.Moved.TheVariants as moved
+use Rattle.activations.specs.declared.turning.Moved.TheVariants as moved
 use Rattle.prepared_code.specs.Initializations.{state_of}
-use Rattle.interpreter.specs.Moves.Turning.{pause_at, paused_in}
+use Rattle.activations.specs.Turning.{pause_at, paused_in}
 use Rattle.prepared_code.specs.Linked.{setup_in}
 use Rattle.interpreter.proofs.Moves.OneMove.{moves-as}
 use Rattle.interpreter.proofs.turns.pausing.pause_on.Goals as goal

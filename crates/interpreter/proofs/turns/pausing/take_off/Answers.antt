@@ -1,7 +1,7 @@
 use Rattle.std.proofs.Common.{sym, ap, ◌∙◌}
 use Rattle.prepared_code.specs.Initializations.{initialization_on}
-use Rattle.interpreter.proofs.Initializing.Beneath.{not-some}
-use Rattle.interpreter.proofs.Moves.TurnsCarried.{popped-there}
+use Rattle.activations.proofs.CatchLemmas.{not-some}
+use Rattle.activations.proofs.TurnsCarried.{popped-there}
 use Rattle.interpreter.proofs.turns.pausing.take_off.Goals as goal
 
 pub returns-clause-state : goal.returns-clause-state

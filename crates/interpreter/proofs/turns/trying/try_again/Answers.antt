@@ -1,8 +1,8 @@
-use Rattle.interpreter.specs.Instructions.Acts.{attempts_on}
+use Rattle.instructions.specs.Acts.{attempts_on}
 use Rattle.prepared_code.specs.Initializations.{state_of}
 use Rattle.prepared_code.specs.Linked.{setup_in}
-use Rattle.interpreter.proofs.Instructions.NamedAttempts.{linked-kept, same-setup}
-use Rattle.interpreter.proofs.Moves.Followed.{follows-in, on-either}
+use Rattle.instructions.proofs.Attempts.NamedAttempts.{linked-kept, same-setup, on-either}
+use Rattle.interpreter.proofs.Moves.Followed.{follows-in}
 use Rattle.interpreter.proofs.turns.trying.try_again.Goals as goal
 
 pub returns-clause-reaches : goal.returns-clause-reaches

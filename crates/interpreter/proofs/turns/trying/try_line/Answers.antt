@@ -1,10 +1,10 @@
 use Rattle.std.proofs.Common.{sym, subst, ◌∙◌}
 use Rattle.prepared_code.specs.Initializations.{state_of}
 use Rattle.prepared_code.specs.Ready.{CanRun}
-use Rattle.interpreter.specs.Moves.Turning.{pause_at}
+use Rattle.activations.specs.Turning.{pause_at}
 use Rattle.prepared_code.specs.Linked.{setup_in}
-use Rattle.interpreter.proofs.Initializing.Behind.{none-there}
-use Rattle.interpreter.proofs.Instructions.NamedAttempts.{linked-kept, same-setup}
+use Rattle.interpreter.proofs.Moves.Behind.{none-there}
+use Rattle.instructions.proofs.Attempts.NamedAttempts.{linked-kept, same-setup}
 use Rattle.interpreter.proofs.Moves.TriedSteps.{line-no-more, line-once, line-sound, line-twice, line-executing}
 use Rattle.interpreter.proofs.turns.trying.try_line.Goals as goal
 

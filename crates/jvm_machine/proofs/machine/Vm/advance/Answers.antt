@@ -2,7 +2,7 @@ use Rattle.std.proofs.Common.{◌≡◌, true, false, drop, length, sym, ap, ap�
 use Rattle.class_linker.specs.Linkers.{LinkerView}
 use Rattle.jvm_model.specs.declared.state.State.{State}
 use Rattle.prepared_code.specs.Initializations.{state_of}
-use Rattle.interpreter.specs.Moves.Turning.{loads_in}
+use Rattle.activations.specs.Turning.{loads_in}
 use Rattle.prepared_code.specs.Versions.{Setup}
 use Rattle.prepared_code.specs.Tables.{Releases, Versions}
 use Rattle.prepared_code.proofs.Tables.StandingSteps.{parts-pinned}

@@ -1,0 +1,11 @@
+pub mod InitializerFrames
+pub mod OperandsAlone
+pub mod MainFrames
+pub mod Arguments
+pub mod Callees
+pub mod Concluded
+pub mod Passages
+pub mod CatchLemmas
+pub mod Above
+pub mod MovesCarried
+pub mod TurnsCarried

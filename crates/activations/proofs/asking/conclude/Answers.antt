@@ -1,0 +1,41 @@
+use Rattle.std.proofs.Common.{◌≡◌, sym, subst, ◌∙◌}
+use Rattle.std.specs.Prelude.{IfNone, IfOk, drop}
+use Rattle.frame_stack.specs.FrameLists.{top_operands}
+use Rattle.jvm_model.specs.Running.Run.{starts}
+use Rattle.member_selection.specs.Outcomes.{HasOperands, asked}
+use Rattle.member_selection.specs.Targets.{data_in}
+use Rattle.prepared_code.specs.Linked.{setup_in}
+use Rattle.prepared_code.specs.States.{state_in}
+use Rattle.activations.specs.Applied.{acts_asked, on_parts}
+use Rattle.activations.specs.Asked.{TakesArguments}
+use Rattle.activations.proofs.Concluded.{invokes-is}
+use Rattle.activations.proofs.Arguments.{length-data}
+use Rattle.activations.proofs.asking.conclude.Goals as goal
+
+pub returns-in-Goes-clause-state : goal.returns-in-Goes-clause-state
+returns-in-Goes-clause-state c =
+    let w = setup_in c.args.parts.now.runtime c.args.originals.now in
+    let p = c.args.parts.now in
+    subst (λ a. state_in c.go_on.new.parts ≡ on_parts (λ s f. acts_asked w c.args.line.now s f (asked a p.frames)) p) (sym c.in-Goes.is) c.go_on.ensures.state
+
+pub returns-in_ok-call-in-Invokes-clause-state : goal.returns-in_ok-call-in-Invokes-clause-state
+returns-in_ok-call-in-Invokes-clause-state c =
+    let w = setup_in c.args.parts.now.runtime c.args.originals.now in
+    let p = c.args.parts.now in
+    let o = top_operands p.frames.frames in
+    subst (λ a. state_in c.call.new.parts ≡ on_parts (λ s f. acts_asked w c.args.line.now s f (asked a p.frames)) p) (sym c.in-Invokes.is)
+    (c.in_ok-call-in-Invokes.ensures.state
+    ∙ invokes-is w c.args.line.now c.args.method p c.in-Invokes.callee c.in-Invokes.args (data_in c.in-Invokes.args o) (drop c.in-Invokes.args o) p.frames.frames c.requires.top
+    (length-data c.in-Invokes.args o (subst (λ a. HasOperands a o) c.in-Invokes.is c.requires.enough))
+    (subst (λ a. TakesArguments (asked a p.frames) o) c.in-Invokes.is c.requires.takes))
+
+pub returns-in-Refused-clause-state : goal.returns-in-Refused-clause-state
+returns-in-Refused-clause-state c =
+    let w = setup_in c.args.parts.now.runtime c.args.originals.now in
+    let p = c.args.parts.now in
+    subst (λ a. IfOk c.refuse.result (λ o. IfNone o (state_in c.refuse.new.parts ≡ on_parts (λ s f. acts_asked w c.args.line.now s f (asked a p.frames)) p))) (sym c.in-Refused.is)
+    c.refuse.ensures.state
+
+pub returns-in-Refused-clause-answer : goal.returns-in-Refused-clause-answer
+returns-in-Refused-clause-answer c =
+    subst (λ a. IfOk c.refuse.result (λ o. o ≡ starts (asked a c.args.parts.now.frames))) (sym c.in-Refused.is) c.refuse.ensures.answer

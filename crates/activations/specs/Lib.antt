@@ -1,0 +1,10 @@
+pub mod Going
+pub mod Returning
+pub mod Arguments
+pub mod Invoking
+pub mod Asked
+pub mod Initializing
+pub mod Applied
+pub mod Catching
+pub mod Settling
+pub mod Turning

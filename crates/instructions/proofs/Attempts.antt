@@ -1,0 +1,10 @@
+pub mod NamedLaws
+pub mod Initializations
+pub mod Alone
+pub mod LineActs
+pub mod NamedAttempts
+pub mod ElementLemmas
+pub mod QuickElements
+pub mod ElementActs
+pub mod ObjectActs
+pub mod ElementSteps

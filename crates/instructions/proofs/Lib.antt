@@ -1,0 +1,5 @@
+pub mod Attempts
+pub mod Silent
+pub mod Loads
+pub mod Initializing
+pub mod Moves

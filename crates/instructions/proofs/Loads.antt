@@ -1,0 +1,2 @@
+pub mod ActsLoad
+pub mod LoadedApart

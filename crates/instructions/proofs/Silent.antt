@@ -1,0 +1,4 @@
+pub mod Leading
+pub mod QuietLines
+pub mod PlainSteps
+pub mod PassedLines

@@ -1,3 +1,0 @@
-pub mod Carried
-pub mod Beneath
-pub mod Behind

@@ -1,9 +1,0 @@
-pub mod Acts
-pub mod Going
-pub mod Returning
-pub mod Arguments
-pub mod Invoking
-pub mod Asked
-pub mod Initializing
-pub mod Elements
-pub mod Passing
