@@ -111,8 +111,8 @@ fn add_selections_of(
         (selection_of linker.now.program lineage.now.loaded named.interface named.class
         (at_place m)) classes.now)) }
 {
-    let NamedClass { class, interface } = named;
     for lower in classes {
+        let NamedClass { class, interface } = named;
         let number = selection_of(linker, numbers, lineage, interface, class, m, *lower);
         add_number(found, number)?;
     }
