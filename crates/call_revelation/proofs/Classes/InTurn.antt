@@ -10,7 +10,8 @@ use Rattle.jvm_model.proofs.Loading.LoadOrder.{order-behind}
 use Rattle.class_linker.specs.Linkers.{IsLoaded, LinkerView}
 use Rattle.call_revelation.specs.declared.reveal.Reveal.{Reveal}
 use Rattle.call_revelation.specs.Reveals.{AreLoading, IsAhead, IsPrefix, IsGrown, IsRevelation}
-use Rattle.call_revelation.proofs.Numbers.Adding.{among-append, or-later}
+use Rattle.call_revelation.proofs.Truths.{or-later}
+use Rattle.call_revelation.proofs.Numbers.Adding.{among-append}
 use Rattle.call_revelation.proofs.Numbers.Fronts.{front-drop}
 use Rattle.call_revelation.proofs.Revelations.Grown.{grown-self, grown-then}
 use Rattle.call_revelation.proofs.Revelations.Marking.{ahead-more}

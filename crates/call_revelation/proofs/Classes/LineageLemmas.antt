@@ -1,7 +1,7 @@
 -- A class more in the lists of those by which one comes to it.
 use Rattle.std.proofs.Common.{◌≡◌, ℕ, zero, suc, ◌<◌, ◌≤◌, Bool, true, false, List, [], ◌∷◌, ◌++◌, length, get_or, take, ◌+◌, ap, sym, subst, refl, ◌∙◌, arith, inl, inr}
 use Rattle.std.specs.List.{AllByRecursion}
-use Rattle.std.specs.Prelude.{◌⊎◌, replicate, Some, None, nat_lt, slice_get, ◌==◌, if◌then◌else◌}
+use Rattle.std.specs.Prelude.{◌⊎◌, replicate, Some, nat_lt, slice_get, ◌==◌, if◌then◌else◌}
 use Rattle.std.proofs.lemmas.Bool.{ltb-false, ltb-true}
 use Rattle.jvm_model.specs.declared.program.Program.{Program}
 use Rattle.jvm_model.specs.Classes.Load.{is_among}
@@ -12,19 +12,11 @@ use Rattle.call_revelation.specs.declared.lineage.Lineage.{Lineage}
 use Rattle.call_revelation.specs.Lineages.{AreFollowed, IsClosed, IsLed, IsLineage, IsNoted, LeadTo, direct, class_noted}
 use Rattle.call_revelation.specs.Reveals.{IsPrefix}
 use Rattle.call_revelation.specs.Tables.{Adds, list_at, with_item}
-use Rattle.call_revelation.proofs.Numbers.Adding.{among-append, either, equal, itself, or-false, or-first, or-later}
+use Rattle.call_revelation.proofs.Truths.{either, false_true, none-some, or-false, or-first, or-later, some-some}
+use Rattle.call_revelation.proofs.Numbers.Adding.{among-append, equal, itself}
 use Rattle.call_revelation.proofs.Numbers.Fronts.{front-among}
 use Rattle.call_revelation.proofs.Classes.SubtypeSteps.{direct-within, step}
 use Rattle.call_revelation.proofs.Numbers.TableLemmas.{at-other, at-same, length-with, nothing_past}
-
-false_true : false ≡ true → ⊥
-false_true e = cc
-
-none-some : {A : Type 0} (x : A) → None ≡ Some x → ⊥
-none-some x e = cc
-
-some-some : {A : Type 0} (x y : A) → Some x ≡ Some y → x ≡ y
-some-some x y e = cc
 
 pub below-or-past : (a b : ℕ) → (a < b) ⊎ (b ≤ a)
 below-or-past a b = by (nat_lt a b) refl

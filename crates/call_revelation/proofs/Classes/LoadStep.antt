@@ -20,17 +20,9 @@ use Rattle.call_revelation.specs.declared.uses.Use.{Use}
 use Rattle.call_revelation.specs.Books.{Codes, IsBook, called_by, called_from, called_on, code_at, methods_gathered, is_use, symbolic_reference_at, of_entered}
 use Rattle.call_revelation.specs.CalledClasses.{HasUppers, called_class}
 use Rattle.call_revelation.specs.Tables.{list_at}
-use Rattle.call_revelation.proofs.Numbers.Adding.{alike, among-append, either, equal, first-of, from_flat, itself, or-first, or-later, second-of, to_flat}
+use Rattle.call_revelation.proofs.Truths.{alike, either, false_true, first-of, none-some, or-first, or-later, second-of, some-some}
+use Rattle.call_revelation.proofs.Numbers.Adding.{among-append, equal, from_flat, itself, to_flat}
 use Rattle.call_revelation.proofs.References.ReferenceLemmas.{CallsIt, NamesIt, called-gains, gain-from, gain-of, gained-either, target-of}
-
-false_true : false ≡ true → ⊥
-false_true e = cc
-
-none-some : {A : Type 0} (x : A) → None ≡ Some x → ⊥
-none-some x e = cc
-
-some-some : {A : Type 0} (x y : A) → Some x ≡ Some y → x ≡ y
-some-some x y e = cc
 
 -- ---- lists of any items
 

@@ -6,17 +6,9 @@ use Rattle.jvm_model.specs.Classes.Load.{is_among}
 use Rattle.jvm_model.specs.Profiling.Revealed.{without_method}
 use Rattle.call_revelation.specs.Ranks.{AreDistinct, AreFlagged, IsRanked, flag_at, rank_of}
 use Rattle.call_revelation.specs.Tables.{IsPadded}
-use Rattle.call_revelation.proofs.Numbers.Adding.{among-filter, equal, itself, or-first, or-later}
+use Rattle.call_revelation.proofs.Truths.{false_true, none-some, or-first, or-later, some-some}
+use Rattle.call_revelation.proofs.Numbers.Adding.{among-filter, equal, itself}
 use Rattle.call_revelation.proofs.Numbers.TableLemmas.{set-other, set-same}
-
-false_true : false ≡ true → ⊥
-false_true e = cc
-
-none-some : {A : Type 0} (x : A) → None ≡ Some x → ⊥
-none-some x e = cc
-
-some-some : {A : Type 0} (x y : A) → Some x ≡ Some y → x ≡ y
-some-some x y e = cc
 
 -- ---- places
 

@@ -16,7 +16,8 @@ use Rattle.jvm_model.specs.declared.instruction.SymbolicReference.TheVariants.{N
 use Rattle.jvm_model.specs.Basis.Programs.{class_named, initializer_of}
 use Rattle.jvm_model.specs.Classes.Selection.{is_static}
 use Rattle.jvm_model.specs.Profiling.Targets.{begun_by, begun_by_operation, begun_field, begun_on, begun_static, class_with_methods, method_coded, coded_at, found_where, initializers, invoked_by, is_array_type, loaded_class_named, selections, targets_in, where_loaded}
-use Rattle.call_revelation.proofs.Numbers.Adding.{alike, among-append, among-filter, both, first-of, from_flat, made-flat, second-of, to_flat}
+use Rattle.call_revelation.proofs.Truths.{alike, both, first-of, second-of}
+use Rattle.call_revelation.proofs.Numbers.Adding.{among-append, among-filter, from_flat, made-flat, to_flat}
 
 module _ (p : Program) where
   -- the same classes are loaded

@@ -12,10 +12,8 @@ use Rattle.jvm_model.specs.Classes.Lookup.{interface_names, interfaces_of, is_su
 use Rattle.jvm_model.specs.Basis.Programs.{class_at, class_named, has_name, super_of}
 use Rattle.jvm_model.proofs.Soundness.SoundKinds.{named-class}
 use Rattle.call_revelation.specs.Lineages.{direct}
-use Rattle.call_revelation.proofs.Numbers.Adding.{among-append, either, equal, from_flat, or-first, or-later, to_flat}
-
-false_true : false ≡ true → ⊥
-false_true e = cc
+use Rattle.call_revelation.proofs.Truths.{either, false_true, none-some, or-first, or-later}
+use Rattle.call_revelation.proofs.Numbers.Adding.{among-append, equal, from_flat, to_flat}
 
 append-assoc : (xs ys zs : List ℕ) → (xs ++ ys) ++ zs ≡ xs ++ (ys ++ zs)
 append-assoc [] ys zs = refl

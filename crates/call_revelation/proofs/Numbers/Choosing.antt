@@ -3,10 +3,8 @@ use Rattle.std.proofs.Common.{◌≡◌, ℕ, Bool, true, false, List, ap, sym, 
 use Rattle.std.specs.Prelude.{filter, filter_map, flat_map, Option, None, if◌then◌else◌}
 use Rattle.std.specs.Option.{option_to_list}
 use Rattle.jvm_model.specs.Classes.Load.{is_among}
-use Rattle.call_revelation.proofs.Numbers.Adding.{alike, among-filter, both, first-of, from_flat, made-flat, second-of, to_flat}
-
-false_true : false ≡ true → ⊥
-false_true e = cc
+use Rattle.call_revelation.proofs.Truths.{alike, both, false_true, first-of, second-of}
+use Rattle.call_revelation.proofs.Numbers.Adding.{among-filter, from_flat, made-flat, to_flat}
 
 module _ (loaded given : List ℕ) (asked : ℕ → Bool) (f : ℕ → Option ℕ) (h : ℕ → List ℕ) where
   -- of a class that is loaded

@@ -4,7 +4,8 @@ use Rattle.std.specs.Prelude.{if◌then◌else◌}
 use Rattle.jvm_model.specs.Classes.Load.{is_among}
 use Rattle.class_index.specs.Orders.{with_class}
 use Rattle.call_revelation.specs.Reveals.{IsPrefix}
-use Rattle.call_revelation.proofs.Numbers.Adding.{among-append, or-first}
+use Rattle.call_revelation.proofs.Truths.{or-first}
+use Rattle.call_revelation.proofs.Numbers.Adding.{among-append}
 
 append-nothing : (xs : List ℕ) → xs ++ [] ≡ xs
 append-nothing [] = refl

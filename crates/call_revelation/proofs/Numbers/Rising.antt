@@ -5,10 +5,8 @@ use Rattle.std.specs.List.{AllByRecursion, range_with_len}
 use Rattle.jvm_model.specs.Classes.Load.{is_among}
 use Rattle.jvm_model.proofs.Revealing.Growing.{filter-front}
 use Rattle.call_revelation.specs.Tables.{IsRising}
-use Rattle.call_revelation.proofs.Numbers.Adding.{alike, among-filter, both, second-of}
-
-false_true : false ≡ true → ⊥
-false_true e = cc
+use Rattle.call_revelation.proofs.Truths.{alike, both, second-of}
+use Rattle.call_revelation.proofs.Numbers.Adding.{among-filter}
 
 -- each number of a range is above what is below the first
 above : (test : ℕ → Bool) (k start n : ℕ) → k < start → AllByRecursion (λ y. k < y) (filter test (range_with_len start n))

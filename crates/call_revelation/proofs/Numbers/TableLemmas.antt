@@ -1,10 +1,8 @@
 -- Lists that are kept by number.
-use Rattle.std.proofs.Common.{◌≡◌, ℕ, zero, suc, ◌<◌, ◌≤◌, true, false, List, [], ◌∷◌, ◌++◌, length, get_or, ap, sym, refl, arith}
+use Rattle.std.proofs.Common.{◌≡◌, ℕ, zero, suc, ◌<◌, ◌≤◌, false, List, [], ◌∷◌, ◌++◌, length, get_or, ap, sym, refl, arith}
 use Rattle.std.specs.Prelude.{Some, slice_get, slice_set, ◌==◌}
 use Rattle.call_revelation.specs.Tables.{list_at, with_item}
-
-false_true : false ≡ true → ⊥
-false_true e = cc
+use Rattle.call_revelation.proofs.Truths.{false_true}
 
 -- what is written is the list with an item more
 pub is_with_item : {A : Type 0} (item : A) (n : ℕ) (lists : List (List A)) (d written : List A) → n < length lists

@@ -17,17 +17,9 @@ use Rattle.jvm_model.specs.Profiling.Targets.{begun_by, method_coded, initialize
 use Rattle.jvm_model.specs.Instructions.InvocationRules.{selected_by}
 use Rattle.call_revelation.specs.declared.lineage.Lineage.{Lineage}
 use Rattle.call_revelation.specs.Lineages.{IsClosed, IsLineage, begun_named, initializer_in, number_of, selecting, selection_of}
+use Rattle.call_revelation.proofs.Truths.{false_true, none-some, some-some}
 use Rattle.call_revelation.proofs.Numbers.Adding.{made-flat}
 use Rattle.call_revelation.proofs.Numbers.Choosing.{chosen-alike, tested-alike}
-
-false_true : false ≡ true → ⊥
-false_true e = cc
-
-none-some : {A : Type 0} (x : A) → None ≡ Some x → ⊥
-none-some x e = cc
-
-some-some : {A : Type 0} (x y : A) → Some x ≡ Some y → x ≡ y
-some-some x y e = cc
 
 pub initializers-of : (p : Program) (loaded : List ℕ) (class : ℕ) (supertypes : List ℕ) → ((upper : ℕ) → is_among upper supertypes ≡ is_subtype p class upper)
     → (m : ℕ) → is_among m (filter_map (initializer_in p loaded) supertypes) ≡ is_among m (initializers p loaded class)

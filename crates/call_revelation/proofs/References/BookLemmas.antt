@@ -13,18 +13,10 @@ use Rattle.jvm_model.specs.declared.instruction.SymbolicReference.{SymbolicRefer
 use Rattle.call_revelation.specs.declared.uses.Use.{Use}
 use Rattle.call_revelation.specs.Books.{Codes, HasMore, IsBook, IsListed, code_at, has_use, is_noted, is_use, use_of, with_noted, with_use, with_uses}
 use Rattle.call_revelation.specs.Tables.{list_at, with_item}
-use Rattle.call_revelation.proofs.Numbers.Adding.{both, equal, itself, or-assoc, or-first, or-later}
+use Rattle.call_revelation.proofs.Truths.{both, none-some, or-assoc, or-first, or-later, some-some}
+use Rattle.call_revelation.proofs.Numbers.Adding.{equal, itself}
 use Rattle.call_revelation.proofs.Classes.LineageLemmas.{below-or-past}
 use Rattle.call_revelation.proofs.Numbers.TableLemmas.{at-other, at-same, length-with, nothing_past, set-length, set-other, set-same}
-
-false_true : false ≡ true → ⊥
-false_true e = cc
-
-none-some : {A : Type 0} (x : A) → None ≡ Some x → ⊥
-none-some x e = cc
-
-some-some : {A : Type 0} (x y : A) → Some x ≡ Some y → x ≡ y
-some-some x y e = cc
 
 any-append : {A : Type 0} (test : A → Bool) (xs ys : List A) → list_any test (xs ++ ys) ≡ (list_any test xs || list_any test ys)
 any-append test [] ys = refl

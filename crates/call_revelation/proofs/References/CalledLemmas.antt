@@ -18,14 +18,12 @@ use Rattle.call_revelation.specs.Books.{is_call}
 use Rattle.call_revelation.specs.CalledClasses.{AreHanded, HasCalled, HasUppers, called_class, classes_called, uppers_of}
 use Rattle.call_revelation.specs.Lineages.{IsClosed, IsLineage, IsNoted, direct, class_noted}
 use Rattle.call_revelation.specs.Tables.{list_at}
-use Rattle.call_revelation.proofs.Numbers.Adding.{among-append, among-with, either, equal, itself, or-false, or-first, or-later, to_flat}
+use Rattle.call_revelation.proofs.Truths.{either, false_true, or-false, or-first, or-later}
+use Rattle.call_revelation.proofs.Numbers.Adding.{among-append, among-with, equal, itself, to_flat}
 use Rattle.call_revelation.proofs.Classes.LineageLemmas.{loaded-before, noted-there, nothing-noted}
 use Rattle.call_revelation.proofs.Classes.LoadStep.{some-of}
 use Rattle.call_revelation.proofs.Classes.SubtypeSteps.{IsStep, lower-within, one-within, named-within, step}
 use Rattle.call_revelation.proofs.Numbers.TableLemmas.{set-length, set-other, set-same}
-
-false_true : false ≡ true → ⊥
-false_true e = cc
 
 -- ---- no call names a class
 

@@ -14,6 +14,7 @@ use Rattle.jvm_model.specs.declared.instruction.SymbolicReference.TheVariants.{N
 use Rattle.jvm_model.specs.Profiling.Revelation.{symbolic_reference_in}
 use Rattle.prepared_lines.specs.Lines.{action_of, line_of, line_with, local_action}
 use Rattle.call_revelation.specs.CodeReferences.{begins_by}
+use Rattle.call_revelation.proofs.Truths.{none-some, some-some}
 
 -- what a line names that can begin methods is what its operation names
 pub begins_alike : (op : Operation) → begins_by (action_of op) ≡ symbolic_reference_in op
@@ -43,12 +44,6 @@ begins_alike Arraylength = refl
 begins_alike (LoadElement k) = refl
 begins_alike (StoreElement k) = refl
 begins_alike (LdcString units) = refl
-
-none-some : {A : Type 0} (x : A) → None ≡ Some x → ⊥
-none-some x e = cc
-
-some-some : {A : Type 0} (x y : A) → Some x ≡ Some y → x ≡ y
-some-some x y e = cc
 
 pub line-begins : (c : ClassFile) (i : Instr) (line : Line) → line_of c i ≡ Some line → begins_by line.action ≡ option_and_then symbolic_reference_in (operation_of c i)
 line-begins c i line e = by (operation_of c i) e

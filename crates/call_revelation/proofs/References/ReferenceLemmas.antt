@@ -15,16 +15,8 @@ use Rattle.jvm_model.specs.declared.instruction.SymbolicReference.TheVariants.{N
 use Rattle.jvm_model.specs.Profiling.Revelation.{gained_by, gained_by_operation, gained_call, gained_in, gained_named, gained_on, is_named, symbolic_reference_in, symbolic_references_of}
 use Rattle.jvm_model.specs.Profiling.Targets.{begun_by, begun_by_operation, loaded_class_named, targets_in}
 use Rattle.call_revelation.specs.Books.{called_on, is_call}
-use Rattle.call_revelation.proofs.Numbers.Adding.{among-append, either, or-first, or-later}
-
-false_true : false ≡ true → ⊥
-false_true e = cc
-
-none-some : {A : Type 0} (x : A) → None ≡ Some x → ⊥
-none-some x e = cc
-
-some-some : {A : Type 0} (x y : A) → Some x ≡ Some y → x ≡ y
-some-some x y e = cc
+use Rattle.call_revelation.proofs.Truths.{either, false_true, none-some, or-first, or-later, some-some}
+use Rattle.call_revelation.proofs.Numbers.Adding.{among-append}
 
 -- ---- an operation and what it names
 

@@ -13,12 +13,6 @@ use Rattle.jvm_model.specs.Profiling.Revelation.{symbolic_reference_in}
 use Rattle.jvm_model.specs.declared.instruction.SymbolicReference.{SymbolicReference}
 use Rattle.call_revelation.specs.CodeReferences.{symbolic_references_from}
 
-some-some : {A : Type 0} (x y : A) → Some x ≡ Some y → x ≡ y
-some-some x y e = cc
-
-none-some : {A : Type 0} (x : A) → None ≡ Some x → ⊥
-none-some x e = cc
-
 one-operation : (o : Option Operation) (ops : List Operation)
     → filter_map symbolic_reference_in (cons_option o ops) ≡ cons_option (option_and_then symbolic_reference_in o) (filter_map symbolic_reference_in ops)
 one-operation None ops = refl

@@ -13,7 +13,8 @@ use Rattle.jvm_model.specs.declared.instruction.SymbolicReference.TheVariants.{N
 use Rattle.jvm_model.specs.Profiling.Revelation.{symbolic_reference_in, symbolic_references_of}
 use Rattle.jvm_model.specs.Profiling.Targets.{begun_by, begun_by_operation, operations_of, targets, targets_in}
 use Rattle.call_revelation.specs.Tables.{Adds}
-use Rattle.call_revelation.proofs.Numbers.Adding.{among-append, itself, or-assoc, or-false, or-first, or-later}
+use Rattle.call_revelation.proofs.Truths.{or-assoc, or-false, or-first, or-later}
+use Rattle.call_revelation.proofs.Numbers.Adding.{among-append, itself}
 use Rattle.call_revelation.proofs.Classes.SameLoaded.{targets-same}
 
 module _ (p : Program) (loaded : List ℕ) where

@@ -24,19 +24,11 @@ use Rattle.call_revelation.specs.Lineages.{IsLineage}
 use Rattle.call_revelation.specs.Ranks.{flag_at}
 use Rattle.call_revelation.specs.Reveals.{AreOwned, IsRevelation, mark_at, mark_by, now_of, nothing_revealed, owned_from}
 use Rattle.call_revelation.specs.Tables.{list_at, with_item}
-use Rattle.call_revelation.proofs.Numbers.Adding.{among-append, itself, or-first, or-later}
+use Rattle.call_revelation.proofs.Truths.{false_true, none-some, or-first, or-later, some-some}
+use Rattle.call_revelation.proofs.Numbers.Adding.{among-append, itself}
 use Rattle.call_revelation.proofs.Classes.LineageLemmas.{item-kept}
 use Rattle.call_revelation.proofs.Classes.RankLemmas.{no-flag}
 use Rattle.call_revelation.proofs.Numbers.TableLemmas.{at-same, length-with}
-
-false_true : false ≡ true → ⊥
-false_true e = cc
-
-none-some : {A : Type 0} (x : A) → None ≡ Some x → ⊥
-none-some x e = cc
-
-some-some : {A : Type 0} (x y : A) → Some x ≡ Some y → x ≡ y
-some-some x y e = cc
 
 -- ---- methods stand in classes of the program
 

@@ -11,11 +11,9 @@ use Rattle.call_revelation.specs.Books.{IsBookOf, code_at}
 use Rattle.call_revelation.specs.CalledClasses.{AreHanded}
 use Rattle.call_revelation.specs.Lineages.{IsLineage}
 use Rattle.call_revelation.specs.Reveals.{IsPrefix, IsGrown, IsKept, IsRevelation, now_of}
+use Rattle.call_revelation.proofs.Truths.{false_true}
 use Rattle.call_revelation.proofs.References.CalledLemmas.{fewer-handed}
 use Rattle.call_revelation.proofs.Numbers.Fronts.{front-among, front-self, front-take, front-then}
-
-false_true : false ≡ true → ⊥
-false_true e = cc
 
 pub grown-self : (p : Program) (r : Reveal) → IsKept p r → IsGrown p r r
 grown-self p r is = record {

@@ -22,19 +22,11 @@ use Rattle.call_revelation.specs.Ranks.{flag_at}
 use Rattle.call_revelation.specs.Reveals.{IsAhead, IsPrefix, IsKept, IsRevelation, is_placed, mark_by, mark_kept, now_of}
 use Rattle.call_revelation.specs.Tables.{Adds, list_at}
 use Rattle.class_index.specs.Orders.{with_class}
-use Rattle.call_revelation.proofs.Numbers.Adding.{among-append, among-filter, among-with, either, equal, neither, or-false, or-first}
+use Rattle.call_revelation.proofs.Truths.{either, false_true, neither, or-false, or-first}
+use Rattle.call_revelation.proofs.Numbers.Adding.{among-append, among-filter, among-with, equal}
 use Rattle.call_revelation.proofs.Numbers.TableLemmas.{set-length, set-other, set-same}
 use Rattle.call_revelation.proofs.Numbers.Fronts.{front-among}
 use Rattle.call_revelation.proofs.Classes.LoadStep.{load-step}
-
-false_true : false ≡ true → ⊥
-false_true e = cc
-
-none-some : {A : Type 0} (x : A) → None ≡ Some x → ⊥
-none-some x e = cc
-
-some-some : {A : Type 0} (x y : A) → Some x ≡ Some y → x ≡ y
-some-some x y e = cc
 
 pub mark-is : (p : Program) (r : Reveal) → IsRevelation p r → (m : ℕ) → mark_kept r m ≡ mark_of p (now_of r) m
 mark-is p r is m =

@@ -16,21 +16,13 @@ use Rattle.call_revelation.specs.declared.reveal.Reveal.{Reveal}
 use Rattle.call_revelation.specs.Reveals.{IsRevelation, class_changed, mark_at, mark_by, mark_kept, now_of, rank_changed, with_marks}
 use Rattle.call_revelation.specs.Tables.{IsRising}
 use Rattle.call_revelation.specs.Ranks.{AreDistinct, rank_of}
-use Rattle.call_revelation.proofs.Numbers.Adding.{alike, both, either, equal, first-of, itself, or-first, or-later, second-of}
+use Rattle.call_revelation.proofs.Truths.{alike, both, either, false_true, first-of, none-some, or-first, or-later, second-of, some-some}
+use Rattle.call_revelation.proofs.Numbers.Adding.{equal, itself}
 use Rattle.call_revelation.proofs.Classes.InLoadOrder.{in-order}
 use Rattle.call_revelation.proofs.Classes.RankLemmas.{rank-is, rank-there}
 use Rattle.call_revelation.proofs.Numbers.TableLemmas.{set-length, set-other, set-same}
 use Rattle.call_revelation.proofs.Classes.LineageLemmas.{below-or-past}
 use Rattle.call_revelation.proofs.Revelations.Marking.{mark-is}
-
-false_true : false ≡ true → ⊥
-false_true e = cc
-
-none-some : {A : Type 0} (x : A) → None ≡ Some x → ⊥
-none-some x e = cc
-
-some-some : {A : Type 0} (x y : A) → Some x ≡ Some y → x ≡ y
-some-some x y e = cc
 
 same-itself : (a : Mark) → same_mark a a ≡ true
 same-itself Off = refl
