@@ -1,5 +1,3 @@
-pub mod Truths
 pub mod References
-pub mod Classes
-pub mod Numbers
 pub mod Revelations
+pub mod Classes

@@ -1,8 +1,3 @@
-pub mod BegunLemmas
-pub mod LineReferences
-pub mod ReferenceSteps
-pub mod CallerLemmas
-pub mod TargetLemmas
 pub mod ReferenceLemmas
 pub mod CalledLemmas
 pub mod BookLemmas

@@ -1,3 +1,4 @@
+pub mod FlagLemmas
 pub mod Grown
 pub mod Marking
 pub mod Shown

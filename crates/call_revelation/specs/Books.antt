@@ -12,9 +12,9 @@ use Rattle.jvm_model.specs.Basis.Programs.{class_named}
 use Rattle.jvm_model.specs.Profiling.Revelation.{gained_on, is_named, symbolic_references_of}
 use Rattle.jvm_model.specs.Profiling.Targets.{begun_by, operations_of}
 use Rattle.jvm_model.specs.declared.instruction.SymbolicReference.{SymbolicReference}
+use Rattle.possible_callees.specs.Tables.{list_at, with_item}
 use Rattle.call_revelation.specs.declared.book.Book.{Book}
 use Rattle.call_revelation.specs.declared.uses.Use.{Use}
-use Rattle.call_revelation.specs.Tables.{list_at, with_item}
 
 -- ---- instructions by their methods, and by the classes that they name
 

@@ -9,9 +9,9 @@ use Rattle.jvm_model.specs.Instructions.SymbolicReference.{resolved_name}
 use Rattle.jvm_model.specs.Basis.Programs.{class_named}
 use Rattle.jvm_model.specs.Profiling.Revelation.{symbolic_references_of}
 use Rattle.jvm_model.specs.Profiling.Targets.{operations_of}
+use Rattle.possible_callees.specs.Tables.{list_at}
 use Rattle.call_revelation.specs.declared.named.Named.{Named}
 use Rattle.call_revelation.specs.Books.{is_call}
-use Rattle.call_revelation.specs.Tables.{list_at}
 
 -- the class that a call names
 abbrev pub called_class : Program → SymbolicReference → List ℕ

@@ -1,7 +1,4 @@
-pub mod Tables
-pub mod Ranks
-pub mod Lineages
-pub mod CodeReferences
+pub mod Flags
 pub mod Books
 pub mod CalledClasses
 pub mod Reveals

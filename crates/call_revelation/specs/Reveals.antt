@@ -18,12 +18,13 @@ use Rattle.jvm_model.specs.Profiling.Targets.{operations_of}
 use Rattle.prepared_code.specs.Prepared.{HasShortCodes}
 use Rattle.class_linker.specs.Linkers.{IsLoaded, LinkerView}
 use Rattle.member_selection.specs.Numbers.{AreNumbers}
+use Rattle.possible_callees.specs.Lineages.{IsLineage}
+use Rattle.possible_callees.specs.Ranks.{rank_of}
+use Rattle.possible_callees.specs.Tables.{IsPrefix, list_at, with_item}
 use Rattle.call_revelation.specs.declared.reveal.Reveal.{Reveal}
 use Rattle.call_revelation.specs.Books.{IsBookOf, code_at}
 use Rattle.call_revelation.specs.CalledClasses.{AreHanded, HasCalled}
-use Rattle.call_revelation.specs.Lineages.{IsLineage}
-use Rattle.call_revelation.specs.Ranks.{flag_at, rank_of}
-use Rattle.call_revelation.specs.Tables.{list_at, with_item}
+use Rattle.call_revelation.specs.Flags.{flag_at}
 
 -- what marks look at
 abbrev pub now_of : Reveal → Revealed
@@ -106,11 +107,6 @@ pub record IsAhead (l : LinkerView) (r : Reveal) : Type 0 where
   pub root : IsLoaded l (user_count l.program)
 
 -- ---- what a call leaves that stops
-
--- the second list begins with the first
-pub record IsPrefix (xs ys : List ℕ) : Type 0 where
-  pub rest : List ℕ
-  pub is : ys ≡ xs ++ rest
 
 -- The book, the lineage and the classes that calls name are those of the program, and more was read, named and loaded; there are more
 -- targets, and more that is stale.

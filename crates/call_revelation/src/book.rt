@@ -8,17 +8,16 @@ ghost use Rattle.jvm_model.specs.Basis.Programs.{class_named};
 ghost use Rattle.jvm_model.specs.Profiling.Revelation.{is_named, symbolic_references_of};
 ghost use Rattle.jvm_model.specs.Profiling.Targets.{operations_of};
 ghost use Rattle.prepared_code.specs.Prepared.{HasShortCodes};
+ghost use Rattle.possible_callees.specs.Tables.{list_at};
 ghost use Rattle.call_revelation.specs.Books.{HasMore, IsBookOf, code_at, is_noted, symbolic_reference_at};
 ghost use Rattle.call_revelation.specs.Books.{with_noted, with_use, with_uses};
-ghost use Rattle.call_revelation.specs.Tables.{list_at};
 
-use crate::code_references::symbolic_references_of;
-use crate::tables::{add_item, no_lists};
 use crate::uses::Use;
 use class_linker::Linker;
 use jf_bytes::{NoMemory, Seq};
 use jvm_model::SymbolicReference;
 use member_selection::resolved_name;
+use possible_callees::{add_item, no_lists, symbolic_references_of};
 use std::alloc::Global;
 
 /// What was read of methods, by their numbers; and by the class that an instruction names all instructions that name it, and those

@@ -6,18 +6,17 @@ ghost use Rattle.jvm_model.specs.Classes.Load.{is_among};
 ghost use Rattle.jvm_model.specs.Profiling.Revealed.{with_method_entered, with_none_entered};
 ghost use Rattle.jvm_model.specs.Soundness.Sound.{HasClass};
 ghost use Rattle.jvm_model.specs.Profiling.Targets.{operations_of, targets_in};
+ghost use Rattle.possible_callees.specs.Tables.{IsPrefix};
 ghost use Rattle.call_revelation.specs.Books.{code_at};
-ghost use Rattle.call_revelation.specs.Reveals.{IsAhead, IsPrefix, IsGrown, IsKept, IsRevelation};
-ghost use Rattle.call_revelation.specs.Ranks.{flag_at};
+ghost use Rattle.call_revelation.specs.Reveals.{IsAhead, IsGrown, IsKept, IsRevelation};
+ghost use Rattle.call_revelation.specs.Flags.{flag_at};
 ghost use Rattle.call_revelation.specs.Reveals.{now_of};
 
-use crate::gathering::add_all_begun;
-use crate::growing::add_more;
 use crate::reveal::Reveal;
-use crate::tables::put;
 use class_index::Order;
 use class_linker::Linker;
 use jf_bytes::{NoMemory, Seq, Stack};
+use possible_callees::{add_all_begun, add_more, put};
 use std::alloc::Global;
 
 /// No method is entered, and no flag says that it is.

@@ -4,18 +4,17 @@ ghost use Rattle.std.specs.Prelude.{◌≡◌, true, OnOk};
 ghost use Rattle.class_linker.specs.Linkers.{IsLoaded};
 ghost use Rattle.jvm_model.specs.Profiling.Revelation.{gained_on};
 ghost use Rattle.member_selection.specs.Numbers.{AreNumbers};
+ghost use Rattle.possible_callees.specs.Lineages.{selecting};
+ghost use Rattle.possible_callees.specs.Tables.{Adds};
 ghost use Rattle.call_revelation.specs.Books.{called_by, called_on};
-ghost use Rattle.call_revelation.specs.Lineages.{selecting};
-ghost use Rattle.call_revelation.specs.Tables.{Adds};
 
-use crate::begun::add_number;
 use crate::book::names;
-use crate::lookup::{method_found, selected_number};
 use class_index::Order;
 use class_linker::Linker;
 use jf_bytes::NoMemory;
 use jvm_model::{MemberName, SymbolicReference};
 use member_selection::MethodNumbers;
+use possible_callees::{add_number, method_found, selected_number};
 
 /// What a call that names a class begins on a new one.
 fn add_called_on(

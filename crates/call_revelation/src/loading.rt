@@ -10,25 +10,24 @@ ghost use Rattle.jvm_model.specs.Profiling.Revelation.{IsLoadOrder};
 ghost use Rattle.jvm_model.specs.Soundness.Sound.{HasSupertypes};
 ghost use Rattle.jvm_model.specs.Profiling.Targets.{begun_by};
 ghost use Rattle.class_linker.specs.Linkers.{IsLoaded};
+ghost use Rattle.possible_callees.specs.Lineages.{IsLineage, LeadTo};
+ghost use Rattle.possible_callees.specs.Tables.{IsPrefix};
+ghost use Rattle.possible_callees.specs.Tables.{Adds, list_at};
 ghost use Rattle.call_revelation.specs.Books.{Begins, called_by, called_from};
 ghost use Rattle.call_revelation.specs.Books.{methods_gathered, symbolic_reference_at, of_entered};
 ghost use Rattle.call_revelation.specs.CalledClasses.{AreHanded};
-ghost use Rattle.call_revelation.specs.Lineages.{IsLineage, LeadTo};
-ghost use Rattle.call_revelation.specs.Reveals.{IsAhead, IsPrefix, IsGrown, IsKept, IsRevelation};
-ghost use Rattle.call_revelation.specs.Ranks.{flag_at};
+ghost use Rattle.call_revelation.specs.Reveals.{IsAhead, IsGrown, IsKept, IsRevelation};
+ghost use Rattle.call_revelation.specs.Flags.{flag_at};
 ghost use Rattle.call_revelation.specs.Reveals.{now_of};
-ghost use Rattle.call_revelation.specs.Tables.{Adds, list_at};
 
-use crate::begun::add_begun;
 use crate::gains::add_called;
-use crate::growing::add_more;
-use crate::lineage::direct_supertypes;
 use crate::reveal::{Reveal, own_of};
 use crate::uses::Use;
 use class_index::Order;
 use class_linker::Linker;
 use jf_bytes::NoMemory;
 use jvm_model::SymbolicReference;
+use possible_callees::{add_begun, add_more, direct_supertypes};
 use std::alloc::Global;
 
 /// The classes that a linker has loaded behind so many.

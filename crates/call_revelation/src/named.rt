@@ -5,18 +5,17 @@ ghost use Rattle.std.specs.Option.{option_to_list};
 ghost use Rattle.jvm_model.specs.declared.program.Program.{Program};
 ghost use Rattle.jvm_model.specs.Classes.Load.{is_among};
 ghost use Rattle.class_index.specs.Orders.{with_class, with_classes};
+ghost use Rattle.possible_callees.specs.Lineages.{IsLineage};
+ghost use Rattle.possible_callees.specs.Tables.{Adds, list_at};
 ghost use Rattle.call_revelation.specs.Books.{IsBookOf, code_at, is_call};
-ghost use Rattle.call_revelation.specs.Lineages.{IsLineage};
 ghost use Rattle.call_revelation.specs.CalledClasses.{AreHanded, HasCalled, called_class, own_of, uppers_of};
-ghost use Rattle.call_revelation.specs.Tables.{Adds, list_at};
 
 use crate::book::{Book, class_of};
-use crate::lineage::{Lineage, note};
-use crate::tables::{no_lists, put_list};
 use class_index::Order;
 use class_linker::Linker;
 use jf_bytes::{NoMemory, Seq};
 use jvm_model::SymbolicReference;
+use possible_callees::{Lineage, no_lists, note, put_list};
 use std::alloc::Global;
 
 /// The classes that calls name, and for each loaded class those of them at or above it. Where memory ran out a list has more of them.

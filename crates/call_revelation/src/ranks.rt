@@ -2,10 +2,10 @@
 
 ghost use Rattle.std.specs.Prelude.{◌≡◌, ℕ, filter_map, slice_get, IfOk};
 ghost use Rattle.jvm_model.specs.Classes.Load.{is_among};
-ghost use Rattle.call_revelation.specs.Tables.{IsRising};
+ghost use Rattle.possible_callees.specs.Tables.{IsRising};
 
-use crate::tables::add_some;
 use jf_bytes::{NoMemory, Seq};
+use possible_callees::add_some;
 use std::alloc::Global;
 
 /// Puts places in order, each once.

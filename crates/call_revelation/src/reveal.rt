@@ -10,20 +10,19 @@ ghost use Rattle.jvm_model.specs.Basis.Programs.{methods_numbered};
 ghost use Rattle.jvm_model.specs.Profiling.Revealed.{mark_of};
 ghost use Rattle.jvm_model.specs.Soundness.Sound.{IsFit};
 ghost use Rattle.prepared_code.specs.Prepared.{HasShortCodes};
-ghost use Rattle.call_revelation.specs.Ranks.{flag_at};
+ghost use Rattle.possible_callees.specs.Tables.{list_at};
+ghost use Rattle.call_revelation.specs.Flags.{flag_at};
 ghost use Rattle.call_revelation.specs.Reveals.{IsRevelation, mark_kept};
 ghost use Rattle.call_revelation.specs.Reveals.{nothing_revealed, now_of, owned_from};
-ghost use Rattle.call_revelation.specs.Tables.{list_at};
 
 use crate::book::Book;
-use crate::lineage::Lineage;
 use crate::named::Named;
 use crate::selection::Selection;
-use crate::tables::{add_item, items_repeated, no_lists};
 use class_index::Order;
 use jf_bytes::{NoMemory, Seq, Stack};
 use jvm_model::{Mark, MethodPlace, Program};
 use member_selection::MethodNumbers;
+use possible_callees::{Lineage, add_item, items_repeated, no_lists};
 use std::alloc::Global;
 
 /// What is selected, entered and loaded, with what each event needs of it: where methods stand and the methods of each class; the

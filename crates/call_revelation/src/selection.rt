@@ -5,8 +5,8 @@ ghost use Rattle.jvm_model.specs.Classes.Load.{is_among};
 ghost use Rattle.jvm_model.specs.Profiling.Points.{is_empty};
 ghost use Rattle.jvm_model.specs.Profiling.Revealed.{without_method};
 
-use crate::tables::{items_repeated, make_room, put};
 use jf_bytes::{NoMemory, Seq};
+use possible_callees::{items_repeated, make_room, put};
 use std::alloc::Global;
 use std::marker::Model;
 
@@ -19,7 +19,7 @@ pub struct Selection {
 
 impl Model for Selection {
     ghost use Rattle.std.specs.Prelude.{List, ℕ};
-    ghost use Rattle.call_revelation.specs.Ranks.{AreFlagged};
+    ghost use Rattle.call_revelation.specs.Flags.{AreFlagged};
 
     ghost Value = { List ℕ };
 

@@ -9,9 +9,9 @@ ghost use Rattle.call_revelation.specs.Reveals.{mark_kept, now_of, rank_changed,
 
 use crate::ranks::{classes_at, put_in_order};
 use crate::reveal::Reveal;
-use crate::tables::{add_some, put};
 use jf_bytes::{NoMemory, Seq};
 use jvm_model::Mark;
+use possible_callees::{add_some, put};
 use std::alloc::Global;
 
 fn same_mark(a: Mark, b: Mark) -> bool

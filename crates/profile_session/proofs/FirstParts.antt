@@ -20,8 +20,9 @@ use Rattle.jvm_model.specs.Soundness.Whole.{IsWhole}
 use Rattle.jvm_model.proofs.Loading.LoadOrder.{before-order}
 use Rattle.jvm_model.proofs.Revealing.Revealable.{revealable}
 use Rattle.class_linker.specs.Linkers.{LinkerView}
+use Rattle.possible_callees.specs.Tables.{IsPrefix}
 use Rattle.call_revelation.specs.declared.reveal.Reveal.{Reveal}
-use Rattle.call_revelation.specs.Reveals.{IsAhead, IsPrefix, IsRevelation, nothing_revealed, now_of}
+use Rattle.call_revelation.specs.Reveals.{IsAhead, IsRevelation, nothing_revealed, now_of}
 use Rattle.jvm_machine.specs.View.{View, machine_made, run_state, world}
 use Rattle.context_tree.specs.Counts.{AreInOrder}
 use Rattle.context_tree.specs.Profiles.{Profile, blank, calls_of, steps_credited, event_taken}

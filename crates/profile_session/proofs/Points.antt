@@ -13,8 +13,9 @@ use Rattle.jvm_model.specs.Basis.Programs.{place_of_method}
 use Rattle.jvm_model.specs.Profiling.Revealed.{Revealed, changed_of, marks_of, with_loaded}
 use Rattle.jvm_model.specs.Soundness.Sound.{HasClass}
 use Rattle.class_linker.specs.Linkers.{LinkerView}
+use Rattle.possible_callees.specs.Tables.{IsPrefix}
 use Rattle.call_revelation.specs.declared.reveal.Reveal.{Reveal}
-use Rattle.call_revelation.specs.Reveals.{IsAhead, IsPrefix, IsRevelation, now_of}
+use Rattle.call_revelation.specs.Reveals.{IsAhead, IsRevelation, now_of}
 use Rattle.jvm_machine.specs.View.{View, run_state}
 use Rattle.context_tree.specs.Counts.{AreInOrder}
 use Rattle.context_tree.specs.Profiles.{Profile}

@@ -20,7 +20,8 @@ use Rattle.jvm_machine.specs.declared.turn.Turn.{Turn}
 use Rattle.jvm_machine.specs.declared.turn.Turn.TheVariants.{Settled, Loaded, Probe, Ended, Broken, NoMemory}
 use Rattle.jvm_machine.specs.View.{View, is_resting, run_state, world}
 use Rattle.class_linker.specs.Linkers.{LinkerView}
-use Rattle.call_revelation.specs.Reveals.{IsPrefix, IsRevelation, now_of}
+use Rattle.possible_callees.specs.Tables.{IsPrefix}
+use Rattle.call_revelation.specs.Reveals.{IsRevelation, now_of}
 use Rattle.context_tree.specs.Counts.{AreInOrder, opens}
 use Rattle.context_tree.specs.Profiles.{Profile, calls_of, steps_credited, profile_of, event_taken}
 use Rattle.context_tree.specs.Seen.{Seen, seen_act}

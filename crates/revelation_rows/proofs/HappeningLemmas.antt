@@ -7,8 +7,9 @@ use Rattle.jvm_model.specs.Classes.Load.{load_of}
 use Rattle.jvm_model.specs.Profiling.Revealed.{Revealed, marks_of, with_loaded, with_method_entered}
 use Rattle.class_linker.specs.Linkers.{IsLoaded, LinkerView, linker_of}
 use Rattle.program_fit.specs.Runnable.{IsAdmitted}
+use Rattle.possible_callees.specs.Tables.{IsPrefix}
 use Rattle.call_revelation.specs.declared.reveal.Reveal.{Reveal}
-use Rattle.call_revelation.specs.Reveals.{IsPrefix, IsRevelation, nothing_revealed, now_of}
+use Rattle.call_revelation.specs.Reveals.{IsRevelation, nothing_revealed, now_of}
 use Rattle.revelation_rows.specs.declared.item.Happening.{Happening}
 use Rattle.revelation_rows.specs.declared.item.Happening.TheVariants.{Entered, Loaded}
 use Rattle.revelation_rows.specs.Rows.{entered_often, revealed_by}

@@ -12,7 +12,7 @@ use Rattle.jvm_model.specs.declared.program.Program.{Program}
 use Rattle.jvm_model.specs.Classes.Load.{is_among}
 use Rattle.jvm_model.specs.Profiling.Revealed.{Revealed, mark_of, marks_of}
 use Rattle.jvm_model.specs.Profiling.Targets.{targets}
-use Rattle.call_revelation.specs.Tables.{IsRising}
+use Rattle.possible_callees.specs.Tables.{IsRising}
 use Rattle.revelation_rows.specs.declared.item.Fact.{Fact}
 use Rattle.revelation_rows.specs.declared.item.Fact.TheVariants.{Marks}
 use Rattle.revelation_rows.specs.Rows.{AreTargets}

@@ -19,10 +19,11 @@ use Rattle.class_linker.specs.Linkers.{IsLoaded, LinkerView, linker_of, loaded_b
 use Rattle.member_selection.specs.Numbers.{all_coded}
 use Rattle.program_fit.specs.Runnable.{IsAdmitted}
 use Rattle.program_fit.proofs.Runs.{runnable}
+use Rattle.possible_callees.specs.Tables.{IsPrefix}
+use Rattle.possible_callees.proofs.Numbers.Fronts.{front-among, front-more, front-self, front-then}
 use Rattle.call_revelation.specs.declared.reveal.Reveal.{Reveal}
-use Rattle.call_revelation.specs.Reveals.{IsAhead, IsPrefix, IsRevelation, nothing_revealed, now_of}
+use Rattle.call_revelation.specs.Reveals.{IsAhead, IsRevelation, nothing_revealed, now_of}
 use Rattle.prepared_code.proofs.Initializing.BuiltInLoads.{few-coded}
-use Rattle.call_revelation.proofs.Numbers.Fronts.{front-among, front-more, front-self, front-then}
 use Rattle.revelation_rows.specs.Scenes.{IsAlong, IsLinked, IsReady}
 
 -- ---- what is loaded more

@@ -6,8 +6,8 @@ use Rattle.jvm_model.specs.Classes.Load.{is_among, load_of}
 use Rattle.jvm_model.specs.Profiling.Points.{has_class, is_empty}
 use Rattle.jvm_model.specs.Profiling.Revealed.{Revealed, changed_of, marks_of, with_loaded, with_method_entered, with_none_entered, with_selected, without_selected}
 use Rattle.jvm_model.specs.Profiling.Targets.{targets}
+use Rattle.possible_callees.specs.Tables.{IsRising}
 use Rattle.call_revelation.specs.Reveals.{nothing_revealed}
-use Rattle.call_revelation.specs.Tables.{IsRising}
 use Rattle.revelation_rows.specs.declared.item.Difference.{Difference}
 use Rattle.revelation_rows.specs.declared.item.Difference.TheVariants.{Came, NotLoaded}
 use Rattle.revelation_rows.specs.declared.item.Fact.{Fact}

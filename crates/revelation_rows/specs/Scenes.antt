@@ -8,8 +8,9 @@ use Rattle.jvm_model.specs.Profiling.Revealed.{marks_of}
 use Rattle.jvm_model.specs.Profiling.Revelation.{IsLoadOrder}
 use Rattle.class_linker.specs.Linkers.{IsLoaded, LinkerView}
 use Rattle.program_fit.specs.Runnable.{IsAdmitted}
+use Rattle.possible_callees.specs.Tables.{IsPrefix}
 use Rattle.call_revelation.specs.declared.reveal.Reveal.{Reveal}
-use Rattle.call_revelation.specs.Reveals.{IsPrefix, IsRevelation, nothing_revealed, now_of}
+use Rattle.call_revelation.specs.Reveals.{IsRevelation, nothing_revealed, now_of}
 use Rattle.revelation_rows.specs.declared.item.Difference.{Difference}
 use Rattle.revelation_rows.specs.declared.item.Fact.{Fact}
 use Rattle.revelation_rows.specs.declared.item.Happening.{Happening}

@@ -9,10 +9,11 @@ ghost use Rattle.revelation_rows.specs.Scenes.{IsAnswered, IsReady};
 
 use crate::item::Fact;
 use crate::scenes::{Scene, has_class};
-use call_revelation::{Reveal, targets};
+use call_revelation::Reveal;
 use class_linker::Linker;
 use jf_bytes::{NoMemory, Seq};
 use jvm_model::Mark;
+use possible_callees::targets;
 use std::alloc::Global;
 
 /// The marks of all methods, by their numbers.

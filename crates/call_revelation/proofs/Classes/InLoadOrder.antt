@@ -6,9 +6,9 @@ use Rattle.std.specs.List.Sorted.{IsStrictlyIncreasing}
 use Rattle.std.specs.Option.{option_map_or}
 use Rattle.std.proofs.lemmas.List.Kept.{AllPairs-from_increasing}
 use Rattle.jvm_model.specs.Classes.Load.{is_among}
-use Rattle.call_revelation.specs.Tables.{IsRising}
-use Rattle.call_revelation.proofs.Truths.{either, false_true, neither, or-first, or-later}
-use Rattle.call_revelation.proofs.Numbers.Adding.{equal, itself}
+use Rattle.possible_callees.specs.Tables.{IsRising}
+use Rattle.possible_callees.proofs.Truths.{either, false_true, neither, or-first, or-later}
+use Rattle.possible_callees.proofs.Numbers.Adding.{equal, itself}
 
 -- ---- a list that was put in order
 

@@ -8,14 +8,15 @@ use Rattle.jvm_model.specs.Profiling.Revelation.{IsLoadOrder}
 use Rattle.jvm_model.specs.Soundness.Sound.{HasSupertypes}
 use Rattle.jvm_model.proofs.Loading.LoadOrder.{order-behind}
 use Rattle.class_linker.specs.Linkers.{IsLoaded, LinkerView}
+use Rattle.possible_callees.specs.Tables.{IsPrefix}
+use Rattle.possible_callees.proofs.Truths.{or-later}
+use Rattle.possible_callees.proofs.Numbers.Adding.{among-append}
+use Rattle.possible_callees.proofs.Numbers.Fronts.{front-drop}
+use Rattle.possible_callees.proofs.References.TargetLemmas.{all-behind}
 use Rattle.call_revelation.specs.declared.reveal.Reveal.{Reveal}
-use Rattle.call_revelation.specs.Reveals.{AreLoading, IsAhead, IsPrefix, IsGrown, IsRevelation}
-use Rattle.call_revelation.proofs.Truths.{or-later}
-use Rattle.call_revelation.proofs.Numbers.Adding.{among-append}
-use Rattle.call_revelation.proofs.Numbers.Fronts.{front-drop}
+use Rattle.call_revelation.specs.Reveals.{AreLoading, IsAhead, IsGrown, IsRevelation}
 use Rattle.call_revelation.proofs.Revelations.Grown.{grown-self, grown-then}
 use Rattle.call_revelation.proofs.Revelations.Marking.{ahead-more}
-use Rattle.call_revelation.proofs.References.TargetLemmas.{all-behind}
 
 append-assoc : (xs ys zs : List ℕ) → (xs ++ ys) ++ zs ≡ xs ++ (ys ++ zs)
 append-assoc [] ys zs = refl

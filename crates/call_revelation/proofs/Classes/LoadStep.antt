@@ -16,12 +16,12 @@ use Rattle.jvm_model.specs.Profiling.Targets.{begun_by, loaded_class_named, oper
 use Rattle.jvm_model.proofs.Revealing.Gained.{gained-targets}
 use Rattle.jvm_model.proofs.Revealing.Revealed.{is_gained, load-targets}
 use Rattle.jvm_model.specs.declared.instruction.SymbolicReference.{SymbolicReference}
+use Rattle.possible_callees.specs.Tables.{list_at}
+use Rattle.possible_callees.proofs.Truths.{alike, either, false_true, first-of, none-some, or-first, or-later, second-of, some-some}
+use Rattle.possible_callees.proofs.Numbers.Adding.{among-append, equal, from_flat, itself, to_flat}
 use Rattle.call_revelation.specs.declared.uses.Use.{Use}
 use Rattle.call_revelation.specs.Books.{Codes, IsBook, called_by, called_from, called_on, code_at, methods_gathered, is_use, symbolic_reference_at, of_entered}
 use Rattle.call_revelation.specs.CalledClasses.{HasUppers, called_class}
-use Rattle.call_revelation.specs.Tables.{list_at}
-use Rattle.call_revelation.proofs.Truths.{alike, either, false_true, first-of, none-some, or-first, or-later, second-of, some-some}
-use Rattle.call_revelation.proofs.Numbers.Adding.{among-append, equal, from_flat, itself, to_flat}
 use Rattle.call_revelation.proofs.References.ReferenceLemmas.{CallsIt, NamesIt, called-gains, gain-from, gain-of, gained-either, target-of}
 
 -- ---- lists of any items

@@ -11,9 +11,11 @@ use Rattle.jvm_model.specs.Classes.Load.{is_among}
 use Rattle.jvm_model.specs.Classes.Lookup.{interface_names, interfaces_of, is_subtype, superclass_of, supertypes_within}
 use Rattle.jvm_model.specs.Basis.Programs.{class_at, class_named, has_name, super_of}
 use Rattle.jvm_model.proofs.Soundness.SoundKinds.{named-class}
-use Rattle.call_revelation.specs.Lineages.{direct}
-use Rattle.call_revelation.proofs.Truths.{either, false_true, none-some, or-first, or-later}
-use Rattle.call_revelation.proofs.Numbers.Adding.{among-append, equal, from_flat, to_flat}
+use Rattle.possible_callees.specs.Lineages.{direct, LeadTo}
+use Rattle.possible_callees.proofs.Truths.{either, false_true, none-some, or-first, or-later}
+use Rattle.possible_callees.proofs.Numbers.Adding.{among-append, equal, from_flat, to_flat}
+use Rattle.jvm_model.specs.Soundness.Sound.{HasSupertypes}
+use Rattle.possible_callees.proofs.Classes.LineageLemmas.{loaded-before}
 
 append-assoc : (xs ys zs : List ℕ) → (xs ++ ys) ++ zs ≡ xs ++ (ys ++ zs)
 append-assoc [] ys zs = refl
@@ -125,3 +127,16 @@ module _ (p : Program) where
       by (Some k) e s = slice_get_within p.classes class k e
       by None e (inl same) = subst (λ n. n < length p.classes) (sym same) small
       by None e (inr s) = absurd (false_true (sym (ap (is_among s.by) (no-direct class e)) ∙ s.there))
+
+-- where all that stands above a class is loaded, one comes to it by those that the class names itself
+pub direct-lead : (p : Program) (loaded : List ℕ) (class : ℕ) → HasSupertypes p (loaded ++ class ∷ []) → LeadTo p loaded class (direct p class)
+direct-lead p loaded class above upper within sub =
+    elim (step p class upper sub) [
+      | inl same ↦ inl same
+      | inr s ↦ inr (record {
+        by = s.by;
+        there = s.there;
+        within = direct-within p class s.by s.there;
+        leads = inr (loaded-before p loaded class above s.by s.there s.other, s.above);
+      })
+    ]

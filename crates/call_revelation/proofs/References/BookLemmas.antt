@@ -10,13 +10,13 @@ use Rattle.jvm_model.specs.Profiling.Revelation.{symbolic_references_of}
 use Rattle.jvm_model.specs.Profiling.Targets.{operations_of}
 use Rattle.jvm_model.proofs.Soundness.SoundKinds.{named-class}
 use Rattle.jvm_model.specs.declared.instruction.SymbolicReference.{SymbolicReference}
+use Rattle.possible_callees.specs.Tables.{list_at, with_item}
+use Rattle.possible_callees.proofs.Truths.{both, none-some, or-assoc, or-first, or-later, some-some}
+use Rattle.possible_callees.proofs.Numbers.Adding.{equal, itself}
+use Rattle.possible_callees.proofs.Classes.LineageLemmas.{below-or-past}
+use Rattle.possible_callees.proofs.Numbers.TableLemmas.{at-other, at-same, length-with, nothing_past, set-length, set-other, set-same}
 use Rattle.call_revelation.specs.declared.uses.Use.{Use}
 use Rattle.call_revelation.specs.Books.{Codes, HasMore, IsBook, IsListed, code_at, has_use, is_noted, is_use, use_of, with_noted, with_use, with_uses}
-use Rattle.call_revelation.specs.Tables.{list_at, with_item}
-use Rattle.call_revelation.proofs.Truths.{both, none-some, or-assoc, or-first, or-later, some-some}
-use Rattle.call_revelation.proofs.Numbers.Adding.{equal, itself}
-use Rattle.call_revelation.proofs.Classes.LineageLemmas.{below-or-past}
-use Rattle.call_revelation.proofs.Numbers.TableLemmas.{at-other, at-same, length-with, nothing_past, set-length, set-other, set-same}
 
 any-append : {A : Type 0} (test : A → Bool) (xs ys : List A) → list_any test (xs ++ ys) ≡ (list_any test xs || list_any test ys)
 any-append test [] ys = refl

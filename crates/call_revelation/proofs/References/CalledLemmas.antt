@@ -12,18 +12,18 @@ use Rattle.jvm_model.specs.Profiling.Revelation.{symbolic_references_of}
 use Rattle.jvm_model.specs.Soundness.Sound.{HasSupertypes}
 use Rattle.jvm_model.specs.Profiling.Targets.{operations_of}
 use Rattle.class_index.specs.Orders.{with_class}
-use Rattle.call_revelation.specs.declared.lineage.Lineage.{Lineage}
+use Rattle.possible_callees.specs.declared.lineage.Lineage.{Lineage}
+use Rattle.possible_callees.specs.Lineages.{IsClosed, IsLineage, IsNoted, direct, class_noted}
+use Rattle.possible_callees.specs.Tables.{list_at}
+use Rattle.possible_callees.proofs.Truths.{either, false_true, or-false, or-first, or-later}
+use Rattle.possible_callees.proofs.Numbers.Adding.{among-append, among-with, equal, itself, to_flat}
+use Rattle.possible_callees.proofs.Classes.LineageLemmas.{loaded-before, noted-there, nothing-noted}
+use Rattle.possible_callees.proofs.Numbers.TableLemmas.{set-length, set-other, set-same}
 use Rattle.call_revelation.specs.declared.named.Named.{Named}
 use Rattle.call_revelation.specs.Books.{is_call}
 use Rattle.call_revelation.specs.CalledClasses.{AreHanded, HasCalled, HasUppers, called_class, classes_called, uppers_of}
-use Rattle.call_revelation.specs.Lineages.{IsClosed, IsLineage, IsNoted, direct, class_noted}
-use Rattle.call_revelation.specs.Tables.{list_at}
-use Rattle.call_revelation.proofs.Truths.{either, false_true, or-false, or-first, or-later}
-use Rattle.call_revelation.proofs.Numbers.Adding.{among-append, among-with, equal, itself, to_flat}
-use Rattle.call_revelation.proofs.Classes.LineageLemmas.{loaded-before, noted-there, nothing-noted}
 use Rattle.call_revelation.proofs.Classes.LoadStep.{some-of}
 use Rattle.call_revelation.proofs.Classes.SubtypeSteps.{IsStep, lower-within, one-within, named-within, step}
-use Rattle.call_revelation.proofs.Numbers.TableLemmas.{set-length, set-other, set-same}
 
 -- ---- no call names a class
 

@@ -8,11 +8,11 @@ use Rattle.jvm_model.specs.Profiling.Revelation.{symbolic_references_of}
 use Rattle.jvm_model.specs.Soundness.Sound.{HasClass, HasLoadedCaller, IsFit}
 use Rattle.jvm_model.specs.Profiling.Targets.{begun_by, operations_of}
 use Rattle.jvm_model.specs.declared.instruction.SymbolicReference.{SymbolicReference}
+use Rattle.possible_callees.specs.Tables.{Adds, list_at}
+use Rattle.possible_callees.proofs.Numbers.Adding.{adds-then}
+use Rattle.possible_callees.proofs.References.CallerLemmas.{callers-loaded}
 use Rattle.call_revelation.specs.declared.uses.Use.{Use}
 use Rattle.call_revelation.specs.Books.{Codes, IsBook, called_from, code_at, methods_gathered, symbolic_reference_at, of_entered}
-use Rattle.call_revelation.specs.Tables.{Adds, list_at}
-use Rattle.call_revelation.proofs.Numbers.Adding.{adds-then}
-use Rattle.call_revelation.proofs.References.CallerLemmas.{callers-loaded}
 use Rattle.call_revelation.proofs.Revelations.First.{all-get}
 use Rattle.call_revelation.proofs.Classes.LoadStep.{read-at}
 

@@ -17,18 +17,18 @@ use Rattle.jvm_model.specs.Soundness.Sound.{IsFit}
 use Rattle.jvm_model.specs.Profiling.Targets.{operations_of}
 use Rattle.member_selection.specs.Numbers.{AreNumbers}
 use Rattle.prepared_code.specs.Prepared.{HasShortCodes}
+use Rattle.possible_callees.specs.Lineages.{IsLineage}
+use Rattle.possible_callees.specs.Tables.{list_at, with_item}
+use Rattle.possible_callees.proofs.Truths.{false_true, none-some, or-first, or-later, some-some}
+use Rattle.possible_callees.proofs.Numbers.Adding.{among-append, itself}
+use Rattle.possible_callees.proofs.Classes.LineageLemmas.{item-kept}
+use Rattle.possible_callees.proofs.Numbers.TableLemmas.{at-same, length-with}
 use Rattle.call_revelation.specs.declared.reveal.Reveal.{Reveal}
 use Rattle.call_revelation.specs.Books.{IsBookOf}
 use Rattle.call_revelation.specs.CalledClasses.{AreHanded}
-use Rattle.call_revelation.specs.Lineages.{IsLineage}
-use Rattle.call_revelation.specs.Ranks.{flag_at}
+use Rattle.call_revelation.specs.Flags.{flag_at}
 use Rattle.call_revelation.specs.Reveals.{AreOwned, IsRevelation, mark_at, mark_by, now_of, nothing_revealed, owned_from}
-use Rattle.call_revelation.specs.Tables.{list_at, with_item}
-use Rattle.call_revelation.proofs.Truths.{false_true, none-some, or-first, or-later, some-some}
-use Rattle.call_revelation.proofs.Numbers.Adding.{among-append, itself}
-use Rattle.call_revelation.proofs.Classes.LineageLemmas.{item-kept}
-use Rattle.call_revelation.proofs.Classes.RankLemmas.{no-flag}
-use Rattle.call_revelation.proofs.Numbers.TableLemmas.{at-same, length-with}
+use Rattle.call_revelation.proofs.Revelations.FlagLemmas.{no-flag}
 
 -- ---- methods stand in classes of the program
 

@@ -3,17 +3,18 @@ use Rattle.std.proofs.Common.{◌≡◌, ℕ, Bool, true, false, List, length, t
 use Rattle.std.specs.Prelude.{is_some, Result, Ok, Err, OnErr}
 use Rattle.jvm_model.specs.declared.program.Program.{Program}
 use Rattle.jvm_model.specs.Classes.Load.{is_among}
+use Rattle.possible_callees.specs.declared.lineage.Lineage.{Lineage}
+use Rattle.possible_callees.specs.Lineages.{IsLineage}
+use Rattle.possible_callees.specs.Tables.{IsPrefix}
+use Rattle.possible_callees.proofs.Truths.{false_true}
+use Rattle.possible_callees.proofs.Numbers.Fronts.{front-among, front-self, front-take, front-then}
 use Rattle.call_revelation.specs.declared.book.Book.{Book}
-use Rattle.call_revelation.specs.declared.lineage.Lineage.{Lineage}
 use Rattle.call_revelation.specs.declared.named.Named.{Named}
 use Rattle.call_revelation.specs.declared.reveal.Reveal.{Reveal}
 use Rattle.call_revelation.specs.Books.{IsBookOf, code_at}
 use Rattle.call_revelation.specs.CalledClasses.{AreHanded}
-use Rattle.call_revelation.specs.Lineages.{IsLineage}
-use Rattle.call_revelation.specs.Reveals.{IsPrefix, IsGrown, IsKept, IsRevelation, now_of}
-use Rattle.call_revelation.proofs.Truths.{false_true}
+use Rattle.call_revelation.specs.Reveals.{IsGrown, IsKept, IsRevelation, now_of}
 use Rattle.call_revelation.proofs.References.CalledLemmas.{fewer-handed}
-use Rattle.call_revelation.proofs.Numbers.Fronts.{front-among, front-self, front-take, front-then}
 
 pub grown-self : (p : Program) (r : Reveal) → IsKept p r → IsGrown p r r
 grown-self p r is = record {

@@ -11,21 +11,21 @@ use Rattle.jvm_model.specs.Profiling.Revealed.{mark_of, without_method}
 use Rattle.jvm_model.specs.Soundness.Sound.{HasClass, HasSupertypes}
 use Rattle.jvm_model.specs.Profiling.Targets.{operations_of, targets_in}
 use Rattle.class_linker.specs.Linkers.{IsLoaded, LinkerView}
+use Rattle.possible_callees.specs.declared.lineage.Lineage.{Lineage}
+use Rattle.possible_callees.specs.Lineages.{IsLineage}
+use Rattle.possible_callees.specs.Tables.{Adds, IsPrefix, list_at}
+use Rattle.possible_callees.proofs.Truths.{either, false_true, neither, or-false, or-first}
+use Rattle.possible_callees.proofs.Numbers.Adding.{among-append, among-filter, among-with, equal}
+use Rattle.possible_callees.proofs.Numbers.TableLemmas.{set-length, set-other, set-same}
+use Rattle.possible_callees.proofs.Numbers.Fronts.{front-among}
 use Rattle.call_revelation.specs.declared.book.Book.{Book}
-use Rattle.call_revelation.specs.declared.lineage.Lineage.{Lineage}
 use Rattle.call_revelation.specs.declared.named.Named.{Named}
 use Rattle.call_revelation.specs.declared.reveal.Reveal.{Reveal}
 use Rattle.call_revelation.specs.Books.{IsBookOf, code_at, methods_gathered}
 use Rattle.call_revelation.specs.CalledClasses.{AreHanded, HasCalled, HasUppers}
-use Rattle.call_revelation.specs.Lineages.{IsLineage}
-use Rattle.call_revelation.specs.Ranks.{flag_at}
-use Rattle.call_revelation.specs.Reveals.{IsAhead, IsPrefix, IsKept, IsRevelation, is_placed, mark_by, mark_kept, now_of}
-use Rattle.call_revelation.specs.Tables.{Adds, list_at}
+use Rattle.call_revelation.specs.Flags.{flag_at}
+use Rattle.call_revelation.specs.Reveals.{IsAhead, IsKept, IsRevelation, is_placed, mark_by, mark_kept, now_of}
 use Rattle.class_index.specs.Orders.{with_class}
-use Rattle.call_revelation.proofs.Truths.{either, false_true, neither, or-false, or-first}
-use Rattle.call_revelation.proofs.Numbers.Adding.{among-append, among-filter, among-with, equal}
-use Rattle.call_revelation.proofs.Numbers.TableLemmas.{set-length, set-other, set-same}
-use Rattle.call_revelation.proofs.Numbers.Fronts.{front-among}
 use Rattle.call_revelation.proofs.Classes.LoadStep.{load-step}
 
 pub mark-is : (p : Program) (r : Reveal) → IsRevelation p r → (m : ℕ) → mark_kept r m ≡ mark_of p (now_of r) m

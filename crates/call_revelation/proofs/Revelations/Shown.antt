@@ -12,16 +12,16 @@ use Rattle.jvm_model.specs.Profiling.Points.{is_target}
 use Rattle.jvm_model.specs.Profiling.Revealed.{Revealed, changed_of, mark_of, marks_of, stand_of}
 use Rattle.jvm_model.specs.Profiling.Swaps.{differs, same_mark}
 use Rattle.jvm_model.specs.Profiling.Targets.{operations_of}
+use Rattle.possible_callees.specs.Tables.{IsRising}
+use Rattle.possible_callees.specs.Ranks.{AreDistinct, rank_of}
+use Rattle.possible_callees.proofs.Truths.{alike, both, either, false_true, first-of, none-some, or-first, or-later, second-of, some-some}
+use Rattle.possible_callees.proofs.Numbers.Adding.{equal, itself}
+use Rattle.possible_callees.proofs.Classes.RankLemmas.{rank-is, rank-there}
+use Rattle.possible_callees.proofs.Numbers.TableLemmas.{set-length, set-other, set-same}
+use Rattle.possible_callees.proofs.Classes.LineageLemmas.{below-or-past}
 use Rattle.call_revelation.specs.declared.reveal.Reveal.{Reveal}
 use Rattle.call_revelation.specs.Reveals.{IsRevelation, class_changed, mark_at, mark_by, mark_kept, now_of, rank_changed, with_marks}
-use Rattle.call_revelation.specs.Tables.{IsRising}
-use Rattle.call_revelation.specs.Ranks.{AreDistinct, rank_of}
-use Rattle.call_revelation.proofs.Truths.{alike, both, either, false_true, first-of, none-some, or-first, or-later, second-of, some-some}
-use Rattle.call_revelation.proofs.Numbers.Adding.{equal, itself}
 use Rattle.call_revelation.proofs.Classes.InLoadOrder.{in-order}
-use Rattle.call_revelation.proofs.Classes.RankLemmas.{rank-is, rank-there}
-use Rattle.call_revelation.proofs.Numbers.TableLemmas.{set-length, set-other, set-same}
-use Rattle.call_revelation.proofs.Classes.LineageLemmas.{below-or-past}
 use Rattle.call_revelation.proofs.Revelations.Marking.{mark-is}
 
 same-itself : (a : Mark) → same_mark a a ≡ true

@@ -1,7 +1,7 @@
 -- a flag says that what is left has it
 use Rattle.std.proofs.Common.{◌≡◌, ℕ, true, length}
 use Rattle.jvm_model.specs.Classes.Load.{is_among}
-use Rattle.call_revelation.specs.Ranks.{flag_at}
+use Rattle.call_revelation.specs.Flags.{flag_at}
 use Rattle.call_revelation.proofs.entering.leave_all.Given as goal
 
 abbrev pub decreases-loop-method : goal.decreases-loop-method

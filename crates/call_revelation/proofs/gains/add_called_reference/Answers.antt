@@ -1,8 +1,8 @@
 use Rattle.std.proofs.Common.{◌∙◌, ap, subst, sym}
 use Rattle.std.specs.Prelude.{OnOk}
 use Rattle.jvm_model.specs.declared.instruction.SymbolicReference.TheVariants.{Invokeinterface, Invokevirtual}
+use Rattle.possible_callees.specs.Tables.{Adds}
 use Rattle.call_revelation.specs.Books.{called_on}
-use Rattle.call_revelation.specs.Tables.{Adds}
 use Rattle.call_revelation.proofs.gains.add_called_reference.Goals as goal
 
 pub returns-in-Invokevirtual : goal.returns-in-Invokevirtual

@@ -2,7 +2,7 @@ use Rattle.std.proofs.lemmas.List.Filters.{dedup_is}
 use Rattle.std.proofs.lemmas.List.Kept.{Contains-dedup_nat, Contains-from_dedup}
 use Rattle.std.proofs.lemmas.List.Sorted.{Contains-permutation, IsPermutation-sym}
 use Rattle.std.proofs.lemmas.Map.Keys.{IsStrictlyIncreasing-dedup}
-use Rattle.call_revelation.proofs.Truths.{alike}
+use Rattle.possible_callees.proofs.Truths.{alike}
 use Rattle.call_revelation.proofs.Classes.InLoadOrder.{among-contains, contains-among, rising-from}
 use Rattle.call_revelation.proofs.ranks.put_in_order.Goals as goal
 

@@ -2,7 +2,7 @@ use Rattle.std.proofs.Common.{◌≡◌, ◌∙◌, ap, refl, sym, subst, arith}
 use Rattle.std.specs.Vec.{with_items}
 use Rattle.std.proofs.lemmas.List.{with_items_is}
 use Rattle.jvm_model.specs.Classes.Load.{is_among}
-use Rattle.call_revelation.specs.Lineages.{IsClosed, IsNoted, class_noted}
+use Rattle.possible_callees.specs.Lineages.{IsClosed, IsNoted, class_noted}
 use Rattle.call_revelation.proofs.References.CalledLemmas.{handed-kept, handed-noted}
 use Rattle.call_revelation.proofs.named.Named.add.Goals as goal
 

@@ -2,9 +2,9 @@ use Rattle.std.proofs.Common.{ap, arith, get_or, ◌∙◌}
 use Rattle.std.specs.Prelude.{flat_map, ◌||◌}
 use Rattle.jvm_model.specs.Classes.Load.{is_among}
 use Rattle.class_index.specs.Orders.{with_classes}
-use Rattle.call_revelation.specs.Tables.{list_at}
-use Rattle.call_revelation.proofs.Numbers.Adding.{adds-equal}
-use Rattle.call_revelation.proofs.References.TargetLemmas.{all-added, next-added}
+use Rattle.possible_callees.specs.Tables.{list_at}
+use Rattle.possible_callees.proofs.Numbers.Adding.{adds-equal}
+use Rattle.possible_callees.proofs.References.TargetLemmas.{all-added, next-added}
 use Rattle.call_revelation.proofs.named.Named.add_above.Goals as goal
 
 pub loop-class-preserved : goal.loop-class-preserved

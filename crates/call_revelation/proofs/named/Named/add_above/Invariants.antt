@@ -2,7 +2,7 @@
 use Rattle.std.proofs.Common.{◌≡◌, ℕ, drop}
 use Rattle.std.specs.Prelude.{flat_map, ◌||◌}
 use Rattle.jvm_model.specs.Classes.Load.{is_among}
-use Rattle.call_revelation.specs.Tables.{list_at}
+use Rattle.possible_callees.specs.Tables.{list_at}
 use Rattle.call_revelation.proofs.named.Named.add_above.Given as goal
 
 abbrev pub invariant-loop-class : goal.invariant-loop-class

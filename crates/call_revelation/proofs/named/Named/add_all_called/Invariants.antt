@@ -3,8 +3,8 @@ use Rattle.std.proofs.Common.{◌≡◌, ℕ, map, drop, true}
 use Rattle.std.specs.Prelude.{flat_map, ◌||◌}
 use Rattle.jvm_model.specs.declared.program.Program.{Program}
 use Rattle.jvm_model.specs.Classes.Load.{is_among}
+use Rattle.possible_callees.specs.Lineages.{IsLineage}
 use Rattle.call_revelation.specs.CalledClasses.{AreHanded, called_class}
-use Rattle.call_revelation.specs.Lineages.{IsLineage}
 use Rattle.call_revelation.proofs.named.Named.add_all_called.Given as goal
 
 abbrev pub invariant-loop-reference : goal.invariant-loop-reference

@@ -2,9 +2,9 @@ use Rattle.std.proofs.Common.{ap, map, sym, ◌∙◌}
 use Rattle.std.specs.Prelude.{flat_map}
 use Rattle.std.proofs.lemmas.Result.{on_ok_weaker}
 use Rattle.jvm_model.specs.Classes.Load.{is_among}
+use Rattle.possible_callees.specs.Tables.{Adds}
+use Rattle.possible_callees.proofs.Truths.{or-later}
 use Rattle.call_revelation.specs.CalledClasses.{HasCalled, called_class}
-use Rattle.call_revelation.specs.Tables.{Adds}
-use Rattle.call_revelation.proofs.Truths.{or-later}
 use Rattle.call_revelation.proofs.named.Named.add_read.Goals as goal
 
 pub returns-clause-called : goal.returns-clause-called

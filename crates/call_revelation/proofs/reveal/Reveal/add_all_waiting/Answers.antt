@@ -2,8 +2,8 @@ use Rattle.std.proofs.Common.{arith}
 use Rattle.std.specs.Prelude.{flat_map, ◌||◌}
 use Rattle.jvm_model.specs.Classes.Load.{is_among}
 use Rattle.jvm_model.specs.Profiling.Targets.{begun_by}
+use Rattle.possible_callees.proofs.References.TargetLemmas.{all-added, next-added}
 use Rattle.call_revelation.specs.Books.{of_entered, use_of}
-use Rattle.call_revelation.proofs.References.TargetLemmas.{all-added, next-added}
 use Rattle.call_revelation.proofs.reveal.Reveal.add_all_waiting.Goals as goal
 
 pub loop-u-preserved : goal.loop-u-preserved

@@ -1,8 +1,8 @@
 use Rattle.std.proofs.Common.{subst, sym}
 use Rattle.std.specs.Prelude.{OnOk}
+use Rattle.possible_callees.specs.Tables.{Adds}
+use Rattle.possible_callees.proofs.Numbers.Adding.{adds-nothing}
 use Rattle.call_revelation.specs.Books.{called_by}
-use Rattle.call_revelation.specs.Tables.{Adds}
-use Rattle.call_revelation.proofs.Numbers.Adding.{adds-nothing}
 use Rattle.call_revelation.proofs.reveal.Reveal.add_call.Goals as goal
 
 pub returns-in-Some : goal.returns-in-Some

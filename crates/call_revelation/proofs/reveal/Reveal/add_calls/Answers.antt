@@ -1,8 +1,8 @@
 use Rattle.std.proofs.Common.{arith}
 use Rattle.std.specs.Prelude.{flat_map, ◌||◌}
 use Rattle.jvm_model.specs.Classes.Load.{is_among}
+use Rattle.possible_callees.proofs.References.TargetLemmas.{all-added, next-added}
 use Rattle.call_revelation.specs.Books.{called_by, of_entered, use_of}
-use Rattle.call_revelation.proofs.References.TargetLemmas.{all-added, next-added}
 use Rattle.call_revelation.proofs.reveal.Reveal.add_calls.Goals as goal
 
 pub loop-u-preserved : goal.loop-u-preserved

@@ -1,8 +1,8 @@
 use Rattle.std.proofs.Common.{subst, sym}
 use Rattle.std.specs.Prelude.{OnOk}
 use Rattle.jvm_model.specs.Profiling.Targets.{begun_by}
-use Rattle.call_revelation.specs.Tables.{Adds}
-use Rattle.call_revelation.proofs.Numbers.Adding.{adds-nothing}
+use Rattle.possible_callees.specs.Tables.{Adds}
+use Rattle.possible_callees.proofs.Numbers.Adding.{adds-nothing}
 use Rattle.call_revelation.proofs.References.Callers.{caller-there}
 use Rattle.call_revelation.proofs.reveal.Reveal.add_waiting.Goals as goal
 

@@ -4,9 +4,9 @@ use Rattle.std.specs.List.{AllByRecursion}
 use Rattle.jvm_model.specs.Soundness.Sound.{HasLoadedCaller}
 use Rattle.jvm_model.specs.Profiling.Targets.{begun_by}
 use Rattle.jvm_model.specs.declared.instruction.SymbolicReference.{SymbolicReference}
-use Rattle.call_revelation.specs.Tables.{Adds}
+use Rattle.possible_callees.specs.Tables.{Adds}
+use Rattle.possible_callees.proofs.References.TargetLemmas.{gathered-are}
 use Rattle.call_revelation.proofs.References.Callers.{callers-there}
-use Rattle.call_revelation.proofs.References.TargetLemmas.{gathered-are}
 use Rattle.call_revelation.proofs.reveal.Reveal.begun_in.Goals as goal
 
 pub add_all_begun-requires-clause-callers : goal.add_all_begun-requires-clause-callers

@@ -1,8 +1,8 @@
 use Rattle.std.proofs.Common.{◌∷◌, ap, subst, sym, ◌∙◌}
 use Rattle.class_index.specs.Orders.{with_classes}
+use Rattle.possible_callees.proofs.Numbers.Adding.{adds-equal}
+use Rattle.possible_callees.proofs.Numbers.Fronts.{front-self}
 use Rattle.call_revelation.specs.Reveals.{IsGrown, IsRevelation}
-use Rattle.call_revelation.proofs.Numbers.Adding.{adds-equal}
-use Rattle.call_revelation.proofs.Numbers.Fronts.{front-self}
 use Rattle.call_revelation.proofs.Revelations.Grown.{grown-more, grown-read, if-err}
 use Rattle.call_revelation.proofs.Revelations.Marking.{entered-more, kept-named, kept-read, named-more}
 use Rattle.call_revelation.proofs.reveal.Reveal.enter.Goals as goal

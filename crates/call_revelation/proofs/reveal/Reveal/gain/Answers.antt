@@ -1,11 +1,11 @@
 use Rattle.std.proofs.Common.{false, is_ok, refl, subst, ◌∙◌}
 use Rattle.std.specs.Prelude.{flat_map}
 use Rattle.jvm_model.specs.Profiling.Targets.{begun_by}
+use Rattle.possible_callees.specs.Tables.{Adds, list_at}
+use Rattle.possible_callees.proofs.Numbers.Fronts.{fresh-with, front-if}
 use Rattle.call_revelation.specs.Books.{called_from, of_entered}
-use Rattle.call_revelation.specs.Tables.{Adds, list_at}
 use Rattle.call_revelation.proofs.References.Callers.{gathered-both}
 use Rattle.call_revelation.proofs.References.CalledLemmas.{handed-with}
-use Rattle.call_revelation.proofs.Numbers.Fronts.{fresh-with, front-if}
 use Rattle.call_revelation.proofs.Revelations.Marking.{ahead-more, kept-loaded}
 use Rattle.call_revelation.proofs.reveal.Reveal.gain.Goals as goal
 

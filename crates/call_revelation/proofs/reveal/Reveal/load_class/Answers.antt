@@ -1,10 +1,10 @@
 use Rattle.std.proofs.Common.{ap, subst, sym, ◌∙◌}
 use Rattle.jvm_model.specs.Classes.Load.{is_among}
+use Rattle.possible_callees.specs.Lineages.{LeadTo}
 use Rattle.call_revelation.specs.CalledClasses.{uppers_of}
-use Rattle.call_revelation.specs.Lineages.{LeadTo}
 use Rattle.call_revelation.proofs.References.CalledLemmas.{all-uppers, handed-before, handed-more}
 use Rattle.call_revelation.proofs.Revelations.Grown.{grown-named, grown-self, grown-then}
-use Rattle.call_revelation.proofs.Classes.LineageLemmas.{direct-lead}
+use Rattle.call_revelation.proofs.Classes.SubtypeSteps.{direct-lead}
 use Rattle.call_revelation.proofs.Revelations.Marking.{named-more}
 use Rattle.call_revelation.proofs.reveal.Reveal.load_class.Goals as goal
 

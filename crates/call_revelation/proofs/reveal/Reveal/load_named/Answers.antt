@@ -1,11 +1,11 @@
 use Rattle.std.proofs.Common.{ap, ap₂, subst, sym, ◌∙◌}
 use Rattle.class_index.specs.Orders.{with_classes}
+use Rattle.possible_callees.specs.Tables.{list_at}
+use Rattle.possible_callees.proofs.Numbers.Adding.{adds-equal}
+use Rattle.possible_callees.proofs.Numbers.Fronts.{front-self, front-then}
 use Rattle.call_revelation.specs.declared.reveal.Reveal.{Reveal}
 use Rattle.call_revelation.specs.Reveals.{IsRevelation}
-use Rattle.call_revelation.specs.Tables.{list_at}
-use Rattle.call_revelation.proofs.Numbers.Adding.{adds-equal}
 use Rattle.call_revelation.proofs.References.CalledLemmas.{uppers-known}
-use Rattle.call_revelation.proofs.Numbers.Fronts.{front-self, front-then}
 use Rattle.call_revelation.proofs.Revelations.Grown.{grown-lineage, grown-more}
 use Rattle.call_revelation.proofs.Revelations.Marking.{loaded-more}
 use Rattle.call_revelation.proofs.reveal.Reveal.load_named.Goals as goal

@@ -2,7 +2,7 @@ use Rattle.std.proofs.Common.{ap, subst, sym, drop, ◌∙◌, arith}
 use Rattle.std.specs.List.{AllByRecursion}
 use Rattle.jvm_model.specs.Profiling.Revelation.{IsLoadOrder}
 use Rattle.class_linker.specs.Linkers.{IsLoaded}
-use Rattle.call_revelation.proofs.Numbers.Fronts.{front-long}
+use Rattle.possible_callees.proofs.Numbers.Fronts.{front-long}
 use Rattle.call_revelation.proofs.Revelations.Grown.{went-back}
 use Rattle.call_revelation.proofs.Classes.InTurn.{behind-linked, behind-order}
 use Rattle.call_revelation.proofs.reveal.Reveal.loaded.Goals as goal

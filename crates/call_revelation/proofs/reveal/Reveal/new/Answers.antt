@@ -2,12 +2,12 @@ use Rattle.std.proofs.Common.{ℕ, false, List, [], length, ap, ap₂, ◌∙◌
 use Rattle.std.specs.Prelude.{None, replicate}
 use Rattle.jvm_model.specs.declared.event.Mark.TheVariants.{Off}
 use Rattle.jvm_model.specs.declared.program.MethodPlace.{MethodPlace}
+use Rattle.possible_callees.proofs.Classes.LineageLemmas.{nothing-loaded}
 use Rattle.call_revelation.specs.Reveals.{owned_from}
 use Rattle.prepared_code.proofs.Initializing.BuiltInLoads.{few-coded}
 use Rattle.call_revelation.proofs.References.BookLemmas.{nothing-read}
 use Rattle.call_revelation.proofs.References.CalledLemmas.{nothing-named}
 use Rattle.call_revelation.proofs.Revelations.First.{first-revelation}
-use Rattle.call_revelation.proofs.Classes.LineageLemmas.{nothing-loaded}
 use Rattle.call_revelation.proofs.reveal.Reveal.new.Goals as goal
 
 pub new-requires-clause-few : goal.new-requires-clause-few

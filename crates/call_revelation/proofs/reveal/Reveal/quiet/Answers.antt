@@ -1,7 +1,7 @@
 use Rattle.std.proofs.Common.{[], ap, subst, sym, ◌∙◌}
 use Rattle.class_index.specs.Orders.{with_classes}
+use Rattle.possible_callees.proofs.Numbers.Adding.{adds-equal}
 use Rattle.call_revelation.specs.Reveals.{IsRevelation}
-use Rattle.call_revelation.proofs.Numbers.Adding.{adds-equal}
 use Rattle.call_revelation.proofs.Revelations.Marking.{quieted, staler}
 use Rattle.call_revelation.proofs.reveal.Reveal.quiet.Goals as goal
 

@@ -1,6 +1,6 @@
 use Rattle.std.proofs.Common.{◌≡◌, is_ok, rules, subst, sym}
+use Rattle.possible_callees.proofs.Numbers.Fronts.{front-if}
 use Rattle.call_revelation.specs.Reveals.{IsRevelation}
-use Rattle.call_revelation.proofs.Numbers.Fronts.{front-if}
 use Rattle.call_revelation.proofs.Revelations.Marking.{others-with, selected-more, staler}
 use Rattle.call_revelation.proofs.reveal.Reveal.selected.Goals as goal
 

@@ -1,8 +1,8 @@
 use Rattle.std.proofs.Common.{◌≡◌, false, rules, subst, sym}
 use Rattle.std.specs.Prelude.{slice_set}
 use Rattle.jvm_model.specs.Profiling.Revealed.{without_method}
-use Rattle.call_revelation.specs.Ranks.{AreFlagged}
-use Rattle.call_revelation.proofs.Classes.RankLemmas.{flagged-less}
+use Rattle.call_revelation.specs.Flags.{AreFlagged}
+use Rattle.call_revelation.proofs.Revelations.FlagLemmas.{flagged-less}
 use Rattle.call_revelation.proofs.selection.Selection.deselect.Goals as goal
 
 pub invariant_of-self : goal.invariant_of-self

@@ -1,8 +1,8 @@
 use Rattle.std.proofs.Common.{◌≡◌, ◌∷◌, rules, subst, sym, true}
 use Rattle.std.specs.Prelude.{slice_set}
 use Rattle.jvm_model.specs.Profiling.Revealed.{without_method}
-use Rattle.call_revelation.specs.Ranks.{AreFlagged}
-use Rattle.call_revelation.proofs.Classes.RankLemmas.{flagged-more, flagged-padded}
+use Rattle.call_revelation.specs.Flags.{AreFlagged}
+use Rattle.call_revelation.proofs.Revelations.FlagLemmas.{flagged-more, flagged-padded}
 use Rattle.call_revelation.proofs.selection.Selection.select.Goals as goal
 
 pub invariant_of-self-2 : goal.invariant_of-self-2

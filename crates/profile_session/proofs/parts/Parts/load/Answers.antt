@@ -2,7 +2,8 @@ use Rattle.std.proofs.Common.{sym, subst, []}
 use Rattle.jvm_model.specs.Profiling.Revealed.{with_loaded}
 use Rattle.jvm_model.specs.Profiling.Revelation.{IsLoadOrder}
 use Rattle.class_linker.specs.Linkers.{LinkerView}
-use Rattle.call_revelation.specs.Reveals.{IsPrefix, IsRevelation}
+use Rattle.possible_callees.specs.Tables.{IsPrefix}
+use Rattle.call_revelation.specs.Reveals.{IsRevelation}
 use Rattle.profile_session.specs.Parts.{loaded_in, revealed_in}
 use Rattle.profile_session.proofs.Points.{ahead-of, fit-of, linked, point-of, reveals-loads, showable-of}
 use Rattle.profile_session.proofs.parts.Parts.load.Goals as goal

@@ -1,9 +1,0 @@
-use Rattle.std.proofs.Common.{◌+◌, ◌-◌, length}
-use Rattle.call_revelation.specs.Tables.{IsPadded}
-use Rattle.call_revelation.proofs.tables.make_room.Given as goal
-
-abbrev pub decreases-loop-item : goal.decreases-loop-item
-decreases-loop-item g l = l.number + 1 - length l.items
-
-abbrev pub invariant-loop-item : goal.invariant-loop-item
-invariant-loop-item g l = IsPadded l.item l.initial.items l.items

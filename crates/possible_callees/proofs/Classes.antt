@@ -1,0 +1,3 @@
+pub mod RankLemmas
+pub mod LineageLemmas
+pub mod SameLoaded

@@ -1,0 +1,4 @@
+pub mod Truths
+pub mod References
+pub mod Classes
+pub mod Numbers

@@ -1,0 +1,5 @@
+pub mod BegunLemmas
+pub mod LineReferences
+pub mod ReferenceSteps
+pub mod CallerLemmas
+pub mod TargetLemmas

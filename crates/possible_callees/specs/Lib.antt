@@ -1,0 +1,4 @@
+pub mod Tables
+pub mod Ranks
+pub mod Lineages
+pub mod CodeReferences
