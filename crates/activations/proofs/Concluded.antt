@@ -14,7 +14,7 @@ use Rattle.jvm_model.specs.declared.ending.Ending.TheVariants.{Exited}
 use Rattle.jvm_model.specs.Running.Run.{starts}
 use Rattle.member_selection.specs.declared.outcome.Outcome.{Outcome as Given}
 use Rattle.member_selection.specs.declared.outcome.Outcome.TheVariants as given
-use Rattle.member_selection.specs.declared.outcome.AbruptCompletion.TheVariants as refusal
+use Rattle.member_selection.specs.declared.outcome.AbruptCompletion.TheVariants as abrupt
 use Rattle.member_selection.specs.Going.{gone, holds, left_with}
 use Rattle.member_selection.specs.Outcomes.{outcome_view}
 use Rattle.prepared_lines.specs.declared.line.Line.{Line}
@@ -115,8 +115,8 @@ module _ (w : Setup) (line : Line) (method : ℕ) (p : Parts) where
 pub stays-given : (a : Given) (l : Locals) (o : Operands) → starts (outcome_view a l o) ≡ None → stays (outcome_view a l o) ≡ true
 stays-given (given.Goes n v) l o none = refl
 stays-given (given.Invokes m n) l o none = refl
-stays-given (given.Refused (refusal.Raises e message)) l o none = refl
-stays-given (given.Refused (refusal.Throws object)) l o none = refl
-stays-given (given.Refused (refusal.Initializes class)) l o none = absurd (none-some class (sym none))
-stays-given (given.Refused (refusal.Exits status)) l o none = refl
-stays-given (given.Refused refusal.Breaks) l o none = refl
+stays-given (given.Abrupt (abrupt.Raises e message)) l o none = refl
+stays-given (given.Abrupt (abrupt.Throws object)) l o none = refl
+stays-given (given.Abrupt (abrupt.Initializes class)) l o none = absurd (none-some class (sym none))
+stays-given (given.Abrupt (abrupt.Exits status)) l o none = refl
+stays-given (given.Abrupt abrupt.Breaks) l o none = refl

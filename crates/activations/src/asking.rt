@@ -63,23 +63,23 @@ fn go_on(
 
 /// What is asked for in place of going on. The class that is initialized before is the answer,
 /// where one is.
-fn refuse(
+fn complete_abruptly(
     originals: &Originals,
     parts: &mut Parts,
     method: u32,
     line: &Line,
-    refusal: AbruptCompletion,
+    completion: AbruptCompletion,
 ) -> Result<Option<u32>, NoMemory>
     requires top { IsTop method parts.old.frames.frames }
-    ensures answer { IfOk result (λ o. o ≡ starts (abrupt_view refusal)) }
+    ensures answer { IfOk result (λ o. o ≡ starts (abrupt_view completion)) }
     ensures state { let w = setup_in parts.old.runtime originals.now in IfOk result (λ o. IfNone o
         (state_in parts.new ≡ on_parts
-        (λ s f. acts_asked w line.now s f (abrupt_view refusal)) parts.old)) }
+        (λ s f. acts_asked w line.now s f (abrupt_view completion)) parts.old)) }
     ensures begins { IfOk result (λ o. IfSome o (λ _. parts.new ≡ parts.old)) }
     ensures world { parts.new.runtime.world ≡ parts.old.runtime.world }
     ensures same_loaded { parts.new.runtime.shared.loaded ≡ parts.old.runtime.shared.loaded }
 {
-    match refusal {
+    match completion {
         AbruptCompletion::Raises(exception, message) => {
             raise_named(parts, exception, message)?;
             Ok(None)
@@ -130,6 +130,8 @@ pub fn conclude(
             call(originals, parts, method, line.instr.at, callee, args)?;
             Ok(None)
         }
-        Outcome::Refused(refusal) => refuse(originals, parts, method, line, refusal),
+        Outcome::Abrupt(completion) => complete_abruptly(
+            originals, parts, method, line, completion,
+        ),
     }
 }

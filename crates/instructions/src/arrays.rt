@@ -39,13 +39,13 @@ pub fn measure(runtime: &Runtime, frames: &Frames) -> Result<Outcome, NoMemory>
     ensures enough { HaveOperands result frames.now }
 {
     let Some(reference) = ref_of(frames) else {
-        return Ok(Outcome::Refused(AbruptCompletion::Breaks));
+        return Ok(Outcome::Abrupt(AbruptCompletion::Breaks));
     };
     if reference == 0 {
-        return Ok(Outcome::Refused(AbruptCompletion::Raises(Exception::NullPointer, None)));
+        return Ok(Outcome::Abrupt(AbruptCompletion::Raises(Exception::NullPointer, None)));
     }
     let Some(count) = array_length(runtime.heap(), reference) else {
-        return Ok(Outcome::Refused(AbruptCompletion::Breaks));
+        return Ok(Outcome::Abrupt(AbruptCompletion::Breaks));
     };
     // An array is made with an int as its length, so that none is longer.
     if count > GREATEST {

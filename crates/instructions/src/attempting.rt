@@ -103,7 +103,7 @@ fn ask(
         Action::LdcString(units) => runtime.push_string(frames, units),
         // These do not come here.
         Action::Local | Action::Return(_) | Action::Named(_) => {
-            Ok(Outcome::Refused(AbruptCompletion::Breaks))
+            Ok(Outcome::Abrupt(AbruptCompletion::Breaks))
         }
     }
 }

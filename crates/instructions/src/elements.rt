@@ -136,18 +136,18 @@ fn text_of(alloc: Global, n: i32) -> Result<Text16, NoMemory>
 }
 
 /// What an instruction asks for that is led to no element: an index outside is told.
-fn refuse(alloc: Global, led: Led, index: i32) -> Result<Outcome, NoMemory>
+fn outcome_without_element(alloc: Global, led: Led, index: i32) -> Result<Outcome, NoMemory>
     ensures answer { (f : FramesView) → IfOk result
         (λ a. asked a f ≡ access_refused (access_of led) index) }
     ensures enough { (o : Operands) → IfOk result (λ a. HasOperands a o) }
 {
     match led {
-        Led::ToNull => Ok(Outcome::Refused(AbruptCompletion::Raises(Exception::NullPointer, None))),
+        Led::ToNull => Ok(Outcome::Abrupt(AbruptCompletion::Raises(Exception::NullPointer, None))),
         Led::Outside => {
             let text = text_of(alloc, index)?;
-            Ok(Outcome::Refused(AbruptCompletion::Raises(Exception::IndexOutside, Some(text))))
+            Ok(Outcome::Abrupt(AbruptCompletion::Raises(Exception::IndexOutside, Some(text))))
         }
-        Led::ToAnother | Led::Inside(_) => Ok(Outcome::Refused(AbruptCompletion::Breaks)),
+        Led::ToAnother | Led::Inside(_) => Ok(Outcome::Abrupt(AbruptCompletion::Breaks)),
     }
 }
 
@@ -241,11 +241,11 @@ pub fn load_element(
     ensures enough { HaveOperands result frames.now }
 {
     let Some(place) = place_of(frames) else {
-        return Ok(Outcome::Refused(AbruptCompletion::Breaks));
+        return Ok(Outcome::Abrupt(AbruptCompletion::Breaks));
     };
     match element_at(runtime.heap(), kind, &place) {
         Some(datum) => Ok(Outcome::Goes(2, Some(value_of(datum)))),
-        None => refuse(alloc, led_to(runtime.heap(), kind, &place), place.index),
+        None => outcome_without_element(alloc, led_to(runtime.heap(), kind, &place), place.index),
     }
 }
 
@@ -266,15 +266,15 @@ pub fn store_element(
     ensures same_loaded { runtime.new.shared.loaded ≡ runtime.old.shared.loaded }
 {
     let Some(storing) = storing_of(frames, kind) else {
-        return Ok(Outcome::Refused(AbruptCompletion::Breaks));
+        return Ok(Outcome::Abrupt(AbruptCompletion::Breaks));
     };
     let place = storing.place;
     let led = led_to(runtime.heap(), kind, &place);
     let Led::Inside(slot) = led else {
-        return refuse(alloc, led, place.index);
+        return outcome_without_element(alloc, led, place.index);
     };
     if !fits_array(runtime.linker(), runtime.heap(), storing.datum, place.array) {
-        return Ok(Outcome::Refused(AbruptCompletion::Raises(Exception::ArrayStore, None)));
+        return Ok(Outcome::Abrupt(AbruptCompletion::Raises(Exception::ArrayStore, None)));
     }
     runtime.store_at(place.array, slot, storing.datum);
     Ok(Outcome::Goes(3, None))

@@ -19,8 +19,8 @@ pub fn watch(frames: &Frames) -> Outcome
     ensures enough { HasOperands result (top_operands frames.now.frames) }
 {
     match ref_of(frames) {
-        Some(0) => Outcome::Refused(AbruptCompletion::Raises(Exception::NullPointer, None)),
+        Some(0) => Outcome::Abrupt(AbruptCompletion::Raises(Exception::NullPointer, None)),
         Some(_) => Outcome::Goes(1, None),
-        None => Outcome::Refused(AbruptCompletion::Breaks),
+        None => Outcome::Abrupt(AbruptCompletion::Breaks),
     }
 }

@@ -32,14 +32,14 @@ pub fn throw_object(runtime: &Runtime, frames: &Frames) -> Outcome
     ensures enough { HasOperands result (top_operands frames.now.frames) }
 {
     let Some(object) = ref_of(frames) else {
-        return Outcome::Refused(AbruptCompletion::Breaks);
+        return Outcome::Abrupt(AbruptCompletion::Breaks);
     };
     if object == 0 {
-        return Outcome::Refused(AbruptCompletion::Raises(Exception::NullPointer, None));
+        return Outcome::Abrupt(AbruptCompletion::Raises(Exception::NullPointer, None));
     }
     if is_throwable(runtime, object) {
-        Outcome::Refused(AbruptCompletion::Throws(object))
+        Outcome::Abrupt(AbruptCompletion::Throws(object))
     } else {
-        Outcome::Refused(AbruptCompletion::Breaks)
+        Outcome::Abrupt(AbruptCompletion::Breaks)
     }
 }

@@ -12,9 +12,9 @@ use Rattle.jvm_model.specs.declared.exception.Exception.{Exception}
 use Rattle.jvm_model.specs.declared.exception.Exception.TheVariants as exception
 use Rattle.jvm_model.specs.Instructions.Exceptions.{exception_name}
 use Rattle.member_selection.specs.declared.outcome.AbruptCompletion.{AbruptCompletion}
-use Rattle.member_selection.specs.declared.outcome.AbruptCompletion.TheVariants as refusal
+use Rattle.member_selection.specs.declared.outcome.AbruptCompletion.TheVariants as abrupt
 
--- ---- refusals
+-- ---- what completes abruptly
 
 -- that of the built-in class at this place, where it is the error of a load or of a resolution
 abbrev pub exception_numbered : ℕ → Exception
@@ -25,13 +25,13 @@ exception_numbered number =
     if number == 50 then exception.NoSuchMethod else exception.IncompatibleClassChange
 
 abbrev pub abrupt_view : AbruptCompletion → Outcome
-abrupt_view (refusal.Raises e message) = Raises (exception_name e) message
-abrupt_view (refusal.Throws object) = Throws object
-abrupt_view (refusal.Initializes class) = Initializes class
-abrupt_view (refusal.Exits status) = Exits status
-abrupt_view refusal.Breaks = Breaks false
+abrupt_view (abrupt.Raises e message) = Raises (exception_name e) message
+abrupt_view (abrupt.Throws object) = Throws object
+abrupt_view (abrupt.Initializes class) = Initializes class
+abrupt_view (abrupt.Exits status) = Exits status
+abrupt_view abrupt.Breaks = Breaks false
 
--- what a step finds, or what it asks for where it is refused
+-- what a step finds, or what it asks for where it completes abruptly
 abbrev pub found_view : {A : Type 0} → Result A AbruptCompletion → Result A Outcome
 found_view (Ok x) = Ok x
 found_view (Err e) = Err (abrupt_view e)

@@ -14,7 +14,7 @@ use Rattle.member_selection.specs.Targets.{data_in}
 abbrev pub outcome_view : Outcome → Locals → Operands → model.Outcome
 outcome_view (outcome.Goes n v) l o = model.GoesOn l (with_value v (drop n o)) Next
 outcome_view (outcome.Invokes m n) l o = model.Invokes m (data_in n o) (drop n o)
-outcome_view (outcome.Refused e) l o = abrupt_view e
+outcome_view (outcome.Abrupt e) l o = abrupt_view e
 
 -- of this frame
 abbrev pub asked : Outcome → FramesView → model.Outcome

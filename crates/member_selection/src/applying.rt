@@ -111,6 +111,6 @@ pub fn pass_by(frames: &mut Frames, outcome: Outcome, next: u16) -> bool
     match outcome {
         Outcome::Goes(count, value) => apply(frames, count, value, next),
         Outcome::Invokes(_, _) => false,
-        Outcome::Refused(_) => false,
+        Outcome::Abrupt(_) => false,
     }
 }

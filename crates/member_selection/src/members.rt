@@ -76,7 +76,7 @@ pub fn field_found(
 {
     let m = match resolved_field(linker, linker.index().class_of_kind(kind), member) {
         Ok(m) => m,
-        Err(refusal) => return Err(refusal),
+        Err(completion) => return Err(completion),
     };
     if is_static_field(linker, m) == is_static {
         Ok(m)

@@ -25,5 +25,5 @@ pub enum Outcome {
     Goes(u16, Option<Value>),
     /// The method with this number is invoked with so many topmost operands as its arguments.
     Invokes(u32, u16),
-    Refused(AbruptCompletion),
+    Abrupt(AbruptCompletion),
 }

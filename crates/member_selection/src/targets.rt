@@ -141,7 +141,7 @@ pub fn method_found(
     let class = linker.index().class_of_kind(kind);
     match found_in(linker, class, interface, method.member()) {
         Ok(m) => fitting(linker.program(), m, fixed),
-        Err(refusal) => Err(refusal),
+        Err(completion) => Err(completion),
     }
 }
 

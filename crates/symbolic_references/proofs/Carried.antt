@@ -1,4 +1,5 @@
--- What is proved of a rule holds of another one that asks for the same of the frame, and what a refusal leaves.
+-- What is proved of a rule holds of another one that asks for the same of the frame, and what an abrupt completion
+-- leaves.
 use Rattle.std.proofs.Common.{◌≡◌, ℕ, suc, zero, ◌≤◌, length, Option, Some, None, ap, sym, subst, ◌∙◌}
 use Rattle.std.proofs.lemmas.List.{append-nil}
 use Rattle.std.specs.Prelude.{Result, IfOk, OnOk}

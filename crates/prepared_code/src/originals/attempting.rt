@@ -54,7 +54,7 @@ fn attempt_line(
         Action::Named(reference) => runtime.attempt(frames, reference, learnt),
         _ => {
             *learnt = None;
-            Ok(Outcome::Refused(AbruptCompletion::Breaks))
+            Ok(Outcome::Abrupt(AbruptCompletion::Breaks))
         }
     }
 }
@@ -134,7 +134,7 @@ fn attempt_line_known(
             }
             runtime.attempt_known(frames, reference, known)
         }
-        _ => Ok(Outcome::Refused(AbruptCompletion::Breaks)),
+        _ => Ok(Outcome::Abrupt(AbruptCompletion::Breaks)),
     }
 }
 
@@ -182,7 +182,7 @@ impl Originals {
         ensures world { runtime.new.world ≡ runtime.old.world }
     {
         let Some(line) = line_there(&self.index, &self.versions, version, place) else {
-            return Ok(Outcome::Refused(AbruptCompletion::Breaks));
+            return Ok(Outcome::Abrupt(AbruptCompletion::Breaks));
         };
         if let Some(before) = self.cells.get(version, place) {
             let mut known = before;

@@ -33,7 +33,7 @@ impl Runtime {
         ensures enough { HaveOperands result frames.now }
     {
         if !self.heap.has_room(1 + count as usize) {
-            return Ok(Outcome::Refused(AbruptCompletion::Throws(RESERVED)));
+            return Ok(Outcome::Abrupt(AbruptCompletion::Throws(RESERVED)));
         }
         match self.heap.array(kind, Datum::Int(0), count) {
             Ok(number) => Ok(Outcome::Goes(1, Some(Value::Ref(number)))),
@@ -54,10 +54,10 @@ impl Runtime {
         ensures enough { HaveOperands result frames.now }
     {
         let Some(count) = int_of(frames) else {
-            return Ok(Outcome::Refused(AbruptCompletion::Breaks));
+            return Ok(Outcome::Abrupt(AbruptCompletion::Breaks));
         };
         if count < 0 {
-            return Ok(Outcome::Refused(AbruptCompletion::Raises(
+            return Ok(Outcome::Abrupt(AbruptCompletion::Raises(
                 Exception::NegativeArraySize,
                 None,
             )));

@@ -111,7 +111,7 @@ impl Runtime {
         *learnt = None;
         match found {
             None => Ok(skip(frames, reference)),
-            Some(Err(refusal)) => Ok(Outcome::Refused(refusal)),
+            Some(Err(completion)) => Ok(Outcome::Abrupt(completion)),
             Some(Ok(kind)) => {
                 let mut found = Found::Nothing;
                 let outcome = self.do_resolved(frames, reference, kind, &mut found)?;

@@ -45,7 +45,7 @@ impl Runtime {
     {
         if m.class < self.linker.index().user_count() {
             let raised = AbruptCompletion::Raises(Exception::UnsatisfiedLink, None);
-            return Ok(Outcome::Refused(raised));
+            return Ok(Outcome::Abrupt(raised));
         }
         self.run_native(frames, m, count)
     }
@@ -69,7 +69,7 @@ impl Runtime {
         ensures enough { HaveOperands result frames.now }
     {
         if is_abstract(self.linker.program(), m) {
-            return Ok(Outcome::Refused(AbruptCompletion::Raises(Exception::AbstractMethod, None)));
+            return Ok(Outcome::Abrupt(AbruptCompletion::Raises(Exception::AbstractMethod, None)));
         }
         match self.tables.numbers.number(m.class, m.position) {
             Some(number) => Ok(Outcome::Invokes(number, count)),
@@ -121,7 +121,7 @@ impl Runtime {
     {
         match selected {
             Some(m) => self.invoke_chosen(frames, m, count),
-            None => Ok(Outcome::Refused(AbruptCompletion::Raises(Exception::AbstractMethod, None))),
+            None => Ok(Outcome::Abrupt(AbruptCompletion::Raises(Exception::AbstractMethod, None))),
         }
     }
 
@@ -151,7 +151,7 @@ impl Runtime {
     {
         match self.instance_target(frames, by, method, kind, found) {
             Ok(target) => self.invoke_selected(frames, target.selected, target.count),
-            Err(refusal) => Ok(Outcome::Refused(refusal)),
+            Err(completion) => Ok(Outcome::Abrupt(completion)),
         }
     }
 
@@ -178,7 +178,7 @@ impl Runtime {
     {
         match self.static_target(frames, method, kind, found)? {
             Ok(target) => self.invoke_selected(frames, target.selected, target.count),
-            Err(refusal) => Ok(Outcome::Refused(refusal)),
+            Err(completion) => Ok(Outcome::Abrupt(completion)),
         }
     }
 }

@@ -66,12 +66,12 @@ impl Runtime {
         ensures enough { HasOperands result (top_operands frames.now.frames) }
     {
         let Some(object) = ref_of(frames) else {
-            return Outcome::Refused(AbruptCompletion::Breaks);
+            return Outcome::Abrupt(AbruptCompletion::Breaks);
         };
         if self.is_of(name, kind, found, object) {
             Outcome::Goes(0, None)
         } else {
-            Outcome::Refused(AbruptCompletion::Raises(Exception::ClassCast, None))
+            Outcome::Abrupt(AbruptCompletion::Raises(Exception::ClassCast, None))
         }
     }
 
@@ -92,7 +92,7 @@ impl Runtime {
         ensures enough { HasOperands result (top_operands frames.now.frames) }
     {
         let Some(object) = ref_of(frames) else {
-            return Outcome::Refused(AbruptCompletion::Breaks);
+            return Outcome::Abrupt(AbruptCompletion::Breaks);
         };
         let answer = self.is_of(name, kind, found, object);
         Outcome::Goes(1, Some(int_for(answer)))

@@ -42,7 +42,7 @@ impl Runtime {
     {
         match class_object(&mut self.heap, &mut self.made, kind)? {
             Some(object) => Ok(Outcome::Goes(0, Some(Value::Ref(object)))),
-            None => Ok(Outcome::Refused(AbruptCompletion::Throws(RESERVED))),
+            None => Ok(Outcome::Abrupt(AbruptCompletion::Throws(RESERVED))),
         }
     }
 }

@@ -71,7 +71,7 @@ impl Runtime {
     {
         let kinds = self.linker.layout(class);
         if !self.heap.has_room(1 + kinds.len()) {
-            return Ok(Outcome::Refused(AbruptCompletion::Throws(RESERVED)));
+            return Ok(Outcome::Abrupt(AbruptCompletion::Throws(RESERVED)));
         }
         let fields = zeros(self.alloc, kinds)?;
         match self.heap.instance(kind, fields.as_slice()) {
@@ -95,7 +95,7 @@ impl Runtime {
         ensures enough { HaveOperands result frames.now }
     {
         if !self.heap.has_room(1) {
-            return Ok(Outcome::Refused(AbruptCompletion::Throws(RESERVED)));
+            return Ok(Outcome::Abrupt(AbruptCompletion::Throws(RESERVED)));
         }
         match self.heap.text(kind, &[]) {
             Ok(number) => Ok(Outcome::Goes(0, Some(Value::Ref(number)))),
@@ -160,7 +160,7 @@ impl Runtime {
         ensures enough { HaveOperands result frames.now }
     {
         match self.made_of(kind, class, found) {
-            None => Ok(Outcome::Refused(AbruptCompletion::Raises(Exception::Instantiation, None))),
+            None => Ok(Outcome::Abrupt(AbruptCompletion::Raises(Exception::Instantiation, None))),
             Some(true) => self.make_text(frames, kind),
             Some(false) => self.make_fields(frames, kind, class),
         }
@@ -193,7 +193,7 @@ impl Runtime {
         match self.phases.at(class as usize) {
             Some(Phase::Ready) => self.make_instance(frames, kind, class, found),
             Some(Phase::Running) => self.make_instance(frames, kind, class, found),
-            Some(Phase::Fresh) => Ok(Outcome::Refused(AbruptCompletion::Initializes(class))),
+            Some(Phase::Fresh) => Ok(Outcome::Abrupt(AbruptCompletion::Initializes(class))),
             Some(Phase::Erroneous) => self.raise_unusable(frames, class),
             None => self.raise_unusable(frames, class),
         }

@@ -234,7 +234,7 @@ impl Runtime {
     {
         match self.heap.get(object, slot) {
             Some(datum) => Outcome::Goes(1, Some(value_of(datum))),
-            None => Outcome::Refused(AbruptCompletion::Breaks),
+            None => Outcome::Abrupt(AbruptCompletion::Breaks),
         }
     }
 
@@ -259,7 +259,7 @@ impl Runtime {
         ensures enough { HaveOperands result frames.now }
     {
         let Some(object) = ref_of(frames) else {
-            return Ok(Outcome::Refused(AbruptCompletion::Breaks));
+            return Ok(Outcome::Abrupt(AbruptCompletion::Breaks));
         };
         match self.field_owner(member, kind, field, object) {
             Ok(owner) => match self.slot_of(owner.class, field) {
@@ -269,7 +269,7 @@ impl Runtime {
                 }
                 None => Err(NoMemory),
             },
-            Err(refusal) => Ok(Outcome::Refused(refusal)),
+            Err(completion) => Ok(Outcome::Abrupt(completion)),
         }
     }
 
@@ -292,11 +292,11 @@ impl Runtime {
         ensures enough { HasOperands result (top_operands frames.now.frames) }
     {
         let Some(object) = ref_of(frames) else {
-            return Outcome::Refused(AbruptCompletion::Breaks);
+            return Outcome::Abrupt(AbruptCompletion::Breaks);
         };
         match self.known_owner(member, kind, field, last, object) {
             Ok(owner) => self.read_slot(frames, owner, slot),
-            Err(refusal) => Outcome::Refused(refusal),
+            Err(completion) => Outcome::Abrupt(completion),
         }
     }
 
@@ -320,7 +320,7 @@ impl Runtime {
     {
         match field_found(&self.linker, kind, false, member) {
             Ok(field) => self.read_field(frames, member, kind, field, found),
-            Err(refusal) => Ok(Outcome::Refused(refusal)),
+            Err(completion) => Ok(Outcome::Abrupt(completion)),
         }
     }
 
@@ -402,7 +402,7 @@ impl Runtime {
         ensures enough { HaveOperands result frames.now }
     {
         let Some(putting) = putting_of(frames, held_by(member.descriptor().units())) else {
-            return Ok(Outcome::Refused(AbruptCompletion::Breaks));
+            return Ok(Outcome::Abrupt(AbruptCompletion::Breaks));
         };
         match self.field_owner(member, kind, field, putting.object) {
             Ok(owner) => match self.slot_of(owner.class, field) {
@@ -413,7 +413,7 @@ impl Runtime {
                 }
                 None => Err(NoMemory),
             },
-            Err(refusal) => Ok(Outcome::Refused(refusal)),
+            Err(completion) => Ok(Outcome::Abrupt(completion)),
         }
     }
 
@@ -442,14 +442,14 @@ impl Runtime {
         ensures enough { HaveOperands result frames.now }
     {
         let Some(putting) = putting_of(frames, held_by(member.descriptor().units())) else {
-            return Ok(Outcome::Refused(AbruptCompletion::Breaks));
+            return Ok(Outcome::Abrupt(AbruptCompletion::Breaks));
         };
         match self.known_owner(member, kind, field, last, putting.object) {
             Ok(owner) => {
                 let datum = putting.datum;
                 Ok(self.write_slot(frames, owner, slot, datum))
             }
-            Err(refusal) => Ok(Outcome::Refused(refusal)),
+            Err(completion) => Ok(Outcome::Abrupt(completion)),
         }
     }
 
@@ -478,7 +478,7 @@ impl Runtime {
     {
         match field_found(&self.linker, kind, false, member) {
             Ok(field) => self.write_field(frames, member, kind, field, found),
-            Err(refusal) => Ok(Outcome::Refused(refusal)),
+            Err(completion) => Ok(Outcome::Abrupt(completion)),
         }
     }
 

@@ -207,7 +207,7 @@ impl Runtime {
         ensures enough { HaveOperands result frames.now }
     {
         if !has_room_for(&self.heap, lengths)? {
-            return Ok(Outcome::Refused(AbruptCompletion::Throws(RESERVED)));
+            return Ok(Outcome::Abrupt(AbruptCompletion::Throws(RESERVED)));
         }
         let made = make_all(&mut self.heap, kind, lengths)?;
         Ok(Outcome::Goes(dimensions as u16, Some(Value::Ref(made.array))))
@@ -234,7 +234,7 @@ impl Runtime {
         ensures enough { HaveOperands result frames.now }
     {
         let Some(lengths) = lengths_of(self.alloc, counts)? else {
-            return Ok(Outcome::Refused(AbruptCompletion::Raises(
+            return Ok(Outcome::Abrupt(AbruptCompletion::Raises(
                 Exception::NegativeArraySize,
                 None,
             )));
@@ -264,7 +264,7 @@ impl Runtime {
         ensures enough { HaveOperands result frames.now }
     {
         let Some(counts) = counts_of(self.alloc, frames, dimensions)? else {
-            return Ok(Outcome::Refused(AbruptCompletion::Breaks));
+            return Ok(Outcome::Abrupt(AbruptCompletion::Breaks));
         };
         let counts = counts.as_slice();
         self.make_counts(frames, kind, counts, dimensions)

@@ -106,9 +106,9 @@ fn conclude(frames: &Frames, native: Native, count: u16) -> Result<Outcome, NoMe
 {
     match native {
         Native::Value(value) => Ok(Outcome::Goes(count, as_operand(value))),
-        Native::Throws(place) => Ok(Outcome::Refused(thrown_by(place))),
-        Native::Exit(status) => Ok(Outcome::Refused(AbruptCompletion::Exits(status))),
-        Native::Bad => Ok(Outcome::Refused(AbruptCompletion::Breaks)),
+        Native::Throws(place) => Ok(Outcome::Abrupt(thrown_by(place))),
+        Native::Exit(status) => Ok(Outcome::Abrupt(AbruptCompletion::Exits(status))),
+        Native::Bad => Ok(Outcome::Abrupt(AbruptCompletion::Breaks)),
         Native::NoMemory => Err(NoMemory),
     }
 }
@@ -274,7 +274,7 @@ impl Runtime {
     {
         match native_at(self.linker.program(), m) {
             Some(number) => self.run_numbered(frames, number, count),
-            None => Ok(Outcome::Refused(AbruptCompletion::Breaks)),
+            None => Ok(Outcome::Abrupt(AbruptCompletion::Breaks)),
         }
     }
 }

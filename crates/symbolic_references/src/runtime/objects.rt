@@ -118,7 +118,7 @@ impl Runtime {
         let kind = self.string_kind();
         match self.heap.intern(kind, units.units()) {
             Ok(number) => Ok(Outcome::Goes(0, Some(Value::Ref(number)))),
-            Err(HeapError::HeapFull) => Ok(Outcome::Refused(AbruptCompletion::Throws(RESERVED))),
+            Err(HeapError::HeapFull) => Ok(Outcome::Abrupt(AbruptCompletion::Throws(RESERVED))),
             Err(HeapError::NoMemory) => Err(NoMemory),
         }
     }

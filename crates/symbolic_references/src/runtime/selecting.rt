@@ -149,7 +149,7 @@ impl Runtime {
                 selected: self.select_again(by, method, kind, site, lower, found),
                 count,
             }),
-            Err(refusal) => Err(refusal),
+            Err(completion) => Err(completion),
         }
     }
 
@@ -177,7 +177,7 @@ impl Runtime {
     {
         let m = match method_found(&self.linker, kind, names_interface(by), false, method) {
             Ok(m) => m,
-            Err(refusal) => return Err(refusal),
+            Err(completion) => return Err(completion),
         };
         let Some(count) = argument_count(true, method, frames) else {
             return Err(AbruptCompletion::Breaks);
@@ -188,7 +188,7 @@ impl Runtime {
                 selected: self.select_anew(by, method, kind, m, lower, found),
                 count,
             }),
-            Err(refusal) => Err(refusal),
+            Err(completion) => Err(completion),
         }
     }
 
@@ -235,7 +235,7 @@ impl Runtime {
 
     /// NoClassDefFoundError, with the name of the class that can not be used.
     pub fn unusable(&self, class: u32) -> Result<AbruptCompletion, NoMemory>
-        ensures { IfOk result (λ refusal. abrupt_view refusal
+        ensures { IfOk result (λ completion. abrupt_view completion
             ≡ Raises no_class_definition (name_at self.now.world.program class)) }
     {
         let message = self.class_name(class)?;
@@ -248,7 +248,7 @@ impl Runtime {
         class: u32,
         phase: Option<Phase>,
     ) -> Result<Option<AbruptCompletion>, NoMemory>
-        ensures { IfOk result (λ refusal. option_map abrupt_view refusal
+        ensures { IfOk result (λ completion. option_map abrupt_view completion
             ≡ unready_by self.now.world.program class phase) }
     {
         match phase {
@@ -284,7 +284,7 @@ impl Runtime {
                 *found = Found::Fixed(m);
                 Ok(m)
             }
-            Err(refusal) => Err(refusal),
+            Err(completion) => Err(completion),
         }
     }
 
@@ -310,11 +310,11 @@ impl Runtime {
     {
         let m = match self.static_found(method, kind, found) {
             Ok(m) => m,
-            Err(refusal) => return Ok(Err(refusal)),
+            Err(completion) => return Ok(Err(completion)),
         };
         let phase = self.phases.at(m.place.class as usize);
-        if let Some(refusal) = self.unready(m.place.class, phase)? {
-            return Ok(Err(refusal));
+        if let Some(completion) = self.unready(m.place.class, phase)? {
+            return Ok(Err(completion));
         }
         match argument_count(false, method, frames) {
             Some(count) => Ok(Ok(Target {

@@ -57,7 +57,7 @@ impl Runtime {
             ≡ Raises no_class_definition (name_at self.now.world.program class)) }
         ensures enough { HaveOperands result frames.now }
     {
-        Ok(Outcome::Refused(self.unusable(class)?))
+        Ok(Outcome::Abrupt(self.unusable(class)?))
     }
 
     /// The value of a static field.
@@ -77,7 +77,7 @@ impl Runtime {
     {
         match self.static_at(field) {
             Some(datum) => Outcome::Goes(0, Some(value_of(datum))),
-            None => Outcome::Refused(AbruptCompletion::Breaks),
+            None => Outcome::Abrupt(AbruptCompletion::Breaks),
         }
     }
 
@@ -90,7 +90,7 @@ impl Runtime {
         match self.phases.at(field.class as usize) {
             Some(Phase::Ready) => Ok(self.push_static_field(frames, field)),
             Some(Phase::Running) => Ok(self.push_static_field(frames, field)),
-            Some(Phase::Fresh) => Ok(Outcome::Refused(AbruptCompletion::Initializes(field.class))),
+            Some(Phase::Fresh) => Ok(Outcome::Abrupt(AbruptCompletion::Initializes(field.class))),
             Some(Phase::Erroneous) => self.raise_unusable(frames, field.class),
             None => self.raise_unusable(frames, field.class),
         }
@@ -119,7 +119,7 @@ impl Runtime {
                 *found = Found::Static(field);
                 self.push_static(frames, field)
             }
-            Err(refusal) => Ok(Outcome::Refused(refusal)),
+            Err(completion) => Ok(Outcome::Abrupt(completion)),
         }
     }
 
@@ -171,7 +171,7 @@ impl Runtime {
         ensures enough { HasOperands result (top_operands frames.now.frames) }
     {
         let Some(datum) = held_of(frames, kind) else {
-            return Outcome::Refused(AbruptCompletion::Breaks);
+            return Outcome::Abrupt(AbruptCompletion::Breaks);
         };
         self.put_static_at(field, datum);
         Outcome::Goes(1, None)
@@ -198,7 +198,7 @@ impl Runtime {
         match self.phases.at(field.class as usize) {
             Some(Phase::Ready) => Ok(self.set_static_field(frames, field, kind)),
             Some(Phase::Running) => Ok(self.set_static_field(frames, field, kind)),
-            Some(Phase::Fresh) => Ok(Outcome::Refused(AbruptCompletion::Initializes(field.class))),
+            Some(Phase::Fresh) => Ok(Outcome::Abrupt(AbruptCompletion::Initializes(field.class))),
             Some(Phase::Erroneous) => self.raise_unusable(frames, field.class),
             None => self.raise_unusable(frames, field.class),
         }
@@ -233,7 +233,7 @@ impl Runtime {
                 let held = held_by(member.descriptor().units());
                 self.put_static_field(frames, field, held)
             }
-            Err(refusal) => Ok(Outcome::Refused(refusal)),
+            Err(completion) => Ok(Outcome::Abrupt(completion)),
         }
     }
 

@@ -29,13 +29,13 @@ returns-in_ok-call-in-Invokes-clause-state c =
     (length-data c.in-Invokes.args o (subst (λ a. HasOperands a o) c.in-Invokes.is c.requires.enough))
     (subst (λ a. TakesArguments (asked a p.frames) o) c.in-Invokes.is c.requires.takes))
 
-pub returns-in-Refused-clause-state : goal.returns-in-Refused-clause-state
-returns-in-Refused-clause-state c =
+pub returns-in-Abrupt-clause-state : goal.returns-in-Abrupt-clause-state
+returns-in-Abrupt-clause-state c =
     let w = setup_in c.args.parts.now.runtime c.args.originals.now in
     let p = c.args.parts.now in
-    subst (λ a. IfOk c.refuse.result (λ o. IfNone o (state_in c.refuse.new.parts ≡ on_parts (λ s f. acts_asked w c.args.line.now s f (asked a p.frames)) p))) (sym c.in-Refused.is)
-    c.refuse.ensures.state
+    subst (λ a. IfOk c.complete_abruptly.result (λ o. IfNone o (state_in c.complete_abruptly.new.parts ≡ on_parts (λ s f. acts_asked w c.args.line.now s f (asked a p.frames)) p))) (sym c.in-Abrupt.is)
+    c.complete_abruptly.ensures.state
 
-pub returns-in-Refused-clause-answer : goal.returns-in-Refused-clause-answer
-returns-in-Refused-clause-answer c =
-    subst (λ a. IfOk c.refuse.result (λ o. o ≡ starts (asked a c.args.parts.now.frames))) (sym c.in-Refused.is) c.refuse.ensures.answer
+pub returns-in-Abrupt-clause-answer : goal.returns-in-Abrupt-clause-answer
+returns-in-Abrupt-clause-answer c =
+    subst (λ a. IfOk c.complete_abruptly.result (λ o. o ≡ starts (asked a c.args.parts.now.frames))) (sym c.in-Abrupt.is) c.complete_abruptly.ensures.answer

@@ -27,11 +27,11 @@ returns-in-Some-element_at-clause-enough c =
 pub returns-in-None-clause-answer : goal.returns-in-None-clause-answer
 returns-in-None-clause-answer c =
     let fs = c.args.frames.now.frames in
-    subst (λ q. IfOk c.refuse.result (λ a. asked a c.args.frames.now ≡ q))
+    subst (λ q. IfOk c.outcome_without_element.result (λ a. asked a c.args.frames.now ≡ q))
     (ap (λ i. access_refused (access_of c.led_to.result) i) (to_z-of_z w32 c.in-Some.place.index (search rules))
     ∙ is-refused c.args.kind c.args.runtime.now.shared (top_locals fs) (top_operands fs) c.in-Some.place.array c.in-Some.place.index (access_of c.led_to.result)
     (sym (ap (option_map place_by) c.in-Some.is) ∙ c.place_of.ensures)
     (subst (λ (h : HeapView). None ≡ element_at (access_to c.args.kind c.in-Some.place.array c.in-Some.place.index h) c.in-Some.place.array h) c.heap.ensures.heap
     (sym c.in-None.is ∙ c.element_at.ensures))
     (c.led_to.ensures ∙ ap (λ (h : HeapView). access_to c.args.kind c.in-Some.place.array c.in-Some.place.index h) c.heap-in-None.ensures.heap))
-    (c.refuse.ensures.answer c.args.frames.now)
+    (c.outcome_without_element.ensures.answer c.args.frames.now)

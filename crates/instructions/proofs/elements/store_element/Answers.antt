@@ -25,11 +25,11 @@ returns-in_default-led c =
     (c.led_to-led.ensures ∙ ap (λ (h : HeapView). access_to c.args.kind x.array x.index h) c.heap.ensures.heap)
     (λ slot e. c.in_default-led.not-Inside slot (leads-inside c.led_to-led.result slot e)) in
     record {
-      answer = subst (λ q. IfOk c.refuse.result (λ a. asked a c.args.frames.now ≡ q))
+      answer = subst (λ q. IfOk c.outcome_without_element.result (λ a. asked a c.args.frames.now ≡ q))
           (ap (λ i. access_refused (access_of c.led_to-led.result) i) (to_z-of_z w32 c.in-Some.storing.place.index (search rules)) ∙ ap (λ (d : Done). d.outcome) unstored)
-          (c.refuse.ensures.answer c.args.frames.now);
-      runtime = on-either c.refuse.result (ap (λ (d : Done). with_shared d.shared c.args.runtime.now) unstored);
-      enough = c.refuse.ensures.enough (top_operands fs);
+          (c.outcome_without_element.ensures.answer c.args.frames.now);
+      runtime = on-either c.outcome_without_element.result (ap (λ (d : Done). with_shared d.shared c.args.runtime.now) unstored);
+      enough = c.outcome_without_element.ensures.enough (top_operands fs);
       world = refl;
       same_loaded = refl;
     }

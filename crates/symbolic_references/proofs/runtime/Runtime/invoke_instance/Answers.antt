@@ -38,7 +38,7 @@ returns-in-Err-clause-answer c =
     let s = c.args.self.now.shared in
     let l = top_locals c.args.frames.now.frames in
     let o = top_operands c.args.frames.now.frames in
-    ap (λ (d : Done). d.outcome) (sym (refuses-target w (instance_target w.program c.args.kind (selecting_view c.args.by) c.args.method.now s.heap o) s l o c.in-Err.refusal c.in-Err.ensures.target) ∙ instance-rule w (selecting_view c.args.by) c.args.method.now s l o c.args.kind)
+    ap (λ (d : Done). d.outcome) (sym (refuses-target w (instance_target w.program c.args.kind (selecting_view c.args.by) c.args.method.now s.heap o) s l o c.in-Err.completion c.in-Err.ensures.target) ∙ instance-rule w (selecting_view c.args.by) c.args.method.now s l o c.args.kind)
 
 pub returns-in-Err-clause-runtime : goal.returns-in-Err-clause-runtime
 returns-in-Err-clause-runtime c =
@@ -46,4 +46,4 @@ returns-in-Err-clause-runtime c =
     let s = c.args.self.now.shared in
     let l = top_locals c.args.frames.now.frames in
     let o = top_operands c.args.frames.now.frames in
-    still c.args.self.now (invokes_instance w c.args.kind (selecting_view c.args.by) c.args.method.now s l o) (abrupt_view c.in-Err.refusal) (sym (refuses-target w (instance_target w.program c.args.kind (selecting_view c.args.by) c.args.method.now s.heap o) s l o c.in-Err.refusal c.in-Err.ensures.target) ∙ instance-rule w (selecting_view c.args.by) c.args.method.now s l o c.args.kind)
+    still c.args.self.now (invokes_instance w c.args.kind (selecting_view c.args.by) c.args.method.now s l o) (abrupt_view c.in-Err.completion) (sym (refuses-target w (instance_target w.program c.args.kind (selecting_view c.args.by) c.args.method.now s.heap o) s l o c.in-Err.completion c.in-Err.ensures.target) ∙ instance-rule w (selecting_view c.args.by) c.args.method.now s l o c.args.kind)

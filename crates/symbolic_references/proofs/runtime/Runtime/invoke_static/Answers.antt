@@ -39,7 +39,7 @@ returns-in-Err-clause-answer c =
     let s = c.args.self.now.shared in
     let l = top_locals c.args.frames.now.frames in
     let o = top_operands c.args.frames.now.frames in
-    ap (λ (d : Done). d.outcome) (sym (refuses-target w (static_target w.program c.args.kind c.args.method.now s o) s l o c.in-Err.refusal (sym (ap (found_as (target_in o)) c.in-Err.is) ∙ c.in_ok-target.ensures.target)) ∙ static-rule w c.args.method.now s l o c.args.kind)
+    ap (λ (d : Done). d.outcome) (sym (refuses-target w (static_target w.program c.args.kind c.args.method.now s o) s l o c.in-Err.completion (sym (ap (found_as (target_in o)) c.in-Err.is) ∙ c.in_ok-target.ensures.target)) ∙ static-rule w c.args.method.now s l o c.args.kind)
 
 pub returns-in-Err-clause-runtime : goal.returns-in-Err-clause-runtime
 returns-in-Err-clause-runtime c =
@@ -47,4 +47,4 @@ returns-in-Err-clause-runtime c =
     let s = c.args.self.now.shared in
     let l = top_locals c.args.frames.now.frames in
     let o = top_operands c.args.frames.now.frames in
-    still c.args.self.now (invokes_static_method w c.args.kind c.args.method.now s l o) (abrupt_view c.in-Err.refusal) (sym (refuses-target w (static_target w.program c.args.kind c.args.method.now s o) s l o c.in-Err.refusal (sym (ap (found_as (target_in o)) c.in-Err.is) ∙ c.in_ok-target.ensures.target)) ∙ static-rule w c.args.method.now s l o c.args.kind)
+    still c.args.self.now (invokes_static_method w c.args.kind c.args.method.now s l o) (abrupt_view c.in-Err.completion) (sym (refuses-target w (static_target w.program c.args.kind c.args.method.now s o) s l o c.in-Err.completion (sym (ap (found_as (target_in o)) c.in-Err.is) ∙ c.in_ok-target.ensures.target)) ∙ static-rule w c.args.method.now s l o c.args.kind)

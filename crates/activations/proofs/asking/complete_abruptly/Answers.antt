@@ -7,7 +7,7 @@ use Rattle.prepared_code.specs.Linked.{setup_in}
 use Rattle.prepared_code.specs.States.{state_in}
 use Rattle.activations.specs.Applied.{acts_asked, on_parts}
 use Rattle.activations.proofs.Concluded.{breaks-is, exits-is, raises-is, throws-is}
-use Rattle.activations.proofs.asking.refuse.Goals as goal
+use Rattle.activations.proofs.asking.complete_abruptly.Goals as goal
 
 pub returns-in_ok-raise_named-in-Raises-clause-state : goal.returns-in_ok-raise_named-in-Raises-clause-state
 returns-in_ok-raise_named-in-Raises-clause-state c =
@@ -26,7 +26,7 @@ pub returns-in-Exits-clause-state : goal.returns-in-Exits-clause-state
 returns-in-Exits-clause-state c =
     let w = setup_in c.args.parts.now.runtime c.args.originals.now in
     let p = c.args.parts.now in
-    subst (λ n. state_in (record p { ending = Some (Exited n) }) ≡ on_parts (λ s f. acts_asked w c.args.line.now s f (abrupt_view c.args.refusal)) p)
+    subst (λ n. state_in (record p { ending = Some (Exited n) }) ≡ on_parts (λ s f. acts_asked w c.args.line.now s f (abrupt_view c.args.completion)) p)
     (sym (to_z-of_z w32 c.in-Exits.status (search rules)))
     (subst (λ e. state_in (record p { ending = Some (Exited c.in-Exits.status) }) ≡ on_parts (λ s f. acts_asked w c.args.line.now s f (abrupt_view e)) p) (sym c.in-Exits.is)
     (exits-is w c.args.line.now c.args.method p c.in-Exits.status p.frames.frames c.requires.top))
