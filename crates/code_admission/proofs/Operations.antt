@@ -184,7 +184,7 @@ mapped-there : {A B : Type 0} (f : A → B) (o : Option A) → is_some o ≡ tru
 mapped-there f None e = e
 mapped-there f (Some x) e = refl
 
--- a naming whose dimensions are as they have to be
+-- a symbolic reference whose dimensions are as they have to be
 there : (n : SymbolicReference) → has_dimensions n ≡ true → is_some (named_by n) ≡ true
 there n h = ap (λ b. is_some (cond b (Some (Named n)) None)) h
 

@@ -158,7 +158,7 @@ invoked_by image own op (arg.Pool index) o q has_name free e resolves = by_opcod
         let called : option_and_then named_by (option_map Invokestatic (named_method image.pool index)) ≡ Some o =
         ap (operation_by image 184 (arg.Pool index)) (sym invokestatic-elsewhere) ∙ (ap (λ n. operation_by image n (arg.Pool index) (family_of n)) (sym op_is) ∙ e) in
         let names = named_by-is (option_map Invokestatic (named_method image.pool index)) o called in
-        let found = in_map Invokestatic (named_method image.pool index) names.naming names.is in
+        let found = in_map Invokestatic (named_method image.pool index) names.reference names.is in
         let named : resolved_in image (Named (Invokestatic found.0)) ≡ Some q =
         ap (λ n. resolved_in image (Named n)) found.2 ∙ (ap (resolved_in image) names.named ∙ resolves) in
         let own_found = in_map resolved.Invokestatic (own_method image found.0) q named in

@@ -211,24 +211,24 @@ chosen : {A : Type 0} (b : Bool) (x y : Option A) (z : A) → cond b x y ≡ Som
 chosen true x y z e = inl (refl, e)
 chosen false x y z e = inr e
 
-naming-goes_on : (c : ClassFile) (n : SymbolicReference) (q : Resolved) → resolved_name c n ≡ Some q → goes_on q
-naming-goes_on c (Getstatic r) q e = elim (chosen (is_out r) (Some resolved.Out) None q e) [ inl is ↦ only resolved.Out q refl is.1 | inr is ↦ absurd (none-some q is) ]
-naming-goes_on c (Invokestatic r) q e = let k = in_map resolved.Invokestatic (own_method c r) q e in subst goes_on k.1 refl
-naming-goes_on c (Invokevirtual r) q e = elim (chosen (is_println r) (Some resolved.Println) None q e) [ inl is ↦ only resolved.Println q refl is.1 | inr is ↦ absurd (none-some q is) ]
-naming-goes_on c n q e = absurd (none-some q e)
+reference-goes_on : (c : ClassFile) (n : SymbolicReference) (q : Resolved) → resolved_name c n ≡ Some q → goes_on q
+reference-goes_on c (Getstatic r) q e = elim (chosen (is_out r) (Some resolved.Out) None q e) [ inl is ↦ only resolved.Out q refl is.1 | inr is ↦ absurd (none-some q is) ]
+reference-goes_on c (Invokestatic r) q e = let k = in_map resolved.Invokestatic (own_method c r) q e in subst goes_on k.1 refl
+reference-goes_on c (Invokevirtual r) q e = elim (chosen (is_println r) (Some resolved.Println) None q e) [ inl is ↦ only resolved.Println q refl is.1 | inr is ↦ absurd (none-some q is) ]
+reference-goes_on c n q e = absurd (none-some q e)
 
 -- the operation is one that names what was found
 pub record IsSymbolicReference (found : Option SymbolicReference) (o : Operation) : Type 0 where
-  pub naming : SymbolicReference
-  pub is : found ≡ Some naming
-  pub named : Named naming ≡ o
+  pub reference : SymbolicReference
+  pub is : found ≡ Some reference
+  pub named : Named reference ≡ o
 
 pub named_by-is : (found : Option SymbolicReference) (o : Operation) → option_and_then named_by found ≡ Some o → IsSymbolicReference found o
 named_by-is None o e = absurd (none-some o e)
 named_by-is (Some n) o e = by_test (has_dimensions n) e
   where
     by_test : (b : Bool) → cond b (Some (Named n)) None ≡ Some o → IsSymbolicReference (Some n) o
-    by_test true is = record { naming = n; is = refl; named = same_Some (Named n) o is }
+    by_test true is = record { reference = n; is = refl; named = same_Some (Named n) o is }
     by_test false is = absurd (none-some o is)
 
 -- both tests of the opcode say that it goes on
@@ -242,8 +242,8 @@ row-stays op n x y z here rest e = elim (chosen (op == n) x y z e) [
   | inr more ↦ rest more
 ]
 
-naming-stays : (c : ClassFile) (op index : ℕ) (n : SymbolicReference) → symbolic_reference_of c op index ≡ Some n → stays_at op
-naming-stays c op index n =
+reference-stays : (c : ClassFile) (op index : ℕ) (n : SymbolicReference) → symbolic_reference_of c op index ≡ Some n → stays_at op
+reference-stays c op index n =
     row-stays op 178 _ _ n (refl, refl) (row-stays op 179 _ _ n (refl, refl) (row-stays op 180 _ _ n (refl, refl)
     (row-stays op 181 _ _ n (refl, refl) (row-stays op 182 _ _ n (refl, refl) (row-stays op 183 _ _ n (refl, refl)
     (row-stays op 184 _ _ n (refl, refl) (row-stays op 187 _ _ n (refl, refl) (row-stays op 189 _ _ n (refl, refl)
@@ -288,11 +288,11 @@ named-returns : (c : ClassFile) (op : ℕ) (found : Option SymbolicReference) (o
     → option_and_then named_by found ≡ Some o → resolved_in c o ≡ Some q → returns_alike op q
 named-returns c op found o q stays is e =
     let names = named_by-is found o is in
-    let at : stays_at op = stays names.naming names.is in
-    (naming-goes_on c names.naming q (ap (resolved_in c) names.named ∙ e) ∙ sym at.0, at.1 ∙ sym at.0)
+    let at : stays_at op = stays names.reference names.is in
+    (reference-goes_on c names.reference q (ap (resolved_in c) names.named ∙ e) ∙ sym at.0, at.1 ∙ sym at.0)
 
 other-returns : (c : ClassFile) (op : ℕ) (a : Arg) (o : Operation) (q : Resolved) → other_operation c op a ≡ Some o → resolved_in c o ≡ Some q → returns_alike op q
-other-returns c op (arg.Pool index) o q is e = named-returns c op (symbolic_reference_of c op index) o q (naming-stays c op index) is e
+other-returns c op (arg.Pool index) o q is e = named-returns c op (symbolic_reference_of c op index) o q (reference-stays c op index) is e
 other-returns c op (arg.Interface index count last) o q is e = named-returns c op (interface_reference c op index) o q (interface-stays c op index) is e
 other-returns c op (arg.Multi index dimensions) o q is e = named-returns c op (array_reference c op index dimensions) o q (multi-stays c op index dimensions) is e
 other-returns c op (arg.Array code) o q is e = absurd (none-some q (sym (newarray-unresolved c op code o is) ∙ e))
@@ -368,7 +368,7 @@ ends-resolved c (Within (BinaryOfInts Imul)) q e = ap is_return_operation (same_
 ends-resolved c (Within (Return None)) q e = ap is_return_operation (same_Some resolved.Return q e)
 ends-resolved c (Within (Return (Some kind.Int))) q e = ap is_return_operation (same_Some resolved.Ireturn q e)
 ends-resolved c (Within i) q e = absurd (none-some q e)
-ends-resolved c (Named n) q e = sym (naming-goes_on c n q e)
+ends-resolved c (Named n) q e = sym (reference-goes_on c n q e)
 ends-resolved c o q e = absurd (none-some q e)
 
 -- ---- instructions that lead nowhere else

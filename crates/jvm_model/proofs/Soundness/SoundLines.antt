@@ -58,8 +58,8 @@ module _ (c : ClassFile) where
   special-names None o e = tt
   special-names (Some caller) o e = mapped (special_of caller) o (λ r. e)
 
-  naming-names : (op index : ℕ) → IfSome (symbolic_reference_of c op index) NamesCaller
-  naming-names op index =
+  reference-names : (op index : ℕ) → IfSome (symbolic_reference_of c op index) NamesCaller
+  reference-names op index =
       chosen (op == 178) _ _ (mapped Getstatic (named_field c.pool index) (λ r. tt))
       (chosen (op == 179) _ _ (mapped Putstatic (named_field c.pool index) (λ r. tt))
       (chosen (op == 180) _ _ (mapped Getfield (named_field c.pool index) (λ r. tt))
@@ -105,7 +105,7 @@ module _ (c : ClassFile) where
       by false b e = tt
 
   other-formed : (op : ℕ) (a : Arg) → IfSome (other_operation c op a) IsFormed
-  other-formed op (arg.Pool index) = named-formed (symbolic_reference_of c op index) (naming-names op index)
+  other-formed op (arg.Pool index) = named-formed (symbolic_reference_of c op index) (reference-names op index)
   other-formed op (arg.Interface index count third) = named-formed (interface_reference c op index) (interface-names op index)
   other-formed op (arg.Multi index dimensions) = named-formed (array_reference c op index dimensions) (multi-names op index dimensions)
   other-formed op (arg.Array code) = array-formed op code

@@ -104,4 +104,4 @@ abbrev pub call_gain : Program → ℕ → Call → List ℕ
 call_gain p new c = if is_subtype p new c.class then method_coded p (selected_by p c.by c.method new) else []
 
 abbrev pub gained_from : Program → List ℕ → ℕ → List SymbolicReference → List Call → List ℕ
-gained_from p loaded new namings calls = flat_map (named_gain p loaded new) namings ++ flat_map (call_gain p new) calls
+gained_from p loaded new references calls = flat_map (named_gain p loaded new) references ++ flat_map (call_gain p new) calls
