@@ -13,7 +13,7 @@ use Rattle.code_model.proofs.Spelled.{HasShape, instruction_spelled}
 use Rattle.code_model.proofs.Readings.{stands_from}
 use Rattle.jvm_model.specs.Basis.Families.{rows, family_of}
 use Rattle.jvm_model.specs.Codes.Lines.{value_in, slot_in, increment_in, target_in, keys_in}
-use Rattle.jvm_basic.specs.Laws.{Need, Nothing, Number, Slot, Increment, Place, Choice, need_of, has_operand, HasItsOperand}
+use Rattle.jvm_basic.specs.Laws.{Need, Nothing, Number, Slot, Increment, BranchTarget, Choice, need_of, has_operand, HasItsOperand}
 use Rattle.jvm_basic.proofs.Exact.{holds-below}
 
 -- operands of this form are what is needed, or there are none of this form
@@ -25,8 +25,8 @@ suits Number form.Byte = true
 suits Number form.Short = true
 suits Slot form.Local = true
 suits Increment form.Inc = true
-suits Place form.Jump = true
-suits Place form.JumpWide = true
+suits BranchTarget form.Jump = true
+suits BranchTarget form.JumpWide = true
 suits Choice form.Table = true
 suits Choice form.Lookup = true
 suits _ _ = false
@@ -55,12 +55,12 @@ increment-suits form.Wide a h s = absurd s
 increment-suits form.Unknown a h s = absurd s
 increment-suits _ a h s = absurd (false≢true h)
 
-place-suits : (f : Form) (a : Arg) → suits Place f ≡ true → HasShape f a → is_some (target_in a) ≡ true
-place-suits form.Jump a h s = subst (λ x. is_some (target_in x) ≡ true) (sym s.1) refl
-place-suits form.JumpWide a h s = subst (λ x. is_some (target_in x) ≡ true) (sym s.1) refl
-place-suits form.Wide a h s = absurd s
-place-suits form.Unknown a h s = absurd s
-place-suits _ a h s = absurd (false≢true h)
+target-suits : (f : Form) (a : Arg) → suits BranchTarget f ≡ true → HasShape f a → is_some (target_in a) ≡ true
+target-suits form.Jump a h s = subst (λ x. is_some (target_in x) ≡ true) (sym s.1) refl
+target-suits form.JumpWide a h s = subst (λ x. is_some (target_in x) ≡ true) (sym s.1) refl
+target-suits form.Wide a h s = absurd s
+target-suits form.Unknown a h s = absurd s
+target-suits _ a h s = absurd (false≢true h)
 
 choice-suits : (f : Form) (a : Arg) → suits Choice f ≡ true → HasShape f a → is_some (keys_in a) ≡ true
 choice-suits form.Table a h s = subst (λ x. is_some (keys_in x) ≡ true) (sym s.3) refl
@@ -74,7 +74,7 @@ shape-suits Nothing f a h s = refl
 shape-suits Number f a h s = number-suits f a h s
 shape-suits Slot f a h s = slot-suits f a h s
 shape-suits Increment f a h s = increment-suits f a h s
-shape-suits Place f a h s = place-suits f a h s
+shape-suits BranchTarget f a h s = target-suits f a h s
 shape-suits Choice f a h s = choice-suits f a h s
 
 pub has-its-operand : (i : Instr) → i.op < 256 → HasItsOperand i

@@ -44,7 +44,7 @@ pub data Need : Type 0 where
   Number : Need
   Slot : Need
   Increment : Need
-  Place : Need
+  BranchTarget : Need
   Choice : Need
 
 abbrev pub need_of : Family → Need
@@ -53,9 +53,9 @@ need_of (Load k) = Slot
 need_of (Store k) = Slot
 need_of Ret = Slot
 need_of Iinc = Increment
-need_of (Branch test) = Place
-need_of Goto = Place
-need_of Jsr = Place
+need_of (Branch test) = BranchTarget
+need_of Goto = BranchTarget
+need_of Jsr = BranchTarget
 need_of Switch = Choice
 need_of _ = Nothing
 
@@ -64,7 +64,7 @@ has_operand Nothing a = true
 has_operand Number a = is_some (value_in a)
 has_operand Slot a = is_some (slot_in a)
 has_operand Increment a = is_some (increment_in a)
-has_operand Place a = is_some (target_in a)
+has_operand BranchTarget a = is_some (target_in a)
 has_operand Choice a = is_some (keys_in a)
 
 -- an instruction that stands in a code has the operand that its family needs, so that its rule never breaks for want of one

@@ -30,10 +30,10 @@ use Rattle.profile_session.proofs.MethodPlaces.{class-of, number-back, within-cl
 
 -- ---- lists over numbered places
 
-abbrev Place : Type 0
-Place = ℕ × MethodPlace
+abbrev NumberedMethod : Type 0
+NumberedMethod = ℕ × MethodPlace
 
-same-map : (F G : Place → Mark) (n : ℕ) (l : List MethodPlace) → ((i : ℕ) (x : MethodPlace) → slice_get l i ≡ Some x → F (n + i, x) ≡ G (n + i, x))
+same-map : (F G : NumberedMethod → Mark) (n : ℕ) (l : List MethodPlace) → ((i : ℕ) (x : MethodPlace) → slice_get l i ≡ Some x → F (n + i, x) ≡ G (n + i, x))
     → map F (enumerate_from n l) ≡ map G (enumerate_from n l)
 same-map F G n [] each = refl
 same-map F G n (x ∷ l) each =
@@ -41,7 +41,7 @@ same-map F G n (x ∷ l) each =
     ap₂ (λ (m : Mark) ms. m ∷ ms) (subst (λ (k : ℕ). F (k, x) ≡ G (k, x)) e (each 0 x refl))
     (same-map F G (n + 1) l (λ i y found. let q : n + suc i ≡ n + 1 + i = omega arith in subst (λ (k : ℕ). F (k, y) ≡ G (k, y)) q (each (suc i) y found)))
 
-at-pair : (F : Place → Mark) (n : ℕ) (l : List MethodPlace) (i : ℕ) (x : MethodPlace) → slice_get l i ≡ Some x → mark_at (map F (enumerate_from n l)) i ≡ F (n + i, x)
+at-pair : (F : NumberedMethod → Mark) (n : ℕ) (l : List MethodPlace) (i : ℕ) (x : MethodPlace) → slice_get l i ≡ Some x → mark_at (map F (enumerate_from n l)) i ≡ F (n + i, x)
 at-pair F n [] i x found = absurd (let no : None ≡ Some x = found in cc)
 at-pair F n (y ∷ l) zero x found =
     let e : n ≡ n + 0 = omega arith in
@@ -70,17 +70,17 @@ module _ (p : Program) (r : Revealed) (are : p.methods ≡ methods_numbered p.cl
       ∙ (ap (λ at. option_map_or (mark_of p r) (number_of_method p x.class at) Off) (zero-add x.position)
       ∙ ap (λ o. option_map_or (mark_of p r) o Off) (number-back p are i x found))
 
-  over-map : (c : ℕ) (ms : List Mark) (g : Place → Mark) (n : ℕ) (places : List MethodPlace)
-      → marks_over c ms places (map g (enumerate_from n places)) ≡ map (λ (e : Place). if e.1.class == c then mark_at ms e.1.position else g e) (enumerate_from n places)
+  over-map : (c : ℕ) (ms : List Mark) (g : NumberedMethod → Mark) (n : ℕ) (places : List MethodPlace)
+      → marks_over c ms places (map g (enumerate_from n places)) ≡ map (λ (e : NumberedMethod). if e.1.class == c then mark_at ms e.1.position else g e) (enumerate_from n places)
   over-map c ms g n [] = refl
   over-map c ms g n (x ∷ places) = ap (λ (l : List Mark). (if x.class == c then mark_at ms x.position else g (n, x)) ∷ l) (over-map c ms g (n + 1) places)
 
-  one-class : (c : ℕ) (v : View) (g : Place → Mark) → v.program ≡ p → v.marks ≡ map g (enumerate_from 0 p.methods)
-      → (with_class c (marks_for p r c) v).marks ≡ map (λ (e : Place). if e.1.class == c then mark_of p r e.0 else g e) (enumerate_from 0 p.methods)
+  one-class : (c : ℕ) (v : View) (g : NumberedMethod → Mark) → v.program ≡ p → v.marks ≡ map g (enumerate_from 0 p.methods)
+      → (with_class c (marks_for p r c) v).marks ≡ map (λ (e : NumberedMethod). if e.1.class == c then mark_of p r e.0 else g e) (enumerate_from 0 p.methods)
   one-class c v g same e =
       ap₂ (λ (q : Program) ms. marks_over c (marks_for p r c) q.methods ms) same e
       ∙ (over-map c (marks_for p r c) g 0 p.methods
-      ∙ same-map (λ (e : Place). if e.1.class == c then mark_at (marks_for p r c) e.1.position else g e) (λ (e : Place). if e.1.class == c then mark_of p r e.0 else g e) 0 p.methods
+      ∙ same-map (λ (e : NumberedMethod). if e.1.class == c then mark_at (marks_for p r c) e.1.position else g e) (λ (e : NumberedMethod). if e.1.class == c then mark_of p r e.0 else g e) 0 p.methods
       (λ i x found. by i x found (x.class == c) refl))
     where
       by : (i : ℕ) (x : MethodPlace) → slice_get p.methods i ≡ Some x → (b : Bool) → (x.class == c) ≡ b
@@ -93,14 +93,14 @@ module _ (p : Program) (r : Revealed) (are : p.methods ≡ methods_numbered p.cl
       by i x found false q =
           ap (λ b. if b then mark_at (marks_for p r c) x.position else g (0 + i, x)) q ∙ ap (λ b. if b then mark_of p r (0 + i) else g (0 + i, x)) (sym q)
 
-  several : (classes : List ℕ) (v : View) (g : Place → Mark) → v.program ≡ p → v.marks ≡ map g (enumerate_from 0 p.methods)
-      → with_classes p r classes v ≡ record v { marks = map (λ (e : Place). if is_among e.1.class classes then mark_of p r e.0 else g e) (enumerate_from 0 p.methods) }
+  several : (classes : List ℕ) (v : View) (g : NumberedMethod → Mark) → v.program ≡ p → v.marks ≡ map g (enumerate_from 0 p.methods)
+      → with_classes p r classes v ≡ record v { marks = map (λ (e : NumberedMethod). if is_among e.1.class classes then mark_of p r e.0 else g e) (enumerate_from 0 p.methods) }
   several [] v g same e = ap (λ l. let r : View = record v { marks = l } in r) e
   several (c ∷ more) v g same e =
-      let next : Place → Mark = λ (e : Place). if e.1.class == c then mark_of p r e.0 else g e in
+      let next : NumberedMethod → Mark = λ (e : NumberedMethod). if e.1.class == c then mark_of p r e.0 else g e in
       several more (with_class c (marks_for p r c) v) next same (one-class c v g same e)
       ∙ ap (λ l. let r : View = record v { marks = l } in r)
-      (same-map (λ (e : Place). if is_among e.1.class more then mark_of p r e.0 else next e) (λ (e : Place). if is_among e.1.class (c ∷ more) then mark_of p r e.0 else g e) 0 p.methods
+      (same-map (λ (e : NumberedMethod). if is_among e.1.class more then mark_of p r e.0 else next e) (λ (e : NumberedMethod). if is_among e.1.class (c ∷ more) then mark_of p r e.0 else g e) 0 p.methods
       (λ i x found. either (mark_of p r (0 + i)) (g (0 + i, x)) (x.class == c) (is_among x.class more)))
 
 -- ---- a class that has not changed
@@ -132,7 +132,7 @@ mark-is Plain Root e = absurd (let h : false ≡ true = e in cc)
 mark-is Root Off e = absurd (let h : false ≡ true = e in cc)
 mark-is Root Plain e = absurd (let h : false ≡ true = e in cc)
 
-any-at : (test : Place → Bool) (n : ℕ) (l : List MethodPlace) (i : ℕ) (x : MethodPlace) → slice_get l i ≡ Some x → list_any test (enumerate_from n l) ≡ false → test (n + i, x) ≡ false
+any-at : (test : NumberedMethod → Bool) (n : ℕ) (l : List MethodPlace) (i : ℕ) (x : MethodPlace) → slice_get l i ≡ Some x → list_any test (enumerate_from n l) ≡ false → test (n + i, x) ≡ false
 any-at test n [] i x found none = absurd (let no : None ≡ Some x = found in cc)
 any-at test n (y ∷ l) zero x found none =
     let e : n ≡ n + 0 = omega arith in
@@ -171,7 +171,7 @@ module _ (p : Program) (shown now : Revealed) (are : p.methods ≡ methods_numbe
           mark-is (mark_of p shown i) (mark_of p now i)
           (same (same_mark (mark_of p shown i) (mark_of p now i))
           (subst (λ k. (x.class == x.class && not (same_mark (mark_of p shown k) (mark_of p now k))) ≡ false) (zero-add i)
-          (any-at (λ (e : Place). e.1.class == x.class && not (same_mark (mark_of p shown e.0) (mark_of p now e.0))) 0 p.methods i x found e)))
+          (any-at (λ (e : NumberedMethod). e.1.class == x.class && not (same_mark (mark_of p shown e.0) (mark_of p now e.0))) 0 p.methods i x found e)))
         where
           same : (b : Bool) → (x.class == x.class && not b) ≡ false → b ≡ true
           same true e = refl
@@ -179,9 +179,9 @@ module _ (p : Program) (shown now : Revealed) (are : p.methods ≡ methods_numbe
 
   pub all-swapped : (v : View) → v.program ≡ p → v.marks ≡ marks_of p shown → with_classes p now (changed_of p shown now) v ≡ record v { marks = marks_of p now }
   all-swapped v same marks =
-      several p now are (changed_of p shown now) v (λ (e : Place). mark_of p shown e.0) same marks
+      several p now are (changed_of p shown now) v (λ (e : NumberedMethod). mark_of p shown e.0) same marks
       ∙ ap (λ l. let r : View = record v { marks = l } in r)
-      (same-map (λ (e : Place). if is_among e.1.class (changed_of p shown now) then mark_of p now e.0 else mark_of p shown e.0) (λ (e : Place). mark_of p now e.0) 0 p.methods
+      (same-map (λ (e : NumberedMethod). if is_among e.1.class (changed_of p shown now) then mark_of p now e.0 else mark_of p shown e.0) (λ (e : NumberedMethod). mark_of p now e.0) 0 p.methods
       (λ i x found. pick i x found (is_among x.class (changed_of p shown now)) refl))
     where
       pick : (i : ℕ) (x : MethodPlace) → slice_get p.methods i ≡ Some x → (b : Bool) → is_among x.class (changed_of p shown now) ≡ b
@@ -192,7 +192,7 @@ module _ (p : Program) (shown now : Revealed) (are : p.methods ≡ methods_numbe
 
 -- ---- what has changed, by the marks that were shown
 
-any-same : (F G : Place → Bool) (n : ℕ) (l : List MethodPlace) → ((i : ℕ) (x : MethodPlace) → slice_get l i ≡ Some x → F (n + i, x) ≡ G (n + i, x))
+any-same : (F G : NumberedMethod → Bool) (n : ℕ) (l : List MethodPlace) → ((i : ℕ) (x : MethodPlace) → slice_get l i ≡ Some x → F (n + i, x) ≡ G (n + i, x))
     → list_any F (enumerate_from n l) ≡ list_any G (enumerate_from n l)
 any-same F G n [] each = refl
 any-same F G n (x ∷ l) each =
@@ -207,23 +207,23 @@ filter-same f g each (n ∷ l) = ap₂ (λ b (rest : List ℕ). if b then n ∷ 
 differs-shown : (p : Program) (shown : List Mark) (before now : Revealed) → shown ≡ marks_of p before → (class : ℕ)
     → differs_from p shown now class ≡ differs p (operations_of p) (stand_of before) (stand_of now) class
 differs-shown p shown before now is class =
-    any-same (λ (e : Place). e.1.class == class && not (same_mark (mark_at shown e.0) (mark_of p now e.0))) (λ (e : Place). e.1.class == class && not (same_mark (mark_of p before e.0) (mark_of p now e.0)))
+    any-same (λ (e : NumberedMethod). e.1.class == class && not (same_mark (mark_at shown e.0) (mark_of p now e.0))) (λ (e : NumberedMethod). e.1.class == class && not (same_mark (mark_of p before e.0) (mark_of p now e.0)))
     0 p.methods
     (λ i x found. ap (λ m. x.class == class && not (same_mark m (mark_of p now (0 + i))))
-    (ap (λ l. mark_at l (0 + i)) is ∙ (ap (mark_at (marks_of p before)) (zero-add i) ∙ at-pair (λ (e : Place). mark_of p before e.0) 0 p.methods i x found)))
+    (ap (λ l. mark_at l (0 + i)) is ∙ (ap (mark_at (marks_of p before)) (zero-add i) ∙ at-pair (λ (e : NumberedMethod). mark_of p before e.0) 0 p.methods i x found)))
 
 pub changed-shown : (p : Program) (shown : List Mark) (before now : Revealed) → shown ≡ marks_of p before → changed_from p shown now ≡ changed_of p before now
 changed-shown p shown before now is =
     filter-same (differs_from p shown now) (differs p (operations_of p) (stand_of before) (stand_of now)) (differs-shown p shown before now is) now.loaded
 
 -- a class that has changed is one of the program
-pub record IsPair (test : Place → Bool) (n : ℕ) (l : List MethodPlace) : Type 0 where
+pub record IsPair (test : NumberedMethod → Bool) (n : ℕ) (l : List MethodPlace) : Type 0 where
   pub at : ℕ
   pub place : MethodPlace
   pub found : slice_get l at ≡ Some place
   pub holds : test (n + at, place) ≡ true
 
-pub pair-with : (test : Place → Bool) (n : ℕ) (l : List MethodPlace) → list_any test (enumerate_from n l) ≡ true → IsPair test n l
+pub pair-with : (test : NumberedMethod → Bool) (n : ℕ) (l : List MethodPlace) → list_any test (enumerate_from n l) ≡ true → IsPair test n l
 pair-with test n [] is = absurd (let h : false ≡ true = is in cc)
 pair-with test n (x ∷ l) is = by (test (n, x)) refl (pair-with test (n + 1) l) is where
   by : (b : Bool) → test (n, x) ≡ b → (list_any test (enumerate_from (n + 1) l) ≡ true → IsPair test (n + 1) l) → (b || list_any test (enumerate_from (n + 1) l)) ≡ true
@@ -244,7 +244,7 @@ filter-all test P each (n ∷ l) = by (test n) refl (filter-all test P each l) w
 pub changed-known : (p : Program) → p.methods ≡ methods_numbered p.classes → (shown : List Mark) (now : Revealed) → AreKnown p (changed_from p shown now)
 changed-known p are shown now =
     filter-all (differs_from p shown now) (λ class. class < length p.classes) (λ class differs.
-    let there = pair-with (λ (e : Place). e.1.class == class && not (same_mark (mark_at shown e.0) (mark_of p now e.0))) 0 p.methods differs in
+    let there = pair-with (λ (e : NumberedMethod). e.1.class == class && not (same_mark (mark_at shown e.0) (mark_of p now e.0))) 0 p.methods differs in
     let parts = and_parts (there.place.class == class) (not (same_mark (mark_at shown (0 + there.at)) (mark_of p now (0 + there.at)))) there.holds in
     let is = class-of p are there.at there.place there.found in
     subst (λ c. c < length p.classes) (eqb-true there.place.class class parts.0) (slice_get_within p.classes there.place.class is.class is.found)) now.loaded
