@@ -24,7 +24,7 @@ use Rattle.activations.specs.Applied.{run_ended, placed_line, raising}
 use Rattle.activations.specs.Invoking.{method_called, may_begin}
 use Rattle.prepared_code.specs.States.{active, frame_in, state_with, state_in}
 use Rattle.activations.specs.Arguments.{can_begin, with_begun}
-use Rattle.activations.specs.Asked.{Takes}
+use Rattle.activations.specs.TakenArguments.{Takes}
 use Rattle.activations.proofs.Arguments.{spread-data, length-slots, height-reverse, enough-data}
 use Rattle.prepared_code.specs.Versions.{Setup, listing_of, current_of, first_of}
 

@@ -3,7 +3,7 @@ pub mod OperandsAlone
 pub mod MainFrames
 pub mod Arguments
 pub mod Callees
-pub mod Concluded
+pub mod ConcludedOutcomes
 pub mod Passages
 pub mod CatchLemmas
 pub mod Above

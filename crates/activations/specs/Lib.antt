@@ -2,7 +2,7 @@ pub mod Going
 pub mod Returning
 pub mod Arguments
 pub mod Invoking
-pub mod Asked
+pub mod TakenArguments
 pub mod Initializing
 pub mod Applied
 pub mod Catching

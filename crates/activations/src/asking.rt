@@ -6,10 +6,10 @@ ghost use Rattle.frame_stack.specs.FrameLists.{top_operands};
 ghost use Rattle.jvm_model.specs.Running.Run.{starts};
 ghost use Rattle.jvm_model.specs.Instructions.Exceptions.{exception_name};
 ghost use Rattle.member_selection.specs.Answers.{abrupt_view};
-ghost use Rattle.member_selection.specs.Outcomes.{HasOperands, asked};
+ghost use Rattle.member_selection.specs.Outcomes.{HasOperands, outcome_in_frame};
 ghost use Rattle.member_selection.specs.declared.outcome.Outcome.TheVariants.{Goes};
 ghost use Rattle.activations.specs.Applied.{IsTop, acts_asked, on_parts, raised_in};
-ghost use Rattle.activations.specs.Asked.{TakesArguments};
+ghost use Rattle.activations.specs.TakenArguments.{TakesArguments};
 ghost use Rattle.prepared_code.specs.Linked.{setup_in};
 ghost use Rattle.prepared_code.specs.States.{state_in};
 
@@ -51,7 +51,7 @@ fn go_on(
     requires top { IsTop method parts.old.frames.frames }
     requires enough { HasOperands (Goes count value) (top_operands parts.old.frames.frames) }
     ensures state { let w = setup_in parts.old.runtime originals.now in
-        let q = asked (Goes count value) parts.old.frames in
+        let q = outcome_in_frame (Goes count value) parts.old.frames in
         state_in parts.new ≡ on_parts (λ s f. acts_asked w line.now s f q) parts.old }
     ensures runtime { parts.new.runtime ≡ parts.old.runtime }
 {
@@ -112,11 +112,11 @@ pub fn conclude(
     requires top { IsTop method parts.old.frames.frames }
     requires enough { HasOperands outcome (top_operands parts.old.frames.frames) }
     requires takes { let f = parts.old.frames in
-        TakesArguments (asked outcome f) (top_operands f.frames) }
-    ensures answer { IfOk result (λ o. o ≡ starts (asked outcome parts.old.frames)) }
+        TakesArguments (outcome_in_frame outcome f) (top_operands f.frames) }
+    ensures answer { IfOk result (λ o. o ≡ starts (outcome_in_frame outcome parts.old.frames)) }
     ensures state { let w = setup_in parts.old.runtime originals.now in IfOk result (λ o. IfNone o
         (state_in parts.new ≡ on_parts
-        (λ s f. acts_asked w line.now s f (asked outcome parts.old.frames)) parts.old)) }
+        (λ s f. acts_asked w line.now s f (outcome_in_frame outcome parts.old.frames)) parts.old)) }
     ensures begins { IfOk result (λ o. IfSome o (λ _. parts.new ≡ parts.old)) }
     ensures world { parts.new.runtime.world ≡ parts.old.runtime.world }
     ensures same_loaded { parts.new.runtime.shared.loaded ≡ parts.old.runtime.shared.loaded }

@@ -12,7 +12,7 @@ use Rattle.const_pool.specs.References.{NameAndType}
 use Rattle.jvm_model.specs.Basis.Methods.{is_member, method_from, method_named, same_text_at}
 use Rattle.jvm_model.specs.Basis.SharedState.{field_named}
 use Rattle.class_index.specs.declared.table.Table.{Table}
-use Rattle.class_index.specs.Buckets.{bucket_at, buckets_of, filled_from, is_at, member_number, number_of, sought, table_of, with_position}
+use Rattle.class_index.specs.Buckets.{bucket_at, buckets_of, filled_from, is_at, member_number, member_sought, number_of, table_of, with_position}
 use Rattle.class_index.proofs.OrderLemmas.{equal}
 use Rattle.class_index.proofs.MemberTexts.{both, text_is}
 
@@ -119,7 +119,7 @@ module _ (size : ℕ) (pool : List Const) (w : NameAndType) where
           ap (λ c. if c then Some (length before) else find (is_at pool (before ++ m ∷ ms) w) (own size pool (number_of w % size) (length before + 1) ms)) (here false is) ∙ rest
       by false false is same rest = rest
 
-pub sought_is : (pool : List Const) (members : List Member) (w : NameAndType) → sought pool members (buckets_of pool members) w ≡ method_from pool w 0 members
+pub sought_is : (pool : List Const) (members : List Member) (w : NameAndType) → member_sought pool members (buckets_of pool members) w ≡ method_from pool w 0 members
 sought_is pool members w =
     ap (λ n. find (is_at pool members w) (bucket_at (buckets_of pool members) (number_of w % n))) (buckets-length pool members)
     ∙ (ap (find (is_at pool members w))
@@ -136,7 +136,7 @@ from_is pool w n [] = refl
 from_is pool w n (m ∷ ms) = ap (λ o. if is_member pool w m then Some n else o) (from_is pool w (n + 1) ms)
 
 pub field_sought_is : (pool : List Const) (members : List Member) (w : NameAndType)
-    → sought pool members (buckets_of pool members) w ≡ position (is_member pool w) members
+    → member_sought pool members (buckets_of pool members) w ≡ position (is_member pool w) members
 field_sought_is pool members w = sought_is pool members w ∙ (from_is pool w 0 members ∙ sym (position_from-zero (is_member pool w) members))
 
 pub slice_get-map : {A B : Type 0} (f : A → B) (xs : List A) (i : ℕ) → slice_get (map f xs) i ≡ option_map f (slice_get xs i)
@@ -147,11 +147,11 @@ slice_get-map f (x ∷ xs) (suc i) = slice_get-map f xs i
 pub table_at : (cs : List ClassFile) (i : ℕ) → slice_get (map table_of cs) i ≡ option_map table_of (slice_get cs i)
 table_at cs i = slice_get-map table_of cs i
 
-pub method_found : (c : ClassFile) (t : Table) (w : NameAndType) → t ≡ table_of c → sought c.pool c.methods t.methods w ≡ method_named c w
-method_found c t w is = ap (λ (t : Table). sought c.pool c.methods t.methods w) is ∙ sought_is c.pool c.methods w
+pub method_found : (c : ClassFile) (t : Table) (w : NameAndType) → t ≡ table_of c → member_sought c.pool c.methods t.methods w ≡ method_named c w
+method_found c t w is = ap (λ (t : Table). member_sought c.pool c.methods t.methods w) is ∙ sought_is c.pool c.methods w
 
-pub field_found : (c : ClassFile) (t : Table) (w : NameAndType) → t ≡ table_of c → sought c.pool c.fields t.fields w ≡ field_named w c
-field_found c t w is = ap (λ (t : Table). sought c.pool c.fields t.fields w) is ∙ field_sought_is c.pool c.fields w
+pub field_found : (c : ClassFile) (t : Table) (w : NameAndType) → t ≡ table_of c → member_sought c.pool c.fields t.fields w ≡ field_named w c
+field_found c t w is = ap (λ (t : Table). member_sought c.pool c.fields t.fields w) is ∙ field_sought_is c.pool c.fields w
 
 some : (n k : ℕ) → n ≡ k + 1 → 0 < n
 some n k e = omega (arith, e)

@@ -49,5 +49,5 @@ abbrev pub is_at : List Const → List Member → NameAndType → ℕ → Bool
 is_at pool members wanted position = option_map_or (is_member pool wanted) (slice_get members position) false
 
 -- the first position of the bucket at which the member stands
-abbrev pub sought : List Const → List Member → List (List ℕ) → NameAndType → Option ℕ
-sought pool members buckets wanted = find (is_at pool members wanted) (bucket_at buckets (number_of wanted % length buckets))
+abbrev pub member_sought : List Const → List Member → List (List ℕ) → NameAndType → Option ℕ
+member_sought pool members buckets wanted = find (is_at pool members wanted) (bucket_at buckets (number_of wanted % length buckets))

@@ -10,7 +10,7 @@ ghost use Rattle.jvm_model.specs.Basis.SharedState.{field_named};
 ghost use Rattle.class_index.specs.Members.{place_view};
 
 use crate::index::Index;
-use crate::table::{Table, sought};
+use crate::table::{Table, member_sought};
 use crate::wanted::Wanted;
 use const_pool::ClassFile;
 
@@ -21,7 +21,7 @@ fn method_named(file: &ClassFile, table: &Table, wanted: &Wanted<'_>) -> Option<
     ensures { result ≡ method_named file.now (wanted_view wanted.now) }
 {
     let members = file.methods.as_slice();
-    sought(&file.pool, members, table.methods.as_slice(), wanted)
+    member_sought(&file.pool, members, table.methods.as_slice(), wanted)
 }
 
 /// The position of the first field with this name and this descriptor.
@@ -31,7 +31,7 @@ fn field_named(file: &ClassFile, table: &Table, wanted: &Wanted<'_>) -> Option<u
     ensures { result ≡ field_named (wanted_view wanted.now) file.now }
 {
     let members = file.fields.as_slice();
-    sought(&file.pool, members, table.fields.as_slice(), wanted)
+    member_sought(&file.pool, members, table.fields.as_slice(), wanted)
 }
 
 /// The method of a class.

@@ -4,7 +4,7 @@ ghost use Rattle.std.specs.Prelude.{◌≡◌, ◌<◌, ◌^◌, [], find, lengt
 ghost use Rattle.const_pool.specs.References.{named_text};
 ghost use Rattle.std.specs.Prelude.{IfOk, OnOk};
 ghost use Rattle.class_index.specs.Buckets.{bucket_at, buckets_of, is_at, member_number};
-ghost use Rattle.class_index.specs.Buckets.{number_of, sought, table_of, text_number};
+ghost use Rattle.class_index.specs.Buckets.{member_sought, number_of, table_of, text_number};
 ghost use Rattle.class_index.specs.Buckets.{with_position};
 ghost use Rattle.class_index.specs.Members.{HasFewMembers, wanted_view};
 
@@ -143,14 +143,14 @@ fn first_at(pool: &Pool, members: &[Member], wanted: &Wanted<'_>, positions: &[u
 }
 
 /// The position of a member, by its bucket.
-pub fn sought(
+pub fn member_sought(
     pool: &Pool,
     members: &[Member],
     buckets: &[Seq<u16>],
     wanted: &Wanted<'_>,
 ) -> Option<u16>
     requires { 0 < length buckets.now }
-    ensures { result ≡ sought pool.now members.now buckets.now (wanted_view wanted.now) }
+    ensures { result ≡ member_sought pool.now members.now buckets.now (wanted_view wanted.now) }
 {
     let place = number_of(wanted) % buckets.len();
     first_at(pool, members, wanted, bucket_at(buckets, place))

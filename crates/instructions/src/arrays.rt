@@ -3,8 +3,8 @@
 ghost use Rattle.std.specs.Prelude.{◌≡◌, true, false, IfOk};
 ghost use Rattle.jvm_model.specs.Basis.Values.{ref_of};
 ghost use Rattle.jvm_model.specs.Instructions.ObjectRules.{array_length, measures};
-ghost use Rattle.member_selection.specs.Answers.{asked_on};
-ghost use Rattle.member_selection.specs.Outcomes.{HaveOperands, asked};
+ghost use Rattle.member_selection.specs.Answers.{asking_in_frame};
+ghost use Rattle.member_selection.specs.Outcomes.{HaveOperands, outcome_in_frame};
 ghost use Rattle.instructions.specs.Elements.{IsMeasured};
 
 use class_index::FIRST_ARRAY;
@@ -34,8 +34,8 @@ fn array_length(heap: &Heap, object: u32) -> Option<u32>
 
 /// arraylength: the number of an array's elements.
 pub fn measure(runtime: &Runtime, frames: &Frames) -> Result<Outcome, NoMemory>
-    ensures answer { IfOk result (λ a. asked a frames.now
-        ≡ asked_on (λ l o. measures (ref_of o) runtime.now.shared l o) frames.now) }
+    ensures answer { IfOk result (λ a. outcome_in_frame a frames.now
+        ≡ asking_in_frame (λ l o. measures (ref_of o) runtime.now.shared l o) frames.now) }
     ensures enough { HaveOperands result frames.now }
 {
     let Some(reference) = ref_of(frames) else {

@@ -16,8 +16,8 @@ ghost use Rattle.jvm_model.specs.Instructions.ObjectRules.{access_refused, loads
 ghost use Rattle.jvm_model.specs.Instructions.ObjectRules.{stores_element};
 ghost use Rattle.jvm_model.specs.Basis.Data.{Operands};
 ghost use Rattle.frame_stack.specs.FrameLists.{FramesView};
-ghost use Rattle.member_selection.specs.Answers.{asked_on};
-ghost use Rattle.member_selection.specs.Outcomes.{Asks, HasOperands, HaveOperands, asked};
+ghost use Rattle.member_selection.specs.Answers.{asking_in_frame};
+ghost use Rattle.member_selection.specs.Outcomes.{Asks, HasOperands, HaveOperands, outcome_in_frame};
 ghost use Rattle.symbolic_references.specs.Leaving.{Sets};
 ghost use Rattle.instructions.specs.Elements.{access_of};
 ghost use Rattle.instructions.specs.Elements.{IsLoaded, IsStored, drops_three, element_at};
@@ -138,7 +138,7 @@ fn text_of(alloc: Global, n: i32) -> Result<Text16, NoMemory>
 /// What an instruction asks for that is led to no element: an index outside is told.
 fn outcome_without_element(alloc: Global, led: Led, index: i32) -> Result<Outcome, NoMemory>
     ensures answer { (f : FramesView) → IfOk result
-        (λ a. asked a f ≡ access_refused (access_of led) index) }
+        (λ a. outcome_in_frame a f ≡ access_refused (access_of led) index) }
     ensures enough { (o : Operands) → IfOk result (λ a. HasOperands a o) }
 {
     match led {
@@ -236,7 +236,7 @@ pub fn load_element(
     frames: &Frames,
     kind: Kind,
 ) -> Result<Outcome, NoMemory>
-    ensures answer { IfOk result (λ a. asked a frames.now ≡ asked_on
+    ensures answer { IfOk result (λ a. outcome_in_frame a frames.now ≡ asking_in_frame
         (λ l o. loads_element kind (place_of o) runtime.now.shared l o) frames.now) }
     ensures enough { HaveOperands result frames.now }
 {

@@ -5,8 +5,8 @@ ghost use Rattle.std.specs.Prelude.{◌≡◌};
 ghost use Rattle.frame_stack.specs.FrameLists.{top_operands};
 ghost use Rattle.jvm_model.specs.Basis.Values.{ref_of};
 ghost use Rattle.jvm_model.specs.Instructions.ObjectRules.{watches};
-ghost use Rattle.member_selection.specs.Answers.{asked_on};
-ghost use Rattle.member_selection.specs.Outcomes.{HasOperands, asked};
+ghost use Rattle.member_selection.specs.Answers.{asking_in_frame};
+ghost use Rattle.member_selection.specs.Outcomes.{HasOperands, outcome_in_frame};
 
 use frame_stack::Frames;
 use jvm_basic::ref_of;
@@ -15,7 +15,8 @@ use member_selection::{AbruptCompletion, Outcome};
 
 /// Takes the object off.
 pub fn watch(frames: &Frames) -> Outcome
-    ensures answer { asked result frames.now ≡ asked_on (λ l o. watches (ref_of o) l o) frames.now }
+    ensures answer { outcome_in_frame result frames.now
+        ≡ asking_in_frame (λ l o. watches (ref_of o) l o) frames.now }
     ensures enough { HasOperands result (top_operands frames.now.frames) }
 {
     match ref_of(frames) {

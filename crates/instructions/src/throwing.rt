@@ -6,8 +6,8 @@ ghost use Rattle.jvm_model.specs.Basis.SharedState.{class_of, throwable};
 ghost use Rattle.jvm_model.specs.Basis.Values.{ref_of};
 ghost use Rattle.jvm_model.specs.Classes.Lookup.{is_below};
 ghost use Rattle.jvm_model.specs.Instructions.ObjectRules.{throws};
-ghost use Rattle.member_selection.specs.Answers.{asked_on};
-ghost use Rattle.member_selection.specs.Outcomes.{HasOperands, asked};
+ghost use Rattle.member_selection.specs.Answers.{asking_in_frame};
+ghost use Rattle.member_selection.specs.Outcomes.{HasOperands, outcome_in_frame};
 
 use activations::{class_of, is_below_bytes};
 use frame_stack::Frames;
@@ -27,8 +27,9 @@ fn is_throwable(runtime: &Runtime, object: u32) -> bool
 
 /// Throws the object on top, which has to be a Throwable.
 pub fn throw_object(runtime: &Runtime, frames: &Frames) -> Outcome
-    ensures answer { asked result frames.now
-        ≡ asked_on (λ l o. throws runtime.now.world runtime.now.shared (ref_of o)) frames.now }
+    ensures answer { outcome_in_frame result frames.now
+        ≡ asking_in_frame
+        (λ l o. throws runtime.now.world runtime.now.shared (ref_of o)) frames.now }
     ensures enough { HasOperands result (top_operands frames.now.frames) }
 {
     let Some(object) = ref_of(frames) else {

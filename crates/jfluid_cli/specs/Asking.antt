@@ -50,13 +50,13 @@ pub record HasBadRoot (words : Read) : Type 0 where
 
 -- ---- what is asked of a program
 
-pub record Asked : Type 0 where
+pub record ProgramWanted : Type 0 where
   -- the main class, with slashes
   pub main : List ℕ
   pub plan : Plan
 
-abbrev pub asked_for : List ℕ → Plan → Asked
+abbrev pub asked_for : List ℕ → Plan → ProgramWanted
 asked_for main plan = record { main = main; plan = plan }
 
-abbrev pub asked_by : Command → Asked
+abbrev pub asked_by : Command → ProgramWanted
 asked_by k = asked_for k.main k.plan

@@ -15,7 +15,7 @@ use Rattle.jfluid_cli.specs.declared.kept.Kept.{Kept}
 use Rattle.jfluid_cli.specs.declared.refusal.Refusal.{Refusal}
 use Rattle.jfluid_cli.specs.declared.refusal.Refusal.TheVariants as refusal
 use Rattle.jfluid_cli.specs.declared.refusal.Refusal.TheVariants.{NotRead, InputFailed, OutFailed, PlanNotFetched, NotFetched, NoMemory, InputTooLong}
-use Rattle.jfluid_cli.specs.Asking.{Asked, asked_by, IsPlanFor, IsToldPlan}
+use Rattle.jfluid_cli.specs.Asking.{ProgramWanted, asked_by, IsPlanFor, IsToldPlan}
 use Rattle.jfluid_cli.specs.Calls.{Call, IsTrueOf, IsRunOf, IsRefused}
 use Rattle.jfluid_cli.specs.Causes.{Given, Accepts, AreContentsOf, IsLong, Because}
 use Rattle.jfluid_cli.specs.Contents.{AreFetched, IsFaultAt, SpellAlone, classes_for}
@@ -72,7 +72,7 @@ pub record AreReadWith (g : Given) (words : Read) (plan : Plan) : Type 0 where
 
 -- What was fetched for a command that asks for this: the contents of its files, or of longer ones
 -- fronts that show it.
-pub record IsFetchedFor (g : Given) (asked : Asked) (fronts : List (List ℕ)) : Type 0 where
+pub record IsFetchedFor (g : Given) (asked : ProgramWanted) (fronts : List (List ℕ)) : Type 0 where
   pub command : Command
   pub accepts : Accepts g command
   pub asked_is : asked_by command ≡ asked

@@ -8,7 +8,7 @@ use Rattle.jvm_model.specs.declared.ending.Ending.TheVariants.{Returned, Exited,
 use Rattle.jvm_model.specs.declared.program.Program.{Program}
 use Rattle.code_admission.specs.declared.error.AdmitError.{AdmitError}
 use Rattle.admit_check.specs.Admission.{admission_of}
-use Rattle.jfluid_cli.specs.Asking.{Asked}
+use Rattle.jfluid_cli.specs.Asking.{ProgramWanted}
 use Rattle.profile_session.specs.Sessions.{Profiling}
 use Rattle.jfluid_cli.specs.Contents.{AreFiles, classes_for}
 use Rattle.jfluid_cli.specs.Runs.{acts_until, world_on}
@@ -51,25 +51,25 @@ is_status = is_among (0 ∷ 1 ∷ 2 ∷ 3 ∷ 4 ∷ 5 ∷ 6 ∷ 7 ∷ 8 ∷ 9 �
 -- ---- the program
 
 -- what admission answers for classes
-abbrev pub answer_for : Asked → List ClassFile → Result Program AdmitError
+abbrev pub answer_for : ProgramWanted → List ClassFile → Result Program AdmitError
 answer_for a classes = admission_of classes a.main a.plan
 
 -- The contents are files of classes that are admitted, as the first ones of this program.
-pub record IsProgram (a : Asked) (contents : List (List ℕ)) (program : Program) : Type 0 where
+pub record IsProgram (a : ProgramWanted) (contents : List (List ℕ)) (program : Program) : Type 0 where
   pub files : AreFiles contents (classes_for contents program)
   pub admitted : answer_for a (classes_for contents program) ≡ Ok program
 
 -- some program is spelled
-abbrev pub HasProgram : Asked → List (List ℕ) → Type 0
+abbrev pub HasProgram : ProgramWanted → List (List ℕ) → Type 0
 HasProgram a contents = (program : Program) × IsProgram a contents program
 
 -- classes are spelled that are not admitted, for this fault
-abbrev pub HasRefused : Asked → AdmitError → List (List ℕ) → Type 0
+abbrev pub HasRefused : ProgramWanted → AdmitError → List (List ℕ) → Type 0
 HasRefused a fault contents =
     (classes : List ClassFile) × AreFiles contents classes × (answer_for a classes ≡ Err fault)
 
 -- no program is spelled
-abbrev pub HasNoProgram : Asked → List (List ℕ) → Type 0
+abbrev pub HasNoProgram : ProgramWanted → List (List ℕ) → Type 0
 HasNoProgram a contents = (program : Program) → IsProgram a contents program → ⊥
 
 -- ---- the report

@@ -32,7 +32,7 @@ use Rattle.jvm_model.specs.Codes.Lines.{value_in, slot_in, increment_in, target_
 use Rattle.jvm_model.specs.Instructions.LocalRules
 use Rattle.jvm_basic.specs.Rules.{datum_in, arithmetic_exception, goes_at, outcome_placed, needs, does, rule_by, rule_of}
 use Rattle.jvm_basic.proofs.Fitting.{arithmetic-position}
-use Rattle.jvm_basic.proofs.Asked.{is_simple, pushes-simple, replaces-simple, leaves-simple, stores-simple, increments-simple, back-simple, does-is}
+use Rattle.jvm_basic.proofs.PlacedOutcomes.{is_simple, pushes-simple, replaces-simple, leaves-simple, stores-simple, increments-simple, back-simple, does-is}
 use Rattle.jvm_basic.specs.Laws.{is_elsewhere, has_zero_divisor, divides_by_zero}
 
 -- ---- an outcome that stays within the frame: the frame goes on, or breaks

@@ -18,7 +18,7 @@ use Rattle.jvm_model.specs.declared.family.Test.TheVariants.{OfInts, WithZero, O
 use Rattle.jvm_basic.specs.Hot.{does_hot, hot_branch, hot_by, hot_load, hot_store, is_alone, is_element}
 use Rattle.jvm_basic.specs.Outcomes.{after, effect_of}
 use Rattle.jvm_basic.specs.Rules.{branches, does, loads, rule_of, stores}
-use Rattle.jvm_basic.proofs.Asked.{effect-is, after-is}
+use Rattle.jvm_basic.proofs.PlacedOutcomes.{effect-is, after-is}
 
 load-is : (k : Kind) (slot next : ℕ) → is_alone (hot_load k slot next) ≡ true → does_hot (hot_load k slot next) ≡ loads k (Some slot) next
 load-is kind.Int slot next alone = refl

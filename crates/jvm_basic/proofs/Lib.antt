@@ -7,7 +7,7 @@ pub mod Keys
 pub mod Copied
 pub mod Forms
 pub mod ByForms
-pub mod Asked
+pub mod PlacedOutcomes
 pub mod Exact
 pub mod WorkedSteps
 pub mod WorkedRuns

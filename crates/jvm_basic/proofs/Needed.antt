@@ -29,7 +29,7 @@ use Rattle.jvm_model.specs.Basis.Data.{GoesOn as AsksOn, Breaks as AsksBreak}
 use Rattle.jvm_model.specs.Codes.Lines.{value_in, slot_in, increment_in, target_in, keys_in, targets_of}
 use Rattle.jvm_model.specs.Instructions.LocalRules
 use Rattle.jvm_basic.specs.Rules.{datum_in, goes_at, outcome_placed, going, needs, loads, stores, increments, branches, target_chosen, switches, goes_back, does, rule_by, rule_of}
-use Rattle.jvm_basic.proofs.Asked.{does-is}
+use Rattle.jvm_basic.proofs.PlacedOutcomes.{does-is}
 use Rattle.jvm_basic.specs.Needs.{int, long, reference, address, stand, is_as, reads, takes_slots, fits_form, operands_of, has_needs, too_deep}
 
 abbrev breaks : Outcome → Bool

@@ -64,8 +64,8 @@ frames_in q next fs = fs
 abbrev pub Asking : Type 0
 Asking = Locals → Operands → Outcome
 
-abbrev pub asked_on : Asking → FramesView → Outcome
-asked_on asks f = asks (top_locals f.frames) (top_operands f.frames)
+abbrev pub asking_in_frame : Asking → FramesView → Outcome
+asking_in_frame asks f = asks (top_locals f.frames) (top_operands f.frames)
 
 -- a rule that may change what is shared
 abbrev pub Rule : Type 0

@@ -17,16 +17,16 @@ outcome_view (outcome.Invokes m n) l o = model.Invokes m (data_in n o) (drop n o
 outcome_view (outcome.Abrupt e) l o = abrupt_view e
 
 -- of this frame
-abbrev pub asked : Outcome → FramesView → model.Outcome
-asked a f = outcome_view a (top_locals f.frames) (top_operands f.frames)
+abbrev pub outcome_in_frame : Outcome → FramesView → model.Outcome
+outcome_in_frame a f = outcome_view a (top_locals f.frames) (top_operands f.frames)
 
 -- what a rule asks for
-abbrev pub ruled : Rule → FramesView → model.Outcome
-ruled rule f = (done_on rule f).outcome
+abbrev pub outcome_by_rule : Rule → FramesView → model.Outcome
+outcome_by_rule rule f = (done_on rule f).outcome
 
 -- the answer is what the rule asks for, unless memory ran out
 abbrev pub Asks : Result Outcome NoMemory → Rule → FramesView → Type 0
-Asks result rule f = IfOk result (λ a. asked a f ≡ ruled rule f)
+Asks result rule f = IfOk result (λ a. outcome_in_frame a f ≡ outcome_by_rule rule f)
 
 -- a value takes the place of two operands or more only where there are as many, and so are arguments
 abbrev pub HasOperands : Outcome → Operands → Type 0

@@ -20,7 +20,7 @@ use Rattle.member_selection.specs.declared.outcome.AbruptCompletion.{AbruptCompl
 use Rattle.member_selection.specs.Answers.{done_on, abrupt_view}
 use Rattle.jf_bytes.specs.declared.error.NoMemory.{NoMemory}
 use Rattle.member_selection.specs.declared.outcome.Outcome.{Outcome as TheOutcome}
-use Rattle.member_selection.specs.Outcomes.{Asks, asked}
+use Rattle.member_selection.specs.Outcomes.{Asks, outcome_in_frame}
 use Rattle.symbolic_references.specs.Leaving.{Leaves}
 use Rattle.member_selection.specs.Attempts.{attempts, loaded_for, with_more}
 use Rattle.symbolic_references.specs.Natives.{HasBuiltIn}
@@ -107,7 +107,7 @@ module _ (v m : RuntimeView) (n : SymbolicReference) (f : FramesView) (mid : m �
   attempted = ap (λ (x : RuntimeView). done_on (does_named x.world n x.shared) f) mid
 
   pub asks-later : (result : Result TheOutcome NoMemory) → Asks result (does_named m.world n m.shared) f → Asks result (attempts v.world n v.shared f) f
-  asks-later result = subst (λ (d : Done). IfOk result (λ a. asked a f ≡ d.outcome)) attempted
+  asks-later result = subst (λ (d : Done). IfOk result (λ a. outcome_in_frame a f ≡ d.outcome)) attempted
 
   pub leaves-later : (result : Result TheOutcome NoMemory) (new : RuntimeView) → Leaves result new (does_named m.world n m.shared) f m
       → Leaves result new (attempts v.world n v.shared f) f v

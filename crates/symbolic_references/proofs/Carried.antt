@@ -12,7 +12,7 @@ use Rattle.jvm_model.specs.Instructions.ObjectRules.{done}
 use Rattle.member_selection.specs.declared.outcome.Outcome.{Outcome}
 use Rattle.member_selection.specs.declared.outcome.Outcome.TheVariants.{Goes}
 use Rattle.member_selection.specs.Answers.{Rule, done_on}
-use Rattle.member_selection.specs.Outcomes.{Asks, HasOperands, asked}
+use Rattle.member_selection.specs.Outcomes.{Asks, HasOperands, outcome_in_frame}
 use Rattle.symbolic_references.specs.Leaving.{Leaves, Sets}
 use Rattle.symbolic_references.specs.Runtimes.{RuntimeView, after, with_shared}
 use Rattle.jvm_model.specs.declared.program.Program.{Program}
@@ -23,7 +23,7 @@ use Rattle.jvm_model.specs.Instructions.Rules.{when_ready}
 
 module _ (result : Result Outcome NoMemory) (a b : Rule) (f : FramesView) (same : done_on a f ≡ done_on b f) where
   pub asks_by : Asks result a f → Asks result b f
-  asks_by = subst (λ (d : Done). IfOk result (λ x. asked x f ≡ d.outcome)) same
+  asks_by = subst (λ (d : Done). IfOk result (λ x. outcome_in_frame x f ≡ d.outcome)) same
 
   pub leaves_by : (new old : RuntimeView) → Leaves result new a f old → Leaves result new b f old
   leaves_by new old = subst (λ (d : Done). OnOk result (new ≡ after d old)) same

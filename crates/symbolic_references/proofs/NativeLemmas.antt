@@ -29,7 +29,7 @@ use Rattle.jvm_model.specs.Instructions.NativeRules.{kinds_in, outcome_of, runs_
 use Rattle.class_linker.specs.Linkers.{IsLoaded, LinkerView}
 use Rattle.member_selection.specs.declared.outcome.Outcome.{Outcome as TheOutcome}
 use Rattle.symbolic_references.specs.NativeCalls.{native_answer, native_left, with_left}
-use Rattle.member_selection.specs.Outcomes.{asked}
+use Rattle.member_selection.specs.Outcomes.{outcome_in_frame}
 use Rattle.symbolic_references.specs.Runtimes.{RuntimeView, after}
 use Rattle.symbolic_references.specs.Natives.{HasBuiltIn, outcome_by}
 use Rattle.member_selection.specs.Objects.{AreLoaded, IsUsable}
@@ -116,7 +116,7 @@ module _ (v : RuntimeView) (number : ℕ) (args : List Datum) (f : FramesView) (
 
   -- unless memory ran out
   pub runs-numbered : (native : Native) (result : Result TheOutcome NoMemory) → OnOk result (is_done native ≡ true) → IsAnswer native (native_answer v number args)
-      → IfOk result (λ a. asked a f ≡ outcome_by native (top_locals f.frames) below_in) → IfOk result (λ a. asked a f ≡ comes_to.outcome)
+      → IfOk result (λ a. outcome_in_frame a f ≡ outcome_by native (top_locals f.frames) below_in) → IfOk result (λ a. outcome_in_frame a f ≡ comes_to.outcome)
   runs-numbered native (Ok a) enough is told = told ∙ answers native enough is
   runs-numbered native (Err e) enough is told = tt
 

@@ -12,7 +12,7 @@ use std::test::Fail;
 type Reference = (&'static str, &'static str, &'static str);
 
 /// What is asked. The classes that are named here are loaded before.
-enum Asked {
+enum LinkerQuestion {
     /// What loading the name throws.
     Load(&'static str),
     /// Whether objects of the first class are of the second.
@@ -45,11 +45,11 @@ const NO_DEFINITION: &str = "java/lang/NoClassDefFoundError";
 
 const OBJECT: &str = "java/lang/Object";
 
-type Row = (Files, Asked, Answer);
+type Row = (Files, LinkerQuestion, Answer);
 
 macro_rules! rows {
     ($([$files:ident $asked:ident($($word:expr),*), $answer:expr])*) => {
-        [$((Files::$files, Asked::$asked($($word),*), $answer)),*]
+        [$((Files::$files, LinkerQuestion::$asked($($word),*), $answer)),*]
     };
 }
 
@@ -207,18 +207,30 @@ fn invoke(
     )
 }
 
-fn answer_to(alloc: Global, linker: &mut Linker, question: &Asked) -> Result<Given, Fail> {
+fn answer_to(alloc: Global, linker: &mut Linker, question: &LinkerQuestion) -> Result<Given, Fail> {
     match question {
-        Asked::Load(name) => load(alloc, linker, name),
-        Asked::Subtype(below, above) => Ok(is_subtype(alloc, linker, below, above)),
-        Asked::Field(reference) => field(alloc, linker, *reference),
-        Asked::Method(reference) => method(alloc, linker, false, *reference),
-        Asked::InterfaceMethod(reference) => method(alloc, linker, true, *reference),
-        Asked::Virtual(class, reference) => invoke(alloc, linker, class, By::Virtual, *reference),
-        Asked::Interface(class, reference) => {
+        LinkerQuestion::Load(name) => load(alloc, linker, name),
+        LinkerQuestion::Subtype(below, above) => Ok(is_subtype(alloc, linker, below, above)),
+        LinkerQuestion::Field(reference) => field(alloc, linker, *reference),
+        LinkerQuestion::Method(reference) => method(alloc, linker, false, *reference),
+        LinkerQuestion::InterfaceMethod(reference) => method(alloc, linker, true, *reference),
+        LinkerQuestion::Virtual(class, reference) => invoke(
+            alloc,
+            linker,
+            class,
+            By::Virtual,
+            *reference,
+        ),
+        LinkerQuestion::Interface(class, reference) => {
             invoke(alloc, linker, class, By::Interface, *reference)
         }
-        Asked::Special(class, reference) => invoke(alloc, linker, class, By::Special, *reference),
+        LinkerQuestion::Special(class, reference) => invoke(
+            alloc,
+            linker,
+            class,
+            By::Special,
+            *reference,
+        ),
     }
 }
 

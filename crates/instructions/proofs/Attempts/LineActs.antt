@@ -37,7 +37,7 @@ use Rattle.jvm_model.specs.Basis.SharedState.{class_of, null_pointer, throwable}
 use Rattle.jvm_model.specs.Basis.StackForms.{forms_of}
 use Rattle.jvm_model.specs.Basis.Values.{datum_of, local_loaded, local_in, int_of, ref_of, managed_stack}
 use Rattle.jvm_basic.specs.Rules.{goes_at, outcome_placed}
-use Rattle.jvm_basic.proofs.Asked.{is_simple, pushes-simple, replaces-simple, leaves-simple, stores-simple, increments-simple}
+use Rattle.jvm_basic.proofs.PlacedOutcomes.{is_simple, pushes-simple, replaces-simple, leaves-simple, stores-simple, increments-simple}
 use Rattle.prepared_lines.specs.declared.line.Action.{Action}
 use Rattle.prepared_lines.specs.declared.line.Action.TheVariants as action
 use Rattle.prepared_lines.specs.declared.line.Line.{Line}
@@ -47,7 +47,7 @@ use Rattle.prepared_lines.specs.Lines.{action_of, local_action}
 use Rattle.prepared_code.specs.Ready.{IsRuleOf, IsTied}
 use Rattle.prepared_code.specs.Tables.{Versions}
 use Rattle.prepared_code.specs.Versions.{Setup, listing_of, line_at, instruction_by, instruction_in}
-use Rattle.activations.proofs.Concluded.{stays}
+use Rattle.activations.proofs.ConcludedOutcomes.{stays}
 
 -- ---- what an instruction asks for that its frame does by itself
 

@@ -10,7 +10,7 @@ use Rattle.jvm_model.specs.Basis.Data.{Done, Initializes, Outcome, World}
 use Rattle.jvm_model.specs.Running.Run.{starts}
 use Rattle.member_selection.specs.Answers.{done_on}
 use Rattle.member_selection.specs.Attempts.{attempts, shared_loaded}
-use Rattle.member_selection.specs.Outcomes.{ruled}
+use Rattle.member_selection.specs.Outcomes.{outcome_by_rule}
 use Rattle.symbolic_references.specs.Runtimes.{RuntimeView, after}
 use Rattle.prepared_lines.specs.declared.line.Action.{Action}
 use Rattle.prepared_lines.specs.declared.line.Action.TheVariants as action
@@ -20,7 +20,7 @@ use Rattle.prepared_code.specs.declared.parts.Here.{Here}
 use Rattle.prepared_code.specs.declared.parts.Parts.{Parts}
 use Rattle.instructions.specs.Acts.{acts, acts_by, attempts_on, awaited_by, awaited_in, awaited_on, becomes_beneath, class_awaited, is_named, named_in}
 use Rattle.activations.specs.Applied.{acts_asked, on_parts, on_top, placed_line}
-use Rattle.activations.specs.Asked.{TakesArguments, done_top}
+use Rattle.activations.specs.TakenArguments.{TakesArguments, done_top}
 use Rattle.activations.specs.Initializing.{begins_class}
 use Rattle.prepared_code.specs.Kept.{AreKnown}
 use Rattle.prepared_code.specs.Lines.{IfNamed, IfNamedBy}
@@ -32,7 +32,7 @@ use Rattle.prepared_code.proofs.Initializing.InitializingStacks.{length-active}
 use Rattle.instructions.proofs.Initializing.Beneath.{does-there}
 use Rattle.instructions.proofs.Initializing.Carried.{applies-carried}
 use Rattle.instructions.proofs.Attempts.LineActs.{starts-some}
-use Rattle.activations.proofs.Concluded.{stays}
+use Rattle.activations.proofs.ConcludedOutcomes.{stays}
 use Rattle.instructions.proofs.Attempts.NamedLaws.{asks-takes, is-named}
 use Rattle.activations.proofs.TurnsCarried.{top-frame}
 use Rattle.std.specs.Prelude.{OnOk, Result, Ok, Err}
@@ -87,7 +87,7 @@ held lo names Holds if_named =
 module _ (w : Setup) (ms : List Initialization) (here : Here) (line : Line) (p : Parts) (found : line_at w.versions here.version here.place ≡ Some line)
     (is : named_in (line_at w.versions here.version here.place) ≡ true) (at : here_of p.frames.frames ≡ Some here)
     (none : initialization_on (length p.frames.frames) ms ≡ None) (q : Outcome) (left : RuntimeView)
-    (answers : IfNamed (line_at w.versions here.version here.place) (λ n next. q ≡ ruled (attempts w.world n p.runtime.shared p.frames) p.frames))
+    (answers : IfNamed (line_at w.versions here.version here.place) (λ n next. q ≡ outcome_by_rule (attempts w.world n p.runtime.shared p.frames) p.frames))
     (leaves : IfNamed (line_at w.versions here.version here.place) (λ n next. left ≡ after (done_on (attempts w.world n p.runtime.shared p.frames) p.frames) p.runtime)) where
   by_name : (n : SymbolicReference) × (line.action ≡ action.Named n)
   by_name = names-by line.action (sym (ap named_in found) ∙ is)
@@ -107,7 +107,7 @@ module _ (w : Setup) (ms : List Initialization) (here : Here) (line : Line) (p :
 
   answer-is : q ≡ (done_top w n p.runtime.shared p.frames.frames).outcome
   answer-is =
-      held (line_at w.versions here.version here.place) names (λ n next. q ≡ ruled (attempts w.world n p.runtime.shared p.frames) p.frames) answers
+      held (line_at w.versions here.version here.place) names (λ n next. q ≡ outcome_by_rule (attempts w.world n p.runtime.shared p.frames) p.frames) answers
 
   abbrev reached : List PlacedFrame → Parts
   reached all = record p { runtime = after (done_top w n p.runtime.shared all) p.runtime }

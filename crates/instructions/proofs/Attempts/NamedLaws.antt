@@ -43,7 +43,7 @@ use Rattle.jvm_model.specs.Instructions.Rules.{class_initialized, when_ready}
 use Rattle.jvm_model.specs.Classes.Selection.{is_abstract, is_static}
 use Rattle.jvm_model.specs.Basis.SharedState.{class_of, class_of_kind, null_pointer, phase_of}
 use Rattle.jvm_model.specs.Basis.Values.{arguments, int_of, ref_of}
-use Rattle.activations.specs.Asked.{Takes, TakesArguments}
+use Rattle.activations.specs.TakenArguments.{Takes, TakesArguments}
 use Rattle.prepared_code.specs.Versions.{Setup}
 
 -- ---- what is asked for

@@ -30,7 +30,7 @@ use Rattle.prepared_code.specs.States.{frame_in, state_in, state_with}
 use Rattle.prepared_code.specs.Versions.{Setup}
 use Rattle.activations.specs.Applied.{IsTop, acts_asked, on_parts, on_top}
 use Rattle.instructions.specs.Acts.{acts, acts_by, acts_done, is_named, sees_objects}
-use Rattle.activations.specs.Asked.{TakesArguments}
+use Rattle.activations.specs.TakenArguments.{TakesArguments}
 use Rattle.instructions.proofs.Attempts.NamedLaws.{is_plain}
 
 -- ---- neither of the two

@@ -28,7 +28,7 @@ use Rattle.activations.specs.Applied.{placed_line, resumes_line, gives_back_line
 use Rattle.instructions.specs.Acts.{comes_to, acts_by, acts, is_named}
 use Rattle.prepared_code.specs.Initializations.{initializing_entry, initialization_on, stack_of, with_initializations}
 use Rattle.prepared_code.specs.States.{active}
-use Rattle.activations.proofs.Concluded.{stays}
+use Rattle.activations.proofs.ConcludedOutcomes.{stays}
 use Rattle.instructions.proofs.Attempts.LineActs.{throws-stays, watches-stays, measures-stays, loads-stays, makes-silent, stores-silent, string-silent}
 use Rattle.prepared_code.proofs.Initializing.InitializingStacks.{none-more, none-left, stack-empty, stack-frame, live-stack}
 use Rattle.prepared_code.specs.Tables.{Versions}

@@ -14,7 +14,7 @@ use Rattle.jvm_model.specs.Running.Run.{with_loaded}
 use Rattle.member_selection.specs.declared.outcome.Outcome.{Outcome as Given}
 use Rattle.member_selection.specs.Answers.{done_on}
 use Rattle.member_selection.specs.Attempts.{attempts, is_loaded, loaded_for}
-use Rattle.member_selection.specs.Outcomes.{asked, ruled}
+use Rattle.member_selection.specs.Outcomes.{outcome_by_rule, outcome_in_frame}
 use Rattle.symbolic_references.specs.Runtimes.{RuntimeView, after}
 use Rattle.symbolic_references.specs.Runtimes as runtimes
 use Rattle.prepared_lines.specs.declared.line.Action.{Action}
@@ -117,10 +117,10 @@ module _ (w : Setup) (ms : List Initialization) (p : Parts) (going : p.ending �
 -- ---- where it has answered, it has answered as in one part
 
 pub told-answers : (w : Setup) (lo : Option Line) (p : Parts) (o : Option Given) (a : Given) → o ≡ Some a
-    → IfNamed lo (λ n next. IfSome o (λ a. asked a p.frames ≡ ruled (attempts w.world n p.runtime.shared p.frames) p.frames))
-    → IfNamed lo (λ n next. asked a p.frames ≡ ruled (attempts w.world n p.runtime.shared p.frames) p.frames)
+    → IfNamed lo (λ n next. IfSome o (λ a. outcome_in_frame a p.frames ≡ outcome_by_rule (attempts w.world n p.runtime.shared p.frames) p.frames))
+    → IfNamed lo (λ n next. outcome_in_frame a p.frames ≡ outcome_by_rule (attempts w.world n p.runtime.shared p.frames) p.frames)
 told-answers w lo p o a is answers =
-    subst (λ x. IfNamed lo (λ n next. IfSome x (λ b. asked b p.frames ≡ ruled (attempts w.world n p.runtime.shared p.frames) p.frames))) is answers
+    subst (λ x. IfNamed lo (λ n next. IfSome x (λ b. outcome_in_frame b p.frames ≡ outcome_by_rule (attempts w.world n p.runtime.shared p.frames) p.frames))) is answers
 
 pub told-leaves : (w : Setup) (lo : Option Line) (p : Parts) (o : Option Given) (a : Given) (left : RuntimeView) → o ≡ Some a
     → IfNamed lo (λ n next. IfSome o (λ a. left ≡ after (done_on (attempts w.world n p.runtime.shared p.frames) p.frames) p.runtime))

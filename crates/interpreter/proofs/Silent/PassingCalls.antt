@@ -45,7 +45,7 @@ use Rattle.prepared_code.specs.declared.parts.Here.{Here}
 use Rattle.prepared_code.specs.declared.parts.Parts.{Parts}
 use Rattle.activations.specs.Arguments.{begun_frame, can_begin, with_begun}
 use Rattle.activations.specs.Applied.{IsTop, acts_asked, on_parts}
-use Rattle.activations.specs.Asked.{Takes, done_top}
+use Rattle.activations.specs.TakenArguments.{Takes, done_top}
 use Rattle.activations.specs.Invoking.{method_called, may_begin}
 use Rattle.prepared_code.specs.Initializations.{initialization_on, stack_of, state_of, with_initializations}
 use Rattle.interpreter.specs.Moves.Passing.{AreKeptBy, Passes, on_frames, runs, steps_if}
@@ -61,7 +61,7 @@ use Rattle.activations.proofs.Callees.{live-is, same-length}
 use Rattle.instructions.proofs.Silent.Leading.{leads-one}
 use Rattle.activations.proofs.TurnsCarried.{top-frame}
 use Rattle.prepared_code.proofs.Initializing.InitializingStacks.{live-stack, none-more}
-use Rattle.activations.proofs.Concluded.{invokes-is}
+use Rattle.activations.proofs.ConcludedOutcomes.{invokes-is}
 use Rattle.instructions.proofs.Attempts.NamedLaws.{Asks, is-named}
 use Rattle.interpreter.proofs.Silent.PassingSteps.{follows, is-attempt, is-awaited, is-step, reached, step-turn, under}
 use Rattle.instructions.proofs.Silent.PlainSteps.{at-rest, framed}

@@ -23,7 +23,7 @@ use Rattle.symbolic_references.specs.declared.invoked.Invoked.TheVariants as inv
 use Rattle.symbolic_references.specs.declared.invoked.NativeCall.{NativeCall}
 use Rattle.member_selection.specs.Answers.{Continues, Exceeds, answer_in, done_on, frames_in}
 use Rattle.member_selection.specs.Attempts.{attempts, loads_nothing, shared_loaded}
-use Rattle.member_selection.specs.Outcomes.{ruled}
+use Rattle.member_selection.specs.Outcomes.{outcome_by_rule}
 use Rattle.symbolic_references.specs.Runtimes.{RuntimeView, after}
 use Rattle.symbolic_references.specs.Passing.{HasPassed, IfPassed, IsNativeCall, runs_native_call}
 use Rattle.prepared_lines.specs.declared.line.Action.TheVariants as action
@@ -33,7 +33,7 @@ use Rattle.prepared_code.specs.declared.parts.Here.{Here}
 use Rattle.prepared_code.specs.declared.parts.Parts.{Parts}
 use Rattle.activations.specs.Applied.{acts_asked, on_parts, on_top}
 use Rattle.instructions.specs.Acts.{attempts_on, awaited_in, is_at_rest, is_named, named_in}
-use Rattle.activations.specs.Asked.{done_top}
+use Rattle.activations.specs.TakenArguments.{done_top}
 use Rattle.prepared_code.specs.Lines.{IfNamed, IfNamedBy}
 use Rattle.prepared_code.specs.Initializations.{initialization_on, stack_of, state_of, with_initializations}
 use Rattle.interpreter.specs.Moves.Passing.{Passes, steps_if}
@@ -44,7 +44,7 @@ use Rattle.prepared_code.specs.Versions.{Setup, instruction_in, line_at, operati
 use Rattle.instructions.proofs.Silent.Leading.{leads-one, quiet-one}
 use Rattle.instructions.proofs.Moves.LineSteps.{IsGoing, going-on, rests, step-attempts}
 use Rattle.activations.proofs.TurnsCarried.{top-frame}
-use Rattle.activations.proofs.Concluded.{stays}
+use Rattle.activations.proofs.ConcludedOutcomes.{stays}
 use Rattle.instructions.proofs.Attempts.LineActs.{stays-starts}
 use Rattle.instructions.proofs.Attempts.NamedAttempts.{awaits-told, goes-on}
 use Rattle.instructions.proofs.Attempts.NamedLaws.{is-named}
@@ -132,12 +132,12 @@ module _ (w : Setup) (run : CanRun w) (ms : List Initialization) (here : Here) (
   abbrev pub reached : Parts
   reached = record old { runtime = after d old.runtime }
 
-  module _ (q : Outcome) (answers : q ≡ ruled (attempts w.world n old.runtime.shared old.frames) old.frames) (goes_on : stays q ≡ true) where
+  module _ (q : Outcome) (answers : q ≡ outcome_by_rule (attempts w.world n old.runtime.shared old.frames) old.frames) (goes_on : stays q ≡ true) where
     pub is-attempt : (new : Parts) → state_in new ≡ on_parts (λ s f. acts_asked w line s f q) reached
         → state_of ms new ≡ attempts_on w (state_of ms old) (state_of ms old).stack
     is-attempt new concludes =
         goes-on w ms here line old found named-there stands calm.executing q (after d old.runtime)
-        (there-by (λ n next. q ≡ ruled (attempts w.world n old.runtime.shared old.frames) old.frames) answers)
+        (there-by (λ n next. q ≡ outcome_by_rule (attempts w.world n old.runtime.shared old.frames) old.frames) answers)
         (there-by (λ n next. after d old.runtime ≡ after (done_on (attempts w.world n old.runtime.shared old.frames) old.frames) old.runtime) refl)
         w new refl goes_on concludes
 
@@ -145,7 +145,7 @@ module _ (w : Setup) (run : CanRun w) (ms : List Initialization) (here : Here) (
     pub is-awaited : awaited_in w (state_of ms old) ≡ None
     is-awaited =
         sym (awaits-told w ms here line old found named-there stands calm.executing q (after d old.runtime)
-        (there-by (λ n next. q ≡ ruled (attempts w.world n old.runtime.shared old.frames) old.frames) answers)
+        (there-by (λ n next. q ≡ outcome_by_rule (attempts w.world n old.runtime.shared old.frames) old.frames) answers)
         (there-by (λ n next. after d old.runtime ≡ after (done_on (attempts w.world n old.runtime.shared old.frames) old.frames) old.runtime) refl)
         None (sym (stays-starts q goes_on)))
 

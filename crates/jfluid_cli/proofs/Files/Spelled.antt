@@ -8,7 +8,7 @@ use Rattle.class_reader.proofs.Files.{one_class, no_first_fault}
 use Rattle.jvm_model.specs.declared.program.Program.{Program}
 use Rattle.code_admission.specs.declared.error.AdmitError.{AdmitError}
 use Rattle.jfluid_cli.specs.declared.refusal.Refusal.{Refusal}
-use Rattle.jfluid_cli.specs.Asking.{Asked}
+use Rattle.jfluid_cli.specs.Asking.{ProgramWanted}
 use Rattle.jfluid_cli.specs.Stages.{IsUnread, IsReadRefusal}
 use Rattle.jfluid_cli.specs.Contents.{AreFiles, IsFaultAt, SpellsAlone, SpellAlone, classes_for}
 use Rattle.jfluid_cli.specs.Top.{IsProgram, HasRefused, HasNoProgram, answer_for}
@@ -71,7 +71,7 @@ pub begins : (contents : List (List ℕ)) (classes : List ClassFile) (p : Progra
 begins contents classes p alone first =
     ap (λ (n : ℕ). take n p.classes) (zip-length SpellsAlone contents classes alone) ∙ first
 
-pub spelled-program : (a : Asked) (contents : List (List ℕ)) (classes : List ClassFile) (p : Program)
+pub spelled-program : (a : ProgramWanted) (contents : List (List ℕ)) (classes : List ClassFile) (p : Program)
     → SpellAlone contents classes → take (length classes) p.classes ≡ classes
     → answer_for a classes ≡ Ok p → IsProgram a contents p
 spelled-program a contents classes p alone first admitted =
@@ -93,20 +93,20 @@ not-ok : (x : Program) (fault : AdmitError) → ◌≡◌ {A = Result Program Ad
 not-ok x fault e = cc e
 
 -- classes that are refused are no program
-none-refused : (a : Asked) (contents : List (List ℕ)) (classes : List ClassFile) (fault : AdmitError)
+none-refused : (a : ProgramWanted) (contents : List (List ℕ)) (classes : List ClassFile) (fault : AdmitError)
     → SpellAlone contents classes → answer_for a classes ≡ Err fault → HasNoProgram a contents
 none-refused a contents classes fault alone refused p program =
     let same : classes_for contents p ≡ classes =
     one-spelling contents classes (classes_for contents p) alone program.files in
     not-ok p fault (sym (subst (λ (cs : List ClassFile). answer_for a cs ≡ Ok p) same program.admitted) ∙ refused)
 
-pub none-spelled : (a : Asked) (contents : List (List ℕ)) (fault : AdmitError) → HasRefused a fault contents
+pub none-spelled : (a : ProgramWanted) (contents : List (List ℕ)) (fault : AdmitError) → HasRefused a fault contents
     → HasNoProgram a contents
 none-spelled a contents fault has =
     none-refused a contents has.0 fault (zip-weaken IsFile SpellsAlone contents has.0 spells-alone has.1) has.2
 
 -- contents with a fault are no program
-pub none-faulty : (a : Asked) (contents : List (List ℕ)) (at : ℕ) (fault : ReadError)
+pub none-faulty : (a : ProgramWanted) (contents : List (List ℕ)) (at : ℕ) (fault : ReadError)
     → IsFaultAt contents at fault → HasNoProgram a contents
 none-faulty a contents at fault is p program =
     let here = zip-at IsFile contents (classes_for contents p) at is.bytes program.files is.there in

@@ -16,7 +16,7 @@ use Rattle.jfluid_cli.specs.declared.refusal.Refusal.{Refusal}
 use Rattle.jfluid_cli.specs.declared.refusal.Refusal.TheVariants as refusal
 use Rattle.jfluid_cli.specs.declared.refusal.Refusal.TheVariants.{NotRead, NotAdmitted, PlanNotFetched, NotFetched, NoMemory}
 use Rattle.jfluid_cli.specs.Refusals.{is_memory, refusal_for, refusal_of, status_of}
-use Rattle.jfluid_cli.specs.Asking.{Asked, asked_by, IsPlanFor}
+use Rattle.jfluid_cli.specs.Asking.{ProgramWanted, asked_by, IsPlanFor}
 use Rattle.jfluid_cli.specs.Causes.{Given, Accepts, AreContentsOf, Because, OfClasses}
 use Rattle.jfluid_cli.specs.Contents.{AreContentsBy, AreFetched, AreToldAs, SpellAlone, classes_for}
 use Rattle.jfluid_cli.specs.Sinks.{FilesView}
@@ -125,7 +125,7 @@ due-fetch g k told r accepts same (inl (at, failed, fetch)) =
 due-fetch g k told r accepts same (inr memory) = subst (IsBeforeTheRun g) (sym memory) (due-memory g)
 
 -- the contents of what was fetched are no class files
-pub due-unread : (g : Given) (asked : Asked) (fronts : List (List ℕ)) (r : Refusal)
+pub due-unread : (g : Given) (asked : ProgramWanted) (fronts : List (List ℕ)) (r : Refusal)
     → IsFetchedFor g asked fronts → IsReadRefusal fronts r → IsBeforeTheRun g r
 due-unread g asked fronts r f (inl (at, fault, unread, is)) =
     let have = told-contents g.told f.command.files fronts f.fetched in
@@ -139,7 +139,7 @@ due-unread g asked fronts r f (inl (at, fault, unread, is)) =
 due-unread g asked fronts r f (inr memory) = subst (IsBeforeTheRun g) (sym memory) (due-memory g)
 
 -- the classes of what was fetched are refused
-of-classes : (g : Given) (asked : Asked) (fronts : List (List ℕ)) (classes : List ClassFile)
+of-classes : (g : Given) (asked : ProgramWanted) (fronts : List (List ℕ)) (classes : List ClassFile)
     (why : AdmitError) → IsFetchedFor g asked fronts → SpellAlone fronts classes
     → answer_for asked classes ≡ Err why → OfClasses g why
 of-classes g asked fronts classes why f alone is =
@@ -152,11 +152,11 @@ of-classes g asked fronts classes why f alone is =
       accepts = f.accepts;
       contents = have.contents;
       told_as = told-by g.told f.command have.contents f.own have.told_as;
-      holds = subst (λ (a : Asked). HasRefused a why have.contents) (sym f.asked_is)
+      holds = subst (λ (a : ProgramWanted). HasRefused a why have.contents) (sym f.asked_is)
           (subst (HasRefused asked why) (sym whole) has);
     }
 
-pub due-fault : (g : Given) (asked : Asked) (fronts : List (List ℕ)) (classes : List ClassFile)
+pub due-fault : (g : Given) (asked : ProgramWanted) (fronts : List (List ℕ)) (classes : List ClassFile)
     (fault : AdmitError) → IsFetchedFor g asked fronts → SpellAlone fronts classes
     → answer_for asked classes ≡ Err fault → IsBeforeTheRun g (NotAdmitted fault)
 due-fault g asked fronts classes fault f alone is =
@@ -166,7 +166,7 @@ not-both : false ≡ true → ⊥
 not-both e = cc
 
 -- a fault of admission that is no want of memory
-pub due-admission : (g : Given) (asked : Asked) (fronts : List (List ℕ)) (classes : List ClassFile)
+pub due-admission : (g : Given) (asked : ProgramWanted) (fronts : List (List ℕ)) (classes : List ClassFile)
     (fault : AdmitError) → IsFetchedFor g asked fronts → SpellAlone fronts classes
     → (fault ≢ admit.NoMemory → answer_for asked classes ≡ Err fault) → IsBeforeTheRun g (refusal_for fault)
 due-admission g asked fronts classes fault f alone is = by (is_memory fault) refl where

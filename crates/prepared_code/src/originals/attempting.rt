@@ -8,7 +8,7 @@ ghost use Rattle.member_selection.specs.Answers.{done_on};
 ghost use Rattle.member_selection.specs.Attempts.{attempts, is_loaded, loaded_for};
 ghost use Rattle.member_selection.specs.Known.{IsKnown};
 ghost use Rattle.member_selection.specs.Objects.{HasDimensions, HasLoadedCaller};
-ghost use Rattle.member_selection.specs.Outcomes.{Asks, HasOperands, HaveOperands, asked, ruled};
+ghost use Rattle.member_selection.specs.Outcomes.{Asks, HasOperands, HaveOperands, outcome_by_rule, outcome_in_frame};
 ghost use Rattle.symbolic_references.specs.Leaving.{Leaves};
 ghost use Rattle.symbolic_references.specs.Runtimes.{after, linker_in, with_loaded};
 ghost use Rattle.prepared_code.specs.Kept.{IsLater};
@@ -76,7 +76,8 @@ fn attempt_line_loaded(
         IfOk result (λ a. is_some a ≡ is_loaded w n s frames.now)) }
     ensures answer { let w = runtime.old.world in let s = runtime.old.shared in
         IfNamedBy line.now.action line.now.next (λ n next. IfOk result (λ a.
-        IfSome a (λ a. asked a frames.now ≡ ruled (attempts w n s frames.now) frames.now))) }
+        IfSome a (λ a. outcome_in_frame a frames.now
+        ≡ outcome_by_rule (attempts w n s frames.now) frames.now))) }
     ensures runtime { let w = runtime.old.world in let s = runtime.old.shared in
         IfNamedBy line.now.action line.now.next (λ n next. IfOk result (λ a. IfSome a (λ _.
         runtime.new ≡ after (done_on (attempts w n s frames.now) frames.now) runtime.old))) }
@@ -215,8 +216,8 @@ impl Originals {
             IfOk result (λ a. is_some a ≡ is_loaded w n s frames.now)) }
         ensures answer { let w = runtime.old.world in let s = runtime.old.shared in
             IfNamed (line_at self.old.versions version place) (λ n next. IfOk result (λ a.
-            IfSome a (λ a. asked a frames.now
-            ≡ ruled (attempts w n s frames.now) frames.now))) }
+            IfSome a (λ a. outcome_in_frame a frames.now
+            ≡ outcome_by_rule (attempts w n s frames.now) frames.now))) }
         ensures runtime { let w = runtime.old.world in let s = runtime.old.shared in
             IfNamed (line_at self.old.versions version place) (λ n next. IfOk result (λ a.
             IfSome a (λ _. runtime.new

@@ -8,8 +8,8 @@ ghost use Rattle.member_selection.specs.Attempts.{IsFound, attempts, is_loaded, 
 ghost use Rattle.member_selection.specs.Known.{IsKnown, LoadsNothing};
 ghost use Rattle.member_selection.specs.Objects.{HasDimensions, HasLoadedCaller};
 ghost use Rattle.member_selection.specs.Resolved.{skips};
-ghost use Rattle.member_selection.specs.Answers.{asked_on, done_on};
-ghost use Rattle.member_selection.specs.Outcomes.{Asks, HasOperands, HaveOperands, asked, ruled};
+ghost use Rattle.member_selection.specs.Answers.{asking_in_frame, done_on};
+ghost use Rattle.member_selection.specs.Outcomes.{Asks, HasOperands, HaveOperands, outcome_by_rule, outcome_in_frame};
 ghost use Rattle.symbolic_references.specs.Leaving.{Leaves};
 ghost use Rattle.symbolic_references.specs.Runtimes.{after, linker_in, with_loaded};
 ghost use Rattle.std.specs.Prelude.{drop, length};
@@ -27,7 +27,8 @@ use member_selection::{AbruptCompletion, Found, Known, Outcome, resolve, resolve
 
 /// checkcast and instanceof of null.
 fn skip(frames: &Frames, reference: &SymbolicReference) -> Outcome
-    ensures answer { asked result frames.now ≡ asked_on (skips reference.now) frames.now }
+    ensures answer { outcome_in_frame result frames.now
+        ≡ asking_in_frame (skips reference.now) frames.now }
     ensures enough { HasOperands result (top_operands frames.now.frames) }
 {
     match reference {
@@ -163,7 +164,8 @@ impl Runtime {
             ≡ is_loaded self.old.world reference.now self.old.shared frames.now) }
         ensures answer { let rule = attempts self.old.world reference.now self.old.shared frames.now
             in
-            IfOk result (λ a. IfSome a (λ a. asked a frames.now ≡ ruled rule frames.now)) }
+            IfOk result (λ a. IfSome a
+            (λ a. outcome_in_frame a frames.now ≡ outcome_by_rule rule frames.now)) }
         ensures runtime { let rule = attempts self.old.world reference.now self.old.shared
             frames.now in
             IfOk result (λ a. IfSome a (λ _. self.new

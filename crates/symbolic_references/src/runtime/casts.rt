@@ -9,8 +9,8 @@ ghost use Rattle.jvm_model.specs.Instructions.SymbolicReference.{is_instance};
 ghost use Rattle.jvm_model.specs.Basis.Values.{ref_of};
 ghost use Rattle.member_selection.specs.Known.{IsClassFound};
 ghost use Rattle.member_selection.specs.Objects.{IsResolved};
-ghost use Rattle.member_selection.specs.Answers.{asked_on};
-ghost use Rattle.member_selection.specs.Outcomes.{HasOperands, asked};
+ghost use Rattle.member_selection.specs.Answers.{asking_in_frame};
+ghost use Rattle.member_selection.specs.Outcomes.{HasOperands, outcome_in_frame};
 ghost use Rattle.symbolic_references.specs.Runtimes.{linker_in};
 ghost use Rattle.frame_stack.specs.FrameLists.{top_operands};
 
@@ -59,8 +59,8 @@ impl Runtime {
     pub fn cast(&self, frames: &Frames, name: &Text16, kind: u32, found: &mut Found) -> Outcome
         requires resolved { IsResolved (linker_in self.now) name.now kind }
         requires found { IsClassFound found.old self.now.world.program kind }
-        ensures answer { asked result frames.now
-            ≡ asked_on (λ l o. casts_to self.now.world.program name.now
+        ensures answer { outcome_in_frame result frames.now
+            ≡ asking_in_frame (λ l o. casts_to self.now.world.program name.now
             (ref_of o) self.now.shared l o) frames.now }
         ensures found { IsClassFound found.new self.now.world.program kind }
         ensures enough { HasOperands result (top_operands frames.now.frames) }
@@ -85,8 +85,8 @@ impl Runtime {
     ) -> Outcome
         requires resolved { IsResolved (linker_in self.now) name.now kind }
         requires found { IsClassFound found.old self.now.world.program kind }
-        ensures answer { asked result frames.now
-            ≡ asked_on (λ l o. answers self.now.world.program name.now
+        ensures answer { outcome_in_frame result frames.now
+            ≡ asking_in_frame (λ l o. answers self.now.world.program name.now
             (ref_of o) self.now.shared l o) frames.now }
         ensures found { IsClassFound found.new self.now.world.program kind }
         ensures enough { HasOperands result (top_operands frames.now.frames) }

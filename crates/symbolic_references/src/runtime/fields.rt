@@ -20,8 +20,8 @@ ghost use Rattle.member_selection.specs.Known.{IsFoundAs};
 ghost use Rattle.member_selection.specs.Members.{at_place};
 ghost use Rattle.member_selection.specs.Objects.{IsResolved, has_field_at};
 ghost use Rattle.member_selection.specs.Resolved.{field_found, gets_instance, puts_instance};
-ghost use Rattle.member_selection.specs.Answers.{asked_on, shared_by};
-ghost use Rattle.member_selection.specs.Outcomes.{Asks, HasOperands, HaveOperands, asked, ruled};
+ghost use Rattle.member_selection.specs.Answers.{asking_in_frame, shared_by};
+ghost use Rattle.member_selection.specs.Outcomes.{Asks, HasOperands, HaveOperands, outcome_by_rule, outcome_in_frame};
 ghost use Rattle.symbolic_references.specs.Leaving.{Sets};
 ghost use Rattle.symbolic_references.specs.Runtimes.{linker_in, with_shared};
 ghost use Rattle.member_selection.specs.Answers.{found_view};
@@ -227,7 +227,7 @@ impl Runtime {
 
     /// The value in a slot of an object takes the object's place.
     fn read_slot(&self, frames: &Frames, object: u32, slot: u32) -> Outcome
-        ensures answer { asked result frames.now ≡ asked_on
+        ensures answer { outcome_in_frame result frames.now ≡ asking_in_frame
             (replaces 1 (option_map as_value (slot_at object slot self.now.shared.heap)))
             frames.now }
         ensures enough { HasOperands result (top_operands frames.now.frames) }
@@ -287,7 +287,8 @@ impl Runtime {
         requires named { kind_named self.now.world.program member.now.class ≡ Some kind }
         requires slot { slot ≡ slot_of self.now.world.program (at_place field) }
         requires own { has_field_at self.now.world.program (Some last) kind field.class ≡ true }
-        ensures answer { asked result frames.now ≡ ruled (λ l o. gets_of self.now.world.program
+        ensures answer { outcome_in_frame result frames.now
+            ≡ outcome_by_rule (λ l o. gets_of self.now.world.program
             member.now (at_place field) (ref_of o) self.now.shared l o) frames.now }
         ensures enough { HasOperands result (top_operands frames.now.frames) }
     {
@@ -362,8 +363,8 @@ impl Runtime {
     /// A value goes into a slot of an object; both leave the operands.
     fn write_slot(&mut self, frames: &Frames, object: u32, slot: u32, datum: Datum) -> Outcome
         requires object { (object == 0) ≡ false }
-        ensures answer { asked result frames.now
-            ≡ ruled (writes object slot datum self.old.shared) frames.now }
+        ensures answer { outcome_in_frame result frames.now
+            ≡ outcome_by_rule (writes object slot datum self.old.shared) frames.now }
         ensures runtime { self.new ≡ with_shared
             (shared_by (writes object slot datum self.old.shared) frames.now) self.old }
         ensures world { self.new.world ≡ self.old.world }

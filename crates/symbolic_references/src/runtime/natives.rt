@@ -15,7 +15,7 @@ ghost use Rattle.symbolic_references.specs.NativeCalls.{native_answer, native_le
 ghost use Rattle.member_selection.specs.Members.{at_place};
 ghost use Rattle.symbolic_references.specs.Passing.{IfPassed, runs_native_call};
 ghost use Rattle.member_selection.specs.Targets.{as_datum, data_in};
-ghost use Rattle.member_selection.specs.Outcomes.{Asks, HaveOperands, asked};
+ghost use Rattle.member_selection.specs.Outcomes.{Asks, HaveOperands, outcome_in_frame};
 ghost use Rattle.symbolic_references.specs.Leaving.{Leaves};
 ghost use Rattle.member_selection.specs.Answers.{abrupt_view, answer_in, frames_in, is_next};
 ghost use Rattle.symbolic_references.specs.Natives.{outcome_by};
@@ -101,7 +101,7 @@ fn conclude(frames: &Frames, native: Native, count: u16) -> Result<Outcome, NoMe
     requires { count ≤ length (top_operands frames.now.frames) }
     ensures enough { HaveOperands result frames.now }
     ensures done { OnOk result (is_done native ≡ true) }
-    ensures answer { let fs = frames.now.frames in IfOk result (λ a. asked a frames.now
+    ensures answer { let fs = frames.now.frames in IfOk result (λ a. outcome_in_frame a frames.now
         ≡ outcome_by native (top_locals fs) (drop count (top_operands fs))) }
 {
     match native {

@@ -18,8 +18,8 @@ ghost use Rattle.member_selection.specs.Known.{IsFoundAs};
 ghost use Rattle.member_selection.specs.Members.{at_place};
 ghost use Rattle.member_selection.specs.Objects.{IsUsable};
 ghost use Rattle.member_selection.specs.Resolved.{gets_static, puts_static};
-ghost use Rattle.member_selection.specs.Answers.{asked_on, shared_by};
-ghost use Rattle.member_selection.specs.Outcomes.{Asks, HasOperands, HaveOperands, asked, ruled};
+ghost use Rattle.member_selection.specs.Answers.{asking_in_frame, shared_by};
+ghost use Rattle.member_selection.specs.Outcomes.{Asks, HasOperands, HaveOperands, outcome_by_rule, outcome_in_frame};
 ghost use Rattle.symbolic_references.specs.Leaving.{Sets};
 ghost use Rattle.symbolic_references.specs.Runtimes.{linker_in, with_shared};
 
@@ -53,7 +53,7 @@ pub fn held_of(frames: &Frames, kind: Kind) -> Option<Datum>
 impl Runtime {
     /// NoClassDefFoundError, with the name of a class that can not be used.
     pub fn raise_unusable(&self, frames: &Frames, class: u32) -> Result<Outcome, NoMemory>
-        ensures answer { IfOk result (λ a. asked a frames.now
+        ensures answer { IfOk result (λ a. outcome_in_frame a frames.now
             ≡ Raises no_class_definition (name_at self.now.world.program class)) }
         ensures enough { HaveOperands result frames.now }
     {
@@ -71,7 +71,8 @@ impl Runtime {
 
     /// The value of a static field goes on top; its class is initialized, or is being.
     pub fn push_static_field(&self, frames: &Frames, field: DeclaredMember) -> Outcome
-        ensures answer { asked result frames.now ≡ asked_on (pushes (option_map as_value
+        ensures answer { outcome_in_frame result frames.now
+            ≡ asking_in_frame (pushes (option_map as_value
             (static_at self.now.shared (static_field (at_place field))))) frames.now }
         ensures enough { HasOperands result (top_operands frames.now.frames) }
     {
@@ -162,7 +163,8 @@ impl Runtime {
     /// The topmost operand goes into a static field of this kind; its class is initialized, or is
     /// being.
     fn set_static_field(&mut self, frames: &Frames, field: DeclaredMember, kind: Kind) -> Outcome
-        ensures answer { asked result frames.now ≡ ruled (λ l o. sets_static (at_place field)
+        ensures answer { outcome_in_frame result frames.now
+            ≡ outcome_by_rule (λ l o. sets_static (at_place field)
             (held_of kind o) self.old.shared l o) frames.now }
         ensures runtime { self.new ≡ with_shared (shared_by (λ l o. sets_static (at_place field)
             (held_of kind o) self.old.shared l o) frames.now) self.old }

@@ -6,7 +6,7 @@ use Rattle.member_selection.specs.Answers.{abrupt_view}
 use Rattle.prepared_code.specs.Linked.{setup_in}
 use Rattle.prepared_code.specs.States.{state_in}
 use Rattle.activations.specs.Applied.{acts_asked, on_parts}
-use Rattle.activations.proofs.Concluded.{breaks-is, exits-is, raises-is, throws-is}
+use Rattle.activations.proofs.ConcludedOutcomes.{breaks-is, exits-is, raises-is, throws-is}
 use Rattle.activations.proofs.asking.complete_abruptly.Goals as goal
 
 pub returns-in_ok-raise_named-in-Raises-clause-state : goal.returns-in_ok-raise_named-in-Raises-clause-state

@@ -1,7 +1,7 @@
 use Rattle.std.proofs.Common.{ap, ◌∙◌}
 use Rattle.prepared_code.specs.Linked.{setup_in}
 use Rattle.prepared_code.specs.States.{state_in}
-use Rattle.activations.proofs.Concluded.{ended-is, gone-is}
+use Rattle.activations.proofs.ConcludedOutcomes.{ended-is, gone-is}
 use Rattle.activations.proofs.asking.go_on.Goals as goal
 
 pub returns-then-apply-clause-state : goal.returns-then-apply-clause-state

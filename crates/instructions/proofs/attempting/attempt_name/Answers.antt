@@ -4,7 +4,7 @@ use Rattle.std.specs.Option.{IfSome}
 use Rattle.std.proofs.lemmas.Bool.{false≢true}
 use Rattle.frame_stack.specs.FrameLists.{top_operands}
 use Rattle.jvm_basic.specs.Outcomes.{top_locals}
-use Rattle.member_selection.specs.Outcomes.{asked}
+use Rattle.member_selection.specs.Outcomes.{outcome_in_frame}
 use Rattle.prepared_code.specs.declared.parts.Parts.{Parts}
 use Rattle.prepared_code.specs.Linked.{setup_in}
 use Rattle.prepared_code.specs.States.{state_in}
@@ -12,7 +12,7 @@ use Rattle.prepared_code.specs.Tables.{Versions}
 use Rattle.prepared_code.specs.Versions.{line_at}
 use Rattle.activations.specs.Applied.{acts_asked, on_parts}
 use Rattle.instructions.specs.Acts.{named_in}
-use Rattle.activations.proofs.Concluded.{stays-given}
+use Rattle.activations.proofs.ConcludedOutcomes.{stays-given}
 use Rattle.instructions.proofs.Attempts.NamedAttempts.{awaits-told, begins-on, goes-on, linked-kept, same-setup, takes-there}
 use Rattle.instructions.proofs.Moves.Sounded.{caller-linked}
 use Rattle.instructions.proofs.Initializing.Beneath.{top-there}
@@ -25,24 +25,24 @@ attempt_named-requires-clause-caller c =
 pub conclude-requires-clause-takes : goal.conclude-requires-clause-takes
 conclude-requires-clause-takes c =
     takes-there (setup_in c.args.parts.now.runtime c.args.originals.now) c.args.initializing.now c.args.here c.in-Some.line.now c.args.parts.now (subst (λ (v : Versions). line_at v c.args.here.version c.args.here.place ≡ Some c.in-Some.line.now) c.in_ok-outcome.ensures.versions c.in-Some.ensures.line)
-    c.requires.named c.requires.here c.requires.executing (asked c.in_ok-outcome.outcome c.args.parts.now.frames) c.attempt_named.new.runtime (c.in_ok-outcome.ensures.answer) (c.in_ok-outcome.ensures.runtime)
+    c.requires.named c.requires.here c.requires.executing (outcome_in_frame c.in_ok-outcome.outcome c.args.parts.now.frames) c.attempt_named.new.runtime (c.in_ok-outcome.ensures.answer) (c.in_ok-outcome.ensures.runtime)
 
 pub returns-in_default-awaited-clause-state : goal.returns-in_default-awaited-clause-state
 returns-in_default-awaited-clause-state c =
     let v = setup_in c.attempt_named.new.runtime c.attempt_named.new.self in
     let mid : Parts = record c.args.parts.now { runtime = c.attempt_named.new.runtime } in
     goes-on (setup_in c.args.parts.now.runtime c.args.originals.now) c.args.initializing.now c.args.here c.in-Some.line.now c.args.parts.now (subst (λ (v : Versions). line_at v c.args.here.version c.args.here.place ≡ Some c.in-Some.line.now) c.in_ok-outcome.ensures.versions c.in-Some.ensures.line)
-    c.requires.named c.requires.here c.requires.executing (asked c.in_ok-outcome.outcome c.args.parts.now.frames) c.attempt_named.new.runtime (c.in_ok-outcome.ensures.answer) (c.in_ok-outcome.ensures.runtime)
+    c.requires.named c.requires.here c.requires.executing (outcome_in_frame c.in_ok-outcome.outcome c.args.parts.now.frames) c.attempt_named.new.runtime (c.in_ok-outcome.ensures.answer) (c.in_ok-outcome.ensures.runtime)
     v c.conclude.new.parts (same-setup c.args.parts.now.runtime c.attempt_named.new.runtime c.args.originals.now c.attempt_named.new.self c.in_ok-outcome.ensures.world c.in_ok-outcome.ensures.versions)
     (stays-given c.in_ok-outcome.outcome (top_locals c.args.parts.now.frames.frames) (top_operands c.args.parts.now.frames.frames) (sym c.in_ok-awaited.ensures.answer ∙ c.in_default-awaited.is))
-    (subst (λ o. IfNone o (state_in c.conclude.new.parts ≡ on_parts (λ s f. acts_asked v c.in-Some.line.now s f (asked c.in_ok-outcome.outcome c.args.parts.now.frames)) mid))
+    (subst (λ o. IfNone o (state_in c.conclude.new.parts ≡ on_parts (λ s f. acts_asked v c.in-Some.line.now s f (outcome_in_frame c.in_ok-outcome.outcome c.args.parts.now.frames)) mid))
     c.in_default-awaited.is c.in_ok-awaited.ensures.state)
 
 pub returns-in_default-awaited-clause-answer : goal.returns-in_default-awaited-clause-answer
 returns-in_default-awaited-clause-answer c =
     sym c.in_default-awaited.is
     ∙ awaits-told (setup_in c.args.parts.now.runtime c.args.originals.now) c.args.initializing.now c.args.here c.in-Some.line.now c.args.parts.now (subst (λ (v : Versions). line_at v c.args.here.version c.args.here.place ≡ Some c.in-Some.line.now) c.in_ok-outcome.ensures.versions c.in-Some.ensures.line)
-    c.requires.named c.requires.here c.requires.executing (asked c.in_ok-outcome.outcome c.args.parts.now.frames) c.attempt_named.new.runtime (c.in_ok-outcome.ensures.answer) (c.in_ok-outcome.ensures.runtime)
+    c.requires.named c.requires.here c.requires.executing (outcome_in_frame c.in_ok-outcome.outcome c.args.parts.now.frames) c.attempt_named.new.runtime (c.in_ok-outcome.ensures.answer) (c.in_ok-outcome.ensures.runtime)
     c.in_ok-awaited.awaited c.in_ok-awaited.ensures.answer
 
 pub returns-in_default-awaited-clause-linked : goal.returns-in_default-awaited-clause-linked
@@ -54,7 +54,7 @@ returns-clause-state c =
     let mid : Parts = record c.args.parts.now { runtime = c.attempt_named.new.runtime } in
     c.in_ok-initialize.ensures.state
     ∙ begins-on (setup_in c.args.parts.now.runtime c.args.originals.now) c.args.initializing.now c.args.here c.in-Some.line.now c.args.parts.now (subst (λ (v : Versions). line_at v c.args.here.version c.args.here.place ≡ Some c.in-Some.line.now) c.in_ok-outcome.ensures.versions c.in-Some.ensures.line)
-    c.requires.named c.requires.here c.requires.executing (asked c.in_ok-outcome.outcome c.args.parts.now.frames) c.attempt_named.new.runtime (c.in_ok-outcome.ensures.answer) (c.in_ok-outcome.ensures.runtime)
+    c.requires.named c.requires.here c.requires.executing (outcome_in_frame c.in_ok-outcome.outcome c.args.parts.now.frames) c.attempt_named.new.runtime (c.in_ok-outcome.ensures.answer) (c.in_ok-outcome.ensures.runtime)
     c.in_ok-awaited.awaited c.in-Some-awaited.class c.conclude.new.parts c.in_ok-awaited.ensures.answer c.in-Some-awaited.is
     (subst (λ o. IfSome o (λ _. c.conclude.new.parts ≡ mid)) c.in-Some-awaited.is c.in_ok-awaited.ensures.begins)
 
@@ -62,7 +62,7 @@ pub returns-clause-answer : goal.returns-clause-answer
 returns-clause-answer c =
     sym c.in-Some-awaited.is
     ∙ awaits-told (setup_in c.args.parts.now.runtime c.args.originals.now) c.args.initializing.now c.args.here c.in-Some.line.now c.args.parts.now (subst (λ (v : Versions). line_at v c.args.here.version c.args.here.place ≡ Some c.in-Some.line.now) c.in_ok-outcome.ensures.versions c.in-Some.ensures.line)
-    c.requires.named c.requires.here c.requires.executing (asked c.in_ok-outcome.outcome c.args.parts.now.frames) c.attempt_named.new.runtime (c.in_ok-outcome.ensures.answer) (c.in_ok-outcome.ensures.runtime)
+    c.requires.named c.requires.here c.requires.executing (outcome_in_frame c.in_ok-outcome.outcome c.args.parts.now.frames) c.attempt_named.new.runtime (c.in_ok-outcome.ensures.answer) (c.in_ok-outcome.ensures.runtime)
     c.in_ok-awaited.awaited c.in_ok-awaited.ensures.answer
 
 pub returns-clause-linked : goal.returns-clause-linked

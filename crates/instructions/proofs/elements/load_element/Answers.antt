@@ -6,7 +6,7 @@ use Rattle.jvm_basic.specs.Outcomes.{top_locals}
 use Rattle.heap_objects.specs.Heaps.{HeapView}
 use Rattle.jvm_model.specs.Basis.Data.{GoesOn, Next}
 use Rattle.jvm_model.specs.Instructions.ObjectRules.{access_refused, access_to}
-use Rattle.member_selection.specs.Outcomes.{asked}
+use Rattle.member_selection.specs.Outcomes.{outcome_in_frame}
 use Rattle.instructions.specs.Elements.{access_of, element_at, place_by}
 use Rattle.instructions.proofs.Attempts.ElementActs.{is-loaded, is-refused, place-enough}
 use Rattle.instructions.proofs.elements.load_element.Goals as goal
@@ -27,7 +27,7 @@ returns-in-Some-element_at-clause-enough c =
 pub returns-in-None-clause-answer : goal.returns-in-None-clause-answer
 returns-in-None-clause-answer c =
     let fs = c.args.frames.now.frames in
-    subst (λ q. IfOk c.outcome_without_element.result (λ a. asked a c.args.frames.now ≡ q))
+    subst (λ q. IfOk c.outcome_without_element.result (λ a. outcome_in_frame a c.args.frames.now ≡ q))
     (ap (λ i. access_refused (access_of c.led_to.result) i) (to_z-of_z w32 c.in-Some.place.index (search rules))
     ∙ is-refused c.args.kind c.args.runtime.now.shared (top_locals fs) (top_operands fs) c.in-Some.place.array c.in-Some.place.index (access_of c.led_to.result)
     (sym (ap (option_map place_by) c.in-Some.is) ∙ c.place_of.ensures)

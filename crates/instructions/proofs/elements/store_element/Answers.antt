@@ -9,7 +9,7 @@ use Rattle.heap_objects.specs.Heaps.{HeapView, with_slot_at}
 use Rattle.jvm_model.specs.Basis.Data.{Done}
 use Rattle.jvm_model.specs.Instructions.ObjectRules.{access_refused, access_to, fits_array}
 use Rattle.jvm_model.specs.declared.state.Shared.{Shared}
-use Rattle.member_selection.specs.Outcomes.{asked}
+use Rattle.member_selection.specs.Outcomes.{outcome_in_frame}
 use Rattle.symbolic_references.specs.Runtimes.{with_heap, with_shared}
 use Rattle.instructions.specs.Elements.{access_of, storing_by}
 use Rattle.instructions.proofs.Attempts.ElementActs.{is-stored, is-unstored, leads-inside, slot-there}
@@ -25,7 +25,7 @@ returns-in_default-led c =
     (c.led_to-led.ensures ∙ ap (λ (h : HeapView). access_to c.args.kind x.array x.index h) c.heap.ensures.heap)
     (λ slot e. c.in_default-led.not-Inside slot (leads-inside c.led_to-led.result slot e)) in
     record {
-      answer = subst (λ q. IfOk c.outcome_without_element.result (λ a. asked a c.args.frames.now ≡ q))
+      answer = subst (λ q. IfOk c.outcome_without_element.result (λ a. outcome_in_frame a c.args.frames.now ≡ q))
           (ap (λ i. access_refused (access_of c.led_to-led.result) i) (to_z-of_z w32 c.in-Some.storing.place.index (search rules)) ∙ ap (λ (d : Done). d.outcome) unstored)
           (c.outcome_without_element.ensures.answer c.args.frames.now);
       runtime = on-either c.outcome_without_element.result (ap (λ (d : Done). with_shared d.shared c.args.runtime.now) unstored);

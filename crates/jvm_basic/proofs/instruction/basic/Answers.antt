@@ -9,7 +9,7 @@ use Rattle.jvm_basic.specs.Laws.{is_elsewhere, divides_by_zero}
 use Rattle.jvm_basic.specs.Needs.{is_bad}
 use Rattle.jvm_basic.specs.Outcomes.{effect_of, after}
 use Rattle.jvm_basic.specs.Rules.{arithmetic_exception, does, rule_of}
-use Rattle.jvm_basic.proofs.Asked.{effect-is, after-is}
+use Rattle.jvm_basic.proofs.PlacedOutcomes.{effect-is, after-is}
 use Rattle.jvm_basic.proofs.Exact.{other-exactly, throws-exactly, throws-only, kept-unless-next}
 use Rattle.jvm_basic.proofs.ItsOperand.{has-its-operand}
 use Rattle.jvm_basic.proofs.Fitting.{arithmetic-is-named}

@@ -3,7 +3,7 @@ use Rattle.std.proofs.Common.{◌∙◌, ap}
 use Rattle.jvm_model.specs.Basis.Families.{family_of}
 use Rattle.jvm_basic.specs.Outcomes.{effect_of, after}
 use Rattle.jvm_basic.specs.Rules.{does}
-use Rattle.jvm_basic.proofs.Asked.{effect-is, after-is}
+use Rattle.jvm_basic.proofs.PlacedOutcomes.{effect-is, after-is}
 use Rattle.jvm_basic.proofs.instruction.basic_by.Goals as goal
 
 pub returns-clause-effect : goal.returns-clause-effect

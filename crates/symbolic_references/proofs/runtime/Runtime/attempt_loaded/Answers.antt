@@ -4,7 +4,7 @@ use Rattle.frame_stack.specs.FrameLists.{top_operands}
 use Rattle.member_selection.specs.Answers.{done_on}
 use Rattle.member_selection.specs.Attempts.{attempts, loaded_for, with_more}
 use Rattle.member_selection.specs.Known.{IsKnown}
-use Rattle.member_selection.specs.Outcomes.{asked, ruled}
+use Rattle.member_selection.specs.Outcomes.{outcome_by_rule, outcome_in_frame}
 use Rattle.symbolic_references.specs.Runtimes.{after, linker_in}
 use Rattle.symbolic_references.proofs.Again.{loads-in}
 use Rattle.symbolic_references.proofs.Attempted.{asks-later, caller_later, leaves-later, same-linker}
@@ -25,7 +25,7 @@ returns-in-Ok-clause-answer c =
     let v = c.args.self.now in
     let n = c.args.reference.now in
     let f = c.args.frames.now in
-    subst (λ r. IfOk r (λ a. asked a f ≡ ruled (attempts v.world n v.shared f) f)) c.in-Ok.is
+    subst (λ r. IfOk r (λ a. outcome_in_frame a f ≡ outcome_by_rule (attempts v.world n v.shared f) f)) c.in-Ok.is
     (asks-later c.args.self.now c.find.new.self c.args.reference.now c.args.frames.now c.in_ok-found.ensures.runtime c.do_found.result c.do_found.ensures.answer)
 
 pub returns-in-Ok-clause-runtime : goal.returns-in-Ok-clause-runtime

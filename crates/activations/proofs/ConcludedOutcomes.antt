@@ -23,7 +23,7 @@ use Rattle.prepared_code.specs.States.{state_with}
 use Rattle.prepared_code.specs.Versions.{Setup}
 use Rattle.activations.specs.Applied.{IsTop, acts_asked, on_top, raised_in, run_ended}
 use Rattle.activations.specs.Arguments.{can_begin}
-use Rattle.activations.specs.Asked.{Takes}
+use Rattle.activations.specs.TakenArguments.{Takes}
 use Rattle.activations.specs.Invoking.{may_begin, method_called}
 use Rattle.activations.proofs.Callees.{calls-is}
 use Rattle.jvm_model.specs.Basis.Data.{Returns, Initializes}
