@@ -12,8 +12,8 @@ use Rattle.jvm_model.specs.declared.state.State.{State}
 use Rattle.jvm_model.specs.Basis.Data.{Locals, Operands, Next, Outcome, GoesOn, Invokes, Throws, Raises, Exits, Breaks}
 use Rattle.jvm_model.specs.declared.ending.Ending.TheVariants.{Exited}
 use Rattle.jvm_model.specs.Running.Run.{starts}
-use Rattle.member_selection.specs.declared.outcome.Outcome.{Outcome as Given}
-use Rattle.member_selection.specs.declared.outcome.Outcome.TheVariants as given
+use Rattle.member_selection.specs.declared.outcome.Outcome.{Outcome as CodeOutcome}
+use Rattle.member_selection.specs.declared.outcome.Outcome.TheVariants as code_outcome
 use Rattle.member_selection.specs.declared.outcome.AbruptCompletion.TheVariants as abrupt
 use Rattle.member_selection.specs.Going.{gone, holds, left_with}
 use Rattle.member_selection.specs.Outcomes.{outcome_view}
@@ -112,11 +112,11 @@ module _ (w : Setup) (line : Line) (method : ℕ) (p : Parts) where
 
 -- ---- what was given starts no initialization, or that alone
 
-pub stays-given : (a : Given) (l : Locals) (o : Operands) → starts (outcome_view a l o) ≡ None → stays (outcome_view a l o) ≡ true
-stays-given (given.Goes n v) l o none = refl
-stays-given (given.Invokes m n) l o none = refl
-stays-given (given.Abrupt (abrupt.Raises e message)) l o none = refl
-stays-given (given.Abrupt (abrupt.Throws object)) l o none = refl
-stays-given (given.Abrupt (abrupt.Initializes class)) l o none = absurd (none-some class (sym none))
-stays-given (given.Abrupt (abrupt.Exits status)) l o none = refl
-stays-given (given.Abrupt abrupt.Breaks) l o none = refl
+pub stays-outcome : (a : CodeOutcome) (l : Locals) (o : Operands) → starts (outcome_view a l o) ≡ None → stays (outcome_view a l o) ≡ true
+stays-outcome (code_outcome.Goes n v) l o none = refl
+stays-outcome (code_outcome.Invokes m n) l o none = refl
+stays-outcome (code_outcome.Abrupt (abrupt.Raises e message)) l o none = refl
+stays-outcome (code_outcome.Abrupt (abrupt.Throws object)) l o none = refl
+stays-outcome (code_outcome.Abrupt (abrupt.Initializes class)) l o none = absurd (none-some class (sym none))
+stays-outcome (code_outcome.Abrupt (abrupt.Exits status)) l o none = refl
+stays-outcome (code_outcome.Abrupt abrupt.Breaks) l o none = refl

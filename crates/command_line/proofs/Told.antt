@@ -4,10 +4,10 @@ use Rattle.std.specs.Prelude.{slice_get, get_or}
 use Rattle.std.proofs.Math.Seq.{take-suc}
 use Rattle.std.proofs.lemmas.List.{length-append, take_all}
 use Rattle.std.proofs.lemmas.Option.{none-some, slice_get_within, get_or_from_slice_get, slice_get_cases}
-use Rattle.command_line.specs.Raw.{Given, AreWords, IsWord}
+use Rattle.command_line.specs.Raw.{ToldWords, AreWords, IsWord}
 
 -- these are the first words
-abbrev pub AreFirst : Given → List (List ℕ) → Type 0
+abbrev pub AreFirst : ToldWords → List (List ℕ) → Type 0
 AreFirst given found = IfSome given (λ words. found ≡ take (length found) words)
 
 one_more : (words found : List (List ℕ)) (word : List ℕ) → found ≡ take (length found) words → slice_get words (length found) ≡ Some word →
@@ -19,7 +19,7 @@ one_more words found word first next =
     ∙ ap (λ n. take n words) (sym longer)
 
 -- with the word behind them, too
-pub first_more : (given : Given) (found : List (List ℕ)) (word : List ℕ) → AreFirst given found → IsWord given (length found) (Some word) →
+pub first_more : (given : ToldWords) (found : List (List ℕ)) (word : List ℕ) → AreFirst given found → IsWord given (length found) (Some word) →
     AreFirst given (found ++ word ∷ [])
 first_more None found word first next = tt
 first_more (Some words) found word first next = one_more words found word first next
@@ -32,6 +32,6 @@ no_more words n none = by_case (slice_get_cases words n).1
     by_case (inr (past, found)) = past
 
 -- and with none behind them they are all
-pub first_all : (given : Given) (found : List (List ℕ)) → AreFirst given found → IsWord given (length found) None → AreWords given found
+pub first_all : (given : ToldWords) (found : List (List ℕ)) → AreFirst given found → IsWord given (length found) None → AreWords given found
 first_all None found first none = tt
 first_all (Some words) found first none = first ∙ take_all (length found) words (no_more words (length found) none)

@@ -8,8 +8,8 @@ use Rattle.command_line.specs.declared.raw.RawError.{RawError}
 use Rattle.command_line.specs.declared.raw.RawError.TheVariants.{NotText, NoMemory}
 
 -- the words of a process, where they are told
-abbrev pub Given : Type 0
-Given = Option (List (List ℕ))
+abbrev pub ToldWords : Type 0
+ToldWords = Option (List (List ℕ))
 
 -- what a room is answered to hold
 abbrev pub word_in : List ℕ → Result ℕ FillError → Result (List ℕ) FillError
@@ -17,17 +17,17 @@ word_in room (Ok count) = Ok (take count room)
 word_in room (Err error) = Err error
 
 -- the answer where the word of that number is asked for, with room for so many bytes: the word, or none, or a longer one
-abbrev pub IsAnswered : Given → ℕ → ℕ → Result (List ℕ) FillError → Type 0
+abbrev pub IsAnswered : ToldWords → ℕ → ℕ → Result (List ℕ) FillError → Type 0
 IsAnswered given number room (Ok word) = IfSome given (λ words. slice_get words number ≡ Some word)
 IsAnswered given number room (Err NotPresent) = IfSome given (λ words. slice_get words number ≡ None)
 IsAnswered given number room (Err TooLong) = IfSome given (λ words. IsSomeAnd (slice_get words number) (λ word. room < length word))
 
 -- the word of that number, or none
-abbrev pub IsWord : Given → ℕ → Option (List ℕ) → Type 0
+abbrev pub IsWord : ToldWords → ℕ → Option (List ℕ) → Type 0
 IsWord given number word = IfSome given (λ words. slice_get words number ≡ word)
 
 -- all words
-abbrev pub AreWords : Given → List (List ℕ) → Type 0
+abbrev pub AreWords : ToldWords → List (List ℕ) → Type 0
 AreWords given found = IfSome given (λ words. found ≡ words)
 
 -- ---- as texts

@@ -6,7 +6,7 @@ use Rattle.clap.specs.declared.error.kind.ErrorKind.TheVariants.{OutOfMemory}
 use Rattle.clap.specs.declared.parser.matches.ArgMatches.{ArgMatches}
 use Rattle.command_line.specs.Described.{jfluid}
 use Rattle.command_line.specs.Words.{Said, is_refused, is_taken, read_in, read_of, text, texts}
-use Rattle.command_line.specs.declared.words.Given.{Given}
+use Rattle.command_line.specs.declared.words.FoundValues.{FoundValues}
 use Rattle.command_line.specs.declared.words.Words.{Words}
 use Rattle.command_line.specs.declared.words.WordsError.{WordsError}
 use Rattle.command_line.specs.declared.words.WordsError.TheVariants.{Clap, Refused, NoMemory}
@@ -25,7 +25,7 @@ IsMatched words (Err Refused) = ⊥
 IsMatched words (Err NoMemory) = Unit {0}
 
 -- the values, as the program holds them
-abbrev pub given_in : Given → Said
+abbrev pub given_in : FoundValues → Said
 given_in g = record {
   main = text g.main;
   root = text g.root;

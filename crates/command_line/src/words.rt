@@ -109,7 +109,7 @@ impl From<NoMemory> for WordsError {
 
 /// The values that clap found, as they stand in the words.
 #[derive(Debug, Drop)]
-struct Given<'a> {
+struct FoundValues<'a> {
     main: Option<&'a str>,
     root: Option<&'a str>,
     budget: Option<&'a str>,
@@ -183,11 +183,11 @@ fn files_of<'a>(alloc: Global, matches: &ArgMatches<'a>) -> Result<Vec<&'a str>,
 }
 
 /// The values that clap found.
-fn given_by<'a>(alloc: Global, matches: &ArgMatches<'a>) -> Result<Given<'a>, AllocError>
+fn given_by<'a>(alloc: Global, matches: &ArgMatches<'a>) -> Result<FoundValues<'a>, AllocError>
     ensures { IfOk result (λ given. given_in given ≡ said_in (rows_of (found_of matches.now))) }
 {
     let files = files_of(alloc, matches)?;
-    Ok(Given {
+    Ok(FoundValues {
         main: value_of(matches, "main"),
         root: value_of(matches, "root"),
         budget: value_of(matches, "budget"),
@@ -200,21 +200,21 @@ fn given_by<'a>(alloc: Global, matches: &ArgMatches<'a>) -> Result<Given<'a>, Al
 }
 
 /// Whether a root and a plan are given. A root is a plan of its own.
-fn has_two_plans(given: &Given<'_>) -> bool
+fn has_two_plans(given: &FoundValues<'_>) -> bool
     ensures { result ≡ two_plans (given_in given.now) }
 {
     given.root.is_some() && given.plan.is_some()
 }
 
 /// Whether there is no file, or too many.
-fn has_bad_count(given: &Given<'_>) -> bool
+fn has_bad_count(given: &FoundValues<'_>) -> bool
     ensures { result ≡ bad_count (given_in given.now) }
 {
     given.files.is_empty() || given.files.len() > MOST_FILES
 }
 
 /// Whether there are files of a generated program, or else no file, or too many.
-fn has_bad_files(given: &Given<'_>) -> bool
+fn has_bad_files(given: &FoundValues<'_>) -> bool
     ensures { result ≡ bad_files (given_in given.now) }
 {
     if given.seed.is_some() {
@@ -225,7 +225,7 @@ fn has_bad_files(given: &Given<'_>) -> bool
 }
 
 /// Whether the word for the budget is no number, or too great.
-fn has_bad_budget(given: &Given<'_>) -> bool
+fn has_bad_budget(given: &FoundValues<'_>) -> bool
     ensures { result ≡ bad_budget (given_in given.now) }
 {
     match given.budget {
@@ -235,7 +235,7 @@ fn has_bad_budget(given: &Given<'_>) -> bool
 }
 
 /// The main class as it is named; that of a generated program has a name of its own.
-fn main_of<'a>(given: &Given<'a>) -> Option<&'a str>
+fn main_of<'a>(given: &FoundValues<'a>) -> Option<&'a str>
     ensures { text result ≡ main_said (given_in given.now) }
 {
     match given.seed {
@@ -245,14 +245,14 @@ fn main_of<'a>(given: &Given<'a>) -> Option<&'a str>
 }
 
 /// Whether no word names a main class, and there is no plan that could.
-fn lacks_main(given: &Given<'_>) -> bool
+fn lacks_main(given: &FoundValues<'_>) -> bool
     ensures { result ≡ no_main (given_in given.now) }
 {
     main_of(given).is_none() && given.plan.is_none()
 }
 
 /// Whether a rule for every program refuses the words.
-fn has_bad_run(given: &Given<'_>) -> bool
+fn has_bad_run(given: &FoundValues<'_>) -> bool
     ensures { result ≡ bad_run (given_in given.now) }
 {
     has_two_plans(given) || has_bad_files(given) || has_bad_budget(given) || lacks_main(given)
@@ -270,7 +270,7 @@ fn size_of(word: &str) -> Option<u64>
 }
 
 /// Whether the word for the seed is no number, or too great.
-fn has_bad_seed(given: &Given<'_>) -> bool
+fn has_bad_seed(given: &FoundValues<'_>) -> bool
     ensures { result ≡ bad_seed (given_in given.now) }
 {
     match given.seed {
@@ -280,7 +280,7 @@ fn has_bad_seed(given: &Given<'_>) -> bool
 }
 
 /// Whether the word for the size is no number, 0, or too great.
-fn has_bad_size(given: &Given<'_>) -> bool
+fn has_bad_size(given: &FoundValues<'_>) -> bool
     ensures { result ≡ bad_size (given_in given.now) }
 {
     match given.size {
@@ -290,21 +290,21 @@ fn has_bad_size(given: &Given<'_>) -> bool
 }
 
 /// Whether one of seed and size is given without the other.
-fn has_half(given: &Given<'_>) -> bool
+fn has_half(given: &FoundValues<'_>) -> bool
     ensures { result ≡ half (given_in given.now) }
 {
     given.seed.is_some() && given.size.is_none() || given.seed.is_none() && given.size.is_some()
 }
 
 /// Whether the main class of a generated program is named.
-fn has_two_mains(given: &Given<'_>) -> bool
+fn has_two_mains(given: &FoundValues<'_>) -> bool
     ensures { result ≡ two_mains (given_in given.now) }
 {
     given.seed.is_some() && given.main.is_some()
 }
 
 /// Whether a rule for generated programs refuses the words.
-fn has_bad_generation(given: &Given<'_>) -> bool
+fn has_bad_generation(given: &FoundValues<'_>) -> bool
     ensures { result ≡ bad_generation (given_in given.now) }
 {
     has_half(given) || has_two_mains(given) || has_bad_seed(given) || has_bad_size(given)
@@ -325,7 +325,7 @@ fn generation_of(seed: Option<&str>, size: Option<&str>) -> Option<Generation>
 // ---- what is read
 
 /// Whether a rule of the program's own refuses the words.
-fn is_refused(given: &Given<'_>) -> bool
+fn is_refused(given: &FoundValues<'_>) -> bool
     ensures { result ≡ refused (given_in given.now) }
 {
     has_bad_run(given) || has_bad_generation(given)
@@ -351,7 +351,7 @@ fn budget_of(word: Option<&str>) -> Option<u64>
 
 /// What is read of words that clap takes.
 #[tactic(auto, using(crate::proofs::Sound::sound))]
-fn words_accepted<'a>(alloc: Global, given: Given<'a>) -> Result<Words<'a>, WordsError>
+fn words_accepted<'a>(alloc: Global, given: FoundValues<'a>) -> Result<Words<'a>, WordsError>
     ensures answer { IsAccepted (given_in given.entry) result }
     ensures sound { IfOk result (λ words. IsSound (read_in words)) }
 {

@@ -11,7 +11,7 @@ use Rattle.jfluid_cli.specs.declared.kept.Kept.{Kept}
 use Rattle.jfluid_cli.specs.declared.refusal.Refusal.{Refusal}
 use Rattle.jfluid_cli.specs.declared.refusal.Refusal.TheVariants.{PlanNotFetched, NotFetched}
 use Rattle.jfluid_cli.specs.Asking.{HasBadRoot}
-use Rattle.jfluid_cli.specs.Causes.{Given, HasBadPlan, HasLongInput, HasNoRoot, IsAccepted, IsUnfit, OfWords, Because}
+use Rattle.jfluid_cli.specs.Causes.{CallInputs, HasBadPlan, HasLongInput, HasNoRoot, IsAccepted, IsUnfit, OfWords, Because}
 use Rattle.jfluid_cli.specs.Images.{IsImaged, IsUnimaged, images_of}
 use Rattle.jfluid_cli.specs.Origins.{HasOrigin, IsOnlyProgram}
 use Rattle.jfluid_cli.specs.Refusals.{status_of, refusal_line}
@@ -50,7 +50,7 @@ call_of words old new kept = record {
 abbrev pub words_of : Call → List (List ℕ)
 words_of c = words_in c.words
 
-abbrev pub given_of : Call → Given
+abbrev pub given_of : Call → CallInputs
 given_of c = record { words = words_of c; told = c.told; left = c.input.left }
 
 -- ---- with every status

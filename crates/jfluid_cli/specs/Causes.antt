@@ -17,7 +17,7 @@ use Rattle.jfluid_cli.specs.Top.{IsProgram, HasProgram, HasRefused, HasNoProgram
 use Rattle.jfluid_cli.specs.Words.{Command, words_accepted, AreClaps, AreRefused, command_for}
 
 -- the words as bytes, what the files tell, and what the source of input has left, where it tells it
-pub record Given : Type 0 where
+pub record CallInputs : Type 0 where
   pub words : List (List ℕ)
   pub told : Option Told
   pub left : Option (List ℕ)
@@ -29,14 +29,14 @@ AreContentsOf told k contents = AreContentsBy told k.generated k.files contents
 -- ---- what is accepted
 
 -- The words are accepted with their plan, and this is what they ask for.
-pub record Accepts (g : Given) (k : Command) : Type 0 where
+pub record Accepts (g : CallInputs) (k : Command) : Type 0 where
   pub words : Read
   pub read : words_accepted g.words ≡ Some words
   pub planned : IsPlanFor g.told words (Ok k.plan)
   pub asked : command_for words k.plan ≡ Some k
 
 -- The words and their plan are accepted, and the files tell this program for them, or it is generated.
-pub record IsAdmitted (g : Given) (program : Program) : Type 0 where
+pub record IsAdmitted (g : CallInputs) (program : Program) : Type 0 where
   pub command : Command
   pub accepts : Accepts g command
   pub files : Told
@@ -46,14 +46,14 @@ pub record IsAdmitted (g : Given) (program : Program) : Type 0 where
   pub program_is : IsProgram (asked_by command) contents program
 
 -- And the input is within its limit.
-pub record IsAccepted (g : Given) (program : Program) : Type 0 where
+pub record IsAccepted (g : CallInputs) (program : Program) : Type 0 where
   pub admitted : IsAdmitted g program
   pub input : List ℕ
   pub input_is : g.left ≡ Some input
   pub short : length input ≤ most_input
 
 -- Or there is more input than that.
-pub record HasLongInput (g : Given) : Type 0 where
+pub record HasLongInput (g : CallInputs) : Type 0 where
   pub program : Program
   pub admitted : IsAdmitted g program
   pub input : List ℕ
@@ -62,7 +62,7 @@ pub record HasLongInput (g : Given) : Type 0 where
 
 -- The words and their plan are accepted, and what the files tell for them, or what is generated, is no
 -- program.
-pub record IsUnfit (g : Given) : Type 0 where
+pub record IsUnfit (g : CallInputs) : Type 0 where
   pub command : Command
   pub accepts : Accepts g command
   pub files : Told
@@ -79,7 +79,7 @@ pub record NamesNoMethod (program : Program) (actions : List Action) : Type 0 wh
   pub none : root_in program action.root ≡ None
 
 -- The words generate their program, and an action of their plan names no method of it.
-pub record HasNoRoot (g : Given) : Type 0 where
+pub record HasNoRoot (g : CallInputs) : Type 0 where
   pub command : Command
   pub accepts : Accepts g command
   pub generation : Generation
@@ -89,7 +89,7 @@ pub record HasNoRoot (g : Given) : Type 0 where
       NamesNoMethod (generated_program generation.seed generation.size plan) plan.actions
 
 -- The words are accepted by themselves, and not with their plan, which the files tell.
-pub record HasBadPlan (g : Given) : Type 0 where
+pub record HasBadPlan (g : CallInputs) : Type 0 where
   pub words : Read
   pub read : words_accepted g.words ≡ Some words
   pub telling : IsSome g.told
@@ -102,11 +102,11 @@ abbrev pub IsLong : Option (List ℕ) → Type 0
 IsLong left = IfSome left (λ all. most_input < length all)
 
 -- the words are accepted by themselves, and this holds of them
-abbrev pub OfWords : Given → (Read → Type 0) → Type 0
+abbrev pub OfWords : CallInputs → (Read → Type 0) → Type 0
 OfWords g P = (words : Read) × (words_accepted g.words ≡ Some words) × P words
 
 -- The words are accepted, all of their files are told, or generated, and this holds of the contents.
-pub record OfFiles (g : Given) (P : Command → List (List ℕ) → Type 0) : Type 0 where
+pub record OfFiles (g : CallInputs) (P : Command → List (List ℕ) → Type 0) : Type 0 where
   pub command : Command
   pub accepts : Accepts g command
   pub contents : List (List ℕ)
@@ -114,15 +114,15 @@ pub record OfFiles (g : Given) (P : Command → List (List ℕ) → Type 0) : Ty
   pub holds : P command contents
 
 -- classes are told that are not admitted, for this fault
-abbrev pub OfClasses : Given → AdmitError → Type 0
+abbrev pub OfClasses : CallInputs → AdmitError → Type 0
 OfClasses g fault = OfFiles g (λ k. HasRefused (asked_by k) fault)
 
 -- a program is told
-abbrev pub OfProgram : Given → Type 0
+abbrev pub OfProgram : CallInputs → Type 0
 OfProgram g = OfFiles g (λ k. HasProgram (asked_by k))
 
 -- The words are accepted, and those of their files that stand before this position are told.
-pub record OfFetched (g : Given) (at : ℕ) : Type 0 where
+pub record OfFetched (g : CallInputs) (at : ℕ) : Type 0 where
   pub command : Command
   pub accepts : Accepts g command
   pub within : at < length command.files
@@ -131,7 +131,7 @@ pub record OfFetched (g : Given) (at : ℕ) : Type 0 where
 
 -- The cause of each refusal in what is given; that of a fault is a count beside. Of clap's text
 -- nothing is said.
-abbrev pub Because : Given → Refusal → Type 0
+abbrev pub Because : CallInputs → Refusal → Type 0
 Because g (refusal.Clap text) = AreClaps g.words
 Because g refusal.Words = AreRefused g.words ⊎ OfWords g (HasNoMain g.told)
 Because g (refusal.Plan fault) = OfWords g (λ words. IsFaultOfPlan g.told words fault)

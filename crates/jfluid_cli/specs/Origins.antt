@@ -3,7 +3,7 @@ use Rattle.std.specs.Prelude.{◌≡◌, ◌≤◌, length, IfSome}
 use Rattle.command_line.specs.Input.{most_input}
 use Rattle.jfluid_cli.specs.declared.kept.Kept.{Kept}
 use Rattle.jfluid_cli.specs.Asking.{asked_by}
-use Rattle.jfluid_cli.specs.Causes.{Given, Accepts, AreContentsOf}
+use Rattle.jfluid_cli.specs.Causes.{CallInputs, Accepts, AreContentsOf}
 use Rattle.jfluid_cli.specs.Contents.{SpellAlone, classes_for}
 use Rattle.jfluid_cli.specs.Words.{Command}
 use Rattle.jfluid_cli.specs.Top.{IsProgram}
@@ -12,7 +12,7 @@ use Rattle.jfluid_cli.specs.Top.{IsProgram}
 -- files are what the files tell under the words, in their order, or the bytes of the generated
 -- classes; they are the program that the kept session runs, with the plan's actions, on the kept
 -- input, which is all that the source told.
-pub record HasOrigin (g : Given) (k : Kept) : Type 0 where
+pub record HasOrigin (g : CallInputs) (k : Kept) : Type 0 where
   pub command : Command
   pub accepts : Accepts g command
   pub plan : k.plan ≡ command.plan

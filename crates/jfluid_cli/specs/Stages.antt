@@ -17,7 +17,7 @@ use Rattle.jfluid_cli.specs.declared.refusal.Refusal.TheVariants as refusal
 use Rattle.jfluid_cli.specs.declared.refusal.Refusal.TheVariants.{NotRead, InputFailed, OutFailed, PlanNotFetched, NotFetched, NoMemory, InputTooLong}
 use Rattle.jfluid_cli.specs.Asking.{ProgramWanted, asked_by, IsPlanFor, IsToldPlan}
 use Rattle.jfluid_cli.specs.Calls.{Call, IsTrueOf, IsRunOf, IsRefused}
-use Rattle.jfluid_cli.specs.Causes.{Given, Accepts, AreContentsOf, IsLong, Because}
+use Rattle.jfluid_cli.specs.Causes.{CallInputs, Accepts, AreContentsOf, IsLong, Because}
 use Rattle.jfluid_cli.specs.Contents.{AreFetched, IsFaultAt, SpellAlone, classes_for}
 use Rattle.jfluid_cli.specs.Refusals.{status_of, refusal_of}
 use Rattle.jfluid_cli.specs.Runs.{SameProgram}
@@ -32,7 +32,7 @@ abbrev pub is_before_the_run : ℕ → Bool
 is_before_the_run = is_among (2 ∷ 3 ∷ 7 ∷ 9 ∷ [])
 
 -- A refusal before the input is taken.
-pub record IsBeforeTheRun (g : Given) (r : Refusal) : Type 0 where
+pub record IsBeforeTheRun (g : CallInputs) (r : Refusal) : Type 0 where
   pub cause : Because g r
   pub before_the_run : is_before_the_run (status_of r) ≡ true
 
@@ -66,13 +66,13 @@ IsPlanRefusal told words r =
     ((r ≡ PlanNotFetched) × IsSome words.plan) ⊎ IsFaultOf (IsPlanFor told words) r
 
 -- Words are accepted by themselves, and have this plan.
-pub record AreReadWith (g : Given) (words : Read) (plan : Plan) : Type 0 where
+pub record AreReadWith (g : CallInputs) (words : Read) (plan : Plan) : Type 0 where
   pub read : words_accepted g.words ≡ Some words
   pub planned : IsPlanFor g.told words (Ok plan)
 
 -- What was fetched for a command that asks for this: the contents of its files, or of longer ones
 -- fronts that show it.
-pub record IsFetchedFor (g : Given) (asked : ProgramWanted) (fronts : List (List ℕ)) : Type 0 where
+pub record IsFetchedFor (g : CallInputs) (asked : ProgramWanted) (fronts : List (List ℕ)) : Type 0 where
   pub command : Command
   pub accepts : Accepts g command
   pub asked_is : asked_by command ≡ asked
@@ -88,7 +88,7 @@ pub record IsLoaded (told : Option Told) (k : Command) (contents : List (List �
   pub alone : SpellAlone contents (classes_for contents program)
 
 -- What was prepared for words: what they ask for with their plan, and its program.
-pub record IsPrepared (g : Given) (plan : Plan) (budget : ℕ) (contents : List (List ℕ))
+pub record IsPrepared (g : CallInputs) (plan : Plan) (budget : ℕ) (contents : List (List ℕ))
     (program : Program) : Type 0 where
   pub command : Command
   pub accepts : Accepts g command

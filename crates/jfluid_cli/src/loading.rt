@@ -8,7 +8,7 @@ ghost use Rattle.plan_text.specs.Numbers.{greatest_steps};
 ghost use Rattle.command_line.specs.Words.{IsSound, most_files, read_in, texts};
 ghost use Rattle.jfluid_cli.specs.Actions.{AlternateRoots, CanBeTaken};
 ghost use Rattle.jfluid_cli.specs.Asking.{asked_for};
-ghost use Rattle.jfluid_cli.specs.Causes.{Given};
+ghost use Rattle.jfluid_cli.specs.Causes.{CallInputs};
 ghost use Rattle.jfluid_cli.specs.Contents.{AreFetched, IsFrontFor, SpellsAlone, SpellAlone, classes_for};
 ghost use Rattle.jfluid_cli.specs.Refusals.{is_memory as of_memory, refusal_for as refusal_of_fault, status_of};
 ghost use Rattle.jfluid_cli.specs.Sinks.{files_view};
@@ -110,7 +110,8 @@ fn read_program(
     ensures alone { IfOk result (λ p. SpellAlone contents.now (classes_for contents.now p)) }
     ensures admitted { IfOk result IsAdmitted }
     ensures acts { IfOk result (λ p. CanBeTaken p.acts) }
-    ensures before_the_run { (g : Given) → IsFetchedFor g (asked_for main.now plan.now) contents.now
+    ensures before_the_run { (g : CallInputs)
+        → IsFetchedFor g (asked_for main.now plan.now) contents.now
         →
         IfErr result (IsBeforeTheRun g) }
     ensures without_fault { IfErr result (λ e. status_of e ≢ 7) }
@@ -207,13 +208,13 @@ fn load_files<F: Files>(
     requires own { words.now.generated ≡ None }
     requires within { IsWithin plan.now }
     requires alternate { AlternateRoots [] plan.now.actions }
-    ensures ok { (g : Given) → AreReadWith g (read_in words.now) plan.now →
+    ensures ok { (g : CallInputs) → AreReadWith g (read_in words.now) plan.now →
         g.told ≡ F.contents files.old → IfOk result (λ l.
         IsPrepared g plan.now l.budget l.contents l.program) }
     ensures small { IfOk result (λ l. l.budget ≤ greatest_steps) }
     ensures admitted { IfOk result (λ l. IsAdmitted l.program) }
     ensures acts { IfOk result (λ l. CanBeTaken l.program.acts) }
-    ensures before_the_run { (g : Given) → AreReadWith g (read_in words.now) plan.now →
+    ensures before_the_run { (g : CallInputs) → AreReadWith g (read_in words.now) plan.now →
         g.told ≡ F.contents files.old → IfErr result (IsBeforeTheRun g) }
     ensures stay { F.contents files.new ≡ F.contents files.old }
     ensures without_fault { let old = files_view (F.faults files.old) (F.last_failed files.old) in
@@ -252,12 +253,12 @@ fn load_generated(
     requires own { words.now.generated ≡ Some generation }
     requires within { IsWithin plan.now }
     requires alternate { AlternateRoots [] plan.now.actions }
-    ensures ok { (g : Given) → AreReadWith g (read_in words.now) plan.now →
+    ensures ok { (g : CallInputs) → AreReadWith g (read_in words.now) plan.now →
         IfOk result (λ l. IsPrepared g plan.now l.budget l.contents l.program) }
     ensures small { IfOk result (λ l. l.budget ≤ greatest_steps) }
     ensures admitted { IfOk result (λ l. IsAdmitted l.program) }
     ensures acts { IfOk result (λ l. CanBeTaken l.program.acts) }
-    ensures before_the_run { (g : Given) → AreReadWith g (read_in words.now) plan.now →
+    ensures before_the_run { (g : CallInputs) → AreReadWith g (read_in words.now) plan.now →
         IfErr result (IsBeforeTheRun g) }
     ensures without_fault { IfErr result (λ e. status_of e ≢ 7) }
 {
@@ -284,13 +285,13 @@ fn load<F: Files>(
     requires sound { IsSound (read_in words.now) }
     requires within { IsWithin plan.now }
     requires alternate { AlternateRoots [] plan.now.actions }
-    ensures ok { (g : Given) → AreReadWith g (read_in words.now) plan.now →
+    ensures ok { (g : CallInputs) → AreReadWith g (read_in words.now) plan.now →
         g.told ≡ F.contents files.old → IfOk result (λ l.
         IsPrepared g plan.now l.budget l.contents l.program) }
     ensures small { IfOk result (λ l. l.budget ≤ greatest_steps) }
     ensures admitted { IfOk result (λ l. IsAdmitted l.program) }
     ensures acts { IfOk result (λ l. CanBeTaken l.program.acts) }
-    ensures before_the_run { (g : Given) → AreReadWith g (read_in words.now) plan.now →
+    ensures before_the_run { (g : CallInputs) → AreReadWith g (read_in words.now) plan.now →
         g.told ≡ F.contents files.old → IfErr result (IsBeforeTheRun g) }
     ensures stay { F.contents files.new ≡ F.contents files.old }
     ensures without_fault { let old = files_view (F.faults files.old) (F.last_failed files.old) in
@@ -310,13 +311,13 @@ fn load<F: Files>(
 /// Reads the plan of the words, and loads the classes that they ask for with it.
 pub fn prepare<F: Files>(alloc: Global, words: &Words<'_>, files: &mut F) -> Result<Loaded, Refusal>
     requires sound { IsSound (read_in words.now) }
-    ensures ok { (g : Given) → words_accepted g.words ≡ Some (read_in words.now) →
+    ensures ok { (g : CallInputs) → words_accepted g.words ≡ Some (read_in words.now) →
         g.told ≡ F.contents files.old → IfOk result (λ l.
         IsPrepared g l.plan l.budget l.contents l.program) }
     ensures small { IfOk result (λ l. l.budget ≤ greatest_steps) }
     ensures admitted { IfOk result (λ l. IsAdmitted l.program) }
     ensures acts { IfOk result (λ l. CanBeTaken l.program.acts) }
-    ensures before_the_run { (g : Given) → words_accepted g.words ≡ Some (read_in words.now) →
+    ensures before_the_run { (g : CallInputs) → words_accepted g.words ≡ Some (read_in words.now) →
         g.told ≡ F.contents files.old → IfErr result (IsBeforeTheRun g) }
     ensures stay { F.contents files.new ≡ F.contents files.old }
     ensures without_fault { let old = files_view (F.faults files.old) (F.last_failed files.old) in

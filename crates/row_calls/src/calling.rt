@@ -3,7 +3,7 @@
 ghost use Rattle.std.specs.Prelude.{◌≡◌, IfOk};
 ghost use Rattle.row_calls.specs.Calls.{IsAnswerTo};
 
-use crate::given::{Device, Failure, Given, NamedFile};
+use crate::given::{Device, Failure, NamedFile, RowInput};
 use jf_bytes::{MemFiles, MemSink, MemSource, NoMemory, Seq};
 use jfluid_cli::{Devices, jfluid};
 use std::alloc::{AllocError, Global};
@@ -61,10 +61,10 @@ fn sink_of(alloc: Global, failures: &[Failure], device: Device) -> Result<MemSin
 }
 
 /// The objects that hold what a row gives.
-fn objects_of(alloc: Global, given: Given) -> Result<Objects, NoMemory>
+fn objects_of(alloc: Global, given: RowInput) -> Result<Objects, NoMemory>
     ensures { IfOk result (λ objects. objects.words ≡ given.words) }
 {
-    let Given {
+    let RowInput {
         words,
         files,
         input,
@@ -107,7 +107,7 @@ fn answer_of(alloc: Global, objects: Objects) -> Result<Answer, NoMemory>
 }
 
 /// What comes of what a row gives.
-pub fn answer_to(alloc: Global, given: Given) -> Result<Answer, NoMemory>
+pub fn answer_to(alloc: Global, given: RowInput) -> Result<Answer, NoMemory>
     ensures { IfOk result (λ a. IsAnswerTo given.words a.status) }
 {
     let objects = objects_of(alloc, given)?;

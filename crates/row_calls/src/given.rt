@@ -29,7 +29,7 @@ pub struct NamedFile {
 
 /// What a row gives: the words, the program's name among them, and what is in the objects.
 #[derive(Drop)]
-pub struct Given {
+pub struct RowInput {
     pub words: Seq<Seq<u8>>,
     pub files: Vec<NamedFile>,
     pub input: Vec<u8>,

@@ -5,4 +5,4 @@ mod calling;
 mod given;
 
 pub use calling::{Answer, answer_to};
-pub use given::{Device, Failure, Given, NamedFile};
+pub use given::{Device, Failure, NamedFile, RowInput};

@@ -9,7 +9,7 @@ use crate::lines::lines_in;
 use crate::lists::lines_of;
 use crate::parts::{RowError, fetch_file, fetch_part};
 use jf_bytes::{Files, Seq};
-use row_calls::{Device, Failure, Given, NamedFile};
+use row_calls::{Device, Failure, NamedFile, RowInput};
 use std::alloc::{AllocError, Global};
 
 /// A line of the file `given`.
@@ -104,7 +104,7 @@ fn take_line<F: Files>(
     alloc: Global,
     text: &str,
     front: usize,
-    given: &mut Given,
+    given: &mut RowInput,
     files: &mut F,
 ) -> Result<(), RowError>
     ensures words { given.new.words ≡ given.old.words }
@@ -201,13 +201,13 @@ pub fn read_given<F: Files>(
     row: &str,
     front: usize,
     files: &mut F,
-) -> Result<Given, RowError>
+) -> Result<RowInput, RowError>
     ensures words { IfOk result (λ given. IfSome (F.contents files.old) (λ told.
         HasWords told row.now given.words)) }
     ensures stay { F.contents files.new ≡ F.contents files.old }
 {
     let args = fetch_part(alloc, row, "args", files)?;
-    let mut given = Given {
+    let mut given = RowInput {
         words: words_of(alloc, &args)?,
         files: Vec::new(alloc),
         input: Vec::new(alloc),

@@ -102,7 +102,7 @@ fn rows() -> &'static [Row] {
 /// What the linker gives: a member, the place of an error's class among the built-in ones, no method, or whether it holds. It is not
 /// asked of a class that could not be loaded.
 #[derive(Clone, Copy)]
-enum Given {
+enum LinkerAnswer {
     Member(u32, u16),
     Throws(u16),
     NoMethod,
@@ -116,36 +116,36 @@ fn class_of(alloc: Global, linker: &mut Linker, name: &str) -> Result<u32, Fail>
     Ok(class_named(linker, name))
 }
 
-fn load(alloc: Global, linker: &mut Linker, name: &str) -> Result<Given, Fail> {
+fn load(alloc: Global, linker: &mut Linker, name: &str) -> Result<LinkerAnswer, Fail> {
     Ok(match linker.load(&text(alloc, name)?) {
-        Loaded::New(_, _) => Given::Holds(true),
-        Loaded::Already(_) => Given::Holds(true),
-        Loaded::Throws(error, _, _) => Given::Throws(error),
-        Loaded::NoMemory => Given::NotAsked,
+        Loaded::New(_, _) => LinkerAnswer::Holds(true),
+        Loaded::Already(_) => LinkerAnswer::Holds(true),
+        Loaded::Throws(error, _, _) => LinkerAnswer::Throws(error),
+        Loaded::NoMemory => LinkerAnswer::NotAsked,
     })
 }
 
-fn is_subtype(alloc: Global, linker: &mut Linker, below: &str, above: &str) -> Given {
+fn is_subtype(alloc: Global, linker: &mut Linker, below: &str, above: &str) -> LinkerAnswer {
     match subtype(alloc, linker, below, above) {
-        Some(holds) => Given::Holds(holds),
-        None => Given::NotAsked,
+        Some(holds) => LinkerAnswer::Holds(holds),
+        None => LinkerAnswer::NotAsked,
     }
 }
 
-fn given_of(resolved: Resolved) -> Given {
+fn given_of(resolved: Resolved) -> LinkerAnswer {
     match resolved {
-        Resolved::Found(class, position) => Given::Member(class, position),
-        Resolved::Throws(error) => Given::Throws(error),
+        Resolved::Found(class, position) => LinkerAnswer::Member(class, position),
+        Resolved::Throws(error) => LinkerAnswer::Throws(error),
     }
 }
 
-fn field(alloc: Global, linker: &mut Linker, reference: Reference) -> Result<Given, Fail> {
+fn field(alloc: Global, linker: &mut Linker, reference: Reference) -> Result<LinkerAnswer, Fail> {
     let (class, name, descriptor) = reference;
     let class = class_of(alloc, linker, class)?;
     let name = text(alloc, name)?;
     let descriptor = text(alloc, descriptor)?;
     if !is_loaded(linker, class) {
-        return Ok(Given::NotAsked);
+        return Ok(LinkerAnswer::NotAsked);
     }
     Ok(given_of(linker.resolve_field(class, &name, &descriptor)))
 }
@@ -155,13 +155,13 @@ fn method(
     linker: &mut Linker,
     interface: bool,
     reference: Reference,
-) -> Result<Given, Fail> {
+) -> Result<LinkerAnswer, Fail> {
     let (class, name, descriptor) = reference;
     let class = class_of(alloc, linker, class)?;
     let name = text(alloc, name)?;
     let descriptor = text(alloc, descriptor)?;
     if !is_loaded(linker, class) {
-        return Ok(Given::NotAsked);
+        return Ok(LinkerAnswer::NotAsked);
     }
     let resolved = linker.resolve_method(class, interface, &name, &descriptor);
     Ok(given_of(resolved))
@@ -176,9 +176,15 @@ enum By {
 }
 
 /// What is invoked for the method at a position of a class: by an object of the subject, or by invokespecial in a method of it.
-fn method_invoked(linker: &Linker, subject: u32, by: By, class: u32, position: u16) -> Given {
+fn method_invoked(
+    linker: &Linker,
+    subject: u32,
+    by: By,
+    class: u32,
+    position: u16,
+) -> LinkerAnswer {
     if !is_loaded(linker, subject) {
-        return Given::NotAsked;
+        return LinkerAnswer::NotAsked;
     }
     let found = match by {
         By::Virtual => linker.select(subject, class, position, false),
@@ -186,8 +192,8 @@ fn method_invoked(linker: &Linker, subject: u32, by: By, class: u32, position: u
         By::Special => linker.special(subject, class, position),
     };
     match found {
-        Some((class, position)) => Given::Member(class, position),
-        None => Given::NoMethod,
+        Some((class, position)) => LinkerAnswer::Member(class, position),
+        None => LinkerAnswer::NoMethod,
     }
 }
 
@@ -197,17 +203,23 @@ fn invoke(
     subject: &str,
     by: By,
     reference: Reference,
-) -> Result<Given, Fail> {
+) -> Result<LinkerAnswer, Fail> {
     let subject = class_of(alloc, linker, subject)?;
     Ok(
         match method(alloc, linker, by == By::Interface, reference)? {
-            Given::Member(class, position) => method_invoked(linker, subject, by, class, position),
-            _ => Given::NotAsked,
+            LinkerAnswer::Member(class, position) => method_invoked(
+                linker, subject, by, class, position,
+            ),
+            _ => LinkerAnswer::NotAsked,
         },
     )
 }
 
-fn answer_to(alloc: Global, linker: &mut Linker, question: &LinkerQuestion) -> Result<Given, Fail> {
+fn answer_to(
+    alloc: Global,
+    linker: &mut Linker,
+    question: &LinkerQuestion,
+) -> Result<LinkerAnswer, Fail> {
     match question {
         LinkerQuestion::Load(name) => load(alloc, linker, name),
         LinkerQuestion::Subtype(below, above) => Ok(is_subtype(alloc, linker, below, above)),
@@ -234,19 +246,20 @@ fn answer_to(alloc: Global, linker: &mut Linker, question: &LinkerQuestion) -> R
     }
 }
 
-fn is_wanted(linker: &Linker, given: &Given, wanted: &Answer) -> bool {
+fn is_wanted(linker: &Linker, given: &LinkerAnswer, wanted: &Answer) -> bool {
     match wanted {
         Answer::In(name, place) => match given {
-            Given::Member(class, position) => position == place && is_named(linker, *class, name),
+            LinkerAnswer::Member(class, position) => position == place
+                && is_named(linker, *class, name),
             _ => false,
         },
         Answer::Throws(name) => match given {
-            Given::Throws(error) => built_in_name(*error as usize) == Some(*name),
-            Given::NoMethod => *name == ABSTRACT_METHOD,
+            LinkerAnswer::Throws(error) => built_in_name(*error as usize) == Some(*name),
+            LinkerAnswer::NoMethod => *name == ABSTRACT_METHOD,
             _ => false,
         },
         Answer::Holds(due) => match given {
-            Given::Holds(holds) => holds == due,
+            LinkerAnswer::Holds(holds) => holds == due,
             _ => false,
         },
     }

@@ -11,7 +11,7 @@ use Rattle.jvm_model.specs.Instructions.Does.{loads}
 use Rattle.jvm_model.specs.Instructions.SymbolicReference.{newly_loaded}
 use Rattle.jvm_model.specs.Turns.Rest.{loads_at, loads_on}
 use Rattle.jvm_model.specs.Running.Run.{with_loaded}
-use Rattle.member_selection.specs.declared.outcome.Outcome.{Outcome as Given}
+use Rattle.member_selection.specs.declared.outcome.Outcome.{Outcome as CodeOutcome}
 use Rattle.member_selection.specs.Answers.{done_on}
 use Rattle.member_selection.specs.Attempts.{attempts, is_loaded, loaded_for}
 use Rattle.member_selection.specs.Outcomes.{outcome_by_rule, outcome_in_frame}
@@ -116,13 +116,13 @@ module _ (w : Setup) (ms : List Initialization) (p : Parts) (going : p.ending �
 
 -- ---- where it has answered, it has answered as in one part
 
-pub told-answers : (w : Setup) (lo : Option Line) (p : Parts) (o : Option Given) (a : Given) → o ≡ Some a
+pub told-answers : (w : Setup) (lo : Option Line) (p : Parts) (o : Option CodeOutcome) (a : CodeOutcome) → o ≡ Some a
     → IfNamed lo (λ n next. IfSome o (λ a. outcome_in_frame a p.frames ≡ outcome_by_rule (attempts w.world n p.runtime.shared p.frames) p.frames))
     → IfNamed lo (λ n next. outcome_in_frame a p.frames ≡ outcome_by_rule (attempts w.world n p.runtime.shared p.frames) p.frames)
 told-answers w lo p o a is answers =
     subst (λ x. IfNamed lo (λ n next. IfSome x (λ b. outcome_in_frame b p.frames ≡ outcome_by_rule (attempts w.world n p.runtime.shared p.frames) p.frames))) is answers
 
-pub told-leaves : (w : Setup) (lo : Option Line) (p : Parts) (o : Option Given) (a : Given) (left : RuntimeView) → o ≡ Some a
+pub told-leaves : (w : Setup) (lo : Option Line) (p : Parts) (o : Option CodeOutcome) (a : CodeOutcome) (left : RuntimeView) → o ≡ Some a
     → IfNamed lo (λ n next. IfSome o (λ a. left ≡ after (done_on (attempts w.world n p.runtime.shared p.frames) p.frames) p.runtime))
     → IfNamed lo (λ n next. left ≡ after (done_on (attempts w.world n p.runtime.shared p.frames) p.frames) p.runtime)
 told-leaves w lo p o a left is leaves =
@@ -131,7 +131,7 @@ told-leaves w lo p o a left is leaves =
 -- ---- where it has loaded, it has done nothing else
 
 module _ (w : Setup) (ms : List Initialization) (p : Parts) (going : p.ending ≡ None) (here : Here) (is_named_there : named_in (line_at w.versions here.version here.place) ≡ true)
-    (at : here_of p.frames.frames ≡ Some here) (none : initialization_on (length p.frames.frames) ms ≡ None) (o : Option Given)
+    (at : here_of p.frames.frames ≡ Some here) (none : initialization_on (length p.frames.frames) ms ≡ None) (o : Option CodeOutcome)
     (some : IfNamed (line_at w.versions here.version here.place) (λ n next. is_some o ≡ is_loaded w.world n p.runtime.shared p.frames)) where
   -- whether it has
   pub apart-loads : is_some o ≡ loads_none w (state_of ms p)

@@ -18,7 +18,7 @@ use Rattle.command_line.specs.declared.words.Generation.{Generation}
 use Rattle.jfluid_cli.specs.declared.refusal.Refusal.{Refusal}
 use Rattle.jfluid_cli.specs.declared.refusal.Refusal.TheVariants.{Clap, Words, Plan as BadPlan, NotRead, NotAdmitted, InputFailed, OutFailed, PlanNotFetched, NotFetched, NoMemory, InputTooLong}
 use Rattle.jfluid_cli.specs.Asking.{asked_by}
-use Rattle.jfluid_cli.specs.Causes.{Given, AreContentsOf, Because, HasNoRoot, IsUnfit, NamesNoMethod}
+use Rattle.jfluid_cli.specs.Causes.{CallInputs, AreContentsOf, Because, HasNoRoot, IsUnfit, NamesNoMethod}
 use Rattle.jfluid_cli.specs.Contents.{AreContentsBy, SpellAlone, classes_for}
 use Rattle.jfluid_cli.specs.Refusals.{status_of}
 use Rattle.jfluid_cli.specs.Top.{IsProgram, answer_for}
@@ -63,7 +63,7 @@ contents-generated : (told : Option Told) (k : Command) (o : Generation) (conten
 contents-generated told k o contents own is =
     subst (λ (x : Option Generation). AreContentsBy told x k.files contents) own is
 
-pub three-rootless : (g : Given) (r : Refusal) → Because g r → status_of r ≡ 3 → is_generated g.words ≡ true
+pub three-rootless : (g : CallInputs) (r : Refusal) → Because g r → status_of r ≡ 3 → is_generated g.words ≡ true
     → HasNoRoot g
 three-rootless g (NotRead at fault) cause three e =
     let k = cause.command in
@@ -132,7 +132,7 @@ none-rooted k o p is h program =
 not-both : false ≡ true → ⊥
 not-both e = cc e
 
-pub rootless-unfit : (g : Given) → HasNoRoot g → IsSome g.told → IsUnfit g
+pub rootless-unfit : (g : CallInputs) → HasNoRoot g → IsSome g.told → IsUnfit g
 rootless-unfit g h some = by g.told refl some
   where
     by : (told : Option Told) → g.told ≡ told → IsSome told → IsUnfit g

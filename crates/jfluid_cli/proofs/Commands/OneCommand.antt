@@ -14,7 +14,7 @@ use Rattle.plan_text.proofs.OneAnswer.{plan_read-one}
 use Rattle.command_line.specs.Chosen.{IsOwnPlan}
 use Rattle.command_line.specs.Words.{Read}
 use Rattle.jfluid_cli.specs.Asking.{IsMisplanned, IsPlanBy, IsPlanFor, IsToldPlan}
-use Rattle.jfluid_cli.specs.Causes.{Given, Accepts}
+use Rattle.jfluid_cli.specs.Causes.{CallInputs, Accepts}
 use Rattle.jfluid_cli.specs.Words.{Command, words_accepted, command_for, command_of}
 
 abbrev Answer : Type 0
@@ -73,11 +73,11 @@ by-other (Some files) root (Some name) a fault tells left right other =
 
 -- ---- what words ask for
 
-same-words : (g : Given) (words others : Read) → words_accepted g.words ≡ Some words → words_accepted g.words ≡ Some others
+same-words : (g : CallInputs) (words others : Read) → words_accepted g.words ≡ Some words → words_accepted g.words ≡ Some others
     → words ≡ others
 same-words g words others left right = same_Some words others (sym left ∙ right)
 
-pub one-command : (g : Given) (k l : Command) → IsSome g.told → Accepts g k → Accepts g l → k ≡ l
+pub one-command : (g : CallInputs) (k l : Command) → IsSome g.told → Accepts g k → Accepts g l → k ≡ l
 one-command g k l tells left right =
     let same : left.words ≡ right.words = same-words g left.words right.words left.read right.read in
     let here : IsPlanFor g.told right.words (Ok k.plan) =
@@ -89,7 +89,7 @@ one-command g k l tells left right =
     ∙ (ap (λ (p : Plan). command_for right.words p) plan ∙ right.asked)))
 
 -- words that are accepted with their plan are not refused for it
-pub not-misplanned : (g : Given) (words : Read) (k : Command) → IsSome g.told → words_accepted g.words ≡ Some words
+pub not-misplanned : (g : CallInputs) (words : Read) (k : Command) → IsSome g.told → words_accepted g.words ≡ Some words
     → IsMisplanned g.told words → Accepts g k → ⊥
 not-misplanned g words k tells read (inl (fault, is)) accepts =
     let here : IsPlanFor g.told words (Ok k.plan) =
@@ -110,5 +110,5 @@ not-misplanned g words k tells read (inr main) accepts =
 
 -- ---- the command of words and plan
 
-pub commanded : (g : Given) (k : Command) → Accepts g k → command_of g.words k.plan ≡ Some k
+pub commanded : (g : CallInputs) (k : Command) → Accepts g k → command_of g.words k.plan ≡ Some k
 commanded g k accepts = ap (option_and_then (λ (r : Read). command_for r k.plan)) accepts.read ∙ accepts.asked

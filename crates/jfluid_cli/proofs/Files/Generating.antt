@@ -18,7 +18,7 @@ use Rattle.command_line.specs.Chosen.{Chosen, run_chosen, chosen_for, either}
 use Rattle.command_line.specs.Words.{IsGeneration, IsSound, Read, generated_main}
 use Rattle.jfluid_cli.specs.declared.refusal.Refusal.TheVariants.{NotAdmitted, NoMemory}
 use Rattle.jfluid_cli.specs.Asking.{asked_by}
-use Rattle.jfluid_cli.specs.Causes.{Given, Accepts, AreContentsOf}
+use Rattle.jfluid_cli.specs.Causes.{CallInputs, Accepts, AreContentsOf}
 use Rattle.jfluid_cli.specs.Contents.{AreContentsBy, SpellAlone, SpellsAlone}
 use Rattle.jfluid_cli.specs.Refusals.{is_memory, refusal_for}
 use Rattle.jfluid_cli.specs.Stages.{IsBeforeTheRun, IsLoaded}
@@ -100,7 +100,7 @@ not-both : false ≡ true → ⊥
 not-both e = cc e
 
 -- a fault of admission that is no want of memory
-pub due-generated : (g : Given) (k : Command) (o : Generation) (fault : AdmitError) → Accepts g k → IsGeneratedOf k o
+pub due-generated : (g : CallInputs) (k : Command) (o : Generation) (fault : AdmitError) → Accepts g k → IsGeneratedOf k o
     → IsRefusedFor (admission_of_generated o.seed o.size k.plan) fault → IsBeforeTheRun g (refusal_for fault)
 due-generated g k o fault accepts is refused = by (is_memory fault) refl where
   by : (b : Bool) → is_memory fault ≡ b → IsBeforeTheRun g (cond b NoMemory (NotAdmitted fault))
@@ -134,7 +134,7 @@ choice-of words p k asked = by (run_chosen words p) refl asked
     by (Some c) e asked = record { choice = c; is = sym e; with = same_Some (command_with words p c) k asked }
 
 -- a command that is accepted and generates its program has all that is asked of one
-pub generated-of : (g : Given) (k : Command) (o : Generation) → Accepts g k → k.generated ≡ Some o → IsGeneratedOf k o
+pub generated-of : (g : CallInputs) (k : Command) (o : Generation) → Accepts g k → k.generated ≡ Some o → IsGeneratedOf k o
 generated-of g k o a own =
     let made = choice-of a.words k.plan k a.asked in
     subst (λ (x : Command). IsGeneratedOf x o) made.with
@@ -142,7 +142,7 @@ generated-of g k o a own =
     (ap (λ (x : Command). x.generated) made.with ∙ own) made.is)
 
 -- and so has one whose words are
-pub generated-by : (g : Given) (k : Command) (a : Accepts g k) → is_some a.words.generated ≡ true
+pub generated-by : (g : CallInputs) (k : Command) (a : Accepts g k) → is_some a.words.generated ≡ true
     → (o : Generation) × IsGeneratedOf k o
 generated-by g k a some = by k.generated refl
   where

@@ -13,7 +13,7 @@ use Rattle.jfluid_cli.specs.declared.kept.Kept.{Kept}
 use Rattle.jfluid_cli.specs.declared.refusal.Refusal.{Refusal}
 use Rattle.jfluid_cli.specs.declared.refusal.Refusal.TheVariants.{Clap, Words, Plan as BadPlan, NotRead, NotAdmitted, InputFailed, OutFailed, PlanNotFetched, NotFetched, NoMemory, InputTooLong}
 use Rattle.jfluid_cli.specs.Asking.{asked_by, HasBadRoot, IsPlanBy, IsPlanFor}
-use Rattle.jfluid_cli.specs.Causes.{Given, Accepts, AreContentsOf, HasLongInput, IsAccepted, IsAdmitted, IsLong, IsUnfit, OfProgram, OfWords, Because}
+use Rattle.jfluid_cli.specs.Causes.{CallInputs, Accepts, AreContentsOf, HasLongInput, IsAccepted, IsAdmitted, IsLong, IsUnfit, OfProgram, OfWords, Because}
 use Rattle.jfluid_cli.specs.Contents.{AreContentsBy, AreToldAs}
 use Rattle.jfluid_cli.specs.Origins.{HasOrigin}
 use Rattle.jfluid_cli.specs.Refusals.{status_of}
@@ -44,14 +44,14 @@ by-status InputTooLong P two three five six seven nine eleven = eleven refl
 abbrev pub IsTwoOrNine : Refusal → Type 0
 IsTwoOrNine r = (status_of r ≡ 2) ⊎ (status_of r ≡ 9)
 
-abbrev AreRead : Given → Type 0
+abbrev AreRead : CallInputs → Type 0
 AreRead g = (words : Read) × (words_accepted g.words ≡ Some words)
 
-read-by : (g : Given) (k : Command) → Accepts g k → AreRead g
+read-by : (g : CallInputs) (k : Command) → Accepts g k → AreRead g
 read-by g k accepts = (accepts.words, accepts.read)
 
 -- any but 2 and 9 comes only where the words are accepted by themselves
-pub read-or : (g : Given) (r : Refusal) → Because g r → IsTwoOrNine r ⊎ AreRead g
+pub read-or : (g : CallInputs) (r : Refusal) → Because g r → IsTwoOrNine r ⊎ AreRead g
 read-or g (Clap text) cause = inl (inl refl)
 read-or g Words cause = inl (inl refl)
 read-or g (BadPlan fault) cause = inl (inl refl)
@@ -64,11 +64,11 @@ read-or g (NotFetched at) cause = inr (read-by g cause.command cause.accepts)
 read-or g NoMemory cause = inl (inr refl)
 read-or g InputTooLong cause = inr (read-by g cause.0.command cause.0.accepts)
 
-abbrev pub AreAccepted : Given → Type 0
+abbrev pub AreAccepted : CallInputs → Type 0
 AreAccepted g = (k : Command) × Accepts g k
 
 -- and any but these and that of the plan's fetch only where they are accepted with their plan
-pub accepted-or : (g : Given) (r : Refusal) → Because g r → IsTwoOrNine r ⊎ ((r ≡ PlanNotFetched) ⊎ AreAccepted g)
+pub accepted-or : (g : CallInputs) (r : Refusal) → Because g r → IsTwoOrNine r ⊎ ((r ≡ PlanNotFetched) ⊎ AreAccepted g)
 accepted-or g (Clap text) cause = inl (inl refl)
 accepted-or g Words cause = inl (inl refl)
 accepted-or g (BadPlan fault) cause = inl (inl refl)
@@ -82,7 +82,7 @@ accepted-or g NoMemory cause = inl (inr refl)
 accepted-or g InputTooLong cause = inr (inr (cause.0.command, cause.0.accepts))
 
 -- 2 comes only where words and plan are not accepted
-pub two-refused : (g : Given) (r : Refusal) (k : Command) → IsSome g.told → Because g r → status_of r ≡ 2
+pub two-refused : (g : CallInputs) (r : Refusal) (k : Command) → IsSome g.told → Because g r → status_of r ≡ 2
     → Accepts g k → ⊥
 two-refused g (Clap text) k tells cause two accepts =
     none-some accepts.words (sym (accepted-claps g.words cause) ∙ accepts.read)
@@ -108,7 +108,7 @@ own-bad told root named word p none given is =
     subst (λ (o : Option (List ℕ)). IsOwnPlan o (Ok p)) given
     (subst (λ (o : Option (List ℕ)). IsPlanBy told root o (Ok p)) none is)
 
-pub not-rooted : (g : Given) (k : Command) → OfWords g HasBadRoot → Accepts g k → ⊥
+pub not-rooted : (g : CallInputs) (k : Command) → OfWords g HasBadRoot → Accepts g k → ⊥
 not-rooted g k (words, read, bad) accepts =
     let same : accepts.words ≡ words = same_Some accepts.words words (sym accepts.read ∙ read) in
     let here : IsPlanFor g.told words (Ok k.plan) =
@@ -117,7 +117,7 @@ not-rooted g k (words, read, bad) accepts =
     bad.none own.0 own.1
 
 -- nor do they name a plan's file
-pub not-named : (g : Given) (r : Refusal) → OfWords g HasBadRoot → Because g r → r ≡ PlanNotFetched → ⊥
+pub not-named : (g : CallInputs) (r : Refusal) → OfWords g HasBadRoot → Because g r → r ≡ PlanNotFetched → ⊥
 not-named g r (words, read, bad) cause is =
     let of : Because g PlanNotFetched = subst (Because g) is cause in
     let same : of.0 ≡ words = same_Some of.0 words (sym of.1 ∙ read) in
@@ -161,7 +161,7 @@ same-contents told a b files left right same telling first second =
     second
 
 -- contents of no program are not admitted
-none-admitted : (g : Given) (k : Command) (contents : List (List ℕ)) (p : Program) → Accepts g k
+none-admitted : (g : CallInputs) (k : Command) (contents : List (List ℕ)) (p : Program) → Accepts g k
     → AreContentsOf g.told k contents → HasNoProgram (asked_by k) contents → IsAdmitted g p → ⊥
 none-admitted g k contents p accepts told_as none a =
     let same : k ≡ a.command = one-command g k a.command (tells g.told a.files a.telling) accepts a.accepts in
@@ -172,7 +172,7 @@ none-admitted g k contents p accepts told_as none a =
     (subst (λ (x : Command). IsProgram (asked_by x) a.contents p) (sym same) a.program_is))
 
 -- 3 comes only where no program is told
-pub three-refused : (g : Given) (r : Refusal) (p : Program) → Because g r → status_of r ≡ 3 → IsAdmitted g p → ⊥
+pub three-refused : (g : CallInputs) (r : Refusal) (p : Program) → Because g r → status_of r ≡ 3 → IsAdmitted g p → ⊥
 three-refused g (NotRead at fault) p cause three a =
     none-admitted g cause.command cause.contents p cause.accepts cause.told_as
     (none-faulty (asked_by cause.command) cause.contents at fault cause.holds) a
@@ -190,7 +190,7 @@ three-refused g NoMemory p cause three a = absurd cc
 three-refused g InputTooLong p cause three a = absurd cc
 
 -- 5, 6 and 11 come only where a program is told
-pub program-told : (g : Given) (r : Refusal) → Because g r → is_among (5 ∷ 6 ∷ 11 ∷ []) (status_of r) ≡ true
+pub program-told : (g : CallInputs) (r : Refusal) → Because g r → is_among (5 ∷ 6 ∷ 11 ∷ []) (status_of r) ≡ true
     → OfProgram g
 program-told g InputFailed cause late = cause
 program-told g OutFailed cause late = cause
@@ -205,7 +205,7 @@ program-told g (NotFetched at) cause late = absurd cc
 program-told g NoMemory cause late = absurd cc
 
 -- contents that are a program are not unfit
-pub not-unfit : (g : Given) → OfProgram g → IsUnfit g → ⊥
+pub not-unfit : (g : CallInputs) → OfProgram g → IsUnfit g → ⊥
 not-unfit g of u =
     let same : of.command ≡ u.command =
     one-command g of.command u.command (tells g.told u.files u.telling) of.accepts u.accepts in
@@ -218,7 +218,7 @@ not-unfit g of u =
 -- ---- the input
 
 -- 11 comes only where there is too much
-pub long-told : (g : Given) (r : Refusal) → Because g r → status_of r ≡ 11 → IsLong g.left
+pub long-told : (g : CallInputs) (r : Refusal) → Because g r → status_of r ≡ 11 → IsLong g.left
 long-told g InputTooLong cause eleven = cause.1
 long-told g (Clap text) cause eleven = absurd cc
 long-told g Words cause eleven = absurd cc
@@ -231,18 +231,18 @@ long-told g PlanNotFetched cause eleven = absurd cc
 long-told g (NotFetched at) cause eleven = absurd cc
 long-told g NoMemory cause eleven = absurd cc
 
-pub not-long : (g : Given) (p : Program) → IsLong g.left → IsAccepted g p → ⊥
+pub not-long : (g : CallInputs) (p : Program) → IsLong g.left → IsAccepted g p → ⊥
 not-long g p long a =
     let more : most_input < length a.input = subst IsLong a.input_is long in
     let few : length a.input ≤ most_input = a.short in
     absurd (omega arith)
 
 -- what is kept has an input within the limit
-pub kept-input : (g : Given) (k : Kept) (all : List ℕ) → HasOrigin g k → g.left ≡ Some all → k.input ≡ all
+pub kept-input : (g : CallInputs) (k : Kept) (all : List ℕ) → HasOrigin g k → g.left ≡ Some all → k.input ≡ all
 kept-input g k all o left =
     subst (λ (x : Option (List ℕ)). IfSome x (λ bytes. k.input ≡ bytes)) left o.input
 
-pub kept-short : (g : Given) (k : Kept) → HasOrigin g k → HasLongInput g → ⊥
+pub kept-short : (g : CallInputs) (k : Kept) → HasOrigin g k → HasLongInput g → ⊥
 kept-short g k o l =
     let same : k.input ≡ l.input = kept-input g k l.input o l.input_is in
     let more : most_input < length l.input = l.long in
@@ -250,7 +250,7 @@ kept-short g k o l =
     absurd (omega (arith, ap length same, more, few))
 
 -- what is kept is a program
-pub kept-program : (g : Given) (k : Kept) → HasOrigin g k → OfProgram g
+pub kept-program : (g : CallInputs) (k : Kept) → HasOrigin g k → OfProgram g
 kept-program g k o = record {
   command = o.command;
   accepts = o.accepts;

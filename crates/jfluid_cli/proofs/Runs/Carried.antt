@@ -15,7 +15,7 @@ use Rattle.jfluid_cli.specs.declared.refusal.Refusal.{Refusal}
 use Rattle.jfluid_cli.specs.declared.refusal.Refusal.TheVariants.{Clap, Words, Plan as BadPlan, NotRead, NotAdmitted, InputFailed, OutFailed, PlanNotFetched, NotFetched, NoMemory, InputTooLong}
 use Rattle.jfluid_cli.specs.Calls.{Call, given_of, words_of, IsRun, IsRunAsked, IsTrueOf, IsRefused, PutsImages}
 use Rattle.jfluid_cli.specs.Asking.{asked_by}
-use Rattle.jfluid_cli.specs.Causes.{Given, AreContentsOf, OfProgram}
+use Rattle.jfluid_cli.specs.Causes.{CallInputs, AreContentsOf, OfProgram}
 use Rattle.jfluid_cli.specs.Sinks.{FilesView, SourceView, Streams, FailsOnce, IsUntold}
 use Rattle.jfluid_cli.specs.Contents.{SpellAlone, classes_for}
 use Rattle.jfluid_cli.specs.Stages.{IsBeforeTheRun, IsInputRefusal, IsPrepared, HasFetchCause, is_before_the_run, IsStopped, IsSameRun, IsCarried}
@@ -163,7 +163,7 @@ carried-memory c none out report images calm rest = record {
 -- ---- the input
 
 -- what was prepared is a program
-pub of-program : (g : Given) (plan : Plan) (budget : ℕ) (contents : List (List ℕ)) (program : Program)
+pub of-program : (g : CallInputs) (plan : Plan) (budget : ℕ) (contents : List (List ℕ)) (program : Program)
     → IsPrepared g plan budget contents program → OfProgram g
 of-program g plan budget contents program is = record {
   command = is.command;

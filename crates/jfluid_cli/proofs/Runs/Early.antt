@@ -17,7 +17,7 @@ use Rattle.jfluid_cli.specs.declared.refusal.Refusal.TheVariants as refusal
 use Rattle.jfluid_cli.specs.declared.refusal.Refusal.TheVariants.{NotRead, NotAdmitted, PlanNotFetched, NotFetched, NoMemory}
 use Rattle.jfluid_cli.specs.Refusals.{is_memory, refusal_for, refusal_of, status_of}
 use Rattle.jfluid_cli.specs.Asking.{ProgramWanted, asked_by, IsPlanFor}
-use Rattle.jfluid_cli.specs.Causes.{Given, Accepts, AreContentsOf, Because, OfClasses}
+use Rattle.jfluid_cli.specs.Causes.{CallInputs, Accepts, AreContentsOf, Because, OfClasses}
 use Rattle.jfluid_cli.specs.Contents.{AreContentsBy, AreFetched, AreToldAs, SpellAlone, classes_for}
 use Rattle.jfluid_cli.specs.Sinks.{FilesView}
 use Rattle.jfluid_cli.specs.Stages.{AreReadWith, HasFetchCause, IsFetchedFor, IsFetchFault, IsFetchRefusal, IsPlanRefusal, IsReadRefusal, IsWordsRefusal, IsBeforeTheRun, IsLoaded, is_before_the_run}
@@ -29,7 +29,7 @@ use Rattle.jfluid_cli.proofs.Files.ToldFiles.{told-contents, fronts-files, front
 -- ---- the words and their plan
 
 -- words that are refused
-pub due-words : (g : Given) (r : Refusal) → IsWordsRefusal g.words r → IsBeforeTheRun g r
+pub due-words : (g : CallInputs) (r : Refusal) → IsWordsRefusal g.words r → IsBeforeTheRun g r
 due-words g (refusal.Clap text) is = record { cause = is; before_the_run = refl }
 due-words g refusal.Words is = record { cause = inl is; before_the_run = refl }
 due-words g refusal.NoMemory is = record { cause = tt; before_the_run = refl }
@@ -43,11 +43,11 @@ due-words g (NotFetched at) is = absurd is
 due-words g refusal.InputTooLong is = absurd is
 
 -- want of memory always is due
-pub due-memory : (g : Given) → IsBeforeTheRun g NoMemory
+pub due-memory : (g : CallInputs) → IsBeforeTheRun g NoMemory
 due-memory g = record { cause = tt; before_the_run = refl }
 
 -- a plan that has a fault
-due-fault-of : (g : Given) (words : Read) (fault : PlanError) → words_accepted g.words ≡ Some words
+due-fault-of : (g : CallInputs) (words : Read) (fault : PlanError) → words_accepted g.words ≡ Some words
     → ((fault ≡ plan.NoMemory → ⊥) → IsPlanFor g.told words (Err fault)) → IsBeforeTheRun g (refusal_of fault)
 due-fault-of g words plan.TooLong read is =
     record { cause = (words, read, record { fault_is = is (λ e. cc e); other = λ e. cc e }); before_the_run = refl }
@@ -63,7 +63,7 @@ due-fault-of g words (plan.TooMany number) read is =
     record { cause = (words, read, record { fault_is = is (λ e. cc e); other = λ e. cc e }); before_the_run = refl }
 due-fault-of g words plan.NoMemory read is = due-memory g
 
-pub due-plan : (g : Given) (words : Read) (told : Option Told) (r : Refusal) → words_accepted g.words ≡ Some words
+pub due-plan : (g : CallInputs) (words : Read) (told : Option Told) (r : Refusal) → words_accepted g.words ≡ Some words
     → g.told ≡ told → IsPlanRefusal told words r → IsBeforeTheRun g r
 due-plan g words told r read same (inl (failed, named)) =
     subst (IsBeforeTheRun g) (sym failed) (record { cause = (words, read, named); before_the_run = refl })
@@ -72,7 +72,7 @@ due-plan g words told r read same (inr (fault, is, holds)) =
     (λ other. subst (λ (t : Option Told). IsPlanFor t words (Err fault)) (sym same) (holds other)))
 
 -- words and a plan with no main class
-pub due-mainless : (g : Given) (words : Read) (p : Plan) → AreReadWith g words p → None ≡ run_chosen words p
+pub due-mainless : (g : CallInputs) (words : Read) (p : Plan) → AreReadWith g words p → None ≡ run_chosen words p
     → IsBeforeTheRun g refusal.Words
 due-mainless g words p with_plan none = record {
   cause = inr (
@@ -88,7 +88,7 @@ due-mainless g words p with_plan none = record {
 }
 
 -- what they ask for else
-pub made-command : (g : Given) (words : Read) (p : Plan) (c : Chosen) → AreReadWith g words p
+pub made-command : (g : CallInputs) (words : Read) (p : Plan) (c : Chosen) → AreReadWith g words p
     → Some c ≡ run_chosen words p → Accepts g (command_with words p c)
 made-command g words p c with_plan is = record {
   words = words;
@@ -106,11 +106,11 @@ told-by told k contents own told_as =
     subst (λ (o : Option Generation). AreContentsBy told o k.files contents) (sym own) told_as
 
 -- where the words are accepted, a refusal is due for its cause
-pub due : (g : Given) (r : Refusal) → is_before_the_run (status_of r) ≡ true → Because g r → IsBeforeTheRun g r
+pub due : (g : CallInputs) (r : Refusal) → is_before_the_run (status_of r) ≡ true → Because g r → IsBeforeTheRun g r
 due g r early cause = record { cause = cause; before_the_run = early }
 
 -- the fetch of a file failed behind those of the earlier ones
-pub due-fetch : (g : Given) (k : Command) (told : Option Told) (r : Refusal) → Accepts g k
+pub due-fetch : (g : CallInputs) (k : Command) (told : Option Told) (r : Refusal) → Accepts g k
     → g.told ≡ told → IsFetchRefusal told k.files r → IsBeforeTheRun g r
 due-fetch g k told r accepts same (inl (at, failed, fetch)) =
     let have = told-contents told (take at k.files) fetch.fronts fetch.earlier in
@@ -125,7 +125,7 @@ due-fetch g k told r accepts same (inl (at, failed, fetch)) =
 due-fetch g k told r accepts same (inr memory) = subst (IsBeforeTheRun g) (sym memory) (due-memory g)
 
 -- the contents of what was fetched are no class files
-pub due-unread : (g : Given) (asked : ProgramWanted) (fronts : List (List ℕ)) (r : Refusal)
+pub due-unread : (g : CallInputs) (asked : ProgramWanted) (fronts : List (List ℕ)) (r : Refusal)
     → IsFetchedFor g asked fronts → IsReadRefusal fronts r → IsBeforeTheRun g r
 due-unread g asked fronts r f (inl (at, fault, unread, is)) =
     let have = told-contents g.told f.command.files fronts f.fetched in
@@ -139,7 +139,7 @@ due-unread g asked fronts r f (inl (at, fault, unread, is)) =
 due-unread g asked fronts r f (inr memory) = subst (IsBeforeTheRun g) (sym memory) (due-memory g)
 
 -- the classes of what was fetched are refused
-of-classes : (g : Given) (asked : ProgramWanted) (fronts : List (List ℕ)) (classes : List ClassFile)
+of-classes : (g : CallInputs) (asked : ProgramWanted) (fronts : List (List ℕ)) (classes : List ClassFile)
     (why : AdmitError) → IsFetchedFor g asked fronts → SpellAlone fronts classes
     → answer_for asked classes ≡ Err why → OfClasses g why
 of-classes g asked fronts classes why f alone is =
@@ -156,7 +156,7 @@ of-classes g asked fronts classes why f alone is =
           (subst (HasRefused asked why) (sym whole) has);
     }
 
-pub due-fault : (g : Given) (asked : ProgramWanted) (fronts : List (List ℕ)) (classes : List ClassFile)
+pub due-fault : (g : CallInputs) (asked : ProgramWanted) (fronts : List (List ℕ)) (classes : List ClassFile)
     (fault : AdmitError) → IsFetchedFor g asked fronts → SpellAlone fronts classes
     → answer_for asked classes ≡ Err fault → IsBeforeTheRun g (NotAdmitted fault)
 due-fault g asked fronts classes fault f alone is =
@@ -166,7 +166,7 @@ not-both : false ≡ true → ⊥
 not-both e = cc
 
 -- a fault of admission that is no want of memory
-pub due-admission : (g : Given) (asked : ProgramWanted) (fronts : List (List ℕ)) (classes : List ClassFile)
+pub due-admission : (g : CallInputs) (asked : ProgramWanted) (fronts : List (List ℕ)) (classes : List ClassFile)
     (fault : AdmitError) → IsFetchedFor g asked fronts → SpellAlone fronts classes
     → (fault ≢ admit.NoMemory → answer_for asked classes ≡ Err fault) → IsBeforeTheRun g (refusal_for fault)
 due-admission g asked fronts classes fault f alone is = by (is_memory fault) refl where
@@ -183,7 +183,7 @@ admission-calm fault = by (is_memory fault) where
   by false = λ e. cc e
 
 -- what was fetched for a command, and what it asks for
-pub fetched : (g : Given) (k : Command) (told : Option Told) (fronts deref : List (List ℕ)) → Accepts g k
+pub fetched : (g : CallInputs) (k : Command) (told : Option Told) (fronts deref : List (List ℕ)) → Accepts g k
     → k.generated ≡ None → g.told ≡ told → AreFetched told k.files fronts → fronts ≡ deref → IsFetchedFor g (asked_by k) deref
 fetched g k told fronts deref accepts own same fronts_are is = record {
   command = k;

@@ -12,7 +12,7 @@ use Rattle.prepared_code.specs.Tables.{Versions}
 use Rattle.prepared_code.specs.Versions.{line_at}
 use Rattle.activations.specs.Applied.{acts_asked, on_parts}
 use Rattle.instructions.specs.Acts.{named_in}
-use Rattle.activations.proofs.ConcludedOutcomes.{stays-given}
+use Rattle.activations.proofs.ConcludedOutcomes.{stays-outcome}
 use Rattle.instructions.proofs.Attempts.NamedAttempts.{awaits-told, begins-on, goes-on, linked-kept, same-setup, takes-there}
 use Rattle.instructions.proofs.Moves.Sounded.{caller-linked}
 use Rattle.instructions.proofs.Initializing.Beneath.{top-there}
@@ -34,7 +34,7 @@ returns-in_default-awaited-clause-state c =
     goes-on (setup_in c.args.parts.now.runtime c.args.originals.now) c.args.initializing.now c.args.here c.in-Some.line.now c.args.parts.now (subst (λ (v : Versions). line_at v c.args.here.version c.args.here.place ≡ Some c.in-Some.line.now) c.in_ok-outcome.ensures.versions c.in-Some.ensures.line)
     c.requires.named c.requires.here c.requires.executing (outcome_in_frame c.in_ok-outcome.outcome c.args.parts.now.frames) c.attempt_named.new.runtime (c.in_ok-outcome.ensures.answer) (c.in_ok-outcome.ensures.runtime)
     v c.conclude.new.parts (same-setup c.args.parts.now.runtime c.attempt_named.new.runtime c.args.originals.now c.attempt_named.new.self c.in_ok-outcome.ensures.world c.in_ok-outcome.ensures.versions)
-    (stays-given c.in_ok-outcome.outcome (top_locals c.args.parts.now.frames.frames) (top_operands c.args.parts.now.frames.frames) (sym c.in_ok-awaited.ensures.answer ∙ c.in_default-awaited.is))
+    (stays-outcome c.in_ok-outcome.outcome (top_locals c.args.parts.now.frames.frames) (top_operands c.args.parts.now.frames.frames) (sym c.in_ok-awaited.ensures.answer ∙ c.in_default-awaited.is))
     (subst (λ o. IfNone o (state_in c.conclude.new.parts ≡ on_parts (λ s f. acts_asked v c.in-Some.line.now s f (outcome_in_frame c.in_ok-outcome.outcome c.args.parts.now.frames)) mid))
     c.in_default-awaited.is c.in_ok-awaited.ensures.state)
 

@@ -5,7 +5,7 @@ use Rattle.command_line.specs.Input.{most_input}
 use Rattle.command_line.specs.Words.{read_in}
 use Rattle.jvm_model.specs.declared.program.Program.{Program}
 use Rattle.jfluid_cli.specs.Actions.{CanBeTaken}
-use Rattle.jfluid_cli.specs.Causes.{Given}
+use Rattle.jfluid_cli.specs.Causes.{CallInputs}
 use Rattle.jfluid_cli.specs.Runs.{RunsProgram}
 use Rattle.jfluid_cli.specs.Stages.{IsPrepared}
 use Rattle.jfluid_cli.proofs.Runs.Carried.{carried-refused, carried-input, carried-memory, carried-run, of-program, rest-of-input}
@@ -45,7 +45,7 @@ returns-clause-carried g c =
     let l = c.in-Ok.loaded in
     let made = c.in-Ok-make.made_of in
     λ list read.
-    (let given : Given = record {
+    (let given : CallInputs = record {
       words = list;
       told = g.F.Files.contents c.devices.inside.files;
       left = g.I.Source.left c.devices.inside.input;
