@@ -163,13 +163,13 @@ module _ {S A : Type 0} (step : S → ℕ → Option S) (ending : S → Option A
       within = omega (arith, length-append front ([]));
       front = rw (take_at front [] (length front) refl) (is_front front last reached);
       further = λ less whole. omega (arith, length-append front ([]), less);
-      early = λ same whole. not_ended front last whole.0 reached stopped (subst (λ (t : List ℕ). Spelled t whole.0) (append-nil front) whole.1);
+      unfinished = λ same whole. not_ended front last whole.0 reached stopped (subst (λ (t : List ℕ). Spelled t whole.0) (append-nil front) whole.1);
     }
     stuck_at front (unit ∷ rest) last reached stopped = record {
       within = omega (arith, length-append front (unit ∷ rest));
       front = rw (take_at front (unit ∷ rest) (length front) refl) (is_front front last reached);
       further = λ less whole. no_further front last unit reached stopped (subst (IsFront IsSpelled) (take_one_more front unit rest) whole);
-      early = λ same whole. omega (arith, length-append front (unit ∷ rest), same);
+      unfinished = λ same whole. omega (arith, length-append front (unit ∷ rest), same);
     }
 
     pub answer_stuck : (units : List ℕ) (place : ℕ) → answer_from step ending start 0 units ≡ Err place → IsStuckAt IsSpelled units place

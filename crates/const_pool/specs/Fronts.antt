@@ -13,7 +13,7 @@ pub record IsStuckAt (IsWhole : List ℕ → Type 0) (units : List ℕ) (place :
   pub within : place ≤ length units
   pub front : IsFront IsWhole (take place units)
   pub further : place < length units → IsFront IsWhole (take (place + 1) units) → ⊥
-  pub early : place ≡ length units → IsWhole units → ⊥
+  pub unfinished : place ≡ length units → IsWhole units → ⊥
 
 -- what follows a step; where there is none, its place
 abbrev pub after_step : {S A : Type 0} → ℕ → Option S → (S → Result A ℕ) → Result A ℕ

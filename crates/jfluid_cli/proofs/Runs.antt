@@ -1,6 +1,6 @@
 pub mod Underway
 pub mod Admitted
 pub mod Complete
-pub mod Early
+pub mod BeforeTheRun
 pub mod Carried
 pub mod Profiled

@@ -147,7 +147,7 @@ placed-within plan action None within = within refl
 placed-within plan action (Some fault) within = tt
 
 action-within : (number : ℕ) (plan : Plan) (action : Action) → action.moment ≤ greatest_steps → IsWithin plan → IsKept (with_action number plan action)
-action-within number plan action early w =
+action-within number plan action moment_fits w =
     placed-within plan action (action_misplaced number plan.actions action) (λ fine.
     let selected : Bool = selected_after false action.root plan.actions in
     let found = no_fault (list_any (λ e. nat_lt action.moment e.moment) plan.actions) (action.select && selected)
@@ -158,21 +158,21 @@ action-within number plan action early w =
       actions = omega (arith, length-append plan.actions (action ∷ []), ltb-true (length plan.actions) most_said found.1);
       budget = w.budget;
       heap = w.heap;
-      moments = all_pushed (λ a. a.moment ≤ greatest_steps) plan.actions action w.moments early;
+      moments = all_pushed (λ a. a.moment ≤ greatest_steps) plan.actions action w.moments moment_fits;
       rising = pushed-rising plan.actions action w.rising (none_above plan.actions action.moment found.0);
     })
 
 root-within : (number : ℕ) (plan : Plan) (moment : ℕ) (select : Bool) (root : Option RootName) → moment ≤ greatest_steps → IsWithin plan → IsKept (with_root number plan moment select root)
-root-within number plan moment select None early w = tt
-root-within number plan moment select (Some root) early w =
-    action-within number plan (record { moment = moment; select = select; root = root }) early w
+root-within number plan moment select None moment_fits w = tt
+root-within number plan moment select (Some root) moment_fits w =
+    action-within number plan (record { moment = moment; select = select; root = root }) moment_fits w
 
 -- ---- a line
 
 acted-keeps : (number : ℕ) (plan : Plan) (moment : Option ℕ) (select : Bool) (word : List ℕ) → IfSome moment (λ n. n ≤ greatest_steps) → IsWithin plan → Keeps (IsActed number plan moment select word)
-acted-keeps number plan None select word early w r holds = keeps_one (Err (BadLine number Number)) tt r holds
-acted-keeps number plan (Some moment) select word early w r holds =
-    keeps_one (with_root number plan moment select holds.0) (root-within number plan moment select holds.0 early w) r holds.2
+acted-keeps number plan None select word moment_fits w r holds = keeps_one (Err (BadLine number Number)) tt r holds
+acted-keeps number plan (Some moment) select word moment_fits w r holds =
+    keeps_one (with_root number plan moment select holds.0) (root-within number plan moment select holds.0 moment_fits w) r holds.2
 
 ordered-keeps : (number : ℕ) (plan : Plan) (moment : List ℕ) (order : Option Bool) (word : List ℕ) → IsWithin plan → Keeps (IsOrdered number plan moment order word)
 ordered-keeps number plan moment None word w r holds = keeps_one (Err (BadLine number Unknown)) tt r holds

@@ -13,7 +13,7 @@ use Rattle.jvm_model.specs.Codes.Originals.{original}
 use Rattle.jvm_model.specs.Running.Run.{turn}
 use Rattle.jvm_machine.specs.View.{View}
 use Rattle.jvm_model.specs.Turns.Told.{Held, held_at, held_in, held_of, nothing_held}
-use Rattle.jvm_model.proofs.Events.LaterActs.{Early, early-at, trace-early, filter-push, filter-last, same-behind, same-all, same-events, same-marking}
+use Rattle.jvm_model.proofs.Events.LaterActs.{AllBegunBy, all_begun-at, trace-all_begun, filter-push, filter-last, same-behind, same-all, same-events, same-marking}
 use Rattle.jvm_model.specs.Soundness.Calls.{AreFrom, loads_of}
 use Rattle.jvm_model.specs.Profiling.Points.{acts_at, acts_behind, marking_of}
 use Rattle.jvm_model.specs.Profiling.Targets.{operations_of}
@@ -42,7 +42,7 @@ module _ (w : World) (acts : List Act) (x : Act) where
   module _ (behind : 1 ≤ x.moment) where
     same-step : (n : ℕ) → n ≤ x.moment → step_events (marking_of with_x w) w n ≡ step_events (marking_of acts w) w n
     same-step zero le = same-all acts x behind w (operations_of p) 0 no_trace (turn w 0).changes le tt
-    same-step (suc n) le = same-all acts x behind w (operations_of p) (suc n) (trace w n) (turn w (suc n)).changes le (trace-early w x.moment n (omega (arith, le)))
+    same-step (suc n) le = same-all acts x behind w (operations_of p) (suc n) (trace w n) (turn w (suc n)).changes le (trace-all_begun w x.moment n (omega (arith, le)))
 
     same-kept : (n : ℕ) → n ≤ x.moment → kept_before with_x w n ≡ kept_before acts w n
     same-kept zero le =
@@ -71,14 +71,14 @@ module _ (w : World) (acts : List Act) (x : Act) where
         ∙ (fold-last p (kept_end p n (kept_told p n k classes events)) (acts_behind n acts) x
         ∙ ap (λ k. kept_act p k x) (sym (kept_by-suc acts w (marking_of acts w) n)))))
 
-    same-held : (activations : List Activation) (live : List ℕ) → Early x.moment activations
+    same-held : (activations : List Activation) (live : List ℕ) → AllBegunBy x.moment activations
         → map (held_at (marking_of with_x w) activations) live ≡ map (held_at (marking_of acts w) activations) live
     same-held activations [] each = refl
     same-held activations (number ∷ live) each = ap₂ (λ (h : Held) l. h ∷ l) (by (slice_get activations number) refl) (same-held activations live each) where
       by : (o : Option Activation) → slice_get activations number ≡ o → option_map_or (held_of (marking_of with_x w)) o nothing_held ≡ option_map_or (held_of (marking_of acts w)) o nothing_held
       by None e = refl
       by (Some a) e = ap (λ mark. let h : Held = record { method = a.method; mark = mark } in h)
-          (same-marking acts x behind w (original p) (operations_of p) a.begin a.method (early-at x.moment activations number a each e))
+          (same-marking acts x behind w (original p) (operations_of p) a.begin a.method (all_begun-at x.moment activations number a each e))
 
   zero-kept : x.moment ≡ 0 → kept_before with_x w 0 ≡ kept_act p (kept_before acts w 0) x
   zero-kept e =
@@ -92,14 +92,14 @@ module _ (w : World) (acts : List Act) (x : Act) where
     held : held_in (marking_of with_x w) (trace_before w n) ≡ held_in (marking_of acts w) (trace_before w n)
 
   same-before : (clock : ℕ) (started : Bool) → x.moment ≡ clock → (started ≡ false → clock ≡ 0) → (started ≡ true → 1 ≤ clock) → Same (if started then clock + 1 else 0)
-  same-before clock false e early late = record { kept = zero-kept (e ∙ early refl); delivered = refl; held = refl }
-  same-before clock true e early late =
+  same-before clock false e before_the_run late = record { kept = zero-kept (e ∙ before_the_run refl); delivered = refl; held = refl }
+  same-before clock true e before_the_run late =
       let one = late refl in
       let behind : 1 ≤ x.moment = omega (arith, e, one) in
       subst Same (sym (add-one clock)) (record {
         kept = next-kept behind clock e;
         delivered = same-events acts x behind w (operations_of p) clock (omega (arith, e));
-        held = same-held behind (trace w clock).activations (trace w clock).live (trace-early w x.moment clock (omega (arith, e)));
+        held = same-held behind (trace w clock).activations (trace w clock).live (trace-all_begun w x.moment clock (omega (arith, e)));
       })
 
   -- the action is accepted, and the images for it are installed

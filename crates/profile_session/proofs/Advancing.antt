@@ -46,8 +46,8 @@ same-world old new went = ap₂ (λ p i. let w : World = record { program = p; i
 pub clock-rises : (x : Parts) (es : List Event) (v : View) → StandsIn x es → Went x.vm v → x.vm.clock ≤ v.clock
 clock-rises x es v stands went = subst (λ n. x.vm.clock ≤ n) (sym went.clock) (by stands) where
   at_rest : (b : Bool) → (b ≡ false → x.vm.clock ≡ 0) → x.vm.clock ≤ (let n : ℕ = if b then x.vm.clock + 1 else 0 in n)
-  at_rest true early = omega arith
-  at_rest false early = let e = early refl in omega (arith, e)
+  at_rest true before_the_run = omega arith
+  at_rest false before_the_run = let e = before_the_run refl in omega (arith, e)
 
   by : StandsIn x es → x.vm.clock ≤ (step_begun x.vm).clock
   by (rests r) = subst (λ (y : View). x.vm.clock ≤ y.clock) (sym (begun-is x.vm r.resting)) (at_rest x.vm.started r.before_the_run)

@@ -43,7 +43,7 @@ loaded-first v = (before (world v)).shared.loaded
 
 -- before the start
 linked-first : (v : View) → v.started ≡ false → (run_state v).shared.loaded ≡ loaded-first v
-linked-first v early = ap (λ b. (let s : State = if b then run (world v) v.clock else before (world v) in s).shared.loaded) early
+linked-first v before_the_run = ap (λ b. (let s : State = if b then run (world v) v.clock else before (world v) in s).shared.loaded) before_the_run
 
 pub root-first : (w : World) → IsWhole w.program → is_among (user_count w.program) (before w).shared.loaded ≡ true
 root-first w is =
@@ -53,8 +53,8 @@ root-first w is =
     b.each (user_count w.program) (omega arith) within
 
 pub ahead-first : (v : View) (l : LinkerView) (r : Reveal) → IsWhole v.program → l ≡ linking v → v.started ≡ false → now_of r ≡ nothing_revealed → IsAhead l r
-ahead-first v l r is link early none =
-    let loaded : l.loaded ≡ loaded-first v = ap (λ (l : LinkerView). l.loaded) link ∙ linked-first v early in
+ahead-first v l r is link before_the_run none =
+    let loaded : l.loaded ≡ loaded-first v = ap (λ (l : LinkerView). l.loaded) link ∙ linked-first v before_the_run in
     let program : l.program ≡ v.program = ap (λ (l : LinkerView). l.program) link in
     record {
       loaded = λ class among. absurd (let h : false ≡ true = sym (ap (λ (r : Revealed). is_among class r.loaded) none) ∙ among in cc);
@@ -65,17 +65,17 @@ pub front-first : (l : List ℕ) (r : Reveal) → now_of r ≡ nothing_revealed 
 front-first l r none = record { rest = l; is = sym (ap (λ xs. xs ++ l) (ap (λ (r : Revealed). r.loaded) none)) }
 
 pub order-first : (v : View) (l : LinkerView) → IsWhole v.program → l ≡ linking v → v.started ≡ false → IsLoadOrder l.program [] l.loaded
-order-first v l is link early =
-    let loaded : l.loaded ≡ loaded-first v = ap (λ (l : LinkerView). l.loaded) link ∙ linked-first v early in
+order-first v l is link before_the_run =
+    let loaded : l.loaded ≡ loaded-first v = ap (λ (l : LinkerView). l.loaded) link ∙ linked-first v before_the_run in
     let program : l.program ≡ v.program = ap (λ (l : LinkerView). l.program) link in
     subst (λ p. IsLoadOrder p [] l.loaded) (sym program) (subst (IsLoadOrder v.program []) (sym loaded) (before-order (world v) (revealable (world v) is).order))
 
 pub first-of : (v : View) (r new last : Reveal) (l : LinkerView) → l ≡ linking v → v.started ≡ false → now_of r ≡ nothing_revealed → IsRevelation l.program new
     → now_of new ≡ with_loaded l.loaded (now_of r) → ((p : Program) → IsRevelation p new → IsRevelation p last) → now_of last ≡ now_of new
     → ((p : Program) → IsRevelation p new → last.shown ≡ marks_of p (now_of new)) → IsFirst v last
-first-of v r new last l link early none rev now later same shown =
+first-of v r new last l link before_the_run none rev now later same shown =
     let program : l.program ≡ v.program = ap (λ (l : LinkerView). l.program) link in
-    let loaded : l.loaded ≡ loaded-first v = ap (λ (l : LinkerView). l.loaded) link ∙ linked-first v early in
+    let loaded : l.loaded ≡ loaded-first v = ap (λ (l : LinkerView). l.loaded) link ∙ linked-first v before_the_run in
     let rev_v : IsRevelation v.program new = subst (λ p. IsRevelation p new) program rev in
     record {
       revelation = later v.program rev_v;

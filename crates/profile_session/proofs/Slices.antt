@@ -92,8 +92,8 @@ next-clock x = by x.vm.started where
 pub clock-next : (x : Parts) → Rests x → x.vm.clock ≤ next_step x.vm
 clock-next x r = by x.vm.started r.stands.before_the_run where
   by : (b : Bool) → (b ≡ false → x.vm.clock ≡ 0) → x.vm.clock ≤ (let n : ℕ = if b then x.vm.clock + 1 else 0 in n)
-  by true early = omega arith
-  by false early = let e = early refl in omega (arith, e)
+  by true before_the_run = omega arith
+  by false before_the_run = let e = before_the_run refl in omega (arith, e)
 
 pub ran-hearable : (x : Parts) (most : ℕ) (turn : Turn) (v : View) → Rests x → IsGoingOn x.vm → RunsOn x.vm most turn v → is_telling turn ≡ true → x.vm.clock + most < 9223372036854775808
     → IsHearable (record x { vm = v }) turn

@@ -229,17 +229,17 @@ module _ (w : World) (is : IsWhole w.program) (acts : List Act) (from : AreFrom 
   -- ---- a step begins
 
   clock-up : (v : View) → (v.started ≡ false → v.clock ≡ 0) → v.clock ≤ next_step v
-  clock-up v early = by v.started early where
+  clock-up v before_the_run = by v.started before_the_run where
     by : (b : Bool) → (b ≡ false → v.clock ≡ 0) → v.clock ≤ (let n : ℕ = if b then v.clock + 1 else 0 in n)
-    by true early = omega arith
-    by false early = let e = early refl in omega (arith, e)
+    by true before_the_run = omega arith
+    by false before_the_run = let e = before_the_run refl in omega (arith, e)
 
   none-next : (v : View) → (v.started ≡ false → v.clock ≡ 0) → AllByRecursion (λ (a : Act). a.moment ≤ v.clock) acts → (n : ℕ) → next_step v ≤ n → acts_behind n acts ≡ []
-  none-next v early each n = by v.started early n where
+  none-next v before_the_run each n = by v.started before_the_run n where
     by : (b : Bool) → (b ≡ false → v.clock ≡ 0) → (n : ℕ) → (let k : ℕ = if b then v.clock + 1 else 0 in k) ≤ n → acts_behind n acts ≡ []
-    by true early n le = none-behind v.clock n acts each (omega (arith, le))
-    by false early zero le = refl
-    by false early (suc n) le = let e = early refl in none-behind v.clock (suc n) acts each (omega (arith, e))
+    by true before_the_run n le = none-behind v.clock n acts each (omega (arith, le))
+    by false before_the_run zero le = refl
+    by false before_the_run (suc n) le = let e = before_the_run refl in none-behind v.clock (suc n) acts each (omega (arith, e))
 
   going-next : (es : List Event) (k : Kept) (v : View) → is_resting v ≡ true → IsGoingOn v → AtRest acts w es k v → (m : ℕ) → m < next_step v → is_some (run w m).ending ≡ false
   going-next es k v resting on r m less = by v.started refl less where

@@ -99,13 +99,13 @@ one-moment-more k least (a ∷ more) order =
     let lower : List Act = filter (up-to k) more in
     let here : List Act = filter (at (suc k)) more in
     elim (cases_lt a.moment (suc k)) [
-      | inl early ↦
-          cons-cond (up-to (suc k) a) a upper upper (within-yes (suc k) a (omega (arith, early)))
+      | inl no_later ↦
+          cons-cond (up-to (suc k) a) a upper upper (within-yes (suc k) a (omega (arith, no_later)))
           ∙ (ap (λ (xs : List Act). a ∷ xs) later
           ∙ sym (ap (λ (xs : List Act). xs ++ cond (at (suc k) a) (a ∷ here) here)
-          (cons-cond (up-to k a) a lower lower (within-yes k a (omega (arith, early))))
+          (cons-cond (up-to k a) a lower lower (within-yes k a (omega (arith, no_later))))
           ∙ ap (λ (xs : List Act). a ∷ (lower ++ xs))
-          (skip-cond (at (suc k) a) a here here (ne_eqb a.moment (suc k) (λ e. omega (arith, e, early))))))
+          (skip-cond (at (suc k) a) a here here (ne_eqb a.moment (suc k) (λ e. omega (arith, e, no_later))))))
       | inr late ↦
           (let none : lower ≡ [] = none-up-to k a.moment more order.1 (omega (arith, late)) in
           let rest : upper ≡ here = later ∙ ap (λ (xs : List Act). xs ++ here) none in
@@ -146,20 +146,20 @@ front-is (suc k) acts order =
 -- where no action is later than the step, it comes to all of them
 pub standing-all : (acts : List Act) (w : World) (t : Listing) (k : ℕ) → AreFrom 0 acts → AllByRecursion (λ (a : Act). a.moment ≤ k) acts
     → (standing_in acts w t (suc k)).selected ≡ chosen_by [] acts
-standing-all acts w t k order early =
+standing-all acts w t k order no_later =
     standing-chosen acts w t (suc k)
     ∙ ap (λ (xs : List Act). chosen_by [] xs)
     (front-is k acts order
-    ∙ keeps-all (up-to k) acts (all-weaken (λ (a : Act). a.moment ≤ k) (λ a. up-to k a ≡ true) acts (λ a le. within-yes k a le) early))
+    ∙ keeps-all (up-to k) acts (all-weaken (λ (a : Act). a.moment ≤ k) (λ a. up-to k a ≡ true) acts (λ a le. within-yes k a le) no_later))
 
 -- before the start, where all are of moment 0
 pub standing-first : (acts : List Act) (w : World) (t : Listing) → AllByRecursion (λ (a : Act). a.moment ≤ 0) acts
     → (standing_in acts w t 0).selected ≡ chosen_by [] acts
-standing-first acts w t early =
+standing-first acts w t no_later =
     standing-chosen acts w t 0
     ∙ ap (λ (xs : List Act). chosen_by [] xs)
     (at-zero acts
-    ∙ keeps-all (up-to 0) acts (all-weaken (λ (a : Act). a.moment ≤ 0) (λ a. up-to 0 a ≡ true) acts (λ a le. within-yes 0 a le) early))
+    ∙ keeps-all (up-to 0) acts (all-weaken (λ (a : Act). a.moment ≤ 0) (λ a. up-to 0 a ≡ true) acts (λ a le. within-yes 0 a le) no_later))
 
 -- what stands selected before a step of a session
 abbrev selected-before : Profiling → ℕ → List ℕ
@@ -168,15 +168,15 @@ selected-before s n = (standing_in s.acts (world_of s) (original s.program) n).s
 -- of a session: what stands selected is what its actions have left
 pub selected-is : (s : Profiling) → AreFrom 0 s.acts → AllByRecursion (λ (a : Act). a.moment ≤ s.clock) s.acts
     → (s.started ≡ false → s.clock ≡ 0) → (standing_of s).selected ≡ chosen_by [] s.acts
-selected-is s order early first = by s.started refl where
+selected-is s order no_later first = by s.started refl where
   by : (b : Bool) → s.started ≡ b → selected-before s (cond s.started (s.clock + 1) 0) ≡ chosen_by [] s.acts
   by true is =
       ap (λ (b : Bool). selected-before s (cond b (s.clock + 1) 0)) is
-      ∙ (ap (selected-before s) (add-one s.clock) ∙ standing-all s.acts (world_of s) (original s.program) s.clock order early)
+      ∙ (ap (selected-before s) (add-one s.clock) ∙ standing-all s.acts (world_of s) (original s.program) s.clock order no_later)
   by false is =
       ap (λ (b : Bool). selected-before s (cond b (s.clock + 1) 0)) is
       ∙ standing-first s.acts (world_of s) (original s.program)
-      (subst (λ n. AllByRecursion (λ (a : Act). a.moment ≤ n) s.acts) (first is) early)
+      (subst (λ n. AllByRecursion (λ (a : Act). a.moment ≤ n) s.acts) (first is) no_later)
 
 -- ---- the action that is due
 
@@ -206,7 +206,7 @@ pub due-fits : (s : Profiling) (n : ℕ) (act : Act) → CanBeTaken s.program.ac
 due-fits s n act can along due first =
     let acts = s.program.acts in
     let order : AreFrom 0 s.acts = subst (AreFrom 0) (sym along.acts) (from-take 0 n acts can.in_order) in
-    let early : AllByRecursion (λ (a : Act). a.moment ≤ s.clock) s.acts =
+    let no_later : AllByRecursion (λ (a : Act). a.moment ≤ s.clock) s.acts =
     subst (AllByRecursion (λ (a : Act). a.moment ≤ s.clock)) (sym along.acts) along.taken in
-    ap (is_among act.method) (selected-is s order early first ∙ ap (λ (list : List Act). chosen_by [] list) along.acts)
+    ap (is_among act.method) (selected-is s order no_later first ∙ ap (λ (list : List Act). chosen_by [] list) along.acts)
     ∙ alternate-at [] acts n act can.alternate due.there

@@ -26,7 +26,7 @@ use Rattle.jfluid_cli.specs.Top.{answer_for}
 use Rattle.jfluid_cli.specs.Words.{Command, command_for, command_with}
 use Rattle.jfluid_cli.proofs.Commands.Accepted.{accepted-sound}
 use Rattle.jfluid_cli.proofs.Runs.Admitted.{first-classes}
-use Rattle.jfluid_cli.proofs.Runs.Early.{due, due-memory}
+use Rattle.jfluid_cli.proofs.Runs.BeforeTheRun.{due, due-memory}
 use Rattle.jfluid_cli.proofs.Reports.Pairs.{zip-weaken}
 use Rattle.jfluid_cli.proofs.Files.Spelled.{spelled-alone, spelled-program, spells-alone}
 

@@ -26,8 +26,8 @@ use Rattle.jfluid_cli.specs.Refusals.{status_of, refusal_line, IsNameless}
 use Rattle.jfluid_cli.specs.Runs.{ending_at, world_on}
 use Rattle.jfluid_cli.specs.Top.{IsProgram, answer_for, is_among, is_refused, is_run, is_status, status_of_ending}
 use Rattle.jfluid_cli.specs.Words.{Command, words_accepted, asks_images, budget_of, command_of, file_words, is_generated, plan_word, words_in}
-use Rattle.jfluid_cli.proofs.Runs.Carried.{carried-early, files-said, memory-refused, plan-said}
-use Rattle.jfluid_cli.proofs.Runs.Early.{due-words, no-fault}
+use Rattle.jfluid_cli.proofs.Runs.Carried.{carried-before_the_run, files-said, memory-refused, plan-said}
+use Rattle.jfluid_cli.proofs.Runs.BeforeTheRun.{due-words, no-fault}
 use Rattle.jfluid_cli.proofs.Reports.Fixed.{by-status, read-or, accepted-or, two-refused, not-rooted, not-named, tells, same-contents, three-refused, program-told, not-unfit, long-told, not-long, kept-input, kept-short, kept-program}
 use Rattle.jfluid_cli.proofs.Commands.OneCommand.{commanded, not-misplanned, one-command}
 use Rattle.jfluid_cli.proofs.Actions.Rootless.{rootless-unfit, three-rootless}
@@ -172,14 +172,14 @@ answered-run c status heard carried =
 words-only : (c : Call) (r : Refusal) → IsRefused c r → words_accepted (words_of c) ≡ None
     → (status_of r ≡ 2) ⊎ (status_of r ≡ 9)
 words-only c r refused none = elim (read-or (given_of c) r refused.cause) [
-  | inl early ↦ early
+  | inl before_the_run ↦ before_the_run
   | inr read ↦ absurd (none-some read.0 (sym none ∙ read.1))
 ]
 
 root-only : (c : Call) (r : Refusal) → IsRefused c r → OfWords (given_of c) HasBadRoot
     → (status_of r ≡ 2) ⊎ (status_of r ≡ 9)
 root-only c r refused bad = elim (accepted-or (given_of c) r refused.cause) [
-  | inl early ↦ early
+  | inl before_the_run ↦ before_the_run
   | inr late ↦ elim late [
     | inl fetch ↦ absurd (not-named (given_of c) r bad refused.cause fetch)
     | inr with_plan ↦ absurd (not-rooted (given_of c) with_plan.0 bad with_plan.1)
@@ -193,7 +193,7 @@ calm-fetch c r refused calm seven =
 plan-only : (c : Call) (r : Refusal) → IsRefused c r → HasBadPlan (given_of c) → FilesWithoutFault c
     → (status_of r ≡ 2) ⊎ (status_of r ≡ 9)
 plan-only c r refused bad calm = elim (accepted-or (given_of c) r refused.cause) [
-  | inl early ↦ early
+  | inl before_the_run ↦ before_the_run
   | inr late ↦ elim late [
     | inl fetch ↦ absurd (calm-fetch c r refused calm (ap status_of fetch))
     | inr with_plan ↦ absurd (not-misplanned (given_of c) bad.words with_plan.0 bad.telling bad.read
@@ -416,7 +416,7 @@ pub answered-words : (words : Result (List (List ℕ)) OutOfMemory) (files_told 
 answered-words words files_told files input out report images after kept r told status none why nameless unheard was is puts =
     let c : Call = call_before words files_told files input out report images kept in
     answered-told c after r told status (refusal_line told None []) (λ e. is ∙ ap status_of (unheard e))
-    (carried-early c r none (record { taken = refl; faults = refl }) (record { taken = refl; faults = refl })
+    (carried-before_the_run c r none (record { taken = refl; faults = refl }) (record { taken = refl; faults = refl })
     (record { taken = refl; faults = refl }) refl
     (due-words (given_of c) r why)
     (no-fault (plan_word (words_in words)) (file_words (words_in words)) files files r r refl refl

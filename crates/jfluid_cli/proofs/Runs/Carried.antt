@@ -52,8 +52,8 @@ nothing-made c none out images rest = record {
   held = subst (λ (o : Option Kept). IfSome o (λ k. k.session.value.stale ≡ false)) (sym none) tt;
 }
 
-other-early : (s n : ℕ) → is_before_the_run n ≡ false → is_before_the_run s ≡ true → s ≡ n → ⊥
-other-early s n late early same = not_both (sym late ∙ (ap is_before_the_run (sym same) ∙ early))
+other-before_the_run : (s n : ℕ) → is_before_the_run n ≡ false → is_before_the_run s ≡ true → s ≡ n → ⊥
+other-before_the_run s n late before_the_run same = not_both (sym late ∙ (ap is_before_the_run (sym same) ∙ before_the_run))
 
 -- ---- before the input is taken
 
@@ -74,20 +74,20 @@ fetches-of named files old new OutFailed cause = inl (cause.without_fault (λ se
 fetches-of named files old new NoMemory cause = inl (cause.without_fault (λ seven. absurd cc))
 fetches-of named files old new InputTooLong cause = inl (cause.without_fault (λ seven. absurd cc))
 
-pub refused-early : (c : Call) (r : Refusal) → c.kept ≡ None → c.input_after ≡ c.input → IsBeforeTheRun (given_of c) r
+pub refused-before_the_run : (c : Call) (r : Refusal) → c.kept ≡ None → c.input_after ≡ c.input → IsBeforeTheRun (given_of c) r
     → HasFetchCause (plan_word (words_of c)) (file_words (words_of c)) c.files c.files_after r
     → IsRefused c r
-refused-early c r none input early fetch = record {
-  cause = early.cause;
+refused-before_the_run c r none input before_the_run fetch = record {
+  cause = before_the_run.cause;
   refused = λ _. none;
-  made = λ six. absurd (other-early (status_of r) 6 refl early.before_the_run six);
+  made = λ six. absurd (other-before_the_run (status_of r) 6 refl before_the_run.before_the_run six);
   untaken = λ _. input;
-  one_more = λ eleven. absurd (other-early (status_of r) 11 refl early.before_the_run eleven);
-  taken = λ five. absurd (other-early (status_of r) 5 refl early.before_the_run five);
+  one_more = λ eleven. absurd (other-before_the_run (status_of r) 11 refl before_the_run.before_the_run eleven);
+  taken = λ five. absurd (other-before_the_run (status_of r) 5 refl before_the_run.before_the_run five);
   fetches = fetches-of (plan_word (words_of c)) (file_words (words_of c)) c.files c.files_after r fetch;
-  not_taken = λ five. absurd (other-early (status_of r) 5 refl early.before_the_run five);
-  stopped = λ six. absurd (other-early (status_of r) 6 refl early.before_the_run six);
-  unshown = λ six. absurd (other-early (status_of r) 6 refl early.before_the_run six);
+  not_taken = λ five. absurd (other-before_the_run (status_of r) 5 refl before_the_run.before_the_run five);
+  stopped = λ six. absurd (other-before_the_run (status_of r) 6 refl before_the_run.before_the_run six);
+  unshown = λ six. absurd (other-before_the_run (status_of r) 6 refl before_the_run.before_the_run six);
   not_fetched = fetch.failed;
   plan_name = fetch.plan_is;
   name = fetch.name_is;
@@ -95,16 +95,16 @@ refused-early c r none input early fetch = record {
   input_without_fault = λ other nine. ap (λ (s : SourceView). s.faults) input;
 }
 
-pub carried-early : (c : Call) (r : Refusal) → c.kept ≡ None
+pub carried-before_the_run : (c : Call) (r : Refusal) → c.kept ≡ None
     → IsUntold c.streams.out c.streams.out_after → IsUntold c.streams.report c.streams.report_after
     → IsUntold c.streams.images c.streams.images_after → c.input_after ≡ c.input → IsBeforeTheRun (given_of c) r
     → HasFetchCause (plan_word (words_of c)) (file_words (words_of c)) c.files c.files_after r
     → IsCarried c (Err r)
-carried-early c r none out report images input early fetch = record {
+carried-before_the_run c r none out report images input before_the_run fetch = record {
   always = nothing-made c none out images (subst (λ (s : SourceView). TakesAtMost most_taken c.input.left s.left) (sym input)
       (rest-untaken most_taken c.input.left));
   ran = tt;
-  refused = refused-early c r none input early fetch;
+  refused = refused-before_the_run c r none input before_the_run fetch;
   untold = report;
 }
 
@@ -121,8 +121,8 @@ pub carried-refused : (c : Call) (words : Read) (r : Refusal) → words_accepted
     → IsUntold c.streams.report c.streams.report_after → IsUntold c.streams.images c.streams.images_after
     → c.input_after ≡ c.input → IsBeforeTheRun (given_of c) r → HasFetchCause words.plan words.files c.files c.files_after r
     → IsCarried c (Err r)
-carried-refused c words r read none out report images input early fetch =
-    carried-early c r none out report images input early
+carried-refused c words r read none out report images input before_the_run fetch =
+    carried-before_the_run c r none out report images input before_the_run
     (subst (λ (named : Option (List ℕ)). HasFetchCause named (file_words (words_of c)) c.files c.files_after r)
     (plan-said (words_of c) words read)
     (subst (λ (names : List (List ℕ)). HasFetchCause words.plan names c.files c.files_after r)
@@ -134,9 +134,9 @@ pub memory-refused : (c : Call) → FailsOnce (plan_word (words_of c)) (file_wor
     → IsRefused c NoMemory
 memory-refused c fetches = record {
   cause = tt;
-  refused = λ early. absurd (not_both early);
+  refused = λ before_the_run. absurd (not_both before_the_run);
   made = λ six. absurd cc;
-  untaken = λ early. absurd (not_both early);
+  untaken = λ before_the_run. absurd (not_both before_the_run);
   one_more = λ eleven. absurd cc;
   taken = λ five. absurd cc;
   fetches = fetches;
@@ -192,7 +192,7 @@ refused-input c r none calm of (inl (failed, rose, takes)) = subst (IsRefused c)
   cause = of;
   refused = λ _. none;
   made = λ six. absurd cc;
-  untaken = λ early. absurd (not_both early);
+  untaken = λ before_the_run. absurd (not_both before_the_run);
   one_more = λ eleven. absurd cc;
   taken = λ _. takes;
   fetches = inl calm;
@@ -209,7 +209,7 @@ refused-input c r none calm of (inr (inl (failed, long, more, same))) = subst (I
   cause = (of, long);
   refused = λ _. none;
   made = λ six. absurd cc;
-  untaken = λ early. absurd (not_both early);
+  untaken = λ before_the_run. absurd (not_both before_the_run);
   one_more = λ _. more;
   taken = λ five. absurd cc;
   fetches = inl calm;
@@ -354,9 +354,9 @@ stopped-refused : (c : Call) (k : Kept) (r : Refusal) → OfProgram (given_of c)
 stopped-refused c k r of kept calm input_without_fault stopped = elim stopped.why [
   | inl (failed, rose) ↦ subst (IsRefused c) (sym failed) (record {
     cause = of;
-    refused = λ early. absurd (not_both early);
+    refused = λ before_the_run. absurd (not_both before_the_run);
     made = λ _. subst (λ (o : Option Kept). IsSome o) (sym kept) refl;
-    untaken = λ early. absurd (not_both early);
+    untaken = λ before_the_run. absurd (not_both before_the_run);
     one_more = λ eleven. absurd cc;
     taken = λ five. absurd cc;
     fetches = inl calm;

@@ -109,8 +109,8 @@ module _ (w : Setup) (hand : Hand) (started broken : Bool) (clock : ℕ) (s : St
   busy-started : (b : Bool) → started ≡ b → is_resting v ≡ false → b ≡ true
   busy-started true e busy = refl
   busy-started false e busy =
-      let early = is.before_the_run e in
-      absurd (let f : true ≡ false = sym (ap₂ (λ n delivered. n == 0 && not delivered) early.passed early.delivered) ∙ (ap is_resting view ∙ busy) in cc)
+      let before_the_run = is.before_the_run e in
+      absurd (let f : true ≡ false = sym (ap₂ (λ n delivered. n == 0 && not delivered) before_the_run.passed before_the_run.delivered) ∙ (ap is_resting view ∙ busy) in cc)
 
   busy-loaded : is_resting v ≡ false → s.shared.loaded ≡ (run_state v).shared.loaded
   busy-loaded busy =

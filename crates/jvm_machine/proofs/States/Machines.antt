@@ -123,8 +123,8 @@ module _ (w : Setup) (hand : Hand) (started : Bool) (clock : ℕ) (s : State) (i
   pub started-if : (b : Bool) → started ≡ b → resting_now ≡ false → b ≡ true
   started-if true e busy = refl
   started-if false e busy =
-      let early = is.before_the_run e in
-      absurd (let h : true ≡ false = sym (ap₂ (λ n delivered. n == 0 && not delivered) early.passed early.delivered) ∙ busy in cc)
+      let before_the_run = is.before_the_run e in
+      absurd (let h : true ≡ false = sym (ap₂ (λ n delivered. n == 0 && not delivered) before_the_run.passed before_the_run.delivered) ∙ busy in cc)
 
   no-frames : started ≡ false → helds (mark_of w.versions) s.stack ≡ []
   no-frames e = ap (λ (z : State). helds (mark_of w.versions) z.stack) (whole_now.first e).before

@@ -50,50 +50,50 @@ filter-last test (a ∷ acts) x e = by (test a) (filter-last test acts x e)
 
 -- ---- activations that began by a moment
 
-abbrev pub Early : ℕ → List Activation → Type 0
-Early n activations = AllByRecursion (λ (a : Activation). a.begin ≤ n) activations
+abbrev pub AllBegunBy : ℕ → List Activation → Type 0
+AllBegunBy n activations = AllByRecursion (λ (a : Activation). a.begin ≤ n) activations
 
-pub early-push : (n : ℕ) (activations : List Activation) (a : Activation) → Early n activations → a.begin ≤ n → Early n (activations ++ a ∷ [])
-early-push n [] a each is = (is, tt)
-early-push n (b ∷ rest) a each is = (each.0, early-push n rest a each.1 is)
+pub all_begun-push : (n : ℕ) (activations : List Activation) (a : Activation) → AllBegunBy n activations → a.begin ≤ n → AllBegunBy n (activations ++ a ∷ [])
+all_begun-push n [] a each is = (is, tt)
+all_begun-push n (b ∷ rest) a each is = (each.0, all_begun-push n rest a each.1 is)
 
-pub early-set : (n : ℕ) (activations : List Activation) (at : ℕ) (a : Activation) → Early n activations → a.begin ≤ n → Early n (slice_set activations at a)
-early-set n [] at a each is = tt
-early-set n (b ∷ rest) zero a each is = (is, each.1)
-early-set n (b ∷ rest) (suc at) a each is = (each.0, early-set n rest at a each.1 is)
+pub all_begun-set : (n : ℕ) (activations : List Activation) (at : ℕ) (a : Activation) → AllBegunBy n activations → a.begin ≤ n → AllBegunBy n (slice_set activations at a)
+all_begun-set n [] at a each is = tt
+all_begun-set n (b ∷ rest) zero a each is = (is, each.1)
+all_begun-set n (b ∷ rest) (suc at) a each is = (each.0, all_begun-set n rest at a each.1 is)
 
-pub early-at : (n : ℕ) (activations : List Activation) (at : ℕ) (a : Activation) → Early n activations → slice_get activations at ≡ Some a → a.begin ≤ n
-early-at n [] at a each found = absurd (let no : None ≡ Some a → ⊥ = λ e. cc in no found)
-early-at n (b ∷ rest) zero a each found = subst (λ (x : Activation). x.begin ≤ n) (let one : Some b ≡ Some a → b ≡ a = λ e. cc in one found) each.0
-early-at n (b ∷ rest) (suc at) a each found = early-at n rest at a each.1 found
+pub all_begun-at : (n : ℕ) (activations : List Activation) (at : ℕ) (a : Activation) → AllBegunBy n activations → slice_get activations at ≡ Some a → a.begin ≤ n
+all_begun-at n [] at a each found = absurd (let no : None ≡ Some a → ⊥ = λ e. cc in no found)
+all_begun-at n (b ∷ rest) zero a each found = subst (λ (x : Activation). x.begin ≤ n) (let one : Some b ≡ Some a → b ≡ a = λ e. cc in one found) each.0
+all_begun-at n (b ∷ rest) (suc at) a each found = all_begun-at n rest at a each.1 found
 
-pub early-end : (n step : ℕ) (t : Trace) → Early n t.activations → Early n (with_end step t).activations
-early-end n step t each = by t.live
+pub all_begun-end : (n step : ℕ) (t : Trace) → AllBegunBy n t.activations → AllBegunBy n (with_end step t).activations
+all_begun-end n step t each = by t.live
   where
     set : (number : ℕ) (o : Option Activation) → slice_get t.activations number ≡ o
-        → Early n (option_map_or (λ (a : Activation). slice_set t.activations number (record a { «end» = Some step })) o t.activations)
+        → AllBegunBy n (option_map_or (λ (a : Activation). slice_set t.activations number (record a { «end» = Some step })) o t.activations)
     set number None found = each
-    set number (Some a) found = early-set n t.activations number (record a { «end» = Some step }) each (early-at n t.activations number a each found)
+    set number (Some a) found = all_begun-set n t.activations number (record a { «end» = Some step }) each (all_begun-at n t.activations number a each found)
 
-    by : (live : List ℕ) → Early n (without_current step live t).activations
+    by : (live : List ℕ) → AllBegunBy n (without_current step live t).activations
     by [] = each
     by (number ∷ rest) = set number (slice_get t.activations number) refl
 
-pub early-change : (n step : ℕ) (t : Trace) (c : Change) → step ≤ n → Early n t.activations → Early n (trace_changed step t c).activations
-early-change n step t (Loads classes) le each = each
-early-change n step t (Began method) le each = early-push n t.activations (record { method = method; parent = current t.live; begin = step; «end» = None }) each le
-early-change n step t Left le each = early-end n step t each
-early-change n step t Unwound le each = early-end n step t each
+pub all_begun-change : (n step : ℕ) (t : Trace) (c : Change) → step ≤ n → AllBegunBy n t.activations → AllBegunBy n (trace_changed step t c).activations
+all_begun-change n step t (Loads classes) le each = each
+all_begun-change n step t (Began method) le each = all_begun-push n t.activations (record { method = method; parent = current t.live; begin = step; «end» = None }) each le
+all_begun-change n step t Left le each = all_begun-end n step t each
+all_begun-change n step t Unwound le each = all_begun-end n step t each
 
-pub early-changes : (n step : ℕ) (t : Trace) (changes : List Change) → step ≤ n → Early n t.activations → Early n (all_changed step t changes).activations
-early-changes n step t [] le each = each
-early-changes n step t (c ∷ more) le each = early-changes n step (trace_changed step t c) more le (early-change n step t c le each)
+pub all_begun-changes : (n step : ℕ) (t : Trace) (changes : List Change) → step ≤ n → AllBegunBy n t.activations → AllBegunBy n (all_changed step t changes).activations
+all_begun-changes n step t [] le each = each
+all_begun-changes n step t (c ∷ more) le each = all_begun-changes n step (trace_changed step t c) more le (all_begun-change n step t c le each)
 
-pub trace-early : (w : World) (n k : ℕ) → k ≤ n → Early n (trace w k).activations
-trace-early w n zero le = subst (λ (t : Trace). Early n t.activations) (sym (trace_in-zero w (original w.program))) (early-changes n 0 no_trace (turn w 0).changes le tt)
-trace-early w n (suc k) le =
-    subst (λ (t : Trace). Early n t.activations) (sym (trace_in-suc w (original w.program) k))
-    (early-changes n (suc k) (trace w k) (turn w (suc k)).changes le (trace-early w n k (omega arith)))
+pub trace-all_begun : (w : World) (n k : ℕ) → k ≤ n → AllBegunBy n (trace w k).activations
+trace-all_begun w n zero le = subst (λ (t : Trace). AllBegunBy n t.activations) (sym (trace_in-zero w (original w.program))) (all_begun-changes n 0 no_trace (turn w 0).changes le tt)
+trace-all_begun w n (suc k) le =
+    subst (λ (t : Trace). AllBegunBy n t.activations) (sym (trace_in-suc w (original w.program) k))
+    (all_begun-changes n (suc k) (trace w k) (turn w (suc k)).changes le (trace-all_begun w n k (omega arith)))
 
 module _ (acts : List Act) (x : Act) (behind : 1 ≤ x.moment) where
   abbrev pub more : List Act
@@ -112,29 +112,29 @@ module _ (acts : List Act) (x : Act) (behind : 1 ≤ x.moment) where
 
   -- ---- paths
 
-  same-paths_after : (paths : List (List ℕ)) (activations : List Activation) → Early x.moment activations → paths_after more paths activations ≡ paths_after acts paths activations
+  same-paths_after : (paths : List (List ℕ)) (activations : List Activation) → AllBegunBy x.moment activations → paths_after more paths activations ≡ paths_after acts paths activations
   same-paths_after paths [] each = refl
   same-paths_after paths (a ∷ rest) each =
       let path = path_in paths a.parent in
       let same : path_below more a path ≡ path_below acts a path = ap (λ b. if b || is_inside path then path ++ a.method ∷ [] else []) (same-root a each.0) in
       ap (λ q. paths_after more (paths ++ q ∷ []) rest) same ∙ same-paths_after (paths ++ path_below acts a path ∷ []) rest each.1
 
-  pub same-paths : (activations : List Activation) → Early x.moment activations → paths_of more activations ≡ paths_of acts activations
+  pub same-paths : (activations : List Activation) → AllBegunBy x.moment activations → paths_of more activations ≡ paths_of acts activations
   same-paths activations each =
       paths_of-recursion more activations ∙ (same-paths_after [] activations each ∙ sym (paths_of-recursion acts activations))
 
-  pub same-has_root : (activations : List Activation) (live : List ℕ) → Early x.moment activations → has_root more activations live ≡ has_root acts activations live
+  pub same-has_root : (activations : List Activation) (live : List ℕ) → AllBegunBy x.moment activations → has_root more activations live ≡ has_root acts activations live
   same-has_root activations [] each = refl
   same-has_root activations (number ∷ rest) each =
       ap₂ (λ a b. a || b) (by (slice_get activations number) refl) (same-has_root activations rest each)
     where
       by : (o : Option Activation) → slice_get activations number ≡ o → option_map_or (is_root more) o false ≡ option_map_or (is_root acts) o false
       by None found = refl
-      by (Some a) found = same-root a (early-at x.moment activations number a each found)
+      by (Some a) found = same-root a (all_begun-at x.moment activations number a each found)
 
   -- ---- what stands
 
-  pub same-settled : (s : Standing) → Early x.moment s.trace.activations → standing_settled more s ≡ standing_settled acts s
+  pub same-settled : (s : Standing) → AllBegunBy x.moment s.trace.activations → standing_settled more s ≡ standing_settled acts s
   same-settled s each =
       ap (λ b. let r : Standing = if is_empty s.selected && not b then record s { entered = [] } else s in r) (same-has_root s.trace.activations s.trace.live each)
 
@@ -149,19 +149,19 @@ module _ (acts : List Act) (x : Act) (behind : 1 ≤ x.moment) where
   acts-trace acts [] s = refl
   acts-trace acts (act ∷ todo) s = acts-trace acts todo (after_act acts s act) ∙ settled-trace acts (record s { selected = methods_selected act s.selected })
 
-  pub same-acts : (todo : List Act) (s : Standing) → Early x.moment s.trace.activations → after_acts more s todo ≡ after_acts acts s todo
+  pub same-acts : (todo : List Act) (s : Standing) → AllBegunBy x.moment s.trace.activations → after_acts more s todo ≡ after_acts acts s todo
   same-acts [] s each = refl
   same-acts (act ∷ todo) s each =
       let one : after_act more s act ≡ after_act acts s act = same-settled (record s { selected = methods_selected act s.selected }) each in
       ap (λ r. after_acts more r todo) one
       ∙ same-acts todo (after_act acts s act)
-      (subst (λ (t : Trace). Early x.moment t.activations) (sym (settled-trace acts (record s { selected = methods_selected act s.selected }))) each)
+      (subst (λ (t : Trace). AllBegunBy x.moment t.activations) (sym (settled-trace acts (record s { selected = methods_selected act s.selected }))) each)
 
-  same-change : (step : ℕ) (s : Standing) (c : Change) → step ≤ x.moment → Early x.moment s.trace.activations → after_change more step s c ≡ after_change acts step s c
+  same-change : (step : ℕ) (s : Standing) (c : Change) → step ≤ x.moment → AllBegunBy x.moment s.trace.activations → after_change more step s c ≡ after_change acts step s c
   same-change step s (Loads classes) le each = refl
   same-change step s (Began method) le each =
       let t = trace_changed step s.trace (Began method) in
-      let paths : paths_of more t.activations ≡ paths_of acts t.activations = same-paths t.activations (early-change x.moment step s.trace (Began method) le each) in
+      let paths : paths_of more t.activations ≡ paths_of acts t.activations = same-paths t.activations (all_begun-change x.moment step s.trace (Began method) le each) in
       ap (λ q. let r : Standing = record s { entered = if is_inside (path_in q (current t.live)) then with_entered method s.entered else s.entered; trace = t } in r) paths
   same-change step s Left le each = refl
   same-change step s Unwound le each = refl
@@ -172,36 +172,36 @@ module _ (acts : List Act) (x : Act) (behind : 1 ≤ x.moment) where
   change-trace acts step s Left = refl
   change-trace acts step s Unwound = refl
 
-  -- all that stands at a time is early
-  abbrev IsBeforeTheRun : Standing → Type 0
-  IsBeforeTheRun s = Early x.moment s.trace.activations
+  -- all activations that stand at a time have begun by the moment
+  abbrev HasBegunBy : Standing → Type 0
+  HasBegunBy s = AllBegunBy x.moment s.trace.activations
 
-  early-after : (acts : List Act) (step : ℕ) (s : Standing) (c : Change) → step ≤ x.moment → IsBeforeTheRun s → IsBeforeTheRun (after_change acts step s c)
-  early-after acts step s c le each = subst (λ (t : Trace). Early x.moment t.activations) (sym (change-trace acts step s c)) (early-change x.moment step s.trace c le each)
+  all_begun-after : (acts : List Act) (step : ℕ) (s : Standing) (c : Change) → step ≤ x.moment → HasBegunBy s → HasBegunBy (after_change acts step s c)
+  all_begun-after acts step s c le each = subst (λ (t : Trace). AllBegunBy x.moment t.activations) (sym (change-trace acts step s c)) (all_begun-change x.moment step s.trace c le each)
 
-  same-changes : (step : ℕ) (s : Standing) (changes : List Change) → step ≤ x.moment → IsBeforeTheRun s → after_changes more step s changes ≡ after_changes acts step s changes
+  same-changes : (step : ℕ) (s : Standing) (changes : List Change) → step ≤ x.moment → HasBegunBy s → after_changes more step s changes ≡ after_changes acts step s changes
   same-changes step s [] le each = refl
   same-changes step s (c ∷ rest) le each =
-      ap (λ r. after_changes more step r rest) (same-change step s c le each) ∙ same-changes step (after_change acts step s c) rest le (early-after acts step s c le each)
+      ap (λ r. after_changes more step r rest) (same-change step s c le each) ∙ same-changes step (after_change acts step s c) rest le (all_begun-after acts step s c le each)
 
-  changes-early : (acts : List Act) (step : ℕ) (s : Standing) (changes : List Change) → step ≤ x.moment → IsBeforeTheRun s → IsBeforeTheRun (after_changes acts step s changes)
-  changes-early acts step s [] le each = each
-  changes-early acts step s (c ∷ rest) le each = changes-early acts step (after_change acts step s c) rest le (early-after acts step s c le each)
+  changes-all_begun : (acts : List Act) (step : ℕ) (s : Standing) (changes : List Change) → step ≤ x.moment → HasBegunBy s → HasBegunBy (after_changes acts step s changes)
+  changes-all_begun acts step s [] le each = each
+  changes-all_begun acts step s (c ∷ rest) le each = changes-all_begun acts step (after_change acts step s c) rest le (all_begun-after acts step s c le each)
 
-  ended-early : (acts todo : List Act) (step : ℕ) (s : Standing) (changes : List Change) → step ≤ x.moment → IsBeforeTheRun s
-      → IsBeforeTheRun (after_acts acts (standing_settled acts (after_changes acts step s changes)) todo)
-  ended-early acts todo step s changes le each =
-      subst (λ (t : Trace). Early x.moment t.activations)
+  ended-all_begun : (acts todo : List Act) (step : ℕ) (s : Standing) (changes : List Change) → step ≤ x.moment → HasBegunBy s
+      → HasBegunBy (after_acts acts (standing_settled acts (after_changes acts step s changes)) todo)
+  ended-all_begun acts todo step s changes le each =
+      subst (λ (t : Trace). AllBegunBy x.moment t.activations)
       (sym (acts-trace acts todo (standing_settled acts (after_changes acts step s changes)) ∙ settled-trace acts (after_changes acts step s changes)))
-      (changes-early acts step s changes le each)
+      (changes-all_begun acts step s changes le each)
 
   module _ (w : World) (t : Listing) where
-    pub standing-early : (k : ℕ) → k ≤ suc x.moment → IsBeforeTheRun (standing_in acts w t k)
-    standing-early zero le =
-        subst IsBeforeTheRun (sym (standing_in-zero acts w t)) (subst (λ (r : Trace). Early x.moment r.activations) (sym (acts-trace acts (acts_at 0 acts) (nothing w))) tt)
-    standing-early (suc k) le =
-        subst IsBeforeTheRun (sym (standing_in-suc acts w t k))
-        (ended-early acts (acts_behind k acts) k (standing_in acts w t k) (turn_in w t k).changes (omega arith) (standing-early k (omega arith)))
+    pub standing-all_begun : (k : ℕ) → k ≤ suc x.moment → HasBegunBy (standing_in acts w t k)
+    standing-all_begun zero le =
+        subst HasBegunBy (sym (standing_in-zero acts w t)) (subst (λ (r : Trace). AllBegunBy x.moment r.activations) (sym (acts-trace acts (acts_at 0 acts) (nothing w))) tt)
+    standing-all_begun (suc k) le =
+        subst HasBegunBy (sym (standing_in-suc acts w t k))
+        (ended-all_begun acts (acts_behind k acts) k (standing_in acts w t k) (turn_in w t k).changes (omega arith) (standing-all_begun k (omega arith)))
 
     pub same-behind : (k : ℕ) → k < x.moment → acts_behind k more ≡ acts_behind k acts
     same-behind zero less = refl
@@ -216,15 +216,15 @@ module _ (acts : List Act) (x : Act) (behind : 1 ≤ x.moment) where
     same-standing (suc k) le =
         let s = standing_in acts w t k in
         let changes = (turn_in w t k).changes in
-        let each = standing-early k (omega arith) in
+        let each = standing-all_begun k (omega arith) in
         let less : k < x.moment = omega arith in
         let after : after_changes more k s changes ≡ after_changes acts k s changes = same-changes k s changes (omega arith) each in
         let ended : standing_settled more (after_changes more k s changes) ≡ standing_settled acts (after_changes acts k s changes) =
-        ap (standing_settled more) after ∙ same-settled (after_changes acts k s changes) (changes-early acts k s changes (omega arith) each) in
+        ap (standing_settled more) after ∙ same-settled (after_changes acts k s changes) (changes-all_begun acts k s changes (omega arith) each) in
         standing_in-suc more w t k
         ∙ (ap (λ r. after_step more k r changes) (same-standing k (omega arith))
         ∙ (ap₂ (λ r todo. after_acts more r todo) ended (same-behind k less)
-        ∙ (same-acts (acts_behind k acts) (standing_settled acts (after_changes acts k s changes)) (ended-early acts [] k s changes (omega arith) each)
+        ∙ (same-acts (acts_behind k acts) (standing_settled acts (after_changes acts k s changes)) (ended-all_begun acts [] k s changes (omega arith) each)
         ∙ sym (standing_in-suc acts w t k))))
 
     pub acts-last : (acts todo : List Act) (s : Standing) (y : Act) → after_acts acts s (todo ++ y ∷ []) ≡ after_act acts (after_acts acts s todo) y
@@ -242,10 +242,10 @@ module _ (acts : List Act) (x : Act) (behind : 1 ≤ x.moment) where
             let s = standing_in acts w t n in
             let changes = (turn_in w t n).changes in
             let le : n ≤ x.moment = omega arith in
-            let each = standing-early n (omega arith) in
+            let each = standing-all_begun n (omega arith) in
             let after : after_changes more n s changes ≡ after_changes acts n s changes = same-changes n s changes le each in
             let ended : standing_settled more (after_changes more n s changes) ≡ standing_settled acts (after_changes acts n s changes) =
-            ap (standing_settled more) after ∙ same-settled (after_changes acts n s changes) (changes-early acts n s changes le each) in
+            ap (standing_settled more) after ∙ same-settled (after_changes acts n s changes) (changes-all_begun acts n s changes le each) in
             let todo : acts_behind n more ≡ acts_behind n acts ++ x ∷ [] =
             ap (λ k. acts_behind k more) e ∙ (filter-last (λ (act : Act). act.moment == suc k) acts x (eq-eqb x.moment (suc k) e) ∙ ap (λ k. acts_behind k acts ++ x ∷ []) (sym e)) in
             let before_x = after_acts acts (standing_settled acts (after_changes acts n s changes)) (acts_behind n acts) in
@@ -253,8 +253,8 @@ module _ (acts : List Act) (x : Act) (behind : 1 ≤ x.moment) where
             ∙ (ap (λ r. after_step more n r changes) (same-standing n le)
             ∙ (ap₂ (λ r l. after_acts more r l) ended todo
             ∙ (acts-last more (acts_behind n acts) (standing_settled acts (after_changes acts n s changes)) x
-            ∙ (ap (λ r. after_act more r x) (same-acts (acts_behind n acts) (standing_settled acts (after_changes acts n s changes)) (ended-early acts [] n s changes le each))
-            ∙ (same-settled (record before_x { selected = methods_selected x before_x.selected }) (ended-early acts (acts_behind n acts) n s changes le each)
+            ∙ (ap (λ r. after_act more r x) (same-acts (acts_behind n acts) (standing_settled acts (after_changes acts n s changes)) (ended-all_begun acts [] n s changes le each))
+            ∙ (same-settled (record before_x { selected = methods_selected x before_x.selected }) (ended-all_begun acts (acts_behind n acts) n s changes le each)
             ∙ ap (λ r. after_act acts r x) (sym (standing_in-suc acts w t n)))))))
 
     -- ---- marks
@@ -283,37 +283,37 @@ module _ (acts : List Act) (x : Act) (behind : 1 ≤ x.moment) where
     pub same-mark : (step method : ℕ) → step ≤ x.moment → after step method ≡ before step method
     same-mark step method le = same-marking w (original w.program) code step method le
 
-    pub same-end : (k : EventKind) (step : ℕ) (t : Trace) → Early x.moment t.activations → end_of after k step t ≡ end_of before k step t
+    pub same-end : (k : EventKind) (step : ℕ) (t : Trace) → AllBegunBy x.moment t.activations → end_of after k step t ≡ end_of before k step t
     same-end k step t each = by t.live
       where
         at : (number : ℕ) (o : Option Activation) → slice_get t.activations number ≡ o
             → option_map_or (λ (a : Activation). end_events k step a.method (after a.begin a.method)) o []
             ≡ option_map_or (λ (a : Activation). end_events k step a.method (before a.begin a.method)) o []
         at number None found = refl
-        at number (Some a) found = ap (end_events k step a.method) (same-mark a.begin a.method (early-at x.moment t.activations number a each found))
+        at number (Some a) found = ap (end_events k step a.method) (same-mark a.begin a.method (all_begun-at x.moment t.activations number a each found))
 
         by : (live : List ℕ) → option_map_or (λ (a : Activation). end_events k step a.method (after a.begin a.method)) (option_and_then (slice_get t.activations) (current live)) []
             ≡ option_map_or (λ (a : Activation). end_events k step a.method (before a.begin a.method)) (option_and_then (slice_get t.activations) (current live)) []
         by [] = refl
         by (number ∷ rest) = at number (slice_get t.activations number) refl
 
-    pub same-told : (step : ℕ) (t : Trace) (c : Change) → step ≤ x.moment → Early x.moment t.activations → events_told after step t c ≡ events_told before step t c
+    pub same-told : (step : ℕ) (t : Trace) (c : Change) → step ≤ x.moment → AllBegunBy x.moment t.activations → events_told after step t c ≡ events_told before step t c
     same-told step t (Loads classes) le each = refl
     same-told step t (Began method) le each = ap (begin_events step method) (same-mark step method le)
     same-told step t Left le each = same-end kind.Leave step t each
     same-told step t Unwound le each = same-end kind.Unwind step t each
 
-    pub same-all : (step : ℕ) (t : Trace) (changes : List Change) → step ≤ x.moment → Early x.moment t.activations → all_told after step t changes ≡ all_told before step t changes
+    pub same-all : (step : ℕ) (t : Trace) (changes : List Change) → step ≤ x.moment → AllBegunBy x.moment t.activations → all_told after step t changes ≡ all_told before step t changes
     same-all step t [] le each = refl
     same-all step t (c ∷ rest) le each =
-        ap₂ (λ (a b : List Event). a ++ b) (same-told step t c le each) (same-all step (trace_changed step t c) rest le (early-change x.moment step t c le each))
+        ap₂ (λ (a b : List Event). a ++ b) (same-told step t c le each) (same-all step (trace_changed step t c) rest le (all_begun-change x.moment step t c le each))
 
     -- What was told up to its moment stays told.
     pub same-events : (n : ℕ) → n ≤ x.moment → events_of after w n ≡ events_of before w n
     same-events zero le = events_of-zero after w ∙ (same-all 0 no_trace (turn w 0).changes le tt ∙ sym (events_of-zero before w))
     same-events (suc n) le =
         events_of-suc after w n
-        ∙ (ap₂ (λ (a b : List Event). a ++ b) (same-events n (omega arith)) (same-all (suc n) (trace w n) (turn w (suc n)).changes le (trace-early w x.moment n (omega arith)))
+        ∙ (ap₂ (λ (a b : List Event). a ++ b) (same-events n (omega arith)) (same-all (suc n) (trace w n) (turn w (suc n)).changes le (trace-all_begun w x.moment n (omega arith)))
         ∙ sym (events_of-suc before w n))
 
   same-made : (w : World) (n : ℕ) → n ≤ x.moment → paths_made more w n ≡ paths_made acts w n
@@ -321,38 +321,38 @@ module _ (acts : List Act) (x : Act) (behind : 1 ≤ x.moment) where
   same-made w (suc n) le =
       paths_made-suc more w n
       ∙ (ap₂ (λ (a : List (List ℕ)) (b : List (List ℕ)). a ++ path_in b (who w (suc n)) ∷ []) (same-made w n (omega arith))
-      (same-paths (trace w (suc n)).activations (trace-early w x.moment (suc n) le))
+      (same-paths (trace w (suc n)).activations (trace-all_begun w x.moment (suc n) le))
       ∙ sym (paths_made-suc acts w n))
 
   pub same-projection : (w : World) (n : ℕ) → n ≤ x.moment → projection more w n ≡ projection acts w n
-  same-projection w n le = ap₂ contexts_of (same-paths (trace w n).activations (trace-early w x.moment n le)) (same-made w n le)
+  same-projection w n le = ap₂ contexts_of (same-paths (trace w n).activations (trace-all_begun w x.moment n le)) (same-made w n le)
 
   -- ---- points
 
-  same-profiled : (t : Trace) → Early x.moment t.activations → is_profiled more t ≡ is_profiled acts t
+  same-profiled : (t : Trace) → AllBegunBy x.moment t.activations → is_profiled more t ≡ is_profiled acts t
   same-profiled t each = ap (λ q. is_inside (path_in q (current t.live))) (same-paths t.activations each)
 
-  same-change_point : (step : ℕ) (c : Change) (s : Standing) → IsBeforeTheRun s → change_point more step c s ≡ change_point acts step c s
+  same-change_point : (step : ℕ) (c : Change) (s : Standing) → HasBegunBy s → change_point more step c s ≡ change_point acts step c s
   same-change_point step (Loads classes) s each = refl
   same-change_point step (Began method) s each = ap (λ b. let r : List Point = if b then point step s ∷ [] else [] in r) (same-profiled s.trace each)
   same-change_point step Left s each = refl
   same-change_point step Unwound s each = refl
 
-  same-change_points : (step : ℕ) (s : Standing) (changes : List Change) → step ≤ x.moment → IsBeforeTheRun s → change_points more step s changes ≡ change_points acts step s changes
+  same-change_points : (step : ℕ) (s : Standing) (changes : List Change) → step ≤ x.moment → HasBegunBy s → change_points more step s changes ≡ change_points acts step s changes
   same-change_points step s [] le each = refl
   same-change_points step s (c ∷ rest) le each =
       let next = after_change acts step s c in
-      let early = early-after acts step s c le each in
+      let begun = all_begun-after acts step s c le each in
       ap (λ r. change_point more step c r ++ change_points more step r rest) (same-change step s c le each)
-      ∙ ap₂ (λ (a b : List Point). a ++ b) (same-change_point step c next early) (same-change_points step next rest le early)
+      ∙ ap₂ (λ (a b : List Point). a ++ b) (same-change_point step c next begun) (same-change_points step next rest le begun)
 
-  same-act_points : (step : ℕ) (s : Standing) (todo : List Act) → IsBeforeTheRun s → act_points more step s todo ≡ act_points acts step s todo
+  same-act_points : (step : ℕ) (s : Standing) (todo : List Act) → HasBegunBy s → act_points more step s todo ≡ act_points acts step s todo
   same-act_points step s [] each = refl
   same-act_points step s (act ∷ todo) each =
       let chosen_s : Standing = record s { selected = methods_selected act s.selected } in
       ap (λ r. point step r ∷ act_points more step r todo) (same-settled chosen_s each)
       ∙ ap (λ l. point step (after_act acts s act) ∷ l)
-      (same-act_points step (after_act acts s act) todo (subst (λ (t : Trace). Early x.moment t.activations) (sym (settled-trace acts chosen_s)) each))
+      (same-act_points step (after_act acts s act) todo (subst (λ (t : Trace). AllBegunBy x.moment t.activations) (sym (settled-trace acts chosen_s)) each))
 
   act_points-last : (step : ℕ) (s : Standing) (todo : List Act) (y : Act)
       → act_points acts step s (todo ++ y ∷ []) ≡ act_points acts step s todo ++ point step (after_act acts (after_acts acts s todo) y) ∷ []
@@ -365,9 +365,9 @@ module _ (acts : List Act) (x : Act) (behind : 1 ≤ x.moment) where
         → standing_settled more (after_changes more n (standing_in acts w t n) (turn_in w t n).changes) ≡ standing_settled acts (after_changes acts n (standing_in acts w t n) (turn_in w t n).changes)
     ended-same n le =
         let s = standing_in acts w t n in
-        let each = standing-early w t n (omega arith) in
+        let each = standing-all_begun w t n (omega arith) in
         ap (standing_settled more) (same-changes n s (turn_in w t n).changes le each)
-        ∙ same-settled (after_changes acts n s (turn_in w t n).changes) (changes-early acts n s (turn_in w t n).changes le each)
+        ∙ same-settled (after_changes acts n s (turn_in w t n).changes) (changes-all_begun acts n s (turn_in w t n).changes le each)
 
     -- with these actions behind the step
     step-points-same : (n : ℕ) (todo : List Act) → n ≤ x.moment
@@ -380,11 +380,11 @@ module _ (acts : List Act) (x : Act) (behind : 1 ≤ x.moment) where
     step-points-same n todo le =
         let s = standing_in acts w t n in
         let changes = (turn_in w t n).changes in
-        let each = standing-early w t n (omega arith) in
+        let each = standing-all_begun w t n (omega arith) in
         let ended = standing_settled acts (after_changes acts n s changes) in
         ap (λ r. change_points more n s changes ++ point n r ∷ act_points more n r todo) (ended-same n le)
         ∙ ap₂ (λ (a b : List Point). a ++ point n ended ∷ b) (same-change_points n s changes le each)
-        (same-act_points n ended todo (ended-early acts [] n s changes le each))
+        (same-act_points n ended todo (ended-all_begun acts [] n s changes le each))
 
     pub same-points : (n : ℕ) → n < x.moment → points_in more w t n ≡ points_in acts w t n
     same-points zero less =

@@ -3,7 +3,7 @@ use Rattle.jf_bytes.specs.Streams.{Told}
 use Rattle.command_line.specs.Words.{texts}
 use Rattle.jfluid_cli.specs.Contents.{AreFetched, IsFrontFor}
 use Rattle.jfluid_cli.specs.Sinks.{files_view}
-use Rattle.jfluid_cli.proofs.Runs.Early.{one-refusal, one-fault}
+use Rattle.jfluid_cli.proofs.Runs.BeforeTheRun.{one-refusal, one-fault}
 use Rattle.jfluid_cli.proofs.Reports.Pairs.{there-among, zip-more}
 use Rattle.jfluid_cli.proofs.loading.fetch_all.Goals as goal
 

@@ -5,7 +5,7 @@ use Rattle.command_line.specs.Words.{read_in, texts}
 use Rattle.jfluid_cli.specs.Contents.{AreFetched}
 use Rattle.jfluid_cli.specs.Stages.{IsFetchRefusal, IsLoaded}
 use Rattle.jfluid_cli.specs.Words.{Command, command_with}
-use Rattle.jfluid_cli.proofs.Runs.Early.{due-fetch, due-mainless, fetched, loaded, made-command}
+use Rattle.jfluid_cli.proofs.Runs.BeforeTheRun.{due-fetch, due-mainless, fetched, loaded, made-command}
 use Rattle.jfluid_cli.proofs.loading.load_files.Goals as goal
 
 pub returns-in_default-clause-before_the_run : goal.returns-in_default-clause-before_the_run

@@ -11,7 +11,7 @@ use Rattle.jfluid_cli.specs.Stages.{IsBeforeTheRun}
 use Rattle.jfluid_cli.specs.Words.{Command, command_with}
 use Rattle.jfluid_cli.proofs.Runs.Admitted.{acts-in-order}
 use Rattle.jfluid_cli.proofs.Actions.Alternating.{acts-alternating}
-use Rattle.jfluid_cli.proofs.Runs.Early.{admission-calm, due-mainless, made-command}
+use Rattle.jfluid_cli.proofs.Runs.BeforeTheRun.{admission-calm, due-mainless, made-command}
 use Rattle.jfluid_cli.proofs.Files.Generating.{due-generated, generation-fits, loaded-generated, made-generated}
 use Rattle.jfluid_cli.proofs.loading.load_generated.Goals as goal
 

@@ -3,7 +3,7 @@ use Rattle.jf_bytes.specs.Streams.{Told}
 use Rattle.command_line.specs.Words.{read_in}
 use Rattle.jfluid_cli.specs.Asking.{IsPlanFor}
 use Rattle.jfluid_cli.specs.Sinks.{files_view}
-use Rattle.jfluid_cli.proofs.Runs.Early.{due-plan, later-fault}
+use Rattle.jfluid_cli.proofs.Runs.BeforeTheRun.{due-plan, later-fault}
 use Rattle.jfluid_cli.proofs.loading.prepare.Goals as goal
 
 pub returns-in-Err-clause-before_the_run : goal.returns-in-Err-clause-before_the_run

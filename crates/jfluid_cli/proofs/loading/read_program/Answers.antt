@@ -5,7 +5,7 @@ use Rattle.jfluid_cli.specs.Refusals.{status_of}
 use Rattle.jfluid_cli.specs.Stages.{IsBeforeTheRun}
 use Rattle.jfluid_cli.specs.Asking.{asked_for}
 use Rattle.jfluid_cli.specs.Contents.{SpellsAlone}
-use Rattle.jfluid_cli.proofs.Runs.Early.{admission-calm, due-admission, due-unread}
+use Rattle.jfluid_cli.proofs.Runs.BeforeTheRun.{admission-calm, due-admission, due-unread}
 use Rattle.jfluid_cli.proofs.Runs.Admitted.{acts-in-order, first-classes}
 use Rattle.jfluid_cli.proofs.Actions.Alternating.{acts-alternating}
 use Rattle.jfluid_cli.proofs.Reports.Pairs.{zip-length}

@@ -16,8 +16,8 @@ take_act-requires-clause-fits c =
     due-fits c.loop-next.session c.loop-next.next c.in-Some.act
     (subst (λ (p : Program). CanBeTaken p.acts) (sym (ap (λ (s : Profiling). s.program) same)) c.requires.acts)
     c.loop-next.invariant.along c.in-Some.ensures.due
-    (λ early. ap (λ (s : Profiling). s.clock) same
-    ∙ c.requires.before_the_run (sym (ap (λ (s : Profiling). s.started) same) ∙ early))
+    (λ before_the_run. ap (λ (s : Profiling). s.clock) same
+    ∙ c.requires.before_the_run (sym (ap (λ (s : Profiling). s.started) same) ∙ before_the_run))
 
 pub loop-next-preserved : goal.loop-next-preserved
 loop-next-preserved c =

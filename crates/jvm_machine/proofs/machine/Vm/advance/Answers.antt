@@ -19,7 +19,7 @@ use Rattle.jvm_machine.proofs.Versions.HeldVersions.{as-viewed, seen-is, tidy-lo
 use Rattle.jvm_machine.proofs.machine.Vm.advance.Goals as goal
 
 pub take_up-requires-clause-at_start : goal.take_up-requires-clause-at_start
-take_up-requires-clause-at_start c = λ early resting. (c.self.invariant.machine.whole (ap (λ (v : View). v.broken) (seen-is c.self.invariant c.self.view_is) ∙ c.requires.whole)).first early
+take_up-requires-clause-at_start c = λ before_the_run resting. (c.self.invariant.machine.whole (ap (λ (v : View). v.broken) (seen-is c.self.invariant c.self.view_is) ∙ c.requires.whole)).first before_the_run
 
 pub take_up-requires-clause-linked : goal.take_up-requires-clause-linked
 take_up-requires-clause-linked c = c.self.invariant.linked (ap (λ (v : View). v.broken) (seen-is c.self.invariant c.self.view_is) ∙ c.requires.whole)
@@ -53,7 +53,7 @@ invariant_of-self-then-not-is_empty c = record {
   linked = λ whole. c.in_ok-taken.ensures.linked;
   tidy = λ whole. tidy-taken (setup_in c.self.inside.parts.runtime c.self.inside.originals) (setup_in c.take_up.new.parts.runtime c.take_up.new.originals) c.is_resting-resting.result c.self.inside.started
       (state_of c.self.inside.initializing c.self.inside.parts) (state_of c.take_up.new.initializing c.take_up.new.parts) (same-setup c.self.inside.parts.runtime c.take_up.new.parts.runtime c.self.inside.originals c.take_up.new.originals c.take_up.ensures.world c.take_up.ensures.versions) c.in_ok-taken.ensures.state
-      (λ early. ap (λ (z : State). z.stack) ((c.self.invariant.machine.whole (ap (λ (v : View). v.broken) c.self.view_is ∙ c.requires.whole)).first early).before) (c.self.invariant.tidy (ap (λ (v : View). v.broken) c.self.view_is ∙ c.requires.whole));
+      (λ before_the_run. ap (λ (z : State). z.stack) ((c.self.invariant.machine.whole (ap (λ (v : View). v.broken) c.self.view_is ∙ c.requires.whole)).first before_the_run).before) (c.self.invariant.tidy (ap (λ (v : View). v.broken) c.self.view_is ∙ c.requires.whole));
 }
 
 pub returns-then-not-is_empty-clause-ok : goal.returns-then-not-is_empty-clause-ok
@@ -62,7 +62,7 @@ returns-then-not-is_empty-clause-ok c =
     (TellsClasses c.args.self.now c.in_ok-taken.taken.loads)
     (tidy-taken (setup_in c.self.inside.parts.runtime c.self.inside.originals) (setup_in c.take_up.new.parts.runtime c.take_up.new.originals) c.is_resting-resting.result c.self.inside.started
     (state_of c.self.inside.initializing c.self.inside.parts) (state_of c.take_up.new.initializing c.take_up.new.parts) (same-setup c.self.inside.parts.runtime c.take_up.new.parts.runtime c.self.inside.originals c.take_up.new.originals c.take_up.ensures.world c.take_up.ensures.versions) c.in_ok-taken.ensures.state
-    (λ early. ap (λ (z : State). z.stack) ((c.self.invariant.machine.whole (ap (λ (v : View). v.broken) c.self.view_is ∙ c.requires.whole)).first early).before) (c.self.invariant.tidy (ap (λ (v : View). v.broken) c.self.view_is ∙ c.requires.whole)))
+    (λ before_the_run. ap (λ (z : State). z.stack) ((c.self.invariant.machine.whole (ap (λ (v : View). v.broken) c.self.view_is ∙ c.requires.whole)).first before_the_run).before) (c.self.invariant.tidy (ap (λ (v : View). v.broken) c.self.view_is ∙ c.requires.whole)))
     ((tells-start (setup_in c.self.inside.parts.runtime c.self.inside.originals) c.self.inside.hand c.self.inside.started c.self.inside.broken c.self.inside.clock (state_of c.self.inside.initializing c.self.inside.parts)
     (ap (λ (v : View). v.broken) (seen-is c.self.invariant c.self.view_is) ∙ c.requires.whole) c.self.invariant.machine c.args.self.now (seen-is c.self.invariant c.self.view_is) c.is_resting-resting.result c.is_resting-resting.ensures
     c.clock_in-self-inside.result c.clock_in-self-inside.ensures
@@ -131,7 +131,7 @@ invariant_of-self-in_default c = record {
       (unless-some c.in_ok-gone.gone c.in_default.not-Some _ c.in_ok-gone.ensures.loads)
       (tidy-taken (setup_in c.self.inside.parts.runtime c.self.inside.originals) (setup_in c.take_up.new.parts.runtime c.take_up.new.originals) c.is_resting-resting.result c.self.inside.started
       (state_of c.self.inside.initializing c.self.inside.parts) (state_of c.take_up.new.initializing c.take_up.new.parts) (same-setup c.self.inside.parts.runtime c.take_up.new.parts.runtime c.self.inside.originals c.take_up.new.originals c.take_up.ensures.world c.take_up.ensures.versions) c.in_ok-taken.ensures.state
-      (λ early. ap (λ (z : State). z.stack) ((c.self.invariant.machine.whole (ap (λ (v : View). v.broken) c.self.view_is ∙ c.requires.whole)).first early).before) (c.self.invariant.tidy (ap (λ (v : View). v.broken) c.self.view_is ∙ c.requires.whole)));
+      (λ before_the_run. ap (λ (z : State). z.stack) ((c.self.invariant.machine.whole (ap (λ (v : View). v.broken) c.self.view_is ∙ c.requires.whole)).first before_the_run).before) (c.self.invariant.tidy (ap (λ (v : View). v.broken) c.self.view_is ∙ c.requires.whole)));
 }
 
 pub returns-in_default-clause-ok : goal.returns-in_default-clause-ok
@@ -142,7 +142,7 @@ returns-in_default-clause-ok c =
     (unless-some c.in_ok-gone.gone c.in_default.not-Some _ c.in_ok-gone.ensures.loads)
     (tidy-taken (setup_in c.self.inside.parts.runtime c.self.inside.originals) (setup_in c.take_up.new.parts.runtime c.take_up.new.originals) c.is_resting-resting.result c.self.inside.started
     (state_of c.self.inside.initializing c.self.inside.parts) (state_of c.take_up.new.initializing c.take_up.new.parts) (same-setup c.self.inside.parts.runtime c.take_up.new.parts.runtime c.self.inside.originals c.take_up.new.originals c.take_up.ensures.world c.take_up.ensures.versions) c.in_ok-taken.ensures.state
-    (λ early. ap (λ (z : State). z.stack) ((c.self.invariant.machine.whole (ap (λ (v : View). v.broken) c.self.view_is ∙ c.requires.whole)).first early).before) (c.self.invariant.tidy (ap (λ (v : View). v.broken) c.self.view_is ∙ c.requires.whole))))
+    (λ before_the_run. ap (λ (z : State). z.stack) ((c.self.invariant.machine.whole (ap (λ (v : View). v.broken) c.self.view_is ∙ c.requires.whole)).first before_the_run).before) (c.self.invariant.tidy (ap (λ (v : View). v.broken) c.self.view_is ∙ c.requires.whole))))
     (subst (λ (x : Setup). TellsClasses c.args.self.now c.in_ok-classes.classes (state_seen x (state_of c.go.new.initializing c.go.new.parts) true false c.clock_in-self-inside.result (one_passed c.in_ok-taken.taken.hand)))
     (sym (same-setup c.take_up.new.parts.runtime c.go.new.parts.runtime c.take_up.new.originals c.go.new.originals c.go.ensures.world c.go.ensures.versions))
     (subst (λ l. TellsClasses c.args.self.now l
@@ -207,7 +207,7 @@ returns-then-not-is_empty-clause-held c =
     tidy-seen c.take_up.new.originals.versions (state_of c.take_up.new.initializing c.take_up.new.parts).stack
     (tidy-taken (setup_in c.self.inside.parts.runtime c.self.inside.originals) (setup_in c.take_up.new.parts.runtime c.take_up.new.originals) c.is_resting-resting.result c.self.inside.started
     (state_of c.self.inside.initializing c.self.inside.parts) (state_of c.take_up.new.initializing c.take_up.new.parts) (same-setup c.self.inside.parts.runtime c.take_up.new.parts.runtime c.self.inside.originals c.take_up.new.originals c.take_up.ensures.world c.take_up.ensures.versions) c.in_ok-taken.ensures.state
-    (λ early. ap (λ (z : State). z.stack) ((c.self.invariant.machine.whole (ap (λ (v : View). v.broken) c.self.view_is ∙ c.requires.whole)).first early).before) (c.self.invariant.tidy (ap (λ (v : View). v.broken) c.self.view_is ∙ c.requires.whole)))
+    (λ before_the_run. ap (λ (z : State). z.stack) ((c.self.invariant.machine.whole (ap (λ (v : View). v.broken) c.self.view_is ∙ c.requires.whole)).first before_the_run).before) (c.self.invariant.tidy (ap (λ (v : View). v.broken) c.self.view_is ∙ c.requires.whole)))
 
 pub returns-in_default-clause-held : goal.returns-in_default-clause-held
 returns-in_default-clause-held c =
@@ -216,7 +216,7 @@ returns-in_default-clause-held c =
     (unless-some c.in_ok-gone.gone c.in_default.not-Some _ c.in_ok-gone.ensures.loads)
     (tidy-taken (setup_in c.self.inside.parts.runtime c.self.inside.originals) (setup_in c.take_up.new.parts.runtime c.take_up.new.originals) c.is_resting-resting.result c.self.inside.started
     (state_of c.self.inside.initializing c.self.inside.parts) (state_of c.take_up.new.initializing c.take_up.new.parts) (same-setup c.self.inside.parts.runtime c.take_up.new.parts.runtime c.self.inside.originals c.take_up.new.originals c.take_up.ensures.world c.take_up.ensures.versions) c.in_ok-taken.ensures.state
-    (λ early. ap (λ (z : State). z.stack) ((c.self.invariant.machine.whole (ap (λ (v : View). v.broken) c.self.view_is ∙ c.requires.whole)).first early).before) (c.self.invariant.tidy (ap (λ (v : View). v.broken) c.self.view_is ∙ c.requires.whole))))
+    (λ before_the_run. ap (λ (z : State). z.stack) ((c.self.invariant.machine.whole (ap (λ (v : View). v.broken) c.self.view_is ∙ c.requires.whole)).first before_the_run).before) (c.self.invariant.tidy (ap (λ (v : View). v.broken) c.self.view_is ∙ c.requires.whole))))
 
 pub returns-clause-held : goal.returns-clause-held
 returns-clause-held c =

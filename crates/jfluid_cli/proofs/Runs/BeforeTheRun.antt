@@ -107,7 +107,7 @@ told-by told k contents own told_as =
 
 -- where the words are accepted, a refusal is due for its cause
 pub due : (g : CallInputs) (r : Refusal) → is_before_the_run (status_of r) ≡ true → Because g r → IsBeforeTheRun g r
-due g r early cause = record { cause = cause; before_the_run = early }
+due g r before_the_run cause = record { cause = cause; before_the_run = before_the_run }
 
 -- the fetch of a file failed behind those of the earlier ones
 pub due-fetch : (g : CallInputs) (k : Command) (told : Option Told) (r : Refusal) → Accepts g k
