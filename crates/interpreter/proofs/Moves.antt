@@ -4,5 +4,5 @@ pub mod Followed
 pub mod TriedSteps
 pub mod PausesSound
 pub mod HandLaws
-pub mod CalmSteps
-pub mod CalmHands
+pub mod QuickSteps
+pub mod QuickHands

@@ -1,5 +1,5 @@
 pub mod Passing
 pub mod Trying
 pub mod Hands
-pub mod Calmly
+pub mod Quickly
 pub mod Onward

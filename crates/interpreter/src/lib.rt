@@ -7,6 +7,6 @@ mod turns;
 
 pub use startup::beginning::begin_start;
 pub use startup::starting::parts_before;
-pub use turns::calmly::go_calmly;
 pub use turns::hands::{Gone, Hand, Passed, go};
 pub use turns::passing::pass_steps;
+pub use turns::quickly::go_quickly;

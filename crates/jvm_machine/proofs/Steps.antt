@@ -3,6 +3,6 @@ pub mod Exits
 pub mod QuietSteps
 pub mod Turned
 pub mod SeveralTurns
-pub mod Calmly
+pub mod Quickly
 pub mod Onward
 pub mod InHand

@@ -27,7 +27,7 @@ use class_index::Index;
 use class_linker::Linker;
 use code_model::Homes;
 use const_pool::ClassFile;
-use interpreter::{Hand, go, go_calmly, parts_before, pass_steps};
+use interpreter::{Hand, go, go_quickly, parts_before, pass_steps};
 use jf_bytes::{NoMemory, Seq, Stack};
 use jvm_model::{Due, Ending, Event, Mark, Program};
 use prepared_code::{Initialization, Originals, Parts};
@@ -182,7 +182,7 @@ impl Vm {
     /// The same where that is quickly done and takes no memory. None, with nothing changed, where
     /// it is not.
     #[inline(always)]
-    fn advance_calmly(&mut self) -> Option<Due>
+    fn advance_quickly(&mut self) -> Option<Due>
         requires below { self.old.clock < 2 ^ 63 }
         ensures stops { IfSome result (λ due. Stops self.old due self.new) }
         ensures leaves { IfSome result (λ due. IfLeaves (telling.Due due) self.new) }
@@ -197,7 +197,7 @@ impl Vm {
         }
         let resting = self.is_resting();
         let hand = hand_now(resting, self.hand);
-        let gone = go_calmly(&self.originals, &mut self.parts, &self.initializing, hand);
+        let gone = go_quickly(&self.originals, &mut self.parts, &self.initializing, hand);
         let Some(gone) = gone else {
             return None;
         };
@@ -277,7 +277,7 @@ impl Vm {
         // No version is held but those in which methods begin and those that live activations run.
         ensures held { self.new.stale ≡ false }
     {
-        match self.advance_calmly() {
+        match self.advance_quickly() {
             Some(due) => self.turn(due),
             None => self.step_fully(),
         }
@@ -373,7 +373,7 @@ impl Vm {
             return None;
         }
         let hand = self.hand;
-        let gone = go_calmly(&self.originals, &mut self.parts, &self.initializing, hand);
+        let gone = go_quickly(&self.originals, &mut self.parts, &self.initializing, hand);
         let Some(gone) = gone else {
             return None;
         };

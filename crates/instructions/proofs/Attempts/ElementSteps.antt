@@ -66,23 +66,23 @@ module _ (w : Setup) (run : CanRun w) (line : Line) where
       (done : state_in new ≡ on_parts (acts w line) old) (ending : new.ending ≡ old.ending) (thrown : new.thrown ≡ old.thrown)
       (many : length new.frames.frames ≡ length old.frames.frames) (has : has_frame new.frames.frames ≡ true) (framed_before : has_frame old.frames.frames ≡ true)
       (here : Here) (stands : here_of old.frames.frames ≡ Some here) (found : line_at w.versions here.version here.place ≡ Some line)
-      (ms : List Initialization) (calm : IsAtInstruction (length old.frames.frames) ms old) where
+      (ms : List Initialization) (at_instruction : IsAtInstruction (length old.frames.frames) ms old) where
     attempted : state_of ms new ≡ attempts_on w (state_of ms old) (state_of ms old).stack
     attempted =
-        does-beneath w line ms old new here.method old.frames.frames (top-there w ms old here old.frames.frames stands) calm.executing unnamed
+        does-beneath w line ms old new here.method old.frames.frames (top-there w ms old here old.frames.frames stands) at_instruction.executing unnamed
         (λ ends. absurd (false≢true (sym ends ∙ within))) done
-        ∙ does-there w ms old line here stands calm.executing found
+        ∙ does-there w ms old line here stands at_instruction.executing found
 
     pub is-step : state_of ms new ≡ (step w.world (listing_of w.versions) (state_of ms old)).after
     is-step =
-        let going = going-on ms old (goes old.ending (has_frame old.frames.frames && is_none (initialization_on (length old.frames.frames) ms)) calm.ending
-        (framed (length old.frames.frames) ms old.frames.frames calm.executing refl framed_before)) in
+        let going = going-on ms old (goes old.ending (has_frame old.frames.frames && is_none (initialization_on (length old.frames.frames) ms)) at_instruction.ending
+        (framed (length old.frames.frames) ms old.frames.frames at_instruction.executing refl framed_before)) in
         step-attempts w run (state_of ms old) going
-        (awaits-unnamed w ms old here stands calm.executing (ap named_in found ∙ unnamed))
+        (awaits-unnamed w ms old here stands at_instruction.executing (ap named_in found ∙ unnamed))
         (state_of ms new) (state_of ms new) attempted
         (rests w (listing_of w.versions) ms new
-        (at-rest new.ending new.thrown (has_frame new.frames.frames && is_none (initialization_on (length new.frames.frames) ms)) (ending ∙ calm.ending) (thrown ∙ calm.thrown)
-        (framed (length old.frames.frames) ms new.frames.frames calm.executing many has)))
+        (at-rest new.ending new.thrown (has_frame new.frames.frames && is_none (initialization_on (length new.frames.frames) ms)) (ending ∙ at_instruction.ending) (thrown ∙ at_instruction.thrown)
+        (framed (length old.frames.frames) ms new.frames.frames at_instruction.executing many has)))
 
   -- ---- it has no change, where a rule goes on
 
@@ -93,10 +93,10 @@ module _ (w : Setup) (run : CanRun w) (line : Line) where
     step-at : (f : PlacedFrame) (fs : List PlacedFrame) → IsAtInstruction (length (f ∷ fs)) ms p → StandsAt w (f ∷ fs) line
         → (steps_at w.world (listing_of w.versions) (under fs) (frame_in f) (Some (instruction_in line))).changes ≡ []
         → (step w.world (listing_of w.versions) (with_initializations ms (state_with (f ∷ fs) p))).changes ≡ []
-    step-at f fs calm stands quiet =
+    step-at f fs at_instruction stands quiet =
         let s : State = with_initializations ms (state_with (f ∷ fs) p) in
-        ap (λ e. (steps_on w.world (listing_of w.versions) s e s.stack).changes) calm.ending
-        ∙ (ap (λ es. (steps_on w.world (listing_of w.versions) s None es).changes) (top-frame ms f fs calm.executing)
+        ap (λ e. (steps_on w.world (listing_of w.versions) s e s.stack).changes) at_instruction.ending
+        ∙ (ap (λ es. (steps_on w.world (listing_of w.versions) s None es).changes) (top-frame ms f fs at_instruction.executing)
         ∙ (ap (λ x. (steps_at w.world (listing_of w.versions) (record s { stack = stack_of (map active fs) ms }) (frame_in f) (option_map instruction_in x)).changes) stands
         ∙ quiet))
 
@@ -114,10 +114,10 @@ module _ (w : Setup) (run : CanRun w) (line : Line) where
 
     load-quiet : (fs : List PlacedFrame) (ms : List Initialization) → place_of (top_operands fs) ≡ Some (is.array, is.index) → IsAtInstruction (length fs) ms old → StandsAt w fs line
         → (step w.world (listing_of w.versions) (with_initializations ms (state_with fs old))).changes ≡ []
-    load-quiet [] ms at calm stands = absurd stands
-    load-quiet (f ∷ fs) ms at calm stands =
-        step-at old ms f fs calm stands
-        (line-load-quiet w line k (under old ms fs) (frame_in f) f.locals (as_value is.datum ∷ drop 2 f.operands) loads (load-asks (f ∷ fs) at f.locals) calm.ending calm.thrown)
+    load-quiet [] ms at at_instruction stands = absurd stands
+    load-quiet (f ∷ fs) ms at at_instruction stands =
+        step-at old ms f fs at_instruction stands
+        (line-load-quiet w line k (under old ms fs) (frame_in f) f.locals (as_value is.datum ∷ drop 2 f.operands) loads (load-asks (f ∷ fs) at f.locals) at_instruction.ending at_instruction.thrown)
 
     load-done : (fs : List PlacedFrame) → StandsAt w fs line → place_of (top_operands fs) ≡ Some (is.array, is.index)
         → effect_of rule (record { frames = fs; room = old.frames.room }) ≡ Next
@@ -143,10 +143,10 @@ module _ (w : Setup) (run : CanRun w) (line : Line) where
 
     length-quiet : (fs : List PlacedFrame) (ms : List Initialization) → ref_of (top_operands fs) ≡ Some is.array → IsAtInstruction (length fs) ms old → StandsAt w fs line
         → (step w.world (listing_of w.versions) (with_initializations ms (state_with fs old))).changes ≡ []
-    length-quiet [] ms at calm stands = absurd stands
-    length-quiet (f ∷ fs) ms at calm stands =
-        step-at old ms f fs calm stands
-        (line-length-quiet w line (under old ms fs) (frame_in f) f.locals (Int (pos is.count) ∷ drop 1 f.operands) length_of (length-asks (f ∷ fs) at f.locals) calm.ending calm.thrown)
+    length-quiet [] ms at at_instruction stands = absurd stands
+    length-quiet (f ∷ fs) ms at at_instruction stands =
+        step-at old ms f fs at_instruction stands
+        (line-length-quiet w line (under old ms fs) (frame_in f) f.locals (Int (pos is.count) ∷ drop 1 f.operands) length_of (length-asks (f ∷ fs) at f.locals) at_instruction.ending at_instruction.thrown)
 
     length-done : (fs : List PlacedFrame) → StandsAt w fs line → ref_of (top_operands fs) ≡ Some is.array
         → effect_of own_rule (record { frames = fs; room = old.frames.room }) ≡ Next
@@ -185,11 +185,11 @@ module _ (w : Setup) (run : CanRun w) (line : Line) where
 
     store-quiet : (fs : List PlacedFrame) (ms : List Initialization) → storing_of k (top_operands fs) ≡ Some x → IsAtInstruction (length fs) ms old → StandsAt w fs line
         → (step w.world (listing_of w.versions) (with_initializations ms (state_with fs old))).changes ≡ []
-    store-quiet [] ms at calm stands = absurd stands
-    store-quiet (f ∷ fs) ms at calm stands =
-        step-at old ms f fs calm stands
+    store-quiet [] ms at at_instruction stands = absurd stands
+    store-quiet (f ∷ fs) ms at at_instruction stands =
+        step-at old ms f fs at_instruction stands
         (line-store-quiet w line k (under old ms fs) (frame_in f) f.locals (drop 3 f.operands) stores
-        (ap (λ (d : Done). d.outcome) (store-asks (f ∷ fs) at f.locals)) calm.ending calm.thrown)
+        (ap (λ (d : Done). d.outcome) (store-asks (f ∷ fs) at f.locals)) at_instruction.ending at_instruction.thrown)
 
     store-done : (fs : List PlacedFrame) → StandsAt w fs line → storing_of k (top_operands fs) ≡ Some x
         → effect_of (drops_three line.next) (record { frames = fs; room = old.frames.room }) ≡ Next
@@ -214,8 +214,8 @@ plain-alone w run line old frames stands e made =
       thrown = refl;
       loaded = refl;
       world = refl;
-      leads = λ ms calm. plain.leads ms old calm;
-      quiet = λ ms calm. plain.quiet ms old calm;
+      leads = λ ms at_instruction. plain.leads ms old at_instruction;
+      quiet = λ ms at_instruction. plain.quiet ms old at_instruction;
     }
 
 abbrev here-there : (w : Setup) (fs : List PlacedFrame) (line : Line) → StandsAt w fs line → Here
@@ -257,11 +257,11 @@ module _ (w : Setup) (run : CanRun w) (line : Line) (k : Kind) (old new : Parts)
         thrown = thrown;
         loaded = ap (λ (p : Parts). p.runtime.shared.loaded) changed ∙ kept;
         world = ap (λ (p : Parts). p.runtime.world) changed;
-        leads = λ ms calm.
-            leads-one w (state_of ms old) (state_of ms new) (ap is_some calm.ending)
+        leads = λ ms at_instruction.
+            leads-one w (state_of ms old) (state_of ms new) (ap is_some at_instruction.ending)
             (is-step w run line old new unnamed within does ending thrown many has (has-there w old.frames.frames line stands)
-            (here-there w old.frames.frames line stands) (here-stands w old.frames.frames line stands) (here-found w old.frames.frames line stands) ms calm);
-        quiet = λ ms calm. quiet-one w (state_of ms old) (quiet ms calm);
+            (here-there w old.frames.frames line stands) (here-stands w old.frames.frames line stands) (here-found w old.frames.frames line stands) ms at_instruction);
+        quiet = λ ms at_instruction. quiet-one w (state_of ms old) (quiet ms at_instruction);
       }
 
   pub load-alone : line.action ≡ action.LoadElement k → IsLoaded line k old new → LeadsAlone w old 1 new
@@ -269,21 +269,21 @@ module _ (w : Setup) (run : CanRun w) (line : Line) (k : Kind) (old new : Parts)
       alone-by (replaces 2 (Some (as_value is.datum)) line.next) old.runtime.shared is.changed refl
       (ap is_named loads) (ap goes_within loads)
       (ap state_in is.changed ∙ load-done w run line k loads old new is old.frames.frames stands is.at is.goes)
-      (λ ms calm. load-quiet w run line k loads old new is old.frames.frames ms is.at calm stands)
+      (λ ms at_instruction. load-quiet w run line k loads old new is old.frames.frames ms is.at at_instruction stands)
 
   pub store-alone : line.action ≡ action.StoreElement k → IsStored line k old new → LeadsAlone w old 1 new
   store-alone stores is =
       alone-by (drops_three line.next) (record old.runtime.shared { heap = with_slot_at is.storing.array is.slot is.storing.datum old.runtime.shared.heap }) is.changed refl
       (ap is_named stores) (ap goes_within stores)
       (ap state_in is.changed ∙ store-done w run line k stores old new is old.frames.frames stands is.at is.goes)
-      (λ ms calm. store-quiet w run line k stores old new is old.frames.frames ms is.at calm stands)
+      (λ ms at_instruction. store-quiet w run line k stores old new is old.frames.frames ms is.at at_instruction stands)
 
   pub length-alone : line.action ≡ action.Arraylength → IsMeasured line old new → LeadsAlone w old 1 new
   length-alone length_of is =
       alone-by (replaces 1 (Some (Int (pos is.count))) line.next) old.runtime.shared is.changed refl
       (ap is_named length_of) (ap goes_within length_of)
       (ap state_in is.changed ∙ length-done w run line length_of old new is old.frames.frames stands is.at is.goes)
-      (λ ms calm. length-quiet w run line length_of old new is old.frames.frames ms is.at calm stands)
+      (λ ms at_instruction. length-quiet w run line length_of old new is old.frames.frames ms is.at at_instruction stands)
 
 -- ---- a frame stays in its version
 

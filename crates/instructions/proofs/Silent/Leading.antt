@@ -79,15 +79,15 @@ module _ (w : Setup) where
     thrown = refl;
     loaded = refl;
     world = refl;
-    leads = λ ms calm. leads-none (state_of ms p);
-    quiet = λ ms calm k less. absurd (omega arith);
+    leads = λ ms at_instruction. leads-none (state_of ms p);
+    quiet = λ ms at_instruction k less. absurd (omega arith);
   }
 
-  still-calm : (old mid : Parts) (n : ℕ) → LeadsAlone w old n mid → (ms : List Initialization) → IsAtInstruction (length old.frames.frames) ms old → IsAtInstruction (length mid.frames.frames) ms mid
-  still-calm old mid n first ms calm = record {
-    ending = first.ending ∙ calm.ending;
-    thrown = first.thrown ∙ calm.thrown;
-    executing = ap (λ k. initialization_on k ms) first.many ∙ calm.executing;
+  still-at_instruction : (old mid : Parts) (n : ℕ) → LeadsAlone w old n mid → (ms : List Initialization) → IsAtInstruction (length old.frames.frames) ms old → IsAtInstruction (length mid.frames.frames) ms mid
+  still-at_instruction old mid n first ms at_instruction = record {
+    ending = first.ending ∙ at_instruction.ending;
+    thrown = first.thrown ∙ at_instruction.thrown;
+    executing = ap (λ k. initialization_on k ms) first.many ∙ at_instruction.executing;
   }
 
   pub alone-on : (old mid new : Parts) (n m : ℕ) → LeadsAlone w old n mid → LeadsAlone w mid m new → LeadsAlone w old (n + m) new
@@ -97,7 +97,7 @@ module _ (w : Setup) where
     thrown = second.thrown ∙ first.thrown;
     loaded = second.loaded ∙ first.loaded;
     world = second.world ∙ first.world;
-    leads = λ ms calm. leads-on (state_of ms old) (state_of ms mid) (state_of ms new) n m (first.leads ms calm) (second.leads ms (still-calm old mid n first ms calm));
-    quiet = λ ms calm.
-        quiet-on (state_of ms old) (state_of ms mid) n m (first.leads ms calm).made (first.quiet ms calm) (second.quiet ms (still-calm old mid n first ms calm));
+    leads = λ ms at_instruction. leads-on (state_of ms old) (state_of ms mid) (state_of ms new) n m (first.leads ms at_instruction) (second.leads ms (still-at_instruction old mid n first ms at_instruction));
+    quiet = λ ms at_instruction.
+        quiet-on (state_of ms old) (state_of ms mid) n m (first.leads ms at_instruction).made (first.quiet ms at_instruction) (second.quiet ms (still-at_instruction old mid n first ms at_instruction));
   }

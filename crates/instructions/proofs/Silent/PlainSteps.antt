@@ -44,10 +44,10 @@ still-framed Leaves f fs = refl
 
 pub at-rest : (ending : Option Ending) (thrown : Option ℕ) (framed : Bool) → ending ≡ None → thrown ≡ None → framed ≡ true
     → (is_some ending || (is_none thrown && framed)) ≡ true
-at-rest (Some e) thrown framed none calm is = refl
-at-rest None (Some r) framed none calm is = absurd cc
-at-rest None None true none calm is = refl
-at-rest None None false none calm is = absurd cc
+at-rest (Some e) thrown framed none at_instruction is = refl
+at-rest None (Some r) framed none at_instruction is = absurd cc
+at-rest None None true none at_instruction is = refl
+at-rest None None false none at_instruction is = absurd cc
 
 -- the frames are as many
 pub still-many : (x : Outcome) (fs : List PlacedFrame) → length (frames_in x fs) ≡ length fs
@@ -78,35 +78,35 @@ plain-at : (w : Setup) (run : CanRun w) (line : Line) (ms : List Initialization)
     → (let old : FramesView = record { frames = fs; room = room } in effect_of (rule_of line.instr line.constant line.next) old ≡ Next)
     → (let old : FramesView = record { frames = fs; room = room } in new ≡ after (rule_of line.instr line.constant line.next) old)
     → with_initializations ms (state_with new.frames p) ≡ (step w.world (listing_of w.versions) (with_initializations ms (state_with fs p))).after
-plain-at w run line ms p [] room new calm stands e made = absurd stands
-plain-at w run line ms p (f ∷ fs) room new calm stands e made =
+plain-at w run line ms p [] room new at_instruction stands e made = absurd stands
+plain-at w run line ms p (f ∷ fs) room new at_instruction stands e made =
     let old : FramesView = record { frames = f ∷ fs; room = room } in
     let q : Parts = record p { frames = old } in
     let r : Parts = record p { frames = new } in
     let x : Outcome = outcome_asked (rule_of line.instr line.constant line.next) (f ∷ fs) in
     let has : has_frame new.frames ≡ true = ap (λ (s : FramesView). has_frame s.frames) made ∙ still-framed x f fs in
     let many : length new.frames ≡ length (f ∷ fs) = ap (λ (s : FramesView). length s.frames) made ∙ still-many x (f ∷ fs) in
-    let free : initialization_on (suc (length (map active fs))) ms ≡ None = ap (λ n. initialization_on (suc n) ms) (length-active fs) ∙ calm.executing in
-    let going = going-on ms q (goes p.ending (has_frame (f ∷ fs) && is_none (initialization_on (length (f ∷ fs)) ms)) calm.ending (framed (length (f ∷ fs)) ms (f ∷ fs) calm.executing refl refl)) in
+    let free : initialization_on (suc (length (map active fs))) ms ≡ None = ap (λ n. initialization_on (suc n) ms) (length-active fs) ∙ at_instruction.executing in
+    let going = going-on ms q (goes p.ending (has_frame (f ∷ fs) && is_none (initialization_on (length (f ∷ fs)) ms)) at_instruction.ending (framed (length (f ∷ fs)) ms (f ∷ fs) at_instruction.executing refl refl)) in
     let s : State = state_with fs p in
     let attempted : with_initializations ms (state_with new.frames p) ≡ attempts_line w (with_initializations ms s) (frame_in f) (line_at w.versions f.version f.place) =
     ap (with_initializations ms) (goes-next w line q f.method new refl e made)
     ∙ (comes-carried ms w line s (frame_in f) (rule_of line.instr line.constant line.next f.locals f.operands) free
     ∙ sym (ap (attempts_line w (with_initializations ms s) (frame_in f)) stands.0 ∙ ap (acts_by w line (with_initializations ms s) (frame_in f)) stands.1)) in
     step-attempts w run (state_of ms q) going
-    (ap (awaited_on w (state_of ms q)) (top-frame ms f fs calm.executing)
+    (ap (awaited_on w (state_of ms q)) (top-frame ms f fs at_instruction.executing)
     ∙ (ap (awaited_by w (with_initializations ms s) (frame_in f)) stands.0 ∙ ap (class_awaited w (with_initializations ms s) (frame_in f)) stands.1))
     (with_initializations ms (state_with new.frames p)) (with_initializations ms (state_with new.frames p))
-    (attempted ∙ sym (ap (attempts_on w (state_of ms q)) (top-frame ms f fs calm.executing)))
+    (attempted ∙ sym (ap (attempts_on w (state_of ms q)) (top-frame ms f fs at_instruction.executing)))
     (rests w (listing_of w.versions) ms r
-    (at-rest p.ending p.thrown (has_frame new.frames && is_none (initialization_on (length new.frames) ms)) calm.ending calm.thrown (framed (length (f ∷ fs)) ms new.frames calm.executing many has)))
+    (at-rest p.ending p.thrown (has_frame new.frames && is_none (initialization_on (length new.frames) ms)) at_instruction.ending at_instruction.thrown (framed (length (f ∷ fs)) ms new.frames at_instruction.executing many has)))
 
 -- it has no change
 quiet-at : (w : Setup) (run : CanRun w) (line : Line) (ms : List Initialization) (p : Parts) (fs : List PlacedFrame) (room : Option ℕ) → IsAtInstruction (length fs) ms p → IsPlainLine w fs line
     → (let old : FramesView = record { frames = fs; room = room } in effect_of (rule_of line.instr line.constant line.next) old ≡ Next)
     → (step w.world (listing_of w.versions) (with_initializations ms (state_with fs p))).changes ≡ []
-quiet-at w run line ms p [] room calm stands e = absurd stands
-quiet-at w run line ms p (f ∷ fs) room calm stands e = quiet-step w run line ms p f fs calm stands e
+quiet-at w run line ms p [] room at_instruction stands e = absurd stands
+quiet-at w run line ms p (f ∷ fs) room at_instruction stands e = quiet-step w run line ms p f fs at_instruction stands e
 
 -- ---- in the version that is at hand
 
@@ -135,15 +135,15 @@ stays-in line old new made =
     ap (λ (s : FramesView). top_version s.frames) made ∙ same-version (outcome_asked (rule_of line.instr line.constant line.next) old.frames) old.frames
 
 pub goes-on : (n : ℕ) (ms : List Initialization) (p : Parts) → IsAtInstruction n ms p → is_some p.ending ≡ false
-goes-on n ms p calm = ap is_some calm.ending
+goes-on n ms p at_instruction = ap is_some at_instruction.ending
 
 pub plain-one : (w : Setup) (run : CanRun w) (line : Line) (old new : FramesView) → IsPlainLine w old.frames line
     → effect_of (rule_of line.instr line.constant line.next) old ≡ Next → new ≡ after (rule_of line.instr line.constant line.next) old
     → LeadsPlainly w old.frames 1 new.frames
 plain-one w run line old new stands e made = record {
   many = ap (λ (s : FramesView). length s.frames) made ∙ still-many (outcome_asked (rule_of line.instr line.constant line.next) old.frames) old.frames;
-  leads = λ ms p calm.
-      leads-one w (with_initializations ms (state_with old.frames p)) (with_initializations ms (state_with new.frames p)) (goes-on (length old.frames) ms p calm)
-      (plain-at w run line ms p old.frames old.room new calm stands e made);
-  quiet = λ ms p calm. quiet-one w (with_initializations ms (state_with old.frames p)) (quiet-at w run line ms p old.frames old.room calm stands e);
+  leads = λ ms p at_instruction.
+      leads-one w (with_initializations ms (state_with old.frames p)) (with_initializations ms (state_with new.frames p)) (goes-on (length old.frames) ms p at_instruction)
+      (plain-at w run line ms p old.frames old.room new at_instruction stands e made);
+  quiet = λ ms p at_instruction. quiet-one w (with_initializations ms (state_with old.frames p)) (quiet-at w run line ms p old.frames old.room at_instruction stands e);
 }

@@ -44,18 +44,18 @@ module _ (w : Setup) where
   -- ---- nothing follows
 
   pub with-frame-rests : (s : State) (f : Frame) → s.ending ≡ None → s.thrown ≡ None → move w.world t (with_frame s f) ≡ None
-  with-frame-rests s f calm nothing = ap₂ (λ e r. moves w.world t (with_frame s f) e r (Active f ∷ s.stack)) calm nothing
+  with-frame-rests s f at_instruction nothing = ap₂ (λ e r. moves w.world t (with_frame s f) e r (Active f ∷ s.stack)) at_instruction nothing
 
   pub goes-rests : (s : State) (f : Frame) (own : ℕ) (l : Locals) (o : Operands) (place : Option ℕ) → s.ending ≡ None → s.thrown ≡ None → move w.world t (goes s f own l o place) ≡ None
-  goes-rests s f own l o None calm nothing = refl
-  goes-rests s f own l o (Some place) calm nothing = by (nat_le (height_of o) f.max_stack) where
+  goes-rests s f own l o None at_instruction nothing = refl
+  goes-rests s f own l o (Some place) at_instruction nothing = by (nat_le (height_of o) f.max_stack) where
     by : (b : Bool) → move w.world t (cond b (with_frame s (record f { place = place; locals = l; operands = o })) (goes s f own l o None)) ≡ None
-    by true = with-frame-rests s (record f { place = place; locals = l; operands = o }) calm nothing
+    by true = with-frame-rests s (record f { place = place; locals = l; operands = o }) at_instruction nothing
     by false = refl
 
   enters-rests : (s : State) (f : Frame) (i : Instruction) (next : Option ℕ) → s.ending ≡ None → s.thrown ≡ None → move w.world t (enters_subroutine s f i next) ≡ None
-  enters-rests s f i None calm nothing = refl
-  enters-rests s f i (Some next) calm nothing = goes-rests s f i.own f.locals (Addr next ∷ f.operands) (slice_get i.targets 0) calm nothing
+  enters-rests s f i None at_instruction nothing = refl
+  enters-rests s f i (Some next) at_instruction nothing = goes-rests s f i.own f.locals (Addr next ∷ f.operands) (slice_get i.targets 0) at_instruction nothing
 
   settled-quiet : (s : State) → move w.world t s ≡ None → (turn_settled w.world t (still s)).changes ≡ []
   settled-quiet s none = ap (λ (a : Turn). a.changes) (stops w.world t (moves_left s) (still s) none)
@@ -68,18 +68,18 @@ module _ (w : Setup) where
 
   goes-quiet : (i : Instruction) (q : Outcome) (s : State) (f : Frame) (next : ℕ) (targets : List ℕ) (m : Locals) (o : Operands) (fs : List PlacedFrame) → effect_in (outcome_placed next targets m o q) fs ≡ Next
       → s.ending ≡ None → s.thrown ≡ None → IsQuiet i q s f
-  goes-quiet i (GoesOn l o' to) s f next targets m o fs on calm nothing =
-      record { alone = refl; quiet = settled-quiet (goes s f i.own l o' (place_of i to)) (goes-rests s f i.own l o' (place_of i to) calm nothing) }
-  goes-quiet i Subroutine s f next targets m o fs on calm nothing =
-      record { alone = refl; quiet = settled-quiet (enters_subroutine s f i i.next) (enters-rests s f i i.next calm nothing) }
-  goes-quiet i (Raises c message) s f next targets m o fs on calm nothing = absurd cc
-  goes-quiet i (Breaks true) s f next targets m o fs on calm nothing = absurd cc
-  goes-quiet i (Breaks false) s f next targets m o fs on calm nothing = absurd cc
-  goes-quiet i (Invokes k args below) s f next targets m o fs on calm nothing = absurd cc
-  goes-quiet i (Returns d) s f next targets m o fs on calm nothing = absurd cc
-  goes-quiet i (Throws r) s f next targets m o fs on calm nothing = absurd cc
-  goes-quiet i (Initializes c) s f next targets m o fs on calm nothing = absurd cc
-  goes-quiet i (Exits n) s f next targets m o fs on calm nothing = absurd cc
+  goes-quiet i (GoesOn l o' to) s f next targets m o fs on at_instruction nothing =
+      record { alone = refl; quiet = settled-quiet (goes s f i.own l o' (place_of i to)) (goes-rests s f i.own l o' (place_of i to) at_instruction nothing) }
+  goes-quiet i Subroutine s f next targets m o fs on at_instruction nothing =
+      record { alone = refl; quiet = settled-quiet (enters_subroutine s f i i.next) (enters-rests s f i i.next at_instruction nothing) }
+  goes-quiet i (Raises c message) s f next targets m o fs on at_instruction nothing = absurd cc
+  goes-quiet i (Breaks true) s f next targets m o fs on at_instruction nothing = absurd cc
+  goes-quiet i (Breaks false) s f next targets m o fs on at_instruction nothing = absurd cc
+  goes-quiet i (Invokes k args below) s f next targets m o fs on at_instruction nothing = absurd cc
+  goes-quiet i (Returns d) s f next targets m o fs on at_instruction nothing = absurd cc
+  goes-quiet i (Throws r) s f next targets m o fs on at_instruction nothing = absurd cc
+  goes-quiet i (Initializes c) s f next targets m o fs on at_instruction nothing = absurd cc
+  goes-quiet i (Exits n) s f next targets m o fs on at_instruction nothing = absurd cc
 
   -- ---- an instruction within its frame
 
@@ -97,9 +97,9 @@ module _ (w : Setup) where
   -- ---- an element
 
   pub goes-on-quiet : (i : Instruction) (q : Outcome) (l : Locals) (o : Operands) (to : Where) (s : State) (f : Frame) → q ≡ GoesOn l o to → s.ending ≡ None → s.thrown ≡ None → IsQuiet i q s f
-  goes-on-quiet i q l o to s f is calm nothing =
+  goes-on-quiet i q l o to s f is at_instruction nothing =
       subst (λ x. IsQuiet i x s f) (sym is)
-      (record { alone = refl; quiet = settled-quiet (goes s f i.own l o (place_of i to)) (goes-rests s f i.own l o (place_of i to) calm nothing) })
+      (record { alone = refl; quiet = settled-quiet (goes s f i.own l o (place_of i to)) (goes-rests s f i.own l o (place_of i to) at_instruction nothing) })
 
   load-quiet : (i : Instruction) (k : Kind) (s : State) (f : Frame) → IsQuiet i (loads_element k (element_of f.operands) s.shared f.locals f.operands) (record s { output = s.output ++ [] }) f
       → (step_by i (LoadElement k) s f).changes ≡ []
@@ -118,19 +118,19 @@ module _ (w : Setup) where
   pub line-load-quiet : (line : Line) (k : Kind) (s : State) (f : Frame) (l : Locals) (o : Operands) → line.action ≡ action.LoadElement k
       → loads_element k (element_of f.operands) s.shared f.locals f.operands ≡ GoesOn l o Following → s.ending ≡ None → s.thrown ≡ None
       → (steps_at w.world t s f (Some (instruction_in line))).changes ≡ []
-  line-load-quiet line k s f l o loads is calm nothing =
+  line-load-quiet line k s f l o loads is at_instruction nothing =
       subst (λ op. (step_by (instruction_in line) op s f).changes ≡ []) (sym (ap (operation_as line) loads))
       (load-quiet (instruction_in line) k s f
-      (goes-on-quiet (instruction_in line) (loads_element k (element_of f.operands) s.shared f.locals f.operands) l o Following (record s { output = s.output ++ [] }) f is calm nothing))
+      (goes-on-quiet (instruction_in line) (loads_element k (element_of f.operands) s.shared f.locals f.operands) l o Following (record s { output = s.output ++ [] }) f is at_instruction nothing))
 
   pub line-store-quiet : (line : Line) (k : Kind) (s : State) (f : Frame) (l : Locals) (o : Operands) → line.action ≡ action.StoreElement k
       → (stored k s f).outcome ≡ GoesOn l o Following → s.ending ≡ None → s.thrown ≡ None
       → (steps_at w.world t s f (Some (instruction_in line))).changes ≡ []
-  line-store-quiet line k s f l o stores is calm nothing =
+  line-store-quiet line k s f l o stores is at_instruction nothing =
       let d : Done = stored k s f in
       subst (λ op. (step_by (instruction_in line) op s f).changes ≡ []) (sym (ap (operation_as line) stores))
       (store-quiet (instruction_in line) k s f
-      (goes-on-quiet (instruction_in line) d.outcome l o Following (record s { shared = d.shared; output = s.output ++ d.wrote }) f is calm nothing))
+      (goes-on-quiet (instruction_in line) d.outcome l o Following (record s { shared = d.shared; output = s.output ++ d.wrote }) f is at_instruction nothing))
 
   -- ---- a length
 
@@ -143,22 +143,22 @@ module _ (w : Setup) where
   pub line-length-quiet : (line : Line) (s : State) (f : Frame) (l : Locals) (o : Operands) → line.action ≡ action.Arraylength
       → measures (ref_of f.operands) s.shared f.locals f.operands ≡ GoesOn l o Following → s.ending ≡ None → s.thrown ≡ None
       → (steps_at w.world t s f (Some (instruction_in line))).changes ≡ []
-  line-length-quiet line s f l o length is calm nothing =
+  line-length-quiet line s f l o length is at_instruction nothing =
       subst (λ op. (step_by (instruction_in line) op s f).changes ≡ []) (sym (ap (operation_as line) length))
       (length-quiet (instruction_in line) s f
-      (goes-on-quiet (instruction_in line) (measures (ref_of f.operands) s.shared f.locals f.operands) l o Following (record s { output = s.output ++ [] }) f is calm nothing))
+      (goes-on-quiet (instruction_in line) (measures (ref_of f.operands) s.shared f.locals f.operands) l o Following (record s { output = s.output ++ [] }) f is at_instruction nothing))
 
   line-quiet : (line : Line) (s : State) (f : Frame) (fs : List PlacedFrame) → line.action ≡ action.Local → IsOwnLine line
       → effect_in (rule_of line.instr line.constant line.next f.locals f.operands) fs ≡ Next → s.ending ≡ None → s.thrown ≡ None
       → (steps_at w.world t s f (Some (instruction_in line))).changes ≡ []
-  line-quiet line s f fs local own on calm nothing =
+  line-quiet line s f fs local own on at_instruction nothing =
       let l : Local = local_in line in
       let op : operation_in line ≡ Within l = ap (operation_as line) local in
       let q : Outcome = within l f.locals f.operands in
       subst (λ o. (step_by (instruction_in line) o s f).changes ≡ []) (sym op)
       (within-quiet (instruction_in line) l s f
       (goes-quiet (instruction_in line) q (record s { output = s.output ++ [] }) f line.next (targets_of line.instr.arg) f.locals f.operands fs
-      (ap (λ x. effect_in x fs) (sym (own.alone l op f.locals f.operands)) ∙ on) calm nothing))
+      (ap (λ x. effect_in x fs) (sym (own.alone l op f.locals f.operands)) ∙ on) at_instruction nothing))
 
 -- ---- a step
 
@@ -168,11 +168,11 @@ own-line w run version place line there = subst (λ o. IfSome o IsOwnLine) there
 pub quiet-step : (w : Setup) (run : CanRun w) (line : Line) (ms : List Initialization) (p : Parts) (f : PlacedFrame) (fs : List PlacedFrame) → IsAtInstruction (length (f ∷ fs)) ms p → IsPlainLine w (f ∷ fs) line
     → effect_in (rule_of line.instr line.constant line.next f.locals f.operands) (f ∷ fs) ≡ Next
     → (step w.world (listing_of w.versions) (with_initializations ms (state_with (f ∷ fs) p))).changes ≡ []
-quiet-step w run line ms p f fs calm stands on =
+quiet-step w run line ms p f fs at_instruction stands on =
     let s : State = with_initializations ms (state_with (f ∷ fs) p) in
     let under : List Entry = stack_of (map active fs) ms in
     let u : State = record s { stack = under } in
-    ap (λ e. (steps_on w.world (listing_of w.versions) s e s.stack).changes) calm.ending
-    ∙ (ap (λ es. (steps_on w.world (listing_of w.versions) s None es).changes) (top-frame ms f fs calm.executing)
+    ap (λ e. (steps_on w.world (listing_of w.versions) s e s.stack).changes) at_instruction.ending
+    ∙ (ap (λ es. (steps_on w.world (listing_of w.versions) s None es).changes) (top-frame ms f fs at_instruction.executing)
     ∙ (ap (λ x. (steps_at w.world (listing_of w.versions) u (frame_in f) (option_map instruction_in x)).changes) stands.0
-    ∙ line-quiet w line u (frame_in f) (f ∷ fs) stands.1 (own-line w run f.version f.place line stands.0) on calm.ending calm.thrown))
+    ∙ line-quiet w line u (frame_in f) (f ∷ fs) stands.1 (own-line w run f.version f.place line stands.0) on at_instruction.ending at_instruction.thrown))

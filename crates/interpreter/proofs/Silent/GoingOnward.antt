@@ -13,11 +13,11 @@ use Rattle.prepared_code.specs.Ready.{CanRun}
 use Rattle.prepared_code.specs.Versions.{Setup}
 use Rattle.interpreter.specs.declared.turns.hands.Gone.{Gone}
 use Rattle.interpreter.specs.Moves.Passing.{Passes, steps_if}
-use Rattle.interpreter.specs.Moves.Calmly.{GoesCalmly, TriesCalmly, passed_there}
+use Rattle.interpreter.specs.Moves.Quickly.{GoesQuickly, TriesQuickly, passed_there}
 use Rattle.interpreter.specs.Moves.Hands.{IsLeft}
-use Rattle.interpreter.specs.Moves.Onward.{GoesOnward, StopsCalmly, empty_hand, is_telling, made_if}
+use Rattle.interpreter.specs.Moves.Onward.{GoesOnward, StopsQuickly, empty_hand, is_telling, made_if}
 use Rattle.interpreter.proofs.Silent.SilentSteps.{passes-on}
-use Rattle.interpreter.proofs.Moves.CalmHands.{calm-tries, hands-calmly, sound-calmly}
+use Rattle.interpreter.proofs.Moves.QuickHands.{hands-quickly, quick-tries, sound-quickly}
 
 pub onward-if : (w : Setup) (ms : List Initialization) (old new : Parts) (b : Bool) → Passes w ms old (steps_if b) new → GoesOnward w ms old (made_if b) new
 onward-if w ms old new true is = is
@@ -40,19 +40,19 @@ module _ (w : Setup) (ms : List Initialization) (old new : Parts) where
   silent-onward Begins silent is = absurd (false≢true (sym silent))
 
   -- a probe tells of it
-  pub told-onward : (due : Due) → is_telling due ≡ true → GoesOnward w ms old (Some due) new → TriesCalmly w ms false old due new
+  pub told-onward : (due : Due) → is_telling due ≡ true → GoesOnward w ms old (Some due) new → TriesQuickly w ms false old due new
   told-onward Nothing tells is = absurd (false≢true tells)
   told-onward (Ends k) tells is = is
   told-onward Begins tells is = is
 
-  pub stops-onward : CanRun w → (due : Due) (gone : Gone) → TriesCalmly w ms false old due new → IsLeft gone → gone.due ≡ due → gone.hand.passed ≡ passed_there due
-      → StopsCalmly w ms old gone new
+  pub stops-onward : CanRun w → (due : Due) (gone : Gone) → TriesQuickly w ms false old due new → IsLeft gone → gone.due ≡ due → gone.hand.passed ≡ passed_there due
+      → StopsQuickly w ms old gone new
   stops-onward run due gone tries left is_due counts =
-      let goes : GoesCalmly w ms empty_hand old gone new = calm-tries w ms empty_hand old gone left new due refl refl tries is_due counts in
+      let goes : GoesQuickly w ms empty_hand old gone new = quick-tries w ms empty_hand old gone left new due refl refl tries is_due counts in
       record {
         goes = goes;
-        hands = hands-calmly w ms empty_hand old gone new goes;
-        sound = sound-calmly w ms empty_hand old gone new goes run;
+        hands = hands-quickly w ms empty_hand old gone new goes;
+        sound = sound-quickly w ms empty_hand old gone new goes run;
       }
 
 -- nothing more was done

@@ -50,10 +50,10 @@ use Rattle.activations.specs.Invoking.{method_called, may_begin}
 use Rattle.prepared_code.specs.Initializations.{initialization_on, stack_of, state_of, with_initializations}
 use Rattle.interpreter.specs.Moves.Passing.{AreKeptBy, Passes, on_frames, runs, steps_if}
 use Rattle.prepared_code.specs.Ready.{CanRun}
-use Rattle.interpreter.specs.Moves.Calmly.{Attempted, TriesCalmly, TriesIf}
+use Rattle.interpreter.specs.Moves.Quickly.{Attempted, TriesIf, TriesQuickly}
 use Rattle.interpreter.specs.Moves.Onward.{GoesOnward, begun_due}
 use Rattle.interpreter.specs.Moves.Trying.{returns_by}
-use Rattle.interpreter.proofs.Moves.CalmSteps.{begins-calmly, has-here, no-return}
+use Rattle.interpreter.proofs.Moves.QuickSteps.{begins-quickly, has-here, no-return}
 use Rattle.prepared_code.specs.Runs.{IsAtInstruction, steps_from-zero}
 use Rattle.prepared_code.specs.States.{active, frame_in, here_of, state_in, state_with}
 use Rattle.prepared_code.specs.Versions.{Setup, current_of, instruction_in, line_at, mark_of, operation_as, listing_of}
@@ -98,7 +98,7 @@ module _ (w : Setup) (m : ℕ) (args : List Datum) (below : Operands) (f : Place
 -- ---- at a line
 
 module _ (w : Setup) (run : CanRun w) (ms : List Initialization) (here : Here) (line : Line) (kept : SymbolicReference) (old : Parts) (stands : here_of old.frames.frames ≡ Some here)
-    (found : line_at w.versions here.version here.place ≡ Some line) (named : line.action ≡ action.Named kept) (calm : IsAtInstruction (length old.frames.frames) ms old)
+    (found : line_at w.versions here.version here.place ≡ Some line) (named : line.action ≡ action.Named kept) (at_instruction : IsAtInstruction (length old.frames.frames) ms old)
     (nothing : newly_loaded w.world.program old.runtime.shared.loaded kept (top_operands old.frames.frames) ≡ []) (c : Call) where
   abbrev n : SymbolicReference
   n = kept
@@ -118,7 +118,7 @@ module _ (w : Setup) (run : CanRun w) (ms : List Initialization) (here : Here) (
       let u : State = record s { stack = stack_of (map active fs) ms } in
       let same : record { version = f.version; method = f.method; place = f.place } ≡ here = same_Some _ here is in
       let at : line_at w.versions f.version f.place ≡ Some line = ap (λ (h : Here). line_at w.versions h.version h.place) same ∙ found in
-      ap (λ e. loads_on w.world t s e s.stack) calm.ending
+      ap (λ e. loads_on w.world t s e s.stack) at_instruction.ending
       ∙ (ap (λ es. loads_on w.world t s None es) (top-frame ms f fs free)
       ∙ (ap (λ x. loads_at w.world u (frame_in f) (option_map instruction_in x)) at
       ∙ (ap (λ a. loads w.world (operation_as line a) old.runtime.shared f.operands) named ∙ none)))
@@ -127,7 +127,7 @@ module _ (w : Setup) (run : CanRun w) (ms : List Initialization) (here : Here) (
 
   module _ (f : PlacedFrame) (fs : List PlacedFrame) (args : List Datum) (below : Operands) where
     abbrev u : State
-    u = record (under w run ms here line kept old stands found named calm nothing fs) { shared = old.runtime.shared; output = old.runtime.output ++ [] }
+    u = record (under w run ms here line kept old stands found named at_instruction nothing fs) { shared = old.runtime.shared; output = old.runtime.output ++ [] }
 
     abbrev begun : Turn
     begun = begins w.world t u (frame_in f) c.method args below
@@ -142,7 +142,7 @@ module _ (w : Setup) (run : CanRun w) (ms : List Initialization) (here : Here) (
     settles-begun : turn_settled w.world t begun ≡ begun
     settles-begun =
         stops w.world t (moves_left begun.after) begun
-        (with-frame-rests w (with_frame u (record (frame_in f) { operands = below })) (new_frame w.world t c.method args) calm.ending calm.thrown)
+        (with-frame-rests w (with_frame u (record (frame_in f) { operands = below })) (new_frame w.world t c.method args) at_instruction.ending at_instruction.thrown)
 
   call-changes : (fs : List PlacedFrame) → here_of fs ≡ Some here → initialization_on (length fs) ms ≡ None → newly_loaded w.world.program old.runtime.shared.loaded n (top_operands fs) ≡ []
       → IsCall c (done_top w n old.runtime.shared fs) old.runtime.shared fs → may_begin fs ≡ true → can_begin w.world c.method c.count fs ≡ true
@@ -157,8 +157,8 @@ module _ (w : Setup) (run : CanRun w) (ms : List Initialization) (here : Here) (
       let takes : Takes f.operands args below = subst (λ (d : Done). Asks d.shared f.operands d.outcome) call.invokes law.asks in
       let room = has-room w c.method args below f fs takes c.count (length-data c.count f.operands call.within) can in
       ap (λ (x : Turn). x.changes)
-      (step-turn w run ms here line kept old stands found named calm nothing f fs is free none (ap (λ (d : Done). starts d.outcome) call.invokes)
-      ∙ (ap (λ (d : Done). follows w run ms here line kept old stands found named calm nothing d f fs) call.invokes
+      (step-turn w run ms here line kept old stands found named at_instruction nothing f fs is free none (ap (λ (d : Done). starts d.outcome) call.invokes)
+      ∙ (ap (λ (d : Done). follows w run ms here line kept old stands found named at_instruction nothing d f fs) call.invokes
       ∙ (ap (turn_settled w.world t) (invokes-begins f fs args below room may) ∙ settles-begun f fs args below)))
 
   -- ---- what runs goes on
@@ -188,7 +188,7 @@ module _ (w : Setup) (run : CanRun w) (ms : List Initialization) (here : Here) (
     new = on_frames frames old
 
     abbrev there : Parts
-    there = reached w run ms here line kept old stands found named calm nothing
+    there = reached w run ms here line kept old stands found named at_instruction nothing
 
     abbrev args : List Datum
     args = data_in c.count (top_operands old.frames.frames)
@@ -222,46 +222,46 @@ module _ (w : Setup) (run : CanRun w) (ms : List Initialization) (here : Here) (
     more = ap length are ∙ ap suc (length-without old.frames.frames)
 
     free : initialization_on (suc (length old.frames.frames)) ms ≡ None
-    free = none-more (length old.frames.frames) ms calm.executing
+    free = none-more (length old.frames.frames) ms at_instruction.executing
 
     stepped : state_of ms new ≡ (step w.world t (state_of ms old)).after
     stepped =
-        is-step w run ms here line kept old stands found named calm nothing (Invokes c.method args below) answers refl new concludes
-        (at-rest old.ending old.thrown (has_frame frames.frames && is_none (initialization_on (length frames.frames) ms)) calm.ending calm.thrown
+        is-step w run ms here line kept old stands found named at_instruction nothing (Invokes c.method args below) answers refl new concludes
+        (at-rest old.ending old.thrown (has_frame frames.frames && is_none (initialization_on (length frames.frames) ms)) at_instruction.ending at_instruction.thrown
         (framed (suc (length old.frames.frames)) ms frames.frames free more (ap has_frame are)))
 
     abbrev live : List Held
     live = helds marks (state_of ms old).stack
 
-    calm-then : IsAtInstruction (length frames.frames) ms new
-    calm-then = record { ending = calm.ending; thrown = calm.thrown; executing = ap (λ k. initialization_on k ms) more ∙ free }
+    at_instruction-then : IsAtInstruction (length frames.frames) ms new
+    at_instruction-then = record { ending = at_instruction.ending; thrown = at_instruction.thrown; executing = ap (λ k. initialization_on k ms) more ∙ free }
 
     keeps-then : AreKeptBy w (state_of ms old).stack (state_of ms new).stack
     keeps-then k superseded runs_old =
-        ap (λ fs. runs k (stack_of (map active fs) ms)) are ∙ keeps-by old.frames.frames stands calm.executing k superseded runs_old
+        ap (λ fs. runs k (stack_of (map active fs) ms)) are ∙ keeps-by old.frames.frames stands at_instruction.executing k superseded runs_old
 
     -- whatever its version has
     pub call-attempted : Attempted w ms old new
     call-attempted = record {
-      at_instruction = calm-then;
+      at_instruction = at_instruction-then;
       loaded = refl;
       world = refl;
-      loads = loads-none old.frames.frames stands calm.executing nothing;
-      awaits = is-awaited w run ms here line kept old stands found named calm nothing (Invokes c.method args below) answers refl;
-      made = is-attempt w run ms here line kept old stands found named calm nothing (Invokes c.method args below) answers refl new concludes;
+      loads = loads-none old.frames.frames stands at_instruction.executing nothing;
+      awaits = is-awaited w run ms here line kept old stands found named at_instruction nothing (Invokes c.method args below) answers refl;
+      made = is-attempt w run ms here line kept old stands found named at_instruction nothing (Invokes c.method args below) answers refl new concludes;
       keeps = keeps-then;
     }
 
     pub call-passes : marks (current_of w.versions c.method) ≡ Off → Passes w ms old 1 new
     call-passes off = record {
-      at_instruction = calm-then;
+      at_instruction = at_instruction-then;
       loaded = refl;
       world = refl;
-      leads = leads-one w (state_of ms old) (state_of ms new) (ap is_some calm.ending) stepped;
+      leads = leads-one w (state_of ms old) (state_of ms new) (ap is_some at_instruction.ending) stepped;
       silent = silent-one w (state_of ms old) (record {
-        loads = loads-none old.frames.frames stands calm.executing nothing;
+        loads = loads-none old.frames.frames stands at_instruction.executing nothing;
         undelivered =
-            ap (λ cs. (stop_in (mark_now marks t) 0 live cs).due) (call-changes old.frames.frames stands calm.executing nothing call may can)
+            ap (λ cs. (stop_in (mark_now marks t) 0 live cs).due) (call-changes old.frames.frames stands at_instruction.executing nothing call may can)
             ∙ ap (λ (mark : Mark). (stop_by live (record { method = c.method; mark = mark } ∷ live) 0 (unless_off mark Begins)
             (record { live = record { method = c.method; mark = mark } ∷ live; passed = 1; due = Nothing })).due) off;
         keeps = λ k superseded runs_old. ap (λ (z : State). runs k z.stack) (sym stepped) ∙ keeps-then k superseded runs_old;
@@ -271,7 +271,7 @@ module _ (w : Setup) (run : CanRun w) (ms : List Initialization) (here : Here) (
   -- where it has not begun the frames are as they were
   pub passes-still : (frames : FramesView) → frames.frames ≡ old.frames.frames → Passes w ms old 0 (on_frames frames old)
   passes-still frames same = record {
-    at_instruction = record { ending = calm.ending; thrown = calm.thrown; executing = ap (λ fs. initialization_on (length fs) ms) same ∙ calm.executing };
+    at_instruction = record { ending = at_instruction.ending; thrown = at_instruction.thrown; executing = ap (λ fs. initialization_on (length fs) ms) same ∙ at_instruction.executing };
     loaded = refl;
     world = refl;
     leads = record {
@@ -294,8 +294,8 @@ module _ (w : Setup) (run : CanRun w) (ms : List Initialization) (here : Here) (
       → (b ≡ true → is_off (marks (current_of w.versions c.method)) ≡ false) → new.frames.frames ≡ with_begun b w c.method c.count old.frames.frames
       → new ≡ on_frames new.frames old → (delivered : Bool) → TriesIf b w ms delivered old Begins new
   called-tries true after call may can marked are same delivered =
-      subst (λ x. TriesCalmly w ms delivered old Begins x) (sym same)
-      (begins-calmly w run ms old (on_frames after.frames old) (has-here here old.frames.frames stands) calm (call-attempted call (may refl) (can refl) after.frames are)
+      subst (λ x. TriesQuickly w ms delivered old Begins x) (sym same)
+      (begins-quickly w run ms old (on_frames after.frames old) (has-here here old.frames.frames stands) at_instruction (call-attempted call (may refl) (can refl) after.frames are)
       delivered (current_of w.versions c.method) c.method (no-return w here line old.frames.frames stands found (ap returns_by named)) (ap top_of are)
       (more call (may refl) (can refl) after.frames are) (marked refl))
   called-tries false after call may can marked are same delivered =

@@ -24,6 +24,6 @@ module _ (w : Setup) (run : CanRun w) (ms : List Initialization) (here : Here) (
 
   pub length-passes : (b : Bool) → here_of old.frames.frames ≡ Some here → line_at w.versions here.version here.place ≡ Some line → line.action ≡ action.Arraylength
       → IsAtInstruction (length old.frames.frames) ms old → (b ≡ true → IsMeasured line old new) → (b ≡ false → new ≡ old) → Passes w ms old (steps_if b) new
-  length-passes true is found measures calm gone kept =
-      passes-alone w ms old new 1 (length-alone w run line kind.Int old new (stands-here old.frames.frames is found) measures (gone refl)) calm
-  length-passes false is found measures calm gone kept = subst (λ (p : Parts). Passes w ms old 0 p) (sym (kept refl)) (passes_none w ms old calm)
+  length-passes true is found measures at_instruction gone kept =
+      passes-alone w ms old new 1 (length-alone w run line kind.Int old new (stands-here old.frames.frames is found) measures (gone refl)) at_instruction
+  length-passes false is found measures at_instruction gone kept = subst (λ (p : Parts). Passes w ms old 0 p) (sym (kept refl)) (passes_none w ms old at_instruction)

@@ -36,7 +36,7 @@ use Rattle.activations.specs.Applied.{on_top, resumes_line, returns_or_ends}
 use Rattle.prepared_code.specs.Initializations.{initialization_on, stack_of, state_of, with_initializations}
 use Rattle.interpreter.specs.Moves.Passing.{AreKeptBy, Passes, caller_line, fits_given, gone_back, on_frames, runs}
 use Rattle.prepared_code.specs.Ready.{CanRun}
-use Rattle.interpreter.specs.Moves.Calmly.{Attempted}
+use Rattle.interpreter.specs.Moves.Quickly.{Attempted}
 use Rattle.prepared_code.specs.Runs.{IsAtInstruction}
 use Rattle.prepared_code.specs.States.{active, frame_in, here_of, state_with}
 use Rattle.prepared_code.specs.Versions.{Setup, instruction_in, line_at, mark_of, next_in, operation_as, listing_of}
@@ -63,7 +63,7 @@ pub record GivesBack (w : Setup) (ms : List Initialization) (here : Here) (k : O
   pub current : is_superseded_in w.versions.slots w.versions.current here.version ≡ false
 
 module _ (w : Setup) (run : CanRun w) (ms : List Initialization) (here : Here) (line : Line) (k : Option Kind) (old : Parts) (stands : here_of old.frames.frames ≡ Some here)
-    (found : line_at w.versions here.version here.place ≡ Some line) (ends : line.action ≡ action.Return k) (calm : IsAtInstruction (length old.frames.frames) ms old)
+    (found : line_at w.versions here.version here.place ≡ Some line) (ends : line.action ≡ action.Return k) (at_instruction : IsAtInstruction (length old.frames.frames) ms old)
     (d : Option Datum) (next : ℕ) where
   abbrev t : Listing
   t = listing_of w.versions
@@ -124,7 +124,7 @@ module _ (w : Setup) (run : CanRun w) (ms : List Initialization) (here : Here) (
       (ap (gives_back t u d) (top-frame ms g fs (on-caller f g fs is.executing))
       ∙ (ap (λ x. resumes under (frame_in g) d (option_map instruction_in x)) is.stands
       ∙ ap (goes under (frame_in g) is.caller.instr.at g.locals (with_value (option_map as_value d) g.operands)) is.goes_on))
-      ∙ goes-rests w under (frame_in g) is.caller.instr.at g.locals (with_value (option_map as_value d) g.operands) (Some next) calm.ending calm.thrown
+      ∙ goes-rests w under (frame_in g) is.caller.instr.at g.locals (with_value (option_map as_value d) g.operands) (Some next) at_instruction.ending at_instruction.thrown
 
   return-changes : (fs : List PlacedFrame) → here_of fs ≡ Some here → initialization_on (length fs) ms ≡ None → GivesBack w ms here k fs d next
       → (step w.world t (with_initializations ms (state_with fs old))).changes ≡ Left ∷ []
@@ -138,7 +138,7 @@ module _ (w : Setup) (run : CanRun w) (ms : List Initialization) (here : Here) (
       let at : line_at w.versions f.version f.place ≡ Some line = ap (λ (h : Here). line_at w.versions h.version h.place) same ∙ found in
       let gone : Turn = record { after = gives_back t (beneath_caller (g ∷ fs)) d (stack_of (map active (g ∷ fs)) ms); changes = Left ∷ [] } in
       ap (λ (x : Turn). x.changes)
-      (ap (λ e. steps_on w.world t s e s.stack) calm.ending
+      (ap (λ e. steps_on w.world t s e s.stack) at_instruction.ending
       ∙ (ap (λ es. steps_on w.world t s None es) (top-frame ms f (g ∷ fs) free)
       ∙ (ap (λ x. steps_at w.world t u (frame_in f) (option_map instruction_in x)) at
       ∙ (ap (λ a. step_by w i (operation_as line a) u (frame_in f)) ends
@@ -153,7 +153,7 @@ module _ (w : Setup) (run : CanRun w) (ms : List Initialization) (here : Here) (
       let u : State = record s { stack = stack_of (map active fs) ms } in
       let same : record { version = f.version; method = f.method; place = f.place } ≡ here = same_Some _ here here_is in
       let at : line_at w.versions f.version f.place ≡ Some line = ap (λ (h : Here). line_at w.versions h.version h.place) same ∙ found in
-      ap (λ e. loads_on w.world t s e s.stack) calm.ending
+      ap (λ e. loads_on w.world t s e s.stack) at_instruction.ending
       ∙ (ap (λ es. loads_on w.world t s None es) (top-frame ms f fs free)
       ∙ (ap (λ x. loads_at w.world u (frame_in f) (option_map instruction_in x)) at
       ∙ ap (λ a. loads w.world (operation_as line a) old.runtime.shared f.operands) ends))
@@ -206,28 +206,28 @@ module _ (w : Setup) (run : CanRun w) (ms : List Initialization) (here : Here) (
 
     attempted : state_of ms new ≡ attempts_on w (state_of ms old) (state_of ms old).stack
     attempted =
-        does-beneath w line ms old new here.method old.frames.frames (top-there w ms old here old.frames.frames stands) calm.executing unnamed
+        does-beneath w line ms old new here.method old.frames.frames (top-there w ms old here old.frames.frames stands) at_instruction.executing unnamed
         (λ last. is.executing) (ap (λ fs. state_with fs old) are ∙ done-by old.frames.frames is)
-        ∙ does-there w ms old line here stands calm.executing found
+        ∙ does-there w ms old line here stands at_instruction.executing found
 
     stepped : state_of ms new ≡ (step w.world t (state_of ms old)).after
     stepped =
-        let going = going-on ms old (goes-there old.ending (has_frame old.frames.frames && is_none (initialization_on (length old.frames.frames) ms)) calm.ending
-        (framed (length old.frames.frames) ms old.frames.frames calm.executing refl (had-one old.frames.frames stands))) in
+        let going = going-on ms old (goes-there old.ending (has_frame old.frames.frames && is_none (initialization_on (length old.frames.frames) ms)) at_instruction.ending
+        (framed (length old.frames.frames) ms old.frames.frames at_instruction.executing refl (had-one old.frames.frames stands))) in
         step-attempts w run (state_of ms old) going
-        (awaits-unnamed w ms old here stands calm.executing (ap named_in found ∙ unnamed))
+        (awaits-unnamed w ms old here stands at_instruction.executing (ap named_in found ∙ unnamed))
         (state_of ms new) (state_of ms new) attempted
         (rests w t ms new
-        (at-rest old.ending old.thrown (has_frame frames.frames && is_none (initialization_on (length frames.frames) ms)) calm.ending calm.thrown
+        (at-rest old.ending old.thrown (has_frame frames.frames && is_none (initialization_on (length frames.frames) ms)) at_instruction.ending at_instruction.thrown
         (framed (length frames.frames) ms frames.frames free refl has)))
 
-    calm-then : IsAtInstruction (length frames.frames) ms new
-    calm-then = record { ending = calm.ending; thrown = calm.thrown; executing = free }
+    at_instruction-then : IsAtInstruction (length frames.frames) ms new
+    at_instruction-then = record { ending = at_instruction.ending; thrown = at_instruction.thrown; executing = free }
 
     keeps-then : AreKeptBy w (state_of ms old).stack (state_of ms new).stack
     keeps-then version superseded runs_old =
         ap (λ fs. runs version (stack_of (map active fs) ms)) are
-        ∙ keeps-by old.frames.frames stands calm.executing is version superseded runs_old
+        ∙ keeps-by old.frames.frames stands at_instruction.executing is version superseded runs_old
 
     -- one frame less, and one is left
     pub fewer : length frames.frames ≡ length old.frames.frames - 1
@@ -239,26 +239,26 @@ module _ (w : Setup) (run : CanRun w) (ms : List Initialization) (here : Here) (
     -- whatever its version has
     pub return-attempted : Attempted w ms old new
     return-attempted = record {
-      at_instruction = calm-then;
+      at_instruction = at_instruction-then;
       loaded = refl;
       world = refl;
-      loads = loads-none old.frames.frames stands calm.executing;
-      awaits = awaits-unnamed w ms old here stands calm.executing (ap named_in found ∙ unnamed);
+      loads = loads-none old.frames.frames stands at_instruction.executing;
+      awaits = awaits-unnamed w ms old here stands at_instruction.executing (ap named_in found ∙ unnamed);
       made = attempted;
       keeps = keeps-then;
     }
 
     pub return-passes : marks here.version ≡ Off → Passes w ms old 1 new
     return-passes off = record {
-      at_instruction = calm-then;
+      at_instruction = at_instruction-then;
       loaded = refl;
       world = refl;
-      leads = leads-one w (state_of ms old) (state_of ms new) (ap is_some calm.ending) stepped;
+      leads = leads-one w (state_of ms old) (state_of ms new) (ap is_some at_instruction.ending) stepped;
       silent = silent-one w (state_of ms old) (record {
-        loads = loads-none old.frames.frames stands calm.executing;
+        loads = loads-none old.frames.frames stands at_instruction.executing;
         undelivered =
-            ap (λ cs. (stop_in (mark_now marks t) 0 (helds marks (state_of ms old).stack) cs).due) (return-changes old.frames.frames stands calm.executing is)
-            ∙ due-by old.frames.frames stands calm.executing off;
+            ap (λ cs. (stop_in (mark_now marks t) 0 (helds marks (state_of ms old).stack) cs).due) (return-changes old.frames.frames stands at_instruction.executing is)
+            ∙ due-by old.frames.frames stands at_instruction.executing off;
         keeps = λ version superseded runs_old. ap (λ (z : State). runs version z.stack) (sym stepped) ∙ keeps-then version superseded runs_old;
       });
     }

@@ -102,7 +102,7 @@ gone-asked w line q p (f ∷ fs) so =
 -- ---- what stands at a line
 
 module _ (w : Setup) (run : CanRun w) (ms : List Initialization) (here : Here) (line : Line) (kept : SymbolicReference) (old : Parts) (stands : here_of old.frames.frames ≡ Some here)
-    (found : line_at w.versions here.version here.place ≡ Some line) (named : line.action ≡ action.Named kept) (calm : IsAtInstruction (length old.frames.frames) ms old)
+    (found : line_at w.versions here.version here.place ≡ Some line) (named : line.action ≡ action.Named kept) (at_instruction : IsAtInstruction (length old.frames.frames) ms old)
     (nothing : newly_loaded w.world.program old.runtime.shared.loaded kept (top_operands old.frames.frames) ≡ []) where
   abbrev n : SymbolicReference
   n = kept
@@ -124,8 +124,8 @@ module _ (w : Setup) (run : CanRun w) (ms : List Initialization) (here : Here) (
   has-one (f ∷ fs) is = refl
 
   going : IsGoing (state_of ms old)
-  going = going-on ms old (goes old.ending (has_frame old.frames.frames && is_none (initialization_on (length old.frames.frames) ms)) calm.ending
-      (framed (length old.frames.frames) ms old.frames.frames calm.executing refl (has-one old.frames.frames stands)))
+  going = going-on ms old (goes old.ending (has_frame old.frames.frames && is_none (initialization_on (length old.frames.frames) ms)) at_instruction.ending
+      (framed (length old.frames.frames) ms old.frames.frames at_instruction.executing refl (has-one old.frames.frames stands)))
 
   -- ---- the state behind it
 
@@ -136,7 +136,7 @@ module _ (w : Setup) (run : CanRun w) (ms : List Initialization) (here : Here) (
     pub is-attempt : (new : Parts) → state_in new ≡ on_parts (λ s f. acts_asked w line s f q) reached
         → state_of ms new ≡ attempts_on w (state_of ms old) (state_of ms old).stack
     is-attempt new concludes =
-        goes-on w ms here line old found named-there stands calm.executing q (after d old.runtime)
+        goes-on w ms here line old found named-there stands at_instruction.executing q (after d old.runtime)
         (there-by (λ n next. q ≡ outcome_by_rule (attempts w.world n old.runtime.shared old.frames) old.frames) answers)
         (there-by (λ n next. after d old.runtime ≡ after (done_on (attempts w.world n old.runtime.shared old.frames) old.frames) old.runtime) refl)
         w new refl goes_on concludes
@@ -144,7 +144,7 @@ module _ (w : Setup) (run : CanRun w) (ms : List Initialization) (here : Here) (
     -- no class is awaited
     pub is-awaited : awaited_in w (state_of ms old) ≡ None
     is-awaited =
-        sym (awaits-told w ms here line old found named-there stands calm.executing q (after d old.runtime)
+        sym (awaits-told w ms here line old found named-there stands at_instruction.executing q (after d old.runtime)
         (there-by (λ n next. q ≡ outcome_by_rule (attempts w.world n old.runtime.shared old.frames) old.frames) answers)
         (there-by (λ n next. after d old.runtime ≡ after (done_on (attempts w.world n old.runtime.shared old.frames) old.frames) old.runtime) refl)
         None (sym (stays-starts q goes_on)))
@@ -189,7 +189,7 @@ module _ (w : Setup) (run : CanRun w) (ms : List Initialization) (here : Here) (
       let same : record { version = f.version; method = f.method; place = f.place } ≡ here = same_Some _ here is in
       let at : line_at w.versions f.version f.place ≡ Some line = ap (λ (h : Here). line_at w.versions h.version h.place) same ∙ found in
       let does = same-done (f ∷ fs) none f fs refl in
-      ap (λ e. steps_on w.world t s e s.stack) calm.ending
+      ap (λ e. steps_on w.world t s e s.stack) at_instruction.ending
       ∙ (ap (λ es. steps_on w.world t s None es) (top-frame ms f fs free)
       ∙ (ap (λ x. steps_at w.world t (under fs) (frame_in f) (option_map instruction_in x)) at
       ∙ (ap (λ a. step_by w i (operation_as line a) (under fs) (frame_in f)) named
@@ -201,7 +201,7 @@ module _ (w : Setup) (run : CanRun w) (ms : List Initialization) (here : Here) (
   goes-quiet : (f : PlacedFrame) (fs : List PlacedFrame) (d : Done) → GoesSo d.outcome (f ∷ fs) → (follows d f fs).changes ≡ []
   goes-quiet f fs d so =
       let u : State = record (under fs) { shared = d.shared; output = old.runtime.output ++ d.wrote } in
-      let is : IsQuiet w i d.outcome u (frame_in f) = goes-on-quiet w i d.outcome so.locals so.operands Following u (frame_in f) so.is calm.ending calm.thrown in
+      let is : IsQuiet w i d.outcome u (frame_in f) = goes-on-quiet w i d.outcome so.locals so.operands Following u (frame_in f) so.is at_instruction.ending at_instruction.thrown in
       is.quiet
 
   step-quiet : (fs : List PlacedFrame) → here_of fs ≡ Some here → initialization_on (length fs) ms ≡ None → newly_loaded w.world.program old.runtime.shared.loaded n (top_operands fs) ≡ []
@@ -222,16 +222,16 @@ module _ (w : Setup) (run : CanRun w) (ms : List Initialization) (here : Here) (
       ap (λ (s : FramesView). let p : Parts = record new { frames = s } in state_in p) went.frames
       ∙ (ap (λ (r : RuntimeView). state_with (frames_in d.outcome line.next old.frames.frames) (record old { runtime = r })) went.runtime
       ∙ gone-asked w line d.outcome reached old.frames.frames so) in
-      let resting = at-rest old.ending old.thrown (has_frame frames.frames && is_none (initialization_on (length frames.frames) ms)) calm.ending calm.thrown
-      (framed (length old.frames.frames) ms frames.frames calm.executing many has) in
+      let resting = at-rest old.ending old.thrown (has_frame frames.frames && is_none (initialization_on (length frames.frames) ms)) at_instruction.ending at_instruction.thrown
+      (framed (length old.frames.frames) ms frames.frames at_instruction.executing many has) in
       let stepped = is-step d.outcome refl (ap stays so.is) new concludes resting in
       record {
-        at_instruction = record { ending = calm.ending; thrown = calm.thrown; executing = ap (λ k. initialization_on k ms) many ∙ calm.executing };
+        at_instruction = record { ending = at_instruction.ending; thrown = at_instruction.thrown; executing = ap (λ k. initialization_on k ms) many ∙ at_instruction.executing };
         loaded = loaded;
         world = ap (λ (r : RuntimeView). r.world) went.runtime;
-        leads = leads-one w (state_of ms old) (state_of ms new) (ap is_some calm.ending) stepped;
+        leads = leads-one w (state_of ms old) (state_of ms new) (ap is_some at_instruction.ending) stepped;
         silent = λ k less. quiet-silent w (steps_from w k (state_of ms old))
-            (quiet-one w (state_of ms old) (step-quiet old.frames.frames stands calm.executing nothing so) k less);
+            (quiet-one w (state_of ms old) (step-quiet old.frames.frames stands at_instruction.executing nothing so) k less);
       }
     where
       has-many : (new old : List PlacedFrame) → length new ≡ length old → has_frame old ≡ true → has_frame new ≡ true
@@ -251,7 +251,7 @@ none-new xs is = by xs (zero-is (length xs) is) where
   by (x ∷ xs) e = absurd (omega (arith, e))
 
 module _ (w : Setup) (run : CanRun w) (ms : List Initialization) (here : Here) (line : Line) (kept : SymbolicReference) (old : Parts) (stands : here_of old.frames.frames ≡ Some here)
-    (found : line_at w.versions here.version here.place ≡ Some line) (named : line.action ≡ action.Named kept) (calm : IsAtInstruction (length old.frames.frames) ms old)
+    (found : line_at w.versions here.version here.place ≡ Some line) (named : line.action ≡ action.Named kept) (at_instruction : IsAtInstruction (length old.frames.frames) ms old)
     (silent : loads_nothing w.world.program old.runtime.shared.loaded kept (top_operands old.frames.frames) ≡ true) where
   pub nothing-new : newly_loaded w.world.program old.runtime.shared.loaded kept (top_operands old.frames.frames) ≡ []
   nothing-new = none-new (newly_loaded w.world.program old.runtime.shared.loaded kept (top_operands old.frames.frames)) silent
@@ -267,11 +267,11 @@ module _ (w : Setup) (run : CanRun w) (ms : List Initialization) (here : Here) (
       → IfPassed b (done_on (attempts w.world kept old.runtime.shared old.frames) old.frames) line.next old.frames old.runtime frames left
       → Passes w ms old (steps_if b) (record old { frames = frames; runtime = left })
   access-passes true frames left went =
-      done-passes w run ms here line kept old stands found named calm nothing-new frames left went
+      done-passes w run ms here line kept old stands found named at_instruction nothing-new frames left went
       (same-loaded left.shared (ap (λ (r : RuntimeView). r.shared) went.runtime))
   access-passes false frames left same =
       subst (λ (f : FramesView). Passes w ms old 0 (record old { frames = f; runtime = left })) (sym same.0)
-      (subst (λ (r : RuntimeView). Passes w ms old 0 (record old { runtime = r })) (sym same.1) (passes_none w ms old calm))
+      (subst (λ (r : RuntimeView). Passes w ms old 0 (record old { runtime = r })) (sym same.1) (passes_none w ms old at_instruction))
 
   pub native-passes : (b : Bool) (frames : FramesView) (left : RuntimeView) (native : NativeCall)
       → IsNativeCall w.world native (done_on (attempts w.world kept old.runtime.shared old.frames) old.frames) old.runtime.shared old.frames.frames

@@ -101,7 +101,7 @@ module _ (w : Setup) (s : State) (r target : ℕ) (f g : Frame) (rest : List Ent
 -- ---- at an athrow
 
 module _ (w : Setup) (run : CanRun w) (ms : List Initialization) (here : Here) (line : Line) (old : Parts) (stands : here_of old.frames.frames ≡ Some here)
-    (found : line_at w.versions here.version here.place ≡ Some line) (ends : line.action ≡ action.Athrow) (calm : IsAtInstruction (length old.frames.frames) ms old)
+    (found : line_at w.versions here.version here.place ≡ Some line) (ends : line.action ≡ action.Athrow) (at_instruction : IsAtInstruction (length old.frames.frames) ms old)
     (r target : ℕ) where
   abbrev t : Listing
   t = listing_of w.versions
@@ -165,9 +165,9 @@ module _ (w : Setup) (run : CanRun w) (ms : List Initialization) (here : Here) (
       let caller = on-caller f g fs is.executing in
       let g2 : PlacedFrame = record g { place = target; operands = Ref r ∷ [] } in
       ap (λ es. let x : State = record base { stack = es } in x) (top-frame ms g2 fs caller)
-      ∙ (ap (λ o. let x : State = record base { thrown = o; stack = active g2 ∷ stack_of (map active fs) ms } in x) calm.thrown
+      ∙ (ap (λ o. let x : State = record base { thrown = o; stack = active g2 ∷ stack_of (map active fs) ms } in x) at_instruction.thrown
       ∙ sym (ap (λ (x : Turn). x.after)
-      (settles-by f g fs here_is is fits s calm.ending refl refl (top-frame ms f (g ∷ fs) free ∙ ap (λ es. active f ∷ es) (top-frame ms g fs caller)))))
+      (settles-by f g fs here_is is fits s at_instruction.ending refl refl (top-frame ms f (g ∷ fs) free ∙ ap (λ es. active f ∷ es) (top-frame ms g fs caller)))))
 
   -- ---- the turn
 
@@ -183,12 +183,12 @@ module _ (w : Setup) (run : CanRun w) (ms : List Initialization) (here : Here) (
       let at : line_at w.versions f.version f.place ≡ Some line = ap (λ (h : Here). line_at w.versions h.version h.place) same ∙ found in
       let thrown_state : State = throws_at (record u { output = old.runtime.output ++ [] }) (frame_in f) (record { shared = old.runtime.shared; reference = r }) in
       ap (λ (x : Turn). x.changes)
-      (ap (λ e. steps_on w.world t s e s.stack) calm.ending
+      (ap (λ e. steps_on w.world t s e s.stack) at_instruction.ending
       ∙ (ap (λ es. steps_on w.world t s None es) (top-frame ms f (g ∷ fs) free)
       ∙ (ap (λ x. steps_at w.world t u (frame_in f) (option_map instruction_in x)) at
       ∙ (ap (λ a. step_by w i (operation_as line a) u (frame_in f)) ends
       ∙ (ap (λ q. goes_again w.world t i u (frame_in f) (starts q) (tries w.world t i u (frame_in f) (done u.shared q))) thrown
-      ∙ settles-by f g fs here_is is fits thrown_state calm.ending refl refl (ap (λ es. active f ∷ es) (top-frame ms g fs (on-caller f g fs is.executing))))))))
+      ∙ settles-by f g fs here_is is fits thrown_state at_instruction.ending refl refl (ap (λ es. active f ∷ es) (top-frame ms g fs (on-caller f g fs is.executing))))))))
 
   -- no class is loaded
   loads-none : (fs : List PlacedFrame) → here_of fs ≡ Some here → initialization_on (length fs) ms ≡ None → step_loads w.world t (with_initializations ms (state_with fs old)) ≡ []
@@ -198,7 +198,7 @@ module _ (w : Setup) (run : CanRun w) (ms : List Initialization) (here : Here) (
       let u : State = record s { stack = stack_of (map active fs) ms } in
       let same : record { version = f.version; method = f.method; place = f.place } ≡ here = same_Some _ here here_is in
       let at : line_at w.versions f.version f.place ≡ Some line = ap (λ (h : Here). line_at w.versions h.version h.place) same ∙ found in
-      ap (λ e. loads_on w.world t s e s.stack) calm.ending
+      ap (λ e. loads_on w.world t s e s.stack) at_instruction.ending
       ∙ (ap (λ es. loads_on w.world t s None es) (top-frame ms f fs free)
       ∙ (ap (λ x. loads_at w.world u (frame_in f) (option_map instruction_in x)) at
       ∙ ap (λ a. loads w.world (operation_as line a) old.runtime.shared f.operands) ends))
@@ -251,31 +251,31 @@ module _ (w : Setup) (run : CanRun w) (ms : List Initialization) (here : Here) (
       let new : Parts = on_frames frames old in
       let unnamed : is_named line.action ≡ false = ap is_named ends in
       let attempted : state_of ms mid ≡ attempts_on w (state_of ms old) (state_of ms old).stack =
-      does-beneath w line ms old mid here.method old.frames.frames (top-there w ms old here old.frames.frames stands) calm.executing unnamed
+      does-beneath w line ms old mid here.method old.frames.frames (top-there w ms old here old.frames.frames stands) at_instruction.executing unnamed
       (λ last. is.executing) (thrown-by old.frames.frames stands thrown)
-      ∙ does-there w ms old line here stands calm.executing found in
-      let going = going-on ms old (goes-there old.ending (has_frame old.frames.frames && is_none (initialization_on (length old.frames.frames) ms)) calm.ending
-      (framed (length old.frames.frames) ms old.frames.frames calm.executing refl (had-one old.frames.frames stands))) in
+      ∙ does-there w ms old line here stands at_instruction.executing found in
+      let going = going-on ms old (goes-there old.ending (has_frame old.frames.frames && is_none (initialization_on (length old.frames.frames) ms)) at_instruction.ending
+      (framed (length old.frames.frames) ms old.frames.frames at_instruction.executing refl (had-one old.frames.frames stands))) in
       let settles : state_of ms new ≡ behind w (state_of ms mid) =
-      ap (λ fs. with_initializations ms (state_with fs old)) are ∙ settles-there old.frames.frames stands calm.executing is fits in
+      ap (λ fs. with_initializations ms (state_with fs old)) are ∙ settles-there old.frames.frames stands at_instruction.executing is fits in
       let stepped : state_of ms new ≡ (step w.world t (state_of ms old)).after =
       step-attempts w run (state_of ms old) going
-      (awaits-unnamed w ms old here stands calm.executing (ap named_in found ∙ unnamed))
+      (awaits-unnamed w ms old here stands at_instruction.executing (ap named_in found ∙ unnamed))
       (state_of ms mid) (state_of ms new) attempted settles in
       record {
-        at_instruction = record { ending = calm.ending; thrown = calm.thrown; executing = ap (λ n. initialization_on n ms) (ap length are ∙ one-less old.frames.frames fits) ∙ is.executing };
+        at_instruction = record { ending = at_instruction.ending; thrown = at_instruction.thrown; executing = ap (λ n. initialization_on n ms) (ap length are ∙ one-less old.frames.frames fits) ∙ is.executing };
         loaded = refl;
         world = refl;
-        leads = leads-one w (state_of ms old) (state_of ms new) (ap is_some calm.ending) stepped;
+        leads = leads-one w (state_of ms old) (state_of ms new) (ap is_some at_instruction.ending) stepped;
         silent = silent-one w (state_of ms old) (record {
-          loads = loads-none old.frames.frames stands calm.executing;
+          loads = loads-none old.frames.frames stands at_instruction.executing;
           undelivered =
-              ap (λ cs. (stop_in (mark_now marks t) 0 (helds marks (state_of ms old).stack) cs).due) (throw-changes old.frames.frames stands calm.executing is fits thrown)
-              ∙ due-by old.frames.frames stands calm.executing is.off;
+              ap (λ cs. (stop_in (mark_now marks t) 0 (helds marks (state_of ms old).stack) cs).due) (throw-changes old.frames.frames stands at_instruction.executing is fits thrown)
+              ∙ due-by old.frames.frames stands at_instruction.executing is.off;
           keeps = λ version superseded runs_old.
               ap (λ (z : State). runs version z.stack) (sym stepped)
               ∙ (ap (λ fs. runs version (stack_of (map active fs) ms)) are
-              ∙ keeps-by old.frames.frames stands calm.executing is fits version superseded runs_old);
+              ∙ keeps-by old.frames.frames stands at_instruction.executing is fits version superseded runs_old);
         });
       }
 
@@ -284,7 +284,7 @@ module _ (w : Setup) (run : CanRun w) (ms : List Initialization) (here : Here) (
       → frames.frames ≡ caught_if b r target old.frames.frames → Passes w ms old (steps_if b) (on_frames frames old)
   caught-passes true frames is thrown fits are = throw-passes is (fits refl) thrown frames are
   caught-passes false frames is thrown fits are = record {
-    at_instruction = record { ending = calm.ending; thrown = calm.thrown; executing = ap (λ fs. initialization_on (length fs) ms) are ∙ calm.executing };
+    at_instruction = record { ending = at_instruction.ending; thrown = at_instruction.thrown; executing = ap (λ fs. initialization_on (length fs) ms) are ∙ at_instruction.executing };
     loaded = refl;
     world = refl;
     leads = record {

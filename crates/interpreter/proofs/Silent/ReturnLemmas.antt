@@ -25,12 +25,12 @@ use Rattle.prepared_code.specs.declared.parts.Parts.{Parts}
 use Rattle.prepared_code.specs.Initializations.{initialization_on, state_of}
 use Rattle.interpreter.specs.Moves.Passing.{Passes, caller_line, fits_given, gone_back, on_frames, steps_if}
 use Rattle.prepared_code.specs.Ready.{CanRun}
-use Rattle.interpreter.specs.Moves.Calmly.{GoesBack, TriesIf}
+use Rattle.interpreter.specs.Moves.Quickly.{GoesBack, TriesIf}
 use Rattle.prepared_code.specs.Runs.{IsAtInstruction}
 use Rattle.prepared_code.specs.States.{here_of}
 use Rattle.prepared_code.specs.Tables.{Versions}
 use Rattle.prepared_code.specs.Versions.{Setup, line_at, mark_of, next_in}
-use Rattle.interpreter.proofs.Moves.CalmSteps.{has-here, leaves-calmly}
+use Rattle.interpreter.proofs.Moves.QuickSteps.{has-here, leaves-quickly}
 use Rattle.interpreter.proofs.Silent.PassingReturns.{GivesBack, fewer, has-caller, return-attempted, return-passes}
 use Rattle.interpreter.proofs.Silent.SilentSteps.{passes_none}
 
@@ -75,7 +75,7 @@ same-back v next (f ∷ g ∷ fs) fits = ap (λ o. record g { place = next; oper
 -- ---- the step
 
 module _ (w : Setup) (run : CanRun w) (ms : List Initialization) (here : Here) (line : Line) (k : Option Kind) (old : Parts) (stands : here_of old.frames.frames ≡ Some here)
-    (found : line_at w.versions here.version here.place ≡ Some line) (ends : line.action ≡ action.Return k) (calm : IsAtInstruction (length old.frames.frames) ms old)
+    (found : line_at w.versions here.version here.place ≡ Some line) (ends : line.action ≡ action.Return k) (at_instruction : IsAtInstruction (length old.frames.frames) ms old)
     (d : Option Datum) (next : ℕ) (v : Option Value) (frames : FramesView) (sound : AreSound old.frames.frames)
     (current : is_superseded_in w.versions.slots w.versions.current here.version ≡ false)
     (result : returns k (top_operands old.frames.frames) ≡ Returns d) (value : v ≡ option_map as_value d) where
@@ -97,8 +97,8 @@ module _ (w : Setup) (run : CanRun w) (ms : List Initialization) (here : Here) (
 
   pub gives-passes : (b : Bool) → GoesBack w.versions ms old.frames.frames next → mark_of w.versions here.version ≡ Off → b ≡ can_give v old.frames.frames
       → frames ≡ changed_if b (with_given v next) old.frames → Passes w ms old (steps_if b) (on_frames frames old)
-  gives-passes true to off can are = return-passes w run ms here line k old stands found ends calm d next (gives to can) frames (back-there can are) off
-  gives-passes false to off can are = subst (λ (f : FramesView). Passes w ms old 0 (on_frames f old)) (sym are) (passes_none w ms old calm)
+  gives-passes true to off can are = return-passes w run ms here line k old stands found ends at_instruction d next (gives to can) frames (back-there can are) off
+  gives-passes false to off can are = subst (λ (f : FramesView). Passes w ms old 0 (on_frames f old)) (sym are) (passes_none w ms old at_instruction)
 
   -- of which its probe has told
   pub gives-tries : (b : Bool) → GoesBack w.versions ms old.frames.frames next → b ≡ can_give v old.frames.frames → frames ≡ changed_if b (with_given v next) old.frames
@@ -106,14 +106,14 @@ module _ (w : Setup) (run : CanRun w) (ms : List Initialization) (here : Here) (
   gives-tries true to can are =
       let is = gives to can in
       let there = back-there can are in
-      leaves-calmly w run ms old (on_frames frames old) (has-here here old.frames.frames stands) calm
-      (return-attempted w run ms here line k old stands found ends calm d next is frames there)
-      (fewer w run ms here line k old stands found ends calm d next is frames there)
-      (has-caller w run ms here line k old stands found ends calm d next is frames there)
+      leaves-quickly w run ms old (on_frames frames old) (has-here here old.frames.frames stands) at_instruction
+      (return-attempted w run ms here line k old stands found ends at_instruction d next is frames there)
+      (fewer w run ms here line k old stands found ends at_instruction d next is frames there)
+      (has-caller w run ms here line k old stands found ends at_instruction d next is frames there)
   gives-tries false to can are = ap (λ (f : FramesView). state_of ms (on_frames f old)) are
 
-  -- and the run is calm behind it
-  pub gives-calm : (b : Bool) → b ≡ true → GoesBack w.versions ms old.frames.frames next → b ≡ can_give v old.frames.frames → frames ≡ changed_if b (with_given v next) old.frames
+  -- and the run is at an instruction behind it
+  pub gives-at_instruction : (b : Bool) → b ≡ true → GoesBack w.versions ms old.frames.frames next → b ≡ can_give v old.frames.frames → frames ≡ changed_if b (with_given v next) old.frames
       → IsAtInstruction (length frames.frames) ms (on_frames frames old)
-  gives-calm true given to can are = (return-attempted w run ms here line k old stands found ends calm d next (gives to can) frames (back-there can are)).at_instruction
-  gives-calm false given to can are = absurd (false≢true given)
+  gives-at_instruction true given to can are = (return-attempted w run ms here line k old stands found ends at_instruction d next (gives to can) frames (back-there can are)).at_instruction
+  gives-at_instruction false given to can are = absurd (false≢true given)

@@ -100,8 +100,8 @@ module _ (w : Setup) where
   ]
 
   pub passes_none : (ms : List Initialization) (p : Parts) → IsAtInstruction (length p.frames.frames) ms p → Passes w ms p 0 p
-  passes_none ms p calm = record {
-    at_instruction = calm;
+  passes_none ms p at_instruction = record {
+    at_instruction = at_instruction;
     loaded = refl;
     world = refl;
     leads = leads-none w (state_of ms p);
@@ -119,14 +119,14 @@ module _ (w : Setup) where
 
   -- those of the current frame and elements alone
   pub passes-alone : (ms : List Initialization) (old new : Parts) (n : ℕ) → LeadsAlone w old n new → IsAtInstruction (length old.frames.frames) ms old → Passes w ms old n new
-  passes-alone ms old new n alone calm = record {
+  passes-alone ms old new n alone at_instruction = record {
     at_instruction = record {
-      ending = alone.ending ∙ calm.ending;
-      thrown = alone.thrown ∙ calm.thrown;
-      executing = ap (λ k. initialization_on k ms) alone.many ∙ calm.executing;
+      ending = alone.ending ∙ at_instruction.ending;
+      thrown = alone.thrown ∙ at_instruction.thrown;
+      executing = ap (λ k. initialization_on k ms) alone.many ∙ at_instruction.executing;
     };
     loaded = alone.loaded;
     world = alone.world;
-    leads = alone.leads ms calm;
-    silent = λ k less. quiet-silent w (steps_from w k (state_of ms old)) (alone.quiet ms calm k less);
+    leads = alone.leads ms at_instruction;
+    silent = λ k less. quiet-silent w (steps_from w k (state_of ms old)) (alone.quiet ms at_instruction k less);
   }

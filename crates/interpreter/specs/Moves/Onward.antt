@@ -14,7 +14,7 @@ use Rattle.interpreter.specs.declared.turns.hands.Gone.{Gone}
 use Rattle.interpreter.specs.declared.turns.hands.Hand.{Hand}
 use Rattle.interpreter.specs.declared.turns.hands.Passed.{Passed}
 use Rattle.interpreter.specs.Moves.Passing.{Passes}
-use Rattle.interpreter.specs.Moves.Calmly.{GoesCalmly, TriesCalmly}
+use Rattle.interpreter.specs.Moves.Quickly.{GoesQuickly, TriesQuickly}
 use Rattle.interpreter.specs.Moves.Hands.{HasGoneOn, HasInHand}
 
 -- ---- one line
@@ -39,8 +39,8 @@ is_telling Begins = true
 abbrev pub GoesOnward : Setup → List Initialization → Parts → Option Due → Parts → Type 0
 GoesOnward w ms old None new = Passes w ms old 0 new
 GoesOnward w ms old (Some Nothing) new = Passes w ms old 1 new
-GoesOnward w ms old (Some (Ends k)) new = TriesCalmly w ms false old (Ends k) new
-GoesOnward w ms old (Some Begins) new = TriesCalmly w ms false old Begins new
+GoesOnward w ms old (Some (Ends k)) new = TriesQuickly w ms false old (Ends k) new
+GoesOnward w ms old (Some Begins) new = TriesQuickly w ms false old Begins new
 
 -- ---- several
 
@@ -49,8 +49,8 @@ abbrev pub empty_hand : Hand
 empty_hand = record { moves = false; delivered = false; passed = 0 }
 
 -- The next step has gone on to where a probe tells of it, and the rest of it is in hand there.
-pub record StopsCalmly (w : Setup) (ms : List Initialization) (old : Parts) (gone : Gone) (new : Parts) : Type 0 where
-  pub goes : GoesCalmly w ms empty_hand old gone new
+pub record StopsQuickly (w : Setup) (ms : List Initialization) (old : Parts) (gone : Gone) (new : Parts) : Type 0 where
+  pub goes : GoesQuickly w ms empty_hand old gone new
   pub hands : (homes : ℕ → ℕ → ℕ) (turn : Turn) (live : List Held) → HasVersions w homes → HasInHand w homes turn empty_hand live (state_of ms old)
       → HasGoneOn w homes turn empty_hand live gone (state_of ms new)
   pub sound : IsSoundIn w (state_of ms old) → IsSoundIn w (state_of ms new)
@@ -58,7 +58,7 @@ pub record StopsCalmly (w : Setup) (ms : List Initialization) (old : Parts) (gon
 -- it has, or nothing was done
 abbrev pub StopsIf : Setup → List Initialization → Parts → Option Gone → Parts → Type 0
 StopsIf w ms old None new = new ≡ old
-StopsIf w ms old (Some gone) new = StopsCalmly w ms old gone new
+StopsIf w ms old (Some gone) new = StopsQuickly w ms old gone new
 
 -- so many steps that told nothing were made, and then the next one has come to where a probe tells of it, if it did
 pub record PassesOnward (w : Setup) (ms : List Initialization) (old : Parts) (passed : Passed) (new : Parts) : Type 0 where
@@ -71,7 +71,7 @@ pub record PassesOnward (w : Setup) (ms : List Initialization) (old : Parts) (pa
 -- this is due of the next step, or nothing more was done
 abbrev pub ComesIf : Setup → List Initialization → Parts → Option Due → Parts → Type 0
 ComesIf w ms old None new = new ≡ old
-ComesIf w ms old (Some due) new = TriesCalmly w ms false old due new
+ComesIf w ms old (Some due) new = TriesQuickly w ms false old due new
 
 pub record ComesTo (w : Setup) (ms : List Initialization) (old : Parts) (made : ℕ) (due : Option Due) (new : Parts) : Type 0 where
   pub between : Parts

@@ -21,7 +21,7 @@ ghost use Rattle.interpreter.specs.Moves.Passing.{steps_if};
 ghost use Rattle.prepared_code.specs.Ready.{CanRun, IsSoundIn};
 ghost use Rattle.prepared_code.specs.Runs.{IsAtInstruction, IsLineIn, RunsVersion};
 ghost use Rattle.prepared_code.specs.States.{here_of};
-ghost use Rattle.interpreter.specs.Moves.Calmly.{GoesBack, TriesIf, passed_there};
+ghost use Rattle.interpreter.specs.Moves.Quickly.{GoesBack, TriesIf, passed_there};
 ghost use Rattle.interpreter.specs.Moves.Onward.{ComesTo, GoesOnward, PassesOnward};
 ghost use Rattle.interpreter.specs.Moves.Onward.{begun_due, is_telling, made_if};
 ghost use Rattle.method_versions.specs.Tables.{is_superseded_in};
@@ -287,7 +287,7 @@ pub fn leave(
     requires ends { line.now.action ≡ action.Return kind }
     ensures delivered { let w = setup_in parts.old.runtime originals.now in
         TriesIf result w initializing.now true parts.old due.Nothing parts.new }
-    ensures calm { result ≡ true → IsAtInstruction
+    ensures at_instruction { result ≡ true → IsAtInstruction
         (length parts.new.frames.frames) initializing.now parts.new }
     // Where the version has no probes nothing is told of it.
     ensures silent { let w = setup_in parts.old.runtime originals.now in

@@ -60,4 +60,4 @@ told-fault told name bytes r fetched why =
 pub told-unfetched : (told : Option Told) (name : List ℕ) (old new : FilesView) (r : Refusal)
     → IsFetchFault name PlanNotFetched old new r → IsToldRefusal told name r
 told-unfetched told name old new r (inl (failed, rose, last)) = inl failed
-told-unfetched told name old new r (inr (memory, calm)) = inr (plan.NoMemory, memory, λ other. absurd (other refl))
+told-unfetched told name old new r (inr (memory, without_fault)) = inr (plan.NoMemory, memory, λ other. absurd (other refl))

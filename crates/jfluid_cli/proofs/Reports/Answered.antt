@@ -44,12 +44,12 @@ pub run-answer : {A : Type 0} (r : Result ℕ Refusal) (outcome : Result A Stop)
     → OnOk outcome (IsCarriedOut ran budget s.out.taken s.out_after.taken)
     → StopCause s.out.faults s.out_after.faults outcome
     → MatchResult r (λ status. IsRun summary asked budget s status k) (IsStopped s)
-run-answer (Ok status) (Ok x) s summary asked budget ran k ok gathers shown why unshown carried calm = record {
+run-answer (Ok status) (Ok x) s summary asked budget ran k ok gathers shown why unshown carried without_fault = record {
   output = gathered-out ran k.session.value budget s.out.taken s.out_after.taken gathers carried;
-  without_fault = calm;
+  without_fault = without_fault;
   shown = shown;
 }
-run-answer (Ok status) (Err e) s summary asked budget ran k ok gathers shown why unshown carried calm = absurd (not_ok ok)
+run-answer (Ok status) (Err e) s summary asked budget ran k ok gathers shown why unshown carried without_fault = absurd (not_ok ok)
 run-answer (Err r) outcome s summary asked budget ran k ok gathers untold why unshown carried cause =
     record { why = by_cause why; untold = untold; unshown = unshown }
   where

@@ -32,7 +32,7 @@ use Rattle.jfluid_cli.proofs.Reports.Fixed.{by-status, read-or, accepted-or, two
 use Rattle.jfluid_cli.proofs.Commands.OneCommand.{commanded, not-misplanned, one-command}
 use Rattle.jfluid_cli.proofs.Actions.Rootless.{rootless-unfit, three-rootless}
 use Rattle.jfluid_cli.proofs.Files.Spelled.{one-spelling}
-use Rattle.jfluid_cli.proofs.Runs.Complete.{calm_not_rose, ends_as, ending_of_same, one-program}
+use Rattle.jfluid_cli.proofs.Runs.Complete.{without_fault_not_rose, ends_as, ending_of_same, one-program}
 
 not_both : false ≡ true → ⊥
 not_both e = cc
@@ -86,9 +86,9 @@ held-and (Some k) P Q R some p q = (k, p, q, some)
 reported-reached : (c : Call) (status : ℕ) (k : Kept) → IsRunAsked (words_of c) c.streams status k → AllWithoutFault c
     → IsReported (is_generated (words_of c)) k.session.value c.streams.report c.streams.report_after status
     → status ≡ status_of_ending (ending_at k.session.value (budget_of (words_of c) k.plan))
-reported-reached c status k ran calm reported = elim (cases_eq status 8) [
-  | inl eight ↦ absurd (calm_not_rose c.streams.report.faults c.streams.report_after.faults
-      calm.report (reported.not_reported eight))
+reported-reached c status k ran without_fault reported = elim (cases_eq status 8) [
+  | inl eight ↦ absurd (without_fault_not_rose c.streams.report.faults c.streams.report_after.faults
+      without_fault.report (reported.not_reported eight))
   | inr other ↦ reported.ending other
       ∙ ap status_of_ending
       (ends_as k.session.value (budget_of (words_of c) k.plan) c.streams.out.taken c.streams.out_after.taken
@@ -98,21 +98,21 @@ reported-reached c status k ran calm reported = elim (cases_eq status 8) [
 -- its status is that of the ending at the budget
 run-reached : (c : Call) (status : ℕ) (k : Kept) → IsRunAsked (words_of c) c.streams status k → AllWithoutFault c
     → status ≡ status_of_ending (ending_at k.session.value (budget_of (words_of c) k.plan))
-run-reached c status k ran calm = elim ran.shown [
-  | inl (imaged, reported) ↦ reported-reached c status k ran calm reported
-  | inr (eight, unimaged, untold) ↦ absurd (calm_not_rose c.streams.images.faults c.streams.images_after.faults
-      calm.images unimaged.failed)
+run-reached c status k ran without_fault = elim ran.shown [
+  | inl (imaged, reported) ↦ reported-reached c status k ran without_fault reported
+  | inr (eight, unimaged, untold) ↦ absurd (without_fault_not_rose c.streams.images.faults c.streams.images_after.faults
+      without_fault.images unimaged.failed)
 ]
 
 run-complete : (c : Call) (status : ℕ) (k : Kept) (p : Program)
     → HasOrigin (given_of c) k → IsOnlyProgram k → IsRunAsked (words_of c) c.streams status k
     → (a : IsAccepted (given_of c) p) → AllWithoutFault c
     → status ≡ status_of_ending (ending_of (world_on p a.input) a.admitted.command.budget)
-run-complete c status k p o alone ran a calm =
+run-complete c status k p o alone ran a without_fault =
     let budget : ℕ = budget_of (words_of c) k.plan in
     let same : budget ≡ a.admitted.command.budget =
     kept-budget c k o ∙ ap (λ (x : Command). x.budget) (kept-command c k p o a) in
-    run-reached c status k ran calm
+    run-reached c status k ran without_fault
     ∙ ap status_of_ending
     (kept-ends c k p budget o alone a ∙ ap (λ (n : ℕ). ending_of (world_on p a.input) n) same)
 
@@ -155,16 +155,16 @@ answered-run c status heard carried =
       unheard = λ none. absurd (heard none);
       words_only = λ none. absurd (none-some o.accepts.words (sym none ∙ o.accepts.read));
       root_only = λ bad. absurd (not-rooted g o.command bad o.accepts);
-      plan_only = λ bad calm. absurd
+      plan_only = λ bad without_fault. absurd
           (not-misplanned g bad.words o.command bad.telling bad.read bad.misplanned o.accepts);
-      file_only = λ unfit calm. absurd (not-unfit g (kept-program g k.0 o) unfit);
+      file_only = λ unfit without_fault. absurd (not-unfit g (kept-program g k.0 o) unfit);
       rootless = λ own three. absurd (not_both (ap is_run (sym three) ∙ run));
-      rootless_only = λ none some calm. absurd
+      rootless_only = λ none some without_fault. absurd
           (not-unfit g (kept-program g k.0 o) (rootless-unfit g none some));
-      input_only = λ long calm input_without_fault. absurd (kept-short g k.0 o long);
-      made = λ calm. each-kept c.kept (IsRunAsked (words_of c) c.streams status) (IsEndingOf c status)
-          carried.ran.made (λ kept ran. inl (run-reached c status kept ran calm));
-      complete = λ p a calm. inl (run-complete c status k.0 p o k.2 k.3 a calm);
+      input_only = λ long without_fault input_without_fault. absurd (kept-short g k.0 o long);
+      made = λ without_fault. each-kept c.kept (IsRunAsked (words_of c) c.streams status) (IsEndingOf c status)
+          carried.ran.made (λ kept ran. inl (run-reached c status kept ran without_fault));
+      complete = λ p a without_fault. inl (run-complete c status k.0 p o k.2 k.3 a without_fault);
     }
 
 -- ---- a refusal
@@ -186,16 +186,16 @@ root-only c r refused bad = elim (accepted-or (given_of c) r refused.cause) [
   ]
 ]
 
-calm-fetch : (c : Call) (r : Refusal) → IsRefused c r → FilesWithoutFault c → status_of r ≡ 7 → ⊥
-calm-fetch c r refused calm seven =
-    calm_not_rose c.files.faults c.files_after.faults calm (refused.not_fetched seven)
+without_fault-fetch : (c : Call) (r : Refusal) → IsRefused c r → FilesWithoutFault c → status_of r ≡ 7 → ⊥
+without_fault-fetch c r refused without_fault seven =
+    without_fault_not_rose c.files.faults c.files_after.faults without_fault (refused.not_fetched seven)
 
 plan-only : (c : Call) (r : Refusal) → IsRefused c r → HasBadPlan (given_of c) → FilesWithoutFault c
     → (status_of r ≡ 2) ⊎ (status_of r ≡ 9)
-plan-only c r refused bad calm = elim (accepted-or (given_of c) r refused.cause) [
+plan-only c r refused bad without_fault = elim (accepted-or (given_of c) r refused.cause) [
   | inl before_the_run ↦ before_the_run
   | inr late ↦ elim late [
-    | inl fetch ↦ absurd (calm-fetch c r refused calm (ap status_of fetch))
+    | inl fetch ↦ absurd (without_fault-fetch c r refused without_fault (ap status_of fetch))
     | inr with_plan ↦ absurd (not-misplanned (given_of c) bad.words with_plan.0 bad.telling bad.read
         bad.misplanned with_plan.1)
   ]
@@ -203,7 +203,7 @@ plan-only c r refused bad calm = elim (accepted-or (given_of c) r refused.cause)
 
 file-only : (c : Call) (r : Refusal) → IsRefused c r → IsUnfit (given_of c) → FilesWithoutFault c
     → (status_of r ≡ 3) ⊎ (status_of r ≡ 9)
-file-only c r refused unfit calm =
+file-only c r refused unfit without_fault =
     let g = given_of c in
     by-status r ((status_of r ≡ 3) ⊎ (status_of r ≡ 9))
     (λ two. absurd (two-refused g r unfit.command (tells c.told unfit.files unfit.telling) refused.cause two
@@ -211,7 +211,7 @@ file-only c r refused unfit calm =
     (λ three. inl three)
     (λ five. absurd (not-unfit g (program-told g r refused.cause (subst is_late (sym five) refl)) unfit))
     (λ six. absurd (not-unfit g (program-told g r refused.cause (subst is_late (sym six) refl)) unfit))
-    (λ seven. absurd (calm-fetch c r refused calm seven))
+    (λ seven. absurd (without_fault-fetch c r refused without_fault seven))
     (λ nine. inr nine)
     (λ eleven. absurd (not-unfit g (program-told g r refused.cause (subst is_late (sym eleven) refl)) unfit))
   where
@@ -220,43 +220,43 @@ file-only c r refused unfit calm =
 
 input-only : (c : Call) (r : Refusal) → IsTrueOf c → IsRefused c r → HasLongInput (given_of c) → FilesWithoutFault c
     → InputWithoutFault c → (status_of r ≡ 11) ⊎ (status_of r ≡ 9)
-input-only c r always refused long calm input_without_fault =
+input-only c r always refused long without_fault input_without_fault =
     let g = given_of c in
     let d = long.admitted in
     by-status r ((status_of r ≡ 11) ⊎ (status_of r ≡ 9))
     (λ two. absurd (two-refused g r d.command (tells c.told d.files d.telling) refused.cause two d.accepts))
     (λ three. absurd (three-refused g r long.program refused.cause three d))
-    (λ five. absurd (calm_not_rose c.input.faults c.input_after.faults input_without_fault (refused.not_taken five)))
+    (λ five. absurd (without_fault_not_rose c.input.faults c.input_after.faults input_without_fault (refused.not_taken five)))
     (λ six. let k = held c.kept (HasOrigin g) IsOnlyProgram (refused.made six) always.origin always.only in
     absurd (kept-short g k.0 k.1 long))
-    (λ seven. absurd (calm-fetch c r refused calm seven))
+    (λ seven. absurd (without_fault-fetch c r refused without_fault seven))
     (λ nine. inr nine)
     (λ eleven. inl eleven)
 
 refused-complete : (c : Call) (r : Refusal) (p : Program) → IsRefused c r → IsAccepted (given_of c) p
     → AllWithoutFault c → status_of r ≡ 9
-refused-complete c r p refused a calm =
+refused-complete c r p refused a without_fault =
     let g = given_of c in
     let d = a.admitted in
     by-status r (status_of r ≡ 9)
     (λ two. absurd (two-refused g r d.command (tells c.told d.files d.telling) refused.cause two d.accepts))
     (λ three. absurd (three-refused g r p refused.cause three d))
-    (λ five. absurd (calm_not_rose c.input.faults c.input_after.faults calm.input (refused.not_taken five)))
-    (λ six. absurd (calm_not_rose c.streams.out.faults c.streams.out_after.faults calm.out
+    (λ five. absurd (without_fault_not_rose c.input.faults c.input_after.faults without_fault.input (refused.not_taken five)))
+    (λ six. absurd (without_fault_not_rose c.streams.out.faults c.streams.out_after.faults without_fault.out
     (refused.stopped six)))
-    (λ seven. absurd (calm-fetch c r refused calm.files seven))
+    (λ seven. absurd (without_fault-fetch c r refused without_fault.files seven))
     (λ nine. nine)
     (λ eleven. absurd (not-long g p (long-told g r refused.cause eleven) a))
 
 -- something is kept where the output failed, or perhaps where memory ran out
 refused-reached : (c : Call) (r : Refusal) (status : ℕ) → status ≡ status_of r → IsRefused c r → AllWithoutFault c
     → IfSome c.kept (IsEndingOf c status)
-refused-reached c r status is refused calm =
+refused-reached c r status is refused without_fault =
     by-status r (IfSome c.kept (IsEndingOf c status))
     (λ two. unkept (refused.refused (ap is_refused two)))
     (λ three. unkept (refused.refused (ap is_refused three)))
     (λ five. unkept (refused.refused (ap is_refused five)))
-    (λ six. absurd (calm_not_rose c.streams.out.faults c.streams.out_after.faults calm.out
+    (λ six. absurd (without_fault_not_rose c.streams.out.faults c.streams.out_after.faults without_fault.out
     (refused.stopped six)))
     (λ seven. unkept (refused.refused (ap is_refused seven)))
     (λ nine. every-kept c.kept (IsEndingOf c status) (λ k. inr (is ∙ nine)))
@@ -291,14 +291,14 @@ answered-refusal c r status unheard is always refused line = record {
   unheard = unheard;
   words_only = λ none. same-status 2 (words-only c r refused none);
   root_only = λ bad. same-status 2 (root-only c r refused bad);
-  plan_only = λ bad calm. same-status 2 (plan-only c r refused bad calm);
-  file_only = λ unfit calm. same-status 3 (file-only c r refused unfit calm);
+  plan_only = λ bad without_fault. same-status 2 (plan-only c r refused bad without_fault);
+  file_only = λ unfit without_fault. same-status 3 (file-only c r refused unfit without_fault);
   rootless = λ own three. three-rootless (given_of c) r refused.cause (sym is ∙ three) own;
-  rootless_only = λ none some calm. same-status 3
-      (file-only c r refused (rootless-unfit (given_of c) none some) calm);
-  input_only = λ long calm input_without_fault. same-status 11 (input-only c r always refused long calm input_without_fault);
-  made = λ calm. refused-reached c r status is refused calm;
-  complete = λ p a calm. inr (is ∙ refused-complete c r p refused a calm);
+  rootless_only = λ none some without_fault. same-status 3
+      (file-only c r refused (rootless-unfit (given_of c) none some) without_fault);
+  input_only = λ long without_fault input_without_fault. same-status 11 (input-only c r always refused long without_fault input_without_fault);
+  made = λ without_fault. refused-reached c r status is refused without_fault;
+  complete = λ p a without_fault. inr (is ∙ refused-complete c r p refused a without_fault);
 }
   where
     same-status : (n : ℕ) → (status_of r ≡ n) ⊎ (status_of r ≡ 9) → (status ≡ n) ⊎ (status ≡ 9)

@@ -176,8 +176,8 @@ due-admission g asked fronts classes fault f alone is = by (is_memory fault) ref
       due-fault g asked fronts classes fault f alone
       (is (λ same. not-both (sym other ∙ ap is_memory same)))
 
-pub admission-calm : (fault : AdmitError) → status_of (refusal_for fault) ≢ 7
-admission-calm fault = by (is_memory fault) where
+pub admission-without_fault : (fault : AdmitError) → status_of (refusal_for fault) ≢ 7
+admission-without_fault fault = by (is_memory fault) where
   by : (b : Bool) → status_of (cond b NoMemory (NotAdmitted fault)) ≢ 7
   by true = λ e. cc e
   by false = λ e. cc e
@@ -227,11 +227,11 @@ no-fault named words old new r s same is other = record {
 -- it failed behind fetches that did not
 pub later-fault : (named : Option (List ℕ)) (words : List (List ℕ)) (old mid new : FilesView) (r : Refusal)
     → mid ≡ old → HasFetchCause named words mid new r → HasFetchCause named words old new r
-later-fault named words old mid new r calm cause = record {
-  failed = λ seven. subst (λ (f : FilesView). Rose f.faults new.faults) calm (cause.failed seven);
+later-fault named words old mid new r without_fault cause = record {
+  failed = λ seven. subst (λ (f : FilesView). Rose f.faults new.faults) without_fault (cause.failed seven);
   plan_is = cause.plan_is;
   name_is = cause.name_is;
-  without_fault = λ other. cause.without_fault other ∙ calm;
+  without_fault = λ other. cause.without_fault other ∙ without_fault;
 }
 
 same-place : (a b : ℕ) → NotFetched a ≡ NotFetched b → a ≡ b
@@ -244,8 +244,8 @@ not-plan at e = cc e
 pub one-fault : (named : Option (List ℕ)) (words : List (List ℕ)) (at : ℕ) (word : List ℕ)
     (old mid new : FilesView) (r : Refusal) → slice_get words at ≡ Some word → mid ≡ old
     → IsFetchFault word (NotFetched at) mid new r → HasFetchCause named words old new r
-one-fault named words at word old mid new r there calm (inl (failed, rose, last)) = record {
-  failed = λ _. subst (λ (f : FilesView). Rose f.faults new.faults) calm rose;
+one-fault named words at word old mid new r there without_fault (inl (failed, rose, last)) = record {
+  failed = λ _. subst (λ (f : FilesView). Rose f.faults new.faults) without_fault rose;
   plan_is = λ is. absurd (not-plan at (sym failed ∙ is));
   name_is = λ k is.
       (let same : at ≡ k = same-place at k (sym failed ∙ is) in
@@ -253,8 +253,8 @@ one-fault named words at word old mid new r there calm (inl (failed, rose, last)
       ∙ (there ∙ ap (λ (name : List ℕ). let o : Option (List ℕ) = Some name in o) (sym last)));
   without_fault = λ other. absurd (other (ap status_of failed));
 }
-one-fault named words at word old mid new r there calm (inr (memory, same)) =
-    no-fault named words old new r NoMemory (same ∙ calm) memory (λ seven. cc)
+one-fault named words at word old mid new r there without_fault (inr (memory, same)) =
+    no-fault named words old new r NoMemory (same ∙ without_fault) memory (λ seven. cc)
 
 -- and it is told which
 pub one-refusal : (told : Option Told) (words fronts : List (List ℕ)) (at : ℕ) (word : List ℕ)

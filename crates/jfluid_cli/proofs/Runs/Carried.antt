@@ -153,10 +153,10 @@ memory-refused c fetches = record {
 pub carried-memory : (c : Call) → c.kept ≡ None → IsUntold c.streams.out c.streams.out_after
     → IsUntold c.streams.report c.streams.report_after → IsUntold c.streams.images c.streams.images_after
     → c.files_after ≡ c.files → TakesAtMost most_taken c.input.left c.input_after.left → IsCarried c (Err NoMemory)
-carried-memory c none out report images calm rest = record {
+carried-memory c none out report images without_fault rest = record {
   always = nothing-made c none out images rest;
   ran = tt;
-  refused = memory-refused c (inl calm);
+  refused = memory-refused c (inl without_fault);
   untold = report;
 }
 
@@ -188,52 +188,52 @@ input-rest old new r (inr (inr (memory, same, takes))) = takes
 
 refused-input : (c : Call) (r : Refusal) → c.kept ≡ None → c.files_after ≡ c.files
     → OfProgram (given_of c) → IsInputRefusal c.input c.input_after r → IsRefused c r
-refused-input c r none calm of (inl (failed, rose, takes)) = subst (IsRefused c) (sym failed) (record {
+refused-input c r none without_fault of (inl (failed, rose, takes)) = subst (IsRefused c) (sym failed) (record {
   cause = of;
   refused = λ _. none;
   made = λ six. absurd cc;
   untaken = λ before_the_run. absurd (not_both before_the_run);
   one_more = λ eleven. absurd cc;
   taken = λ _. takes;
-  fetches = inl calm;
+  fetches = inl without_fault;
   not_taken = λ _. rose;
   stopped = λ six. absurd cc;
   unshown = λ six. absurd cc;
   not_fetched = λ seven. absurd cc;
   plan_name = λ is. absurd (let e : ◌≡◌ {A = ℕ} 5 7 = ap status_of is in cc);
   name = λ at is. absurd (let e : ◌≡◌ {A = ℕ} 5 7 = ap status_of is in cc);
-  without_fault = λ seven nine. calm;
+  without_fault = λ seven nine. without_fault;
   input_without_fault = λ five nine. absurd (five refl);
 })
-refused-input c r none calm of (inr (inl (failed, long, more, same))) = subst (IsRefused c) (sym failed) (record {
+refused-input c r none without_fault of (inr (inl (failed, long, more, same))) = subst (IsRefused c) (sym failed) (record {
   cause = (of, long);
   refused = λ _. none;
   made = λ six. absurd cc;
   untaken = λ before_the_run. absurd (not_both before_the_run);
   one_more = λ _. more;
   taken = λ five. absurd cc;
-  fetches = inl calm;
+  fetches = inl without_fault;
   not_taken = λ five. absurd cc;
   stopped = λ six. absurd cc;
   unshown = λ six. absurd cc;
   not_fetched = λ seven. absurd cc;
   plan_name = λ is. absurd (let e : ◌≡◌ {A = ℕ} 11 7 = ap status_of is in cc);
   name = λ at is. absurd (let e : ◌≡◌ {A = ℕ} 11 7 = ap status_of is in cc);
-  without_fault = λ seven nine. calm;
+  without_fault = λ seven nine. without_fault;
   input_without_fault = λ five nine. same;
 })
-refused-input c r none calm of (inr (inr (memory, same, takes))) =
-    subst (IsRefused c) (sym memory) (memory-refused c (inl calm))
+refused-input c r none without_fault of (inr (inr (memory, same, takes))) =
+    subst (IsRefused c) (sym memory) (memory-refused c (inl without_fault))
 
 pub carried-input : (c : Call) (r : Refusal) → c.kept ≡ None
     → IsUntold c.streams.out c.streams.out_after → IsUntold c.streams.report c.streams.report_after
     → IsUntold c.streams.images c.streams.images_after
     → c.files_after ≡ c.files → OfProgram (given_of c)
     → IsInputRefusal c.input c.input_after r → IsCarried c (Err r)
-carried-input c r none out report images calm of why = record {
+carried-input c r none out report images without_fault of why = record {
   always = nothing-made c none out images (input-rest c.input c.input_after r why);
   ran = tt;
-  refused = refused-input c r none calm of why;
+  refused = refused-input c r none without_fault of why;
   untold = report;
 }
 
@@ -351,7 +351,7 @@ made-run c budget made k status is same ran =
 stopped-refused : (c : Call) (k : Kept) (r : Refusal) → OfProgram (given_of c) → c.kept ≡ Some k
     → c.files_after ≡ c.files → c.input_after.faults ≡ c.input.faults
     → IsStopped c.streams r → IsRefused c r
-stopped-refused c k r of kept calm input_without_fault stopped = elim stopped.why [
+stopped-refused c k r of kept without_fault input_without_fault stopped = elim stopped.why [
   | inl (failed, rose) ↦ subst (IsRefused c) (sym failed) (record {
     cause = of;
     refused = λ before_the_run. absurd (not_both before_the_run);
@@ -359,17 +359,17 @@ stopped-refused c k r of kept calm input_without_fault stopped = elim stopped.wh
     untaken = λ before_the_run. absurd (not_both before_the_run);
     one_more = λ eleven. absurd cc;
     taken = λ five. absurd cc;
-    fetches = inl calm;
+    fetches = inl without_fault;
     not_taken = λ five. absurd cc;
     stopped = λ _. rose;
     unshown = λ _. stopped.unshown failed;
     not_fetched = λ seven. absurd cc;
     plan_name = λ is. absurd (let e : ◌≡◌ {A = ℕ} 6 7 = ap status_of is in cc);
     name = λ at is. absurd (let e : ◌≡◌ {A = ℕ} 6 7 = ap status_of is in cc);
-    without_fault = λ seven nine. calm;
+    without_fault = λ seven nine. without_fault;
     input_without_fault = λ five nine. input_without_fault;
   })
-  | inr memory ↦ subst (IsRefused c) (sym memory) (memory-refused c (inl calm))
+  | inr memory ↦ subst (IsRefused c) (sym memory) (memory-refused c (inl without_fault))
 ]
 
 -- the images of what is kept were put as far as they were
@@ -386,7 +386,7 @@ run-asked : (c : Call) (budget : ℕ) (made : Kept)
     → IsSomeAnd c.kept (λ x. PutsImages (asks_images (words_of c)) x.session.value c.streams)
     → (asks_images (words_of c) ≡ false → IsUntold c.streams.images c.streams.images_after)
     → c.files_after ≡ c.files → c.input_after.faults ≡ c.input.faults → IsCarried c r
-run-asked c budget made (Ok status) is same ran front images unasked calm input_without_fault =
+run-asked c budget made (Ok status) is same ran front images unasked without_fault input_without_fault =
     let k = some-kept c.kept (IsSameRun made) same in
     let asked = asks_images (words_of c) in
     let summary = is_generated (words_of c) in
@@ -398,20 +398,20 @@ run-asked c budget made (Ok status) is same ran front images unasked calm input_
         made =
             subst (λ (o : Option Kept). IsSomeAnd o (IsRunAsked (words_of c) c.streams status)) (sym k.1)
             (made-run c budget made k.0 status is k.2 here);
-        without_fault = calm;
+        without_fault = without_fault;
         input_without_fault = input_without_fault;
       };
       refused = tt;
       untold = tt;
     }
-run-asked c budget made (Err r) is same stopped front images unasked calm input_without_fault =
+run-asked c budget made (Err r) is same stopped front images unasked without_fault input_without_fault =
     let k = some-kept c.kept (IsSameRun made) same in
     let asked = asks_images (words_of c) in
     record {
       always = made-true c budget made k.0 is k.1 k.2 front (kept-images c.kept k.0 asked c.streams k.1 images) unasked;
       ran = tt;
       refused = stopped-refused c k.0 r
-          (of-program (given_of c) made.plan budget made.classes is.program is.prepared) k.1 calm input_without_fault
+          (of-program (given_of c) made.plan budget made.classes is.program is.prepared) k.1 without_fault input_without_fault
           stopped;
       untold = stopped.untold;
     }

@@ -1,4 +1,4 @@
--- What is accepted and calm: the ending at the budget, of the one program.
+-- What is accepted and without a fault: the ending at the budget, of the one program.
 use Rattle.std.proofs.Common.{◌≡◌, ℕ, ◌+◌, ◌<◌, ◌≤◌, List, Option, sym, ap, ◌∙◌, arith, inl, inr}
 use Rattle.std.specs.Prelude.{min, Result, Ok}
 use Rattle.jf_bytes.specs.Streams.{Rose, greatest}
@@ -12,11 +12,11 @@ use Rattle.profile_session.specs.Sessions.{Profiling, world_of}
 use Rattle.jfluid_cli.specs.Runs.{ending_at, IsCarriedOut, world_on}
 use Rattle.jfluid_cli.specs.Top.{IsWithoutFault}
 
--- a calm count did not rise
-pub calm_not_rose : (old new : ℕ) → IsWithoutFault old new → Rose old new → ⊥
-calm_not_rose old new calm rose =
-    let same : new ≡ old = calm.same in
-    let low : new < greatest = calm.low in
+-- a count without a fault did not rise
+pub without_fault_not_rose : (old new : ℕ) → IsWithoutFault old new → Rose old new → ⊥
+without_fault_not_rose old new without_fault rose =
+    let same : new ≡ old = without_fault.same in
+    let low : new < greatest = without_fault.low in
     let above : min (old + 1) greatest ≤ new = rose in
     absurd (omega arith)
 

@@ -4,7 +4,7 @@ use Rattle.std.specs.Prelude.{◌&&◌}
 use Rattle.interpreter.specs.declared.turns.hands.Gone.{Gone}
 use Rattle.interpreter.specs.declared.turns.hands.Hand.{Hand}
 use Rattle.interpreter.specs.Moves.Passing.{Passes as Silent}
-use Rattle.interpreter.specs.Moves.Calmly.{GoesCalmly}
+use Rattle.interpreter.specs.Moves.Quickly.{GoesQuickly}
 use Rattle.interpreter.specs.Moves.Onward.{StopsIf}
 use Rattle.jvm_model.specs.Basis.Data.{World}
 use Rattle.jvm_model.specs.declared.due.Due.{Due}
@@ -26,7 +26,7 @@ use Rattle.jvm_machine.specs.Probes.{IfLeaves}
 use Rattle.jvm_machine.specs.Several.{EndsUpTo}
 use Rattle.jvm_machine.specs.Turns.{Settles, Turns, turn_by}
 use Rattle.jvm_machine.specs.View.{View, has_ended, is_resting}
-use Rattle.jvm_machine.proofs.Steps.Calmly.{calm-going, calm-leaves, calm-machine, calm-stops, calm-tidy}
+use Rattle.jvm_machine.proofs.Steps.Quickly.{quick-going, quick-leaves, quick-machine, quick-stops, quick-tidy}
 use Rattle.jvm_machine.proofs.Steps.Exits.{GoesOnFrom}
 use Rattle.jvm_machine.proofs.States.LinkedParts.{keeps-on}
 use Rattle.jvm_machine.proofs.Versions.HeldVersions.{plain-view, seen-is}
@@ -41,10 +41,10 @@ not-ended false ended e going = absurd (let h : false ≡ true = e in cc)
 module _ (o : Linked) (hand : Hand) (started broken : Bool) (clock : ℕ) (ms : List Initialization) (p : Parts) (v : View)
     (keeps : Keeps o p.runtime hand started broken clock (state_of ms p)) (viewed : state_viewed (setup_in p.runtime o) (state_of ms p) started broken clock hand ≡ v)
     (begun_is : started ≡ true) (whole : broken ≡ false) (in_hand : is_resting v ≡ false)
-    (after : Parts) (gone : Gone) (goes : GoesCalmly (setup_in p.runtime o) ms hand p gone after) (hands : GoesOnFrom (setup_in p.runtime o) hand (state_of ms p) gone (state_of ms after))
+    (after : Parts) (gone : Gone) (goes : GoesQuickly (setup_in p.runtime o) ms hand p gone after) (hands : GoesOnFrom (setup_in p.runtime o) hand (state_of ms p) gone (state_of ms after))
     (sound : IsSoundIn (setup_in p.runtime o) (state_of ms p) → IsSoundIn (setup_in p.runtime o) (state_of ms after))
     (starts : hand.moves ≡ true → hand.delivered ≡ false → state_of ms p ≡ starts_with p.runtime.world → IsSoundIn (setup_in p.runtime o) (state_of ms after))
-    (done : gone.due ≡ Nothing) (calm : IsAtInstruction (length after.frames.frames) ms after) where
+    (done : gone.due ≡ Nothing) (at_instruction : IsAtInstruction (length after.frames.frames) ms after) where
   abbrev w : Setup
   w = setup_in p.runtime o
 
@@ -56,11 +56,11 @@ module _ (o : Linked) (hand : Hand) (started broken : Bool) (clock : ℕ) (ms : 
 
   machine : IsMachine w (left_in gone) first (state_of ms after)
   machine =
-      calm-machine w hand started broken clock ms p keeps.machine v view begun_is whole false (sym in_hand) hand refl after gone goes hands sound starts clock refl (left_in gone) refl
+      quick-machine w hand started broken clock ms p keeps.machine v view begun_is whole false (sym in_hand) hand refl after gone goes hands sound starts clock refl (left_in gone) refl
 
   tidy : IsTidy w.versions (state_of ms after).stack
   tidy =
-      calm-tidy w hand started broken clock ms p keeps.machine v view begun_is whole false (sym in_hand) hand refl after gone goes hands sound starts clock refl (left_in gone) refl
+      quick-tidy w hand started broken clock ms p keeps.machine v view begun_is whole false (sym in_hand) hand refl after gone goes hands sound starts clock refl (left_in gone) refl
       (keeps.tidy whole)
 
   first-keeps : Keeps o after.runtime (left_in gone) started broken clock (state_of ms after)
@@ -73,11 +73,11 @@ module _ (o : Linked) (hand : Hand) (started broken : Bool) (clock : ℕ) (ms : 
 
   stops : Stops v gone.due first
   stops =
-      calm-stops w hand started broken clock ms p keeps.machine v view begun_is whole false (sym in_hand) hand refl after gone goes hands sound starts clock refl (left_in gone) refl
+      quick-stops w hand started broken clock ms p keeps.machine v view begun_is whole false (sym in_hand) hand refl after gone goes hands sound starts clock refl (left_in gone) refl
 
   leaves : IfLeaves (telling.Due gone.due) first
   leaves =
-      calm-leaves w hand started broken clock ms p keeps.machine v view begun_is whole false (sym in_hand) hand refl after gone goes hands sound starts clock refl (left_in gone) refl
+      quick-leaves w hand started broken clock ms p keeps.machine v view begun_is whole false (sym in_hand) hand refl after gone goes hands sound starts clock refl (left_in gone) refl
 
   untold : told_at gone.due first.clock first.live ≡ None
   untold = ap (λ d. told_at d first.clock first.live) done
@@ -88,7 +88,7 @@ module _ (o : Linked) (hand : Hand) (started broken : Bool) (clock : ℕ) (ms : 
   runs : has_ended first ≡ false
   runs =
       not-ended (is_resting first) (has_ended first) rests
-      (calm-going w (left_in gone) started broken clock ms after machine first refl begun_is whole true (sym rests) calm.ending)
+      (quick-going w (left_in gone) started broken clock ms after machine first refl begun_is whole true (sym rests) at_instruction.ending)
 
   ends : Settles v first
   ends =

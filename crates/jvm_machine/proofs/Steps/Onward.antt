@@ -15,7 +15,7 @@ use Rattle.jvm_machine.specs.Advances.{left_in}
 use Rattle.jvm_machine.specs.Machine.{IsMachine, IsTidy, Keeps, state_seen, state_viewed}
 use Rattle.jvm_machine.specs.Several.{Passes, PassesUpTo}
 use Rattle.jvm_machine.specs.View.{View, is_resting}
-use Rattle.jvm_machine.proofs.Steps.Calmly.{calm-going, calm-leaves, calm-machine, calm-stops, calm-tidy}
+use Rattle.jvm_machine.proofs.Steps.Quickly.{quick-going, quick-leaves, quick-machine, quick-stops, quick-tidy}
 use Rattle.jvm_machine.proofs.States.LinkedParts.{keeps-on}
 use Rattle.jvm_machine.proofs.Versions.HeldVersions.{plain-view, seen-is}
 use Rattle.jvm_machine.proofs.Steps.QuietSteps.{plain-machine, plain-passes, plain-tidy}
@@ -71,19 +71,19 @@ module _ (o : Linked) (hand : Hand) (started broken : Bool) (clock : ℕ) (ms : 
       let is : other ≡ gone = cc in
       subst (λ (g : Gone). h ≡ left_in g → Behind h c (Some g.due) after) is
       (λ left. behind-seen h c (Some other.due) after (stops.goes.world ∙ silent.world) (stops.goes.loaded ∙ silent.loaded)
-      (calm-machine w hand started broken (clock + n) ms between mid-machine mid refl begun_is whole true mid-rests empty_hand refl after other stops.goes stops.hands stops.sound
+      (quick-machine w hand started broken (clock + n) ms between mid-machine mid refl begun_is whole true mid-rests empty_hand refl after other stops.goes stops.hands stops.sound
       (λ no. absurd (let e : false ≡ true = no in cc)) c ticks h left)
-      (calm-tidy w hand started broken (clock + n) ms between mid-machine mid refl begun_is whole true mid-rests empty_hand refl after other stops.goes stops.hands stops.sound
+      (quick-tidy w hand started broken (clock + n) ms between mid-machine mid refl begun_is whole true mid-rests empty_hand refl after other stops.goes stops.hands stops.sound
       (λ no. absurd (let e : false ≡ true = no in cc)) c ticks h left mid-tidy)
       (record {
         between = mid;
         passes = mid-passes;
         reaches = record {
           whole = whole;
-          went_on = calm-going w hand started broken (clock + n) ms between mid-machine mid refl begun_is whole true mid-rests silent.at_instruction.ending;
-          stops = calm-stops w hand started broken (clock + n) ms between mid-machine mid refl begun_is whole true mid-rests empty_hand refl after other stops.goes stops.hands stops.sound
+          went_on = quick-going w hand started broken (clock + n) ms between mid-machine mid refl begun_is whole true mid-rests silent.at_instruction.ending;
+          stops = quick-stops w hand started broken (clock + n) ms between mid-machine mid refl begun_is whole true mid-rests empty_hand refl after other stops.goes stops.hands stops.sound
               (λ no. absurd (let e : false ≡ true = no in cc)) c ticks h left;
-          leaves = calm-leaves w hand started broken (clock + n) ms between mid-machine mid refl begun_is whole true mid-rests empty_hand refl after other stops.goes stops.hands stops.sound
+          leaves = quick-leaves w hand started broken (clock + n) ms between mid-machine mid refl begun_is whole true mid-rests empty_hand refl after other stops.goes stops.hands stops.sound
               (λ no. absurd (let e : false ≡ true = no in cc)) c ticks h left;
           after = whole;
         };

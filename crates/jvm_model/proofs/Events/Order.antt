@@ -80,36 +80,36 @@ caught-well w t s r f None = inl tt
 caught-well w t s r f (Some target) = inl tt
 
 -- with a frame on top and nothing thrown no move applies
-calm-stops : (w : World) (t : Listing) (s : State) (f : Frame) (below : List Entry) → s.ending ≡ None → s.thrown ≡ None → s.stack ≡ Active f ∷ below → move w t s ≡ None
-calm-stops w t s f below open' calm top =
-    ap (λ e. moves w t s e s.thrown s.stack) open' ∙ (ap (λ thrown. moves w t s None thrown s.stack) calm ∙ ap (moves w t s None None) top)
+none_thrown-stops : (w : World) (t : Listing) (s : State) (f : Frame) (below : List Entry) → s.ending ≡ None → s.thrown ≡ None → s.stack ≡ Active f ∷ below → move w t s ≡ None
+none_thrown-stops w t s f below open' none_thrown top =
+    ap (λ e. moves w t s e s.thrown s.stack) open' ∙ (ap (λ thrown. moves w t s None thrown s.stack) none_thrown ∙ ap (moves w t s None None) top)
 
 runs-well : (w : World) (t : Listing) (s : State) → s.ending ≡ None → s.thrown ≡ None → (c : ℕ) (m : Option ℕ) → GoesWell w t (runs_initializer w t s c m)
-runs-well w t s open' calm c None = inl tt
-runs-well w t s open' calm c (Some m) =
+runs-well w t s open' none_thrown c None = inl tt
+runs-well w t s open' none_thrown c (Some m) =
     let after : State = with_frame (at_part s c Finish) (new_frame w t m []) in
     chosen-well w t (nat_lt (live_in s.stack) most_live) (record { after = after; changes = Began m ∷ [] }) _
-    (inr (tt, calm-stops w t after (new_frame w t m []) (Initializing c Finish ∷ s.stack) open' calm refl)) (inl tt)
+    (inr (tt, none_thrown-stops w t after (new_frame w t m []) (Initializing c Finish ∷ s.stack) open' none_thrown refl)) (inl tt)
 
 main-well : (w : World) (t : Listing) (s : State) → s.ending ≡ None → s.thrown ≡ None → (b : Bool) → GoesWell w t (main_or_end w t s b)
-main-well w t s open' calm true = inl tt
-main-well w t s open' calm false =
+main-well w t s open' none_thrown true = inl tt
+main-well w t s open' none_thrown false =
     let f : Frame = new_frame w t w.program.main argument_array in
     let after : State = record s { begun = true; stack = Active f ∷ [] } in
-    chosen-well w t (has_room w w.program.main argument_array) _ _ (inr (tt, calm-stops w t after f [] open' calm refl)) (inl tt)
+    chosen-well w t (has_room w w.program.main argument_array) _ _ (inr (tt, none_thrown-stops w t after f [] open' none_thrown refl)) (inl tt)
 
 pub moves-well : (w : World) (t : Listing) (s : State) (ending : Option Ending) (thrown : Option ℕ) (stack : List Entry) → s.ending ≡ ending → s.thrown ≡ thrown
     → IfSome (moves w t s ending thrown stack) (GoesWell w t)
-moves-well w t s (Some e) thrown stack open' calm = tt
-moves-well w t s None (Some r) [] open' calm = inl tt
-moves-well w t s None (Some r) (Active f ∷ below) open' calm = caught-well w t (record s { stack = below }) r f (handler_for w (class_of w.program s.shared r) f.place (t.handlers f.version))
-moves-well w t s None (Some r) (Initializing c part ∷ below) open' calm = inl tt
-moves-well w t s None None [] open' calm = main-well w t s open' calm s.begun
-moves-well w t s None None (Active f ∷ below) open' calm = tt
-moves-well w t s None None (Initializing c Constants ∷ below) open' calm = inl tt
-moves-well w t s None None (Initializing c Superclass ∷ below) open' calm = inl tt
-moves-well w t s None None (Initializing c Initializer ∷ below) open' calm = runs-well w t (record s { stack = below }) open' calm c (initializer_of w.program c)
-moves-well w t s None None (Initializing c Finish ∷ below) open' calm = inl tt
+moves-well w t s (Some e) thrown stack open' none_thrown = tt
+moves-well w t s None (Some r) [] open' none_thrown = inl tt
+moves-well w t s None (Some r) (Active f ∷ below) open' none_thrown = caught-well w t (record s { stack = below }) r f (handler_for w (class_of w.program s.shared r) f.place (t.handlers f.version))
+moves-well w t s None (Some r) (Initializing c part ∷ below) open' none_thrown = inl tt
+moves-well w t s None None [] open' none_thrown = main-well w t s open' none_thrown s.begun
+moves-well w t s None None (Active f ∷ below) open' none_thrown = tt
+moves-well w t s None None (Initializing c Constants ∷ below) open' none_thrown = inl tt
+moves-well w t s None None (Initializing c Superclass ∷ below) open' none_thrown = inl tt
+moves-well w t s None None (Initializing c Initializer ∷ below) open' none_thrown = runs-well w t (record s { stack = below }) open' none_thrown c (initializer_of w.program c)
+moves-well w t s None None (Initializing c Finish ∷ below) open' none_thrown = inl tt
 
 then-well : (w : World) (t : Listing) (a next : Turn) → OnlyEnd a.changes → GoesWell w t next → GoesWell w t (then_turn a next)
 then-well w t a next p (inl q) = inl (end-append a.changes next.changes p q)
@@ -132,30 +132,30 @@ settled-begins w t a p = well-begins w t (turn_settled w t a) (settled-keeps w t
 
 beside-well : (w : World) (t : Listing) (s : State) (f : Frame) (m : ℕ) (args : List Datum) (below : Operands) (live : ℕ) → s.ending ≡ None → s.thrown ≡ None
     → GoesWell w t (begins_beside w t s f m args below live)
-beside-well w t s f m args below live open' calm =
+beside-well w t s f m args below live open' none_thrown =
     let after : State = (begins w t s f m args below).after in
     chosen-well w t (nat_lt live most_live) (begins w t s f m args below) _
-    (inr (tt, calm-stops w t after (new_frame w t m args) (Active (record f { operands = below }) ∷ s.stack) open' calm refl)) (inl tt)
+    (inr (tt, none_thrown-stops w t after (new_frame w t m args) (Active (record f { operands = below }) ∷ s.stack) open' none_thrown refl)) (inl tt)
 
 applies-well : (w : World) (t : Listing) (i : Instruction) (outcome : Outcome) (s : State) (f : Frame) → s.ending ≡ None → s.thrown ≡ None → GoesWell w t (applies w t i outcome s f)
-applies-well w t i (GoesOn l o to) s f open' calm = inl tt
-applies-well w t i Subroutine s f open' calm = inl tt
-applies-well w t i (Invokes m args below) s f open' calm =
+applies-well w t i (GoesOn l o to) s f open' none_thrown = inl tt
+applies-well w t i Subroutine s f open' none_thrown = inl tt
+applies-well w t i (Invokes m args below) s f open' none_thrown =
     let live = suc (live_in s.stack) in
-    chosen-well w t (has_room w m args) (begins_beside w t s f m args below live) _ (beside-well w t s f m args below live open' calm) (inl tt)
-applies-well w t i (Returns d) s f open' calm = inl tt
-applies-well w t i (Throws r) s f open' calm = inl tt
-applies-well w t i (Raises c message) s f open' calm = inl tt
-applies-well w t i (Initializes c) s f open' calm = inl tt
-applies-well w t i (Exits n) s f open' calm = inl tt
-applies-well w t i (Breaks true) s f open' calm = inl tt
-applies-well w t i (Breaks false) s f open' calm = inl tt
+    chosen-well w t (has_room w m args) (begins_beside w t s f m args below live) _ (beside-well w t s f m args below live open' none_thrown) (inl tt)
+applies-well w t i (Returns d) s f open' none_thrown = inl tt
+applies-well w t i (Throws r) s f open' none_thrown = inl tt
+applies-well w t i (Raises c message) s f open' none_thrown = inl tt
+applies-well w t i (Initializes c) s f open' none_thrown = inl tt
+applies-well w t i (Exits n) s f open' none_thrown = inl tt
+applies-well w t i (Breaks true) s f open' none_thrown = inl tt
+applies-well w t i (Breaks false) s f open' none_thrown = inl tt
 
 attempt-begins : (w : World) (t : Listing) (i : Instruction) (s : State) (f : Frame) → s.ending ≡ None → s.thrown ≡ None → EndThenBegin (attempt w t i s f).changes
-attempt-begins w t i s f open' calm =
+attempt-begins w t i s f open' none_thrown =
     let d : Done = does w i.operation s.shared f.locals f.operands in
     let after : State = record s { shared = d.shared; output = s.output ++ d.wrote } in
-    settled-begins w t (applies w t i d.outcome after f) (applies-well w t i d.outcome after f open' calm)
+    settled-begins w t (applies w t i d.outcome after f) (applies-well w t i d.outcome after f open' none_thrown)
 
 -- what goes on has neither ended nor thrown
 open-ended : (ending : Option Ending) (thrown : Option ℕ) → goes_on ending thrown ≡ true → ending ≡ None
@@ -172,32 +172,32 @@ quiet-end [] e = tt
 quiet-end (c ∷ cs) e = absurd (let f : false ≡ true = e in cc)
 
 pub by-begins : (w : World) (t : Listing) (i : Instruction) (s : State) (f : Frame) → s.ending ≡ None → s.thrown ≡ None → EndThenBegin (steps_by w t i s f (does w i.operation s.shared f.locals f.operands)).changes
-by-begins w t i s f open' calm =
+by-begins w t i s f open' none_thrown =
     let a = attempt w t i s f in
     let again : State = record a.after { stack = s.stack } in
-    again-by (λ b. EndThenBegin b.changes) w t i s f (starts (does w i.operation s.shared f.locals f.operands).outcome) a (attempt-begins w t i s f open' calm)
+    again-by (λ b. EndThenBegin b.changes) w t i s f (starts (does w i.operation s.shared f.locals f.operands).outcome) a (attempt-begins w t i s f open' none_thrown)
     (λ quiet on. begin-append a.changes (attempt w t i again f).changes (quiet-end a.changes quiet)
     (attempt-begins w t i again f (open-ended a.after.ending a.after.thrown on) (open-thrown a.after.ending a.after.thrown on)))
 
 at-ordered : (w : World) (t : Listing) (s : State) (f : Frame) (found : Option Instruction) → s.ending ≡ None → s.thrown ≡ None → AreOrdered (steps_at w t s f found).changes
-at-ordered w t s f None open' calm = tt
-at-ordered w t s f (Some i) open' calm =
+at-ordered w t s f None open' none_thrown = tt
+at-ordered w t s f (Some i) open' none_thrown =
     let classes = loads w i.operation s.shared f.operands in
     let ready = with_loaded classes s in
     let turn = steps_by w t i ready f (does w i.operation ready.shared f.locals f.operands) in
     let same = with_loaded-shared classes s in
     let ending : ready.ending ≡ s.ending = ap (λ (x : State). x.ending) same in
     let thrown : ready.thrown ≡ s.thrown = ap (λ (x : State). x.thrown) same in
-    loaded-ordered classes turn (by-begins w t i ready f (ending ∙ open') (thrown ∙ calm))
+    loaded-ordered classes turn (by-begins w t i ready f (ending ∙ open') (thrown ∙ none_thrown))
 
 -- where no move applies and a frame is on top, nothing is thrown
-pub stopped-calm : (w : World) (t : Listing) (s : State) (thrown : Option ℕ) (f : Frame) (below : List Entry) → moves w t s None thrown (Active f ∷ below) ≡ None → thrown ≡ None
-stopped-calm w t s None f below e = refl
-stopped-calm w t s (Some r) f below e = absurd (none-some _ (sym e))
+pub stopped-none_thrown : (w : World) (t : Listing) (s : State) (thrown : Option ℕ) (f : Frame) (below : List Entry) → moves w t s None thrown (Active f ∷ below) ≡ None → thrown ≡ None
+stopped-none_thrown w t s None f below e = refl
+stopped-none_thrown w t s (Some r) f below e = absurd (none-some _ (sym e))
 
 on-ordered : (w : World) (t u : Listing) (s : State) (ending : Option Ending) (stack : List Entry) → s.ending ≡ ending → moves w t s ending s.thrown stack ≡ None
     → AreOrdered (steps_on w u s ending stack).changes
-on-ordered w t u s None (Active f ∷ below) open' stop = at-ordered w u (record s { stack = below }) f (u.at f.version f.place) open' (stopped-calm w t s s.thrown f below stop)
+on-ordered w t u s None (Active f ∷ below) open' stop = at-ordered w u (record s { stack = below }) f (u.at f.version f.place) open' (stopped-none_thrown w t s s.thrown f below stop)
 on-ordered w t u s None [] open' stop = tt
 on-ordered w t u s None (Initializing c part ∷ below) open' stop = tt
 on-ordered w t u s (Some e) stack open' stop = tt

@@ -11,7 +11,7 @@ use Rattle.jfluid_cli.specs.Stages.{IsBeforeTheRun}
 use Rattle.jfluid_cli.specs.Words.{Command, command_with}
 use Rattle.jfluid_cli.proofs.Runs.Admitted.{acts-in-order}
 use Rattle.jfluid_cli.proofs.Actions.Alternating.{acts-alternating}
-use Rattle.jfluid_cli.proofs.Runs.BeforeTheRun.{admission-calm, due-mainless, made-command}
+use Rattle.jfluid_cli.proofs.Runs.BeforeTheRun.{admission-without_fault, due-mainless, made-command}
 use Rattle.jfluid_cli.proofs.Files.Generating.{due-generated, generation-fits, loaded-generated, made-generated}
 use Rattle.jfluid_cli.proofs.loading.load_generated.Goals as goal
 
@@ -86,4 +86,4 @@ returns-in-Err-clause-before_the_run c = λ given with_plan.
 
 pub returns-in-Err-clause-without_fault : goal.returns-in-Err-clause-without_fault
 returns-in-Err-clause-without_fault c =
-    subst (λ (e : Refusal). status_of e ≢ 7) (sym c.refusal_for.ensures) (admission-calm c.in-Err.fault)
+    subst (λ (e : Refusal). status_of e ≢ 7) (sym c.refusal_for.ensures) (admission-without_fault c.in-Err.fault)

@@ -5,7 +5,7 @@ use Rattle.jfluid_cli.specs.Refusals.{status_of}
 use Rattle.jfluid_cli.specs.Stages.{IsBeforeTheRun}
 use Rattle.jfluid_cli.specs.Asking.{asked_for}
 use Rattle.jfluid_cli.specs.Contents.{SpellsAlone}
-use Rattle.jfluid_cli.proofs.Runs.BeforeTheRun.{admission-calm, due-admission, due-unread}
+use Rattle.jfluid_cli.proofs.Runs.BeforeTheRun.{admission-without_fault, due-admission, due-unread}
 use Rattle.jfluid_cli.proofs.Runs.Admitted.{acts-in-order, first-classes}
 use Rattle.jfluid_cli.proofs.Actions.Alternating.{acts-alternating}
 use Rattle.jfluid_cli.proofs.Reports.Pairs.{zip-length}
@@ -63,4 +63,4 @@ returns-in-Err-admit-clause-before_the_run c g f =
 
 pub returns-in-Err-admit-clause-without_fault : goal.returns-in-Err-admit-clause-without_fault
 returns-in-Err-admit-clause-without_fault c =
-    subst (λ (e : Refusal). status_of e ≢ 7) (sym c.refusal_for.ensures) (admission-calm c.in-Err-admit.fault)
+    subst (λ (e : Refusal). status_of e ≢ 7) (sym c.refusal_for.ensures) (admission-without_fault c.in-Err-admit.fault)

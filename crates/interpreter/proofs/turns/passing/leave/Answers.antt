@@ -4,10 +4,10 @@ use Rattle.frame_stack.specs.FrameLists.{top_operands}
 use Rattle.jvm_model.specs.Basis.Data.{Returns}
 use Rattle.jvm_model.specs.Instructions.LocalRules.{returns as gives}
 use Rattle.prepared_code.specs.Versions.{mark_of}
-use Rattle.interpreter.specs.Moves.Calmly.{GoesBack}
+use Rattle.interpreter.specs.Moves.Quickly.{GoesBack}
 use Rattle.prepared_code.specs.Linked.{setup_in}
 use Rattle.interpreter.proofs.Silent.GoingOnward.{off-by}
-use Rattle.interpreter.proofs.Silent.ReturnLemmas.{gives-calm, gives-passes, gives-tries}
+use Rattle.interpreter.proofs.Silent.ReturnLemmas.{gives-at_instruction, gives-passes, gives-tries}
 use Rattle.interpreter.proofs.Silent.SilentSteps.{passes_none}
 use Rattle.interpreter.proofs.turns.passing.leave.Goals as goal
 
@@ -31,11 +31,11 @@ returns-clause-delivered c =
     (subst (λ o. IfSome o (λ next. GoesBack w.versions c.args.initializing.now p.frames.frames next)) c.in-Some.is c.goes_back.ensures)
     c.give_back.ensures.answer c.give_back.ensures.frames
 
-pub returns-clause-calm : goal.returns-clause-calm
-returns-clause-calm c = λ given.
+pub returns-clause-at_instruction : goal.returns-clause-at_instruction
+returns-clause-at_instruction c = λ given.
     let w = setup_in c.args.parts.now.runtime c.args.originals.now in
     let p = c.args.parts.now in
-    gives-calm w c.requires.run c.args.initializing.now c.args.here c.args.line.now c.args.kind p c.requires.here c.requires.line c.requires.ends c.requires.at_instruction
+    gives-at_instruction w c.requires.run c.args.initializing.now c.args.here c.args.line.now c.args.kind p c.requires.here c.requires.line c.requires.ends c.requires.at_instruction
     c.in-Some-result_of.datum c.in-Some.next c.value_given.result c.give_back.new.self c.recall.ensures (c.begins_in.ensures c.if-not-begins_in.false)
     (subst (λ o. IfSome o (λ d. gives c.args.kind (top_operands p.frames.frames) ≡ Returns d)) c.in-Some-result_of.is c.result_of.ensures)
     c.value_given.ensures c.give_back.result given

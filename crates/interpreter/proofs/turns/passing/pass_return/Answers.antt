@@ -8,7 +8,7 @@ use Rattle.prepared_code.specs.Versions.{mark_of}
 use Rattle.interpreter.specs.Moves.Onward.{GoesOnward}
 use Rattle.interpreter.specs.Moves.Trying.{returns_by}
 use Rattle.prepared_code.specs.Linked.{setup_in}
-use Rattle.interpreter.proofs.Moves.CalmSteps.{stops-calmly}
+use Rattle.interpreter.proofs.Moves.QuickSteps.{stops-quickly}
 use Rattle.interpreter.proofs.Silent.GoingOnward.{not-marked, onward-if}
 use Rattle.interpreter.proofs.turns.passing.pass_return.Goals as goal
 
@@ -18,7 +18,7 @@ probed-as v version x there = ap (λ (o : Option Version). not (is_off (option_m
 
 pub returns-then-is_probed : goal.returns-then-is_probed
 returns-then-is_probed c =
-    stops-calmly (setup_in c.args.parts.now.runtime c.args.originals.now) c.requires.run c.args.initializing.now c.args.parts.now c.args.here c.args.line.now c.requires.here c.requires.at_instruction c.requires.line
+    stops-quickly (setup_in c.args.parts.now.runtime c.args.originals.now) c.requires.run c.args.initializing.now c.args.parts.now c.args.here c.args.line.now c.requires.here c.requires.at_instruction c.requires.line
     (ap returns_by c.requires.ends)
     (probed-as (setup_in c.args.parts.now.runtime c.args.originals.now).versions c.args.here.version c.args.version.now c.requires.runs ∙ sym c.is_probed.ensures ∙ c.if-is_probed.true)
 

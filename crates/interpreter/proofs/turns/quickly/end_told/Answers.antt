@@ -1,7 +1,7 @@
 use Rattle.std.proofs.Common.{sym, ap, ◌∙◌}
 use Rattle.std.specs.Option.{option_and_then, option_copied}
 use Rattle.prepared_code.specs.Versions.{line_in}
-use Rattle.interpreter.proofs.turns.calmly.end_told.Goals as goal
+use Rattle.interpreter.proofs.turns.quickly.end_told.Goals as goal
 
 pub leave-requires-clause-here : goal.leave-requires-clause-here
 leave-requires-clause-here c = sym c.where_now.ensures ∙ c.in-Some.is

@@ -1,4 +1,5 @@
--- A step that goes on to what is told next where the run is calm: by a call into a version with probes, or a return from one, of what is known.
+-- A step that goes on to what is told next where the run is at an instruction: by a call into a version with probes,
+-- or a return from one, of what is known.
 use Rattle.std.specs.Prelude.{◌≡◌, ℕ, ◌-◌, Bool, true, false, List, [], length, Some, None, ◌||◌}
 use Rattle.frame_stack.specs.FrameLists.{PlacedFrame}
 use Rattle.jvm_model.specs.declared.due.Due.{Due}
@@ -20,7 +21,8 @@ use Rattle.activations.specs.Turning.{loads_in, loads_none, pause_at}
 
 -- ---- an attempt
 
--- It loads nothing and awaits no class, the run is calm behind it, and no version that is held is left behind by it.
+-- It loads nothing and awaits no class, the run is at an instruction behind it, and no version that is held is left
+-- behind by it.
 pub record Attempted (w : Setup) (ms : List Initialization) (old new : Parts) : Type 0 where
   pub at_instruction : IsAtInstruction (length new.frames.frames) ms new
   pub loaded : new.runtime.shared.loaded ≡ old.runtime.shared.loaded
@@ -46,7 +48,7 @@ passed_there (Ends k) = 0
 passed_there Begins = 1
 
 -- this is due then, by an attempt or before it
-pub record TriesCalmly (w : Setup) (ms : List Initialization) (delivered : Bool) (old : Parts) (due : Due) (new : Parts) : Type 0 where
+pub record TriesQuickly (w : Setup) (ms : List Initialization) (delivered : Bool) (old : Parts) (due : Due) (new : Parts) : Type 0 where
   pub loads : loads_none w (state_of ms old) ≡ true
   pub reaches : pause_at (state_of ms new) (passed_there due) due ≡ tried_in w delivered 0 (state_of ms old)
   pub loaded : new.runtime.shared.loaded ≡ old.runtime.shared.loaded
@@ -55,13 +57,13 @@ pub record TriesCalmly (w : Setup) (ms : List Initialization) (delivered : Bool)
 
 -- it is, or nothing was done
 abbrev pub TriesIf : Bool → Setup → List Initialization → Bool → Parts → Due → Parts → Type 0
-TriesIf true w ms delivered old due new = TriesCalmly w ms delivered old due new
+TriesIf true w ms delivered old due new = TriesQuickly w ms delivered old due new
 TriesIf false w ms delivered old due new = state_of ms new ≡ state_of ms old
 
 -- ---- what is in hand
 
 -- The step in hand has gone on to what is told next of it, or to its end; it has loaded nothing.
-pub record GoesCalmly (w : Setup) (ms : List Initialization) (hand : Hand) (old : Parts) (gone : Gone) (new : Parts) : Type 0 where
+pub record GoesQuickly (w : Setup) (ms : List Initialization) (hand : Hand) (old : Parts) (gone : Gone) (new : Parts) : Type 0 where
   pub loads : (hand.moves || loads_none w (state_of ms old)) ≡ true
   pub reaches : pause_at (state_of ms new) gone.hand.passed gone.due ≡ goes_in w hand (state_of ms old)
   pub left : IsLeft gone

@@ -1,4 +1,4 @@
--- What is in hand of a step that has gone on while the run is calm, and that what is left is sound.
+-- What is in hand of a step that has gone on at an instruction, and that what is left is sound.
 use Rattle.std.proofs.Common.{◌≡◌, ℕ, Bool, true, false, List, Some, refl, sym, ap, ◌∙◌}
 use Rattle.std.specs.Prelude.{◌||◌}
 use Rattle.jvm_model.specs.declared.due.Due.{Due}
@@ -16,7 +16,7 @@ use Rattle.instructions.specs.Acts.{is_at_rest}
 use Rattle.prepared_code.specs.Initializations.{state_of}
 use Rattle.prepared_code.specs.Ready.{CanRun, IsSoundIn}
 use Rattle.prepared_code.specs.Standing.{HasVersions}
-use Rattle.interpreter.specs.Moves.Calmly.{GoesCalmly, TriesCalmly, passed_there}
+use Rattle.interpreter.specs.Moves.Quickly.{GoesQuickly, TriesQuickly, passed_there}
 use Rattle.interpreter.specs.Moves.Hands.{HasGoneOn, HasInHand, IsLeft, goes_as}
 use Rattle.interpreter.specs.Moves.Trying.{tried_in}
 use Rattle.activations.specs.Turning.{goes_by_moves, loads_none, pause_at}
@@ -29,8 +29,8 @@ module _ (w : Setup) (ms : List Initialization) (hand : Hand) (p : Parts) (gone 
   s = state_of ms p
 
   -- moves are left of it, and none applies
-  pub calm-moves : hand.moves ≡ true → hand.delivered ≡ false → is_at_rest ms p ≡ true → gone.due ≡ Nothing → gone.hand.passed ≡ hand.passed → GoesCalmly w ms hand p gone p
-  calm-moves moves undelivered rests due counts =
+  pub quick-moves : hand.moves ≡ true → hand.delivered ≡ false → is_at_rest ms p ≡ true → gone.due ≡ Nothing → gone.hand.passed ≡ hand.passed → GoesQuickly w ms hand p gone p
+  quick-moves moves undelivered rests due counts =
       let paused = sym (rest-pauses w hand.passed s (rest-moves w (listing_of w.versions) ms p rests)) in
       record {
         loads = ap (λ b. b || loads_none w s) moves;
@@ -42,9 +42,9 @@ module _ (w : Setup) (ms : List Initialization) (hand : Hand) (p : Parts) (gone 
       }
 
   -- an attempt is left of it
-  pub calm-tries : (after : Parts) (due : Due) → hand.moves ≡ false → hand.passed ≡ 0 → TriesCalmly w ms hand.delivered p due after → gone.due ≡ due
-      → gone.hand.passed ≡ passed_there due → GoesCalmly w ms hand p gone after
-  calm-tries after due moves first tries is_due counts = record {
+  pub quick-tries : (after : Parts) (due : Due) → hand.moves ≡ false → hand.passed ≡ 0 → TriesQuickly w ms hand.delivered p due after → gone.due ≡ due
+      → gone.hand.passed ≡ passed_there due → GoesQuickly w ms hand p gone after
+  quick-tries after due moves first tries is_due counts = record {
     loads = ap (λ b. b || loads_none w s) moves ∙ tries.loads;
     reaches = reaches-attempt w hand s (state_of ms after) (passed_there due) due gone counts is_due moves (Some due) refl
         (tries.reaches ∙ ap (λ n. tried_in w hand.delivered n s) (sym first));
@@ -54,28 +54,28 @@ module _ (w : Setup) (ms : List Initialization) (hand : Hand) (p : Parts) (gone 
     keeps = tries.keeps;
   }
 
-module _ (w : Setup) (ms : List Initialization) (hand : Hand) (p : Parts) (gone : Gone) (after : Parts) (goes : GoesCalmly w ms hand p gone after) where
+module _ (w : Setup) (ms : List Initialization) (hand : Hand) (p : Parts) (gone : Gone) (after : Parts) (goes : GoesQuickly w ms hand p gone after) where
   abbrev old : State
   old = state_of ms p
 
   abbrev new : State
   new = state_of ms after
 
-  pub hands-calmly : (homes : ℕ → ℕ → ℕ) (turn : Turn) (live : List Held) → HasVersions w homes → HasInHand w homes turn hand live old
+  pub hands-quickly : (homes : ℕ → ℕ → ℕ) (turn : Turn) (live : List Held) → HasVersions w homes → HasInHand w homes turn hand live old
       → HasGoneOn w homes turn hand live gone new
-  hands-calmly homes turn live has in_hand = hands-on w homes has turn hand live old in_hand gone new goes.reaches
+  hands-quickly homes turn live has in_hand = hands-on w homes has turn hand live old in_hand gone new goes.reaches
 
   goes-as : (b : Bool) → hand.moves ≡ b → pause_at new gone.hand.passed gone.due ≡ goes_as w b hand.delivered hand.passed old
   goes-as b e = goes.reaches ∙ ap (λ m. goes_as w m hand.delivered hand.passed old) e
 
-  pub sound-calmly : CanRun w → IsSoundIn w old → IsSoundIn w new
-  sound-calmly run is = by hand.moves refl where
+  pub sound-quickly : CanRun w → IsSoundIn w old → IsSoundIn w new
+  sound-quickly run is = by hand.moves refl where
     by : (b : Bool) → hand.moves ≡ b → IsSoundIn w new
     by true e = moves-sound w run old new hand.delivered hand.passed gone.hand.passed gone.due (goes-as true e) is
     by false e =
         attempt-sound w run old new (Some gone.due) hand.delivered hand.passed gone.hand.passed (sym goes.loads ∙ ap (λ b. b || loads_none w old) e)
         (goes-as false e) tt is
 
-  pub start-calmly : CanRun w → hand.moves ≡ true → hand.delivered ≡ false → old ≡ starts_with w.world → IsSoundIn w new
-  start-calmly run moves undelivered start =
+  pub start-quickly : CanRun w → hand.moves ≡ true → hand.delivered ≡ false → old ≡ starts_with w.world → IsSoundIn w new
+  start-quickly run moves undelivered start =
       start-sound w run old new hand.delivered hand.passed gone.hand.passed gone.due (goes-as true moves) undelivered start

@@ -1,4 +1,4 @@
--- A machine that has gone on where the run is calm.
+-- A machine that has gone on quickly, its run standing at an instruction.
 use Rattle.std.proofs.Common.{◌≡◌, ℕ, Bool, true, false, List, [], refl, sym, ap, ap₂, subst, ◌∙◌, None, inl, inr}
 use Rattle.std.specs.Prelude.{is_some, ◌&&◌, ◌||◌}
 use Rattle.jvm_model.specs.declared.state.State.{State}
@@ -10,7 +10,7 @@ use Rattle.prepared_code.specs.declared.parts.Parts.{Parts}
 use Rattle.prepared_code.specs.Versions.{Setup}
 use Rattle.prepared_code.specs.Initializations.{state_of}
 use Rattle.prepared_code.specs.Ready.{IsSoundIn}
-use Rattle.interpreter.specs.Moves.Calmly.{GoesCalmly}
+use Rattle.interpreter.specs.Moves.Quickly.{GoesQuickly}
 use Rattle.interpreter.specs.Moves.Hands.{IsLeft}
 use Rattle.activations.specs.Turning.{loads_none}
 use Rattle.jvm_machine.specs.declared.advancing.Telling.TheVariants as telling
@@ -97,8 +97,8 @@ module _ (w : Setup) (h : Hand) (started broken : Bool) (clock : ℕ) (ms : List
   resting-is = ap is_resting view-now ∙ sym rests
 
   -- the run goes on
-  pub calm-going : p.ending ≡ None → IsGoingOn v
-  calm-going ending = by (is_resting v) refl where
+  pub quick-going : p.ending ≡ None → IsGoingOn v
+  quick-going ending = by (is_resting v) refl where
     by : (b : Bool) → is_resting v ≡ b → (is_resting v && has_ended v) ≡ false
     by true e =
         sym (over-is w h started broken clock s is v view (ap (λ (x : View). x.broken) (sym view) ∙ whole) e) ∙ ap is_some ending
@@ -111,10 +111,10 @@ module _ (w : Setup) (h : Hand) (started broken : Bool) (clock : ℕ) (ms : List
     handed-now : taken ≡ taken_hand w.world (is_resting (state_seen w s true false clock h)) true h
     handed-now = handed ∙ ap (λ b. taken_hand w.world b true h) (sym resting-is)
 
-    pub calm-attempted : taken.moves ≡ false → IsSoundIn w s
-    calm-attempted = attempted w h clock s is-now taken handed-now
+    pub quick-attempted : taken.moves ≡ false → IsSoundIn w s
+    quick-attempted = attempted w h clock s is-now taken handed-now
 
-    module _ (after : Parts) (gone : Gone) (goes : GoesCalmly w ms taken p gone after) (hands : GoesOnFrom w taken s gone (state_of ms after))
+    module _ (after : Parts) (gone : Gone) (goes : GoesQuickly w ms taken p gone after) (hands : GoesOnFrom w taken s gone (state_of ms after))
         (sound : IsSoundIn w s → IsSoundIn w (state_of ms after))
         (starts : taken.moves ≡ true → taken.delivered ≡ false → s ≡ starts_with w.world → IsSoundIn w (state_of ms after))
         (clock' : ℕ) (ticks : clock' ≡ clock_in resting true clock) (h' : Hand) (left : h' ≡ left_in gone) where
@@ -132,23 +132,23 @@ module _ (w : Setup) (h : Hand) (started broken : Bool) (clock : ℕ) (ms : List
           (subst (λ x. P (state_seen w new true false clock' x)) (sym left)
           (subst (λ c. P (state_seen w new true false c (left_in gone))) ticks-now holds)))
 
-      pub calm-stops : Stops v gone.due (state_seen w new started broken clock' h')
-      calm-stops =
+      pub quick-stops : Stops v gone.due (state_seen w new started broken clock' h')
+      quick-stops =
           as-now (Stops v gone.due)
           (subst (λ x. Stops x gone.due (state_seen w new true false (clock_in (is_resting (state_seen w s true false clock h)) true clock) (left_in gone))) view-now
           (stops w h clock s is-now taken handed-now new gone goes.loads goes.left hands sound starts))
 
-      pub calm-machine : IsMachine w h' (state_seen w new started broken clock' h') new
-      calm-machine =
+      pub quick-machine : IsMachine w h' (state_seen w new started broken clock' h') new
+      quick-machine =
           as-now (λ x. IsMachine w h' x new)
           (subst (λ x. IsMachine w x (state_seen w new true false (clock_in (is_resting (state_seen w s true false clock h)) true clock) (left_in gone)) new) (sym left)
           (machine w h clock s is-now taken handed-now new gone goes.loads goes.left hands sound starts))
 
-      pub calm-leaves : IfLeaves (telling.Due gone.due) (state_seen w new started broken clock' h')
-      calm-leaves =
+      pub quick-leaves : IfLeaves (telling.Due gone.due) (state_seen w new started broken clock' h')
+      quick-leaves =
           as-now (IfLeaves (telling.Due gone.due))
           (leaves-by w (left_in gone) (clock_in (is_resting (state_seen w s true false clock h)) true clock) new gone refl goes.left
           (machine w h clock s is-now taken handed-now new gone goes.loads goes.left hands sound starts))
 
-      pub calm-tidy : IsTidy w.versions s.stack → IsTidy w.versions new.stack
-      calm-tidy tidy k superseded = goes.keeps k superseded (tidy k superseded)
+      pub quick-tidy : IsTidy w.versions s.stack → IsTidy w.versions new.stack
+      quick-tidy tidy k superseded = goes.keeps k superseded (tidy k superseded)

@@ -1,4 +1,4 @@
--- Where a step stops by an attempt that was made while the run is calm, and what is due there.
+-- Where a step stops by an attempt that was made at an instruction, and what is due there.
 use Rattle.std.proofs.Common.{◌≡◌, ◌-◌, ℕ, suc, Bool, true, false, List, [], ◌∷◌, length, Some, None, refl, sym, ap, ◌∙◌, arith}
 use Rattle.std.specs.Prelude.{is_none, not, ◌&&◌, ◌==◌}
 use Rattle.std.proofs.lemmas.Option.{none-some, same_Some}
@@ -18,7 +18,7 @@ use Rattle.prepared_code.specs.Initializations.{initialization_on, state_of}
 use Rattle.prepared_code.specs.Ready.{CanRun}
 use Rattle.prepared_code.specs.Runs.{IsAtInstruction}
 use Rattle.prepared_code.specs.States.{here_of}
-use Rattle.interpreter.specs.Moves.Calmly.{Attempted, TriesCalmly}
+use Rattle.interpreter.specs.Moves.Quickly.{Attempted, TriesQuickly}
 use Rattle.interpreter.specs.Moves.Trying.{is_return_line, leaves_at, leaves_in, returns_by}
 use Rattle.activations.specs.Turning.{loads_none, pause_at, paused_in}
 use Rattle.interpreter.proofs.Moves.Followed.{counts_one, enters_none, enters_top, follows-on, follows-told}
@@ -48,7 +48,7 @@ top-begun w method count fs = refl
 
 -- ---- an attempt was made
 
-module _ (w : Setup) (run : CanRun w) (ms : List Initialization) (old new : Parts) (has : has_frame old.frames.frames ≡ true) (calm : IsAtInstruction (length old.frames.frames) ms old)
+module _ (w : Setup) (run : CanRun w) (ms : List Initialization) (old new : Parts) (has : has_frame old.frames.frames ≡ true) (at_instruction : IsAtInstruction (length old.frames.frames) ms old)
     (is : Attempted w ms old new) where
   abbrev s : State
   s = state_of ms old
@@ -61,17 +61,17 @@ module _ (w : Setup) (run : CanRun w) (ms : List Initialization) (old new : Part
 
   going : goes_on_in ms old ≡ true
   going =
-      goes old.ending (has_frame old.frames.frames && is_none (initialization_on (length old.frames.frames) ms)) calm.ending
-      (framed (length old.frames.frames) ms old.frames.frames calm.executing refl has)
+      goes old.ending (has_frame old.frames.frames && is_none (initialization_on (length old.frames.frames) ms)) at_instruction.ending
+      (framed (length old.frames.frames) ms old.frames.frames at_instruction.executing refl has)
 
   none : loads_none w s ≡ true
   none = ap (λ (classes : List ℕ). length classes == 0) is.loads
 
   -- a method has begun, in a version with probes
-  pub begins-calmly : (delivered : Bool) (version method : ℕ) → leaves_in w.versions old.frames.frames ≡ false → top_of new.frames.frames ≡ Some (version, method)
+  pub begins-quickly : (delivered : Bool) (version method : ℕ) → leaves_in w.versions old.frames.frames ≡ false → top_of new.frames.frames ≡ Some (version, method)
       → length new.frames.frames ≡ suc (length old.frames.frames) → is_off (mark_of w.versions (current_of w.versions method)) ≡ false
-      → TriesCalmly w ms delivered old Begins new
-  begins-calmly delivered version method apart top more marked =
+      → TriesQuickly w ms delivered old Begins new
+  begins-quickly delivered version method apart top more marked =
       let enters = sym (enters_top w.versions live new.frames.frames version method top (omega (arith, more))) ∙ ap not marked in
       let counts = counts_one 0 live new.frames.frames (λ same. absurd (omega (arith, same, more))) in
       let once = tries-once w run ms old going 0 live refl none None (sym is.awaits) after is.made (pause_at after 1 Begins)
@@ -85,8 +85,8 @@ module _ (w : Setup) (run : CanRun w) (ms : List Initialization) (old new : Part
       }
 
   -- a return of which its probe has told was made
-  pub leaves-calmly : length new.frames.frames ≡ length old.frames.frames - 1 → has_frame new.frames.frames ≡ true → TriesCalmly w ms true old Nothing new
-  leaves-calmly fewer framed_then =
+  pub leaves-quickly : length new.frames.frames ≡ length old.frames.frames - 1 → has_frame new.frames.frames ≡ true → TriesQuickly w ms true old Nothing new
+  leaves-quickly fewer framed_then =
       let rests = at-rest new.ending new.thrown (has_frame new.frames.frames && is_none (initialization_on (length new.frames.frames) ms)) is.at_instruction.ending is.at_instruction.thrown
       (framed (length new.frames.frames) ms new.frames.frames is.at_instruction.executing refl framed_then) in
       let one : length old.frames.frames ≡ suc (length old.frames.frames - 1) = some-frame old.frames.frames has in
@@ -109,12 +109,12 @@ module _ (w : Setup) (run : CanRun w) (ms : List Initialization) (old new : Part
 -- ---- before one
 
 -- the probe of a return tells first
-pub stops-calmly : (w : Setup) (run : CanRun w) (ms : List Initialization) (old : Parts) (here : Here) (line : Line) → here_of old.frames.frames ≡ Some here
+pub stops-quickly : (w : Setup) (run : CanRun w) (ms : List Initialization) (old : Parts) (here : Here) (line : Line) → here_of old.frames.frames ≡ Some here
     → IsAtInstruction (length old.frames.frames) ms old → line_at w.versions here.version here.place ≡ Some line → returns_by line.action ≡ true
-    → not (is_off (mark_of w.versions here.version)) ≡ true → TriesCalmly w ms false old (Ends kind.Leave) old
-stops-calmly w run ms old here line stands calm found returns marked =
-    let going = goes old.ending (has_frame old.frames.frames && is_none (initialization_on (length old.frames.frames) ms)) calm.ending
-    (framed (length old.frames.frames) ms old.frames.frames calm.executing refl (has-here here old.frames.frames stands)) in
+    → not (is_off (mark_of w.versions here.version)) ≡ true → TriesQuickly w ms false old (Ends kind.Leave) old
+stops-quickly w run ms old here line stands at_instruction found returns marked =
+    let going = goes old.ending (has_frame old.frames.frames && is_none (initialization_on (length old.frames.frames) ms)) at_instruction.ending
+    (framed (length old.frames.frames) ms old.frames.frames at_instruction.executing refl (has-here here old.frames.frames stands)) in
     let leaves : leaves_in w.versions old.frames.frames ≡ true =
     leaves-here w here old.frames.frames stands
     ∙ (ap (λ b. b && is_return_line (line_at w.versions here.version here.place)) marked ∙ (ap is_return_line found ∙ returns)) in

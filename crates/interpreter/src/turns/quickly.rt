@@ -10,7 +10,7 @@ ghost use Rattle.prepared_code.specs.Initializations.{state_of};
 ghost use Rattle.prepared_code.specs.Ready.{CanRun, IsSoundIn};
 ghost use Rattle.prepared_code.specs.Runs.{IsAtInstruction};
 ghost use Rattle.prepared_code.specs.Standing.{HasVersions};
-ghost use Rattle.interpreter.specs.Moves.Calmly.{GoesCalmly, TriesIf};
+ghost use Rattle.interpreter.specs.Moves.Quickly.{GoesQuickly, TriesIf};
 ghost use Rattle.interpreter.specs.Moves.Hands.{HasGoneOn, HasInHand};
 ghost use Rattle.prepared_code.specs.Linked.{setup_in};
 
@@ -31,7 +31,7 @@ fn end_told(originals: &Originals, parts: &mut Parts, initializing: &Stack<Initi
         (length parts.old.frames.frames) initializing.now parts.old }
     ensures tries { let w = setup_in parts.old.runtime originals.now in
         TriesIf result w initializing.now true parts.old due.Nothing parts.new }
-    ensures calm { result ≡ true → IsAtInstruction
+    ensures at_instruction { result ≡ true → IsAtInstruction
         (length parts.new.frames.frames) initializing.now parts.new }
     ensures runtime { parts.new.runtime ≡ parts.old.runtime }
 {
@@ -53,7 +53,7 @@ fn end_told(originals: &Originals, parts: &mut Parts, initializing: &Stack<Initi
 /// Goes on with a step in hand to its end, where that is quickly done. None, with nothing of the
 /// run changed, where it is not, or where nothing of a step is in hand: `go` does it then.
 #[inline(always)]
-pub fn go_calmly(
+pub fn go_quickly(
     originals: &Originals,
     parts: &mut Parts,
     initializing: &Stack<Initialization>,
@@ -63,9 +63,9 @@ pub fn go_calmly(
     requires at_instruction { IsAtInstruction
         (length parts.old.frames.frames) initializing.now parts.old }
     ensures goes { let w = setup_in parts.old.runtime originals.now in IfSome result (λ gone.
-        GoesCalmly w initializing.now hand parts.old gone parts.new) }
+        GoesQuickly w initializing.now hand parts.old gone parts.new) }
     ensures done { IfSome result (λ gone. gone.due ≡ due.Nothing) }
-    ensures calm { IfSome result (λ gone. IsAtInstruction
+    ensures at_instruction { IfSome result (λ gone. IsAtInstruction
         (length parts.new.frames.frames) initializing.now parts.new) }
     // The rest of the same step is in hand then, at the next of its changes that is told.
     ensures hands { let w = setup_in parts.old.runtime originals.now in
