@@ -162,7 +162,7 @@ pub fn image_file<F: Files, O: Sink>(
         (O.taken out.old) (O.taken out.new) }
     ensures nothing { IfErr result (λ e.
         e ≢ ImageError.NotPut → O.taken out.new ≡ O.taken out.old) }
-    ensures told { IfErr result (IsTold (F.contents files.old) name.now first.now marks.now) }
+    ensures cause { IfErr result (IsTold (F.contents files.old) name.now first.now marks.now) }
     ensures not_fetched { result ≡ Err ImageError.NotFetched
         → Rose (F.faults files.old) (F.faults files.new) }
     ensures not_put { result ≡ Err ImageError.NotPut

@@ -82,7 +82,7 @@ pub fn answer(
     requires { IsState index.now state.old }
     ensures state { IsState index.now state.new }
     ensures later { IsLater state.old state.new }
-    ensures told { IfOk result (λ l. l ≡ answer_of index.now state.old.loaded name.now
+    ensures answer { IfOk result (λ l. l ≡ answer_of index.now state.old.loaded name.now
         (load_of index.now state.old.loaded name.now)) }
     ensures loaded { OnOk result (state.new.loaded
         ≡ loaded_in (load_of index.now state.old.loaded name.now)) }

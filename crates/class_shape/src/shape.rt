@@ -32,7 +32,7 @@ pub(crate) fn number_of(original: &ClassFile, image: &ClassFile) -> Option<u16>
 pub fn shape_fault(original: &ClassFile, image: &ClassFile) -> Option<u16>
     requires { IsClassFile image.now }
     ensures same { IsNone result ↔ HasSameShape original.now image.now }
-    ensures told { IfSome result (IsShapeFault original.now image.now) }
+    ensures number { IfSome result (IsShapeFault original.now image.now) }
     ensures only { (told : ℕ) → IsShapeFault original.now image.now told → result ≡ Some told }
     // So the number of a heading is told of no member.
     ensures heading { result ≡ Some OF_HEADING → heading_of original.now ≢ heading_of image.now }

@@ -107,7 +107,7 @@ fn first_far(homes: &Homes, groups: &[Group], start: u32) -> Option<u16>
 /// user `TooLong` and `Far` mean that the method is too long to be profiled.
 pub fn lay_out(alloc: Global, front: &[u8], groups: &[Group], back: &[u8]) -> Result<Laid, LayError>
     requires groups { AreGroups groups.now }
-    requires front { IsShort front.now }
+    requires prefix { IsShort front.now }
     requires back { IsShort back.now }
     ensures laid { IfOk result (λ laid. laid ≡ laid_of front.now groups.now back.now) }
     ensures moved { IfOk result (λ laid. AreLaidIn laid groups.now) }

@@ -156,7 +156,7 @@ impl<W: Write> Sink for StdSink<W> {
         // What the writer got, where it knows its bytes.
         ensures written { OnOk result
             (Appends (W.contents self.old.inner) (W.contents self.new.inner) bytes.now) }
-        ensures written_front { WritesPrefix (W.contents self.old.inner)
+        ensures written_prefix { WritesPrefix (W.contents self.old.inner)
             (W.contents self.new.inner) bytes.now }
     {
         let answer = write_whole(&mut self.writer, bytes);

@@ -217,7 +217,7 @@ pub fn tell<P: Sink>(
     files: &[&str],
     report: &mut P,
 ) -> Refusal
-    ensures told { (result ≡ refusal) ⊎ (result ≡ Refusal.NoMemory) }
+    ensures which { (result ≡ refusal) ⊎ (result ≡ Refusal.NoMemory) }
     ensures line { let old = sink_view (P.taken report.old) (P.faults report.old) in
         let new = sink_view (P.taken report.new) (P.faults report.new) in
         PutsOrRose old new (refusal_line result (text plan.entry) (texts files.now)) }

@@ -49,7 +49,7 @@ fn lay(
     before: &[u8],
     back: &[u8],
 ) -> Result<Laid, LayError>
-    requires front { IsShort front.now }
+    requires prefix { IsShort front.now }
     requires before { IsShort before.now }
     requires back { IsShort back.now }
 {

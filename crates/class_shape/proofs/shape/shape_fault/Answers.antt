@@ -11,8 +11,8 @@ returns-clause-same c =
     let is = c.number_of.ensures in
     (λ none. none-same these those (sym is ∙ if-none c.number_of.result none), λ same. is-none c.number_of.result (is ∙ same-number these those same))
 
-pub returns-clause-told : goal.returns-clause-told
-returns-clause-told c =
+pub returns-clause-number : goal.returns-clause-number
+returns-clause-number c =
     let these = c.args.original.now in
     let those = c.args.image.now in
     if-some (IsShapeFault these those) c.number_of.result (λ n e. told-fault these those n (sym c.number_of.ensures ∙ e))

@@ -15,12 +15,12 @@ use Rattle.code_model.proofs.laying.lay_out.Goals as goal
 
 pub end_of_groups-end-requires : goal.end_of_groups-end-requires
 end_of_groups-end-requires c =
-    let front = c.requires.front in
+    let front = c.requires.prefix in
     omega (arith, groups_end (length c.args.front.now) c.args.groups.now c.requires.groups)
 
 pub overflow_add-len : goal.overflow_add-len
 overflow_add-len c =
-    let front = c.requires.front in
+    let front = c.requires.prefix in
     let back = c.requires.back in
     record { fits = omega (arith, groups_end (length c.args.front.now) c.args.groups.now c.requires.groups) }
 
