@@ -6,12 +6,7 @@ ghost use Rattle.inject_events.specs.Settings.{entry_in, probes_in};
 
 use const_pool::Tail;
 use jvm_model::Mark;
-
-const SIPUSH: u8 = 17;
-
-const INVOKESTATIC: u8 = 184;
-
-const ATHROW: u8 = 191;
+use op_table::{ATHROW, INVOKESTATIC, SIPUSH};
 
 /// What a version has beside the original instructions.
 #[derive(Debug, Drop)]
