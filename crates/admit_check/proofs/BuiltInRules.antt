@@ -4,7 +4,7 @@ use Rattle.std.specs.Prelude.{not, ◌&&◌}
 use Rattle.std.specs.Bool.{beq}
 use Rattle.std.specs.List.{AllByRecursion, list_all, list_any}
 use Rattle.std.specs.Option.{is_none}
-use Rattle.std.proofs.lemmas.Bool.{and_parts}
+use Rattle.std.proofs.lemmas.Bool.{and_parts, not-true}
 use Rattle.const_pool.specs.declared.class.ClassFile.{ClassFile}
 use Rattle.op_table.specs.Opcodes.{row_of, groups}
 use Rattle.code_model.specs.Instructions.{instruction_at}
@@ -54,10 +54,6 @@ rewritten k = refl
 
 -- ---- what they say
 
-is-false : (b : Bool) → not b ≡ true → b ≡ false
-is-false false e = refl
-is-false true e = absurd cc
-
 same : (a b : Bool) → beq a b ≡ true → a ≡ b
 same true true e = refl
 same true false e = absurd cc
@@ -77,12 +73,12 @@ follows c shape code rewrite =
     let e = and_parts (not (has_member_twice c)) _ d.1 in
     let f = and_parts (not (list_any has_wrong_code_count c.methods)) (not (list_any (has_wrong_constant c.pool) c.fields)) e.1 in
     record {
-      name = is-false (has_wrong_name c) a.0;
+      name = not-true (has_wrong_name c) a.0;
       superclass = same (has_wrong_super c) (has_name (codes "java/lang/Object") c) b.0;
-      descriptors = is-false (has_wrong_descriptor c) d.0;
-      members = is-false (has_member_twice c) e.0;
-      bodies = is-false (list_any has_wrong_code_count c.methods) f.0;
-      constants = is-false (list_any (has_wrong_constant c.pool) c.fields) f.1;
+      descriptors = not-true (has_wrong_descriptor c) d.0;
+      members = not-true (has_member_twice c) e.0;
+      bodies = not-true (list_any has_wrong_code_count c.methods) f.0;
+      constants = not-true (list_any (has_wrong_constant c.pool) c.fields) f.1;
       codes_fine = λ k. is-none (codes_fault k c) (and_parts (is_none (codes_fault k c)) (is_none (floating_fault k c)) (code k)).0;
       floats = λ k. is-none (floating_fault k c) (and_parts (is_none (codes_fault k c)) (is_none (floating_fault k c)) (code k)).1;
       rewritten = λ k. is-none (profiling_fault k c) (rewrite k);

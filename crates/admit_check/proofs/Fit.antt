@@ -4,7 +4,7 @@ use Rattle.std.specs.Prelude.{filter_map, is_some, nat_lt, ◌&&◌, ◌||◌, �
 use Rattle.std.specs.List.{AllByRecursion, cons_option, list_all}
 use Rattle.std.specs.Option.{option_and_then, option_map_or, option_to_list}
 use Rattle.std.proofs.Math.Nat.{add-zero}
-use Rattle.std.proofs.lemmas.Bool.{eq-eqb, ltb-true}
+use Rattle.std.proofs.lemmas.Bool.{eq-eqb, ltb-true, or_cases}
 use Rattle.std.proofs.lemmas.List.{length-append}
 use Rattle.std.proofs.lemmas.Option.{same_Some, none-some, option_and_then_some}
 use Rattle.const_pool.specs.declared.class.ClassFile.{ClassFile}
@@ -57,10 +57,6 @@ append-front (x ∷ classes) files (suc at) less = append-front classes files at
 
 -- ---- which classes are loaded before
 
-or-cases : (a b : Bool) → (a || b) ≡ true → (a ≡ true) ⊎ (b ≡ true)
-or-cases true b e = inl refl
-or-cases false b e = inr e
-
 from-there : (at : ℕ) (files : List ClassFile) (k : ℕ) → AllByRecursion (λ c. has_built_in_name c ≡ true) files → k < length files → is_among (at + k) (built_in_from at files) ≡ true
 from-there at [] k all less = absurd (omega (arith, less))
 from-there at (c ∷ files) zero all less =
@@ -85,7 +81,7 @@ among-from : (at class : ℕ) (files : List ClassFile) → AllByRecursion (λ c.
 among-from at class [] all e = absurd cc
 among-from at class (c ∷ files) all e =
     let here = sym (ap (λ b. is_among class (cond b (at ∷ built_in_from (at + 1) files) (built_in_from (at + 1) files))) all.0) ∙ e in
-    elim (or-cases (class == at) (is_among class (built_in_from (at + 1) files)) here) [
+    elim (or_cases (class == at) (is_among class (built_in_from (at + 1) files)) here) [
       | inl same ↦ (let equal : class ≡ at = eqb-true class at same in record { k = 0; place = omega (arith, equal); less = omega arith })
       | inr more ↦ (let rest = among-from (at + 1) class files all.1 more in let place = rest.place in let less = rest.less in record { k = suc rest.k; place = omega (arith, place); less = omega (arith, less) })
     ]

@@ -4,7 +4,7 @@ use Rattle.std.specs.Prelude.{nat_lt, ◌&&◌, ◌==◌}
 use Rattle.std.specs.List.{AllByRecursion, list_all, list_any}
 use Rattle.std.specs.Option.{option_map_or}
 use Rattle.std.proofs.Math.Nat.{add-zero}
-use Rattle.std.proofs.lemmas.Bool.{ltb-true}
+use Rattle.std.proofs.lemmas.Bool.{ltb-true, and_parts, not-true}
 use Rattle.std.proofs.lemmas.List.Quantifiers.{position-Some}
 use Rattle.std.proofs.lemmas.Option.{same_Some, none-some, slice_get-get_or}
 use Rattle.std.proofs.lemmas.Slice.Eq.{bytes_eq-Decides}
@@ -21,14 +21,6 @@ use Rattle.admit_check.proofs.FitPlaces.{AreOrdered, is_as_needed, is_before, is
 use Rattle.code_admission.proofs.Positions.{position-behind}
 
 -- ---- tests
-
-pub both : (a b : Bool) → (a && b) ≡ true → (a ≡ true) × (b ≡ true)
-both true b e = (refl, e)
-both false b e = absurd cc
-
-not-is : (b : Bool) → not b ≡ true → b ≡ false
-not-is true e = absurd cc
-not-is false e = refl
 
 pub passed : {A : Type 0} (p : A → Bool) (o : Option A) → option_map_or p o false ≡ true → (x : A) × (o ≡ Some x) × (p x ≡ true)
 passed p None e = absurd cc
@@ -51,16 +43,16 @@ pub record IsNamedAt (files : List ClassFile) (at : ℕ) (c : ClassFile) : Type 
 
 read-standing : (files : List ClassFile) (at : ℕ) (c : ClassFile) → stands_at files at c ≡ true → IsNamedAt files at c
 read-standing files at c e =
-    let parts = both (is_named_at files at c) (list_all (is_before files at) (class_needs c)) e in
-    let names = both (has_built_in_name c) (option_map_or (λ name. is_first_at files at name && not (is_array_name name)) (name_of c) false) parts.0 in
+    let parts = and_parts (is_named_at files at c) (list_all (is_before files at) (class_needs c)) e in
+    let names = and_parts (has_built_in_name c) (option_map_or (λ name. is_first_at files at name && not (is_array_name name)) (name_of c) false) parts.0 in
     let found = passed (λ name. is_first_at files at name && not (is_array_name name)) (name_of c) names.1 in
-    let tests = both (is_first_at files at found.0) (not (is_array_name found.0)) found.2 in
+    let tests = and_parts (is_first_at files at found.0) (not (is_array_name found.0)) found.2 in
     let place = passed (λ k. k == at) (position (has_name found.0) files) tests.0 in
     record {
       name = found.0;
       named = found.1;
       place = place.1 ∙ ap (λ k. let o : Option ℕ = Some k in o) (eqb-true place.0 at place.2);
-      plain = not-is (is_array_name found.0) tests.1;
+      plain = not-true (is_array_name found.0) tests.1;
       built_in = names.0;
       needs = parts.1;
     }
@@ -68,10 +60,10 @@ read-standing files at c e =
 standing-from : (files : List ClassFile) (at : ℕ) (rest : List ClassFile) (k : ℕ) (c : ClassFile) → stand_from files at rest ≡ true → slice_get rest k ≡ Some c → stands_at files (at + k) c ≡ true
 standing-from files at [] k c e there = absurd (none-some c there)
 standing-from files at (x ∷ rest) zero c e there =
-    ap (λ n. stands_at files n c) (add-zero at) ∙ (ap (stands_at files at) (sym (same_Some x c there)) ∙ (both (stands_at files at x) (stand_from files (at + 1) rest) e).0)
+    ap (λ n. stands_at files n c) (add-zero at) ∙ (ap (stands_at files at) (sym (same_Some x c there)) ∙ (and_parts (stands_at files at x) (stand_from files (at + 1) rest) e).0)
 standing-from files at (x ∷ rest) (suc k) c e there =
     let n : at + suc k ≡ at + 1 + k = omega arith in
-    ap (λ n. stands_at files n c) n ∙ standing-from files (at + 1) rest k c (both (stands_at files at x) (stand_from files (at + 1) rest) e).1 there
+    ap (λ n. stands_at files n c) n ∙ standing-from files (at + 1) rest k c (and_parts (stands_at files at x) (stand_from files (at + 1) rest) e).1 there
 
 pub stands : (files : List ClassFile) → AreOrdered files → (k : ℕ) (c : ClassFile) → slice_get files k ≡ Some c → IsNamedAt files k c
 stands files ordered k c there =
@@ -99,9 +91,9 @@ pub record IsNeeded (files : List ClassFile) (at : ℕ) (n : Need) : Type 0 wher
 
 pub read-needed : (files : List ClassFile) (at : ℕ) (n : Need) → is_before files at n ≡ true → IsNeeded files at n
 read-needed files at n e =
-    let parts = both (not (is_array_name n.name)) (option_map_or (λ k. nat_lt k at && option_map_or (is_as_needed n) (slice_get files k) false) (position (has_name n.name) files) false) e in
+    let parts = and_parts (not (is_array_name n.name)) (option_map_or (λ k. nat_lt k at && option_map_or (is_as_needed n) (slice_get files k) false) (position (has_name n.name) files) false) e in
     let found = passed (λ k. nat_lt k at && option_map_or (is_as_needed n) (slice_get files k) false) (position (has_name n.name) files) parts.1 in
-    let tests = both (nat_lt found.0 at) (option_map_or (is_as_needed n) (slice_get files found.0) false) found.2 in
+    let tests = and_parts (nat_lt found.0 at) (option_map_or (is_as_needed n) (slice_get files found.0) false) found.2 in
     let class = passed (is_as_needed n) (slice_get files found.0) tests.1 in
     record {
       k = found.0;
@@ -110,7 +102,7 @@ read-needed files at n e =
       less = ltb-true found.0 at tests.0;
       there = class.1;
       needed = class.2;
-      plain = not-is (is_array_name n.name) parts.0;
+      plain = not-true (is_array_name n.name) parts.0;
     }
 
 -- ---- lists

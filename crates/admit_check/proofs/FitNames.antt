@@ -5,6 +5,7 @@ use Rattle.std.specs.List.{AllByRecursion, list_any}
 use Rattle.std.specs.Option.{option_map_or, option_or}
 use Rattle.std.proofs.lemmas.Option.{same_Some, none-some}
 use Rattle.std.proofs.lemmas.Slice.Eq.{bytes_eq-Decides}
+use Rattle.std.proofs.lemmas.Bool.{or_parts}
 use Rattle.const_pool.specs.declared.class.ClassFile.{ClassFile}
 use Rattle.const_pool.specs.BuiltIn.{built_in_names, probe_class}
 use Rattle.jvm_model.specs.Basis.Descriptors.{same_text}
@@ -26,10 +27,6 @@ no-fault : {E : Type 0} (b : Bool) (fault : E) → fault_if b fault ≡ None →
 no-fault true fault e = absurd (none-some fault (sym e))
 no-fault false fault e = refl
 
-or-false : (a b : Bool) → (a || b) ≡ false → (a ≡ false) × (b ≡ false)
-or-false true b e = absurd cc
-or-false false b e = (refl, e)
-
 -- ---- one class
 
 -- the name of a class of a program is neither a built-in class's nor an array's
@@ -39,7 +36,7 @@ pub record IsOwnClass (c : ClassFile) : Type 0 where
 
 taken-free : (o : Option (List ℕ)) → option_map_or is_taken_name o false ≡ false → option_map_or (λ name. list_any (same_text name) built_in_names) o false ≡ false
 taken-free None e = refl
-taken-free (Some name) e = (or-false (same_text name probe_class) _ e).1
+taken-free (Some name) e = (or_parts (same_text name probe_class) _ e).1
 
 array-name : (name : List ℕ) → texts.is_array_name name ≡ false → is_array_name name ≡ false
 array-name [] e = e
@@ -47,7 +44,7 @@ array-name (unit ∷ rest) e = e
 
 wrong-plain : (name : List ℕ) (o : Option (List ℕ)) → o ≡ Some name → option_map_or (λ name. length name == 0 || texts.is_array_name name) o false ≡ false → is_array_name name ≡ false
 wrong-plain name None is e = absurd (none-some name is)
-wrong-plain name (Some found) is e = ap is_array_name (sym (same_Some found name is)) ∙ array-name found (or-false (length found == 0) _ e).1
+wrong-plain name (Some found) is e = ap is_array_name (sym (same_Some found name is)) ∙ array-name found (or_parts (length found == 0) _ e).1
 
 -- what a class without a fault has
 record IsSoundAt (earlier : List ClassFile) (c : ClassFile) : Type 0 where
@@ -63,7 +60,7 @@ sound-at earlier k c e =
     let wrong = or-none (fault_if (has_wrong_name c) _) _ shape.0 in
     record {
       class = record {
-        free = taken-free (own_name c) (or-false (option_map_or is_taken_name (own_name c) false) _ (no-fault (is_reserved c) _ reserved.0)).0;
+        free = taken-free (own_name c) (or_parts (option_map_or is_taken_name (own_name c) false) _ (no-fault (is_reserved c) _ reserved.0)).0;
         plain = λ name is. wrong-plain name (own_name c) is (no-fault (has_wrong_name c) _ wrong.0);
       };
       differs = no-fault (list_any (has_same_name c) earlier) _ double.0;
@@ -89,9 +86,9 @@ same-tests c name (d ∷ others) is =
     ap (λ b. b || list_any (has_same_name c) others) (same-test name (own_name c) (own_name d) is) ∙ ap (λ b. has_name name d || b) (same-tests c name others is)
 
 any-end : (test : ClassFile → Bool) (xs : List ClassFile) (x : ClassFile) → list_any test (xs ++ x ∷ []) ≡ false → (list_any test xs ≡ false) × (test x ≡ false)
-any-end test [] x e = (refl, (or-false (test x) false e).0)
+any-end test [] x e = (refl, (or_parts (test x) false e).0)
 any-end test (y ∷ xs) x e =
-    let parts = or-false (test y) (list_any test (xs ++ x ∷ [])) e in
+    let parts = or_parts (test y) (list_any test (xs ++ x ∷ [])) e in
     let more = any-end test xs x parts.1 in
     (ap (λ b. b || list_any test xs) parts.0 ∙ more.0, more.1)
 

@@ -5,6 +5,7 @@ use Rattle.std.specs.List.{position_from}
 use Rattle.std.specs.Option.{option_map, option_map_or}
 use Rattle.std.proofs.lemmas.Iterator.Adapters.{position_from-zero}
 use Rattle.std.proofs.lemmas.List.{append_assoc, append-nil, length-replicate, length-set}
+use Rattle.std.proofs.lemmas.Bool.{and_parts, false≢true}
 use Rattle.const_pool.specs.declared.class.ClassFile.{ClassFile}
 use Rattle.const_pool.specs.declared.class.Member.{Member}
 use Rattle.const_pool.specs.declared.pool.Const.{Const}
@@ -14,10 +15,7 @@ use Rattle.jvm_model.specs.Basis.SharedState.{field_named}
 use Rattle.class_index.specs.declared.table.Table.{Table}
 use Rattle.class_index.specs.Buckets.{bucket_at, buckets_of, filled_from, is_at, member_number, member_sought, number_of, table_of, with_position}
 use Rattle.class_index.proofs.OrderLemmas.{equal}
-use Rattle.class_index.proofs.MemberTexts.{both, text_is}
-
-false_true : false ≡ true → ⊥
-false_true e = cc
+use Rattle.class_index.proofs.MemberTexts.{text_is}
 
 equals_itself : (n : ℕ) → (n == n) ≡ true
 equals_itself n = grind (arith)
@@ -31,7 +29,7 @@ bucket-set_same (x ∷ buckets) (suc h) b within = bucket-set_same buckets h b (
 
 bucket-set_other : (buckets : List (List ℕ)) (k h : ℕ) (b : List ℕ) → (k == h) ≡ false → bucket_at (slice_set buckets k b) h ≡ bucket_at buckets h
 bucket-set_other [] k h b other = refl
-bucket-set_other (x ∷ buckets) zero zero b other = absurd (false_true (sym other))
+bucket-set_other (x ∷ buckets) zero zero b other = absurd (false≢true (sym other))
 bucket-set_other (x ∷ buckets) zero (suc h) b other = refl
 bucket-set_other (x ∷ buckets) (suc k) zero b other = refl
 bucket-set_other (x ∷ buckets) (suc k) (suc h) b other = bucket-set_other buckets k h b (less k h other)
@@ -81,7 +79,7 @@ buckets-length pool members = filled-length (length members + 1) pool 0 members 
 
 number_is : (pool : List Const) (w : NameAndType) (m : Member) → is_member pool w m ≡ true → member_number pool m ≡ number_of w
 number_is pool w m h =
-    let parts = both (same_text_at pool m.name w.name) (same_text_at pool m.descriptor w.descriptor) h in
+    let parts = and_parts (same_text_at pool m.name w.name) (same_text_at pool m.descriptor w.descriptor) h in
     ap₂ (λ n d. number_of (record { name = unwrap_or n []; descriptor = unwrap_or d [] })) (text_is pool m.name w.name parts.0) (text_is pool m.descriptor w.descriptor parts.1)
 
 stands_at : (before : List Member) (m : Member) (ms : List Member) → slice_get (before ++ m ∷ ms) (length before) ≡ Some m
@@ -114,7 +112,7 @@ module _ (size : ℕ) (pool : List Const) (w : NameAndType) where
       by true true is same rest =
           ap (λ c. if c then Some (length before) else find (is_at pool (before ++ m ∷ ms) w) (own size pool (number_of w % size) (length before + 1) ms)) (here true is)
       by true false is same rest =
-          absurd (false_true (sym same ∙ (ap (λ n. (n % size) == (number_of w % size)) (number_is pool w m is) ∙ equals_itself (number_of w % size))))
+          absurd (false≢true (sym same ∙ (ap (λ n. (n % size) == (number_of w % size)) (number_is pool w m is) ∙ equals_itself (number_of w % size))))
       by false true is same rest =
           ap (λ c. if c then Some (length before) else find (is_at pool (before ++ m ∷ ms) w) (own size pool (number_of w % size) (length before + 1) ms)) (here false is) ∙ rest
       by false false is same rest = rest

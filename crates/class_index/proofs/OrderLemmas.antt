@@ -3,12 +3,10 @@ use Rattle.std.proofs.Common.{◌≡◌, ℕ, Bool, true, false, List, [], ◌�
 use Rattle.std.specs.Prelude.{Option, Some, None, ◌==◌, ◌||◌, if◌then◌else◌}
 use Rattle.std.specs.Option.{option_map_or, option_or}
 use Rattle.std.proofs.lemmas.List.{append_assoc, append-nil}
+use Rattle.std.proofs.lemmas.Bool.{false≢true}
 use Rattle.jvm_model.specs.Classes.Load.{is_among}
 use Rattle.jvm_model.specs.Classes.Lookup.{MemberPlace, first_in, place_in}
 use Rattle.class_index.specs.Orders.{IsSearchedAs, with_class, with_classes}
-
-false_true : false ≡ true → ⊥
-false_true e = cc
 
 pub equal : (a b : ℕ) → (a == b) ≡ true → a ≡ b
 equal a b e = grind (arith)
@@ -41,7 +39,7 @@ module _ (at : ℕ → Option ℕ) where
 
   -- a class that is among them
   again : (xs : List ℕ) (c : ℕ) → is_among c xs ≡ true → first_in at (xs ++ c ∷ []) ≡ first_in at xs
-  again [] c is = absurd (false_true is)
+  again [] c is = absurd (false≢true is)
   again (x ∷ xs) c is = by (c == x) refl is (λ t. again xs c t)
     where
       behind : (o : Option ℕ) → at x ≡ o → (o ≡ None → first_in at (xs ++ c ∷ []) ≡ first_in at xs)

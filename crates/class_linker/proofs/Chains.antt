@@ -3,6 +3,7 @@ use Rattle.std.proofs.Common.{◌≡◌, ℕ, zero, suc, true, false, List, ◌+
 use Rattle.std.specs.Prelude.{Option, Some, None, flat_map, ◌⊎◌, ◌==◌, ◌||◌}
 use Rattle.std.specs.Option.{option_to_list}
 use Rattle.std.proofs.lemmas.List.{append-nil}
+use Rattle.std.proofs.lemmas.Bool.{false≢true, or_cases}
 use Rattle.jvm_model.specs.declared.program.Program.{Program}
 use Rattle.jvm_model.specs.Basis.Programs.{super_of}
 use Rattle.jvm_model.specs.Classes.Load.{is_among}
@@ -11,11 +12,8 @@ use Rattle.class_index.proofs.OrderLemmas.{equal}
 use Rattle.class_linker.specs.Passing.{IsChain}
 use Rattle.class_linker.specs.LoadedClasses.{AreLoadedClasses, LoadedClasses, holds_class}
 use Rattle.class_linker.proofs.LoadLemmas.{among-append}
-use Rattle.class_linker.proofs.OverridingLaws.{either, or_true}
+use Rattle.class_linker.proofs.OverridingLaws.{or_true}
 use Rattle.class_linker.proofs.Subtypes.{IsIn, above_direct, among_flat, direct_has, itself}
-
-false_true : false ≡ true → ⊥
-false_true e = cc
 
 equals_itself : (n : ℕ) → (n == n) ≡ true
 equals_itself n = grind (arith)
@@ -31,9 +29,9 @@ module _ (p : Program) (rows : LoadedClasses) (are : AreLoadedClasses p rows) wh
 
   -- each superclass is a supertype
   supers_above : (n c d : ℕ) → holds_class rows c ≡ true → is_among d (superclasses_within p n c) ≡ true → is_subtype p c d ≡ true
-  supers_above zero c d has h = absurd (false_true h)
+  supers_above zero c d has h = absurd (false≢true h)
   supers_above (suc n) c d has h =
-      by (either (d == c) (is_among d (flat_map (superclasses_within p n) (superclass_of p c))) h) (supers_above n)
+      by (or_cases (d == c) (is_among d (flat_map (superclasses_within p n) (superclass_of p c))) h) (supers_above n)
     where
       behind : IsIn (superclasses_within p n) (superclass_of p c) d
           → ((s x : ℕ) → holds_class rows s ≡ true → is_among x (superclasses_within p n s) ≡ true → is_subtype p s x ≡ true) → is_subtype p c d ≡ true

@@ -4,6 +4,7 @@ use Rattle.std.specs.Prelude.{Option, Some, None, filter_map, flat_map, take, �
 use Rattle.std.proofs.Math.Seq.{take-append_seam, take-length}
 use Rattle.std.specs.List.{cons_option}
 use Rattle.std.specs.Option.{option_to_list}
+use Rattle.std.proofs.lemmas.Bool.{false≢true}
 use Rattle.const_pool.specs.declared.class.ClassFile.{ClassFile}
 use Rattle.const_pool.specs.References.{named_class}
 use Rattle.jvm_model.specs.Classes.Load as load
@@ -28,9 +29,6 @@ pub needs_are : (c : ClassFile) → needs_in c ≡ load.class_needs c
 needs_are c = ap (λ l. needs_at c false c.super_class ++ l) (each_need (named_class c.pool) c.interfaces)
 
 -- ---- what is among classes
-
-false_true : false ≡ true → ⊥
-false_true e = cc
 
 pub among-append : (class : ℕ) (xs ys : List ℕ) → load.is_among class (xs ++ ys) ≡ (load.is_among class xs || load.is_among class ys)
 among-append class [] ys = refl
@@ -75,7 +73,7 @@ module _ (p : Program) (s : State) (rows : LoadedClasses) (is : IsState p s) (ar
       by c true last was is_last among = kept c (is.loaded c was)
       by c false true was is_last among = ap (holds_class rows) (equal c class is_last) ∙ has
       by c false false was is_last among =
-          absurd (false_true (sym (ap₂ (λ a b. a || (b || false)) was is_last) ∙ among))
+          absurd (false≢true (sym (ap₂ (λ a b. a || (b || false)) was is_last) ∙ among))
 
 pub later_same : (s : State) (rows : LoadedClasses) (loaded : List ℕ) → AreKept s.rows rows → loaded ≡ s.loaded → IsLater s (record { rows = rows; loaded = loaded })
 later_same s rows loaded kept same = record { rows = kept; loaded = ap (take (length s.loaded)) same ∙ take-length s.loaded }

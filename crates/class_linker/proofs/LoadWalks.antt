@@ -4,6 +4,7 @@ use Rattle.std.specs.Prelude.{Option, Some, None, filter_map, not, unwrap_or, �
 use Rattle.std.specs.Bool.{beq}
 use Rattle.std.specs.List.{cons_option, list_all}
 use Rattle.std.specs.Option.{option_and_then, option_map_or, option_to_list}
+use Rattle.std.proofs.lemmas.Bool.{false≢true}
 use Rattle.const_pool.specs.declared.class.ClassFile.{ClassFile}
 use Rattle.const_pool.specs.References.{named_class}
 use Rattle.jvm_model.specs.Classes.Kinds.{Named, array_from, array_of, is_array_name}
@@ -17,9 +18,6 @@ use Rattle.class_linker.specs.declared.loading.Standing.{Standing}
 use Rattle.class_linker.specs.declared.loading.Standing.TheVariants.{Ended, Fresh}
 use Rattle.class_linker.specs.States.{loading_view, named_loading, standing_loading}
 use Rattle.class_linker.proofs.LoadLemmas.{among-front, among-last}
-
-false_true : false ≡ true → ⊥
-false_true e = cc
 
 -- ---- what is loaded stays
 
@@ -122,11 +120,11 @@ module _ (p : Program) (class : ℕ) (after : List ℕ) where
 
 first_of_and : (a b : Bool) → (a && b) ≡ true → a ≡ true
 first_of_and true b h = refl
-first_of_and false b h = absurd (false_true h)
+first_of_and false b h = absurd (false≢true h)
 
 second_of_and : (a b : Bool) → (a && b) ≡ true → b ≡ true
 second_of_and true b h = h
-second_of_and false b h = absurd (false_true h)
+second_of_and false b h = absurd (false≢true h)
 
 -- the class of a need passes the test
 abbrev pub passes : Program → (ℕ → Bool) → Need → Bool
@@ -139,11 +137,11 @@ module _ (p : Program) (depth : ℕ) (path after : List ℕ) where
     where
       plain : (b : Bool) → not b ≡ true → b ≡ false
       plain false h = refl
-      plain true h = absurd (false_true h)
+      plain true h = absurd (false≢true h)
 
       by : (o : Option ℕ) → class_named p n.name ≡ o → option_map_or (λ class. beq (is_interface p class) n.interface) o false ≡ true
           → option_map_or (λ c. is_among c after) o false ≡ true
-      by None is h = absurd (false_true h)
+      by None is h = absurd (false≢true h)
       by (Some class) is h =
           let there = named_done p class now depth path n.name loaded
           (plain (is_array_name n.name) (first_of_and (not (is_array_name n.name)) _ met)) is one in
@@ -186,7 +184,7 @@ module _ (p : Program) (test : ℕ → Bool) where
     where
       by : (o : Option ℕ) → option_map_or test o false ≡ true → list_all test (filter_map (class_named p) names) ≡ true
           → list_all test (cons_option o (filter_map (class_named p) names)) ≡ true
-      by None h rest = absurd (false_true h)
+      by None h rest = absurd (false≢true h)
       by (Some c) h rest = ap₂ (λ a b. a && b) h rest
 
   split : (xs ys : List Need) → list_all (passes p test) (xs ++ ys) ≡ true

@@ -5,6 +5,7 @@ use Rattle.std.specs.List.{list_all}
 use Rattle.std.specs.Option.{option_map_or}
 use Rattle.std.proofs.lemmas.List.{append_assoc, append-nil, length-set}
 use Rattle.std.proofs.lemmas.List.Sums.{sum_by-cons}
+use Rattle.std.proofs.lemmas.Bool.{false≢true}
 use Rattle.jvm_model.specs.declared.program.Program.{Program}
 use Rattle.jvm_model.specs.Classes.Layouts.{layout_within, own_kinds}
 use Rattle.jvm_model.specs.Classes.Lookup.{interfaces_of, is_interface, superclass_of, superclasses_within, superinterfaces_within, supertypes_within}
@@ -14,9 +15,6 @@ use Rattle.class_index.specs.Orders.{IsSearchedAs, with_class, with_classes}
 use Rattle.jvm_model.specs.Classes.Load.{is_among}
 use Rattle.class_linker.specs.LoadedClasses.{AreKept, AreLoadedClasses, IsClosed, IsLoadedClass, LoadedClasses, holds_all, holds_class, layout_in, loaded_class_at, held_count, loaded_class_made, superclasses_in, superinterfaces_in, superinterfaces_made, supertypes_in, supertypes_made, with_interfaces, with_supertypes}
 use Rattle.class_index.proofs.OrderLemmas.{both, equal, equal_as, more, same, then_as}
-
-false_true : false ≡ true → ⊥
-false_true e = cc
 
 -- ---- what is added is what stands behind
 
@@ -47,11 +45,11 @@ interfaces_more rows xs (y ∷ ys) =
 
 first_of_and : (a b : Bool) → (a && b) ≡ true → a ≡ true
 first_of_and true b h = refl
-first_of_and false b h = absurd (false_true h)
+first_of_and false b h = absurd (false≢true h)
 
 second_of_and : (a b : Bool) → (a && b) ≡ true → b ≡ true
 second_of_and true b h = h
-second_of_and false b h = absurd (false_true h)
+second_of_and false b h = absurd (false≢true h)
 
 each_searched : (test : ℕ → Bool) (f g : ℕ → List ℕ) → ((c : ℕ) → test c ≡ true → IsSearchedAs (f c) (g c))
     → (xs : List ℕ) → list_all test xs ≡ true → IsSearchedAs (flat_map f xs) (flat_map g xs)
@@ -69,7 +67,7 @@ each_equal test f g h (x ∷ xs) all =
 -- ---- a class that has a row
 
 pub has_one : (o : Option LoadedClass) → is_some o ≡ true → (r : LoadedClass) × (o ≡ Some r)
-has_one None h = absurd (false_true h)
+has_one None h = absurd (false≢true h)
 has_one (Some r) h = (r, refl)
 
 module _ (p : Program) (rows : LoadedClasses) (are : AreLoadedClasses p rows) (n : ℕ) (most : held_count rows ≤ n) where
@@ -252,7 +250,7 @@ module _ (p : Program) (rows : LoadedClasses) (class : ℕ) (are : AreLoadedClas
     where
       by : (o : Option LoadedClass) → is_some o ≡ false → o ≡ None
       by None h = refl
-      by (Some r) h = absurd (false_true (sym h))
+      by (Some r) h = absurd (false≢true (sym h))
 
   abbrev after : LoadedClasses
   after = slice_set rows class (Some (loaded_class_made p rows class))

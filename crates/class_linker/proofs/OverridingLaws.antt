@@ -1,7 +1,9 @@
 -- The test of overriding is the relation, among loaded classes.
-use Rattle.std.proofs.Common.{◌≡◌, ℕ, suc, ◌+◌, Bool, true, false, List, [], ◌∷◌, ap, ap₂, sym, refl, ◌∙◌, arith, inl, inr}
-use Rattle.std.specs.Prelude.{Option, Some, None, not, slice_get, ◌⊎◌, ◌==◌, ◌||◌, ◌&&◌, if◌then◌else◌}
+use Rattle.std.proofs.Common.{◌≡◌, ℕ, suc, ◌+◌, Bool, true, false, List, [], ◌∷◌, ap, ap₂, sym, refl, ◌∙◌, arith}
+use Rattle.std.specs.Prelude.{Option, Some, None, not, slice_get, ◌==◌, ◌||◌, ◌&&◌, if◌then◌else◌}
 use Rattle.std.specs.Option.{option_and_then, option_map, option_map_or}
+use Rattle.std.proofs.lemmas.Bool.{and_parts, false≢true}
+use Rattle.std.proofs.lemmas.Option.{none-some, same_Some}
 use Rattle.const_pool.specs.declared.class.ClassFile.{ClassFile}
 use Rattle.const_pool.specs.declared.class.Member.{Member}
 use Rattle.const_pool.specs.declared.pool.Const.{Const}
@@ -13,21 +15,10 @@ use Rattle.jvm_model.specs.Basis.Programs.{class_at}
 use Rattle.jvm_model.specs.Classes.Selection.{signature_of, stands_below, texts_of}
 use Rattle.class_index.specs.Members.{is_declared_as}
 use Rattle.class_index.proofs.OrderLemmas.{equal}
-use Rattle.class_index.proofs.MemberTexts.{both, text_is}
-
-false_true : false ≡ true → ⊥
-false_true e = cc
+use Rattle.class_index.proofs.MemberTexts.{text_is}
 
 equals_itself : (n : ℕ) → (n == n) ≡ true
 equals_itself n = grind (arith)
-
-pub not_true : (b : Bool) → not b ≡ true → b ≡ false
-not_true false h = refl
-not_true true h = absurd (false_true h)
-
-pub either : (a b : Bool) → (a || b) ≡ true → (a ≡ true) ⊎ (b ≡ true)
-either true b h = inl refl
-either false b h = inr h
 
 pub or_true : (b : Bool) → (b || true) ≡ true
 or_true true = refl
@@ -37,7 +28,7 @@ or_true false = refl
 
 texts_are : (c : ClassFile) (w : NameAndType) (m : Member) → is_member c.pool w m ≡ true → texts_of c m ≡ Some w
 texts_are c w m h =
-    let parts = both (same_text_at c.pool m.name w.name) (same_text_at c.pool m.descriptor w.descriptor) h in
+    let parts = and_parts (same_text_at c.pool m.name w.name) (same_text_at c.pool m.descriptor w.descriptor) h in
     ap₂ (λ n d. option_and_then (λ name. option_map (λ descriptor. record { name = name; descriptor = descriptor }) d) n)
     (text_is c.pool m.name w.name parts.0) (text_is c.pool m.descriptor w.descriptor parts.1)
 
@@ -48,12 +39,6 @@ pub record IsFound (pool : List Const) (w : NameAndType) (n k : ℕ) (ms : List 
   pub method : Member
   pub there : slice_get ms behind ≡ Some method
   pub named : is_member pool w method ≡ true
-
-none_some : {A : Type 0} (a : A) → None ≡ Some a → ⊥
-none_some a e = cc
-
-some_some : {A : Type 0} (a b : A) → Some a ≡ Some b → a ≡ b
-some_some a b e = cc
 
 one_behind : (pool : List Const) (w : NameAndType) (n k : ℕ) (m : Member) (ms : List Member) → IsFound pool w (n + 1) k ms → IsFound pool w n k (m ∷ ms)
 one_behind pool w n k m ms f = record {
@@ -74,12 +59,12 @@ at_once pool w n k m ms named same = record { behind = 0; counted = counted; met
     counted = omega (arith, same)
 
 found_from : (pool : List Const) (w : NameAndType) (n k : ℕ) (ms : List Member) → method_from pool w n ms ≡ Some k → IsFound pool w n k ms
-found_from pool w n k [] h = absurd (none_some k h)
+found_from pool w n k [] h = absurd (none-some k h)
 found_from pool w n k (m ∷ ms) h = by (is_member pool w m) refl h (found_from pool w (n + 1) k ms)
   where
     by : (b : Bool) → is_member pool w m ≡ b → (if b then Some n else method_from pool w (n + 1) ms) ≡ Some k
         → (method_from pool w (n + 1) ms ≡ Some k → IsFound pool w (n + 1) k ms) → IsFound pool w n k (m ∷ ms)
-    by true named e rest = at_once pool w n k m ms named (some_some n k e)
+    by true named e rest = at_once pool w n k m ms named (same_Some n k e)
     by false other e rest = one_behind pool w n k m ms (rest e)
 
 signature_found : (p : Program) (w : NameAndType) (class k : ℕ) → method_at p w class ≡ Some k → signature_of p (place_in class k) ≡ Some w
@@ -93,7 +78,7 @@ signature_found p w class k h = by (class_at p class) refl h
 
     by : (o : Option ClassFile) → class_at p class ≡ o → option_and_then (λ (c : ClassFile). method_from c.pool w 0 c.methods) o ≡ Some k
         → signature_of p (place_in class k) ≡ Some w
-    by None is e = absurd (none_some k e)
+    by None is e = absurd (none-some k e)
     by (Some c) is e =
         ap (λ (o : Option ClassFile). option_and_then (λ (d : ClassFile). option_and_then (texts_of d) (slice_get d.methods k)) o) is
         ∙ at_found c (found_from c.pool w 0 k c.methods e)
@@ -109,12 +94,12 @@ declared p m1 m2 h = by (signature_of p m2) refl h
   where
     at : (w : NameAndType) (o : Option ℕ) → method_at p w m1.class ≡ o → option_map_or (λ at. at == m1.position) o false ≡ true
         → method_at p w m1.class ≡ Some m1.position
-    at w None is k = absurd (false_true k)
+    at w None is k = absurd (false≢true k)
     at w (Some n) is k = is ∙ ap Some (equal n m1.position k)
 
     by : (o : Option NameAndType) → signature_of p m2 ≡ o
         → option_map_or (λ w. option_map_or (λ at. at == m1.position) (method_at p w m1.class) false) o false ≡ true → IsDeclared p m1 m2
-    by None is k = absurd (false_true k)
+    by None is k = absurd (false≢true k)
     by (Some w) is k = record { wanted = w; asked = is; found = at w (method_at p w m1.class) refl k }
 
 pub same_signature : (p : Program) (m1 m2 : MemberPlace) → is_declared_as p m1 m2 ≡ true → signature_of p m1 ≡ signature_of p m2
@@ -131,9 +116,9 @@ pub record IsBelow (p : Program) (m1 m2 : MemberPlace) : Type 0 where
 
 split : (a b c : Bool) → (not a && b && c) ≡ true → (a ≡ false) × (b ≡ true) × (c ≡ true)
 split false true true h = (refl, refl, refl)
-split false true false h = absurd (false_true h)
-split false false c h = absurd (false_true h)
-split true b c h = absurd (false_true h)
+split false true false h = absurd (false≢true h)
+split false false c h = absurd (false≢true h)
+split true b c h = absurd (false≢true h)
 
 pub joined : (a b c : Bool) → a ≡ false → b ≡ true → c ≡ true → (not a && b && c) ≡ true
 joined a b c x y z = cc

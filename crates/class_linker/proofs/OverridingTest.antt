@@ -4,6 +4,7 @@ use Rattle.std.specs.Prelude.{Option, Some, None, not, ◌⊎◌, ◌==◌, ◌|
 use Rattle.std.specs.List.{list_any}
 use Rattle.std.specs.Option.{option_map_or}
 use Rattle.std.proofs.lemmas.Slice.Eq.{bytes_eq-Decides}
+use Rattle.std.proofs.lemmas.Bool.{and_from, and_parts, false≢true, not-true, or_cases}
 use Rattle.const_pool.specs.References.{NameAndType}
 use Rattle.jvm_model.specs.declared.program.Program.{Program}
 use Rattle.jvm_model.specs.Classes.Load.{is_among}
@@ -12,25 +13,18 @@ use Rattle.jvm_model.specs.Classes.Selection.{Overrides, directly, through, is_o
 use Rattle.class_index.specs.Members.{is_declared_as}
 use Rattle.class_linker.specs.LoadedClasses.{AreLoadedClasses, LoadedClasses, holds_class}
 use Rattle.class_index.proofs.OrderLemmas.{equal}
-use Rattle.class_index.proofs.MemberTexts.{both}
-use Rattle.class_linker.proofs.OverridingLaws.{IsBelow, below, declared, either, joined, not_true, or_true, same_signature}
+use Rattle.class_linker.proofs.OverridingLaws.{IsBelow, below, declared, joined, or_true, same_signature}
 use Rattle.class_linker.proofs.Subtypes.{above_has, apart, goes_on}
-
-false_true : false ≡ true → ⊥
-false_true e = cc
-
-and_true : (a b : Bool) → a ≡ true → b ≡ true → (a && b) ≡ true
-and_true a b x y = ap (λ c. c && b) x ∙ y
 
 not_false : (b : Bool) → b ≡ false → not b ≡ true
 not_false b h = ap not h
 
 five : (a b c d e : Bool) → (a && b && c && d && e) ≡ true → (a ≡ true) × (b ≡ true) × (c ≡ true) × (d ≡ true) × (e ≡ true)
 five true true true true e h = (refl, refl, refl, refl, h)
-five true true true false e h = absurd (false_true h)
-five true true false d e h = absurd (false_true h)
-five true false c d e h = absurd (false_true h)
-five false b c d e h = absurd (false_true h)
+five true true true false e h = absurd (false≢true h)
+five true true false d e h = absurd (false≢true h)
+five true false c d e h = absurd (false≢true h)
+five false b c d e h = absurd (false≢true h)
 
 all_five : (a b c d e : Bool) → a ≡ true → b ≡ true → c ≡ true → d ≡ true → e ≡ true → (a && b && c && d && e) ≡ true
 all_five a b c d e x y z w v = cc
@@ -46,8 +40,8 @@ equals_itself : (n : ℕ) → (n == n) ≡ true
 equals_itself n = grind (arith)
 
 one_of : (test : ℕ → Bool) (xs : List ℕ) → list_any test xs ≡ true → IsOne test xs
-one_of test [] h = absurd (false_true h)
-one_of test (x ∷ xs) h = by (either (test x) (list_any test xs) h) (one_of test xs)
+one_of test [] h = absurd (false≢true h)
+one_of test (x ∷ xs) h = by (or_cases (test x) (list_any test xs) h) (one_of test xs)
   where
     by : (test x ≡ true) ⊎ (list_any test xs ≡ true) → (list_any test xs ≡ true → IsOne test xs) → IsOne test (x ∷ xs)
     by (inl k) rest = record { class = x; there = ap (λ b. b || is_among x xs) (equals_itself x); passes = k }
@@ -56,8 +50,8 @@ one_of test (x ∷ xs) h = by (either (test x) (list_any test xs) h) (one_of tes
         record { class = one.class; there = ap (λ b. (one.class == x) || b) one.there ∙ or_true (one.class == x); passes = one.passes }
 
 any_of : (test : ℕ → Bool) (xs : List ℕ) (c : ℕ) → is_among c xs ≡ true → test c ≡ true → list_any test xs ≡ true
-any_of test [] c there h = absurd (false_true there)
-any_of test (x ∷ xs) c there h = by (either (c == x) (is_among c xs) there) (λ k. any_of test xs c k h)
+any_of test [] c there h = absurd (false≢true there)
+any_of test (x ∷ xs) c there h = by (or_cases (c == x) (is_among c xs) there) (λ k. any_of test xs c k h)
   where
     by : ((c == x) ≡ true) ⊎ (is_among c xs ≡ true) → (is_among c xs ≡ true → list_any test xs ≡ true) → (test x || list_any test xs) ≡ true
     by (inl same) rest = ap (λ b. b || list_any test xs) (ap test (sym (equal c x same)) ∙ h)
@@ -71,17 +65,17 @@ module _ (p : Program) where
 
   reached : (class : ℕ) (m : MemberPlace) → is_private p m ≡ false → (is_open p m ≡ true) ⊎ (same_package p class m.class ≡ true) → is_reached p class m ≡ true
   reached class m own (inl free) =
-      and_true (not (is_private p m)) (is_open p m || same_package p class m.class) (not_false (is_private p m) own) (ap (λ b. b || same_package p class m.class) free)
+      and_from (not (is_private p m)) (is_open p m || same_package p class m.class) (not_false (is_private p m) own) (ap (λ b. b || same_package p class m.class) free)
   reached class m own (inr near) =
-      and_true (not (is_private p m)) (is_open p m || same_package p class m.class) (not_false (is_private p m) own)
+      and_from (not (is_private p m)) (is_open p m || same_package p class m.class) (not_false (is_private p m) own)
       (ap (λ b. is_open p m || b) near ∙ or_true (is_open p m))
 
   not_private : (class : ℕ) (m : MemberPlace) → is_reached p class m ≡ true → is_private p m ≡ false
-  not_private class m h = not_true (is_private p m) (both (not (is_private p m)) (is_open p m || same_package p class m.class) h).0
+  not_private class m h = not-true (is_private p m) (and_parts (not (is_private p m)) (is_open p m || same_package p class m.class) h).0
 
   why_reached : (class : ℕ) (m : MemberPlace) → is_reached p class m ≡ true → (is_open p m ≡ true) ⊎ (same_package p class m.class ≡ true)
   why_reached class m h =
-      either (is_open p m) (same_package p class m.class) (both (not (is_private p m)) (is_open p m || same_package p class m.class) h).1
+      or_cases (is_open p m) (same_package p class m.class) (and_parts (not (is_private p m)) (is_open p m || same_package p class m.class) h).1
 
   one_package : (a b c : ℕ) → same_package p a b ≡ true → same_package p b c ≡ true → same_package p a c ≡ true
   one_package a b c x y =
@@ -105,7 +99,7 @@ module _ (p : Program) where
         m3 = m3;
         lower = below p m1 m3 parts.0;
         upper = below p m3 m2 parts.1;
-        own = not_true (is_private p m3) parts.2;
+        own = not-true (is_private p m3) parts.2;
         free = parts.3;
         reaches = parts.4;
       }
@@ -121,13 +115,13 @@ module _ (p : Program) where
       by one.class (signature_of p m2) one.passes
     where
       at : (class : ℕ) (o : Option ℕ) → option_map_or (λ at. passes_on p m1 m2 (place_in class at)) o false ≡ true → IsPassed m1 m2
-      at class None h = absurd (false_true h)
+      at class None h = absurd (false≢true h)
       at class (Some n) h = passes_if m1 m2 (place_in class n) h
 
       by : (class : ℕ) (o : Option NameAndType)
           → option_map_or (λ wanted. option_map_or (λ at. passes_on p m1 m2 (place_in class at)) (method_at p wanted class) false) o false ≡ true
           → IsPassed m1 m2
-      by class None h = absurd (false_true h)
+      by class None h = absurd (false≢true h)
       by class (Some w) h = at class (method_at p w class) h
 
   pub if_passed : (m1 m2 : MemberPlace) → IsPassed m1 m2 → list_any (passed_at p m1 m2) (supertypes p m1.class) ≡ true
@@ -144,8 +138,8 @@ module _ (p : Program) where
 
   how : (m1 m2 : MemberPlace) → overrides p m1 m2 ≡ true → IsBelow p m1 m2 × ((is_reached p m1.class m2 ≡ true) ⊎ IsPassed m1 m2)
   how m1 m2 h =
-      let parts = both (stands_below p m1 m2) _ h in
-      (below p m1 m2 parts.0, by (either (is_reached p m1.class m2) (list_any (passed_at p m1 m2) (supertypes p m1.class)) parts.1))
+      let parts = and_parts (stands_below p m1 m2) _ h in
+      (below p m1 m2 parts.0, by (or_cases (is_reached p m1.class m2) (list_any (passed_at p m1 m2) (supertypes p m1.class)) parts.1))
     where
       by : (is_reached p m1.class m2 ≡ true) ⊎ (list_any (passed_at p m1 m2) (supertypes p m1.class) ≡ true) → (is_reached p m1.class m2 ≡ true) ⊎ IsPassed m1 m2
       by (inl k) = inl k
@@ -153,7 +147,7 @@ module _ (p : Program) where
 
   back : (m1 m2 : MemberPlace) → IsBelow p m1 m2 → (is_reached p m1.class m2 ≡ true) ⊎ IsPassed m1 m2 → overrides p m1 m2 ≡ true
   back m1 m2 b h =
-      and_true (stands_below p m1 m2) (is_reached p m1.class m2 || list_any (passed_at p m1 m2) (supertypes p m1.class)) (stands m1 m2 b) (by h)
+      and_from (stands_below p m1 m2) (is_reached p m1.class m2 || list_any (passed_at p m1 m2) (supertypes p m1.class)) (stands m1 m2 b) (by h)
     where
       by : (is_reached p m1.class m2 ≡ true) ⊎ IsPassed m1 m2 → (is_reached p m1.class m2 || list_any (passed_at p m1 m2) (supertypes p m1.class)) ≡ true
       by (inl k) = ap (λ b. b || list_any (passed_at p m1 m2) (supertypes p m1.class)) k

@@ -3,6 +3,7 @@ use Rattle.std.proofs.Common.{◌≡◌, ℕ, Bool, true, false, ap, sym, refl, 
 use Rattle.std.specs.Prelude.{◌==◌, ◌&&◌, ◌||◌}
 use Rattle.std.specs.List.{list_any}
 use Rattle.std.specs.Option.{option_map_or}
+use Rattle.std.proofs.lemmas.Bool.{false≢true}
 use Rattle.jvm_model.specs.declared.program.Program.{Program}
 use Rattle.jvm_model.specs.Classes.Lookup.{MemberPlace, is_subtype, method_at, supertypes}
 use Rattle.class_index.specs.Members.{is_declared_as}
@@ -13,9 +14,6 @@ use Rattle.class_linker.specs.LoadedClasses.{AreLoadedClasses, LoadedClasses, ho
 use Rattle.class_linker.proofs.OverridingLaws.{IsBelow, below, same_signature}
 use Rattle.class_linker.proofs.OverridingTest.{IsPassed, if_passed, passed_if, stands}
 use Rattle.class_linker.proofs.Subtypes.{apart, goes_on}
-
-false_true : false ≡ true → ⊥
-false_true e = cc
 
 module _ (p : Program) where
   between : (own m : MemberPlace) → IsPassed p own m → IsBetween p m own.class
@@ -56,7 +54,7 @@ module _ (p : Program) where
   -- where nothing passes it on to a class's own one, nothing does to the class
   pub unpassed : (own m : MemberPlace) → stands_below p own m ≡ true → list_any (passed_at p own m) (supertypes p own.class) ≡ false
       → IsUnpassed p m own.class
-  unpassed own m stands_so none i = false_true (sym none ∙ if_passed p own m (passed own m (below p own m stands_so) i))
+  unpassed own m stands_so none i = false≢true (sym none ∙ if_passed p own m (passed own m (below p own m stands_so) i))
 
   pub unpassed_above : (rows : LoadedClasses) → AreLoadedClasses p rows → (m : MemberPlace) (class above : ℕ) → holds_class rows class ≡ true → is_subtype p class above ≡ true
       → IsUnpassed p m class → IsUnpassed p m above

@@ -3,10 +3,10 @@ use Rattle.std.proofs.Common.{◌≡◌, ℕ, ◌+◌, ◌<◌, true, List, ◌�
 use Rattle.std.specs.Prelude.{Option, Some, None, ◌==◌, ◌||◌}
 use Rattle.std.specs.Option.{option_map_or}
 use Rattle.std.proofs.Math.Seq.{drop-cons}
+use Rattle.std.proofs.lemmas.Bool.{and_parts}
 use Rattle.jvm_model.specs.declared.program.Program.{Program}
 use Rattle.jvm_model.specs.Classes.Load.{is_among}
 use Rattle.jvm_model.specs.Classes.Lookup.{MemberPlace, first_in, place_in}
-use Rattle.class_index.proofs.MemberTexts.{both}
 use Rattle.class_linker.specs.Passing.{AreUnpassed, IsChain, IsUnpassed}
 use Rattle.class_linker.specs.LoadedClasses.{AreLoadedClasses, LoadedClasses, holds_all, holds_class}
 use Rattle.class_linker.proofs.PassedOn.{unpassed_above}
@@ -25,7 +25,7 @@ passed_over at cs c rest e none =
 
 pub first_has : (rows : LoadedClasses) (cs : List ℕ) (c : ℕ) (rest : List ℕ) → cs ≡ c ∷ rest → holds_all rows cs ≡ true
     → (holds_class rows c ≡ true) × (holds_all rows rest ≡ true)
-first_has rows cs c rest e have = both (holds_class rows c) (holds_all rows rest) (sym (ap (holds_all rows) e) ∙ have)
+first_has rows cs c rest e have = and_parts (holds_class rows c) (holds_all rows rest) (sym (ap (holds_all rows) e) ∙ have)
 
 pub first : (p : Program) (m : MemberPlace) (cs : List ℕ) (c : ℕ) (rest : List ℕ) → cs ≡ c ∷ rest → AreUnpassed p m cs → IsUnpassed p m c
 first p m cs c rest e all = all c (ap (is_among c) e ∙ ap (λ b. b || is_among c rest) (equals_itself c))

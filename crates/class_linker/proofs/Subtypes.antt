@@ -2,6 +2,7 @@
 use Rattle.std.proofs.Common.{◌≡◌, ℕ, zero, suc, ◌<◌, ◌≤◌, Bool, true, false, List, [], ◌∷◌, ◌++◌, length, ap, sym, subst, refl, ◌∙◌, arith, length-append, inl, inr}
 use Rattle.std.specs.Prelude.{flat_map, ◌⊎◌, ◌==◌, ◌||◌, ◌&&◌}
 use Rattle.std.proofs.lemmas.List.Concat.{flat_map-append}
+use Rattle.std.proofs.lemmas.Bool.{false≢true, or_cases}
 use Rattle.jvm_model.specs.declared.program.Program.{Program}
 use Rattle.jvm_model.specs.Classes.Load.{is_among}
 use Rattle.jvm_model.specs.Classes.Lookup.{interfaces_of, is_subtype, superclass_of, supertypes, supertypes_within}
@@ -10,14 +11,7 @@ use Rattle.class_linker.proofs.LoadLemmas.{among-append, among-front}
 use Rattle.class_index.proofs.OrderLemmas.{equal}
 use Rattle.class_linker.proofs.Walked.{bound, searched_among, supertypes_rows, supertypes_walked}
 
-false_true : false ≡ true → ⊥
-false_true e = cc
-
 -- ---- lists of lists
-
-either : (a b : Bool) → (a || b) ≡ true → (a ≡ true) ⊎ (b ≡ true)
-either true b h = inl refl
-either false b h = inr h
 
 -- one of the classes, and what stands in its list
 pub record IsIn (f : ℕ → List ℕ) (ds : List ℕ) (x : ℕ) : Type 0 where
@@ -40,16 +34,16 @@ found_behind f d ds x i =
     record { class = i.class; there = ap (λ b. (i.class == d) || b) i.there ∙ or_true (i.class == d); within = i.within }
 
 pub among_flat : (f : ℕ → List ℕ) (ds : List ℕ) (x : ℕ) → is_among x (flat_map f ds) ≡ true → IsIn f ds x
-among_flat f [] x h = absurd (false_true h)
+among_flat f [] x h = absurd (false≢true h)
 among_flat f (d ∷ ds) x h =
-    by (either (is_among x (f d)) (is_among x (flat_map f ds)) (sym (among-append x (f d) (flat_map f ds)) ∙ h)) (among_flat f ds x)
+    by (or_cases (is_among x (f d)) (is_among x (flat_map f ds)) (sym (among-append x (f d) (flat_map f ds)) ∙ h)) (among_flat f ds x)
   where
     by : (is_among x (f d) ≡ true) ⊎ (is_among x (flat_map f ds) ≡ true) → (is_among x (flat_map f ds) ≡ true → IsIn f ds x) → IsIn f (d ∷ ds) x
     by (inl k) rest = found_in_first f d ds x k
     by (inr k) rest = found_behind f d ds x (rest k)
 
 flat_among : (f : ℕ → List ℕ) (ds : List ℕ) (d x : ℕ) → is_among d ds ≡ true → is_among x (f d) ≡ true → is_among x (flat_map f ds) ≡ true
-flat_among f [] d x there h = absurd (false_true there)
+flat_among f [] d x there h = absurd (false≢true there)
 flat_among f (e ∷ ds) d x there h = by (d == e) refl there (λ k. flat_among f ds d x k h)
   where
     by : (b : Bool) → (d == e) ≡ b → (b || is_among d ds) ≡ true → (is_among d ds ≡ true → is_among x (flat_map f ds) ≡ true)
@@ -59,7 +53,7 @@ flat_among f (e ∷ ds) d x there h = by (d == e) refl there (λ k. flat_among f
         among-append x (f e) (flat_map f ds) ∙ (ap (λ b. is_among x (f e) || b) (rest k) ∙ or_true (is_among x (f e)))
 
 flat_length : (f : ℕ → List ℕ) (ds : List ℕ) (d : ℕ) → is_among d ds ≡ true → length (f d) ≤ length (flat_map f ds)
-flat_length f [] d there = absurd (false_true there)
+flat_length f [] d there = absurd (false≢true there)
 flat_length f (e ∷ ds) d there = by (d == e) refl there (flat_length f ds d)
   where
     by : (b : Bool) → (d == e) ≡ b → (b || is_among d ds) ≡ true → (is_among d ds ≡ true → length (f d) ≤ length (flat_map f ds))
@@ -68,19 +62,19 @@ flat_length f (e ∷ ds) d there = by (d == e) refl there (flat_length f ds d)
     by false other k rest = omega (arith, length-append (f e) (flat_map f ds), rest k)
 
 all_at : (rows : LoadedClasses) (xs : List ℕ) (d : ℕ) → holds_all rows xs ≡ true → is_among d xs ≡ true → holds_class rows d ≡ true
-all_at rows [] d all there = absurd (false_true there)
+all_at rows [] d all there = absurd (false≢true there)
 all_at rows (x ∷ xs) d all there = by (d == x) refl there (λ k. all_at rows xs d (second all) k)
   where
     first : (a b : Bool) → (a && b) ≡ true → a ≡ true
     first true b h = refl
-    first false b h = absurd (false_true h)
+    first false b h = absurd (false≢true h)
 
     second : (holds_class rows x && holds_all rows xs) ≡ true → holds_all rows xs ≡ true
     second h = behind (holds_class rows x) h
       where
         behind : (a : Bool) → (a && holds_all rows xs) ≡ true → holds_all rows xs ≡ true
         behind true h = h
-        behind false h = absurd (false_true h)
+        behind false h = absurd (false≢true h)
 
     by : (b : Bool) → (d == x) ≡ b → (b || is_among d xs) ≡ true → (is_among d xs ≡ true → holds_class rows d ≡ true) → holds_class rows d ≡ true
     by true same k rest = ap (holds_class rows) (equal d x same) ∙ first (holds_class rows x) (holds_all rows xs) all
@@ -113,7 +107,7 @@ module _ (p : Program) (rows : LoadedClasses) (are : AreLoadedClasses p rows) wh
 
   -- a direct supertype is above
   rows_nonempty : (rs : LoadedClasses) (c : ℕ) → holds_class rs c ≡ true → 0 < length rs
-  rows_nonempty [] c has = absurd (false_true has)
+  rows_nonempty [] c has = absurd (false≢true has)
   rows_nonempty (r ∷ rs) c has = omega arith
 
   among_own : (n d : ℕ) → 0 < n → is_among d (supertypes_within p n d) ≡ true
@@ -156,9 +150,9 @@ module _ (p : Program) (rows : LoadedClasses) (are : AreLoadedClasses p rows) wh
   }
 
   climb : (n c x : ℕ) → holds_class rows c ≡ true → is_among x (supertypes_within p n c) ≡ true → (x ≡ c) ⊎ IsBelow c x
-  climb zero c x has h = absurd (false_true h)
+  climb zero c x has h = absurd (false≢true h)
   climb (suc n) c x has h =
-      by (either (x == c) (is_among x (flat_map (supertypes_within p n) (interfaces_of p c ++ superclass_of p c))) (ap (is_among x) (sym (together n c)) ∙ h))
+      by (or_cases (x == c) (is_among x (flat_map (supertypes_within p n) (interfaces_of p c ++ superclass_of p c))) (ap (is_among x) (sym (together n c)) ∙ h))
       (climb n)
     where
       behind : IsIn (supertypes_within p n) (interfaces_of p c ++ superclass_of p c) x
@@ -188,7 +182,7 @@ module _ (p : Program) (rows : LoadedClasses) (are : AreLoadedClasses p rows) wh
   fewer_above c x has sub other = by (climbs c x has sub)
     where
       by : (x ≡ c) ⊎ IsBelow c x → length (supertypes p x) < length (supertypes p c)
-      by (inl same) = absurd (false_true (sym other ∙ (ap (λ k. c == k) same ∙ equals_itself c)))
+      by (inl same) = absurd (false≢true (sym other ∙ (ap (λ k. c == k) same ∙ equals_itself c)))
       by (inr below) = below.fewer
 
   pub apart : (c x y : ℕ) → holds_class rows c ≡ true → is_subtype p c x ≡ true → (c == x) ≡ false → is_subtype p x y ≡ true → (x == y) ≡ false

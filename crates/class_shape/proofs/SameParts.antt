@@ -1,7 +1,7 @@
 -- Names, members and headings are the same exactly where the tests say so.
-use Rattle.std.proofs.Common.{◌≡◌, ◌≢◌, ℕ, Bool, true, false, suc, List, [], ◌∷◌, map, length, Option, Some, None, refl, ap, ◌∙◌, rules}
-use Rattle.std.specs.Prelude.{◌==◌, ◌&&◌}
-use Rattle.std.proofs.lemmas.Bool.{and_parts, and_from, eqb-true, eq-eqb, false≢true}
+use Rattle.std.proofs.Common.{◌≡◌, ◌≢◌, ℕ, true, false, suc, List, [], ◌∷◌, map, length, Option, Some, None, refl, ap, ◌∙◌}
+use Rattle.std.specs.Prelude.{◌==◌}
+use Rattle.std.proofs.lemmas.Bool.{and_parts, and_from, eqb-true, eq-eqb, false≢true, and_right}
 use Rattle.std.proofs.lemmas.Slice.Eq.{bytes_eq-Decides}
 use Rattle.class_shape.specs.ClassShapes.{MemberShape, Heading}
 use Rattle.class_shape.specs.Comparing.{same_name, same_names, same_member, same_declared, same_counts, same_heading}
@@ -30,16 +30,13 @@ same_names-refl : (xs : List (Option (List ℕ))) → same_names xs xs ≡ true
 same_names-refl [] = refl
 same_names-refl (x ∷ xs) = and_from (same_name x x) (same_names xs xs) (same_name-refl x) (same_names-refl xs)
 
-and-false : (b c : Bool) → c ≡ false → (b && c) ≡ false
-and-false b c e = search rules
-
 -- lists of two lengths are not
 pub other_lengths : (f g : ℕ → Option (List ℕ)) (xs ys : List ℕ) → length xs ≢ length ys → same_names (map f xs) (map g ys) ≡ false
 other_lengths f g [] [] differ = absurd (differ refl)
 other_lengths f g [] (y ∷ ys) differ = refl
 other_lengths f g (x ∷ xs) [] differ = refl
 other_lengths f g (x ∷ xs) (y ∷ ys) differ =
-    and-false (same_name (f x) (g y)) (same_names (map f xs) (map g ys)) (other_lengths f g xs ys (λ e. differ (ap suc e)))
+    and_right (same_name (f x) (g y)) (same_names (map f xs) (map g ys)) (other_lengths f g xs ys (λ e. differ (ap suc e)))
 
 -- ---- members
 

@@ -1,15 +1,11 @@
 -- What holds of all that is read of words that no rule refuses.
-use Rattle.std.proofs.Common.{◌≡◌, ◌<◌, ◌≤◌, ◌||◌, ℕ, Bool, true, false, not, List, [], ◌∷◌, Option, Some, None, refl, ap, sym, ◌∙◌, rules, arith, length, suc, zero}
+use Rattle.std.proofs.Common.{◌≡◌, ◌<◌, ◌≤◌, ◌||◌, ℕ, Bool, true, false, not, List, [], ◌∷◌, Option, Some, None, refl, ap, sym, ◌∙◌, rules, arith, length, suc, zero, true≢false}
 use Rattle.std.specs.Prelude.{IfSome, ◌==◌, ◌&&◌, is_none, is_some, nat_le, nat_lt, if◌then◌else◌}
-use Rattle.std.proofs.lemmas.Bool.{leb-true, ne_eqb}
+use Rattle.std.proofs.lemmas.Bool.{leb-true, ne_eqb, or_parts}
 use Rattle.std.specs.Option.{option_map, option_and_then, option_map_or}
 use Rattle.plan_text.specs.Numbers.{greatest_steps, number_of}
 use Rattle.std.specs.Str.{chars}
 use Rattle.command_line.specs.Words.{IsGeneration, IsSound, Read, Said, budget_said, class_said, generated_main, generation_of, generation_said, greatest_seed, greatest_size, has_bad_budget, has_bad_count, has_bad_files, has_bad_generation, has_bad_run, has_bad_seed, has_bad_size, has_half, has_two_mains, has_two_plans, is_no_seed, is_no_size, is_refused, lacks_main, main_said, most_files, read_of, size_of}
-
-neither : (a b : Bool) → (a || b) ≡ false → (a ≡ false) × (b ≡ false)
-neither true b e = absurd (cc)
-neither false b e = (refl, e)
 
 within : (word : List ℕ) → IfSome (number_of greatest_steps word) (λ steps. steps ≤ greatest_steps)
 within word = search rules
@@ -31,9 +27,6 @@ no_other_main None plan e f = e
 no_other_main (Some main) plan e f = refl
 
 -- ---- files, and what is generated
-
-differ : true ≡ false → ⊥
-differ e = cc e
 
 seed_within : (word : List ℕ) → IfSome (number_of greatest_seed word) (λ seed. seed ≤ greatest_seed)
 seed_within word = search rules
@@ -79,7 +72,7 @@ own_main None main e = absurd (cc e)
 
 no_files : (n : List (List ℕ)) → not (length n == 0) ≡ false → n ≡ []
 no_files [] e = refl
-no_files (x ∷ xs) e = absurd (differ (sym (ap not (ne_eqb (suc (length xs)) 0 (omega arith))) ∙ e))
+no_files (x ∷ xs) e = absurd (true≢false (sym (ap not (ne_eqb (suc (length xs)) 0 (omega arith))) ∙ e))
 
 own_files : (seed : Option (List ℕ)) (s : Said) → (if is_some seed then not (length s.files == 0) else has_bad_count s) ≡ false
     → is_some seed ≡ true → s.files ≡ []
@@ -92,7 +85,7 @@ said_within P f (Some w) each = each w
 
 none_there : (n : ℕ) → not (n == 0) ≡ false → n ≤ most_files
 none_there zero h = omega arith
-none_there (suc n) h = absurd (differ (sym (ap not (ne_eqb (suc n) 0 (omega arith))) ∙ h))
+none_there (suc n) h = absurd (true≢false (sym (ap not (ne_eqb (suc n) 0 (omega arith))) ∙ h))
 
 -- the files are few, and there are some where there is no seed
 sound_files : (s : Said) → has_bad_files s ≡ false → (is_none s.seed ≡ true → 0 < length s.files) × (length s.files ≤ most_files)
@@ -101,7 +94,7 @@ sound_files s fine = by s.seed fine
     by : (seed : Option (List ℕ)) → (if is_some seed then not (length s.files == 0) else has_bad_count s) ≡ false → (is_none seed ≡ true → 0 < length s.files) × (length s.files ≤ most_files)
     by (Some seed) e = (λ none. absurd (cc none), none_there (length s.files) e)
     by None e =
-        let files = neither (length s.files == 0) (nat_lt most_files (length s.files)) e in
+        let files = or_parts (length s.files == 0) (nat_lt most_files (length s.files)) e in
         (λ none. some (length s.files) files.0, few (length s.files) files.1)
 
 -- what is not generated has no seed, where the words are no half
@@ -118,13 +111,13 @@ no_seed (Some seed) (Some size) half seed_fine size_fine none = absurd (both (nu
 
 pub sound : (s : Said) → is_refused s ≡ false → IsSound (read_of s)
 sound s fine =
-    let all = neither (has_bad_run s) (has_bad_generation s) fine in
-    let parts = neither (has_two_plans s || has_bad_files s) (has_bad_budget s || lacks_main s) all.0 in
-    let first = neither (has_two_plans s) (has_bad_files s) parts.0 in
-    let rest = neither (has_bad_budget s) (lacks_main s) parts.1 in
-    let ways = neither (has_half s || has_two_mains s) (has_bad_seed s || has_bad_size s) all.1 in
-    let half = neither (has_half s) (has_two_mains s) ways.0 in
-    let numbers = neither (has_bad_seed s) (has_bad_size s) ways.1 in
+    let all = or_parts (has_bad_run s) (has_bad_generation s) fine in
+    let parts = or_parts (has_two_plans s || has_bad_files s) (has_bad_budget s || lacks_main s) all.0 in
+    let first = or_parts (has_two_plans s) (has_bad_files s) parts.0 in
+    let rest = or_parts (has_bad_budget s) (lacks_main s) parts.1 in
+    let ways = or_parts (has_half s || has_two_mains s) (has_bad_seed s || has_bad_size s) all.1 in
+    let half = or_parts (has_half s) (has_two_mains s) ways.0 in
+    let numbers = or_parts (has_bad_seed s) (has_bad_size s) ways.1 in
     let files = sound_files s first.1 in
     record {
       files = (λ none. files.0 (no_seed s.seed s.size half.0 numbers.0 numbers.1 none), files.1);

@@ -4,6 +4,7 @@ use Rattle.std.specs.Prelude.{encode_utf8, if◌then◌else◌, slice_get}
 use Rattle.std.specs.Option.{option_map_or}
 use Rattle.std.specs.List.{list_all}
 use Rattle.std.specs.Str.{bytes_eq, chars}
+use Rattle.std.proofs.lemmas.Bool.{and_parts}
 use Rattle.clap.specs.Lexer.{long_of, short_of}
 use Rattle.clap.specs.Facts.{parser_of_value, unwrap_or_range}
 use Rattle.clap.specs.ValueTests.{accepts}
@@ -192,10 +193,6 @@ good_default a = is_empty a.defaults || none (given_default_fault a a.defaults)
 abbrev good_defaults : List Rule → Bool
 good_defaults = list_all good_default
 
-both : (a b : Bool) → (a && b) ≡ true → (a ≡ true) × (b ≡ true)
-both true b e = (refl, e)
-both false b e = absurd (cc)
-
 silent_default : (has bare : Bool) (ks : Kinds) → (bare || none ks) ≡ true → true ≡ none (if has || bare then [] else ks)
 silent_default true bare ks e = refl
 silent_default false true ks e = refl
@@ -205,7 +202,7 @@ of_defaults : (rows : List Row) (rules : List Rule) → good_defaults rules ≡ 
 unfolding defaults_fault
 of_defaults rows [] e = refl
 of_defaults rows (a ∷ rest) e =
-    let parts = both (good_default a) (good_defaults rest) e in
+    let parts = and_parts (good_default a) (good_defaults rest) e in
     two true true (default_fault rows a) (defaults_fault (with_default rows a) rest)
     (silent_default (has_row a.id rows) (is_empty a.defaults) (given_default_fault a a.defaults) parts.0) (of_defaults (with_default rows a) rest parts.1)
 

@@ -1,8 +1,9 @@
 -- The topmost slots, by their places, and what they hold.
-use Rattle.std.proofs.Common.{◌≡◌, ℕ, zero, suc, false, true, ◌+◌, ◌-◌, ◌≤◌, ◌<◌, List, [], ◌∷◌, ◌++◌, length, take, drop, refl, sym, ap, ◌∙◌, arith}
+use Rattle.std.proofs.Common.{◌≡◌, ℕ, zero, suc, ◌+◌, ◌-◌, ◌≤◌, ◌<◌, List, [], ◌∷◌, ◌++◌, length, take, drop, refl, sym, ap, ◌∙◌, arith}
 use Rattle.std.specs.Prelude.{reverse, slice_get, Option, Some, None}
 use Rattle.std.specs.Option.{option_flatten}
 use Rattle.std.proofs.lemmas.List.{reverse-append, append_assoc, append-nil, length-drop, length-reverse, length-take-le}
+use Rattle.std.proofs.lemmas.Bool.{false≢true}
 use Rattle.heap_objects.specs.declared.Value.{Value}
 use Rattle.heap_objects.specs.declared.Value.TheVariants.{Int, Long, Ref, Addr}
 use Rattle.frame_stack.specs.Cuts.{operands_of, AreOperands}
@@ -52,9 +53,6 @@ module _ {X : Type 0} where
 some-none : {A : Type 0} {x : A} → None ≡ Some x → ⊥
 some-none e = cc
 
-not-long : false ≡ true → ⊥
-not-long e = cc
-
 pub int-is : (slots : List (Option Value)) → AreOperands slots → int_in (slice_get slots 0) ≡ int_of (operands_of slots)
 int-is [] h = refl
 int-is (Some (Int n) ∷ slots) h = refl
@@ -62,10 +60,10 @@ int-is (Some (Long n) ∷ slots) h = refl
 int-is (Some (Ref n) ∷ slots) h = refl
 int-is (Some (Addr n) ∷ slots) h = refl
 int-is (None ∷ []) h = absurd h
-int-is (None ∷ Some (Int n) ∷ slots) h = absurd (not-long h.0)
+int-is (None ∷ Some (Int n) ∷ slots) h = absurd (false≢true h.0)
 int-is (None ∷ Some (Long n) ∷ slots) h = refl
-int-is (None ∷ Some (Ref n) ∷ slots) h = absurd (not-long h.0)
-int-is (None ∷ Some (Addr n) ∷ slots) h = absurd (not-long h.0)
+int-is (None ∷ Some (Ref n) ∷ slots) h = absurd (false≢true h.0)
+int-is (None ∷ Some (Addr n) ∷ slots) h = absurd (false≢true h.0)
 int-is (None ∷ None ∷ slots) h = absurd h
 
 pub reference-is : (slots : List (Option Value)) → AreOperands slots → reference_in (slice_get slots 0) ≡ reference_of (operands_of slots)
@@ -75,10 +73,10 @@ reference-is (Some (Long n) ∷ slots) h = refl
 reference-is (Some (Ref n) ∷ slots) h = refl
 reference-is (Some (Addr n) ∷ slots) h = refl
 reference-is (None ∷ []) h = absurd h
-reference-is (None ∷ Some (Int n) ∷ slots) h = absurd (not-long h.0)
+reference-is (None ∷ Some (Int n) ∷ slots) h = absurd (false≢true h.0)
 reference-is (None ∷ Some (Long n) ∷ slots) h = refl
-reference-is (None ∷ Some (Ref n) ∷ slots) h = absurd (not-long h.0)
-reference-is (None ∷ Some (Addr n) ∷ slots) h = absurd (not-long h.0)
+reference-is (None ∷ Some (Ref n) ∷ slots) h = absurd (false≢true h.0)
+reference-is (None ∷ Some (Addr n) ∷ slots) h = absurd (false≢true h.0)
 reference-is (None ∷ None ∷ slots) h = absurd h
 
 -- the two on top, where each is of its kind
@@ -90,19 +88,19 @@ ints-are (Some (Int n) ∷ Some (Long m) ∷ slots) h = refl
 ints-are (Some (Int n) ∷ Some (Ref m) ∷ slots) h = refl
 ints-are (Some (Int n) ∷ Some (Addr m) ∷ slots) h = refl
 ints-are (Some (Int n) ∷ None ∷ []) h = absurd h.1
-ints-are (Some (Int n) ∷ None ∷ Some (Int m) ∷ slots) h = absurd (not-long h.1.0)
+ints-are (Some (Int n) ∷ None ∷ Some (Int m) ∷ slots) h = absurd (false≢true h.1.0)
 ints-are (Some (Int n) ∷ None ∷ Some (Long m) ∷ slots) h = refl
-ints-are (Some (Int n) ∷ None ∷ Some (Ref m) ∷ slots) h = absurd (not-long h.1.0)
-ints-are (Some (Int n) ∷ None ∷ Some (Addr m) ∷ slots) h = absurd (not-long h.1.0)
+ints-are (Some (Int n) ∷ None ∷ Some (Ref m) ∷ slots) h = absurd (false≢true h.1.0)
+ints-are (Some (Int n) ∷ None ∷ Some (Addr m) ∷ slots) h = absurd (false≢true h.1.0)
 ints-are (Some (Int n) ∷ None ∷ None ∷ slots) h = absurd h.1
 ints-are (Some (Long n) ∷ slots) h = refl
 ints-are (Some (Ref n) ∷ slots) h = refl
 ints-are (Some (Addr n) ∷ slots) h = refl
 ints-are (None ∷ []) h = absurd h
-ints-are (None ∷ Some (Int m) ∷ slots) h = absurd (not-long h.0)
+ints-are (None ∷ Some (Int m) ∷ slots) h = absurd (false≢true h.0)
 ints-are (None ∷ Some (Long m) ∷ slots) h = refl
-ints-are (None ∷ Some (Ref m) ∷ slots) h = absurd (not-long h.0)
-ints-are (None ∷ Some (Addr m) ∷ slots) h = absurd (not-long h.0)
+ints-are (None ∷ Some (Ref m) ∷ slots) h = absurd (false≢true h.0)
+ints-are (None ∷ Some (Addr m) ∷ slots) h = absurd (false≢true h.0)
 ints-are (None ∷ None ∷ slots) h = absurd h
 
 -- the two on top, where each is of its kind
@@ -116,17 +114,17 @@ references-are (Some (Ref n) ∷ Some (Long m) ∷ slots) h = refl
 references-are (Some (Ref n) ∷ Some (Ref m) ∷ slots) h = refl
 references-are (Some (Ref n) ∷ Some (Addr m) ∷ slots) h = refl
 references-are (Some (Ref n) ∷ None ∷ []) h = absurd h.1
-references-are (Some (Ref n) ∷ None ∷ Some (Int m) ∷ slots) h = absurd (not-long h.1.0)
+references-are (Some (Ref n) ∷ None ∷ Some (Int m) ∷ slots) h = absurd (false≢true h.1.0)
 references-are (Some (Ref n) ∷ None ∷ Some (Long m) ∷ slots) h = refl
-references-are (Some (Ref n) ∷ None ∷ Some (Ref m) ∷ slots) h = absurd (not-long h.1.0)
-references-are (Some (Ref n) ∷ None ∷ Some (Addr m) ∷ slots) h = absurd (not-long h.1.0)
+references-are (Some (Ref n) ∷ None ∷ Some (Ref m) ∷ slots) h = absurd (false≢true h.1.0)
+references-are (Some (Ref n) ∷ None ∷ Some (Addr m) ∷ slots) h = absurd (false≢true h.1.0)
 references-are (Some (Ref n) ∷ None ∷ None ∷ slots) h = absurd h.1
 references-are (Some (Addr n) ∷ slots) h = refl
 references-are (None ∷ []) h = absurd h
-references-are (None ∷ Some (Int m) ∷ slots) h = absurd (not-long h.0)
+references-are (None ∷ Some (Int m) ∷ slots) h = absurd (false≢true h.0)
 references-are (None ∷ Some (Long m) ∷ slots) h = refl
-references-are (None ∷ Some (Ref m) ∷ slots) h = absurd (not-long h.0)
-references-are (None ∷ Some (Addr m) ∷ slots) h = absurd (not-long h.0)
+references-are (None ∷ Some (Ref m) ∷ slots) h = absurd (false≢true h.0)
+references-are (None ∷ Some (Addr m) ∷ slots) h = absurd (false≢true h.0)
 references-are (None ∷ None ∷ slots) h = absurd h
 
 -- the two on top, where each is of its kind
@@ -138,19 +136,19 @@ reference-and-int-are (Some (Int n) ∷ Some (Long m) ∷ slots) h = refl
 reference-and-int-are (Some (Int n) ∷ Some (Ref m) ∷ slots) h = refl
 reference-and-int-are (Some (Int n) ∷ Some (Addr m) ∷ slots) h = refl
 reference-and-int-are (Some (Int n) ∷ None ∷ []) h = absurd h.1
-reference-and-int-are (Some (Int n) ∷ None ∷ Some (Int m) ∷ slots) h = absurd (not-long h.1.0)
+reference-and-int-are (Some (Int n) ∷ None ∷ Some (Int m) ∷ slots) h = absurd (false≢true h.1.0)
 reference-and-int-are (Some (Int n) ∷ None ∷ Some (Long m) ∷ slots) h = refl
-reference-and-int-are (Some (Int n) ∷ None ∷ Some (Ref m) ∷ slots) h = absurd (not-long h.1.0)
-reference-and-int-are (Some (Int n) ∷ None ∷ Some (Addr m) ∷ slots) h = absurd (not-long h.1.0)
+reference-and-int-are (Some (Int n) ∷ None ∷ Some (Ref m) ∷ slots) h = absurd (false≢true h.1.0)
+reference-and-int-are (Some (Int n) ∷ None ∷ Some (Addr m) ∷ slots) h = absurd (false≢true h.1.0)
 reference-and-int-are (Some (Int n) ∷ None ∷ None ∷ slots) h = absurd h.1
 reference-and-int-are (Some (Long n) ∷ slots) h = refl
 reference-and-int-are (Some (Ref n) ∷ slots) h = refl
 reference-and-int-are (Some (Addr n) ∷ slots) h = refl
 reference-and-int-are (None ∷ []) h = absurd h
-reference-and-int-are (None ∷ Some (Int m) ∷ slots) h = absurd (not-long h.0)
+reference-and-int-are (None ∷ Some (Int m) ∷ slots) h = absurd (false≢true h.0)
 reference-and-int-are (None ∷ Some (Long m) ∷ slots) h = refl
-reference-and-int-are (None ∷ Some (Ref m) ∷ slots) h = absurd (not-long h.0)
-reference-and-int-are (None ∷ Some (Addr m) ∷ slots) h = absurd (not-long h.0)
+reference-and-int-are (None ∷ Some (Ref m) ∷ slots) h = absurd (false≢true h.0)
+reference-and-int-are (None ∷ Some (Addr m) ∷ slots) h = absurd (false≢true h.0)
 reference-and-int-are (None ∷ None ∷ slots) h = absurd h
 
 no-first : {A B : Type 0} (x : Option B) → both_in {A = A} None x ≡ None

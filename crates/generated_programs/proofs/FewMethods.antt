@@ -1,8 +1,8 @@
 -- A generated program has few methods: none of its classes, and none of the built-in ones, has more than a hundred.
 use Rattle.std.proofs.Common.{◌≡◌, ℕ, suc, ◌+◌, ◌*◌, ◌≤◌, Bool, true, false, cond, List, [], ◌∷◌, ◌++◌, length, map, refl, ◌∙◌, subst, sym, length-append, arith}
-use Rattle.std.specs.Prelude.{is_some, nat_le, ◌&&◌}
+use Rattle.std.specs.Prelude.{is_some, nat_le}
 use Rattle.std.specs.List.{AllByRecursion, list_all}
-use Rattle.std.proofs.lemmas.Bool.{leb-true}
+use Rattle.std.proofs.lemmas.Bool.{leb-true, and_parts}
 use Rattle.const_pool.specs.declared.class.ClassFile.{ClassFile}
 use Rattle.const_pool.specs.declared.class.Member.{Member}
 use Rattle.const_pool.specs.declared.pool.Const.{Const}
@@ -58,14 +58,10 @@ methods-count d = members-count _ [] d.methods ∙ nothing-more (length d.method
 abbrev declares_few : ClassDeclaration → Bool
 declares_few d = nat_le (length d.methods) 100
 
-and-parts : (a b : Bool) → (a && b) ≡ true → (a ≡ true) × (b ≡ true)
-and-parts true b h = (refl, h)
-and-parts false b h = absurd cc
-
 files-few : (ds : List ClassDeclaration) → list_all declares_few ds ≡ true → AllByRecursion HasFewMethods (map class_file_of ds)
 files-few [] few = tt
 files-few (d ∷ ds) few =
-    let parts = and-parts (declares_few d) (list_all declares_few ds) few in
+    let parts = and_parts (declares_few d) (list_all declares_few ds) few in
     (subst (λ n. n ≤ 100) (sym (methods-count d)) (leb-true (length d.methods) 100 parts.0), files-few ds parts.1)
 
 declared-few : list_all declares_few built_in_classes ≡ true

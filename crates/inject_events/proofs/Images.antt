@@ -3,7 +3,7 @@ use Rattle.std.proofs.Common.{◌≡◌, ℕ, suc, ◌+◌, ◌<◌, ◌≤◌, 
 use Rattle.std.specs.Prelude.{map, is_some, not, codes, ◌&&◌, ◌||◌, ◌==◌, IfSome, MatchBool, Result, Ok, Err, IfOk}
 use Rattle.std.specs.List.{list_any}
 use Rattle.std.specs.Option.{option_map_or}
-use Rattle.std.proofs.lemmas.Bool.{ltb-false}
+use Rattle.std.proofs.lemmas.Bool.{ltb-false, and_right}
 use Rattle.std.proofs.lemmas.Slice.Eq.{bytes_eq-Decides}
 use Rattle.const_pool.specs.declared.class.ClassFile.{ClassFile}
 use Rattle.const_pool.specs.declared.class.Member.{Member}
@@ -93,10 +93,6 @@ frames-alone false false true f na nb nt = sym (nt refl)
 frames-alone false false false true na nb nt = refl
 frames-alone false false false false na nb nt = refl
 
-unframed : (framed b : Bool) → b ≡ false → (framed && b) ≡ false
-unframed true b none = none
-unframed false b none = refl
-
 table-of-frames : (framed : Bool) (found : Option (List ℕ))
     → (let is : List ℕ → Bool = λ text. option_map_or (λ (t : List ℕ). same_text t text) found false in
     is_frame_table (table_by (is lines) (is variables) (is types) (framed && is frames)) ≡ (framed && is frames))
@@ -104,9 +100,9 @@ table-of-frames true None = refl
 table-of-frames false None = refl
 table-of-frames framed (Some text) =
     frames-alone (same_text text lines) (same_text text variables) (same_text text types) (framed && same_text text frames)
-    (λ is. unframed framed (same_text text frames) (two-texts text lines frames refl is))
-    (λ is. unframed framed (same_text text frames) (two-texts text variables frames refl is))
-    (λ is. unframed framed (same_text text frames) (two-texts text types frames refl is))
+    (λ is. and_right framed (same_text text frames) (two-texts text lines frames refl is))
+    (λ is. and_right framed (same_text text frames) (two-texts text variables frames refl is))
+    (λ is. and_right framed (same_text text frames) (two-texts text types frames refl is))
 
 frames-there : (c : ClassFile) (raws : List Raw) → has_frames (setting_of c) raws ≡ list_any (λ (raw : Raw). is_stack_map_table c raw.name) raws
 frames-there c [] = refl

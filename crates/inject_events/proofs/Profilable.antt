@@ -1,10 +1,11 @@
 -- Whether a class can be rewritten does not depend on the numbers of its methods, nor on which marks other than Off those with Code
 -- have: all probes have the same lengths.
 use Rattle.std.proofs.Common.{◌≡◌, ◌≢◌, ℕ, ◌+◌, ◌*◌, Bool, true, false, cond, ltb, List, [], ◌∷◌, ◌++◌, length, Option, Some, None, refl, sym, ap, subst, ◌∙◌, arith}
-use Rattle.std.specs.Prelude.{map, is_some, ◌&&◌, Result, Err}
+use Rattle.std.specs.Prelude.{map, is_some, Result, Err}
 use Rattle.std.specs.List.{flat_map}
 use Rattle.std.specs.Option.{option_or}
 use Rattle.std.proofs.lemmas.Option.{none-some}
+use Rattle.std.proofs.lemmas.Bool.{and_parts}
 use Rattle.const_pool.specs.declared.class.ClassFile.{ClassFile}
 use Rattle.const_pool.specs.declared.class.CodeAttribute.{CodeAttribute}
 use Rattle.const_pool.specs.declared.class.Member.{Member}
@@ -199,15 +200,11 @@ off-uncoded Plain false has off = absurd (let found = has refl in cc)
 off-uncoded Root true has off = absurd cc
 off-uncoded Root false has off = absurd (let found = has refl in cc)
 
-both : (a b : Bool) → (a && b) ≡ true → (a ≡ true) × (b ≡ true)
-both true b is = (refl, is)
-both false b is = absurd cc
-
 off-marks : (marks : List Mark) (methods : List Member) → length marks ≡ length methods → MarkedHaveCode marks methods → all_off (map plain_mark methods) ≡ true → all_off marks ≡ true
 off-marks [] methods counted have off = refl
 off-marks (mark ∷ marks) [] counted have off = absurd (omega (arith, counted))
 off-marks (mark ∷ marks) (m ∷ methods) counted have off =
-    let parts = both (is_off (plain_mark m)) (all_off (map plain_mark methods)) off in
+    let parts = and_parts (is_off (plain_mark m)) (all_off (map plain_mark methods)) off in
     rw (off-uncoded mark (is_some (code_of m)) have.0 parts.0) (off-marks marks methods (omega (arith, counted)) have.1 parts.1)
 
 pub refused_of-profilable : (c : ClassFile) (first : ℕ) (marks : List Mark) → length marks ≡ length c.methods → MarkedHaveCode marks c.methods → IsProfilable c → refused_of c first marks ≡ None

@@ -1,8 +1,8 @@
 -- What it means that a version passes no limit.
 use Rattle.std.proofs.Common.{◌≡◌, ℕ, ◌≤◌, Bool, true, false, cond, eqb, length, Option, Some, None, refl}
-use Rattle.std.specs.Prelude.{◌&&◌, ◌||◌, ◌==◌}
+use Rattle.std.specs.Prelude.{◌&&◌, ◌==◌}
 use Rattle.std.specs.Option.{option_or}
-use Rattle.std.proofs.lemmas.Bool.{ltb-false}
+use Rattle.std.proofs.lemmas.Bool.{ltb-false, or_parts}
 use Rattle.const_pool.specs.declared.class.CodeAttribute.{CodeAttribute}
 use Rattle.const_pool.specs.ClassFile.{code_bytes}
 use Rattle.jvm_model.specs.declared.event.Mark.{Mark}
@@ -23,10 +23,6 @@ pub none_of : {A : Type 0} (b : Bool) (x : A) (rest : Option A) → cond b (Some
 none_of false x rest none = (refl, none)
 none_of true x rest none = absurd cc
 
-pub neither_is : (a b : Bool) → (a || b) ≡ false → (a ≡ false) × (b ≡ false)
-neither_is false b none = (refl, none)
-neither_is true b none = absurd cc
-
 pub and_fails : (a b : Bool) → (a && b) ≡ false → a ≡ true → b ≡ false
 and_fails true b none is = none
 and_fails false b none is = absurd cc
@@ -45,7 +41,7 @@ HasRoom-none s old none =
     let a = none_of (eqb old.max_stack 65535) cause.Stack (cond (eqb (length old.handlers) 65535) (Some cause.Handlers) frames) none in
     let b = none_of (eqb (length old.handlers) 65535) cause.Handlers frames a.1 in
     let c = none_of (are_frames_full s old.attributes) cause.Frames None b.1 in
-    let d = neither_is (has_full_table s old.attributes) (lacks_frames s old.attributes && eqb (length old.attributes) 65535) c.0 in
+    let d = or_parts (has_full_table s old.attributes) (lacks_frames s old.attributes && eqb (length old.attributes) 65535) c.0 in
     record { stack = a.0; handlers = b.0; full = d.0; added = d.1 }
 
 pub record IsMadeWhole (s : Setting) (number : ℕ) (mark : Mark) (old : CodeAttribute) : Type 0 where

@@ -2,7 +2,7 @@
 use Rattle.std.proofs.Common.{◌≡◌, ℕ, ◌<◌, get_or, true, false, List, [], ◌∷◌, ◌++◌, length, Option, Some, None, Result, Ok, Err, refl, sym, ap, subst, ◌∙◌, arith}
 use Rattle.std.specs.Prelude.{All, map, Contains, ◌&&◌, ◌==◌, is_ok}
 use Rattle.std.specs.List.{AllByRecursion}
-use Rattle.std.proofs.lemmas.Bool.{lt-ltb, le-leb, eqb-false}
+use Rattle.std.proofs.lemmas.Bool.{lt-ltb, le-leb, eqb-false, or_parts}
 use Rattle.std.proofs.lemmas.List.{length-map}
 use Rattle.std.proofs.lemmas.List.Elements.{All-contains, All-contains_itself, All-from_recursion, Contains-append_left, Contains-append_right}
 use Rattle.const_pool.specs.declared.class.Raw.{Raw}
@@ -36,7 +36,7 @@ use Rattle.jvm_model.specs.Rewriting.ImageTables.{moved_or_kept, moved_lines, mo
 use Rattle.inject_events.specs.Tables.{table_of, version_frames, framed_or_kept, moved_frame_table, moved_table, is_frame_table, frame_count, is_full_table, has_full_table}
 use Rattle.inject_events.proofs.InstrsIn.{instrs_in-is, rise-in}
 use Rattle.inject_events.proofs.Laying.{instrs_of-groups}
-use Rattle.inject_events.proofs.Rooms.{IsMadeWhole-none, neither_is}
+use Rattle.inject_events.proofs.Rooms.{IsMadeWhole-none}
 
 -- ---- rows
 
@@ -140,7 +140,7 @@ all-moved : (s : Setting) (bytes : List ℕ) (homes : Homes) (raws : List Raw) �
     → AllByRecursion (λ (raw : Raw). IsSoundTable (starts_of (instrs_in bytes)) (table_of s raw.name) raw.bytes) raws → AllByRecursion (IsMovedRaw s homes (length bytes)) raws
 all-moved s bytes homes [] has room sound = tt
 all-moved s bytes homes (raw ∷ rest) has room sound =
-    let both = neither_is (is_full_table s raw) (has_full_table s rest) room in
+    let both = or_parts (is_full_table s raw) (has_full_table s rest) room in
     (moved-sound s bytes homes (table_of s raw.name) raw.bytes has both.0 sound.0, all-moved s bytes homes rest has both.1 sound.1)
 
 pub moves-sound : (s : Setting) → MovesSoundTables s

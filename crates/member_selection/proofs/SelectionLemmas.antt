@@ -2,6 +2,7 @@
 use Rattle.std.proofs.Common.{◌≡◌, ℕ, Bool, zero, suc, List, [], ◌∷◌, ◌++◌, Option, Some, None, sym, subst, ap, ◌∙◌}
 use Rattle.std.specs.Prelude.{slice_get, slice_set}
 use Rattle.std.specs.Prelude.{◌==◌, IfSome, true, false, Result, Ok, Err, if◌then◌else◌}
+use Rattle.std.proofs.lemmas.Option.{none-some}
 use Rattle.const_pool.specs.References.{Reference}
 use Rattle.class_linker.specs.Linkers.{LinkerView}
 use Rattle.heap_objects.specs.declared.datum.Datum.{Datum}
@@ -27,9 +28,6 @@ use Rattle.member_selection.specs.declared.selections.Selection.{Selection}
 use Rattle.member_selection.specs.declared.declared_member.DeclaredMember.{DeclaredMember}
 use Rattle.member_selection.specs.Selections.{AreSelections, IsSelection, Slots, selecting_by, selection_for, site_for}
 
-no-selection : {A : Type 0} (s : A) → None ≡ Some s → ⊥
-no-selection s e = cc
-
 same-selection : (a b : Selection) → Some (Some a) ≡ Some (Some b) → b ≡ a
 same-selection a b e = cc
 
@@ -50,11 +48,11 @@ pub set_selection : (p : Program) (xs : Slots) (k : ℕ) (s : Selection) → Are
 set_selection p xs k s are is = record { each = set-slot p xs k s are.each is }
 
 pub no_selections : (p : Program) → AreSelections p []
-no_selections p = record { each = λ at s e. absurd (no-selection (Some s) e) }
+no_selections p = record { each = λ at s e. absurd (none-some (Some s) e) }
 
 free-slot : (p : Program) (xs : Slots) → AllOf p xs → AllOf p (xs ++ None ∷ [])
 free-slot p [] are zero s e = absurd (let bad : Some None ≡ Some (Some s) → ⊥ = λ e. cc in bad e)
-free-slot p [] are (suc at) s e = absurd (no-selection (Some s) e)
+free-slot p [] are (suc at) s e = absurd (none-some (Some s) e)
 free-slot p (x ∷ xs) are zero s e = are zero s e
 free-slot p (x ∷ xs) are (suc at) s e = free-slot p xs (tail-of p x xs are) at s e
 

@@ -2,8 +2,9 @@
 use Rattle.std.proofs.Common.{◌≡◌, ◌≢◌, ◌≤◌, ◌<◌, ◌++◌, ℕ, zero, suc, Bool, true, false, List, [], ◌∷◌, length, Option, Some, None, refl, sym, ap, subst, ◌∙◌, arith}
 use Rattle.std.specs.Prelude.{not, ◌==◌, ◌&&◌, ◌||◌, slice_get, slice_set, if◌then◌else◌}
 use Rattle.std.specs.Option.{IfSome, option_map}
-use Rattle.std.proofs.lemmas.Bool.{eqb-true, eq-eqb, ne_eqb}
+use Rattle.std.proofs.lemmas.Bool.{eqb-true, eq-eqb, ne_eqb, false≢true}
 use Rattle.std.proofs.lemmas.List.Folds.{list_any-append}
+use Rattle.std.proofs.lemmas.Option.{none-some, same_Some}
 use Rattle.frame_stack.specs.FrameLists.{PlacedFrame, pins_of}
 use Rattle.method_versions.specs.declared.versions.Held.{Held}
 use Rattle.method_versions.specs.Tables.{AreCurrent, held_besides, held_in, is_listed, is_number, is_old, is_superseded_in, method_in}
@@ -22,17 +23,8 @@ set-other (y ∷ xs) zero (suc j) n apart = refl
 set-other (y ∷ xs) (suc i) zero n apart = refl
 set-other (y ∷ xs) (suc i) (suc j) n apart = set-other xs i j n (λ same. apart (ap suc same))
 
-false-true : false ≡ true → ⊥
-false-true e = cc
-
-none-one : {X : Type 0} (x : X) → None ≡ Some x → ⊥
-none-one x e = cc
-
-one-same : (a b : ℕ) → Some a ≡ Some b → a ≡ b
-one-same a b e = cc
-
 pub apart-by : (a b : ℕ) → (a == b) ≡ false → a ≢ b
-apart-by a b e same = false-true (sym e ∙ eq-eqb a b same)
+apart-by a b e same = false≢true (sym e ∙ eq-eqb a b same)
 
 -- what is held at a number behind it
 abbrev pub held_after : {T : Type 0} → List PlacedFrame → ℕ → ℕ → Held T → List (Option (Held T)) → ℕ → Option (Held T)
@@ -47,7 +39,7 @@ module _ {T : Type 0} (before : List (Option (Held T))) (current : List ℕ) (me
   former-held = subst (λ (o : Option ℕ). IfSome o (λ n. method_in before n ≡ Some method)) here (are method)
 
   held-apart : (n m : ℕ) → method_in before n ≡ Some m → n ≢ new
-  held-apart n m is same = none-one m (sym (ap (option_map (λ (h : Held T). h.method)) (ap (held_in before) same ∙ vacant)) ∙ is)
+  held-apart n m is same = none-some m (sym (ap (option_map (λ (h : Held T). h.method)) (ap (held_in before) same ∙ vacant)) ∙ is)
 
   pub former-apart : former ≢ new
   former-apart = held-apart former method former-held
@@ -73,7 +65,7 @@ module _ {T : Type 0} (before : List (Option (Held T))) (current : List ℕ) (me
       there None apart is own = tt
       there (Some n) apart is own =
           ap (option_map (λ (h : Held T). h.method))
-          (at-old n (held-apart n m own) (stays-other n (λ same. apart (one-same m method (sym own ∙ (ap (method_in before) (sym same) ∙ former-held))))))
+          (at-old n (held-apart n m own) (stays-other n (λ same. apart (same_Some m method (sym own ∙ (ap (method_in before) (sym same) ∙ former-held))))))
           ∙ own
 
       by : (b : Bool) → (m == method) ≡ b → IfSome (slice_get next m) (λ n. method_in after n ≡ Some m)

@@ -3,16 +3,13 @@ use Rattle.std.proofs.Common.{◌≡◌, ◌≤◌, ◌++◌, ℕ, Bool, true, f
 use Rattle.std.specs.Prelude.{not, ◌==◌, ◌&&◌, ◌||◌, filter, slice_get, if◌then◌else◌}
 use Rattle.std.specs.List.{list_all}
 use Rattle.std.specs.Option.{IfSome, option_map}
-use Rattle.std.proofs.lemmas.Bool.{eqb-true, eq-eqb, ne_eqb}
+use Rattle.std.proofs.lemmas.Bool.{eqb-true, eq-eqb, ne_eqb, false≢true}
 use Rattle.std.proofs.lemmas.List.Folds.{list_any-append}
 use Rattle.frame_stack.specs.FrameLists.{PlacedFrame, pins_of}
 use Rattle.method_versions.specs.declared.versions.Held.{Held}
 use Rattle.method_versions.specs.Tables.{AreCurrent, held_but, held_in, is_listed, is_number, is_old, is_superseded_in, method_in}
 
 -- ---- one number after the other
-
-false-true : false ≡ true → ⊥
-false-true e = cc
 
 module _ {T : Type 0} (fs : List PlacedFrame) (slots : List (Option (Held T))) where
   listed-one : (seen : List ℕ) (n k : ℕ) → is_listed k (seen ++ n ∷ []) ≡ (is_listed k seen || ((n == k) || false))
@@ -27,7 +24,7 @@ module _ {T : Type 0} (fs : List PlacedFrame) (slots : List (Option (Held T))) w
     where
       flipped : (b : Bool) → (n == k) ≡ b → (k == n) ≡ b
       flipped true e = eq-eqb k n (sym (eqb-true n k e))
-      flipped false e = ne_eqb k n (λ same. false-true (sym e ∙ eq-eqb n k (sym same)))
+      flipped false e = ne_eqb k n (λ same. false≢true (sym e ∙ eq-eqb n k (sym same)))
 
       joined : Bool → Bool → Bool → Bool → Option (Held T)
       joined a b c d = if a && b then None else if c && d then None else held_in slots k
@@ -135,6 +132,6 @@ none-free fs (n ∷ rest) k all = by (none-free fs rest k) (n == k) refl (pins_o
 
   by : (list_all (λ m. not (pins_of m fs == 0)) rest ≡ true → (is_listed k rest && pins_of k fs == 0) ≡ false) → (b : Bool) → (n == k) ≡ b
       → (c : Bool) → (pins_of n fs == 0) ≡ c → (((n == k) || is_listed k rest) && pins_of k fs == 0) ≡ false
-  by more b e true d = absurd (false-true (first true d))
+  by more b e true d = absurd (false≢true (first true d))
   by more true e false d = ap (λ z. (z || is_listed k rest) && pins_of k fs == 0) e ∙ (ap (λ m. pins_of m fs == 0) (sym (eqb-true n k e)) ∙ d)
   by more false e false d = ap (λ z. (z || is_listed k rest) && pins_of k fs == 0) e ∙ more (first false d)

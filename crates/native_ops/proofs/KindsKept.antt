@@ -2,6 +2,7 @@
 use Rattle.std.proofs.Common.{◌≡◌, ℕ, zero, suc, ◌+◌, ◌-◌, ◌≤◌, pos, Bool, true, false, List, [], ◌∷◌, ◌++◌, length, if◌then◌else◌, refl, sym, subst, ap, ◌∙◌, arith}
 use Rattle.std.specs.Prelude.{⊤, Some, None, nat_lt, is_some, slice_get, ◌==◌}
 use Rattle.std.specs.Option.{option_map}
+use Rattle.std.proofs.lemmas.Option.{none-some}
 use Rattle.heap_objects.specs.declared.datum.Datum.{Datum}
 use Rattle.heap_objects.specs.declared.datum.Datum.TheVariants.{Int}
 use Rattle.heap_objects.specs.declared.object.Object.{Object}
@@ -162,9 +163,6 @@ length-changed : (f : Object → Object) (at : ℕ) (os : List Object) → lengt
 length-changed f at [] = refl
 length-changed f zero (o ∷ os) = refl
 length-changed f (suc at) (o ∷ os) = ap suc (length-changed f at os)
-
-none-some : (k : ℕ) → None ≡ Some k → ⊥
-none-some k e = cc
 
 kind-with : (k place : ℕ) (os : List Object) (o : Object) → option_map kind_of (slice_get os place) ≡ Some k
     → option_map kind_of (slice_get (os ++ o ∷ []) place) ≡ Some k

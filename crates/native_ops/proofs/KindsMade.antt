@@ -3,6 +3,7 @@ use Rattle.std.proofs.Common.{◌≡◌, ℕ, ◌-◌, Bool, true, false, List, 
 use Rattle.std.specs.Prelude.{⊤, Option, Some, None, ℤ, pos, negsuc, zero, suc, slice_get, option_and_then, unwrap_or, is_some, IfSome, length, nat_lt, not, ◌==◌, ◌&&◌, ◌||◌, if◌then◌else◌}
 use Rattle.std.specs.List.{AllByRecursion}
 use Rattle.std.specs.Option.{option_map, option_map_or}
+use Rattle.std.proofs.lemmas.Bool.{and_parts, false≢true}
 use Rattle.int_ops.specs.Arithmetic.{comparison}
 use Rattle.heap_objects.specs.declared.datum.Datum.{Datum}
 use Rattle.heap_objects.specs.declared.datum.Datum.TheVariants as datum
@@ -147,21 +148,14 @@ all_take : all_take_object rows ≡ true
 unfolding rows
 all_take = refl
 
-false_true : false ≡ true → ⊥
-false_true e = cc
-
-both : (a b : Bool) → (a && b) ≡ true → (a ≡ true) × (b ≡ true)
-both true b is = (refl, is)
-both false b is = absurd (false_true is)
-
 any-there : (clone any : Bool) → clone ≡ true → (not clone || any) ≡ true → any ≡ true
 any-there true any is either = either
-any-there false any is either = absurd (false_true is)
+any-there false any is either = absurd (false≢true is)
 
 taken : (rs : List Row) (number : ℕ) → all_take_object rs ≡ true → IfSome (slice_get rs number) (λ row. takes_object row ≡ true)
 taken [] number all = tt
-taken (row ∷ rs) zero all = (both (takes_object row) (all_take_object rs) all).0
-taken (row ∷ rs) (suc number) all = taken rs number (both (takes_object row) (all_take_object rs) all).1
+taken (row ∷ rs) zero all = (and_parts (takes_object row) (all_take_object rs) all).0
+taken (row ∷ rs) (suc number) all = taken rs number (and_parts (takes_object row) (all_take_object rs) all).1
 
 module _ (P : ℕ → Type 0) where
   -- ---- effects by cases
@@ -405,7 +399,7 @@ module _ (P : ℕ → Type 0) where
 
   kind-there : (os : List Object) (at : ℕ) (b : Bool) → HaveKinds P os → (is_some (option_map kind_of (slice_get os at)) && b) ≡ true
       → P (unwrap_or (option_map kind_of (slice_get os at)) 0)
-  kind-there [] at b each is = absurd (false_true is)
+  kind-there [] at b each is = absurd (false≢true is)
   kind-there (o ∷ os) zero b each is = each.0
   kind-there (o ∷ os) (suc at) b each is = kind-there os at b each.1 is
 
@@ -414,23 +408,23 @@ module _ (P : ℕ → Type 0) where
     where
       by : (c : Bool) → (is_some (option_map kind_of (if c then None else slice_get h.objects (r - 1))) && b) ≡ true
           → P (unwrap_or (option_map kind_of (if c then None else slice_get h.objects (r - 1))) 0)
-      by true is = absurd (false_true is)
+      by true is = absurd (false≢true is)
       by false is = kind-there h.objects (r - 1) b have is
 
   first-there : (v : Option Datum) (kinds : KindsView) (h : HeapView) (b : Bool) → HaveKinds P h.objects
       → (option_map_or (λ d. fits_receiver receiver.Any kinds d h) v false && b) ≡ true → P (kind_or_none (option_map_or reference_of v 0) h)
-  first-there None kinds h b have is = absurd (false_true is)
-  first-there (Some (datum.Int n)) kinds h b have is = absurd (false_true is)
-  first-there (Some (datum.Long n)) kinds h b have is = absurd (false_true is)
+  first-there None kinds h b have is = absurd (false≢true is)
+  first-there (Some (datum.Int n)) kinds h b have is = absurd (false≢true is)
+  first-there (Some (datum.Long n)) kinds h b have is = absurd (false≢true is)
   first-there (Some (datum.Ref r)) kinds h b have is = object-there r h b have is
 
   receiver-there : (r : Receiver) (parameters : List Parameter) (kinds : KindsView) (args : List Datum) (h : HeapView) → is_any r ≡ true
       → HaveKinds P h.objects → fit r parameters kinds args h ≡ true → P (kind_or_none (reference_in args 0) h)
-  receiver-there receiver.Absent parameters kinds args h any have is = absurd (false_true any)
+  receiver-there receiver.Absent parameters kinds args h any have is = absurd (false≢true any)
   receiver-there receiver.Any parameters kinds args h any have is =
       first-there (slice_get args 0) kinds h (fit_all parameters kinds (drop 1 args) h) have is
-  receiver-there (receiver.Exactly kind) parameters kinds args h any have is = absurd (false_true any)
-  receiver-there (receiver.Extending kind) parameters kinds args h any have is = absurd (false_true any)
+  receiver-there (receiver.Exactly kind) parameters kinds args h any have is = absurd (false≢true any)
+  receiver-there (receiver.Extending kind) parameters kinds args h any have is = absurd (false≢true any)
 
   -- ---- rows
 

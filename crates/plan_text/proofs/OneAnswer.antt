@@ -6,6 +6,7 @@ use Rattle.std.specs.Result.{MatchResult}
 use Rattle.std.specs.Str.{is_utf8, bytes_eq, IsUtf8}
 use Rattle.std.specs.Prelude.{codes}
 use Rattle.std.proofs.lemmas.Str.{IsUtf8-from_is_utf8, is_utf8-from_IsUtf8}
+use Rattle.std.proofs.lemmas.Bool.{false≢true}
 use Rattle.plan_text.specs.declared.plan.RootName.{RootName}
 use Rattle.plan_text.specs.declared.plan.Plan.{Plan}
 use Rattle.plan_text.specs.declared.plan.PlanError.{PlanError}
@@ -88,16 +89,13 @@ said-one number plan line =
     (this_one (Err (BadLine number Unknown)))
     (λ parts. worded-one number plan (word_of parts.0) parts.1)))
 
-false-true : false ≡ true → ⊥
-false-true e = cc
-
 -- where the test is known
 line-tested : (test : Bool) (number : ℕ) (plan : Plan) (line : List ℕ) → is_utf8 line ≡ test → IsOne (IsLine number plan line)
 line-tested true number plan line tested a b first second =
     let utf8 : IsUtf8 line = IsUtf8-from_is_utf8 line tested in
     said-one number plan line a b (first.text utf8) (second.text utf8)
 line-tested false number plan line tested a b first second =
-    let no : IsUtf8 line → ⊥ = λ utf8. let yes = is_utf8-from_IsUtf8 line utf8 in false-true cc in
+    let no : IsUtf8 line → ⊥ = λ utf8. let yes = is_utf8-from_IsUtf8 line utf8 in false≢true cc in
     let e = first.other no in let k = second.other no in cc
 
 line-one : (number : ℕ) (plan : Plan) (line : List ℕ) → IsOne (IsLine number plan line)

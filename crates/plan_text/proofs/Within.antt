@@ -1,13 +1,13 @@
 -- The plan that a text says keeps to its bounds.
 use Rattle.std.proofs.Common.{◌≡◌, ℕ, ◌+◌, ◌≤◌, Bool, true, false, List, [], ◌∷◌, ◌++◌, length, Option, Some, None, refl, sym, subst, arith}
-use Rattle.std.specs.Prelude.{Result, Ok, Err, MatchOption, IfOk, IfSome, codes, is_some, not, nat_le, nat_lt, ◌==◌, ◌&&◌, ◌||◌, if◌then◌else◌}
+use Rattle.std.specs.Prelude.{Result, Ok, Err, MatchOption, IfOk, IfSome, codes, is_some, not, nat_le, nat_lt, ◌==◌, ◌&&◌, if◌then◌else◌}
 use Rattle.std.specs.Bool.{MatchBool}
 use Rattle.std.specs.Result.{MatchResult}
 use Rattle.std.specs.Option.{option_and_then}
 use Rattle.std.specs.List.{AllByRecursion, list_any}
 use Rattle.std.specs.Str.{is_utf8, bytes_eq, IsUtf8}
 use Rattle.std.specs.Str.Parse.{digits_value}
-use Rattle.std.proofs.lemmas.Bool.{and_parts, leb-true, ltb-true, ltb-false}
+use Rattle.std.proofs.lemmas.Bool.{and_parts, leb-true, ltb-true, ltb-false, false≢true, or_parts}
 use Rattle.std.proofs.lemmas.List.{length-append}
 use Rattle.std.proofs.lemmas.Option.{none-some}
 use Rattle.std.proofs.lemmas.Str.{IsUtf8-from_is_utf8, is_utf8-from_IsUtf8}
@@ -119,13 +119,6 @@ pushed-rising [] x rising below = (tt, tt)
 pushed-rising (y ∷ xs) x rising below =
     (all_pushed (λ later. y.moment ≤ later.moment) xs x rising.0 below.0, pushed-rising xs x rising.1 below.1)
 
-true-false : true ≡ false → ⊥
-true-false e = cc
-
-or_parts : (a b : Bool) → (a || b) ≡ false → (a ≡ false) × (b ≡ false)
-or_parts true b e = absurd (true-false e)
-or_parts false b e = (refl, e)
-
 none_above : (xs : List Action) (moment : ℕ) → list_any (λ e. nat_lt moment e.moment) xs ≡ false → AllByRecursion (λ e. e.moment ≤ moment) xs
 none_above [] moment none = tt
 none_above (x ∷ xs) moment none =
@@ -211,14 +204,11 @@ said-keeps number plan line w =
     (keeps_one (Err (BadLine number Unknown)) tt)
     (λ parts. worded-keeps number plan (word_of parts.0) parts.1 w)))
 
-false-true : false ≡ true → ⊥
-false-true e = cc
-
 line-tested : (test : Bool) (number : ℕ) (plan : Plan) (line : List ℕ) → is_utf8 line ≡ test → IsWithin plan → Keeps (IsLine number plan line)
 line-tested true number plan line tested w r holds =
     said-keeps number plan line w r (holds.text (IsUtf8-from_is_utf8 line tested))
 line-tested false number plan line tested w r holds =
-    let refuted : IsUtf8 line → ⊥ = λ utf8. let found = is_utf8-from_IsUtf8 line utf8 in false-true cc in
+    let refuted : IsUtf8 line → ⊥ = λ utf8. let found = is_utf8-from_IsUtf8 line utf8 in false≢true cc in
     keeps_one (Err (BadLine number Utf8)) tt r (holds.other refuted)
 
 -- ---- a text

@@ -5,6 +5,7 @@ use Rattle.std.specs.Str.{chars, is_utf8}
 use Rattle.std.specs.Char.{encode_utf8}
 use Rattle.std.proofs.lemmas.Str.{IsUtf8-from_is_utf8, is_utf8-from_IsUtf8}
 use Rattle.std.proofs.lemmas.Option.{none-some}
+use Rattle.std.proofs.lemmas.Bool.{false≢true}
 use Rattle.const_pool.specs.Descriptors.{IsField}
 use Rattle.const_pool.specs.declared.descriptor.Kind.TheVariants.{Int}
 use Rattle.plan_text.specs.declared.plan.RootName.{RootName}
@@ -141,13 +142,10 @@ number_before_twice = refl
 said : (number : ℕ) (plan : Plan) (line : List ℕ) (r : Result Plan PlanError) → is_utf8 line ≡ true → IsSaid number plan line r → IsLine number plan line r
 said number plan line r utf8 says = record { text = λ _. says; other = λ no. absurd (no (IsUtf8-from_is_utf8 line utf8)) }
 
-false-true : false ≡ true → ⊥
-false-true e = cc
-
 -- a line of other bytes
 other : (number : ℕ) (plan : Plan) (line : List ℕ) → is_utf8 line ≡ false → IsLine number plan line (Err (BadLine number Utf8))
 other number plan line not_utf8 = record {
-  text = λ utf8. absurd (false-true (rw not_utf8 at (is_utf8-from_IsUtf8 line utf8)));
+  text = λ utf8. absurd (false≢true (rw not_utf8 at (is_utf8-from_IsUtf8 line utf8)));
   other = λ _. refl;
 }
 

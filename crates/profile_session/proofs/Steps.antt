@@ -2,7 +2,7 @@
 use Rattle.std.proofs.Common.{◌≡◌, ℕ, zero, suc, ◌+◌, ◌<◌, ◌≤◌, Bool, true, false, not, ◌&&◌, ◌==◌, List, [], ◌∷◌, ◌++◌, drop, length, Some, None, if◌then◌else◌, refl, sym, ap, ap₂, subst, ◌∙◌, is_some, arith, add-one, append_assoc}
 use Rattle.std.specs.Prelude.{fold, filter}
 use Rattle.std.specs.List.{AllByRecursion}
-use Rattle.std.proofs.lemmas.Bool.{and_parts, eqb-true, eqb-false, ne_eqb}
+use Rattle.std.proofs.lemmas.Bool.{and_parts, eqb-true, eqb-false, ne_eqb, not-true}
 use Rattle.std.proofs.lemmas.List.{append-nil}
 use Rattle.jvm_model.specs.declared.event.Act.{Act}
 use Rattle.jvm_model.specs.declared.event.Event.{Event}
@@ -45,10 +45,6 @@ use Rattle.profile_session.proofs.Joins.{event-seen, first-of, in-force, kept-se
 
 pub zero-is : (n : ℕ) → (n == 0) ≡ true → n ≡ 0
 zero-is n e = grind (arith)
-
-pub not-is : (b : Bool) → not b ≡ true → b ≡ false
-not-is true e = absurd (let h : false ≡ true = e in cc)
-not-is false e = refl
 
 events-behind : (marking : Marking) (w : World) (n : ℕ) → told_before marking w n ++ step_events marking w n ≡ events_of marking w n
 events-behind marking w zero = sym (events_of-zero marking w)
@@ -270,7 +266,7 @@ module _ (w : World) (is : IsWhole w.program) (acts : List Act) (from : AreFrom 
         whole = r.whole;
         going = going-next es k v resting on r;
         started = refl;
-        undelivered = not-is v.delivered parts.1;
+        undelivered = not-true v.delivered parts.1;
         coming = coming;
         lives = r.lives;
         delivered = r.delivered;
@@ -311,7 +307,7 @@ module _ (w : World) (is : IsWhole w.program) (acts : List Act) (from : AreFrom 
     changes = (turn w n).changes
 
     parts : (old.passed ≡ 0) × (old.delivered ≡ false)
-    parts = let ps = and_parts (old.passed == 0) (not old.delivered) is.first in (zero-is old.passed ps.0, not-is old.delivered ps.1)
+    parts = let ps = and_parts (old.passed == 0) (not old.delivered) is.first in (zero-is old.passed ps.0, not-true old.delivered ps.1)
 
     coming : to_come (clock_advanced old) ≡ changes
     coming = ap₂ (λ a b. drop a (turn b n).changes) parts.0 r.same

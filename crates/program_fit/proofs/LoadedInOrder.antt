@@ -5,7 +5,7 @@ use Rattle.std.specs.Bool.{beq}
 use Rattle.std.specs.List.{AllByRecursion, list_all}
 use Rattle.std.specs.Option.{option_map_or}
 use Rattle.std.proofs.Math.Nat.{add-zero}
-use Rattle.std.proofs.lemmas.Bool.{eq-eqb, ltb-false, ltb-true, ne_eqb}
+use Rattle.std.proofs.lemmas.Bool.{eq-eqb, ltb-false, ltb-true, ne_eqb, and_parts}
 use Rattle.std.proofs.lemmas.List.{append-nil}
 use Rattle.const_pool.specs.declared.class.ClassFile.{ClassFile}
 use Rattle.jvm_model.specs.declared.program.Program.{Program}
@@ -19,7 +19,7 @@ use Rattle.admit_check.proofs.FitNames.{IsOwnClass}
 use Rattle.admit_check.proofs.FitPlaces.{AreOrdered, is_before}
 use Rattle.program_fit.proofs.Loads.{load-fresh, load-there}
 use Rattle.admit_check.proofs.FitFiles
-use Rattle.admit_check.proofs.FitFiles.{IsNeeded, both, built_in-past, read-needed, stands}
+use Rattle.admit_check.proofs.FitFiles.{IsNeeded, built_in-past, read-needed, stands}
 
 -- ---- lists
 
@@ -82,7 +82,7 @@ module _ (p : Program) (classes files : List ClassFile) (are : p.classes ≡ cla
       → load_needs p (load_named p (suc depth) path) needs loaded ≡ loading_done loaded
   needs-loaded depth k path loaded [] to e = refl
   needs-loaded depth k path loaded (x ∷ needs) to e =
-      let parts = both (is_before files k x) (list_all (is_before files k) needs) e in
+      let parts = and_parts (is_before files k x) (list_all (is_before files k) needs) e in
       let needed = read-needed files k x parts.0 in
       ap (λ l. go_on l (λ after. unless (need_fault p x) after (load_needs p (load_named p (suc depth) path) needs)))
       (load-there p depth path loaded x.name (n + needed.k) needed.plain (named-past x.name needed.k needed.place) (to.there needed.k needed.less))

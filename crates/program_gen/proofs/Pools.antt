@@ -3,6 +3,7 @@ use Rattle.std.proofs.Common.{◌≡◌, ◌≢◌, ℕ, zero, suc, ◌+◌, ◌
 use Rattle.std.specs.Option.{option_and_then, option_map_or, ok_or}
 use Rattle.std.specs.Result.{result_ok}
 use Rattle.std.specs.List.{AllByRecursion, AllZip, flat_map}
+use Rattle.std.proofs.lemmas.Option.{same_Some}
 use Rattle.const_pool.specs.declared.pool.Const.{Const}
 use Rattle.const_pool.specs.declared.pool.Const.TheVariants.{Gap, Utf8, Integer, Float, Long, Double, Class, Text, Field, Method, InterfaceMethod, NameType}
 use Rattle.const_pool.specs.declared.pool.PoolError.TheVariants.{BadIndex}
@@ -187,9 +188,6 @@ good-pool n pool h g = record {
 pub text-named : (pool : List Const) (i : ℕ) (t : List ℕ) → slice_get pool i ≡ Some (Utf8 t) → named_text pool i ≡ Some t
 text-named pool i t h = ap (λ (o : Option Const). result_ok (ok_or (option_and_then entry_of o) BadIndex >>= text_entry)) h
 
-some-is : (x y : List ℕ) → Some x ≡ Some y → x ≡ y
-some-is x y e = cc
-
 narrow-own : (pool : List Const) (c : Const) → IsNarrow pool c → IsNoProbe pool c
 narrow-own pool Gap h = tt
 narrow-own pool (Utf8 t) h = tt
@@ -197,7 +195,7 @@ narrow-own pool (Integer n) h = tt
 narrow-own pool (Float n) h = tt
 narrow-own pool (Long n) h = tt
 narrow-own pool (Double n) h = tt
-narrow-own pool (Class i) h = λ e. h.other.other (some-is _ _ (sym (text-named pool i h.other.text h.other.at) ∙ e))
+narrow-own pool (Class i) h = λ e. h.other.other (same_Some _ _ (sym (text-named pool i h.other.text h.other.at) ∙ e))
 narrow-own pool (Text i) h = tt
 narrow-own pool (Field c n) h = tt
 narrow-own pool (Method c n) h = tt

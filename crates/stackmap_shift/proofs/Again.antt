@@ -1,10 +1,9 @@
 -- What is written is read again.
 use Rattle.std.proofs.Common.{◌≡◌, ℕ, zero, suc, ◌+◌, ◌-◌, ◌<◌, ◌≤◌, ◌%◌, ◌^◌, Bool, true, false, cond, ltb, leb, List, [], ◌∷◌, ◌++◌, length, Option, Some, None, Result, Ok, Err, refl, sym, ap, ◌∙◌, append_assoc, arith}
 use Rattle.std.specs.Int.{w8, w16}
-use Rattle.std.specs.Prelude.{◌&&◌}
 use Rattle.std.specs.List.{AllByRecursion, list_all}
 use Rattle.std.proofs.lemmas.List.Elements.{recursion_from_All}
-use Rattle.std.proofs.lemmas.Bool.{leb-true, ltb-true, lt-ltb, le-ltb}
+use Rattle.std.proofs.lemmas.Bool.{leb-true, ltb-true, lt-ltb, le-ltb, and_parts}
 use Rattle.std.proofs.lemmas.List.{append-nil, length-append}
 use Rattle.std.proofs.lemmas.Nat.{from_be_bytes-to_be_bytes_2}
 use Rattle.stackmap_shift.specs.declared.error.FrameError.{FrameError}
@@ -21,10 +20,6 @@ use Rattle.stackmap_shift.specs.Spelling.{u1, u2, type_bytes, types_bytes, count
 use Rattle.stackmap_shift.specs.Conditions.{FitsKind, FitsFrame, IsBehind, Rise, AreWritable, is_u2, is_narrow_type, is_narrow_kind, is_narrow_frame}
 
 -- ---- numbers and types
-
-both : (a b : Bool) → (a && b) ≡ true → (a ≡ true) × (b ≡ true)
-both true b e = (refl, e)
-both false b e = absurd cc
 
 pub u1_again : (limit n : ℕ) (rest : List ℕ) → n < 256 → number_at w8 limit (u1 n ++ rest) ≡ Ok (n, rest)
 unfolding number_at
@@ -74,10 +69,10 @@ unfolding many_at
 types_again limit [] rest narrow = refl
 types_again limit (t ∷ types) rest narrow =
     let others : VType × List ℕ → Read (List VType) = λ x. many_at (type_at limit) (length types) x.1 >>= λ xs. Ok (x.0 ∷ xs.0, xs.1) in
-    let first = type_again limit t (types_bytes types ++ rest) (both (is_narrow_type t) (list_all is_narrow_type types) narrow).0 in
+    let first = type_again limit t (types_bytes types ++ rest) (and_parts (is_narrow_type t) (list_all is_narrow_type types) narrow).0 in
     ap (many_at (type_at limit) (suc (length types))) (append_assoc (type_bytes t) (types_bytes types) rest)
     ∙ next_is others _ (t, types_bytes types ++ rest) first
-    ∙ next_is (λ (xs : List VType × List ℕ). Ok (t ∷ xs.0, xs.1)) _ (types, rest) (types_again limit types rest (both (is_narrow_type t) (list_all is_narrow_type types) narrow).1)
+    ∙ next_is (λ (xs : List VType × List ℕ). Ok (t ∷ xs.0, xs.1)) _ (types, rest) (types_again limit types rest (and_parts (is_narrow_type t) (list_all is_narrow_type types) narrow).1)
 
 pub counted_again : (limit : ℕ) (types : List VType) (rest : List ℕ) → length types ≤ 65535 → list_all is_narrow_type types ≡ true → counted_at type_at limit (counted_bytes types ++ rest) ≡ Ok (types, rest)
 unfolding counted_at
@@ -199,7 +194,7 @@ full_again : (limit : ℕ) (locals operands : List VType) (rest : List ℕ) → 
     → kind_at form.Full limit (counted_bytes locals ++ (counted_bytes operands ++ rest)) ≡ Ok (Full locals operands, rest)
 unfolding kind_at full_at
 full_again limit locals operands rest fits narrow =
-    let narrow_lists = both (list_all is_narrow_type locals) (list_all is_narrow_type operands) narrow in
+    let narrow_lists = and_parts (list_all is_narrow_type locals) (list_all is_narrow_type operands) narrow in
     next_is (λ (x : List VType × List ℕ). counted_at type_at limit x.1 >>= λ y. Ok (Full x.0 y.0, y.1)) _ (locals, counted_bytes operands ++ rest) (counted_again limit locals (counted_bytes operands ++ rest) fits.0 narrow_lists.0)
     ∙ next_is (λ (y : List VType × List ℕ). Ok (Full locals y.0, y.1)) _ (operands, rest) (counted_again limit operands rest fits.1 narrow_lists.1)
 
@@ -233,7 +228,7 @@ delta_low (Some b) at low = omega arith
 
 pub frame_again : (before : Option ℕ) (limit : ℕ) (f : Frame) (rest : List ℕ) → IsBehind before f.at → FitsFrame f → is_narrow_frame f ≡ true → frame_at before limit (frame_bytes before f ++ rest) ≡ Ok (f, rest)
 frame_again before limit f rest behind fits narrow =
-    let parts = both (is_u2 f.at) (is_narrow_kind f.kind) narrow in
+    let parts = and_parts (is_u2 f.at) (is_narrow_kind f.kind) narrow in
     let lt = ltb-true f.at 65536 parts.0 in
     kind_again before limit (delta_of before f.at) f.at f.kind rest fits parts.1 (delta_low before f.at (omega arith)) (delta_back before f.at behind) (omega arith)
 
@@ -245,8 +240,8 @@ frames_again before limit (f ∷ fs) rest rise fit narrow =
     let behind = frames_bytes (Some f.at) fs ++ rest in
     let others : Frame × List ℕ → Read (List Frame) = λ x. frames_at (length fs) (Some x.0.at) limit x.1 >>= λ xs. Ok (x.0 ∷ xs.0, xs.1) in
     ap (frames_at (suc (length fs)) before limit) (append_assoc (frame_bytes before f) (frames_bytes (Some f.at) fs) rest)
-    ∙ next_is others _ (f, behind) (frame_again before limit f behind rise.0 fit.0 (both (is_narrow_frame f) (list_all is_narrow_frame fs) narrow).0)
-    ∙ next_is (λ (xs : List Frame × List ℕ). Ok (f ∷ xs.0, xs.1)) _ (fs, rest) (frames_again (Some f.at) limit fs rest rise.1 fit.1 (both (is_narrow_frame f) (list_all is_narrow_frame fs) narrow).1)
+    ∙ next_is others _ (f, behind) (frame_again before limit f behind rise.0 fit.0 (and_parts (is_narrow_frame f) (list_all is_narrow_frame fs) narrow).0)
+    ∙ next_is (λ (xs : List Frame × List ℕ). Ok (f ∷ xs.0, xs.1)) _ (fs, rest) (frames_again (Some f.at) limit fs rest rise.1 fit.1 (and_parts (is_narrow_frame f) (list_all is_narrow_frame fs) narrow).1)
 
 -- ---- the table
 

@@ -1,6 +1,7 @@
 -- Each rule of an instruction that names something is what its resolution is followed by (JVM Specification 5.4.3.1).
-use Rattle.std.proofs.Common.{◌≡◌, Bool, true, false, refl}
+use Rattle.std.proofs.Common.{◌≡◌, Bool, true, false, refl, true≢false}
 use Rattle.std.specs.Prelude.{Some, Result, Ok, Err, not, pos, if◌then◌else◌}
+use Rattle.std.proofs.lemmas.Bool.{false≢true}
 use Rattle.heap_objects.specs.declared.Value.TheVariants.{Int}
 use Rattle.jvm_model.specs.Instructions.CreationRules.{answers, casts_to}
 use Rattle.jvm_model.specs.declared.state.Shared.{Shared}
@@ -17,24 +18,18 @@ use Rattle.jvm_model.specs.Instructions.Rules.{class_initialized}
 use Rattle.jvm_model.specs.Basis.Values.{ref_of}
 use Rattle.member_selection.specs.Resolved.{does_resolved, field_found, method_found, skips}
 
-false_true : false ≡ true → ⊥
-false_true e = cc
-
-true_false : true ≡ false → ⊥
-true_false e = cc
-
 then-unless : {A B : Type 0} (s : Shared) (r : Result A Outcome) (f : A → Result B Outcome) (rule : B → Done)
     → unless_refused s (r >>= f) rule ≡ unless_refused s r (λ x. unless_refused s (f x) rule)
 then-unless s (Ok x) f rule = refl
 then-unless s (Err q) f rule = refl
 
 null-or : (b : Bool) (null rest : Done) → not b ≡ true → (if b then null else rest) ≡ rest
-null-or true null rest is = absurd (false_true is)
+null-or true null rest is = absurd (false≢true is)
 null-or false null rest is = refl
 
 null-is : (b : Bool) (null rest : Done) → not b ≡ false → (if b then null else rest) ≡ null
 null-is true null rest is = refl
-null-is false null rest is = absurd (true_false is)
+null-is false null rest is = absurd (true≢false is)
 
 pub behind : (w : World) (n : SymbolicReference) (s : Shared) (l : Locals) (o : Operands) → resolves n o ≡ true
     → does_named w n s l o ≡ unless_refused s (resolved_kind w.program s.loaded (resolved_name n)) (λ kind. does_resolved w kind n s l o)
@@ -78,4 +73,4 @@ skipped w (Checkcast name) s l o is =
 skipped w (Instanceof name) s l o is =
     null-is (is_null o) (done s (replaces 1 (Some (Int (pos 0))) l o))
     (unless_refused s (resolved_kind w.program s.loaded name) (λ kind. done s (answers w.program name (ref_of o) s l o))) is
-skipped w n s l o is = absurd (true_false is)
+skipped w n s l o is = absurd (true≢false is)

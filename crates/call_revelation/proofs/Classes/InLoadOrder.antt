@@ -5,9 +5,9 @@ use Rattle.std.specs.List.{AllByRecursion, AllPairs, Contains, cons_option, slic
 use Rattle.std.specs.List.Sorted.{IsStrictlyIncreasing}
 use Rattle.std.specs.Option.{option_map_or}
 use Rattle.std.proofs.lemmas.List.Kept.{AllPairs-from_increasing}
+use Rattle.std.proofs.lemmas.Bool.{false≢true, or_cases, or_left, or_parts, or_right}
 use Rattle.jvm_model.specs.Classes.Load.{is_among}
 use Rattle.possible_callees.specs.Tables.{IsRising}
-use Rattle.possible_callees.proofs.Truths.{either, false_true, neither, or-first, or-later}
 use Rattle.possible_callees.proofs.Numbers.Adding.{equal, itself}
 
 -- ---- a list that was put in order
@@ -27,9 +27,9 @@ pub rising-from : (xs : List ℕ) → IsStrictlyIncreasing xs → IsRising xs
 rising-from xs up = rising-pairs xs (AllPairs-from_increasing xs up)
 
 pub among-contains : (xs : List ℕ) (x : ℕ) → is_among x xs ≡ true → Contains xs x
-among-contains [] x h = absurd (false_true h)
+among-contains [] x h = absurd (false≢true h)
 among-contains (y ∷ ys) x h =
-    elim (either (x == y) (is_among x ys) h) [
+    elim (or_cases (x == y) (is_among x ys) h) [
       | inl same ↦ (0, omega arith, sym (equal x y same))
       | inr later ↦ let rest = among-contains ys x later in (suc rest.0, let within = rest.1 in omega (arith, within), rest.2)
     ]
@@ -39,8 +39,8 @@ contains-among xs x h = by xs h.0 h.1 h.2
   where
     by : (ys : List ℕ) (k : ℕ) → k < length ys → slice_index_or ys k x ≡ x → is_among x ys ≡ true
     by [] k within is = absurd (omega (arith, within))
-    by (y ∷ ys) zero within is = or-first (x == y) (is_among x ys) (ap (λ z. x == z) is ∙ itself x)
-    by (y ∷ ys) (suc k) within is = or-later (x == y) (is_among x ys) (by ys k (omega (arith, within)) is)
+    by (y ∷ ys) zero within is = or_left (x == y) (is_among x ys) (ap (λ z. x == z) is ∙ itself x)
+    by (y ∷ ys) (suc k) within is = or_right (x == y) (is_among x ys) (by ys k (omega (arith, within)) is)
 
 -- ---- what stands at places that rise
 
@@ -54,9 +54,9 @@ above n r (x ∷ rs) low all = (let less = all.0 in omega (arith, low, less), ab
 
 -- a number below all of them is none of them
 not-above : (n : ℕ) (rs : List ℕ) → AllByRecursion (λ m. suc n ≤ m) rs → is_among n rs ≡ true → ⊥
-not-above n [] all h = false_true h
+not-above n [] all h = false≢true h
 not-above n (r ∷ rs) all h =
-    elim (either (n == r) (is_among n rs) h) [
+    elim (or_cases (n == r) (is_among n rs) h) [
       | inl same ↦ let less = all.0 in let is = equal n r same in omega (arith, less, is)
       | inr later ↦ not-above n rs all.1 later
     ]
@@ -65,8 +65,8 @@ no-hits : (test : ℕ → Bool) (start : ℕ) (ranks : List ℕ) → AllByRecurs
 no-hits test start [] all hits = refl
 no-hits test start (r ∷ rs) all hits =
     let low = all.0 in
-    absurd (false_true (sym (hits (r - start))
-    ∙ or-first (start + (r - start) == r) (is_among (start + (r - start)) rs)
+    absurd (false≢true (sym (hits (r - start))
+    ∙ or_left (start + (r - start) == r) (is_among (start + (r - start)) rs)
     (ap (λ k. k == r) (let z : start + (r - start) ≡ r = omega (arith, low) in z) ∙ itself r)))
 
 apart : (n r : ℕ) → n ≤ r → (n == r) ≡ false → suc n ≤ r
@@ -78,7 +78,7 @@ beyond a r less = grind (arith)
 higher : (n : ℕ) (rs : List ℕ) → AllByRecursion (λ m. n ≤ m) rs → is_among n rs ≡ false → AllByRecursion (λ m. suc n ≤ m) rs
 higher n [] low none = tt
 higher n (r ∷ rs) low none =
-    let both = neither (n == r) (is_among n rs) none in (apart n r low.0 both.0, higher n rs low.1 both.1)
+    let both = or_parts (n == r) (is_among n rs) none in (apart n r low.0 both.0, higher n rs low.1 both.1)
 
 picked : (test : ℕ → Bool) (at : ℕ → Option ℕ) (classes : List ℕ) (start : ℕ) (ranks : List ℕ) → IsRising ranks → AllByRecursion (λ m. start ≤ m) ranks
     → ((i : ℕ) → at (start + i) ≡ slice_get classes i) → AreHits test classes start ranks → filter_map at ranks ≡ filter test classes
@@ -93,9 +93,9 @@ picked test at (c ∷ cs) start ranks up low there hits =
     step : (b : Bool) → test c ≡ b → (rs : List ℕ) → IsRising rs → AllByRecursion (λ m. start ≤ m) rs → AreHits test (c ∷ cs) start rs
         → ((more : List ℕ) → IsRising more → AllByRecursion (λ m. suc start ≤ m) more → AreHits test cs (suc start) more → filter_map at more ≡ filter test cs)
         → filter_map at rs ≡ (if b then c ∷ filter test cs else filter test cs)
-    step true e [] up low hits rest = absurd (false_true (hits 0 ∙ e))
+    step true e [] up low hits rest = absurd (false≢true (hits 0 ∙ e))
     step true e (r ∷ rs) up low hits rest =
-        elim (either (start == r) (is_among start rs) (ap (λ k. is_among k (r ∷ rs)) here ∙ (hits 0 ∙ e))) [
+        elim (or_cases (start == r) (is_among start rs) (ap (λ k. is_among k (r ∷ rs)) here ∙ (hits 0 ∙ e))) [
           | inl same ↦
               ap (λ o. cons_option o (filter_map at rs)) (ap at (sym (equal start r same) ∙ here) ∙ there 0)
               ∙ ap (λ l. c ∷ l) (rest rs up.1 (above start r rs low.0 up.0)

@@ -2,6 +2,7 @@
 use Rattle.std.proofs.Common.{◌≡◌, ℕ, ◌+◌, ◌<◌, false, List, [], ◌∷◌, ◌++◌, length, drop, get_or, ap, sym, subst, refl, ◌∙◌}
 use Rattle.std.specs.List.{AllByRecursion}
 use Rattle.std.proofs.lemmas.List.{drop_more}
+use Rattle.std.proofs.lemmas.Bool.{or_right}
 use Rattle.jvm_model.specs.declared.program.Program.{Program}
 use Rattle.jvm_model.specs.Classes.Load.{is_among}
 use Rattle.jvm_model.specs.Profiling.Revelation.{IsLoadOrder}
@@ -9,7 +10,6 @@ use Rattle.jvm_model.specs.Soundness.Sound.{HasSupertypes}
 use Rattle.jvm_model.proofs.Loading.LoadOrder.{order-behind}
 use Rattle.class_linker.specs.Linkers.{IsLoaded, LinkerView}
 use Rattle.possible_callees.specs.Tables.{IsPrefix}
-use Rattle.possible_callees.proofs.Truths.{or-later}
 use Rattle.possible_callees.proofs.Numbers.Adding.{among-append}
 use Rattle.possible_callees.proofs.Numbers.Fronts.{front-drop}
 use Rattle.possible_callees.proofs.References.TargetLemmas.{all-behind}
@@ -91,7 +91,7 @@ pub behind-linked : (l : LinkerView) (a : List ℕ) (front : IsPrefix a l.loaded
 behind-linked l a front =
     all-behind l.loaded (drop (length a) l.loaded)
     (λ x h. ap (is_among x) front.is
-    ∙ (among-append x a front.rest ∙ or-later (is_among x a) (is_among x front.rest) (sym (ap (is_among x) (front-drop a l.loaded front)) ∙ h)))
+    ∙ (among-append x a front.rest ∙ or_right (is_among x a) (is_among x front.rest) (sym (ap (is_among x) (front-drop a l.loaded front)) ∙ h)))
 
 pub behind-order : (p : Program) (a all : List ℕ) (front : IsPrefix a all) → IsLoadOrder p [] all → IsLoadOrder p a (drop (length a) all)
 behind-order p a all front order =

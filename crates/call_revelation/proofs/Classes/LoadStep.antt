@@ -1,8 +1,10 @@
 -- The targets of what is entered when one class more is loaded are those before and what is gathered from what is kept.
-use Rattle.std.proofs.Common.{◌≡◌, ℕ, zero, suc, Bool, true, false, List, [], ◌∷◌, ◌++◌, map, ap, sym, subst, refl, ◌∙◌, inl, inr}
+use Rattle.std.proofs.Common.{◌≡◌, ℕ, zero, suc, Bool, true, false, List, [], ◌∷◌, ◌++◌, ap, sym, subst, refl, ◌∙◌, inl, inr}
 use Rattle.std.specs.Prelude.{flat_map, Option, Some, None, is_some, slice_get, ◌⊎◌, ◌==◌, ◌||◌, if◌then◌else◌}
 use Rattle.std.specs.List.{list_any}
 use Rattle.std.specs.Option.{option_and_then, option_map_or, option_to_list}
+use Rattle.std.proofs.lemmas.Bool.{false≢true, or_cases, or_left, or_right}
+use Rattle.std.proofs.lemmas.Option.{none-some, same_Some}
 use Rattle.jvm_model.specs.declared.program.Program.{Program}
 use Rattle.jvm_model.specs.Classes.Load.{is_among}
 use Rattle.jvm_model.specs.Classes.Lookup.{is_subtype}
@@ -10,14 +12,14 @@ use Rattle.jvm_model.specs.Instructions.SymbolicReference.{resolved_name}
 use Rattle.jvm_model.specs.declared.instruction.SymbolicReference.TheVariants as model
 use Rattle.jvm_model.specs.Profiling.Points.{is_target}
 use Rattle.jvm_model.specs.Basis.Programs.{class_named}
-use Rattle.jvm_model.specs.Profiling.Revelation.{gained_by, gained_in, is_named, symbolic_references_of}
+use Rattle.jvm_model.specs.Profiling.Revelation.{gained_in, is_named, symbolic_references_of}
 use Rattle.jvm_model.specs.Soundness.Sound.{HasSupertypes}
 use Rattle.jvm_model.specs.Profiling.Targets.{begun_by, loaded_class_named, operations_of, targets_in}
 use Rattle.jvm_model.proofs.Revealing.Gained.{gained-targets}
 use Rattle.jvm_model.proofs.Revealing.Revealed.{is_gained, load-targets}
 use Rattle.jvm_model.specs.declared.instruction.SymbolicReference.{SymbolicReference}
 use Rattle.possible_callees.specs.Tables.{list_at}
-use Rattle.possible_callees.proofs.Truths.{alike, either, false_true, first-of, none-some, or-first, or-later, second-of, some-some}
+use Rattle.possible_callees.proofs.Truths.{alike, first-of, second-of}
 use Rattle.possible_callees.proofs.Numbers.Adding.{among-append, equal, from_flat, itself, to_flat}
 use Rattle.call_revelation.specs.declared.uses.Use.{Use}
 use Rattle.call_revelation.specs.Books.{Codes, IsBook, called_by, called_from, called_on, code_at, methods_gathered, is_use, symbolic_reference_at, of_entered}
@@ -31,28 +33,28 @@ pub record IsOf (A : Type 0) (f : A → List ℕ) (m : ℕ) : Type 0 where
   pub within : is_among m (f item) ≡ true
 
 pub some-of : {A : Type 0} (f : A → List ℕ) (xs : List A) (m : ℕ) → is_among m (flat_map f xs) ≡ true → IsOf A f m
-some-of f [] m h = absurd (false_true h)
+some-of f [] m h = absurd (false≢true h)
 some-of f (x ∷ xs) m h =
-    elim (either (is_among m (f x)) (is_among m (flat_map f xs)) (sym (among-append m (f x) (flat_map f xs)) ∙ h)) [
+    elim (or_cases (is_among m (f x)) (is_among m (flat_map f xs)) (sym (among-append m (f x) (flat_map f xs)) ∙ h)) [
       | inl a ↦ record { item = x; within = a }
       | inr b ↦ some-of f xs m b
     ]
 
 pub any-flat : {A : Type 0} (f : A → List ℕ) (test : A → Bool) (xs : List A) (m : ℕ) → list_any test xs ≡ true
     → ((x : A) → test x ≡ true → is_among m (f x) ≡ true) → is_among m (flat_map f xs) ≡ true
-any-flat f test [] m there is = absurd (false_true there)
+any-flat f test [] m there is = absurd (false≢true there)
 any-flat f test (x ∷ xs) m there is =
-    among-append m (f x) (flat_map f xs) ∙ elim (either (test x) (list_any test xs) there) [
-      | inl a ↦ or-first (is_among m (f x)) (is_among m (flat_map f xs)) (is x a)
-      | inr b ↦ or-later (is_among m (f x)) (is_among m (flat_map f xs)) (any-flat f test xs m b is)
+    among-append m (f x) (flat_map f xs) ∙ elim (or_cases (test x) (list_any test xs) there) [
+      | inl a ↦ or_left (is_among m (f x)) (is_among m (flat_map f xs)) (is x a)
+      | inr b ↦ or_right (is_among m (f x)) (is_among m (flat_map f xs)) (any-flat f test xs m b is)
     ]
 
 pub any-of : (f : ℕ → Bool) (xs : List ℕ) (x : ℕ) → is_among x xs ≡ true → f x ≡ true → list_any f xs ≡ true
-any-of f [] x there h = absurd (false_true there)
+any-of f [] x there h = absurd (false≢true there)
 any-of f (y ∷ xs) x there h =
-    elim (either (x == y) (is_among x xs) there) [
-      | inl same ↦ or-first (f y) (list_any f xs) (ap f (sym (equal x y same)) ∙ h)
-      | inr behind ↦ or-later (f y) (list_any f xs) (any-of f xs x behind h)
+    elim (or_cases (x == y) (is_among x xs) there) [
+      | inl same ↦ or_left (f y) (list_any f xs) (ap f (sym (equal x y same)) ∙ h)
+      | inr behind ↦ or_right (f y) (list_any f xs) (any-of f xs x behind h)
     ]
 
 pub record IsAny (f : ℕ → Bool) (xs : List ℕ) : Type 0 where
@@ -61,20 +63,20 @@ pub record IsAny (f : ℕ → Bool) (xs : List ℕ) : Type 0 where
   pub holds : f item ≡ true
 
 pub from-any : (f : ℕ → Bool) (xs : List ℕ) → list_any f xs ≡ true → IsAny f xs
-from-any f [] h = absurd (false_true h)
+from-any f [] h = absurd (false≢true h)
 from-any f (x ∷ xs) h =
-    elim (either (f x) (list_any f xs) h) [
-      | inl a ↦ record { item = x; there = or-first (x == x) (is_among x xs) (itself x); holds = a }
-      | inr b ↦ let i = from-any f xs b in record { item = i.item; there = or-later (i.item == x) (is_among i.item xs) i.there; holds = i.holds }
+    elim (or_cases (f x) (list_any f xs) h) [
+      | inl a ↦ record { item = x; there = or_left (x == x) (is_among x xs) (itself x); holds = a }
+      | inr b ↦ let i = from-any f xs b in record { item = i.item; there = or_right (i.item == x) (is_among i.item xs) i.there; holds = i.holds }
     ]
 
 pub flat-at : {A : Type 0} (f : A → List ℕ) (xs : List A) (i : ℕ) (x : A) (m : ℕ) → slice_get xs i ≡ Some x → is_among m (f x) ≡ true
     → is_among m (flat_map f xs) ≡ true
 flat-at f [] i x m e h = absurd (none-some x e)
 flat-at f (y ∷ xs) zero x m e h =
-    among-append m (f y) (flat_map f xs) ∙ or-first (is_among m (f y)) (is_among m (flat_map f xs)) (ap (λ z. is_among m (f z)) (some-some y x e) ∙ h)
+    among-append m (f y) (flat_map f xs) ∙ or_left (is_among m (f y)) (is_among m (flat_map f xs)) (ap (λ z. is_among m (f z)) (same_Some y x e) ∙ h)
 flat-at f (y ∷ xs) (suc i) x m e h =
-    among-append m (f y) (flat_map f xs) ∙ or-later (is_among m (f y)) (is_among m (flat_map f xs)) (flat-at f xs i x m e h)
+    among-append m (f y) (flat_map f xs) ∙ or_right (is_among m (f y)) (is_among m (flat_map f xs)) (flat-at f xs i x m e h)
 
 -- ---- what is kept
 
@@ -96,13 +98,13 @@ module _ (p : Program) (codes : Codes) (waiting calls : List (List Use)) (book :
     where
       at : (o : Option SymbolicReference) → symbolic_reference_at codes u ≡ o → is_among u.caller entered ≡ true
           → is_among m (option_map_or (λ (n : SymbolicReference). f n) o []) ≡ true → IsEntered f u m
-      at None e c h = absurd (false_true h)
+      at None e c h = absurd (false≢true h)
       at (Some n) e c h = record { caller = c; reference = n; there = read-at u (code_at codes u.caller) n refl e; within = h }
 
       by : (b : Bool) → is_among u.caller entered ≡ b
           → is_among m (if b then option_map_or (λ (n : SymbolicReference). f n) (symbolic_reference_at codes u) [] else []) ≡ true → IsEntered f u m
       by true c h = at (symbolic_reference_at codes u) refl c h
-      by false c h = absurd (false_true h)
+      by false c h = absurd (false≢true h)
 
   -- what an instruction of an entered method gives, by its place
   pub at-entered : (f : SymbolicReference → List ℕ) (caller i : ℕ) (ns : List SymbolicReference) (n : SymbolicReference) (m : ℕ) → is_among caller entered ≡ true
@@ -151,7 +153,7 @@ module _ (p : Program) (codes : Codes) (waiting calls : List (List Use)) (book :
       where
         by : (o : Option ℕ) → option_map_or (λ found. found == class) o false ≡ true
             → option_and_then (λ (class : ℕ). if is_among class loaded then Some class else None) o ≡ Some class
-        by None k = absurd (false_true k)
+        by None k = absurd (false≢true k)
         by (Some found) k =
             let same : found ≡ class = equal found class k in
             ap (λ (x : ℕ). if is_among x loaded then Some x else None) same ∙ ap (λ b. if b then Some class else None) there
@@ -162,7 +164,7 @@ module _ (p : Program) (codes : Codes) (waiting calls : List (List Use)) (book :
       where
         by : (b : Bool) → is_named p class (resolved_name e.reference) ≡ b → is_among m (if b then called_on p new class e.reference else []) ≡ true
             → is_target p (operations_of p) all entered m ≡ true
-        by false k h = absurd (false_true h)
+        by false k h = absurd (false≢true h)
         by true k h =
             is-targeted u.caller e.caller
             (gained-targets p loaded new above fresh (operations_of p u.caller) m
@@ -177,7 +179,7 @@ module _ (p : Program) (codes : Codes) (waiting calls : List (List Use)) (book :
         by : (class : ℕ) (b : Bool) → is_among class loaded ≡ b
             → is_among m (if b then flat_map (of_entered entered codes (called_by p new class)) (list_at calls class) else []) ≡ true
             → is_target p (operations_of p) all entered m ≡ true
-        by class false k h = absurd (false_true h)
+        by class false k h = absurd (false≢true h)
         by class true k h =
             let one = some-of (of_entered entered codes (called_by p new class)) (list_at calls class) m h in
             called-there class one.item k (entered-at (called_by p new class) one.item m one.within)
@@ -194,7 +196,7 @@ module _ (p : Program) (codes : Codes) (waiting calls : List (List Use)) (book :
       where
         test : (found : ℕ) (b : Bool) → class_named p (resolved_name n) ≡ Some found → is_among found loaded ≡ b
             → (if b then Some found else None) ≡ Some class → IsKnown n class
-        test found true o k e = let same = some-some found class e in record { named = o ∙ ap (λ x. Some x) same; there = ap (λ x. is_among x loaded) (sym same) ∙ k }
+        test found true o k e = let same = same_Some found class e in record { named = o ∙ ap (λ x. Some x) same; there = ap (λ x. is_among x loaded) (sym same) ∙ k }
         test found false o k e = absurd (none-some class e)
 
         by : (o : Option ℕ) → class_named p (resolved_name n) ≡ o
@@ -205,30 +207,30 @@ module _ (p : Program) (codes : Codes) (waiting calls : List (List Use)) (book :
     -- a call adds something on classes above the new one alone
     if-true : (b : Bool) (xs : List ℕ) → is_among m (if b then xs else []) ≡ true → b ≡ true
     if-true true xs h = refl
-    if-true false xs h = absurd (false_true h)
+    if-true false xs h = absurd (false≢true h)
 
     is-above : (n : SymbolicReference) (class : ℕ) → is_among m (called_on p new class n) ≡ true → is_subtype p new class ≡ true
     is-above (model.Invokevirtual r) class h = if-true (is_subtype p new class) _ h
     is-above (model.Invokeinterface r) class h = if-true (is_subtype p new class) _ h
-    is-above (model.New name) class h = absurd (false_true h)
-    is-above (model.Getfield r) class h = absurd (false_true h)
-    is-above (model.Putfield r) class h = absurd (false_true h)
-    is-above (model.Getstatic r) class h = absurd (false_true h)
-    is-above (model.Putstatic r) class h = absurd (false_true h)
-    is-above (model.Invokespecial caller r interface) class h = absurd (false_true h)
-    is-above (model.Invokestatic r) class h = absurd (false_true h)
-    is-above (model.Checkcast name) class h = absurd (false_true h)
-    is-above (model.Instanceof name) class h = absurd (false_true h)
-    is-above (model.Anewarray name) class h = absurd (false_true h)
-    is-above (model.Multianewarray name dimensions) class h = absurd (false_true h)
-    is-above (model.LdcClass name) class h = absurd (false_true h)
+    is-above (model.New name) class h = absurd (false≢true h)
+    is-above (model.Getfield r) class h = absurd (false≢true h)
+    is-above (model.Putfield r) class h = absurd (false≢true h)
+    is-above (model.Getstatic r) class h = absurd (false≢true h)
+    is-above (model.Putstatic r) class h = absurd (false≢true h)
+    is-above (model.Invokespecial caller r interface) class h = absurd (false≢true h)
+    is-above (model.Invokestatic r) class h = absurd (false≢true h)
+    is-above (model.Checkcast name) class h = absurd (false≢true h)
+    is-above (model.Instanceof name) class h = absurd (false≢true h)
+    is-above (model.Anewarray name) class h = absurd (false≢true h)
+    is-above (model.Multianewarray name dimensions) class h = absurd (false≢true h)
+    is-above (model.LdcClass name) class h = absurd (false≢true h)
 
     named-by : (n : SymbolicReference) (class : ℕ) → is_named p class (resolved_name n) ≡ true → class_named p (resolved_name n) ≡ Some class
     named-by n class k = by (class_named p (resolved_name n)) refl k
       where
         by : (o : Option ℕ) → class_named p (resolved_name n) ≡ o → option_map_or (λ found. found == class) o false ≡ true
             → class_named p (resolved_name n) ≡ Some class
-        by None o k = absurd (false_true k)
+        by None o k = absurd (false≢true k)
         by (Some found) o k = o ∙ ap (λ x. Some x) (equal found class k)
 
     is-named : (n : SymbolicReference) (class : ℕ) → class_named p (resolved_name n) ≡ Some class → is_named p class (resolved_name n) ≡ true
@@ -241,18 +243,18 @@ module _ (p : Program) (codes : Codes) (waiting calls : List (List Use)) (book :
     is-gathered : (caller i : ℕ) (ns : List SymbolicReference) (n : SymbolicReference) → is_among caller entered ≡ true → code_at codes caller ≡ Some ns → slice_get ns i ≡ Some n
         → NamesIt p loaded new n m ⊎ CallsIt p loaded new n m → (is_among m called || is_among m waited) ≡ true
     is-gathered caller i ns n there c e (inl it) =
-        or-later (is_among m called) (is_among m waited)
+        or_right (is_among m called) (is_among m waited)
         (any-flat (of_entered entered codes (begun_by p all)) (is_use caller i) (list_at waiting new) m
         (book.waits caller i ns n c e new (named-by n new it.named))
         (at-entered (begun_by p all) caller i ns n m there c e it.begun))
     is-gathered caller i ns n there c e (inr it) =
         let k = known n it.class it.named in
-        or-first (is_among m called) (is_among m waited)
+        or_left (is_among m called) (is_among m waited)
         (to_flat (called_from p loaded new entered codes calls) uppers it.class m
         (whole caller it.class there
         (flat-at (called_class p) (symbolic_references_of (operations_of p caller)) i n it.class (read-there caller i ns n c e)
         (ap (λ b. is_among it.class (if b then option_to_list (class_named p (resolved_name n)) else [])) it.call
-        ∙ (ap (λ o. is_among it.class (option_to_list o)) k.named ∙ or-first (it.class == it.class) false (itself it.class))))
+        ∙ (ap (λ o. is_among it.class (option_to_list o)) k.named ∙ or_left (it.class == it.class) false (itself it.class))))
         (is-above n it.class it.called))
         (ap (λ b. is_among m (if b then flat_map (of_entered entered codes (called_by p new it.class)) (list_at calls it.class) else [])) k.there
         ∙ any-flat (of_entered entered codes (called_by p new it.class)) (is_use caller i) (list_at calls it.class) m
@@ -265,7 +267,7 @@ module _ (p : Program) (codes : Codes) (waiting calls : List (List Use)) (book :
       there : code_at codes caller ≡ Some references
 
     has-code : (caller : ℕ) (o : Option (List SymbolicReference)) → code_at codes caller ≡ o → is_some o ≡ true → HasCode caller
-    has-code caller None c h = absurd (false_true h)
+    has-code caller None c h = absurd (false≢true h)
     has-code caller (Some ns) c h = record { references = ns; there = c }
 
     gained-gathered : is_gained p (operations_of p) loaded new entered m ≡ true → (is_among m called || is_among m waited) ≡ true
@@ -284,7 +286,7 @@ module _ (p : Program) (codes : Codes) (waiting calls : List (List Use)) (book :
 
     gathered-or : (a b : Bool) → (a || b) ≡ true → (a ≡ true → is_target p (operations_of p) all entered m ≡ true)
         → (b ≡ true → is_target p (operations_of p) all entered m ≡ true) → is_target p (operations_of p) all entered m ≡ true
-    gathered-or a b h first second = elim (either a b h) [ inl x ↦ first x | inr y ↦ second y ]
+    gathered-or a b h first second = elim (or_cases a b h) [ inl x ↦ first x | inr y ↦ second y ]
 
     is-gathered-all : is_among m (methods_gathered p loaded new entered codes waiting calls uppers) ≡ (is_among m called || is_among m waited)
     is-gathered-all = among-append m called waited
@@ -296,10 +298,10 @@ module _ (p : Program) (codes : Codes) (waiting calls : List (List Use)) (book :
         ≡ (is_target p (operations_of p) loaded entered m || is_among m (methods_gathered p loaded new entered codes waiting calls uppers))
     load-step =
         alike (is_target p (operations_of p) all entered m) (before || is_among m (methods_gathered p loaded new entered codes waiting calls uppers))
-        (λ t. elim (either before (is_gained p (operations_of p) loaded new entered m) (sym law ∙ t)) [
-          | inl x ↦ or-first before (is_among m (methods_gathered p loaded new entered codes waiting calls uppers)) x
-          | inr y ↦ or-later before (is_among m (methods_gathered p loaded new entered codes waiting calls uppers)) (is-gathered-all ∙ gained-gathered y)
+        (λ t. elim (or_cases before (is_gained p (operations_of p) loaded new entered m) (sym law ∙ t)) [
+          | inl x ↦ or_left before (is_among m (methods_gathered p loaded new entered codes waiting calls uppers)) x
+          | inr y ↦ or_right before (is_among m (methods_gathered p loaded new entered codes waiting calls uppers)) (is-gathered-all ∙ gained-gathered y)
         ])
         (λ t. gathered-or before (is_among m (methods_gathered p loaded new entered codes waiting calls uppers)) t
-        (λ x. law ∙ or-first before (is_gained p (operations_of p) loaded new entered m) x)
+        (λ x. law ∙ or_left before (is_gained p (operations_of p) loaded new entered m) x)
         (λ y. gathered-or (is_among m called) (is_among m waited) (sym is-gathered-all ∙ y) from-called from-waiting))

@@ -3,7 +3,8 @@ use Rattle.std.proofs.Common.{◌≡◌, ℕ, zero, suc, ◌<◌, ◌≤◌, Boo
 use Rattle.std.specs.Prelude.{flat_map, filter_map, Option, Some, None, ◌==◌, ◌||◌, ◌⊎◌}
 use Rattle.std.specs.List.{cons_option}
 use Rattle.std.specs.Option.{option_and_then, option_map_or, option_to_list}
-use Rattle.std.proofs.lemmas.Option.{slice_get_within}
+use Rattle.std.proofs.lemmas.Option.{slice_get_within, none-some}
+use Rattle.std.proofs.lemmas.Bool.{false≢true, or_cases, or_left, or_right}
 use Rattle.const_pool.specs.declared.class.ClassFile.{ClassFile}
 use Rattle.const_pool.specs.References.{named_class}
 use Rattle.jvm_model.specs.declared.program.Program.{Program}
@@ -12,7 +13,6 @@ use Rattle.jvm_model.specs.Classes.Lookup.{interface_names, interfaces_of, is_su
 use Rattle.jvm_model.specs.Basis.Programs.{class_at, class_named, has_name, super_of}
 use Rattle.jvm_model.proofs.Soundness.SoundKinds.{named-class}
 use Rattle.possible_callees.specs.Lineages.{direct, LeadTo}
-use Rattle.possible_callees.proofs.Truths.{either, false_true, none-some, or-first, or-later}
 use Rattle.possible_callees.proofs.Numbers.Adding.{among-append, equal, from_flat, to_flat}
 use Rattle.jvm_model.specs.Soundness.Sound.{HasSupertypes}
 use Rattle.possible_callees.proofs.Classes.LineageLemmas.{loaded-before}
@@ -33,18 +33,18 @@ module _ (p : Program) where
   next n c = ap (λ l. c ∷ l) (sym (flat-append (W n) (interfaces_of p c) (superclass_of p c)))
 
   raised : (n m c x : ℕ) → n ≤ m → is_among x (W n c) ≡ true → is_among x (W m c) ≡ true
-  raised zero m c x le h = absurd (false_true h)
+  raised zero m c x le h = absurd (false≢true h)
   raised (suc n) zero c x le h = absurd (omega (arith, le))
   raised (suc n) (suc m) c x le h =
       ap (is_among x) (next m c)
-      ∙ by (either (x == c) (is_among x (flat_map (W n) (direct p c))) (sym (ap (is_among x) (next n c)) ∙ h)) (λ d k. raised n m d x (omega (arith, le)) k)
+      ∙ by (or_cases (x == c) (is_among x (flat_map (W n) (direct p c))) (sym (ap (is_among x) (next n c)) ∙ h)) (λ d k. raised n m d x (omega (arith, le)) k)
     where
       by : ((x == c) ≡ true) ⊎ (is_among x (flat_map (W n) (direct p c)) ≡ true) → ((d : ℕ) → is_among x (W n d) ≡ true → is_among x (W m d) ≡ true)
           → ((x == c) || is_among x (flat_map (W m) (direct p c))) ≡ true
-      by (inl a) each = or-first (x == c) (is_among x (flat_map (W m) (direct p c))) a
+      by (inl a) each = or_left (x == c) (is_among x (flat_map (W m) (direct p c))) a
       by (inr b) each =
           let i = from_flat (W n) (direct p c) x b in
-          or-later (x == c) (is_among x (flat_map (W m) (direct p c))) (to_flat (W m) (direct p c) i.item x i.there (each i.item i.within))
+          or_right (x == c) (is_among x (flat_map (W m) (direct p c))) (to_flat (W m) (direct p c) i.item x i.there (each i.item i.within))
 
   -- one that the class names, and is another class
   pub record IsStep (class upper : ℕ) : Type 0 where
@@ -54,9 +54,9 @@ module _ (p : Program) where
     pub above : is_subtype p by upper ≡ true
 
   step-within : (n c x : ℕ) → n ≤ length p.classes → is_among x (W n c) ≡ true → (c ≡ x) ⊎ IsStep c x
-  step-within zero c x le h = absurd (false_true h)
+  step-within zero c x le h = absurd (false≢true h)
   step-within (suc n) c x le h =
-      by (either (x == c) (is_among x (flat_map (W n) (direct p c))) (sym (ap (is_among x) (next n c)) ∙ h))
+      by (or_cases (x == c) (is_among x (flat_map (W n) (direct p c))) (sym (ap (is_among x) (next n c)) ∙ h))
       (λ k. step-within n c x (omega (arith, le)) k)
     where
       test : (d : ℕ) (b : Bool) → (d == c) ≡ b → is_among d (direct p c) ≡ true → is_among x (W n d) ≡ true → (is_among x (W n c) ≡ true → (c ≡ x) ⊎ IsStep c x)
@@ -77,23 +77,23 @@ module _ (p : Program) where
   named-within name d e = named-class (has_name name) p.classes d e
 
   pub one-within : (o : Option ℕ) (d : ℕ) → ((k : ℕ) → o ≡ Some k → k < length p.classes) → is_among d (option_to_list o) ≡ true → d < length p.classes
-  one-within None d each h = absurd (false_true h)
+  one-within None d each h = absurd (false≢true h)
   one-within (Some k) d each h =
-      elim (either (d == k) false h) [
+      elim (or_cases (d == k) false h) [
         | inl a ↦ subst (λ j. j < length p.classes) (sym (equal d k a)) (each k refl)
-        | inr b ↦ absurd (false_true b)
+        | inr b ↦ absurd (false≢true b)
       ]
 
   among-cons : (o : Option ℕ) (xs : List ℕ) (d : ℕ) → is_among d (cons_option o xs) ≡ true → (is_among d (option_to_list o) ≡ true) ⊎ (is_among d xs ≡ true)
   among-cons None xs d h = inr h
   among-cons (Some k) xs d h =
-      elim (either (d == k) (is_among d xs) h) [
-        | inl a ↦ inl (or-first (d == k) false a)
+      elim (or_cases (d == k) (is_among d xs) h) [
+        | inl a ↦ inl (or_left (d == k) false a)
         | inr b ↦ inr b
       ]
 
   filter-within : (names : List (List ℕ)) (d : ℕ) → is_among d (filter_map (class_named p) names) ≡ true → d < length p.classes
-  filter-within [] d h = absurd (false_true h)
+  filter-within [] d h = absurd (false≢true h)
   filter-within (name ∷ rest) d h =
       elim (among-cons (class_named p name) (filter_map (class_named p) rest) d h) [
         | inl a ↦ one-within (class_named p name) d (λ k e. named-within name k e) a
@@ -109,7 +109,7 @@ module _ (p : Program) where
 
   pub direct-within : (class d : ℕ) → is_among d (direct p class) ≡ true → d < length p.classes
   direct-within class d h =
-      elim (either (is_among d (interfaces_of p class)) (is_among d (superclass_of p class)) (sym (among-append d (interfaces_of p class) (superclass_of p class)) ∙ h)) [
+      elim (or_cases (is_among d (interfaces_of p class)) (is_among d (superclass_of p class)) (sym (among-append d (interfaces_of p class) (superclass_of p class)) ∙ h)) [
         | inl a ↦ filter-within (option_map_or interface_names (class_at p class) []) d a
         | inr b ↦ one-within (super_of p class) d (λ k e. then-within _ k e) b
       ]
@@ -126,7 +126,7 @@ module _ (p : Program) where
       by : (o : Option ClassFile) → class_at p class ≡ o → (class ≡ upper) ⊎ IsStep class upper → class < length p.classes
       by (Some k) e s = slice_get_within p.classes class k e
       by None e (inl same) = subst (λ n. n < length p.classes) (sym same) small
-      by None e (inr s) = absurd (false_true (sym (ap (is_among s.by) (no-direct class e)) ∙ s.there))
+      by None e (inr s) = absurd (false≢true (sym (ap (is_among s.by) (no-direct class e)) ∙ s.there))
 
 -- where all that stands above a class is loaded, one comes to it by those that the class names itself
 pub direct-lead : (p : Program) (loaded : List ℕ) (class : ℕ) → HasSupertypes p (loaded ++ class ∷ []) → LeadTo p loaded class (direct p class)

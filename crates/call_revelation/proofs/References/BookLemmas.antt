@@ -1,8 +1,10 @@
 -- Instructions that are noted by the classes that they name.
-use Rattle.std.proofs.Common.{◌≡◌, ℕ, zero, suc, ◌+◌, ◌<◌, ◌≤◌, Bool, true, false, List, [], ◌∷◌, ◌++◌, length, map, ap, sym, subst, refl, ◌∙◌, arith, inl, inr}
+use Rattle.std.proofs.Common.{◌≡◌, ℕ, zero, suc, ◌+◌, ◌<◌, ◌≤◌, Bool, true, false, List, [], ◌∷◌, ◌++◌, length, ap, sym, subst, refl, ◌∙◌, arith, inl, inr}
 use Rattle.std.specs.Prelude.{Option, Some, None, ◌⊎◌, is_some, replicate, slice_get, slice_set, ◌==◌, ◌||◌, if◌then◌else◌}
 use Rattle.std.specs.List.{list_any}
 use Rattle.std.specs.Option.{option_flatten, option_map_or}
+use Rattle.std.proofs.lemmas.Option.{none-some, same_Some}
+use Rattle.std.proofs.lemmas.Bool.{and_from, or_left, or_right}
 use Rattle.jvm_model.specs.declared.program.Program.{Program}
 use Rattle.jvm_model.specs.Instructions.SymbolicReference.{resolved_name}
 use Rattle.jvm_model.specs.Basis.Programs.{class_named, has_name}
@@ -11,7 +13,7 @@ use Rattle.jvm_model.specs.Profiling.Targets.{operations_of}
 use Rattle.jvm_model.proofs.Soundness.SoundKinds.{named-class}
 use Rattle.jvm_model.specs.declared.instruction.SymbolicReference.{SymbolicReference}
 use Rattle.possible_callees.specs.Tables.{list_at, with_item}
-use Rattle.possible_callees.proofs.Truths.{both, none-some, or-assoc, or-first, or-later, some-some}
+use Rattle.possible_callees.proofs.Truths.{or-assoc}
 use Rattle.possible_callees.proofs.Numbers.Adding.{equal, itself}
 use Rattle.possible_callees.proofs.Classes.LineageLemmas.{below-or-past}
 use Rattle.possible_callees.proofs.Numbers.TableLemmas.{at-other, at-same, length-with, nothing_past, set-length, set-other, set-same}
@@ -32,7 +34,7 @@ use-kept caller at class n u lists h = by (class == n) refl
     there same (inl within) =
         ap (λ j. has_use caller at (list_at (with_item n u lists) j)) same
         ∙ (ap (has_use caller at) (at-same u n lists within) ∙ (any-append (is_use caller at) (list_at lists n) (u ∷ [])
-        ∙ or-first (has_use caller at (list_at lists n)) (has_use caller at (u ∷ [])) (ap (λ j. has_use caller at (list_at lists j)) (sym same) ∙ h)))
+        ∙ or_left (has_use caller at (list_at lists n)) (has_use caller at (u ∷ [])) (ap (λ j. has_use caller at (list_at lists j)) (sym same) ∙ h)))
     there same (inr past) = sym (ap (λ l. has_use caller at (list_at l class)) (nothing_past u n lists past)) ∙ h
 
     by : (b : Bool) → (class == n) ≡ b → has_use caller at (list_at (with_item n u lists) class) ≡ true
@@ -43,8 +45,8 @@ use-there : (caller at n : ℕ) (lists : List (List Use)) → n < length lists �
 use-there caller at n lists within =
     ap (has_use caller at) (at-same (use_of caller at) n lists within)
     ∙ (any-append (is_use caller at) (list_at lists n) (use_of caller at ∷ [])
-    ∙ or-later (has_use caller at (list_at lists n)) (has_use caller at (use_of caller at ∷ []))
-    (or-first (is_use caller at (use_of caller at)) false (both (caller == caller) (at == at) (itself caller) (itself at))))
+    ∙ or_right (has_use caller at (list_at lists n)) (has_use caller at (use_of caller at ∷ []))
+    (or_left (is_use caller at (use_of caller at)) false (and_from (caller == caller) (at == at) (itself caller) (itself at))))
 
 pub more-same : (lists : List (List Use)) → HasMore lists lists
 more-same lists = record { places = refl; kept = λ caller at class h. h }
@@ -98,8 +100,8 @@ module _ (p : Program) where
       let one = with_noted p calls (use_of caller at) x lists in
       (uses-more calls caller (at + 1) rest one).kept caller k class
       (ap (λ j. has_use caller j (list_at one class)) (let same : k ≡ at = omega (arith, is) in same)
-      ∙ noted-listed calls caller at x lists places (ap (is_noted calls) (some-some x n e) ∙ noted) class
-      (ap (λ y. class_named p (resolved_name y)) (some-some x n e) ∙ named))
+      ∙ noted-listed calls caller at x lists places (ap (is_noted calls) (same_Some x n e) ∙ noted) class
+      (ap (λ y. class_named p (resolved_name y)) (same_Some x n e) ∙ named))
   uses-listed calls caller at (x ∷ rest) lists places (suc i) k n e noted is = λ class named.
       let one = with_noted p calls (use_of caller at) x lists in
       uses-listed calls caller (at + 1) rest one ((noted-more calls (use_of caller at) x lists).places ∙ places) i k n e noted (omega (arith, is)) class named
@@ -139,7 +141,7 @@ module _ (p : Program) (codes : Codes) (waiting calls : List (List Use)) (book :
   which k xs e = by (k == method) refl
     where
       by : (b : Bool) → (k == method) ≡ b → ((k ≡ method) × (xs ≡ ns)) ⊎ (code_at codes k ≡ Some xs)
-      by true h = let same = equal k method h in inl (same, some-some xs ns (sym e ∙ (ap (code_at more) same ∙ here)))
+      by true h = let same = equal k method h in inl (same, same_Some xs ns (sym e ∙ (ap (code_at more) same ∙ here)))
       by false h = inr (sym (ap option_flatten (set-other codes method k (Some ns) h)) ∙ e)
 
   pub book-read : IsBook p more waiting_more calls_more

@@ -2,6 +2,7 @@
 use Rattle.std.proofs.Common.{◌≡◌, ℕ, ◌<◌, Bool, true, false, List, [], ◌∷◌, ◌++◌, length, ap, sym, subst, refl, ◌∙◌, inl, inr}
 use Rattle.std.specs.Prelude.{flat_map, replicate, slice_set, unwrap_or, Option, ◌==◌, ◌||◌, ◌⊎◌, if◌then◌else◌}
 use Rattle.std.specs.Option.{option_to_list}
+use Rattle.std.proofs.lemmas.Bool.{false≢true, or_cases, or_left, or_right}
 use Rattle.jvm_model.specs.declared.program.Program.{Program}
 use Rattle.jvm_model.specs.Classes.Load.{is_among}
 use Rattle.jvm_model.specs.Classes.Lookup.{is_subtype}
@@ -15,7 +16,7 @@ use Rattle.class_index.specs.Orders.{with_class}
 use Rattle.possible_callees.specs.declared.lineage.Lineage.{Lineage}
 use Rattle.possible_callees.specs.Lineages.{IsClosed, IsLineage, IsNoted, direct, class_noted}
 use Rattle.possible_callees.specs.Tables.{list_at}
-use Rattle.possible_callees.proofs.Truths.{either, false_true, or-false, or-first, or-later}
+use Rattle.possible_callees.proofs.Truths.{or-false}
 use Rattle.possible_callees.proofs.Numbers.Adding.{among-append, among-with, equal, itself, to_flat}
 use Rattle.possible_callees.proofs.Classes.LineageLemmas.{loaded-before, noted-there, nothing-noted}
 use Rattle.possible_callees.proofs.Numbers.TableLemmas.{set-length, set-other, set-same}
@@ -30,7 +31,7 @@ use Rattle.call_revelation.proofs.Classes.SubtypeSteps.{IsStep, lower-within, on
 pub nothing-named : (p : Program) (v : Named) → v.classes ≡ [] → v.above.items ≡ replicate (length p.classes) [] → (loaded : List ℕ) → AreHanded p loaded v
 nothing-named p v none empty loaded = record {
   places = nothing-noted p v.above.items empty;
-  whole = λ lower upper within there sub among. absurd (false_true (sym (ap (is_among upper) none) ∙ among));
+  whole = λ lower upper within there sub among. absurd (false≢true (sym (ap (is_among upper) none) ∙ among));
 }
 
 -- over fewer classes
@@ -47,11 +48,11 @@ handed-with p loaded more v class b e is = fewer-handed p more (loaded ++ class 
   where
     by : (b : Bool) (x : ℕ) → is_among x (if b then with_class loaded class else loaded) ≡ true → is_among x (loaded ++ class ∷ []) ≡ true
     by true x h =
-        among-append x loaded (class ∷ []) ∙ elim (either (is_among x loaded) (x == class) (sym (among-with x loaded class) ∙ h)) [
-          | inl a ↦ or-first (is_among x loaded) (is_among x (class ∷ [])) a
-          | inr c ↦ or-later (is_among x loaded) (is_among x (class ∷ [])) (or-first (x == class) false c)
+        among-append x loaded (class ∷ []) ∙ elim (or_cases (is_among x loaded) (x == class) (sym (among-with x loaded class) ∙ h)) [
+          | inl a ↦ or_left (is_among x loaded) (is_among x (class ∷ [])) a
+          | inr c ↦ or_right (is_among x loaded) (is_among x (class ∷ [])) (or_left (x == class) false c)
         ]
-    by false x h = among-append x loaded (class ∷ []) ∙ or-first (is_among x loaded) (is_among x (class ∷ [])) h
+    by false x h = among-append x loaded (class ∷ []) ∙ or_left (is_among x loaded) (is_among x (class ∷ [])) h
 
 -- ---- a call more
 
@@ -69,7 +70,7 @@ pub handed-noted : (p : Program) (v : Lineage) (old new : Named) (class : ℕ) (
 handed-noted p v old new class lower lined own closed only noted_is added is = record {
   places = only.places ∙ is.places;
   whole = λ x upper within there sub among.
-      elim (either (is_among upper old.classes) (upper == class) (sym (among-with upper old.classes class) ∙ (sym (ap (is_among upper) added) ∙ among))) [
+      elim (or_cases (is_among upper old.classes) (upper == class) (sym (among-with upper old.classes class) ∙ (sym (ap (is_among upper) added) ∙ among))) [
         | inl before ↦ only.more x upper (is.whole x upper within there sub before)
         | inr same ↦ handed x upper (equal upper class same) within there sub
       ];
@@ -114,7 +115,7 @@ module _ (p : Program) (loaded : List ℕ) (old new : Named) (class : ℕ) (uppe
       by : (x upper : ℕ) → upper < length p.classes → is_among x loaded ≡ true → is_subtype p x upper ≡ true → is_among upper new.classes ≡ true
           → (b : Bool) → (x == class) ≡ b → is_among upper (list_at new.above.items x) ≡ true
       by x upper within there sub among false e = of-other x upper e within there sub among
-      by x upper within there sub among true e = absurd (false_true (sym fresh ∙ (sym (ap (λ k. is_among k loaded) (equal x class e)) ∙ there)))
+      by x upper within there sub among true e = absurd (false≢true (sym fresh ∙ (sym (ap (λ k. is_among k loaded) (equal x class e)) ∙ there)))
 
   module _ (all : (upper : ℕ) → upper < length p.classes → is_among upper old.classes ≡ true → is_subtype p class upper ≡ true → is_among upper uppers ≡ true) where
     of-class : (upper : ℕ) → upper < length p.classes → is_subtype p class upper ≡ true → is_among upper new.classes ≡ true
@@ -136,9 +137,9 @@ module _ (p : Program) (loaded : List ℕ) (old new : Named) (class : ℕ) (uppe
             let same : x ≡ class = equal x class e in
             ap (λ k. is_among upper (list_at new.above.items k)) same ∙ of-class upper within (ap (λ k. is_subtype p k upper) (sym same) ∙ sub) among
         by x upper within there sub among false e =
-            elim (either (is_among x loaded) (is_among x (class ∷ [])) (sym (among-append x loaded (class ∷ [])) ∙ there)) [
+            elim (or_cases (is_among x loaded) (is_among x (class ∷ [])) (sym (among-append x loaded (class ∷ [])) ∙ there)) [
               | inl before ↦ of-other x upper e within before sub among
-              | inr it ↦ absurd (false_true (sym e ∙ (sym (or-false (x == class)) ∙ it)))
+              | inr it ↦ absurd (false≢true (sym e ∙ (sym (or-false (x == class)) ∙ it)))
             ]
 
 -- ---- those above the new class
@@ -154,11 +155,11 @@ all-uppers p loaded v class uppers is above are upper within among sub =
 
     by : (class ≡ upper) ⊎ IsStep p class upper → (is_among upper own || is_among upper (flat_map (list_at v.above.items) (direct p class))) ≡ true
     by (inl same) =
-        or-first (is_among upper own) (is_among upper (flat_map (list_at v.above.items) (direct p class)))
+        or_left (is_among upper own) (is_among upper (flat_map (list_at v.above.items) (direct p class)))
         (ap (λ b. is_among upper (if b then class ∷ [] else [])) (ap (λ k. is_among k v.classes) same ∙ among)
-        ∙ or-first (upper == class) false (ap (λ k. upper == k) same ∙ itself upper))
+        ∙ or_left (upper == class) false (ap (λ k. upper == k) same ∙ itself upper))
     by (inr s) =
-        or-later (is_among upper own) (is_among upper (flat_map (list_at v.above.items) (direct p class)))
+        or_right (is_among upper own) (is_among upper (flat_map (list_at v.above.items) (direct p class)))
         (to_flat (list_at v.above.items) (direct p class) s.by upper s.there
         (is.whole s.by upper within (loaded-before p loaded class above s.by s.there s.other) s.above among))
 
@@ -168,11 +169,11 @@ called-within p method class h =
   where
     by : (n : SymbolicReference) (b : Bool) → is_among class (if b then option_to_list (class_named p (resolved_name n)) else []) ≡ true → class < length p.classes
     by n true k = one-within p (class_named p (resolved_name n)) class (λ d e. named-within p (resolved_name n) d e) k
-    by n false k = absurd (false_true k)
+    by n false k = absurd (false≢true k)
 
 pub uppers-known : (p : Program) (loaded : List ℕ) (v : Named) (entered : List ℕ) (class : ℕ) → AreHanded p (loaded ++ class ∷ []) v
     → ((m : ℕ) → is_among m entered ≡ true → HasCalled p v m) → HasUppers p entered class (list_at v.above.items class)
 uppers-known p loaded v entered class is called caller upper there names sub =
     is.whole class upper (called-within p caller upper names)
-    (among-append class loaded (class ∷ []) ∙ or-later (is_among class loaded) (is_among class (class ∷ [])) (or-first (class == class) false (itself class)))
+    (among-append class loaded (class ∷ []) ∙ or_right (is_among class loaded) (is_among class (class ∷ [])) (or_left (class == class) false (itself class)))
     sub (called caller there upper names)

@@ -3,6 +3,8 @@ use Rattle.std.proofs.Common.{◌≡◌, ℕ, zero, suc, Bool, true, false, List
 use Rattle.std.specs.Prelude.{Option, Some, None, slice_get, ◌⊎◌, ◌||◌, if◌then◌else◌}
 use Rattle.std.specs.List.{cons_option}
 use Rattle.std.specs.Option.{option_map_or}
+use Rattle.std.proofs.lemmas.Bool.{false≢true, or_cases, or_left, or_right}
+use Rattle.std.proofs.lemmas.Option.{none-some, same_Some}
 use Rattle.const_pool.specs.References.{Reference}
 use Rattle.jvm_model.specs.declared.program.Program.{Program}
 use Rattle.jvm_model.specs.declared.instruction.Operation.{Operation}
@@ -14,7 +16,6 @@ use Rattle.jvm_model.specs.declared.instruction.SymbolicReference.{SymbolicRefer
 use Rattle.jvm_model.specs.declared.instruction.SymbolicReference.TheVariants.{New, Getfield, Putfield, Getstatic, Putstatic, Invokevirtual, Invokespecial, Invokestatic, Invokeinterface, Checkcast, Instanceof, Anewarray, Multianewarray, LdcClass}
 use Rattle.jvm_model.specs.Profiling.Revelation.{gained_by, gained_by_operation, gained_call, gained_in, gained_named, gained_on, is_named, symbolic_reference_in, symbolic_references_of}
 use Rattle.jvm_model.specs.Profiling.Targets.{begun_by, begun_by_operation, loaded_class_named, targets_in}
-use Rattle.possible_callees.proofs.Truths.{either, false_true, none-some, or-first, or-later, some-some}
 use Rattle.possible_callees.proofs.Numbers.Adding.{among-append}
 use Rattle.call_revelation.specs.Books.{called_on, is_call}
 
@@ -93,15 +94,15 @@ module _ (of_operation : Operation → List ℕ) (f : SymbolicReference → List
   all_of (op ∷ rest) = of_operation op ++ all_of rest
 
   pub from-all : (ops : List Operation) (m : ℕ) → is_among m (all_of ops) ≡ true → IsOne f (symbolic_references_of ops) m
-  from-all [] m h = absurd (false_true h)
+  from-all [] m h = absurd (false≢true h)
   from-all (op ∷ rest) m h =
-      elim (either (is_among m (of_operation op)) (is_among m (all_of rest)) (sym (among-append m (of_operation op) (all_of rest)) ∙ h)) [
+      elim (or_cases (is_among m (of_operation op)) (is_among m (all_of rest)) (sym (among-append m (of_operation op) (all_of rest)) ∙ h)) [
         | inl a ↦ first (symbolic_reference_in op) (sees op) a
         | inr b ↦ one-behind (symbolic_reference_in op) (symbolic_references_of rest) m (from-all rest m b)
       ]
     where
       first : (o : Option SymbolicReference) → SeesReference of_operation f op o → is_among m (of_operation op) ≡ true → IsOne f (cons_option o (symbolic_references_of rest)) m
-      first None e a = absurd (false_true (sym (ap (is_among m) e) ∙ a))
+      first None e a = absurd (false≢true (sym (ap (is_among m) e) ∙ a))
       first (Some n) e a = record { index = 0; reference = n; there = refl; within = sym (ap (is_among m) e) ∙ a }
 
   pub to-all : (ops : List Operation) (m i : ℕ) (n : SymbolicReference) → slice_get (symbolic_references_of ops) i ≡ Some n → is_among m (f n) ≡ true → is_among m (all_of ops) ≡ true
@@ -111,10 +112,10 @@ module _ (of_operation : Operation → List ℕ) (f : SymbolicReference → List
       by : (o : Option SymbolicReference) (i : ℕ) → SeesReference of_operation f op o → slice_get (cons_option o (symbolic_references_of rest)) i ≡ Some n
           → ((j : ℕ) → slice_get (symbolic_references_of rest) j ≡ Some n → is_among m (f n) ≡ true → is_among m (all_of rest) ≡ true)
           → (is_among m (of_operation op) || is_among m (all_of rest)) ≡ true
-      by None i s e behind = or-later (is_among m (of_operation op)) (is_among m (all_of rest)) (behind i e h)
+      by None i s e behind = or_right (is_among m (of_operation op)) (is_among m (all_of rest)) (behind i e h)
       by (Some x) zero s e behind =
-          or-first (is_among m (of_operation op)) (is_among m (all_of rest)) (ap (is_among m) s ∙ (ap (λ y. is_among m (f y)) (some-some x n e) ∙ h))
-      by (Some x) (suc j) s e behind = or-later (is_among m (of_operation op)) (is_among m (all_of rest)) (behind j e h)
+          or_left (is_among m (of_operation op)) (is_among m (all_of rest)) (ap (is_among m) s ∙ (ap (λ y. is_among m (f y)) (same_Some x n e) ∙ h))
+      by (Some x) (suc j) s e behind = or_right (is_among m (of_operation op)) (is_among m (all_of rest)) (behind j e h)
 
   pub is-all : (ops : List Operation) (g : List Operation → List ℕ) → g [] ≡ [] → ((op : Operation) (rest : List Operation) → g (op ∷ rest) ≡ of_operation op ++ g rest)
       → g ops ≡ all_of ops
@@ -159,14 +160,14 @@ module _ (p : Program) (loaded : List ℕ) where
       where
         by : (b : Bool) → is_named p new (resolved_name n) ≡ b → is_among m (if b then begun_by p (loaded ++ new ∷ []) n else []) ≡ true → NamesIt n m
         by true e h = record { named = e; begun = h }
-        by false e h = absurd (false_true h)
+        by false e h = absurd (false≢true h)
 
     calls-it : (n : SymbolicReference) (by : Selecting) (r : Reference) (m : ℕ) → is_call n ≡ true → resolved_name n ≡ r.class
         → ((class : ℕ) → called_on p new class n ≡ gained_on p new class by r) → is_among m (gained_call p loaded new by r) ≡ true → CallsIt n m
     calls-it n by r m is same on h = at (loaded_class_named p loaded r.class) refl h
       where
         at : (o : Option ℕ) → loaded_class_named p loaded r.class ≡ o → is_among m (option_map_or (λ class. gained_on p new class by r) o []) ≡ true → CallsIt n m
-        at None e h = absurd (false_true h)
+        at None e h = absurd (false≢true h)
         at (Some class) e h =
             record { call = is; class = class; named = ap (loaded_class_named p loaded) same ∙ e; called = ap (is_among m) (on class) ∙ h }
 
@@ -179,45 +180,45 @@ module _ (p : Program) (loaded : List ℕ) where
     gained-either (Invokevirtual r) m h =
         let front = gained_named p loaded new (Invokevirtual r) r.class in
         let back = gained_call p loaded new Virtual r in
-        elim (either (is_among m front) (is_among m back) (sym (among-append m front back) ∙ h)) [
+        elim (or_cases (is_among m front) (is_among m back) (sym (among-append m front back) ∙ h)) [
           | inl a ↦ inl (names-it (Invokevirtual r) m a)
           | inr b ↦ inr (calls-it (Invokevirtual r) Virtual r m refl refl (λ class. refl) b)
         ]
     gained-either (Invokeinterface r) m h =
         let front = gained_named p loaded new (Invokeinterface r) r.class in
         let back = gained_call p loaded new OfInterface r in
-        elim (either (is_among m front) (is_among m back) (sym (among-append m front back) ∙ h)) [
+        elim (or_cases (is_among m front) (is_among m back) (sym (among-append m front back) ∙ h)) [
           | inl a ↦ inl (names-it (Invokeinterface r) m a)
           | inr b ↦ inr (calls-it (Invokeinterface r) OfInterface r m refl refl (λ class. refl) b)
         ]
-    gained-either (Getfield r) m h = absurd (false_true h)
-    gained-either (Putfield r) m h = absurd (false_true h)
-    gained-either (Checkcast name) m h = absurd (false_true h)
-    gained-either (Instanceof name) m h = absurd (false_true h)
-    gained-either (Anewarray name) m h = absurd (false_true h)
-    gained-either (Multianewarray name dimensions) m h = absurd (false_true h)
-    gained-either (LdcClass name) m h = absurd (false_true h)
+    gained-either (Getfield r) m h = absurd (false≢true h)
+    gained-either (Putfield r) m h = absurd (false≢true h)
+    gained-either (Checkcast name) m h = absurd (false≢true h)
+    gained-either (Instanceof name) m h = absurd (false≢true h)
+    gained-either (Anewarray name) m h = absurd (false≢true h)
+    gained-either (Multianewarray name dimensions) m h = absurd (false≢true h)
+    gained-either (LdcClass name) m h = absurd (false≢true h)
 
     -- a call that names a loaded class
     pub called-gains : (n : SymbolicReference) (m class : ℕ) → loaded_class_named p loaded (resolved_name n) ≡ Some class → is_among m (called_on p new class n) ≡ true
         → is_among m (gained_by p loaded new n) ≡ true
     called-gains (Invokevirtual r) m class e h =
         among-append m (gained_named p loaded new (Invokevirtual r) r.class) (gained_call p loaded new Virtual r)
-        ∙ or-later (is_among m (gained_named p loaded new (Invokevirtual r) r.class)) (is_among m (gained_call p loaded new Virtual r))
+        ∙ or_right (is_among m (gained_named p loaded new (Invokevirtual r) r.class)) (is_among m (gained_call p loaded new Virtual r))
         (ap (λ o. is_among m (option_map_or (λ class. gained_on p new class Virtual r) o [])) e ∙ h)
     called-gains (Invokeinterface r) m class e h =
         among-append m (gained_named p loaded new (Invokeinterface r) r.class) (gained_call p loaded new OfInterface r)
-        ∙ or-later (is_among m (gained_named p loaded new (Invokeinterface r) r.class)) (is_among m (gained_call p loaded new OfInterface r))
+        ∙ or_right (is_among m (gained_named p loaded new (Invokeinterface r) r.class)) (is_among m (gained_call p loaded new OfInterface r))
         (ap (λ o. is_among m (option_map_or (λ class. gained_on p new class OfInterface r) o [])) e ∙ h)
-    called-gains (New name) m class e h = absurd (false_true h)
-    called-gains (Getstatic r) m class e h = absurd (false_true h)
-    called-gains (Putstatic r) m class e h = absurd (false_true h)
-    called-gains (Invokestatic r) m class e h = absurd (false_true h)
-    called-gains (Invokespecial caller r interface) m class e h = absurd (false_true h)
-    called-gains (Getfield r) m class e h = absurd (false_true h)
-    called-gains (Putfield r) m class e h = absurd (false_true h)
-    called-gains (Checkcast name) m class e h = absurd (false_true h)
-    called-gains (Instanceof name) m class e h = absurd (false_true h)
-    called-gains (Anewarray name) m class e h = absurd (false_true h)
-    called-gains (Multianewarray name dimensions) m class e h = absurd (false_true h)
-    called-gains (LdcClass name) m class e h = absurd (false_true h)
+    called-gains (New name) m class e h = absurd (false≢true h)
+    called-gains (Getstatic r) m class e h = absurd (false≢true h)
+    called-gains (Putstatic r) m class e h = absurd (false≢true h)
+    called-gains (Invokestatic r) m class e h = absurd (false≢true h)
+    called-gains (Invokespecial caller r interface) m class e h = absurd (false≢true h)
+    called-gains (Getfield r) m class e h = absurd (false≢true h)
+    called-gains (Putfield r) m class e h = absurd (false≢true h)
+    called-gains (Checkcast name) m class e h = absurd (false≢true h)
+    called-gains (Instanceof name) m class e h = absurd (false≢true h)
+    called-gains (Anewarray name) m class e h = absurd (false≢true h)
+    called-gains (Multianewarray name dimensions) m class e h = absurd (false≢true h)
+    called-gains (LdcClass name) m class e h = absurd (false≢true h)

@@ -3,6 +3,8 @@ use Rattle.std.proofs.Common.{◌≡◌, ℕ, zero, suc, ◌+◌, ◌<◌, ◌�
 use Rattle.std.specs.Prelude.{Option, Some, None, is_some, replicate, slice_get, ◌==◌, if◌then◌else◌}
 use Rattle.std.specs.List.{AllByRecursion}
 use Rattle.std.specs.Option.{option_map_or}
+use Rattle.std.proofs.lemmas.Bool.{false≢true, or_left, or_right}
+use Rattle.std.proofs.lemmas.Option.{none-some, same_Some}
 use Rattle.const_pool.specs.declared.class.ClassFile.{ClassFile}
 use Rattle.const_pool.specs.declared.class.Member.{Member}
 use Rattle.jvm_model.specs.declared.event.Mark.TheVariants.{Off}
@@ -19,7 +21,6 @@ use Rattle.member_selection.specs.Numbers.{AreNumbers}
 use Rattle.prepared_code.specs.Prepared.{HasShortCodes}
 use Rattle.possible_callees.specs.Lineages.{IsLineage}
 use Rattle.possible_callees.specs.Tables.{list_at, with_item}
-use Rattle.possible_callees.proofs.Truths.{false_true, none-some, or-first, or-later, some-some}
 use Rattle.possible_callees.proofs.Numbers.Adding.{among-append, itself}
 use Rattle.possible_callees.proofs.Classes.LineageLemmas.{item-kept}
 use Rattle.possible_callees.proofs.Numbers.TableLemmas.{at-same, length-with}
@@ -38,7 +39,7 @@ all-append P (x ∷ xs) ys first second = (first.0, all-append P xs ys first.1 s
 
 pub all-get : {A : Type 0} (P : A → Type 0) (xs : List A) (i : ℕ) (x : A) → AllByRecursion P xs → slice_get xs i ≡ Some x → P x
 all-get P [] i x all e = absurd (none-some x e)
-all-get P (y ∷ ys) zero x all e = subst P (some-some y x e) all.0
+all-get P (y ∷ ys) zero x all e = subst P (same_Some y x e) all.0
 all-get P (y ∷ ys) (suc i) x all e = all-get P ys i x all.1 e
 
 abbrev IsWithin : ℕ → MethodPlace → Type 0
@@ -76,12 +77,12 @@ owned-there : (n : ℕ) (ms : List MethodPlace) (lists : List (List ℕ)) (i m :
     → place.class < length lists → is_among m (list_at (owned_from n ms lists) place.class) ≡ true
 owned-there n [] lists i m place e is within = absurd (none-some place e)
 owned-there n (x ∷ ms) lists zero m place e is within =
-    let same : x.class ≡ place.class = ap (λ (y : MethodPlace). y.class) (some-some x place e) in
+    let same : x.class ≡ place.class = ap (λ (y : MethodPlace). y.class) (same_Some x place e) in
     owned-kept (n + 1) ms (with_item x.class n lists) m place.class
     (ap (λ c. is_among m (list_at (with_item c n lists) place.class)) same
     ∙ (ap (is_among m) (at-same n place.class lists within)
     ∙ (among-append m (list_at lists place.class) (n ∷ [])
-    ∙ or-later (is_among m (list_at lists place.class)) (is_among m (n ∷ [])) (or-first (m == n) false (ap (λ k. k == n) (let z : m ≡ n = omega (arith, is) in z) ∙ itself n)))))
+    ∙ or_right (is_among m (list_at lists place.class)) (is_among m (n ∷ [])) (or_left (m == n) false (ap (λ k. k == n) (let z : m ≡ n = omega (arith, is) in z) ∙ itself n)))))
 owned-there n (x ∷ ms) lists (suc i) m place e is within =
     owned-there (n + 1) ms (with_item x.class n lists) i m place e (omega (arith, is)) (subst (λ k. place.class < k) (sym (length-with n x.class lists)) within)
 
@@ -133,10 +134,10 @@ first-revelation p r is fit short numbers lineage book named empty = record {
     flags = λ m. ap (λ l. flag_at l m) empty.flags ∙ (no-flag (length p.methods) m ∙ sym (ap (is_among m) empty.entered));
     flagged = ap length empty.flags ∙ replicate-length (length p.methods) false;
     marked = ap length empty.shown ∙ replicate-length (length p.methods) Off;
-    booked = λ m h. absurd (false_true (sym (ap (is_among m) empty.entered) ∙ h));
-    callers = λ m h. absurd (false_true (sym (ap (is_among m) empty.entered) ∙ h));
+    booked = λ m h. absurd (false≢true (sym (ap (is_among m) empty.entered) ∙ h));
+    callers = λ m h. absurd (false≢true (sym (ap (is_among m) empty.entered) ∙ h));
     named = named;
-    called = λ m h. absurd (false_true (sym (ap (is_among m) empty.entered) ∙ h));
+    called = λ m h. absurd (false≢true (sym (ap (is_among m) empty.entered) ∙ h));
   };
   targets = λ m.
       ap (is_among m) empty.targets ∙ sym (ap (λ l. is_target p (operations_of p) r.lineage.loaded l m) empty.entered);

@@ -1,12 +1,12 @@
 -- What a call leaves that stops can be cut back to what there was.
 use Rattle.std.proofs.Common.{◌≡◌, ℕ, Bool, true, false, List, length, take, ap, sym, subst, refl, ◌∙◌}
 use Rattle.std.specs.Prelude.{is_some, Result, Ok, Err, OnErr}
+use Rattle.std.proofs.lemmas.Bool.{false≢true}
 use Rattle.jvm_model.specs.declared.program.Program.{Program}
 use Rattle.jvm_model.specs.Classes.Load.{is_among}
 use Rattle.possible_callees.specs.declared.lineage.Lineage.{Lineage}
 use Rattle.possible_callees.specs.Lineages.{IsLineage}
 use Rattle.possible_callees.specs.Tables.{IsPrefix}
-use Rattle.possible_callees.proofs.Truths.{false_true}
 use Rattle.possible_callees.proofs.Numbers.Fronts.{front-among, front-self, front-take, front-then}
 use Rattle.call_revelation.specs.declared.book.Book.{Book}
 use Rattle.call_revelation.specs.declared.named.Named.{Named}
@@ -122,7 +122,7 @@ not-before a b m front none = by (is_among m a) refl
   where
     by : (t : Bool) → is_among m a ≡ t → is_among m a ≡ false
     by false e = e
-    by true e = absurd (false_true (sym none ∙ front-among a b m front e))
+    by true e = absurd (false≢true (sym none ∙ front-among a b m front e))
 
 -- with fewer classes loaded
 abbrev pub cut_lineage : Lineage → List ℕ → Lineage

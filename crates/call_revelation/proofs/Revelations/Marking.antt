@@ -2,6 +2,7 @@
 use Rattle.std.proofs.Common.{◌≡◌, ℕ, ◌<◌, Bool, true, false, List, [], ◌∷◌, ◌++◌, length, ap, sym, subst, refl, ◌∙◌, inl, inr}
 use Rattle.std.specs.Prelude.{Option, Some, None, is_some, not, slice_set, unwrap_or, ◌==◌, ◌||◌, ◌&&◌}
 use Rattle.std.specs.Option.{option_map_or}
+use Rattle.std.proofs.lemmas.Bool.{false≢true, or_cases, or_left, or_parts}
 use Rattle.jvm_model.specs.declared.program.MethodPlace.{MethodPlace}
 use Rattle.jvm_model.specs.declared.program.Program.{Program}
 use Rattle.jvm_model.specs.Classes.Load.{is_among}
@@ -14,7 +15,7 @@ use Rattle.class_linker.specs.Linkers.{IsLoaded, LinkerView}
 use Rattle.possible_callees.specs.declared.lineage.Lineage.{Lineage}
 use Rattle.possible_callees.specs.Lineages.{IsLineage}
 use Rattle.possible_callees.specs.Tables.{Adds, IsPrefix, list_at}
-use Rattle.possible_callees.proofs.Truths.{either, false_true, neither, or-false, or-first}
+use Rattle.possible_callees.proofs.Truths.{or-false}
 use Rattle.possible_callees.proofs.Numbers.Adding.{among-append, among-filter, among-with, equal}
 use Rattle.possible_callees.proofs.Numbers.TableLemmas.{set-length, set-other, set-same}
 use Rattle.possible_callees.proofs.Numbers.Fronts.{front-among}
@@ -37,7 +38,7 @@ mark-is p r is m =
 
 class-kept : (p : Program) (loaded : List ℕ) (new m : ℕ) → HasClass p loaded m → HasClass p (loaded ++ new ∷ []) m
 class-kept p loaded new m has place e =
-    among-append place.class loaded (new ∷ []) ∙ or-first (is_among place.class loaded) (is_among place.class (new ∷ [])) (has place e)
+    among-append place.class loaded (new ∷ []) ∙ or_left (is_among place.class loaded) (is_among place.class (new ∷ [])) (has place e)
 
 pub kept-loaded : (p : Program) (r : Reveal) (new : ℕ) (lineage : Lineage) → IsKept p r → IsLineage p lineage → lineage.loaded ≡ r.lineage.loaded ++ new ∷ []
     → AreHanded p (r.lineage.loaded ++ new ∷ []) r.named → IsKept p (record r { lineage = lineage })
@@ -58,7 +59,7 @@ kept-loaded p r new lineage is lined loaded handed = record {
   called = is.called;
 }
 
--- neither targets nor what is stale matter
+-- or_parts targets nor what is stale matter
 pub kept-other : (p : Program) (r : Reveal) (targets stale : List ℕ) → IsKept p r → IsKept p (record r { targets = targets; stale = stale })
 kept-other p r targets stale is = record {
   fit = is.fit;
@@ -124,7 +125,7 @@ named-more p r named is handed more = record { kept = kept-named p r named is.ke
 pub ahead-more : (l : LinkerView) (r : Reveal) (new : ℕ) (next : Reveal) → IsAhead l r → IsLoaded l new → next.lineage.loaded ≡ r.lineage.loaded ++ new ∷ []
     → IsAhead l next
 ahead-more l r new next ahead there loaded = record {
-  loaded = λ class h. elim (either (is_among class r.lineage.loaded) (is_among class (new ∷ [])) (sym (among-append class r.lineage.loaded (new ∷ [])) ∙ (sym (ap (is_among class) loaded) ∙ h))) [
+  loaded = λ class h. elim (or_cases (is_among class r.lineage.loaded) (is_among class (new ∷ [])) (sym (among-append class r.lineage.loaded (new ∷ [])) ∙ (sym (ap (is_among class) loaded) ∙ h))) [
     | inl old ↦ ahead.loaded class old
     | inr same ↦ ap (λ c. is_among c l.loaded) (equal class new (sym (or-false (class == new)) ∙ same)) ∙ there
   ];
@@ -140,7 +141,7 @@ other-class p own loaded new m owned none = by (place_of_method p m) refl
     test : (place : MethodPlace) (b : Bool) → place_of_method p m ≡ Some place → (place.class == new) ≡ b
         → is_among place.class (loaded ++ new ∷ []) ≡ is_among place.class loaded
     test place true e same =
-        absurd (false_true (sym none ∙ (ap (λ c. is_among m (list_at own c)) (sym (equal place.class new same)) ∙ owned place e)))
+        absurd (false≢true (sym none ∙ (ap (λ c. is_among m (list_at own c)) (sym (equal place.class new same)) ∙ owned place e)))
     test place false e other =
         among-append place.class loaded (new ∷ []) ∙ (ap (λ b. is_among place.class loaded || (b || false)) other ∙ or-false (is_among place.class loaded))
 
@@ -165,8 +166,8 @@ module _ (p : Program) (r : Reveal) (is : IsRevelation p r) (new : ℕ) (above :
 
   not-stale : (m : ℕ) → is_among m stale ≡ false → (is_among m r.stale ≡ false) × ((is_among m found ≡ false) × (is_among m (list_at r.own.items new) ≡ false))
   not-stale m none =
-      let one = neither (is_among m first) (is_among m (list_at r.own.items new)) (sym (owned m) ∙ none) in
-      let two = neither (is_among m r.stale) (is_among m found) (sym (staled m) ∙ one.0) in
+      let one = or_parts (is_among m first) (is_among m (list_at r.own.items new)) (sym (owned m) ∙ none) in
+      let two = or_parts (is_among m r.stale) (is_among m found) (sym (staled m) ∙ one.0) in
       (two.0, (two.1, one.1))
 
   still-marked : (m : ℕ) → is_among m stale ≡ false
@@ -201,7 +202,7 @@ module _ (p : Program) (r : Reveal) (is : IsRevelation p r) (method : ℕ) (with
 
   if-entered : (P : ℕ → Type 0) (m : ℕ) → is_among m entered ≡ true → P method → (is_among m r.entered ≡ true → P m) → P m
   if-entered P m h first behind =
-      elim (either (m == method) (is_among m r.entered) h) [
+      elim (or_cases (m == method) (is_among m r.entered) h) [
         | inl same ↦ subst P (sym (equal m method same)) first
         | inr there ↦ behind there
       ]
@@ -246,7 +247,7 @@ module _ (p : Program) (r : Reveal) (is : IsRevelation p r) (method : ℕ) (with
     };
     targets = λ m. targeted m ∙ (ap (λ t. t || is_among m found) (is.targets m) ∙ sym (target-too m));
     shown = λ m none.
-        let old = neither (is_among m r.stale) (is_among m found) (sym (staled m) ∙ none) in
+        let old = or_parts (is_among m r.stale) (is_among m found) (sym (staled m) ∙ none) in
         is.shown m old.0
         ∙ ap (λ t. mark_by (has_class p r.lineage.loaded m) (is_among m r.selected) t)
         (sym (target-too m ∙ (ap (λ t. is_target p (operations_of p) r.lineage.loaded r.entered m || t) old.1 ∙ or-false (is_target p (operations_of p) r.lineage.loaded r.entered m))));
@@ -296,7 +297,7 @@ selected-more p r is method selected stale staled others = reselected p r is sel
   where
     each : (m : ℕ) → is_among m stale ≡ false → (is_among m r.stale ≡ false) × (is_among m selected ≡ is_among m r.selected)
     each m none =
-        let both = neither (is_among m r.stale) (m == method) (sym (among-with m r.stale method) ∙ (sym (ap (is_among m) staled) ∙ none)) in
+        let both = or_parts (is_among m r.stale) (m == method) (sym (among-with m r.stale method) ∙ (sym (ap (is_among m) staled) ∙ none)) in
         (both.0, others m both.1)
 
 pub others-with : (method m : ℕ) (selected methods : List ℕ) → selected ≡ method ∷ without_method method methods → (m == method) ≡ false
@@ -324,14 +325,14 @@ quieted p r is flags stale long off staled = record {
     flags = off;
     flagged = long ∙ is.kept.flagged;
     marked = is.kept.marked;
-    booked = λ m h. absurd (false_true h);
-    callers = λ m h. absurd (false_true h);
+    booked = λ m h. absurd (false≢true h);
+    callers = λ m h. absurd (false≢true h);
     named = is.kept.named;
-    called = λ m h. absurd (false_true h);
+    called = λ m h. absurd (false≢true h);
   };
   targets = λ m. refl;
   shown = λ m none.
-      let old = neither (is_among m r.stale) (is_among m r.targets) (sym (staled m) ∙ none) in
+      let old = or_parts (is_among m r.stale) (is_among m r.targets) (sym (staled m) ∙ none) in
       is.shown m old.0
       ∙ ap (λ t. mark_by (has_class p r.lineage.loaded m) (is_among m r.selected) t) (sym (is.targets m) ∙ old.1);
 }
@@ -342,4 +343,4 @@ staler p r is stale front = reselected p r is r.selected stale (λ m none. (befo
   where
     before : (m : ℕ) → is_among m stale ≡ false → (b : Bool) → is_among m r.stale ≡ b → is_among m r.stale ≡ false
     before m none false e = e
-    before m none true e = absurd (false_true (sym none ∙ front-among r.stale stale m front e))
+    before m none true e = absurd (false≢true (sym none ∙ front-among r.stale stale m front e))

@@ -3,6 +3,8 @@ use Rattle.std.proofs.Common.{◌≡◌, ℕ, zero, suc, ◌+◌, ◌<◌, ◌�
 use Rattle.std.specs.Prelude.{Option, Some, None, ◌⊎◌, filter_map, not, slice_get, slice_set, unwrap_or, ◌==◌, ◌&&◌, if◌then◌else◌}
 use Rattle.std.specs.List.{cons_option, enumerate_from, list_any}
 use Rattle.std.specs.Option.{option_and_then, option_map_or}
+use Rattle.std.proofs.lemmas.Bool.{and_from, false≢true, or_cases, or_left, or_right}
+use Rattle.std.proofs.lemmas.Option.{none-some, same_Some}
 use Rattle.jvm_model.specs.declared.event.Mark.{Mark}
 use Rattle.jvm_model.specs.declared.event.Mark.TheVariants.{Off, Plain, Root}
 use Rattle.jvm_model.specs.declared.program.MethodPlace.{MethodPlace}
@@ -14,7 +16,7 @@ use Rattle.jvm_model.specs.Profiling.Swaps.{differs, same_mark}
 use Rattle.jvm_model.specs.Profiling.Targets.{operations_of}
 use Rattle.possible_callees.specs.Tables.{IsRising}
 use Rattle.possible_callees.specs.Ranks.{AreDistinct, rank_of}
-use Rattle.possible_callees.proofs.Truths.{alike, both, either, false_true, first-of, none-some, or-first, or-later, second-of, some-some}
+use Rattle.possible_callees.proofs.Truths.{alike, first-of, second-of}
 use Rattle.possible_callees.proofs.Numbers.Adding.{equal, itself}
 use Rattle.possible_callees.proofs.Classes.RankLemmas.{rank-is, rank-there}
 use Rattle.possible_callees.proofs.Numbers.TableLemmas.{set-length, set-other, set-same}
@@ -43,10 +45,10 @@ any-numbered : (test : ℕ × MethodPlace → Bool) (k : ℕ) (xs : List MethodP
     → list_any test (enumerate_from k xs) ≡ true
 any-numbered test k [] i x e h = absurd (none-some x e)
 any-numbered test k (y ∷ ys) zero x e h =
-    or-first (test (k, y)) (list_any test (enumerate_from (k + 1) ys))
-    (ap₂ (λ (j : ℕ) (z : MethodPlace). test (j, z)) (let z : k ≡ k + 0 = omega arith in z) (some-some y x e) ∙ h)
+    or_left (test (k, y)) (list_any test (enumerate_from (k + 1) ys))
+    (ap₂ (λ (j : ℕ) (z : MethodPlace). test (j, z)) (let z : k ≡ k + 0 = omega arith in z) (same_Some y x e) ∙ h)
 any-numbered test k (y ∷ ys) (suc i) x e h =
-    or-later (test (k, y)) (list_any test (enumerate_from (k + 1) ys))
+    or_right (test (k, y)) (list_any test (enumerate_from (k + 1) ys))
     (any-numbered test (k + 1) ys i x e (ap (λ (j : ℕ). test (j, x)) (let z : k + 1 + i ≡ k + suc i = omega arith in z) ∙ h))
 
 record IsNumbered (test : ℕ × MethodPlace → Bool) (k : ℕ) (xs : List MethodPlace) : Type 0 where
@@ -56,9 +58,9 @@ record IsNumbered (test : ℕ × MethodPlace → Bool) (k : ℕ) (xs : List Meth
   holds : test (k + index, item) ≡ true
 
 numbered-any : (test : ℕ × MethodPlace → Bool) (k : ℕ) (xs : List MethodPlace) → list_any test (enumerate_from k xs) ≡ true → IsNumbered test k xs
-numbered-any test k [] h = absurd (false_true h)
+numbered-any test k [] h = absurd (false≢true h)
 numbered-any test k (x ∷ xs) h =
-    elim (either (test (k, x)) (list_any test (enumerate_from (k + 1) xs)) h) [
+    elim (or_cases (test (k, x)) (list_any test (enumerate_from (k + 1) xs)) h) [
       | inl a ↦ record { index = 0; item = x; there = refl; holds = ap (λ (j : ℕ). test (j, x)) (let z : k + 0 ≡ k = omega arith in z) ∙ a }
       | inr b ↦
           let i = numbered-any test (k + 1) xs b in
@@ -72,31 +74,31 @@ record IsMade (f : ℕ → Option ℕ) (xs : List ℕ) (y : ℕ) : Type 0 where
   gives : f item ≡ Some y
 
 made-from : (f : ℕ → Option ℕ) (xs : List ℕ) (y : ℕ) → is_among y (filter_map f xs) ≡ true → IsMade f xs y
-made-from f [] y h = absurd (false_true h)
+made-from f [] y h = absurd (false≢true h)
 made-from f (x ∷ xs) y h = by (f x) refl h (made-from f xs y)
   where
     behind : IsMade f xs y → IsMade f (x ∷ xs) y
-    behind i = record { item = i.item; there = or-later (i.item == x) (is_among i.item xs) i.there; gives = i.gives }
+    behind i = record { item = i.item; there = or_right (i.item == x) (is_among i.item xs) i.there; gives = i.gives }
 
     by : (o : Option ℕ) → f x ≡ o → is_among y (cons_option o (filter_map f xs)) ≡ true → (is_among y (filter_map f xs) ≡ true → IsMade f xs y) → IsMade f (x ∷ xs) y
     by None e h rest = behind (rest h)
     by (Some z) e h rest =
-        elim (either (y == z) (is_among y (filter_map f xs)) h) [
-          | inl same ↦ record { item = x; there = or-first (x == x) (is_among x xs) (itself x); gives = e ∙ ap (λ w. Some w) (sym (equal y z same)) }
+        elim (or_cases (y == z) (is_among y (filter_map f xs)) h) [
+          | inl same ↦ record { item = x; there = or_left (x == x) (is_among x xs) (itself x); gives = e ∙ ap (λ w. Some w) (sym (equal y z same)) }
           | inr later ↦ behind (rest later)
         ]
 
 made-to : (f : ℕ → Option ℕ) (xs : List ℕ) (x y : ℕ) → is_among x xs ≡ true → f x ≡ Some y → is_among y (filter_map f xs) ≡ true
-made-to f [] x y there e = absurd (false_true there)
+made-to f [] x y there e = absurd (false≢true there)
 made-to f (z ∷ zs) x y there e =
-    elim (either (x == z) (is_among x zs) there) [
-      | inl same ↦ ap (λ o. is_among y (cons_option o (filter_map f zs))) (ap f (sym (equal x z same)) ∙ e) ∙ or-first (y == y) (is_among y (filter_map f zs)) (itself y)
+    elim (or_cases (x == z) (is_among x zs) there) [
+      | inl same ↦ ap (λ o. is_among y (cons_option o (filter_map f zs))) (ap f (sym (equal x z same)) ∙ e) ∙ or_left (y == y) (is_among y (filter_map f zs)) (itself y)
       | inr later ↦ pushed (f z) (made-to f zs x y later e)
     ]
   where
     pushed : (o : Option ℕ) → is_among y (filter_map f zs) ≡ true → is_among y (cons_option o (filter_map f zs)) ≡ true
     pushed None h = h
-    pushed (Some w) h = or-later (y == w) (is_among y (filter_map f zs)) h
+    pushed (Some w) h = or_right (y == w) (is_among y (filter_map f zs)) h
 
 -- ---- classes whose marks differ
 
@@ -126,7 +128,7 @@ module _ (p : Program) (r : Reveal) (is : IsRevelation p r) (before : Revealed) 
       at : (o : Option MethodPlace) → slice_get r.methods m ≡ o → same_mark (mark_at r.shown m) (mark_kept r m) ≡ false
           → option_map_or (λ (place : MethodPlace). Some place.class) o None ≡ Some class → IsChanged m
       at None o k e = absurd (none-some class e)
-      at (Some place) o k e = record { place = place; there = o; is_class = some-some place.class class e; other = k }
+      at (Some place) o k e = record { place = place; there = o; is_class = same_Some place.class class e; other = k }
 
       by : (b : Bool) → same_mark (mark_at r.shown m) (mark_kept r m) ≡ b
           → (if b then None else option_map_or (λ (place : MethodPlace). Some place.class) (slice_get r.methods m) None) ≡ Some class → IsChanged m
@@ -140,7 +142,7 @@ module _ (p : Program) (r : Reveal) (is : IsRevelation p r) (before : Revealed) 
       let here : slice_get p.methods made.item ≡ Some c.place = sym (ap (λ l. slice_get l made.item) is.kept.methods) ∙ c.there in
       any-numbered test 0 p.methods made.item c.place here
       (ap (λ (j : ℕ). test (j, c.place)) (let z : 0 + made.item ≡ made.item = omega arith in z)
-      ∙ both (c.place.class == class) (not (same_mark (mark_of p before made.item) (mark_of p (now_of r) made.item)))
+      ∙ and_from (c.place.class == class) (not (same_mark (mark_of p before made.item) (mark_of p (now_of r) made.item)))
       (ap (λ k. k == class) c.is_class ∙ itself class)
       (ap not (not-same made.item c.place here false c.other)))
 
@@ -151,7 +153,7 @@ module _ (p : Program) (r : Reveal) (is : IsRevelation p r) (before : Revealed) 
       by : (b : Bool) → is_among m r.stale ≡ b → is_among m r.stale ≡ true
       by true k = k
       by false k =
-          absurd (false_true (sym other ∙ (ap (λ x. same_mark x (mark_of p (now_of r) m)) (sym (was-shown m place e) ∙ is.shown m k) ∙ same-itself (mark_of p (now_of r) m))))
+          absurd (false≢true (sym other ∙ (ap (λ x. same_mark x (mark_of p (now_of r) m)) (sym (was-shown m place e) ∙ is.shown m k) ∙ same-itself (mark_of p (now_of r) m))))
 
   changed-from : list_any test (enumerate_from 0 p.methods) ≡ true → is_among class (filter_map (class_changed r) r.stale) ≡ true
   changed-from h =
@@ -168,7 +170,7 @@ module _ (p : Program) (r : Reveal) (is : IsRevelation p r) (before : Revealed) 
     where
       is-not : (b : Bool) → not b ≡ true → b ≡ false
       is-not false h = refl
-      is-not true h = absurd (false_true h)
+      is-not true h = absurd (false≢true h)
 
   class-differs : is_among class (filter_map (class_changed r) r.stale) ≡ differs p (operations_of p) (stand_of before) (stand_of (now_of r)) class
   class-differs = alike (is_among class (filter_map (class_changed r) r.stale)) (list_any test (enumerate_from 0 p.methods)) changed-to changed-from
@@ -202,7 +204,7 @@ module _ (p : Program) (r : Reveal) (is : IsRevelation p r) (before : Revealed) 
   hit-rank i h = by (slice_get r.lineage.loaded i) refl h
     where
       by : (o : Option ℕ) → slice_get r.lineage.loaded i ≡ o → option_map_or is_changed o false ≡ true → is_among i changed_ranks ≡ true
-      by None e h = absurd (false_true h)
+      by None e h = absurd (false≢true h)
       by (Some class) e h =
           let made = made-from (class_changed r) r.stale class (class-differs p r is before shown class ∙ h) in
           made-to (rank_changed r) r.stale made.item i made.there
@@ -236,10 +238,10 @@ mark-stays r (x ∷ rest) shown m within e =
 
 mark-set : (r : Reveal) (methods : List ℕ) (shown : List Mark) (m : ℕ) → m < length shown → is_among m methods ≡ true
     → mark_at (with_marks r methods shown) m ≡ mark_kept r m
-mark-set r [] shown m within h = absurd (false_true h)
+mark-set r [] shown m within h = absurd (false≢true h)
 mark-set r (x ∷ rest) shown m within h =
     let longer = subst (λ n. m < n) (sym (set-length shown x (mark_kept r x))) within in
-    elim (either (m == x) (is_among m rest) h) [
+    elim (or_cases (m == x) (is_among m rest) h) [
       | inl k ↦
           let same = equal m x k in
           mark-stays r rest (slice_set shown x (mark_kept r x)) m longer

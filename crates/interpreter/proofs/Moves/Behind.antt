@@ -1,7 +1,7 @@
 -- An instruction that awaits a class: what its second attempt asks. Several steps leave a sound state.
-use Rattle.std.proofs.Common.{◌≡◌, ℕ, zero, suc, Bool, true, false, List, length, Option, Some, None, refl, sym, ap, subst, ◌∙◌}
+use Rattle.std.proofs.Common.{◌≡◌, ℕ, zero, suc, true, List, length, Option, Some, None, sym, ap, subst, ◌∙◌}
 use Rattle.std.specs.Prelude.{is_none, ◌&&◌}
-use Rattle.std.proofs.lemmas.Bool.{false≢true}
+use Rattle.std.proofs.lemmas.Bool.{and_parts}
 use Rattle.frame_stack.specs.FrameLists.{has_frame}
 use Rattle.jvm_model.specs.declared.state.State.{State}
 use Rattle.jvm_model.specs.Running.Applies.{still}
@@ -19,17 +19,13 @@ use Rattle.instructions.proofs.Moves.Sounded.{attempted-sound}
 use Rattle.prepared_code.specs.Versions.{Setup, listing_of}
 use Rattle.prepared_code.specs.Ready.{CanRun, IsSoundIn, RunsIn}
 
-both : (a b : Bool) → (a && b) ≡ true → (a ≡ true) × (b ≡ true)
-both true b e = (refl, e)
-both false b e = absurd (false≢true e)
-
 -- a frame that stands on top goes on
 goes-there : (ms : List Initialization) (p : Parts) → IsGoing (state_of ms p) → goes_on_in ms p ≡ true
 goes-there ms p going = ap (λ e. is_none e && (has_frame p.frames.frames && is_executing ms p)) going.ending ∙ executing ms p going
 
 pub none-there : (ms : List Initialization) (p : Parts) → goes_on_in ms p ≡ true → initialization_on (length p.frames.frames) ms ≡ None
 none-there ms p goes =
-    none-of ms (length p.frames.frames) (both (has_frame p.frames.frames) (is_executing ms p) (both (is_none p.ending) (has_frame p.frames.frames && is_executing ms p) goes).1).1
+    none-of ms (length p.frames.frames) (and_parts (has_frame p.frames.frames) (is_executing ms p) (and_parts (is_none p.ending) (has_frame p.frames.frames && is_executing ms p) goes).1).1
 
 -- ---- a step whose instruction awaits a class
 

@@ -2,6 +2,7 @@
 use Rattle.std.proofs.Common.{◌≡◌, ◌-◌, ℕ, suc, Bool, true, false, List, [], ◌∷◌, length, Some, None, refl, sym, ap, ◌∙◌, arith}
 use Rattle.std.specs.Prelude.{is_none, not, ◌&&◌, ◌==◌}
 use Rattle.std.proofs.lemmas.Option.{none-some, same_Some}
+use Rattle.std.proofs.lemmas.Bool.{and_right}
 use Rattle.frame_stack.specs.FrameLists.{PlacedFrame, has_frame, top_of}
 use Rattle.jvm_model.specs.declared.due.Due.TheVariants.{Begins, Ends, Nothing}
 use Rattle.jvm_model.specs.declared.event.EventKind.TheVariants as kind
@@ -37,10 +38,6 @@ leaves-here w here [] is = absurd (none-some here is)
 leaves-here w here (f ∷ fs) is =
     let same : record { version = f.version; method = f.method; place = f.place } ≡ here = same_Some _ here is in
     ap (λ (h : Here). leaves_at w.versions h.version h.place) same
-
-not-and : (a b : Bool) → b ≡ false → (a && b) ≡ false
-not-and true b is = is
-not-and false b is = refl
 
 -- a method that has begun is on top
 top-begun : (w : Setup) (method count : ℕ) (fs : List PlacedFrame) → top_of (with_begun true w method count fs) ≡ Some (current_of w.versions method, method)
@@ -78,7 +75,7 @@ module _ (w : Setup) (run : CanRun w) (ms : List Initialization) (old new : Part
       (follows-told w live 0 ms new 1 counts enters) refl in
       record {
         loads = none;
-        reaches = once ∙ tries-silently w delivered 0 ms old run going (not-and (not delivered) (leaves_in w.versions old.frames.frames) apart);
+        reaches = once ∙ tries-silently w delivered 0 ms old run going (and_right (not delivered) (leaves_in w.versions old.frames.frames) apart);
         loaded = is.loaded;
         world = is.world;
         keeps = is.keeps;
@@ -131,4 +128,4 @@ pub no-return : (w : Setup) (here : Here) (line : Line) (fs : List PlacedFrame) 
     → returns_by line.action ≡ false → leaves_in w.versions fs ≡ false
 no-return w here line fs stands found isnt =
     leaves-here w here fs stands
-    ∙ not-and (not (is_off (mark_of w.versions here.version))) (is_return_line (line_at w.versions here.version here.place)) (ap is_return_line found ∙ isnt)
+    ∙ and_right (not (is_off (mark_of w.versions here.version))) (is_return_line (line_at w.versions here.version here.place)) (ap is_return_line found ∙ isnt)

@@ -2,7 +2,7 @@
 use Rattle.std.proofs.Common.{◌≡◌, ℕ, suc, Bool, true, false, List, [], ◌∷◌, ◌++◌, length, map, Option, Some, None, if◌then◌else◌, refl, sym, subst, ap, ◌∙◌, arith}
 use Rattle.std.specs.Option.{IfSome}
 use Rattle.std.specs.Prelude.{is_none, is_some, not, ◌&&◌, ◌==◌}
-use Rattle.std.proofs.lemmas.Bool.{false≢true, eqb-true}
+use Rattle.std.proofs.lemmas.Bool.{false≢true, eqb-true, and_parts}
 use Rattle.std.proofs.lemmas.List.{append-nil}
 use Rattle.std.proofs.lemmas.Option.{none-some}
 use Rattle.frame_stack.specs.FrameLists.{PlacedFrame, has_frame}
@@ -84,10 +84,6 @@ and-and : (a b c : Bool) → ((a && b) && c) ≡ (a && (b && c))
 and-and true b c = refl
 and-and false b c = refl
 
-both : (a b : Bool) → (a && b) ≡ true → (a ≡ true) × (b ≡ true)
-both true b e = (refl, e)
-both false b e = absurd (false≢true e)
-
 -- ---- a state whose current frame stands on top
 
 module _ (w : Setup) (run : CanRun w) (n : ℕ) (s : State) (going : IsGoing s) where
@@ -128,12 +124,12 @@ module _ (w : Setup) (run : CanRun w) (n : ℕ) (s : State) (going : IsGoing s) 
       → (not delivered && (not (is_off (v f.version)) && is_return_line lo)) ≡ true
       → (tried_in w delivered n s ≡ pause_at s n (Ends kind.Leave)) × (loads_at w.world s f io ≡ [])
   told-by delivered None io at tie due =
-      absurd (false≢true (both (not (is_off (v f.version))) false (both (not delivered) (not (is_off (v f.version)) && false) due).1).1)
+      absurd (false≢true (and_parts (not (is_off (v f.version))) false (and_parts (not delivered) (not (is_off (v f.version)) && false) due).1).1)
   told-by delivered (Some line) None at tie due = absurd tie
   told-by delivered (Some line) (Some i) at tie due =
       let is = due-by delivered (Some line) i tie ∙ due in (
         leaves w.world t v delivered n s f going.rest going.ending going.stack i at is,
-        return-loads w i.operation s.shared f.operands (both (not delivered && not (is_off (v f.version))) (is_return i.operation) is).1,
+        return-loads w i.operation s.shared f.operands (and_parts (not delivered && not (is_off (v f.version))) (is_return i.operation) is).1,
       )
 
   pub told-first : (delivered : Bool) → (not delivered && leaves_at w.versions f.version f.place) ≡ true → tried_in w delivered n s ≡ pause_at s n (Ends kind.Leave)
@@ -312,19 +308,19 @@ nothing-due Begins is = absurd (false≢true is)
 
 module _ (n c : ℕ) (q : Pause) (again : tries_again n c q ≡ true) where
   three : (is_nothing q.due && q.passed == n && is_ready (phase_of q.state.shared c)) ≡ true
-  three = (both (is_nothing q.due && q.passed == n && is_ready (phase_of q.state.shared c)) (goes_on q.state.ending q.state.thrown) again).0
+  three = (and_parts (is_nothing q.due && q.passed == n && is_ready (phase_of q.state.shared c)) (goes_on q.state.ending q.state.thrown) again).0
 
   two : (is_nothing q.due && q.passed == n) ≡ true
-  two = (both (is_nothing q.due && q.passed == n) (is_ready (phase_of q.state.shared c)) three).0
+  two = (and_parts (is_nothing q.due && q.passed == n) (is_ready (phase_of q.state.shared c)) three).0
 
   pub again-ready : is_ready (phase_of q.state.shared c) ≡ true
-  again-ready = (both (is_nothing q.due && q.passed == n) (is_ready (phase_of q.state.shared c)) three).1
+  again-ready = (and_parts (is_nothing q.due && q.passed == n) (is_ready (phase_of q.state.shared c)) three).1
 
   pub again-same : q.passed ≡ n
-  again-same = eqb-true q.passed n (both (is_nothing q.due) (q.passed == n) two).1
+  again-same = eqb-true q.passed n (and_parts (is_nothing q.due) (q.passed == n) two).1
 
   pub again-nothing : q.due ≡ Nothing
-  again-nothing = nothing-due q.due (both (is_nothing q.due) (q.passed == n) two).0
+  again-nothing = nothing-due q.due (and_parts (is_nothing q.due) (q.passed == n) two).0
 
 -- ---- over the parts of a machine
 

@@ -1,6 +1,5 @@
 -- A step that tells nothing is made, or none; then several, and what the next one has come to.
 use Rattle.std.proofs.Common.{◌≡◌, ◌+◌, ℕ, Bool, true, false, List, Some, refl, sym, subst, arith}
-use Rattle.std.specs.Prelude.{not}
 use Rattle.std.proofs.lemmas.Bool.{false≢true}
 use Rattle.jvm_model.specs.declared.due.Due.{Due}
 use Rattle.jvm_model.specs.declared.due.Due.TheVariants.{Begins, Ends, Nothing}
@@ -27,10 +26,6 @@ pub off-by : (mark : Mark) → is_off mark ≡ true → mark ≡ Off
 off-by Off is = refl
 off-by Plain is = absurd (false≢true is)
 off-by Root is = absurd (false≢true is)
-
-pub not-marked : (b : Bool) → not b ≡ false → b ≡ true
-not-marked true is = refl
-not-marked false is = sym is
 
 module _ (w : Setup) (ms : List Initialization) (old new : Parts) where
   -- nothing is told of it

@@ -6,7 +6,7 @@ use Rattle.std.specs.List.{AllZip, list_any}
 use Rattle.std.specs.Option.{option_map}
 use Rattle.std.specs.Result.{MatchResult}
 use Rattle.std.specs.Str.{bytes_eq, is_utf8}
-use Rattle.std.proofs.lemmas.Bool.{cases_Bool, eq-eqb, eqb-true, ne_eqb, or_from, or_left}
+use Rattle.std.proofs.lemmas.Bool.{cases_Bool, eq-eqb, eqb-true, ne_eqb, or_from, or_left, false≢true}
 use Rattle.std.proofs.lemmas.Option.{same_Some}
 use Rattle.std.proofs.lemmas.Str.{IsUtf8-from_is_utf8, is_utf8-from_IsUtf8}
 use Rattle.const_pool.specs.declared.class.ClassFile.{ClassFile}
@@ -31,9 +31,6 @@ use Rattle.jfluid_cli.specs.Actions.{Alternate, AlternateRoots, chosen_by}
 use Rattle.jfluid_cli.proofs.Runs.Admitted.{IsActOf, plan-acts, program_for}
 use Rattle.jfluid_cli.proofs.Actions.NamedRoots.{named-alike, same-method}
 use Rattle.jfluid_cli.proofs.Reports.Pairs.{zip-push}
-
-not-both : false ≡ true → ⊥
-not-both e = cc
 
 abbrev Answer : Type 0
 Answer = Result Plan PlanError
@@ -183,7 +180,7 @@ line-fine : (number : ℕ) (plan : Plan) (line : List ℕ) (r : Answer) → Alte
     → IsLine number plan line r → IsFine r
 line-fine number plan line r fine is = elim (cases_Bool (is_utf8 line)) [
   | inl utf8 ↦ said-fine number plan line r fine (is.text (IsUtf8-from_is_utf8 line utf8))
-  | inr other ↦ is-fine r _ (is.other (λ text. not-both (sym other ∙ is_utf8-from_IsUtf8 line text))) tt
+  | inr other ↦ is-fine r _ (is.other (λ text. false≢true (sym other ∙ is_utf8-from_IsUtf8 line text))) tt
 ]
 
 -- ---- a text
@@ -238,10 +235,10 @@ others-none k (x ∷ xs) = by (x == k) refl (others-none k xs) where
       → is_among k (cond (not b) (x ∷ filter (λ x. not (x == k)) xs) (filter (λ x. not (x == k)) xs)) ≡ false
   by true e rest = rest
   by false e rest = or_from (k == x) (is_among k (filter (λ x. not (x == k)) xs))
-      (ne_eqb k x (λ is. not-both (sym e ∙ eq-eqb x k (sym is)))) rest
+      (ne_eqb k x (λ is. false≢true (sym e ∙ eq-eqb x k (sym is)))) rest
 
 differ : (k m : ℕ) → (k == m) ≡ false → m ≡ k → ⊥
-differ k m e is = not-both (sym e ∙ eq-eqb k m (sym is))
+differ k m e is = false≢true (sym e ∙ eq-eqb k m (sym is))
 
 -- what one action makes of what is selected
 chosen-one : (m : ℕ) (act : Act) (selected : List ℕ)
@@ -281,7 +278,7 @@ same-iff p q r k m left right = by (k == m) refl (same_root q r) refl where
   by true e false is =
       sym is ∙ named-alike p q r m (left ∙ ap (λ (n : ℕ). let o : Option ℕ = Some n in o) (eqb-true k m e)) right
   by false e true is =
-      absurd (not-both (sym e ∙ eq-eqb k m (same_Some k m (sym left ∙ (same-method p q r is ∙ right)))))
+      absurd (false≢true (sym e ∙ eq-eqb k m (same_Some k m (sym left ∙ (same-method p q r is ∙ right)))))
 
 -- the plan's words and the program's numbers tell the same of what is selected
 selected-alike : (p : Program) (r : RootName) (m : ℕ) → root_in p r ≡ Some m → (actions : List Action) (acts : List Act)

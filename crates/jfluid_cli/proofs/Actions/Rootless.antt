@@ -1,7 +1,8 @@
 -- A generated program is refused exactly for an action that names no method of it.
-use Rattle.std.proofs.Common.{◌≡◌, ℕ, suc, ◌+◌, List, [], ◌∷◌, Option, Some, None, Result, Ok, Err, true, false, refl, sym, ap, subst, ◌∙◌}
+use Rattle.std.proofs.Common.{◌≡◌, ℕ, suc, ◌+◌, List, [], ◌∷◌, Option, Some, None, Result, Ok, Err, true, refl, sym, ap, subst, ◌∙◌}
 use Rattle.std.specs.Prelude.{option_map, slice_get, IsSome}
 use Rattle.std.proofs.lemmas.Option.{none-some}
+use Rattle.std.proofs.lemmas.Bool.{false≢true}
 use Rattle.jf_bytes.specs.Streams.{Told}
 use Rattle.const_pool.specs.declared.class.ClassFile.{ClassFile}
 use Rattle.class_reader.specs.Files.{IsFile}
@@ -129,14 +130,11 @@ none-rooted k o p is h program =
     let none : act_of whole h.action ≡ None = ap (option_map (act_for h.action)) h.none in
     none-some pair.other (sym none ∙ pair.holds)
 
-not-both : false ≡ true → ⊥
-not-both e = cc e
-
 pub rootless-unfit : (g : CallInputs) → HasNoRoot g → IsSome g.told → IsUnfit g
 rootless-unfit g h some = by g.told refl some
   where
     by : (told : Option Told) → g.told ≡ told → IsSome told → IsUnfit g
-    by None e some = absurd (not-both some)
+    by None e some = absurd (false≢true some)
     by (Some files) e some =
         let k = h.command in
         let o = h.generation in

@@ -3,7 +3,7 @@ use Rattle.std.proofs.Common.{◌≡◌, ℕ, Bool, true, false, cond, List, [],
 use Rattle.std.specs.Prelude.{◌⊎◌, not, ◌&&◌}
 use Rattle.std.specs.List.{list_all}
 use Rattle.std.specs.Str.{is_utf8}
-use Rattle.std.proofs.lemmas.Bool.{and_from, and_parts, cases_Bool}
+use Rattle.std.proofs.lemmas.Bool.{and_from, and_parts, cases_Bool, not-true}
 use Rattle.std.proofs.lemmas.Str.{IsUtf8-from_is_utf8, is_utf8-from_IsUtf8}
 use Rattle.command_line.specs.Raw.{AreTexts}
 use Rattle.std.proofs.lemmas.Option.{same_Some}
@@ -54,16 +54,12 @@ read-there true true false read r e = absurd cc
 read-there true false c read r e = absurd cc
 read-there false b c read r e = absurd cc
 
-not-barred : (b : Bool) → not b ≡ true → b ≡ false
-not-barred true e = absurd cc
-not-barred false e = refl
-
 -- what is read of accepted words is sound
 pub accepted-sound : (words : List (List ℕ)) (r : Read) → words_accepted words ≡ Some r → IsSound r
 unfolding words_accepted is_allowed
 accepted-sound words r e =
     let there = read-there (list_all is_utf8 words) (is_taken words) (not (is_refused (words_said words))) (read_of (words_said words)) r e in
-    subst IsSound there.1 (sound (words_said words) (not-barred (is_refused (words_said words)) there.0))
+    subst IsSound there.1 (sound (words_said words) (not-true (is_refused (words_said words)) there.0))
 
 pub refused-rule : (words : List (List ℕ)) → is_taken words ≡ true → is_refused (words_said words) ≡ true → AreRefused words
 unfolding is_allowed

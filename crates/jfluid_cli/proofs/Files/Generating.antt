@@ -2,6 +2,7 @@
 use Rattle.std.proofs.Common.{◌≡◌, ℕ, ◌≤◌, List, Option, Some, None, Ok, Bool, true, false, cond, refl, sym, ap, subst, ◌∙◌}
 use Rattle.std.specs.Prelude.{is_some, option_map, IfSome}
 use Rattle.std.proofs.lemmas.Option.{same_Some}
+use Rattle.std.proofs.lemmas.Bool.{false≢true}
 use Rattle.jf_bytes.specs.Streams.{Told}
 use Rattle.const_pool.specs.declared.class.ClassFile.{ClassFile}
 use Rattle.class_reader.specs.Files.{IsFile}
@@ -96,9 +97,6 @@ loaded-generated told k o contents p is contents_are admitted sound =
 
 -- ---- what is refused
 
-not-both : false ≡ true → ⊥
-not-both e = cc e
-
 -- a fault of admission that is no want of memory
 pub due-generated : (g : CallInputs) (k : Command) (o : Generation) (fault : AdmitError) → Accepts g k → IsGeneratedOf k o
     → IsRefusedFor (admission_of_generated o.seed o.size k.plan) fault → IsBeforeTheRun g (refusal_for fault)
@@ -114,7 +112,7 @@ due-generated g k o fault accepts is refused = by (is_memory fault) refl where
         holds = (
           classes_generated o.seed o.size,
           generated-files o.seed o.size is.some is.most,
-          answer-generated k o is ∙ refused (λ same. not-both (sym other ∙ ap is_memory same)),
+          answer-generated k o is ∙ refused (λ same. false≢true (sym other ∙ ap is_memory same)),
         );
       })
 
@@ -150,5 +148,5 @@ generated-by g k a some = by k.generated refl
     same = ap (λ (x : Command). x.generated) (choice-of a.words k.plan k a.asked).with
 
     by : (x : Option Generation) → k.generated ≡ x → (o : Generation) × IsGeneratedOf k o
-    by None e = absurd (not-both (sym (ap (λ (y : Option Generation). is_some y) (same ∙ e)) ∙ some))
+    by None e = absurd (false≢true (sym (ap (λ (y : Option Generation). is_some y) (same ∙ e)) ∙ some))
     by (Some o) e = (o, generated-of g k o a e)

@@ -1,6 +1,7 @@
 -- What a run that was carried out leaves to its answer.
-use Rattle.std.proofs.Common.{◌≡◌, ℕ, Bool, true, false, List, Option, sym, subst, inl, inr}
+use Rattle.std.proofs.Common.{◌≡◌, ℕ, Bool, List, Option, sym, subst, inl, inr}
 use Rattle.std.specs.Prelude.{◌⊎◌, Result, Ok, Err, IfOk, IfErr, IsOk, OnOk, MatchResult}
+use Rattle.std.proofs.lemmas.Bool.{false≢true}
 use Rattle.jf_bytes.specs.Streams.{Rose}
 use Rattle.profile_session.specs.Answers.{Gathers}
 use Rattle.profile_session.specs.Sessions.{Profiling}
@@ -13,9 +14,6 @@ use Rattle.jfluid_cli.specs.Calls.{IsRun, IsShown}
 use Rattle.jfluid_cli.specs.Runs.{IsCarriedOut, StopCause}
 use Rattle.jfluid_cli.specs.Sinks.{Streams, IsUntold}
 use Rattle.jfluid_cli.specs.Stages.{IsStopped}
-
-not_ok : false ≡ true → ⊥
-not_ok e = cc
 
 -- a session whose tree was gathered has come as far
 gathered-out : (old new : Profiling) (budget : ℕ) (o n : Option (List ℕ)) → Gathers old new → IsCarriedOut old budget o n
@@ -49,7 +47,7 @@ run-answer (Ok status) (Ok x) s summary asked budget ran k ok gathers shown why 
   without_fault = without_fault;
   shown = shown;
 }
-run-answer (Ok status) (Err e) s summary asked budget ran k ok gathers shown why unshown carried without_fault = absurd (not_ok ok)
+run-answer (Ok status) (Err e) s summary asked budget ran k ok gathers shown why unshown carried without_fault = absurd (false≢true ok)
 run-answer (Err r) outcome s summary asked budget ran k ok gathers untold why unshown carried cause =
     record { why = by_cause why; untold = untold; unshown = unshown }
   where

@@ -2,7 +2,7 @@
 use Rattle.std.proofs.Common.{◌≡◌, ℕ, Bool, true, false, List, [], ◌∷◌, Option, Some, None, refl, sym, ap, subst, ◌∙◌, inl, inr}
 use Rattle.std.specs.Prelude.{◌⊎◌, Ok, Err, Result, IfSome, IsErr, IsSome, IsSomeAnd}
 use Rattle.std.specs.Option.{option_map_or}
-use Rattle.std.proofs.lemmas.Bool.{cases_eq}
+use Rattle.std.proofs.lemmas.Bool.{cases_eq, false≢true}
 use Rattle.std.proofs.lemmas.Option.{none-some}
 use Rattle.jf_bytes.specs.declared.error.NoMemory.{NoMemory as OutOfMemory}
 use Rattle.jf_bytes.specs.Streams.{Told, PutsAll, PutsPrefix, Rose}
@@ -33,9 +33,6 @@ use Rattle.jfluid_cli.proofs.Commands.OneCommand.{commanded, not-misplanned, one
 use Rattle.jfluid_cli.proofs.Actions.Rootless.{rootless-unfit, three-rootless}
 use Rattle.jfluid_cli.proofs.Files.Spelled.{one-spelling}
 use Rattle.jfluid_cli.proofs.Runs.Complete.{without_fault_not_rose, ends_as, ending_of_same, one-program}
-
-not_both : false ≡ true → ⊥
-not_both e = cc
 
 -- ---- what is kept
 
@@ -73,7 +70,7 @@ kept-ends c k p budget o alone a =
 -- something is kept
 held : (o : Option Kept) (P Q : Kept → Type 0) → IsSome o → IfSome o P → IfSome o Q → (k : Kept)
     × P k × Q k
-held None P Q some p q = absurd (not_both some)
+held None P Q some p q = absurd (false≢true some)
 held (Some k) P Q some p q = (k, p, q)
 
 held-and : (o : Option Kept) (P Q R : Kept → Type 0) → IsSomeAnd o R → IfSome o P → IfSome o Q
@@ -151,14 +148,14 @@ answered-run c status heard carried =
       always = carried.always;
       known = shown-known summary asked k.0.session.value s.images s.images_after s.report s.report_after status k.3.shown;
       ran = λ _. carried.ran;
-      refused = λ not_run. absurd (not_both (sym not_run ∙ run));
+      refused = λ not_run. absurd (false≢true (sym not_run ∙ run));
       unheard = λ none. absurd (heard none);
       words_only = λ none. absurd (none-some o.accepts.words (sym none ∙ o.accepts.read));
       root_only = λ bad. absurd (not-rooted g o.command bad o.accepts);
       plan_only = λ bad without_fault. absurd
           (not-misplanned g bad.words o.command bad.telling bad.read bad.misplanned o.accepts);
       file_only = λ unfit without_fault. absurd (not-unfit g (kept-program g k.0 o) unfit);
-      rootless = λ own three. absurd (not_both (ap is_run (sym three) ∙ run));
+      rootless = λ own three. absurd (false≢true (ap is_run (sym three) ∙ run));
       rootless_only = λ none some without_fault. absurd
           (not-unfit g (kept-program g k.0 o) (rootless-unfit g none some));
       input_only = λ long without_fault input_without_fault. absurd (kept-short g k.0 o long);
@@ -271,7 +268,7 @@ no-run r run =
     (other 11 refl)
   where
     other : (n : ℕ) → is_run n ≡ false → status_of r ≡ n → ⊥
-    other n none same = not_both (sym none ∙ (ap is_run (sym same) ∙ run))
+    other n none same = false≢true (sym none ∙ (ap is_run (sym same) ∙ run))
 
 one-status : (r : Refusal) → is_status (status_of r) ≡ true
 one-status r =

@@ -1,6 +1,7 @@
 -- Why nothing is made: each refusal before the input is taken, from what the readers say of the contents.
 use Rattle.std.proofs.Common.{◌≡◌, ℕ, ◌<◌, List, length, take, Option, Some, None, refl, sym, ap, subst, ◌∙◌, Bool, true, false, cond, inl, inr, Err}
 use Rattle.std.specs.Prelude.{◌≢◌, option_map, slice_get}
+use Rattle.std.proofs.lemmas.Bool.{false≢true}
 use Rattle.jf_bytes.specs.Streams.{Told, Rose}
 use Rattle.const_pool.specs.declared.class.ClassFile.{ClassFile}
 use Rattle.jvm_model.specs.declared.program.Program.{Program}
@@ -162,9 +163,6 @@ pub due-fault : (g : CallInputs) (asked : ProgramWanted) (fronts : List (List �
 due-fault g asked fronts classes fault f alone is =
     due g (NotAdmitted fault) refl (of-classes g asked fronts classes fault f alone is)
 
-not-both : false ≡ true → ⊥
-not-both e = cc
-
 -- a fault of admission that is no want of memory
 pub due-admission : (g : CallInputs) (asked : ProgramWanted) (fronts : List (List ℕ)) (classes : List ClassFile)
     (fault : AdmitError) → IsFetchedFor g asked fronts → SpellAlone fronts classes
@@ -174,7 +172,7 @@ due-admission g asked fronts classes fault f alone is = by (is_memory fault) ref
   by true memory = due-memory g
   by false other =
       due-fault g asked fronts classes fault f alone
-      (is (λ same. not-both (sym other ∙ ap is_memory same)))
+      (is (λ same. false≢true (sym other ∙ ap is_memory same)))
 
 pub admission-without_fault : (fault : AdmitError) → status_of (refusal_for fault) ≢ 7
 admission-without_fault fault = by (is_memory fault) where

@@ -3,6 +3,7 @@ use Rattle.std.proofs.Common.{◌≡◌, ℕ, ◌≤◌, Bool, true, false, List
 use Rattle.std.specs.Prelude.{Result, Ok, Err, is_some, IfSome, IsSome, IsSomeAnd, MatchResult}
 use Rattle.std.specs.Io.KnownBytes.{Consumes, IsAtEnd}
 use Rattle.std.specs.Option.{option_map_or, option_and_then}
+use Rattle.std.proofs.lemmas.Bool.{false≢true}
 use Rattle.jf_bytes.specs.Streams.{PutsPrefix}
 use Rattle.plan_text.specs.declared.plan.Plan.{Plan}
 use Rattle.jvm_model.specs.declared.program.Program.{Program}
@@ -27,9 +28,6 @@ use Rattle.jfluid_cli.specs.Words.{Command, words_accepted, asks_images, budget_
 use Rattle.command_line.proofs.Rests.{rest-of-long, rest-untaken, rest-within}
 use Rattle.jfluid_cli.proofs.Commands.OneCommand.{commanded}
 
-not_both : false ≡ true → ⊥
-not_both e = cc
-
 -- ---- where nothing is made
 
 -- nothing is kept, so nothing has to be said of it
@@ -43,7 +41,7 @@ nothing-made c none out images rest = record {
       (λ k. PutsAtMost k.session.value (budget_of (words_of c) k.plan) c.streams.out.taken c.streams.out_after.taken))
       (sym none) tt;
   rest = rest;
-  ended = λ some. absurd (not_both (subst (λ (o : Option Kept). IsSome o) none some));
+  ended = λ some. absurd (false≢true (subst (λ (o : Option Kept). IsSome o) none some));
   nothing = λ _. out;
   images = subst (λ (o : Option Kept). IfSome o (λ k. PutsImages (asks_images (words_of c)) k.session.value c.streams))
       (sym none) tt;
@@ -53,7 +51,7 @@ nothing-made c none out images rest = record {
 }
 
 other-before_the_run : (s n : ℕ) → is_before_the_run n ≡ false → is_before_the_run s ≡ true → s ≡ n → ⊥
-other-before_the_run s n late before_the_run same = not_both (sym late ∙ (ap is_before_the_run (sym same) ∙ before_the_run))
+other-before_the_run s n late before_the_run same = false≢true (sym late ∙ (ap is_before_the_run (sym same) ∙ before_the_run))
 
 -- ---- before the input is taken
 
@@ -134,9 +132,9 @@ pub memory-refused : (c : Call) → FailsOnce (plan_word (words_of c)) (file_wor
     → IsRefused c NoMemory
 memory-refused c fetches = record {
   cause = tt;
-  refused = λ before_the_run. absurd (not_both before_the_run);
+  refused = λ before_the_run. absurd (false≢true before_the_run);
   made = λ six. absurd cc;
-  untaken = λ before_the_run. absurd (not_both before_the_run);
+  untaken = λ before_the_run. absurd (false≢true before_the_run);
   one_more = λ eleven. absurd cc;
   taken = λ five. absurd cc;
   fetches = fetches;
@@ -192,7 +190,7 @@ refused-input c r none without_fault of (inl (failed, rose, takes)) = subst (IsR
   cause = of;
   refused = λ _. none;
   made = λ six. absurd cc;
-  untaken = λ before_the_run. absurd (not_both before_the_run);
+  untaken = λ before_the_run. absurd (false≢true before_the_run);
   one_more = λ eleven. absurd cc;
   taken = λ _. takes;
   fetches = inl without_fault;
@@ -209,7 +207,7 @@ refused-input c r none without_fault of (inr (inl (failed, long, more, same))) =
   cause = (of, long);
   refused = λ _. none;
   made = λ six. absurd cc;
-  untaken = λ before_the_run. absurd (not_both before_the_run);
+  untaken = λ before_the_run. absurd (false≢true before_the_run);
   one_more = λ _. more;
   taken = λ five. absurd cc;
   fetches = inl without_fault;
@@ -354,9 +352,9 @@ stopped-refused : (c : Call) (k : Kept) (r : Refusal) → OfProgram (given_of c)
 stopped-refused c k r of kept without_fault input_without_fault stopped = elim stopped.why [
   | inl (failed, rose) ↦ subst (IsRefused c) (sym failed) (record {
     cause = of;
-    refused = λ before_the_run. absurd (not_both before_the_run);
+    refused = λ before_the_run. absurd (false≢true before_the_run);
     made = λ _. subst (λ (o : Option Kept). IsSome o) (sym kept) refl;
-    untaken = λ before_the_run. absurd (not_both before_the_run);
+    untaken = λ before_the_run. absurd (false≢true before_the_run);
     one_more = λ eleven. absurd cc;
     taken = λ five. absurd cc;
     fetches = inl without_fault;

@@ -1,7 +1,7 @@
 -- What a machine keeps to, from turn to turn.
 use Rattle.std.proofs.Common.{◌≡◌, ℕ, ◌+◌, Bool, true, false, List, [], ◌∷◌, ◌++◌, drop, length, refl, sym, ap, ap₂, subst, ◌∙◌, inl, inr, arith}
 use Rattle.std.specs.Prelude.{not, ◌==◌, ◌&&◌, ◌||◌, if◌then◌else◌}
-use Rattle.std.proofs.lemmas.Bool.{and_parts}
+use Rattle.std.proofs.lemmas.Bool.{and_parts, not-true}
 use Rattle.frame_stack.specs.FrameLists.{PlacedFrame}
 use Rattle.jvm_model.specs.declared.due.Due.{Due}
 use Rattle.jvm_model.specs.declared.due.Due.TheVariants.{Nothing, Ends, Begins}
@@ -43,10 +43,6 @@ drop-front (c ∷ front) more = drop-front front more
 
 pub zero_is : (n : ℕ) → (n == 0) ≡ true → n ≡ 0
 zero_is n e = grind (arith)
-
-pub not_is : (b : Bool) → not b ≡ true → b ≡ false
-not_is true e = absurd (let h : false ≡ true = e in cc)
-not_is false e = refl
 
 -- ---- superseded versions are dropped
 
@@ -117,7 +113,7 @@ module _ (w : Setup) (hand : Hand) (started : Bool) (clock : ℕ) (s : State) (i
   stands_now e f = subst (λ b. Stands w is.homes s (if b then run w.world clock else before w.world)) f (whole_now.stands e f)
 
   resting-parts : resting_now ≡ true → (hand.passed ≡ 0) × (hand.delivered ≡ false)
-  resting-parts e = let both = and_parts (hand.passed == 0) (not hand.delivered) e in (zero_is hand.passed both.0, not_is hand.delivered both.1)
+  resting-parts e = let both = and_parts (hand.passed == 0) (not hand.delivered) e in (zero_is hand.passed both.0, not-true hand.delivered both.1)
 
   -- it was started, or nothing is in hand
   pub started-if : (b : Bool) → started ≡ b → resting_now ≡ false → b ≡ true

@@ -3,7 +3,7 @@ use Rattle.std.proofs.Common.{◌≡◌, ℕ, zero, suc, ◌<◌, ◌≤◌, Boo
 use Rattle.std.specs.Prelude.{fold, filter, nat_le, ◌-◌, ◌==◌}
 use Rattle.std.specs.List.{AllByRecursion}
 use Rattle.std.specs.Option.{option_map_or}
-use Rattle.std.proofs.lemmas.Bool.{ne_eqb, eq-eqb}
+use Rattle.std.proofs.lemmas.Bool.{ne_eqb, eq-eqb, false≢true}
 use Rattle.std.proofs.lemmas.List.{append_assoc}
 use Rattle.jvm_model.specs.declared.event.Act.{Act}
 use Rattle.jvm_model.specs.declared.event.Event.{Event}
@@ -19,9 +19,6 @@ use Rattle.jvm_model.specs.Running.Run.{turn, turn_in}
 use Rattle.jvm_model.proofs.Events.Chains.{path_below, path_in, paths_after, paths_of-recursion}
 use Rattle.jvm_model.specs.Profiling.Swaps.{Point, point, act_points, change_point, change_points, points_in, points_in-zero, points_in-suc, step_points}
 use Rattle.jvm_model.specs.Profiling.Points.{Standing, nothing, has_root, is_empty, is_quiet, standing_settled, methods_selected, after_act, after_acts, acts_at, acts_behind, is_profiled, with_entered, after_change, after_changes, after_step, standing_in, standing_in-zero, standing_in-suc, mark_in, before_begin, marking_in}
-
-false_true : false ≡ true → ⊥
-false_true e = cc
 
 pub fold-push : (f : Bool → Act → Bool) (now : Bool) (acts : List Act) (x : Act) → fold f now (acts ++ x ∷ []) ≡ f (fold f now acts) x
 fold-push f now [] x = refl
@@ -105,7 +102,7 @@ module _ (acts : List Act) (x : Act) (behind : 1 ≤ x.moment) where
       by : (a b : Bool) → b ≡ false → (if a && b then x.select else is_selected acts k method) ≡ is_selected acts k method
       by true false e = refl
       by false b e = refl
-      by true true e = absurd (false_true (sym e))
+      by true true e = absurd (false≢true (sym e))
 
   pub same-root : (a : Activation) → a.begin ≤ x.moment → is_root more a ≡ is_root acts a
   same-root a le = same-selected a.begin a.method le

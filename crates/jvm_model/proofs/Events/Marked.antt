@@ -3,7 +3,7 @@ use Rattle.std.proofs.Common.{◌≡◌, ℕ, zero, suc, ◌<◌, ◌≤◌, Boo
 use Rattle.std.specs.Prelude.{fold, filter, map, nat_le, ◌-◌, ◌==◌}
 use Rattle.std.specs.List.{AllByRecursion, list_any}
 use Rattle.std.specs.Option.{option_map_or}
-use Rattle.std.proofs.lemmas.Bool.{cond-true, ne_eqb, eq-eqb, cases_eq}
+use Rattle.std.proofs.lemmas.Bool.{cond-true, ne_eqb, eq-eqb, cases_eq, false≢true, or_right}
 use Rattle.std.proofs.lemmas.List.{append-nil, append_assoc, length_push}
 use Rattle.std.proofs.lemmas.Option.{slice_get_within, same_Some}
 use Rattle.jvm_model.specs.declared.event.Act.{Act}
@@ -27,9 +27,6 @@ use Rattle.jvm_model.specs.Profiling.Points.{Standing, nothing, has_root, is_emp
 use Rattle.jvm_model.specs.Soundness.Suited.{Suits, AreSuited, StaySuited}
 use Rattle.jvm_model.specs.Profiling.Targets.{targets_in}
 
-false_true : false ≡ true → ⊥
-false_true e = cc
-
 -- ---- lists of methods
 
 abbrev All : List ℕ → List ℕ → Type 0
@@ -38,12 +35,8 @@ All entered path = AllByRecursion (λ m. is_among m entered ≡ true) path
 equals_itself : (n : ℕ) → (n == n) ≡ true
 equals_itself n = eq-eqb n n refl
 
-or-later : (a b : Bool) → b ≡ true → (a || b) ≡ true
-or-later true b e = refl
-or-later false b e = e
-
 among-more : (x y : ℕ) (xs : List ℕ) → is_among x xs ≡ true → is_among x (y ∷ xs) ≡ true
-among-more x y xs e = or-later (x == y) (is_among x xs) e
+among-more x y xs e = or_right (x == y) (is_among x xs) e
 
 all-more : (y : ℕ) (entered path : List ℕ) → All entered path → All (y ∷ entered) path
 all-more y entered [] all = tt
@@ -66,12 +59,12 @@ is_inside-push [] m = is_inside-cons m []
 is_inside-push (n ∷ path) m = is_inside-cons n (path ++ m ∷ [])
 
 any-among : (f : ℕ → Bool) (x : ℕ) (xs : List ℕ) → is_among x xs ≡ true → f x ≡ true → list_any f xs ≡ true
-any-among f x [] there is = absurd (false_true there)
+any-among f x [] there is = absurd (false≢true there)
 any-among f x (y ∷ xs) there is = by (x == y) refl there (λ h. any-among f x xs h is)
   where
     by : (b : Bool) → (x == y) ≡ b → (b || is_among x xs) ≡ true → (is_among x xs ≡ true → list_any f xs ≡ true) → (f y || list_any f xs) ≡ true
     by true same h rest = ap (λ b. b || list_any f xs) (ap f (sym (eqb-true x y same)) ∙ is)
-    by false other h rest = or-later (f y) (list_any f xs) (rest h)
+    by false other h rest = or_right (f y) (list_any f xs) (rest h)
 
 -- ---- actions
 
@@ -93,7 +86,7 @@ among-others x y (z ∷ xs) = by (z == y) refl (among-others x y xs)
     -- z is y
     same : z ≡ y → (b : Bool) → (y == x) ≡ b → (if b then false else is_among x xs) ≡ (if b then false else (x == z || is_among x xs))
     same e true is = refl
-    same e false is = sym (ap (λ c. c || is_among x xs) (ne_eqb x z (λ x_z. absurd (false_true (sym is ∙ eq-eqb y x (sym e ∙ sym x_z))))))
+    same e false is = sym (ap (λ c. c || is_among x xs) (ne_eqb x z (λ x_z. absurd (false≢true (sym is ∙ eq-eqb y x (sym e ∙ sym x_z))))))
 
     -- z is another one
     other : (z ≡ y → ⊥) → (b : Bool) → (y == x) ≡ b → (x == z || (if b then false else is_among x xs)) ≡ (if b then false else (x == z || is_among x xs))
@@ -103,14 +96,14 @@ among-others x y (z ∷ xs) = by (z == y) refl (among-others x y xs)
     by : (b : Bool) → (z == y) ≡ b → is_among x (filter (λ m. not (m == y)) xs) ≡ (if y == x then false else is_among x xs)
         → is_among x (if not b then z ∷ filter (λ m. not (m == y)) xs else filter (λ m. not (m == y)) xs) ≡ (if y == x then false else (x == z || is_among x xs))
     by true e rest = rest ∙ same (eqb-true z y e) (y == x) refl
-    by false e rest = ap (λ b. x == z || b) rest ∙ other (λ z_y. false_true (sym e ∙ eq-eqb z y z_y)) (y == x) refl
+    by false e rest = ap (λ b. x == z || b) rest ∙ other (λ z_y. false≢true (sym e ∙ eq-eqb z y z_y)) (y == x) refl
 
 pub among-chosen : (act : Act) (selected : List ℕ) (m : ℕ) → is_among m (methods_selected act selected) ≡ set_by m (is_among m selected) act
 among-chosen act selected m = by act.select
   where
     turned : (b : Bool) → (act.method == m) ≡ b → (m == act.method || (if b then false else is_among m selected)) ≡ (if b then true else is_among m selected)
     turned true e = ap (λ c. c || false) (eq-eqb m act.method (sym (eqb-true act.method m e)))
-    turned false e = ap (λ c. c || is_among m selected) (ne_eqb m act.method (λ same. absurd (false_true (sym e ∙ eq-eqb act.method m (sym same)))))
+    turned false e = ap (λ c. c || is_among m selected) (ne_eqb m act.method (λ same. absurd (false≢true (sym e ∙ eq-eqb act.method m (sym same)))))
 
     by : (select : Bool)
         → is_among m (if select then act.method ∷ filter (λ x. not (x == act.method)) selected else filter (λ x. not (x == act.method)) selected)
@@ -128,7 +121,7 @@ upto-not most method now act e = by (act.method == method) (nat_le act.moment mo
     by : (a b : Bool) → b ≡ false → (if a && b then act.select else now) ≡ now
     by true false e = refl
     by false b e = refl
-    by true true e = absurd (false_true (sym e))
+    by true true e = absurd (false≢true (sym e))
 
 upto-is : (most method : ℕ) (now : Bool) (act : Act) → nat_le act.moment most ≡ true → upto most method now act ≡ set_by method now act
 upto-is most method now act e = by (act.method == method) (nat_le act.moment most) e
@@ -136,7 +129,7 @@ upto-is most method now act e = by (act.method == method) (nat_le act.moment mos
     by : (a b : Bool) → b ≡ true → (if a && b then act.select else now) ≡ (if a then act.select else now)
     by true true e = refl
     by false b e = refl
-    by true false e = absurd (false_true e)
+    by true false e = absurd (false≢true e)
 
 above-false : (a b : ℕ) → b < a → nat_le a b ≡ false
 above-false a b less = grind (arith)
@@ -177,7 +170,7 @@ at-upto k method least (act ∷ more) now le from =
         ap (λ b. fold (upto k method) b more) (upto-is k method now act (within-true act.moment k (omega arith)))
         ∙ rest (set_by method now act)
     by false e rest =
-        let other : act.moment ≡ k → ⊥ = λ same. false_true (sym e ∙ eq-eqb act.moment k same) in
+        let other : act.moment ≡ k → ⊥ = λ same. false≢true (sym e ∙ eq-eqb act.moment k same) in
         let above : k < act.moment = less-than act.moment k (let r : k ≤ act.moment = omega arith in r) other in
         ap (λ b. fold (upto k method) b more) (upto-not k method now act (above-false act.moment k above))
         ∙ rest now
@@ -247,11 +240,11 @@ rootless acts activations (number ∷ rest) are none =
   where
     first : (a b : Bool) → (a || b) ≡ false → a ≡ false
     first false b e = refl
-    first true b e = absurd (false_true (sym e))
+    first true b e = absurd (false≢true (sym e))
 
     second : (a b : Bool) → (a || b) ≡ false → b ≡ false
     second false b e = e
-    second true b e = absurd (false_true (sym e))
+    second true b e = absurd (false≢true (sym e))
 
 -- ---- the current activation's path is entered
 
@@ -283,7 +276,7 @@ all-gone_back : (entered path : List ℕ) (method : ℕ) (root : Bool) → All e
 all-gone_back entered [] method root all = tt
 all-gone_back entered (m ∷ path) method root all =
     all-front entered (m ∷ path) method
-    (subst (All entered) (cond-true (root || is_inside (m ∷ path)) ((m ∷ path) ++ method ∷ []) [] (or-later root (is_inside (m ∷ path)) (is_inside-cons m path))) all)
+    (subst (All entered) (cond-true (root || is_inside (m ∷ path)) ((m ∷ path) ++ method ∷ []) [] (or_right root (is_inside (m ∷ path)) (is_inside-cons m path))) all)
 
 -- the method of a profiled one is among what is entered
 own-entered : (entered path : List ℕ) (method : ℕ) (root : Bool) → All entered (gone_on method root path) → is_inside (gone_on method root path) ≡ true
@@ -292,7 +285,7 @@ own-entered entered path method root all inside = by (root || is_inside path) al
   where
     by : (b : Bool) → All entered (if b then path ++ method ∷ [] else []) → is_inside (if b then path ++ method ∷ [] else []) ≡ true → is_among method entered ≡ true
     by true all inside = all-last entered path method all
-    by false all inside = absurd (false_true inside)
+    by false all inside = absurd (false≢true inside)
 
 -- ---- what is kept
 
@@ -313,8 +306,8 @@ settled-keeps acts marking step s keeps = by (is_quiet acts s) refl
       where
         none : (a b : Bool) → (a && not b) ≡ true → b ≡ false
         none a false e = refl
-        none true true e = absurd (false_true e)
-        none false true e = absurd (false_true e)
+        none true true e = absurd (false≢true e)
+        none false true e = absurd (false≢true e)
 
     by : (b : Bool) → is_quiet acts s ≡ b → Keeps acts marking step (if b then record s { entered = [] } else s)
     by false e = keeps
@@ -421,14 +414,14 @@ root-suits path mark e = record { roots = λ root. e; only = λ is. refl; inside
 
 other-suits : (path : List ℕ) (mark : Mark) (target : Bool) → mark ≡ (if target then Plain else Off) → (is_inside path ≡ true → target ≡ true) → Suits false path mark
 other-suits path mark true e called = record {
-  roots = λ root. absurd (false_true root);
+  roots = λ root. absurd (false≢true root);
   only = λ is. absurd (plain_root (sym e ∙ is));
   inside = λ within off. plain_off (sym e ∙ off);
 }
 other-suits path mark false e called = record {
-  roots = λ root. absurd (false_true root);
+  roots = λ root. absurd (false≢true root);
   only = λ is. absurd (off_root (sym e ∙ is));
-  inside = λ within off. false_true (called within);
+  inside = λ within off. false≢true (called within);
 }
 
 module _ (acts : List Act) (p : Program) (code : ℕ → List Operation) (marking : Marking) (step : ℕ) where
@@ -441,7 +434,7 @@ module _ (acts : List Act) (p : Program) (code : ℕ → List Operation) (markin
           → is_target p code s.loaded s.entered method ≡ true
       by [] e are called =
           let empty : open_of acts s.trace ≡ [] = ap (λ numbers. path_at acts s.trace.activations (current numbers)) e in
-          absurd (false_true (sym (ap is_inside empty) ∙ inside))
+          absurd (false≢true (sym (ap is_inside empty) ∙ inside))
       by (number ∷ rest) e are called =
           let a = are.0.activation in
           let own : open_of acts s.trace ≡ gone_on a.method (is_root acts a) (path_at acts s.trace.activations (current rest)) =
@@ -645,8 +638,8 @@ half-settled acts marking s half = by (is_quiet acts s) refl
   where
     none : (a b : Bool) → (a && not b) ≡ true → b ≡ false
     none a false e = refl
-    none true true e = absurd (false_true e)
-    none false true e = absurd (false_true e)
+    none true true e = absurd (false≢true e)
+    none false true e = absurd (false≢true e)
 
     by : (b : Bool) → is_quiet acts s ≡ b → Half acts marking (if b then record s { entered = [] } else s)
     by false e = half

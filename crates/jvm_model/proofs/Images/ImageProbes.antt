@@ -8,6 +8,7 @@ use Rattle.std.proofs.lemmas.Int.{of_z-to_z}
 use Rattle.std.proofs.lemmas.Option.{none-some, same_Some}
 use Rattle.const_pool.specs.declared.class.ClassFile.{ClassFile}
 use Rattle.std.proofs.lemmas.Slice.Eq.{bytes_eq-Decides}
+use Rattle.std.proofs.lemmas.Bool.{not-true}
 use Rattle.const_pool.specs.BuiltIn.{probe_class}
 use Rattle.const_pool.specs.References.{Reference, named_class, named_method}
 use Rattle.code_model.specs.declared.instr.Arg.{Arg}
@@ -107,10 +108,6 @@ and-first false b e = e
 and-second : (a b : Bool) → (a && b) ≡ true → b ≡ true
 and-second true b e = e
 and-second false b e = absurd cc
-
-not-true : (b : Bool) → not b ≡ true → b ≡ false
-not-true true e = absurd cc
-not-true false e = refl
 
 -- the class's own name is not the probe class's
 same_text-true : (xs ys : List ℕ) → same_text xs ys ≡ true → xs ≡ ys

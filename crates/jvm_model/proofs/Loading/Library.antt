@@ -1,12 +1,13 @@
 -- The built-in classes stand each behind what it needs, and java/lang/Object has nothing above it and no method with Code: computed over their
 -- class files, and so of every program that has them behind its own.
 use Rattle.std.proofs.Common.{◌≡◌, ℕ, suc, ◌+◌, Bool, true, false, not, List, [], ◌∷◌, ◌++◌, length, map, Option, Some, None, slice_get, if◌then◌else◌, refl, sym, ap, subst, ◌∙◌, arith, length-append, inl, inr}
-use Rattle.std.proofs.lemmas.Bool.{and_parts, cases_eq, eq-eqb, ne_eqb}
+use Rattle.std.proofs.lemmas.Bool.{and_parts, cases_eq, eq-eqb, ne_eqb, false≢true}
 use Rattle.std.proofs.lemmas.List.{append_assoc}
 use Rattle.std.proofs.lemmas.Slice.Eq.{bytes_eq-Decides}
 use Rattle.std.specs.Prelude.{filter_map, is_some, unwrap_or, ◌==◌, ◌&&◌, ◌||◌, ◌⊎◌}
 use Rattle.std.specs.List.{AllByRecursion, list_all, list_any}
 use Rattle.std.specs.Option.{option_and_then, option_map_or, option_to_list}
+use Rattle.std.proofs.lemmas.Option.{same_Some}
 use Rattle.const_pool.specs.BuiltIn.{built_in_names}
 use Rattle.const_pool.specs.References.{named_class}
 use Rattle.const_pool.specs.declared.class.ClassFile.{ClassFile}
@@ -31,15 +32,6 @@ use Rattle.jvm_model.specs.Soundness.Sound.{IsFit, IsLoaded}
 use Rattle.jvm_model.proofs.Soundness.Ranked.{AreInOrder}
 use Rattle.jvm_model.proofs.Soundness.SoundClasses.{HasLoaded}
 use Rattle.jvm_model.specs.Soundness.Climbing.{HasBareObject}
-
-false_true : false ≡ true → ⊥
-false_true e = cc
-
-none-some : {A : Type 0} (x : A) → None ≡ Some x → ⊥
-none-some x e = cc
-
-some-some : {A : Type 0} (x y : A) → Some x ≡ Some y → x ≡ y
-some-some x y e = cc
 
 -- ---- what is computed
 
@@ -89,7 +81,7 @@ get-last [] ys y = refl
 get-last (x ∷ xs) ys y = get-last xs ys y
 
 in-first : (x : ℕ) (xs ys : List ℕ) → is_among x xs ≡ true → is_among x (xs ++ ys) ≡ true
-in-first x [] ys e = absurd (false_true e)
+in-first x [] ys e = absurd (false≢true e)
 in-first x (y ∷ xs) ys e = by (x == y) e (in-first x xs ys)
   where
     by : (b : Bool) → (b || is_among x xs) ≡ true → (is_among x xs ≡ true → is_among x (xs ++ ys) ≡ true) → (b || is_among x (xs ++ ys)) ≡ true
@@ -127,7 +119,7 @@ module _ (p : Program) (fit : IsFit p) (own : List ClassFile) (classes_are : p.c
     where
       by : (b : Bool) → (b || false) ≡ true → b ≡ true
       by true h = refl
-      by false h = absurd (false_true h)
+      by false h = absurd (false≢true h)
   either-seen name text (x ∷ seen) h = by (same_text name x) h (either-seen name text seen)
     where
       by : (b : Bool) → (b || is_seen (seen ++ text ∷ []) name) ≡ true → (is_seen (seen ++ text ∷ []) name ≡ true → (is_seen seen name ≡ true) ⊎ (name ≡ text))
@@ -139,7 +131,7 @@ module _ (p : Program) (fit : IsFit p) (own : List ClassFile) (classes_are : p.c
   text-named c class at named = by (name_of c) refl named
     where
       by : (o : Option (List ℕ)) → name_of c ≡ o → is_some o ≡ true → class_named p (unwrap_or o []) ≡ Some class
-      by None e named = absurd (false_true named)
+      by None e named = absurd (false≢true named)
       by (Some name) e named = fit.names class name (ap (option_and_then name_of) at ∙ e)
 
   seen-more : (seen : List (List ℕ)) (done : List ℕ) (c : ClassFile) (class : ℕ) → class_at p class ≡ Some c → is_some (name_of c) ≡ true → Done seen done
@@ -149,7 +141,7 @@ module _ (p : Program) (fit : IsFit p) (own : List ClassFile) (classes_are : p.c
       choose : (is_seen seen name ≡ true) ⊎ (name ≡ own_text c) → IsLoaded (done ++ class ∷ []) other
       choose (inl k) = in-first other done (class ∷ []) (was name k other found)
       choose (inr same) =
-          let is : class ≡ other = some-some class other (sym (text-named c class at named) ∙ (ap (class_named p) (sym same) ∙ found)) in
+          let is : class ≡ other = same_Some class other (sym (text-named c class at named) ∙ (ap (class_named p) (sym same) ∙ found)) in
           subst (λ x. is_among x (done ++ class ∷ []) ≡ true) is (in-last class done)
 
   -- what a class needs is done
@@ -169,7 +161,7 @@ module _ (p : Program) (fit : IsFit p) (own : List ClassFile) (classes_are : p.c
     where
       and-from : (a b : Bool) → a ≡ true → b ≡ true → (a && b) ≡ true
       and-from true b x y = y
-      and-from false b x y = absurd (false_true x)
+      and-from false b x y = absurd (false≢true x)
 
   all-both : (xs ys : List Need) (P : Need → Type 0) → AllByRecursion P xs → AllByRecursion P ys → AllByRecursion P (xs ++ ys)
   all-both [] ys P first second = second
@@ -222,7 +214,7 @@ module _ (p : Program) (fit : IsFit p) (own : List ClassFile) (classes_are : p.c
       subst (AreInOrder p [])
       (sym (ap (built_in_from 0) classes_are ∙ (free-places 0 own free built_in_files ∙ (built-places (0 + length own) [] built_in_files files_in_order
       ∙ ap (λ k. places_from k built_in_files) (let e : 0 + length own ≡ length own + 0 = omega arith in e)))))
-      (in-order [] built_in_files [] [] refl (λ name h. absurd (false_true h)) files_in_order)
+      (in-order [] built_in_files [] [] refl (λ name h. absurd (false≢true h)) files_in_order)
 
   -- ---- java/lang/Object
 
@@ -248,7 +240,7 @@ module _ (p : Program) (fit : IsFit p) (own : List ClassFile) (classes_are : p.c
     where
       none : (b : Bool) → not b ≡ true → b ≡ false
       none false e = refl
-      none true e = absurd (false_true e)
+      none true e = absurd (false≢true e)
 
   -- where the class at a position has no Code
   none-numbered : (class at : ℕ) (base : ℕ) (cs : List ClassFile) → ((k : ℕ) (c : ClassFile) → slice_get cs k ≡ Some c → base + k ≡ class → list_all is_uncoded c.methods ≡ true)
@@ -291,19 +283,19 @@ module _ (p : Program) (fit : IsFit p) (own : List ClassFile) (classes_are : p.c
           ap (number_from 0 (user_count p) at) methods_are
           ∙ none-numbered (user_count p) at 0 p.classes
           (λ k c found is. subst (λ (d : ClassFile). list_all is_uncoded d.methods ≡ true)
-          (some-some object c (sym object-there ∙ (ap (class_at p) (let e : user_count p ≡ k = omega (arith, is) in e) ∙ found))) bare-parts.1) 0;
+          (same_Some object c (sym object-there ∙ (ap (class_at p) (let e : user_count p ≡ k = omega (arith, is) in e) ∙ found))) bare-parts.1) 0;
     } where
       supers : (o : Option (List ℕ)) → not (is_some o) ≡ true → option_to_list (option_and_then (class_named p) o) ≡ []
       supers None h = refl
-      supers (Some name) h = absurd (false_true h)
+      supers (Some name) h = absurd (false≢true h)
 
       interfaces : (names : List (List ℕ)) → list_all (λ (name : List ℕ). false) names ≡ true → filter_map (class_named p) names ≡ []
       interfaces [] h = refl
-      interfaces (name ∷ names) h = absurd (false_true h)
+      interfaces (name ∷ names) h = absurd (false≢true h)
 
   pub library-bare : HasBareObject p
   library-bare = by built_in_files refl
     where
       by : (files : List ClassFile) → built_in_files ≡ files → HasBareObject p
-      by [] is = absurd (false_true (ap starts_bare (sym is) ∙ files_start_bare))
+      by [] is = absurd (false≢true (ap starts_bare (sym is) ∙ files_start_bare))
       by (object ∷ others) is = bare-by object others is

@@ -1,6 +1,6 @@
 -- Classes are loaded once, and behind what stands above them: in each list of loaded classes of a run (JVM Specification 5.3).
 use Rattle.std.proofs.Common.{◌≡◌, ℕ, zero, suc, ◌+◌, ◌<◌, ◌≤◌, Bool, true, false, List, [], ◌∷◌, ◌++◌, length, ap, sym, subst, refl, ◌∙◌, eqb-true, arith}
-use Rattle.std.proofs.lemmas.Bool.{ne_eqb}
+use Rattle.std.proofs.lemmas.Bool.{ne_eqb, false≢true}
 use Rattle.std.proofs.lemmas.List.{append-nil, append_assoc}
 use Rattle.std.specs.Prelude.{Option, Some, None, ◌==◌, ◌||◌, if◌then◌else◌}
 use Rattle.std.specs.List.{AllByRecursion}
@@ -15,9 +15,6 @@ use Rattle.jvm_model.specs.Basis.SharedState.{built_in_from}
 use Rattle.jvm_model.specs.Soundness.Sound.{HasSupertypes}
 use Rattle.jvm_model.proofs.Soundness.Ranked.{AreInOrder}
 use Rattle.jvm_model.proofs.Soundness.SoundClasses.{AreLoads, HasLoaded, among-front, named-load, needs-load, one-more}
-
-false_true : false ≡ true → ⊥
-false_true e = cc
 
 among-append : (class : ℕ) (xs ys : List ℕ) → is_among class (xs ++ ys) ≡ (is_among class xs || is_among class ys)
 among-append class [] ys = refl
@@ -74,7 +71,7 @@ module _ (p : Program) (P : List ℕ → Type 0) (first : List ℕ)
     where
       by : (b : Bool) → is_among c path ≡ b → is_among c path ≡ false
       by false e = e
-      by true e = absurd (false_true (sym out ∙ among-front c path (class ∷ []) e))
+      by true e = absurd (false≢true (sym out ∙ among-front c path (class ∷ []) e))
 
   pub named_kept : (depth : ℕ) (path : List ℕ) → ((c : ℕ) → is_among c path ≡ false → is_among c first ≡ false)
       → (name loaded : List ℕ) → P loaded → P (load_named p depth path name loaded).loaded
@@ -95,14 +92,14 @@ module _ (p : Program) (c : ℕ) where
   not_more l class other g = among-append c l (class ∷ []) ∙ (ap (λ b. b || ((c == class) || false)) g ∙ ap (λ b. b || false) (apart (class == c) refl other))
     where
       apart : (b : Bool) → (class == c) ≡ b → (b || false) ≡ false → (c == class) ≡ false
-      apart true e h = absurd (false_true (sym h))
+      apart true e h = absurd (false≢true (sym h))
       apart false e h = grind (arith)
 
   on_path : (path : List ℕ) → is_among c path ≡ true → (class : ℕ) → is_among class path ≡ false → is_among class (c ∷ []) ≡ false
   on_path path has class out = by (class == c) refl
     where
       by : (b : Bool) → (class == c) ≡ b → (b || false) ≡ false
-      by true e = absurd (false_true (sym out ∙ (ap (λ k. is_among k path) (eqb-true class c e) ∙ has)))
+      by true e = absurd (false≢true (sym out ∙ (ap (λ k. is_among k path) (eqb-true class c e) ∙ has)))
       by false e = refl
 
   pub not_loaded : (depth : ℕ) (path : List ℕ) (needs : List Need) (loaded : List ℕ) → is_among c path ≡ true → is_among c loaded ≡ false
@@ -249,4 +246,4 @@ rising-order p least first (class ∷ rest) order rising below above = (
 pub before-order : (w : World) → AreInOrder w.program [] (before w).shared.loaded → IsLoadOrder w.program [] (before w).shared.loaded
 before-order w order =
     rising-order w.program 0 [] (before w).shared.loaded order (built-in-rising 0 w.program.classes) tt
-    (record { superclass = λ c h. absurd (false_true h); interfaces = λ c h. absurd (false_true h) })
+    (record { superclass = λ c h. absurd (false≢true h); interfaces = λ c h. absurd (false≢true h) })

@@ -3,6 +3,7 @@
 use Rattle.std.proofs.Common.{◌≡◌, ℕ, zero, suc, Bool, true, false, List, [], ◌∷◌, ◌++◌, ap, sym, refl, ◌∙◌, arith}
 use Rattle.std.proofs.Math.Seq.{drop-append_seam, drop-length}
 use Rattle.std.specs.Prelude.{length, drop, Option, Some, None, ◌==◌, ◌||◌, if◌then◌else◌}
+use Rattle.std.proofs.lemmas.Bool.{false≢true}
 use Rattle.jvm_model.specs.Basis.Data.{Operands}
 use Rattle.jvm_model.specs.Running.Growth.{Extends}
 use Rattle.jvm_model.specs.Classes.Kinds.{Element, Primitive, Named, kind_named, meaning_of}
@@ -13,9 +14,6 @@ use Rattle.jvm_model.specs.declared.program.Program.{Program}
 use Rattle.jvm_model.proofs.Running.Growth.{Extends-appended, Extends-same, Extends-trans}
 
 -- ---- what is among classes
-
-false_true : false ≡ true → ⊥
-false_true e = cc
 
 equals_itself : (n : ℕ) → (n == n) ≡ true
 equals_itself n = grind (arith)
@@ -81,7 +79,7 @@ module _ (p : Program) (P : List ℕ → Type 0) (first : List ℕ)
     where
       by : (b : Bool) → is_among c path ≡ b → is_among c path ≡ false
       by false e = e
-      by true e = absurd (false_true (sym out ∙ among-front c path (class ∷ []) e))
+      by true e = absurd (false≢true (sym out ∙ among-front c path (class ∷ []) e))
 
   -- the path has the first classes
   named-keeps : (depth : ℕ) (path : List ℕ) → ((c : ℕ) → is_among c path ≡ false → is_among c first ≡ false)
@@ -114,14 +112,14 @@ module _ (p : Program) (c : ℕ) where
   not-more l class other g = among-append c l (class ∷ []) ∙ (ap (λ b. b || ((c == class) || false)) g ∙ ap (λ b. b || false) (apart (class == c) refl other))
     where
       apart : (b : Bool) → (class == c) ≡ b → (b || false) ≡ false → (c == class) ≡ false
-      apart true e h = absurd (false_true (sym h))
+      apart true e h = absurd (false≢true (sym h))
       apart false e h = grind (arith)
 
   on-path : (path : List ℕ) → is_among c path ≡ true → (class : ℕ) → is_among class path ≡ false → is_among class (c ∷ []) ≡ false
   on-path path has class out = by (class == c) refl
     where
       by : (b : Bool) → (class == c) ≡ b → (b || false) ≡ false
-      by true e = absurd (false_true (sym out ∙ (ap (λ k. is_among k path) (equal class c e) ∙ has)))
+      by true e = absurd (false≢true (sym out ∙ (ap (λ k. is_among k path) (equal class c e) ∙ has)))
       by false e = refl
 
   not-loaded : (depth : ℕ) (path : List ℕ) (needs : List Need) (loaded : List ℕ) → is_among c path ≡ true → is_among c loaded ≡ false

@@ -1,10 +1,11 @@
 -- Code that stays within itself, from what admission looks at: each code is instructions from its front to its end, which jump to starts of
 -- instructions, and whose handlers begin, end and go on at such.
 use Rattle.std.proofs.Common.{◌≡◌, ℕ, Bool, true, false, List, [], ◌∷◌, length, map, Option, Some, None, if◌then◌else◌, refl, sym, ap, subst, ◌∙◌, eqb-true, arith}
-use Rattle.std.proofs.lemmas.Bool.{eq-eqb}
+use Rattle.std.proofs.lemmas.Bool.{eq-eqb, false≢true, or_left, or_right}
 use Rattle.std.specs.Prelude.{is_some, unwrap_or, ◌==◌, ◌||◌}
 use Rattle.std.specs.List.{AllByRecursion}
 use Rattle.std.specs.Option.{IfSome, option_and_then, option_map, option_map_or}
+use Rattle.std.proofs.lemmas.Option.{none-some, same_Some}
 use Rattle.const_pool.specs.declared.class.ClassFile.{ClassFile}
 use Rattle.const_pool.specs.declared.class.CodeAttribute.{CodeAttribute}
 use Rattle.const_pool.specs.declared.class.Handler.{Handler}
@@ -22,31 +23,14 @@ use Rattle.jvm_model.proofs.Relocated.StandingFrames.{Stand, place-start, read-s
 use Rattle.jvm_model.specs.Soundness.Calls.{is_end, places_of}
 use Rattle.jvm_model.specs.Soundness.Whole.{FitsHandler, HasSoundCode, HasSoundCodes, instrs_of, is_stop}
 
-false_true : false ≡ true → ⊥
-false_true e = cc
-
-none-some : {A : Type 0} (x : A) → None ≡ Some x → ⊥
-none-some x e = cc
-
-some-some : {A : Type 0} (x y : A) → Some x ≡ Some y → x ≡ y
-some-some x y e = cc
-
-or-later : (a b : Bool) → b ≡ true → (a || b) ≡ true
-or-later true b e = refl
-or-later false b e = e
-
-or-first : (a b : Bool) → a ≡ true → (a || b) ≡ true
-or-first true b e = refl
-or-first false b e = absurd (false_true e)
-
 module _ (bytes : List ℕ) where
   -- what holds of each instruction holds of the one at a start
   at-start : (P : Instr → Type 0) (js : List Instr) (at : ℕ) (j : Instr) → Stand bytes js → AllByRecursion P js → is_start_in js at ≡ true → instruction_at bytes at ≡ Some j → P j
-  at-start P [] at j stand each start found = absurd (false_true start)
+  at-start P [] at j stand each start found = absurd (false≢true start)
   at-start P (i ∷ js) at j stand each start found = by (i.at == at) refl start (λ h. at-start P js at j stand.1 each.1 h found)
     where
       by : (b : Bool) → (i.at == at) ≡ b → (b || is_start_in js at) ≡ true → (is_start_in js at ≡ true → P j) → P j
-      by true e h rest = subst P (some-some i j (sym stand.0 ∙ (ap (instruction_at bytes) (eqb-true i.at at e) ∙ found))) each.0
+      by true e h rest = subst P (same_Some i j (sym stand.0 ∙ (ap (instruction_at bytes) (eqb-true i.at at e) ∙ found))) each.0
       by false e h rest = rest h
 
   -- each instruction ends where one starts, or at the end
@@ -59,17 +43,17 @@ module _ (bytes : List ℕ) where
   stops-more i all (j ∷ js) each = (by (is_start_in all (end_of j)) each.0, stops-more i all js each.1)
     where
       by : (b : Bool) → (b || (length bytes == end_of j)) ≡ true → (((i.at == end_of j) || b) || (length bytes == end_of j)) ≡ true
-      by true e = or-first ((i.at == end_of j) || true) (length bytes == end_of j) (or-later (i.at == end_of j) true refl)
-      by false e = or-later ((i.at == end_of j) || false) (length bytes == end_of j) e
+      by true e = or_left ((i.at == end_of j) || true) (length bytes == end_of j) (or_right (i.at == end_of j) true refl)
+      by false e = or_right ((i.at == end_of j) || false) (length bytes == end_of j) e
 
   reads-stop : (at : ℕ) (js : List Instr) → Reads bytes at js → AllByRecursion (Stops js) js
   unfolding Stops
   reads-stop at [] reads = tt
-  reads-stop at (i ∷ []) reads = (or-later ((i.at == end_of i) || false) (length bytes == end_of i) (eq-eqb (length bytes) (end_of i) (sym reads.1)), tt)
+  reads-stop at (i ∷ []) reads = (or_right ((i.at == end_of i) || false) (length bytes == end_of i) (eq-eqb (length bytes) (end_of i) (sym reads.1)), tt)
   reads-stop at (i ∷ j ∷ js) reads =
       let next : j.at ≡ end_of i = at-instruction_at bytes (end_of i) j reads.1.0 in (
-        or-first ((i.at == end_of i) || ((j.at == end_of i) || is_start_in js (end_of i))) (length bytes == end_of i)
-            (or-later (i.at == end_of i) ((j.at == end_of i) || is_start_in js (end_of i)) (or-first (j.at == end_of i) (is_start_in js (end_of i)) (eq-eqb j.at (end_of i) next))),
+        or_left ((i.at == end_of i) || ((j.at == end_of i) || is_start_in js (end_of i))) (length bytes == end_of i)
+            (or_right (i.at == end_of i) ((j.at == end_of i) || is_start_in js (end_of i)) (or_left (j.at == end_of i) (is_start_in js (end_of i)) (eq-eqb j.at (end_of i) next))),
         stops-more i (j ∷ js) (j ∷ js) (reads-stop (end_of i) (j ∷ js) reads.1),
       )
 
@@ -78,8 +62,8 @@ place-of : (code : CodeAttribute) (at : ℕ) → is_stop code at ≡ true → ((
 place-of code at e = by (is_start_in (instrs_of code) at) e
   where
     by : (b : Bool) → (b || (length code.code == at)) ≡ true → ((at == 0 || b) || (length code.code == at)) ≡ true
-    by true e = or-first (at == 0 || true) (length code.code == at) (or-later (at == 0) true refl)
-    by false e = or-later (at == 0 || false) (length code.code == at) e
+    by true e = or_left (at == 0 || true) (length code.code == at) (or_right (at == 0) true refl)
+    by false e = or_right (at == 0 || false) (length code.code == at) e
 
 -- no instruction stands at the end
 inside : (code : CodeAttribute) (at : ℕ) (j : Instr) → instruction_at code.code at ≡ Some j → ((at == 0 || is_start_in (instrs_of code) at) || (length code.code == at)) ≡ true
@@ -106,7 +90,7 @@ is-of c code at i e = by (instruction_at code.code at) refl e
         → option_map (λ op. record { operation = op; own = j.at; next = next_of op (end_of j); targets = targets_of j.arg }) o ≡ Some i → IsOf code at i
     made j None stands e = absurd (none-some i e)
     made j (Some op) stands e =
-        record { instr = j; op = op; stands = stands; is = sym (some-some (record { operation = op; own = j.at; next = next_of op (end_of j); targets = targets_of j.arg }) i e) }
+        record { instr = j; op = op; stands = stands; is = sym (same_Some (record { operation = op; own = j.at; next = next_of op (end_of j); targets = targets_of j.arg }) i e) }
 
     by : (o : Option Instr) → instruction_at code.code at ≡ o → option_and_then (instruction_of c) o ≡ Some i → IsOf code at i
     by None stands e = absurd (none-some i e)
@@ -140,7 +124,7 @@ module _ (code : CodeAttribute) (sound : HasSoundCode code) (at : ℕ) (i : Inst
       each : (ks : List ℕ) → AllByRecursion (λ k. is_start_in (instrs_of code) k ≡ true) ks
           → AllByRecursion (λ k. ((k == 0 || is_start_in (instrs_of code) k) || (length code.code == k)) ≡ true) ks
       each [] all = tt
-      each (k ∷ ks) all = (place-of code k (or-first (is_start_in (instrs_of code) k) (length code.code == k) all.0), each ks all.1)
+      each (k ∷ ks) all = (place-of code k (or_left (is_start_in (instrs_of code) k) (length code.code == k) all.0), each ks all.1)
 
 -- ---- the text
 
@@ -204,9 +188,9 @@ module _ (p : Program) (sound : HasSoundCodes p) where
       each c code [] all = tt
       each c code (h ∷ hs) all = (
         (
-          place-of code h.start (or-first (is_start_in (instrs_of code) h.start) (length code.code == h.start) all.0.0),
+          place-of code h.start (or_left (is_start_in (instrs_of code) h.start) (length code.code == h.start) all.0.0),
           place-of code h.end all.0.1,
-          place-of code h.handler (or-first (is_start_in (instrs_of code) h.handler) (length code.code == h.handler) all.0.2),
+          place-of code h.handler (or_left (is_start_in (instrs_of code) h.handler) (length code.code == h.handler) all.0.2),
         ),
         each c code hs all.1,
       )

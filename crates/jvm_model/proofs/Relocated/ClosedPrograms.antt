@@ -3,7 +3,7 @@ use Rattle.std.proofs.Common.{◌≡◌, ℕ, zero, suc, Bool, true, false, cond
 use Rattle.std.specs.Prelude.{slice_get, unwrap_or, ◌==◌, ◌||◌}
 use Rattle.std.specs.List.{AllByRecursion}
 use Rattle.std.specs.Option.{IfSome, option_and_then, option_map, option_map_or}
-use Rattle.std.proofs.lemmas.Bool.{eq-eqb, false≢true}
+use Rattle.std.proofs.lemmas.Bool.{eq-eqb, false≢true, or_left, or_right}
 use Rattle.std.proofs.lemmas.Option.{same_Some, none-some}
 use Rattle.const_pool.specs.declared.class.ClassFile.{ClassFile}
 use Rattle.const_pool.specs.declared.class.CodeAttribute.{CodeAttribute}
@@ -25,13 +25,6 @@ use Rattle.jvm_model.proofs.Relocated.ClosedCode.{closed-agrees}
 use Rattle.jvm_model.specs.Codes.ProgramPlaces.{HasClosedCodes, HasPlaces, IsClosedCode, is_place_in, is_place_of, reading_of}
 use Rattle.jvm_model.proofs.Images.HomedListings.{nth-all}
 
-or-first : (a b : Bool) → a ≡ true → (a || b) ≡ true
-or-first a b e = ap (λ x. x || b) e
-
-or-second : (a b : Bool) → b ≡ true → (a || b) ≡ true
-or-second true b e = refl
-or-second false b e = e
-
 -- ---- readings
 
 pub record Nth (is : List Instr) (at : ℕ) : Type 0 where
@@ -52,12 +45,12 @@ next-of : (bytes : List ℕ) (at : ℕ) (is : List Instr) (k : ℕ) (i : Instr) 
     → (is_start_in is (end_of i) || end_of i == length bytes) ≡ true
 next-of bytes at [] k i reads e = absurd (none-some i e)
 next-of bytes at (j ∷ []) zero i reads e =
-    or-second (is_start_in (j ∷ []) (end_of i)) (end_of i == length bytes) (eq-eqb (end_of i) (length bytes) (ap end_of (sym (same_Some j i e)) ∙ reads.1))
+    or_right (is_start_in (j ∷ []) (end_of i)) (end_of i == length bytes) (eq-eqb (end_of i) (length bytes) (ap end_of (sym (same_Some j i e)) ∙ reads.1))
 next-of bytes at (j ∷ []) (suc k) i reads e = absurd (none-some i e)
 next-of bytes at (j ∷ next ∷ is) zero i reads e =
     let starts : next.at ≡ end_of i = at-instruction_at bytes (end_of j) next reads.1.0 ∙ ap end_of (same_Some j i e) in
-    or-first (is_start_in (j ∷ next ∷ is) (end_of i)) (end_of i == length bytes)
-    (or-second (j.at == end_of i) (is_start_in (next ∷ is) (end_of i)) (or-first (next.at == end_of i) (is_start_in is (end_of i)) (eq-eqb next.at (end_of i) starts)))
+    or_left (is_start_in (j ∷ next ∷ is) (end_of i)) (end_of i == length bytes)
+    (or_right (j.at == end_of i) (is_start_in (next ∷ is) (end_of i)) (or_left (next.at == end_of i) (is_start_in is (end_of i)) (eq-eqb next.at (end_of i) starts)))
 next-of bytes at (j ∷ next ∷ is) (suc k) i reads e =
     longer (j.at == end_of i) (is_start_in (next ∷ is) (end_of i)) (end_of i == length bytes) (next-of bytes (end_of j) (next ∷ is) k i reads.1 e) where
       longer : (a b c : Bool) → (b || c) ≡ true → ((a || b) || c) ≡ true
@@ -90,7 +83,7 @@ module _ (c : ClassFile) (code : CodeAttribute) (closed : IsClosedCode code) whe
   next-place op k j nth = by (ends op) where
     by : (b : Bool) → IfSome (cond b None (Some (end_of j))) (λ n. is_place_of code n ≡ true)
     by true = tt
-    by false = or-second (end_of j == 0) _ (next-of code.code 0 (reading_of code) k j closed.reads nth)
+    by false = or_right (end_of j == 0) _ (next-of code.code 0 (reading_of code) k j closed.reads nth)
 
   -- of the instruction that stands at a place
   code-next : (at : ℕ) (o : Option Instr) (i : Instruction) → is_place_of code at ≡ true → instruction_at code.code at ≡ o → option_and_then (instruction_of c) o ≡ Some i

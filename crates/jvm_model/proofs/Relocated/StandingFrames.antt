@@ -1,9 +1,10 @@
 -- A frame of closed code stands where an instruction starts, and so at an operation of its method's code.
 use Rattle.std.proofs.Common.{◌≡◌, ℕ, zero, suc, Bool, true, false, List, [], ◌∷◌, length, Option, Some, None, ◌≤◌, if◌then◌else◌, refl, sym, ap, subst, ◌∙◌, eqb-true, inl, inr, arith}
-use Rattle.std.proofs.lemmas.Bool.{cases_eq}
+use Rattle.std.proofs.lemmas.Bool.{cases_eq, false≢true}
 use Rattle.std.specs.Prelude.{filter_map, is_some, unwrap_or, ◌==◌, ◌||◌}
 use Rattle.std.specs.List.{AllByRecursion, cons_option}
 use Rattle.std.specs.Option.{option_and_then, option_map, option_map_or}
+use Rattle.std.proofs.lemmas.Option.{none-some, same_Some}
 use Rattle.const_pool.specs.declared.class.ClassFile.{ClassFile}
 use Rattle.const_pool.specs.declared.class.CodeAttribute.{CodeAttribute}
 use Rattle.code_model.specs.declared.instr.Instr.{Instr}
@@ -27,15 +28,6 @@ use Rattle.jvm_model.proofs.Revealing.CalledRuns.{IsAt, StandsAt}
 use Rattle.jvm_model.specs.Soundness.Calls.{StandsAtPlace, is_end, places_of}
 use Rattle.jvm_model.specs.Profiling.Targets.{operations_of}
 
-false_true : false ≡ true → ⊥
-false_true e = cc
-
-none-some : {A : Type 0} (x : A) → None ≡ Some x → ⊥
-none-some x e = cc
-
-some-some : {A : Type 0} (x y : A) → Some x ≡ Some y → x ≡ y
-some-some x y e = cc
-
 module _ (bytes : List ℕ) where
   abbrev pub Stand : List Instr → Type 0
   Stand js = AllByRecursion (λ (j : Instr). instruction_at bytes j.at ≡ Some j) js
@@ -55,13 +47,13 @@ module _ (bytes : List ℕ) where
     has-behind (Some k) ops has = record { front = k ∷ has.front; rest = has.rest; is = ap (λ (l : List Operation). k ∷ l) has.is }
 
     has-made : (js : List Instr) (at : ℕ) → Stand js → is_start_in js at ≡ true → instruction_at bytes at ≡ Some j → Has (filter_map (operation_of c) js) op
-    has-made [] at stand start found = absurd (false_true start)
+    has-made [] at stand start found = absurd (false≢true start)
     has-made (i ∷ js) at stand start found = by (i.at == at) refl start (λ h. has-made js at stand.1 h found)
       where
         by : (b : Bool) → (i.at == at) ≡ b → (b || is_start_in js at) ≡ true → (is_start_in js at ≡ true → Has (filter_map (operation_of c) js) op)
             → Has (cons_option (operation_of c i) (filter_map (operation_of c) js)) op
         by true e h rest =
-            let same : i ≡ j = some-some i j (sym stand.0 ∙ (ap (instruction_at bytes) (eqb-true i.at at e) ∙ found)) in
+            let same : i ≡ j = same_Some i j (sym stand.0 ∙ (ap (instruction_at bytes) (eqb-true i.at at e) ∙ found)) in
             record { front = []; rest = filter_map (operation_of c) js; is = ap (λ o. cons_option o (filter_map (operation_of c) js)) (ap (operation_of c) same ∙ is) }
         by false e h rest = has-behind (operation_of c i) (filter_map (operation_of c) js) (rest h)
 
@@ -101,7 +93,7 @@ reading-has c position at i place found = by (method_code c position) place foun
         → Has (filter_map (operation_of c) (read_from (length bytes) bytes 0)) i.operation
     made bytes j None is start stands e = absurd (none-some i e)
     made bytes j (Some op) is start stands e =
-        let same : op ≡ i.operation = ap (λ (x : Instruction). x.operation) (some-some (record { operation = op; own = j.at; next = next_of op (end_of j); targets = targets_of j.arg }) i e) in
+        let same : op ≡ i.operation = ap (λ (x : Instruction). x.operation) (same_Some (record { operation = op; own = j.at; next = next_of op (end_of j); targets = targets_of j.arg }) i e) in
         subst (Has (filter_map (operation_of c) (read_from (length bytes) bytes 0))) same
         (has-made bytes c j op is (read_from (length bytes) bytes 0) at (read-stand bytes (length bytes) 0) start stands)
 

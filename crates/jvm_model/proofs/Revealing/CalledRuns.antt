@@ -5,9 +5,10 @@ use Rattle.std.proofs.lemmas.List.{append-nil}
 use Rattle.std.specs.Prelude.{is_some}
 use Rattle.std.specs.List.{AllByRecursion}
 use Rattle.std.specs.Option.{IfSome, option_map_or}
+use Rattle.std.proofs.lemmas.Bool.{false≢true}
 use Rattle.heap_objects.specs.declared.Value.TheVariants.{Ref}
 use Rattle.frame_stack.specs.Widths.{height_of}
-use Rattle.jvm_model.specs.Basis.Data.{Ending, MethodPlace, Program, Frame, Entry, Active, Initializing, Part, Constants, Superclass, Initializer, Finish, Phase, Fresh, Running, Ready, Erroneous, Shared, State, Locals, Operands, Change, Loads, Began, Left, Unwound, Turn, Instruction, Listing, Operation, Outcome, Done, World}
+use Rattle.jvm_model.specs.Basis.Data.{Ending, MethodPlace, Program, Frame, Entry, Active, Initializing, Part, Constants, Superclass, Initializer, Finish, Phase, Fresh, Running, Ready, Erroneous, Shared, State, Locals, Operands, Change, Loads, Began, Left, Unwound, Turn, Instruction, Listing, Operation, Done, World}
 use Rattle.jvm_model.specs.Basis.Data as operation
 use Rattle.jvm_model.specs.Running.Applies.{still, with_frame, breaks, goes, new_frame, has_room, live_in, most_live, applies}
 use Rattle.jvm_model.specs.Running.Changes.{methods, without_first, after_changes, EndThenBegin, AreOrdered}
@@ -41,9 +42,6 @@ use Rattle.jvm_model.specs.Soundness.Calls.{AreCalled, loads_of, loaded_before, 
 use Rattle.jvm_model.specs.Soundness.Climbing.{Climbs, HasBareObject, Begins}
 use Rattle.jvm_model.specs.Profiling.Points.{has_class}
 use Rattle.jvm_model.specs.Profiling.Targets.{begun_by_operation, targets_in}
-
-false_true : false ≡ true → ⊥
-false_true e = cc
 
 if-both : {A : Type 0} (o : Option A) (P Q : A → Type 0) → IfSome o P → IfSome o Q → IfSome o (λ x. P x × Q x)
 if-both None P Q first second = tt
@@ -120,7 +118,7 @@ module _ (w : World) (fit : IsFit w.program) (bare : HasBareObject w.program) (c
 
   quiet-same : (ms : List ℕ) (changes : List Change) → is_quiet changes ≡ true → after_changes ms changes ≡ ms
   quiet-same ms [] e = refl
-  quiet-same ms (c ∷ more) e = absurd (false_true e)
+  quiet-same ms (c ∷ more) e = absurd (false≢true e)
 
   by-both : (i : Instruction) (s : State) (f : Frame) → IsSound RunsOriginal p s → IsSoundEntry RunsOriginal p s.shared.loaded (Active f) → CanAttempt p s.shared.loaded i.operation
       → loads w i.operation s.shared f.operands ≡ [] → Climbs p s.shared.loaded → AreDue w code s.shared.loaded s.stack → Has (code f.method) i.operation
@@ -401,7 +399,7 @@ module _ (w : World) (fit : IsFit w.program) (bare : HasBareObject w.program) (c
   has-class loaded m has some = by (place_of_method p m) refl some
     where
       by : (o : Option MethodPlace) → place_of_method p m ≡ o → is_some o ≡ true → option_map_or (λ (place : MethodPlace). is_among place.class loaded) o false ≡ true
-      by None e some = absurd (false_true some)
+      by None e some = absurd (false≢true some)
       by (Some place) e some = has place e
 
   end-called : (loaded ms : List ℕ) (changes : List Change) → EndThenBegin changes → Targeted p code loaded ms changes → Placed p changes → Have loaded (after_changes ms changes)

@@ -3,6 +3,7 @@ use Rattle.std.proofs.Common.{◌≡◌, ℕ, suc, Bool, true, false, List, [], 
 use Rattle.std.specs.Prelude.{is_some, ◌==◌, ◌||◌}
 use Rattle.std.specs.List.{AllByRecursion}
 use Rattle.std.specs.Option.{IfSome, option_map}
+use Rattle.std.proofs.lemmas.Bool.{false≢true}
 use Rattle.heap_objects.specs.declared.datum.Datum.{Datum}
 use Rattle.heap_objects.specs.declared.Value.TheVariants.{Ref, Addr}
 use Rattle.frame_stack.specs.Widths.{height_of}
@@ -22,9 +23,6 @@ use Rattle.jvm_model.proofs.Events.Methods.{Tells, applies-tells, moves-tell, th
 use Rattle.jvm_model.specs.Soundness.Calls.{IsCalled, loads_of}
 use Rattle.jvm_model.specs.Soundness.Climbing.{Climbs, IsDue, Begins}
 use Rattle.jvm_model.specs.Profiling.Targets.{begun_by_operation, targets_in}
-
-false_true : false ≡ true → ⊥
-false_true e = cc
 
 -- ---- lists
 
@@ -46,7 +44,7 @@ has-targets p loaded operations op has m e =
     subst (λ ops. is_among m (targets_in p loaded ops) ≡ true) (sym has.is) (front-targets p loaded has.front has.rest op m e)
 
 pub all-at : (P : ℕ → Type 0) (xs : List ℕ) (x : ℕ) → AllByRecursion P xs → is_among x xs ≡ true → P x
-all-at P [] x each there = absurd (false_true there)
+all-at P [] x each there = absurd (false≢true there)
 all-at P (y ∷ xs) x each there = by (x == y) refl there (λ h. all-at P xs x each.1 h)
   where
     by : (b : Bool) → (x == y) ≡ b → (b || is_among x xs) ≡ true → (is_among x xs ≡ true → P x) → P x

@@ -1,12 +1,13 @@
 -- What an instruction asks to begin is among its targets (JVM Specification 2.11.8, 5.4.3, 5.4.5, 5.5, 6.5).
 use Rattle.std.proofs.Common.{◌≡◌, ℕ, zero, suc, ◌+◌, ◌*◌, ◌≤◌, ◌<◌, Bool, true, false, List, [], ◌∷◌, ◌++◌, length, ap, ap₂, sym, subst, refl, ◌∙◌, eqb-true, inl, inr, arith}
-use Rattle.std.proofs.lemmas.Bool.{eq-eqb, ne_eqb}
+use Rattle.std.proofs.lemmas.Bool.{eq-eqb, ne_eqb, false≢true, or_right}
 use Rattle.std.proofs.lemmas.Nat.{div-mul-add, le-div, mod-mul-add}
 use Rattle.std.proofs.lemmas.List.{append-nil}
 use Rattle.std.specs.Prelude.{◌/◌, ◌%◌, codes, drop, filter, filter_map, flat_map, map, Option, Some, None, is_some, Result, Ok, Err, slice_get, nat_le, nat_lt, unwrap_or, ℤ, pos, negsuc, ◌==◌, ◌&&◌, ◌||◌, ◌⊎◌, if◌then◌else◌}
 use Rattle.std.specs.Bool.{beq}
 use Rattle.std.specs.List.{list_any, cons_option}
 use Rattle.std.specs.Option.{option_and_then, option_map, option_map_or, option_to_list}
+use Rattle.std.proofs.lemmas.Option.{none-some, same_Some}
 use Rattle.const_pool.specs.declared.class.ClassFile.{ClassFile}
 use Rattle.const_pool.specs.References.{NameAndType, Reference}
 use Rattle.const_pool.specs.BuiltIn.{built_in_names}
@@ -22,7 +23,7 @@ use Rattle.native_effects.specs.declared.effects.answer.Answer.TheVariants as an
 use Rattle.native_ops.specs.Methods.Calls.{answer_by}
 use Rattle.native_effects.specs.Effects.Making.{answer_of_class}
 use Rattle.native_effects.specs.Inputs.Numbers.{out_of_memory_error}
-use Rattle.jvm_model.specs.Basis.Data.{MethodPlace, Program, Phase, Fresh, Running, Ready, Erroneous, Shared, Local, Operation, Within, Athrow, Monitor, Newarray, Arraylength, LoadElement, StoreElement, LdcString, Locals, Operands, World, Outcome, GoesOn, Next, Invokes, Initializes, Throws, Raises, Breaks, Done}
+use Rattle.jvm_model.specs.Basis.Data.{MethodPlace, Program, Phase, Fresh, Running, Ready, Erroneous, Shared, Operation, Within, Athrow, Monitor, Newarray, Arraylength, LoadElement, StoreElement, LdcString, Locals, Operands, World, Outcome, GoesOn, Next, Throws, Raises, Breaks, Done}
 use Rattle.jvm_model.specs.Basis.Values.{as_value, int_of, ref_of}
 use Rattle.jvm_model.specs.Basis.Data as operation
 use Rattle.jvm_model.specs.Instructions.CreationRules.{allocates, answers, array_over, casts, casts_to, class_cast, counts_of, has_no_instances, instantiation_error, is_text_class, lengths_of, makes_arrays, makes_by_counts, makes_instance, makes_multi, makes_new, makes_object, slots_of_arrays, tells_instance, with_arrays, zero_of}
@@ -55,15 +56,6 @@ use Rattle.jvm_model.proofs.Revealing.IdleRules.{element-sound, measures-sound, 
 use Rattle.jvm_model.specs.Soundness.Climbing.{Climbs, HasBareObject, IsDue, Begins}
 use Rattle.jvm_model.specs.Profiling.Targets.{loaded_class_named, is_array_type, found_where, coded_at, method_coded, initializers, selections, invoked_by, begun_on, begun_static, begun_field, where_loaded, begun_by, begun_by_operation}
 
-false_true : false ≡ true → ⊥
-false_true e = cc
-
-none-some : {A : Type 0} (x : A) → None ≡ Some x → ⊥
-none-some x e = cc
-
-some-some : {A : Type 0} (x y : A) → Some x ≡ Some y → x ≡ y
-some-some x y e = cc
-
 ok-ok : {A : Type 0} (x y : A) → (let r : Result A Outcome = Ok x in r) ≡ Ok y → x ≡ y
 ok-ok x y e = cc
 
@@ -75,12 +67,8 @@ err-ok o x e = cc
 equals_itself : (n : ℕ) → (n == n) ≡ true
 equals_itself n = eq-eqb n n refl
 
-or-later : (a b : Bool) → b ≡ true → (a || b) ≡ true
-or-later true b e = refl
-or-later false b e = e
-
 pub among-first : (x : ℕ) (xs ys : List ℕ) → is_among x xs ≡ true → is_among x (xs ++ ys) ≡ true
-among-first x [] ys e = absurd (false_true e)
+among-first x [] ys e = absurd (false≢true e)
 among-first x (y ∷ xs) ys e = by (x == y) e (among-first x xs ys)
   where
     by : (b : Bool) → (b || is_among x xs) ≡ true → (is_among x xs ≡ true → is_among x (xs ++ ys) ≡ true) → (b || is_among x (xs ++ ys)) ≡ true
@@ -89,11 +77,11 @@ among-first x (y ∷ xs) ys e = by (x == y) e (among-first x xs ys)
 
 pub among-second : (x : ℕ) (xs ys : List ℕ) → is_among x ys ≡ true → is_among x (xs ++ ys) ≡ true
 among-second x [] ys e = e
-among-second x (y ∷ xs) ys e = or-later (x == y) (is_among x (xs ++ ys)) (among-second x xs ys e)
+among-second x (y ∷ xs) ys e = or_right (x == y) (is_among x (xs ++ ys)) (among-second x xs ys e)
 
 pub among-flat : {A : Type 0} (f : A → List ℕ) (x : ℕ) (y : A) (test : A → Bool) (ys : List A) → list_any test ys ≡ true → ((z : A) → test z ≡ true → is_among x (f z) ≡ true)
     → is_among x (flat_map f ys) ≡ true
-among-flat f x y test [] there is = absurd (false_true there)
+among-flat f x y test [] there is = absurd (false≢true there)
 among-flat f x y test (z ∷ ys) there is = by (test z) refl there (λ h. among-flat f x y test ys h is)
   where
     by : (b : Bool) → test z ≡ b → (b || list_any test ys) ≡ true → (list_any test ys ≡ true → is_among x (flat_map f ys) ≡ true) → is_among x (f z ++ flat_map f ys) ≡ true
@@ -101,11 +89,11 @@ among-flat f x y test (z ∷ ys) there is = by (test z) refl there (λ h. among-
     by false other h rest = among-second x (f z) (flat_map f ys) (rest h)
 
 among-filter : (test : ℕ → Bool) (x : ℕ) (xs : List ℕ) → is_among x xs ≡ true → test x ≡ true → is_among x (filter test xs) ≡ true
-among-filter test x [] there is = absurd (false_true there)
+among-filter test x [] there is = absurd (false≢true there)
 among-filter test x (y ∷ xs) there is = by (x == y) refl there (λ h. among-filter test x xs h is)
   where
     kept : (b : Bool) → is_among x (filter test xs) ≡ true → is_among x (if b then y ∷ filter test xs else filter test xs) ≡ true
-    kept true h = or-later (x == y) (is_among x (filter test xs)) h
+    kept true h = or_right (x == y) (is_among x (filter test xs)) h
     kept false h = h
 
     by : (b : Bool) → (x == y) ≡ b → (b || is_among x xs) ≡ true → (is_among x xs ≡ true → is_among x (filter test xs) ≡ true)
@@ -116,12 +104,12 @@ among-filter test x (y ∷ xs) there is = by (x == y) refl there (λ h. among-fi
     by false other h rest = kept (test y) (rest h)
 
 among-made : (f : ℕ → Option ℕ) (x y : ℕ) (xs : List ℕ) → is_among x xs ≡ true → f x ≡ Some y → is_among y (filter_map f xs) ≡ true
-among-made f x y [] there is = absurd (false_true there)
+among-made f x y [] there is = absurd (false≢true there)
 among-made f x y (z ∷ xs) there is = by (x == z) refl there (λ h. among-made f x y xs h is)
   where
     kept : (o : Option ℕ) → is_among y (filter_map f xs) ≡ true → is_among y (cons_option o (filter_map f xs)) ≡ true
     kept None h = h
-    kept (Some k) h = or-later (y == k) (is_among y (filter_map f xs)) h
+    kept (Some k) h = or_right (y == k) (is_among y (filter_map f xs)) h
 
     by : (b : Bool) → (x == z) ≡ b → (b || is_among x xs) ≡ true → (is_among x xs ≡ true → is_among y (filter_map f xs) ≡ true)
         → is_among y (cons_option (f z) (filter_map f xs)) ≡ true
@@ -136,9 +124,9 @@ first-among at (class ∷ rest) m e = by (at class) e (first-among at rest m)
   where
     by : (o : Option ℕ) → option_map_or (λ position. Some (record { class = class; position = position })) o (first_in at rest) ≡ Some m
         → (first_in at rest ≡ Some m → is_among m.class rest ≡ true) → is_among m.class (class ∷ rest) ≡ true
-    by None e rest_is = or-later (m.class == class) (is_among m.class rest) (rest_is e)
+    by None e rest_is = or_right (m.class == class) (is_among m.class rest) (rest_is e)
     by (Some position) e rest_is =
-        let same : class ≡ m.class = ap (λ (q : MemberPlace). q.class) (some-some (let q : MemberPlace = record { class = class; position = position } in q) m e) in
+        let same : class ≡ m.class = ap (λ (q : MemberPlace). q.class) (same_Some (let q : MemberPlace = record { class = class; position = position } in q) m e) in
         ap (λ c. (m.class == c) || is_among m.class rest) same ∙ ap (λ b. b || is_among m.class rest) (equals_itself m.class)
 
 -- ---- what a name stands for
@@ -149,7 +137,7 @@ array-deep deep (unit ∷ rest) m e = by (unit == 91) e (array-deep (deep + 1) r
   where
     of : (o : Option Element) → option_map (array_of deep) o ≡ Some m → deep ≤ m.dimensions
     of None e = absurd (none-some m e)
-    of (Some element) e = let same : deep ≡ m.dimensions = ap (λ (x : Meaning). x.dimensions) (some-some (array_of deep element) m e) in omega (arith, same)
+    of (Some element) e = let same : deep ≡ m.dimensions = ap (λ (x : Meaning). x.dimensions) (same_Some (array_of deep element) m e) in omega (arith, same)
 
     by-deep : (b : Bool) → (if b then option_map (array_of deep) (element_of (unit ∷ rest)) else None) ≡ Some m → deep ≤ m.dimensions
     by-deep true e = of (element_of (unit ∷ rest)) e
@@ -217,7 +205,7 @@ module _ (p : Program) (fit : IsFit p) where
       by (Some class) member_found e =
           let within : class < length p.classes = named-class (has_name name) p.classes class member_found in
           let small : base_of_class p class < 16777216 = base-below p class within fit.few in
-          let is : kind ≡ base_of_class p class = sym (some-some (0 * 16777216 + base_of_class p class) kind e) ∙ (let z : 0 * 16777216 + base_of_class p class ≡ base_of_class p class = omega arith in z) in
+          let is : kind ≡ base_of_class p class = sym (same_Some (0 * 16777216 + base_of_class p class) kind e) ∙ (let z : 0 * 16777216 + base_of_class p class ≡ base_of_class p class = omega arith in z) in
           let back : class_of_base p kind ≡ Some class = ap (class_of_base p) is ∙ class-back p class within fit.few in
           let less : kind < 16777216 = subst (λ k. k < 16777216) (sym is) small in
           of_class class less back
@@ -232,7 +220,7 @@ module _ (p : Program) (fit : IsFit p) where
       by : (o : Option ℕ) → option_map kind_number (option_map (λ base. record { dimensions = (meaning_of name).dimensions; base = base }) o) ≡ Some kind → Names loaded name kind
       by None e = absurd (none-some kind e)
       by (Some base) e =
-          let is : (meaning_of name).dimensions * 16777216 + base ≡ kind = some-some ((meaning_of name).dimensions * 16777216 + base) kind e in
+          let is : (meaning_of name).dimensions * 16777216 + base ≡ kind = same_Some ((meaning_of name).dimensions * 16777216 + base) kind e in
           let big : 16777216 ≤ kind = omega (arith, is, deep) in
           of_array big (ap (λ b. if b then unwrap_or (class_of_base p kind) 0 else user_count p) (not-below kind 16777216 big)) (below-is 0 (meaning_of name).dimensions (omega (arith, deep)))
 
@@ -259,7 +247,7 @@ module _ (p : Program) (fit : IsFit p) where
   sub-class lower upper class small is sub loaded = by (nat_lt lower 16777216) refl
     where
       of_base : lower < 16777216 → (o : Option ℕ) → class_of_base p lower ≡ o → is_subbase_of p lower upper o (Some class) ≡ true → is_subtype p (unwrap_or o 0) class ≡ true
-      of_base less None none e = absurd (false_true e)
+      of_base less None none e = absurd (false≢true e)
       of_base less (Some a) some e = e
 
       by : (b : Bool) → nat_lt lower 16777216 ≡ b → Receives loaded class (if b then unwrap_or (class_of_base p lower) 0 else user_count p)
@@ -286,7 +274,7 @@ module _ (p : Program) (fit : IsFit p) where
           ap (λ a. is_subkind p (record { dimensions = a; base = lower % 16777216 }) (kind_parts upper)) (no-dimensions lower less)
           ∙ (ap (λ b. if b then is_subbase p (lower % 16777216) (upper % 16777216) else nat_lt (upper / 16777216) 0 && is_above_arrays (upper % 16777216)) other
           ∙ ap (λ b. b && is_above_arrays (upper % 16777216)) above) in
-          absurd (false_true (sym flat ∙ sub))
+          absurd (false≢true (sym flat ∙ sub))
 
 -- ---- java/lang/Object
 
@@ -299,19 +287,19 @@ module _ (p : Program) (bare : HasBareObject p) where
     where
       by : (b : Bool) → (b || false) ≡ true → b ≡ true
       by true e = refl
-      by false e = absurd (false_true e)
+      by false e = absurd (false≢true e)
 
   walk-super : (n : ℕ) → flat_map (superclasses_within p n) (superclass_of p object) ≡ []
   walk-super n = ap (flat_map (superclasses_within p n)) bare.superclass
 
   above-object : (n x : ℕ) → is_among x (supertypes_within p n object) ≡ true → x ≡ object
-  above-object zero x e = absurd (false_true e)
+  above-object zero x e = absurd (false≢true e)
   above-object (suc n) x e =
       or-none x object
       (sym (ap (λ l. is_among x (object ∷ l)) (ap₂ (λ a b. flat_map (supertypes_within p n) a ++ flat_map (supertypes_within p n) b) bare.interfaces bare.superclass)) ∙ e)
 
   supers-object : (n x : ℕ) → is_among x (superclasses_within p n object) ≡ true → x ≡ object
-  supers-object zero x e = absurd (false_true e)
+  supers-object zero x e = absurd (false≢true e)
   supers-object (suc n) x e = or-none x object (sym (ap (λ l. is_among x (object ∷ l)) (walk-super n)) ∙ e)
 
   no-interfaces : (n : ℕ) → superinterfaces_within p n object ≡ []
@@ -438,7 +426,7 @@ number-least k n class at [] e = absurd (none-some n e)
 number-least k n class at (x ∷ rest) e = by (same_place class at x) e (number-least (k + 1) n class at rest)
   where
     by : (b : Bool) → (if b then Some k else number_from (k + 1) class at rest) ≡ Some n → (number_from (k + 1) class at rest ≡ Some n → k + 1 ≤ n) → k ≤ n
-    by true e rest = let same = some-some k n e in omega arith
+    by true e rest = let same = same_Some k n e in omega arith
     by false e rest = let later = rest e in omega arith
 
 number-there : (k n class at : ℕ) (places : List MethodPlace) (i : ℕ) → number_from k class at places ≡ Some n → n ≡ k + i → is_some (slice_get places i) ≡ true
@@ -448,7 +436,7 @@ number-there k n class at (x ∷ rest) i e is = by (same_place class at x) e i i
     by : (b : Bool) → (if b then Some k else number_from (k + 1) class at rest) ≡ Some n → (i : ℕ) → n ≡ k + i
         → ((j : ℕ) → number_from (k + 1) class at rest ≡ Some n → n ≡ k + 1 + j → is_some (slice_get rest j) ≡ true) → is_some (slice_get (x ∷ rest) i) ≡ true
     by b e zero is behind = refl
-    by true e (suc j) is behind = let here = some-some k n e in absurd (omega arith)
+    by true e (suc j) is behind = let here = same_Some k n e in absurd (omega arith)
     by false e (suc j) is behind = behind j e (omega arith)
 
 pub number-place : (p : Program) (class at n : ℕ) → number_of_method p class at ≡ Some n → is_some (place_of_method p n) ≡ true
@@ -713,8 +701,8 @@ module _ (w : World) (fit : IsFit w.program) (s : Shared) (is : IsSoundShared w.
           ∙ among-first n (coded_at p m) (initializers p s.loaded class) e)
       own m method (of_array big is_class array_type) n e =
           let stands : m.class ≡ user_count p = method-object p bare r.member m (ap (λ c. resolved_method p c false r.member) (sym is_class) ∙ method.is_found) in
-          let none : method_coded p (Some m) ≡ [] = object-coded p bare (Some m) (λ k same. ap (λ (q : MemberPlace). q.class) (sym (some-some m k same)) ∙ stands) in
-          absurd (false_true (sym (ap (is_among n) none) ∙ e))
+          let none : method_coded p (Some m) ≡ [] = object-coded p bare (Some m) (λ k same. ap (λ (q : MemberPlace). q.class) (sym (same_Some m k same)) ∙ stands) in
+          absurd (false≢true (sym (ap (is_among n) none) ∙ e))
 
       by : (m : MemberPlace) → IsMethod false true r m → (args : Option (List Datum)) → Due (begun_by p s.loaded (Invokestatic r)) (invokes_with_static w m args s l o)
       by m method None = tt
@@ -758,7 +746,7 @@ module _ (w : World) (fit : IsFit w.program) (s : Shared) (is : IsSoundShared w.
           received (receives_array is_object) = in_array is_object
 
       by : (o : Option ℕ) → kind_at object s.heap ≡ o → is_below_kind p o (Some kind) ≡ true → HasReceiver name kind (option_map_or (class_of_kind p) o 0)
-      by None at sub = absurd (false_true sub)
+      by None at sub = absurd (false≢true sub)
       by (Some lower) at sub = of lower (object-usable p s.loaded s.heap object lower is.objects at).of_class is_kind.0 sub
 
   -- what is selected from the receiver's class
@@ -769,7 +757,7 @@ module _ (w : World) (fit : IsFit w.program) (s : Shared) (is : IsSoundShared w.
       (λ class. option_map_or (selections p s.loaded class by) (found_where (is_static p) false (resolved_method p class (names_interface by) r.member)) [])) ≡ true
   selection-due by r m x method of_object (in_array is_object) n e =
       let none : method_coded p (selected_by p by m x) ≡ [] = object-coded p bare (selected_by p by m x) (λ member_found is_found. of_object member_found is_object is_found) in
-      absurd (false_true (sym (ap (is_among n) none) ∙ e))
+      absurd (false≢true (sym (ap (is_among n) none) ∙ e))
   selection-due by r m x method of_object (in_class class is_class named there above) n e =
       let found_is : found_where (is_static p) false (resolved_method p class (names_interface by) r.member) ≡ Some m =
       ap (found_where (is_static p) false) (ap (λ c. resolved_method p c (names_interface by) r.member) (sym is_class) ∙ method.is_found)

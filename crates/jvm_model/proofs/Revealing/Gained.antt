@@ -3,6 +3,7 @@ use Rattle.std.proofs.Common.{◌≡◌, ℕ, Bool, true, false, List, [], ◌�
 use Rattle.std.proofs.lemmas.List.{append-nil}
 use Rattle.std.specs.Prelude.{filter, filter_map, flat_map, Option, Some, None, ◌==◌, ◌||◌, ◌⊎◌, if◌then◌else◌}
 use Rattle.std.specs.Option.{option_and_then, option_map_or}
+use Rattle.std.proofs.lemmas.Bool.{false≢true, or_right}
 use Rattle.const_pool.specs.References.{Reference}
 use Rattle.jvm_model.specs.Basis.Data.{Program, Operation, Within, Named, Athrow, Monitor, Newarray, Arraylength, LoadElement, StoreElement, LdcString}
 use Rattle.jvm_model.specs.Instructions.SymbolicReference.{SymbolicReference, New, Getfield, Putfield, Getstatic, Putstatic, Invokevirtual, Invokespecial, Invokestatic, Invokeinterface, Checkcast, Instanceof, Anewarray, Multianewarray, LdcClass}
@@ -19,9 +20,6 @@ use Rattle.jvm_model.proofs.Revealing.CalledSteps.{all-at}
 use Rattle.jvm_model.proofs.Revealing.Growing.{filter-front, made-front}
 use Rattle.jvm_model.specs.Profiling.Revelation.{gained_by, gained_by_operation, gained_call, gained_in, gained_named, gained_on, is_named}
 use Rattle.jvm_model.specs.Profiling.Targets.{loaded_class_named, is_array_type, found_where, coded_at, method_coded, initializers, selections, invoked_by, begun_on, begun_static, begun_field, where_loaded, begun_by, begun_by_operation, targets_in}
-
-false_true : false ≡ true → ⊥
-false_true e = cc
 
 -- ---- what is among lists
 
@@ -41,20 +39,16 @@ or-left : (m : ℕ) (xs ys zs : List ℕ) → is_among m (xs ++ ys) ≡ true →
 or-left m xs ys zs h first second = elim (among-either m xs ys h) [ inl a ↦ first a | inr b ↦ second b ]
 
 among-first : (x : ℕ) (xs ys : List ℕ) → is_among x xs ≡ true → is_among x (xs ++ ys) ≡ true
-among-first x [] ys e = absurd (false_true e)
+among-first x [] ys e = absurd (false≢true e)
 among-first x (y ∷ xs) ys e = by (x == y) e (among-first x xs ys)
   where
     by : (b : Bool) → (b || is_among x xs) ≡ true → (is_among x xs ≡ true → is_among x (xs ++ ys) ≡ true) → (b || is_among x (xs ++ ys)) ≡ true
     by true e rest = refl
     by false e rest = rest e
 
-or-later : (a b : Bool) → b ≡ true → (a || b) ≡ true
-or-later true b e = refl
-or-later false b e = e
-
 among-second : (x : ℕ) (xs ys : List ℕ) → is_among x ys ≡ true → is_among x (xs ++ ys) ≡ true
 among-second x [] ys e = e
-among-second x (y ∷ xs) ys e = or-later (x == y) (is_among x (xs ++ ys)) (among-second x xs ys e)
+among-second x (y ∷ xs) ys e = or_right (x == y) (is_among x (xs ++ ys)) (among-second x xs ys e)
 
 flat-either : (f : ℕ → List ℕ) (xs ys : List ℕ) (m : ℕ) → is_among m (flat_map f (xs ++ ys)) ≡ true → Or m (flat_map f xs) (flat_map f ys)
 flat-either f [] ys m h = inr h
@@ -78,7 +72,7 @@ module _ (p : Program) (loaded : List ℕ) (new : ℕ) (above : HasSupertypes p 
     where
       by : (b : Bool) → is_subtype p class new ≡ b → is_subtype p class new ≡ false
       by false e = e
-      by true e = absurd (false_true (sym fresh ∙ all-at (IsLoaded loaded) (supertypes p class) new (supertypes-loaded p loaded above class there) e))
+      by true e = absurd (false≢true (sym fresh ∙ all-at (IsLoaded loaded) (supertypes p class) new (supertypes-loaded p loaded above class there) e))
 
   -- ---- parts
 
@@ -121,7 +115,7 @@ module _ (p : Program) (loaded : List ℕ) (new : ℕ) (above : HasSupertypes p 
           → is_among m (option_map_or g (let o : Option ℕ = if c then Some class else None in o) []) ≡ true
           → Or m (option_map_or f (let o : Option ℕ = if b then Some class else None in o) [])
           ((if (class == new) then begun_by p all n else []) ++ option_map_or extra (let o : Option ℕ = if b then Some class else None in o) [])
-      of class named b there false none h = absurd (false_true h)
+      of class named b there false none h = absurd (false≢true h)
       of class named true there true among h = choose (each class there h)
         where
           choose : Or m (f class) (extra class) → Or m (f class) ((if (class == new) then begun_by p all n else []) ++ extra class)
@@ -143,18 +137,18 @@ module _ (p : Program) (loaded : List ℕ) (new : ℕ) (above : HasSupertypes p 
             where
               ends : (b : Bool) → (b || false) ≡ true → b ≡ true
               ends true h = refl
-              ends false h = absurd (false_true h)
+              ends false h = absurd (false≢true h)
           last (x ∷ xs) h none = ends (class == x) h none (last xs)
             where
               ends : (b : Bool) → (b || is_among class (xs ++ new ∷ [])) ≡ true → (b || is_among class xs) ≡ false
                   → (is_among class (xs ++ new ∷ []) ≡ true → is_among class xs ≡ false → (class == new) ≡ true) → (class == new) ≡ true
-              ends true h none rest = absurd (false_true (sym none))
+              ends true h none rest = absurd (false≢true (sym none))
               ends false h none rest = rest h none
 
       by : (o : Option ℕ) → class_named p name ≡ o → is_among m (option_map_or g (found_in all o) []) ≡ true
           → Or m (option_map_or f (found_in loaded o) [])
           ((if option_map_or (λ found. found == new) o false then begun_by p all n else []) ++ option_map_or extra (found_in loaded o) [])
-      by None named h = absurd (false_true h)
+      by None named h = absurd (false≢true h)
       by (Some class) named h = of class named (is_among class loaded) refl (is_among class all) refl h
 
   -- without an extra part
@@ -198,7 +192,7 @@ module _ (p : Program) (loaded : List ℕ) (new : ℕ) (above : HasSupertypes p 
 
           found : (o : Option MemberPlace) → is_among m (option_map_or (invoked_by p all class by) o []) ≡ true
               → Or m (option_map_or (invoked_by p loaded class by) o []) (if is_subtype p new class then option_map_or (λ m. method_coded p (selected_by p by m new)) o [] else [])
-          found None k = absurd (false_true k)
+          found None k = absurd (false≢true k)
           found (Some q) k = turn q (is_subtype p new class) (more-selections class by q m (ap (is_among m) (sym (selects all class q)) ∙ k))
 
   begun-more : (n : SymbolicReference) (m : ℕ) → is_among m (begun_by p all n) ≡ true → Or m (begun_by p loaded n) (gained_by p loaded new n)
@@ -227,29 +221,29 @@ module _ (p : Program) (loaded : List ℕ) (new : ℕ) (above : HasSupertypes p 
           ap (λ b. option_map_or (on loaded) (let o : Option ℕ = if b then Some (user_count p) else loaded_class_named p loaded r.class in o) []) e in
           subst (λ l. Or m l (gained_named p loaded new (Invokespecial caller r interface) r.class)) (sym was)
           (name-more r.class (on loaded) (on all) (Invokespecial caller r interface) m is (λ class there. refl) h)
-  begun-more (Getfield r) m h = absurd (false_true h)
-  begun-more (Putfield r) m h = absurd (false_true h)
-  begun-more (Checkcast name) m h = absurd (false_true h)
-  begun-more (Instanceof name) m h = absurd (false_true h)
-  begun-more (Anewarray name) m h = absurd (false_true h)
-  begun-more (Multianewarray name dimensions) m h = absurd (false_true h)
-  begun-more (LdcClass name) m h = absurd (false_true h)
+  begun-more (Getfield r) m h = absurd (false≢true h)
+  begun-more (Putfield r) m h = absurd (false≢true h)
+  begun-more (Checkcast name) m h = absurd (false≢true h)
+  begun-more (Instanceof name) m h = absurd (false≢true h)
+  begun-more (Anewarray name) m h = absurd (false≢true h)
+  begun-more (Multianewarray name dimensions) m h = absurd (false≢true h)
+  begun-more (LdcClass name) m h = absurd (false≢true h)
 
   operation-more : (op : Operation) (m : ℕ) → is_among m (begun_by_operation p all op) ≡ true → Or m (begun_by_operation p loaded op) (gained_by_operation p loaded new op)
   operation-more (Named n) m h = begun-more n m h
-  operation-more (Within i) m h = absurd (false_true h)
-  operation-more Athrow m h = absurd (false_true h)
-  operation-more Monitor m h = absurd (false_true h)
-  operation-more (Newarray code) m h = absurd (false_true h)
-  operation-more Arraylength m h = absurd (false_true h)
-  operation-more (LoadElement k) m h = absurd (false_true h)
-  operation-more (StoreElement k) m h = absurd (false_true h)
-  operation-more (LdcString units) m h = absurd (false_true h)
+  operation-more (Within i) m h = absurd (false≢true h)
+  operation-more Athrow m h = absurd (false≢true h)
+  operation-more Monitor m h = absurd (false≢true h)
+  operation-more (Newarray code) m h = absurd (false≢true h)
+  operation-more Arraylength m h = absurd (false≢true h)
+  operation-more (LoadElement k) m h = absurd (false≢true h)
+  operation-more (StoreElement k) m h = absurd (false≢true h)
+  operation-more (LdcString units) m h = absurd (false≢true h)
 
   -- Whatever is a target then was one before, or is gained.
   pub targets-gain : (operations : List Operation) (m : ℕ) → is_among m (targets_in p all operations) ≡ true
       → Or m (targets_in p loaded operations) (gained_in p loaded new operations)
-  targets-gain [] m h = absurd (false_true h)
+  targets-gain [] m h = absurd (false≢true h)
   targets-gain (op ∷ rest) m h = by (among-either m (begun_by_operation p all op) (targets_in p all rest) h) (targets-gain rest m)
     where
       first : Or m (begun_by_operation p loaded op) (gained_by_operation p loaded new op)
@@ -275,7 +269,7 @@ module _ (p : Program) (loaded : List ℕ) (new : ℕ) (above : HasSupertypes p 
     where
       by : (b : Bool) → is_among m (if b then begun_by p all n else []) ≡ true → is_among m (begun_by p all n) ≡ true
       by true h = h
-      by false h = absurd (false_true h)
+      by false h = absurd (false≢true h)
 
   call-gains : (by : Selecting) (r : Reference) (m : ℕ) → ((l : List ℕ) (class : ℕ) (k : MemberPlace) → invoked_by p l class by k ≡ selections p l class by k)
       → is_among m (gained_call p loaded new by r) ≡ true → is_among m (where_loaded p all r.class (λ class. begun_on p all class by r)) ≡ true
@@ -294,21 +288,21 @@ module _ (p : Program) (loaded : List ℕ) (new : ℕ) (above : HasSupertypes p 
 
       mapped : (class : ℕ) (o : Option MemberPlace) (b : Bool) → is_subtype p new class ≡ b
           → is_among m (if b then option_map_or (λ k. method_coded p (selected_by p by k new)) o [] else []) ≡ true → is_among m (option_map_or (invoked_by p all class by) o []) ≡ true
-      mapped class o false sub h = absurd (false_true h)
-      mapped class None true sub h = absurd (false_true h)
+      mapped class o false sub h = absurd (false≢true h)
+      mapped class None true sub h = absurd (false≢true h)
       mapped class (Some k) true sub h = picked class k sub h
 
       at : (class : ℕ) (b : Bool) → is_among class loaded ≡ b
           → is_among m (option_map_or (λ c. gained_on p new c by r) (let o : Option ℕ = if b then Some class else None in o) []) ≡ true
           → is_among m (option_map_or (λ c. begun_on p all c by r) (let o : Option ℕ = if is_among class all then Some class else None in o) []) ≡ true
-      at class false there h = absurd (false_true h)
+      at class false there h = absurd (false≢true h)
       at class true there h =
           ap (λ b. is_among m (option_map_or (λ c. begun_on p all c by r) (let o : Option ℕ = if b then Some class else None in o) [])) (among-first class loaded (new ∷ []) there)
           ∙ mapped class (found_where (is_static p) false (resolved_method p class (names_interface by) r.member)) (is_subtype p new class) refl h
 
       of : (o : Option ℕ) → is_among m (option_map_or (λ c. gained_on p new c by r) (option_and_then (λ class. if is_among class loaded then Some class else None) o) []) ≡ true
           → is_among m (option_map_or (λ c. begun_on p all c by r) (option_and_then (λ class. if is_among class all then Some class else None) o) []) ≡ true
-      of None h = absurd (false_true h)
+      of None h = absurd (false≢true h)
       of (Some class) h = at class (is_among class loaded) refl h
 
   begun-gains : (n : SymbolicReference) (m : ℕ) → is_among m (gained_by p loaded new n) ≡ true → is_among m (begun_by p all n) ≡ true
@@ -323,27 +317,27 @@ module _ (p : Program) (loaded : List ℕ) (new : ℕ) (above : HasSupertypes p 
   begun-gains (Invokeinterface r) m h =
       or-left m (gained_named p loaded new (Invokeinterface r) r.class) (gained_call p loaded new OfInterface r) (begun_by p all (Invokeinterface r)) h
       (named-gains (Invokeinterface r) r.class m) (call-gains OfInterface r m (λ l class k. refl))
-  begun-gains (Getfield r) m h = absurd (false_true h)
-  begun-gains (Putfield r) m h = absurd (false_true h)
-  begun-gains (Checkcast name) m h = absurd (false_true h)
-  begun-gains (Instanceof name) m h = absurd (false_true h)
-  begun-gains (Anewarray name) m h = absurd (false_true h)
-  begun-gains (Multianewarray name dimensions) m h = absurd (false_true h)
-  begun-gains (LdcClass name) m h = absurd (false_true h)
+  begun-gains (Getfield r) m h = absurd (false≢true h)
+  begun-gains (Putfield r) m h = absurd (false≢true h)
+  begun-gains (Checkcast name) m h = absurd (false≢true h)
+  begun-gains (Instanceof name) m h = absurd (false≢true h)
+  begun-gains (Anewarray name) m h = absurd (false≢true h)
+  begun-gains (Multianewarray name dimensions) m h = absurd (false≢true h)
+  begun-gains (LdcClass name) m h = absurd (false≢true h)
 
   operation-gains : (op : Operation) (m : ℕ) → is_among m (gained_by_operation p loaded new op) ≡ true → is_among m (begun_by_operation p all op) ≡ true
   operation-gains (Named n) m h = begun-gains n m h
-  operation-gains (Within i) m h = absurd (false_true h)
-  operation-gains Athrow m h = absurd (false_true h)
-  operation-gains Monitor m h = absurd (false_true h)
-  operation-gains (Newarray code) m h = absurd (false_true h)
-  operation-gains Arraylength m h = absurd (false_true h)
-  operation-gains (LoadElement k) m h = absurd (false_true h)
-  operation-gains (StoreElement k) m h = absurd (false_true h)
-  operation-gains (LdcString units) m h = absurd (false_true h)
+  operation-gains (Within i) m h = absurd (false≢true h)
+  operation-gains Athrow m h = absurd (false≢true h)
+  operation-gains Monitor m h = absurd (false≢true h)
+  operation-gains (Newarray code) m h = absurd (false≢true h)
+  operation-gains Arraylength m h = absurd (false≢true h)
+  operation-gains (LoadElement k) m h = absurd (false≢true h)
+  operation-gains (StoreElement k) m h = absurd (false≢true h)
+  operation-gains (LdcString units) m h = absurd (false≢true h)
 
   pub gained-targets : (operations : List Operation) (m : ℕ) → is_among m (gained_in p loaded new operations) ≡ true → is_among m (targets_in p all operations) ≡ true
-  gained-targets [] m h = absurd (false_true h)
+  gained-targets [] m h = absurd (false≢true h)
   gained-targets (op ∷ rest) m h = by (among-either m (gained_by_operation p loaded new op) (gained_in p loaded new rest) h) (gained-targets rest m)
     where
       by : Or m (gained_by_operation p loaded new op) (gained_in p loaded new rest) → (is_among m (gained_in p loaded new rest) ≡ true → is_among m (targets_in p all rest) ≡ true)

@@ -3,6 +3,7 @@ use Rattle.std.proofs.Common.{◌≡◌, ℕ, Bool, true, false, List, [], ◌�
 use Rattle.std.specs.Prelude.{filter, filter_map, flat_map, Option, Some, None, ◌==◌, ◌||◌, if◌then◌else◌}
 use Rattle.std.specs.List.{cons_option}
 use Rattle.std.specs.Option.{option_and_then, option_map_or}
+use Rattle.std.proofs.lemmas.Bool.{false≢true}
 use Rattle.const_pool.specs.References.{Reference}
 use Rattle.jvm_model.specs.Basis.Data.{Program, Operation, Within, Named, Athrow, Monitor, Newarray, Arraylength, LoadElement, StoreElement, LdcString}
 use Rattle.jvm_model.specs.Instructions.SymbolicReference.{SymbolicReference, New, Getfield, Putfield, Getstatic, Putstatic, Invokevirtual, Invokespecial, Invokestatic, Invokeinterface, Checkcast, Instanceof, Anewarray, Multianewarray, LdcClass}
@@ -16,9 +17,6 @@ use Rattle.jvm_model.specs.Classes.Selection.{is_static}
 use Rattle.jvm_model.proofs.Revealing.Callees.{among-first, among-second}
 use Rattle.jvm_model.specs.Profiling.Targets.{loaded_class_named, is_array_type, class_with_methods, found_where, coded_at, method_coded, initializers, selections, invoked_by, begun_on, begun_static, begun_field, where_loaded, begun_by, begun_by_operation, targets_in}
 
-false_true : false ≡ true → ⊥
-false_true e = cc
-
 abbrev Among : List ℕ → List ℕ → Type 0
 Among xs ys = (m : ℕ) → is_among m xs ≡ true → is_among m ys ≡ true
 
@@ -26,7 +24,7 @@ same : (xs : List ℕ) → Among xs xs
 same xs m h = h
 
 none : (xs : List ℕ) → Among [] xs
-none xs m h = absurd (false_true h)
+none xs m h = absurd (false≢true h)
 
 either : (xs ys cs bs : List ℕ) → Among xs cs → Among ys bs → Among (xs ++ ys) (cs ++ bs)
 either [] ys cs bs first second m h = among-second m cs bs (second m h)
@@ -61,7 +59,7 @@ made-front f (x ∷ xs) ys = by (f x) (made-front f xs ys)
     by (Some y) e = ap (λ l. y ∷ l) e
 
 flat-front : (f : ℕ → List ℕ) (xs ys : List ℕ) (m : ℕ) → is_among m (flat_map f xs) ≡ true → is_among m (flat_map f (xs ++ ys)) ≡ true
-flat-front f [] ys m h = absurd (false_true h)
+flat-front f [] ys m h = absurd (false≢true h)
 flat-front f (x ∷ xs) ys m h = either (f x) (flat_map f xs) (f x) (flat_map f (xs ++ ys)) (same (f x)) (flat-front f xs ys) m h
 
 module _ (p : Program) (loaded more : List ℕ) where

@@ -2,6 +2,7 @@
 use Rattle.std.proofs.Common.{◌≡◌, ℕ, Bool, true, false, List, [], ◌∷◌, ◌++◌, if◌then◌else◌, refl, ap, ◌∙◌, inl, inr}
 use Rattle.std.specs.Prelude.{◌==◌, ◌||◌, ◌⊎◌}
 use Rattle.std.specs.List.{list_any}
+use Rattle.std.proofs.lemmas.Bool.{false≢true}
 use Rattle.jvm_model.specs.declared.event.Act.{Act}
 use Rattle.jvm_model.specs.declared.event.Mark.TheVariants.{Off, Plain, Root}
 use Rattle.jvm_model.specs.Basis.Data.{Program, Operation}
@@ -13,9 +14,6 @@ use Rattle.jvm_model.proofs.Events.Marked.{among-chosen}
 use Rattle.jvm_model.specs.Profiling.Points.{Standing, methods_selected, has_class, is_target, mark_in, with_entered}
 use Rattle.jvm_model.specs.Profiling.Revelation.{gained_in}
 use Rattle.jvm_model.specs.Profiling.Targets.{targets_in}
-
-false_true : false ≡ true → ⊥
-false_true e = cc
 
 module _ (p : Program) (code : ℕ → List Operation) where
   -- an action changes the mark of its own method alone
@@ -45,7 +43,7 @@ module _ (p : Program) (code : ℕ → List Operation) where
     both-ways : (a b c : Bool) → (c ≡ true → (a ≡ true) ⊎ (b ≡ true)) → (a ≡ true → c ≡ true) → (b ≡ true → c ≡ true) → c ≡ (a || b)
     both-ways true b c split first second = first refl
     both-ways false true c split first second = second refl
-    both-ways false false true split first second = elim (split refl) [ inl e ↦ absurd (false_true e) | inr e ↦ absurd (false_true e) ]
+    both-ways false false true split first second = elim (split refl) [ inl e ↦ absurd (false≢true e) | inr e ↦ absurd (false≢true e) ]
     both-ways false false false split first second = refl
 
     one-caller : (operations : List Operation)

@@ -1,14 +1,14 @@
 -- Walks above loaded classes end within as many steps as there are classes: so they go on upwards, whatever bounds them.
 use Rattle.std.proofs.Common.{◌≡◌, ℕ, zero, suc, ◌+◌, ◌<◌, ◌≤◌, Bool, true, false, List, [], ◌∷◌, ◌++◌, length, ap, sym, subst, refl, ◌∙◌, eqb-true, inl, inr, arith}
-use Rattle.std.proofs.lemmas.Bool.{eq-eqb, cases_eq}
+use Rattle.std.proofs.lemmas.Bool.{eq-eqb, cases_eq, false≢true, or_right}
 use Rattle.std.proofs.lemmas.List.{append-nil, append_assoc}
-use Rattle.std.proofs.lemmas.Option.{slice_get_within}
+use Rattle.std.proofs.lemmas.Option.{slice_get_within, none-some}
 use Rattle.std.specs.Prelude.{drop, filter_map, flat_map, nat_lt, unwrap_or, Option, Some, None, ◌==◌, ◌||◌, ◌⊎◌, if◌then◌else◌}
 use Rattle.std.specs.List.{AllByRecursion, cons_option}
 use Rattle.std.specs.Option.{option_and_then, option_map_or, option_to_list}
 use Rattle.const_pool.specs.declared.class.ClassFile.{ClassFile}
 use Rattle.const_pool.specs.References.{named_class}
-use Rattle.jvm_model.specs.Basis.Data.{Ending, Program, Entry, Active, Initializing, Frame, Shared, State, Operation, Operands, Instruction, Listing, Turn, World}
+use Rattle.jvm_model.specs.Basis.Data.{Ending, Program, Entry, Active, Initializing, Frame, Shared, State, Operation, Operands, Instruction, Turn, World}
 use Rattle.jvm_model.specs.Basis.Data as operation
 use Rattle.jvm_model.specs.Instructions.Does.{does, loads}
 use Rattle.jvm_model.specs.Classes.Load.{is_among, load_of, needs_of}
@@ -28,12 +28,6 @@ use Rattle.jvm_model.proofs.Soundness.SoundListingRuns.{original-sound, at-goes}
 use Rattle.jvm_model.proofs.Soundness.SoundClasses.{HasLoaded, among-either, directs, named-load}
 use Rattle.jvm_model.specs.Soundness.Climbing.{Climbs}
 
-false_true : false ≡ true → ⊥
-false_true e = cc
-
-none-some : {A : Type 0} (x : A) → None ≡ Some x → ⊥
-none-some x e = cc
-
 equals_itself : (n : ℕ) → (n == n) ≡ true
 equals_itself n = eq-eqb n n refl
 
@@ -42,12 +36,8 @@ equals_itself n = eq-eqb n n refl
 abbrev In : ℕ → List ℕ → Type 0
 In x xs = is_among x xs ≡ true
 
-or-later : (a b : Bool) → b ≡ true → (a || b) ≡ true
-or-later true b e = refl
-or-later false b e = e
-
 in-first : (x : ℕ) (xs ys : List ℕ) → In x xs → In x (xs ++ ys)
-in-first x [] ys e = absurd (false_true e)
+in-first x [] ys e = absurd (false≢true e)
 in-first x (y ∷ xs) ys e = by (x == y) e (in-first x xs ys)
   where
     by : (b : Bool) → (b || is_among x xs) ≡ true → (In x xs → In x (xs ++ ys)) → (b || is_among x (xs ++ ys)) ≡ true
@@ -56,7 +46,7 @@ in-first x (y ∷ xs) ys e = by (x == y) e (in-first x xs ys)
 
 in-second : (x : ℕ) (xs ys : List ℕ) → In x ys → In x (xs ++ ys)
 in-second x [] ys e = e
-in-second x (y ∷ xs) ys e = or-later (x == y) (is_among x (xs ++ ys)) (in-second x xs ys e)
+in-second x (y ∷ xs) ys e = or_right (x == y) (is_among x (xs ++ ys)) (in-second x xs ys e)
 
 in-either : (x : ℕ) (xs ys : List ℕ) → In x (xs ++ ys) → In x xs ⊎ In x ys
 in-either x [] ys h = inr h
@@ -116,7 +106,7 @@ count-more (suc i) loaded class = by (is_among i loaded) refl (is_among i (loade
     by : (a : Bool) → is_among i loaded ≡ a → (b : Bool) → is_among i (loaded ++ class ∷ []) ≡ b → count_in i loaded ≤ count_in i (loaded ++ class ∷ [])
         → (if a then suc (count_in i loaded) else count_in i loaded) ≤ (if b then suc (count_in i (loaded ++ class ∷ [])) else count_in i (loaded ++ class ∷ []))
     by true there true e le = omega arith
-    by true there false e le = absurd (false_true (sym e ∙ in-first i loaded (class ∷ []) there))
+    by true there false e le = absurd (false≢true (sym e ∙ in-first i loaded (class ∷ []) there))
     by false none true e le = omega arith
     by false none false e le = omega arith
 
@@ -135,7 +125,7 @@ count-grows (suc i) loaded class less none = elim (cases_eq class i) [
     by : (a : Bool) → is_among i loaded ≡ a → (b : Bool) → is_among i (loaded ++ class ∷ []) ≡ b → count_in i loaded < count_in i (loaded ++ class ∷ [])
         → (if a then suc (count_in i loaded) else count_in i loaded) < (if b then suc (count_in i (loaded ++ class ∷ [])) else count_in i (loaded ++ class ∷ []))
     by true there true e lt = omega arith
-    by true there false e lt = absurd (false_true (sym e ∙ in-first i loaded (class ∷ []) there))
+    by true there false e lt = absurd (false≢true (sym e ∙ in-first i loaded (class ∷ []) there))
     by false gone true e lt = omega arith
     by false gone false e lt = omega arith
 
@@ -146,7 +136,7 @@ module _ (p : Program) where
   -- ---- walks
 
   wider : (n c x : ℕ) → In x (W n c) → In x (W (suc n) c)
-  wider zero c x h = absurd (false_true h)
+  wider zero c x h = absurd (false≢true h)
   wider (suc n) c x h =
       both-wider c x (flat_map (W n) (interfaces_of p c)) (flat_map (W n) (superclass_of p c)) (flat_map (W (suc n)) (interfaces_of p c)) (flat_map (W (suc n)) (superclass_of p c))
       (flat-wider (W n) (W (suc n)) (interfaces_of p c) x (all-of (λ d. (y : ℕ) → In y (W n d) → In y (W (suc n) d)) (wider n) (interfaces_of p c)))
@@ -157,7 +147,7 @@ module _ (p : Program) where
   further-wider (suc k) n c x h = subst (λ m. In x (W m c)) (let e : suc (n + k) ≡ n + suc k = omega arith in e) (wider (n + k) c x (further-wider k n c x h))
 
   within-more : (n m c x : ℕ) → n ≤ m → In x (W n c) → In x (W m c)
-  within-more zero m c x le h = absurd (false_true h)
+  within-more zero m c x le h = absurd (false≢true h)
   within-more (suc n) zero c x le h = absurd (omega arith)
   within-more (suc n) (suc m) c x le h =
       both-wider c x (flat_map (W n) (interfaces_of p c)) (flat_map (W n) (superclass_of p c)) (flat_map (W m) (interfaces_of p c)) (flat_map (W m) (superclass_of p c))
@@ -172,7 +162,7 @@ module _ (p : Program) where
   raised-stable r s c le stable n x h = within-more r s c x le (stable n x h)
 
   next-stable : (r c : ℕ) → AllByRecursion (Stable r) (interfaces_of p c) → AllByRecursion (Stable r) (superclass_of p c) → Stable (suc r) c
-  next-stable r c interfaces supers zero x h = absurd (false_true h)
+  next-stable r c interfaces supers zero x h = absurd (false≢true h)
   next-stable r c interfaces supers (suc n) x h =
       both-wider c x (flat_map (W n) (interfaces_of p c)) (flat_map (W n) (superclass_of p c)) (flat_map (W r) (interfaces_of p c)) (flat_map (W r) (superclass_of p c))
       (flat-wider (W n) (W r) (interfaces_of p c) x (at n (interfaces_of p c) interfaces))
@@ -184,11 +174,11 @@ module _ (p : Program) where
 
   -- from a class above goes no walk that does not go from the class
   then-above : (a b c x y : ℕ) → In x (W a c) → In y (W b x) → In y (W (a + b) c)
-  then-above zero b c x y first second = absurd (false_true first)
+  then-above zero b c x y first second = absurd (false≢true first)
   then-above (suc a) b c x y first second = by (x == c) refl first (λ d k. then-above a b d x y k second)
     where
       over : (ds : List ℕ) → ((d : ℕ) → In x (W a d) → In y (W (a + b) d)) → In x (flat_map (W a) ds) → In y (flat_map (W (a + b)) ds)
-      over [] each h = absurd (false_true h)
+      over [] each h = absurd (false≢true h)
       over (d ∷ ds) each h = choose (in-either x (W a d) (flat_map (W a) ds) h) (over ds each)
         where
           choose : In x (W a d) ⊎ In x (flat_map (W a) ds) → (In x (flat_map (W a) ds) → In y (flat_map (W (a + b)) ds)) → In y (W (a + b) d ++ flat_map (W (a + b)) ds)
@@ -197,10 +187,10 @@ module _ (p : Program) where
 
       behind : ((d : ℕ) → In x (W a d) → In y (W (a + b) d)) → In x (flat_map (W a) (interfaces_of p c)) ⊎ In x (flat_map (W a) (superclass_of p c)) → In y (W (suc (a + b)) c)
       behind each (inl h) =
-          or-later (y == c) (is_among y (flat_map (W (a + b)) (interfaces_of p c) ++ flat_map (W (a + b)) (superclass_of p c)))
+          or_right (y == c) (is_among y (flat_map (W (a + b)) (interfaces_of p c) ++ flat_map (W (a + b)) (superclass_of p c)))
           (in-first y (flat_map (W (a + b)) (interfaces_of p c)) (flat_map (W (a + b)) (superclass_of p c)) (over (interfaces_of p c) each h))
       behind each (inr h) =
-          or-later (y == c) (is_among y (flat_map (W (a + b)) (interfaces_of p c) ++ flat_map (W (a + b)) (superclass_of p c)))
+          or_right (y == c) (is_among y (flat_map (W (a + b)) (interfaces_of p c) ++ flat_map (W (a + b)) (superclass_of p c)))
           (in-second y (flat_map (W (a + b)) (interfaces_of p c)) (flat_map (W (a + b)) (superclass_of p c)) (over (superclass_of p c) each h))
 
       by : (t : Bool) → (x == c) ≡ t → (t || is_among x (flat_map (W a) (interfaces_of p c) ++ flat_map (W a) (superclass_of p c))) ≡ true
@@ -268,7 +258,7 @@ module _ (p : Program) where
           (both (superclass_of p class) above.0 (super-within class)))
 
   pub none-ranked : IsRanked []
-  none-ranked c less there = absurd (false_true there)
+  none-ranked c less there = absurd (false≢true there)
 
   pub load-ranked : (loaded name : List ℕ) → IsRanked loaded → IsRanked (load_of p loaded name).loaded
   load-ranked loaded name = (named-load p IsRanked one-more (length p.classes + 1) [] name loaded).kept
@@ -287,7 +277,7 @@ module _ (p : Program) where
 
   -- a class that is none has nothing above it
   past-stable : (c : ℕ) → size ≤ c → Stable 1 c
-  past-stable c past zero x h = absurd (false_true h)
+  past-stable c past zero x h = absurd (false≢true h)
   past-stable c past (suc n) x h =
       ap (λ (o : Option ClassFile). is_among x (c ∷ (flat_map (W 0) (filter_map (class_named p) (option_map_or interface_names o []))
       ++ flat_map (W 0) (option_to_list (option_and_then (class_named p) (option_and_then (λ (k : ClassFile). named_class k.pool k.super_class) o)))))) none
@@ -322,12 +312,12 @@ module _ (p : Program) where
     -- a direct superclass
     super-in : (n c d : ℕ) → 1 ≤ n → super_of p c ≡ Some d → In d (W (suc n) c)
     super-in n c d le e =
-        or-later (d == c) (is_among d (flat_map (W n) (interfaces_of p c) ++ flat_map (W n) (superclass_of p c)))
+        or_right (d == c) (is_among d (flat_map (W n) (interfaces_of p c) ++ flat_map (W n) (superclass_of p c)))
         (in-second d (flat_map (W n) (interfaces_of p c)) (flat_map (W n) (superclass_of p c))
         (ap (λ o. is_among d (flat_map (W n) (option_to_list o))) e ∙ in-first d (W n d) [] (own-in n d le)))
 
     supers-in : (n c x : ℕ) → In x (superclasses_within p n c) → In x (W n c)
-    supers-in zero c x h = absurd (false_true h)
+    supers-in zero c x h = absurd (false≢true h)
     supers-in (suc n) c x h = by (x == c) h (supers-in n)
       where
         over : ((d y : ℕ) → In y (superclasses_within p n d) → In y (W n d)) → (ds : List ℕ) → In x (flat_map (superclasses_within p n) ds) → In x (flat_map (W n) ds)
@@ -342,9 +332,9 @@ module _ (p : Program) where
     Deeper n = (d y : ℕ) → In y (superinterfaces_within p n d) → In y (W (suc n) d)
 
     interfaces-in : (n c x : ℕ) → In x (superinterfaces_within p n c) → In x (W (suc n) c)
-    interfaces-in zero c x h = absurd (false_true h)
+    interfaces-in zero c x h = absurd (false≢true h)
     interfaces-in (suc n) c x h =
-        or-later (x == c) (is_among x (flat_map (W (suc n)) (interfaces_of p c) ++ flat_map (W (suc n)) (superclass_of p c)))
+        or_right (x == c) (is_among x (flat_map (W (suc n)) (interfaces_of p c) ++ flat_map (W (suc n)) (superclass_of p c)))
         (by (interfaces-in n) (in-either x (flat_map (λ i. i ∷ superinterfaces_within p n i) (interfaces_of p c))
         (if is_interface p c then [] else flat_map (superinterfaces_within p n) (superclass_of p c)) h))
       where
@@ -356,7 +346,7 @@ module _ (p : Program) where
             step false e k = deeper d y k
 
         supers : Deeper n → (t : Bool) → In x (if t then [] else flat_map (superinterfaces_within p n) (superclass_of p c)) → In x (flat_map (W (suc n)) (superclass_of p c))
-        supers deeper true k = absurd (false_true k)
+        supers deeper true k = absurd (false≢true k)
         supers deeper false k =
             flat-wider (superinterfaces_within p n) (W (suc n)) (superclass_of p c) x
             (all-of (λ d. (y : ℕ) → In y (superinterfaces_within p n d) → In y (W (suc n) d)) deeper (superclass_of p c)) k

@@ -1,9 +1,9 @@
 -- What a sound program is for the laws on places, and for those on points.
-use Rattle.std.proofs.Common.{◌≡◌, ℕ, zero, suc, ◌<◌, Bool, true, false, List, [], ◌∷◌, length, Some, None, is_some, refl, sym, ap, ◌∙◌, eqb-true, arith}
+use Rattle.std.proofs.Common.{◌≡◌, ℕ, zero, suc, ◌<◌, Bool, true, false, List, [], ◌∷◌, length, is_some, refl, sym, eqb-true, arith}
 use Rattle.std.specs.Prelude.{◌==◌, ◌||◌, slice_get}
 use Rattle.std.specs.List.{AllByRecursion}
 use Rattle.std.specs.Option.{option_and_then}
-use Rattle.std.proofs.lemmas.Bool.{eq-eqb}
+use Rattle.std.proofs.lemmas.Bool.{eq-eqb, or_left, or_right}
 use Rattle.std.proofs.lemmas.Option.{option_and_then_some}
 use Rattle.const_pool.specs.declared.class.ClassFile.{ClassFile}
 use Rattle.const_pool.specs.declared.class.CodeAttribute.{CodeAttribute}
@@ -20,19 +20,12 @@ use Rattle.jvm_model.specs.Soundness.Whole.{FitsHandler, HasSoundCode, HasSoundC
 
 -- ---- a code that leads to starts leads to its places
 
-or-first : (a b : Bool) → a ≡ true → (a || b) ≡ true
-or-first a b e = ap (λ x. x || b) e
-
-or-second : (a b : Bool) → b ≡ true → (a || b) ≡ true
-or-second true b e = refl
-or-second false b e = e
-
 start-place : (code : CodeAttribute) (at : ℕ) → is_start_in (instrs_of code) at ≡ true → is_place_of code at ≡ true
 start-place code at e =
-    or-second (at == 0) (is_start_in (instrs_of code) at || at == length code.code) (or-first (is_start_in (instrs_of code) at) (at == length code.code) e)
+    or_right (at == 0) (is_start_in (instrs_of code) at || at == length code.code) (or_left (is_start_in (instrs_of code) at) (at == length code.code) e)
 
 stop-place : (code : CodeAttribute) (at : ℕ) → is_stop code at ≡ true → is_place_of code at ≡ true
-stop-place code at e = or-second (at == 0) (is_start_in (instrs_of code) at || at == length code.code) (by (is_start_in (instrs_of code) at) e)
+stop-place code at e = or_right (at == 0) (is_start_in (instrs_of code) at || at == length code.code) (by (is_start_in (instrs_of code) at) e)
   where
     by : (b : Bool) → (b || (length code.code == at)) ≡ true → (b || (at == length code.code)) ≡ true
     by true e = refl

@@ -4,6 +4,8 @@ use Rattle.std.specs.Prelude.{◌+◌, length, Option, Some, None, filter_map, f
 use Rattle.std.specs.Bool.{beq}
 use Rattle.std.specs.List.{AllByRecursion, cons_option}
 use Rattle.std.specs.Option.{option_and_then, option_map_or, option_to_list}
+use Rattle.std.proofs.lemmas.Bool.{false≢true}
+use Rattle.std.proofs.lemmas.Option.{same_Some}
 use Rattle.const_pool.specs.declared.class.ClassFile.{ClassFile}
 use Rattle.const_pool.specs.References.{named_class}
 use Rattle.jvm_model.specs.Classes.Kinds.{Element, Primitive, Named, array_from, array_of, is_array_name, meaning_of}
@@ -15,9 +17,6 @@ use Rattle.jvm_model.specs.declared.program.Program.{Program}
 
 -- ---- what is among classes
 
-false_true : false ≡ true → ⊥
-false_true e = cc
-
 equals_itself : (n : ℕ) → (n == n) ≡ true
 equals_itself n = grind (arith)
 
@@ -25,7 +24,7 @@ equal : (a b : ℕ) → (a == b) ≡ true → a ≡ b
 equal a b e = grind (arith)
 
 pub among-front : (class : ℕ) (xs ys : List ℕ) → is_among class xs ≡ true → is_among class (xs ++ ys) ≡ true
-among-front class [] ys is = absurd (false_true is)
+among-front class [] ys is = absurd (false≢true is)
 among-front class (x ∷ xs) ys is = by (class == x) is (among-front class xs ys)
   where
     by : (b : Bool) → (b || is_among class xs) ≡ true → (is_among class xs ≡ true → is_among class (xs ++ ys) ≡ true) → (b || is_among class (xs ++ ys)) ≡ true
@@ -46,7 +45,7 @@ among-either P last [] first is c e = by (c == last) refl e
   where
     by : (b : Bool) → (c == last) ≡ b → (b || false) ≡ true → P c
     by true same e = subst P (sym (equal c last same)) is
-    by false same e = absurd (false_true e)
+    by false same e = absurd (false≢true e)
 among-either P last (x ∷ xs) first is c e =
     by (c == x) refl e (among-either P last xs (λ d there. first d (behind d (d == x) there)) is c)
   where
@@ -108,12 +107,6 @@ no-named code name e = cc
 same-name : (a b : List ℕ) → Named a ≡ Named b → a ≡ b
 same-name a b e = cc
 
-some-some : (a b : ℕ) → Some a ≡ Some b → a ≡ b
-some-some a b e = cc
-
-none-some : (n : ℕ) → None ≡ Some n → ⊥
-none-some n e = cc
-
 pub plain-element : (name : List ℕ) → is_array_name name ≡ false → (meaning_of name).element ≡ Named name
 plain-element name plain =
     ap (λ (b : Bool). (if b then unwrap_or (array_from 0 name) (array_of 0 (Named name)) else array_of 0 (Named name)).element) plain
@@ -131,7 +124,7 @@ module _ (p : Program) (P : List ℕ → Type 0)
     grown = λ c h. among-front c l.loaded (class ∷ []) (needs.grown c h);
     there = λ none name same c named.
         subst (IsLoaded (l.loaded ++ class ∷ []))
-        (some-some class c (sym found ∙ (ap (class_named p) (same-name own name same) ∙ named))) (among-last class l.loaded);
+        (same_Some class c (sym found ∙ (ap (class_named p) (same-name own name same) ∙ named))) (among-last class l.loaded);
   }
   behind-load own loaded class l found needs (Some fault) is = record {
     kept = needs.kept;
@@ -147,7 +140,7 @@ module _ (p : Program) (P : List ℕ → Type 0)
       kept = λ h. h;
       grown = λ c h. h;
       there = λ none name same c named.
-          subst (IsLoaded loaded) (some-some class c (sym found ∙ (ap (class_named p) (same-name own name same) ∙ named))) is;
+          subst (IsLoaded loaded) (same_Some class c (sym found ∙ (ap (class_named p) (same-name own name same) ∙ named))) is;
     }
     standing-load class false true found is = stopped (Named own) loaded Circular
     standing-load class false false found is = behind-load own loaded class (within class) found (needs class) (within class).fault refl
@@ -171,7 +164,7 @@ module _ (p : Program) (P : List ℕ → Type 0)
       where
         by : (b : Bool) → (not b && option_map_or (λ class. beq (is_interface p class) n.interface) (class_named p n.name) false) ≡ true → b ≡ false
         by false h = refl
-        by true h = absurd (false_true h)
+        by true h = absurd (false≢true h)
 
     pub needs-load : (needs : List Need) (loaded : List ℕ) → AreLoads p P needs loaded (load_needs p load needs loaded)
     needs-load [] loaded = record { kept = λ h. h; grown = λ c h. h; there = λ none. tt }

@@ -6,6 +6,7 @@ use Rattle.std.specs.Prelude.{◌/◌, ◌%◌, length, Option, Some, None, code
 use Rattle.std.specs.List.{AllByRecursion, list_any, position_or_len}
 use Rattle.std.specs.Option.{option_map}
 use Rattle.std.proofs.lemmas.Slice.Eq.{bytes_eq-Decides}
+use Rattle.std.proofs.lemmas.Option.{none-some, same_Some}
 use Rattle.const_pool.specs.BuiltIn.{built_in_names}
 use Rattle.jvm_model.specs.declared.program.Program.{Program}
 use Rattle.jvm_model.specs.Basis.Descriptors.{same_text}
@@ -16,12 +17,6 @@ use Rattle.jvm_model.specs.Basis.Programs.{class_named, has_name}
 use Rattle.jvm_model.specs.Basis.SharedState.{class_of_kind, kind_for}
 use Rattle.jvm_model.specs.Soundness.Sound.{HasBuiltIn, IsBuiltIn, IsBuiltInName, IsFit, IsLoaded, IsUsable}
 use Rattle.jvm_model.proofs.Soundness.SoundClasses.{load-there}
-
-pub none-some : (n : ℕ) → None ≡ Some n → ⊥
-none-some n e = cc
-
-pub some-some : (a b : ℕ) → Some a ≡ Some b → a ≡ b
-some-some a b e = cc
 
 below : (a b : ℕ) → a < b → nat_lt a b ≡ true
 below a b h = grind (arith)
@@ -86,7 +81,7 @@ module _ (p : Program) (loaded : List ℕ) (root : IsLoaded loaded (user_count p
       → IsUsable p loaded (dimensions * 16777216 + base)
   of-class dimensions base class small is there = record {
     known = λ other e. subst (IsLoaded loaded)
-        (some-some class other (sym is ∙ (ap (class_of_base p) (sym (mod-mul-add dimensions 16777216 base small)) ∙ e))) there;
+        (same_Some class other (sym is ∙ (ap (class_of_base p) (sym (mod-mul-add dimensions 16777216 base small)) ∙ e))) there;
     of_class = class-of dimensions base class small is there;
   }
 
@@ -209,7 +204,7 @@ pub named-class : {X : Type 0} (test : X → Bool) (xs : List X) (at : ℕ) → 
 named-class test xs at e = by (nat_lt (position_or_len test xs) (length xs)) refl e
   where
     by : (b : Bool) → nat_lt (position_or_len test xs) (length xs) ≡ b → (if b then Some (position_or_len test xs) else None) ≡ Some at → at < length xs
-    by true is e = subst (λ n. n < length xs) (some-some (position_or_len test xs) at e) (grind (arith))
+    by true is e = subst (λ n. n < length xs) (same_Some (position_or_len test xs) at e) (grind (arith))
     by false is e = absurd (none-some at e)
 
 module _ (p : Program) (before after : List ℕ) (grown : (class : ℕ) → IsLoaded before class → IsLoaded after class) where
@@ -233,7 +228,7 @@ module _ (p : Program) (few : length p.classes ≤ 4149) (loaded : List ℕ) (ro
       → IsUsable p loaded kind × (kind / 16777216 ≡ dimensions)
   by-class dimensions kind own None found there e = absurd (none-some kind e)
   by-class dimensions kind own (Some class) found there e =
-      subst (λ k. IsUsable p loaded k × (k / 16777216 ≡ dimensions)) (some-some (dimensions * 16777216 + base_of_class p class) kind e)
+      subst (λ k. IsUsable p loaded k × (k / 16777216 ≡ dimensions)) (same_Some (dimensions * 16777216 + base_of_class p class) kind e)
       (class-usable dimensions class (named-class (has_name own) p.classes class found) (there class found))
 
   by-element : (dimensions kind : ℕ) (e : Element) → IsMeaning (record { dimensions = dimensions; element = e })
@@ -241,7 +236,7 @@ module _ (p : Program) (few : length p.classes ≤ 4149) (loaded : List ℕ) (ro
       → option_map kind_number (parts_named p (record { dimensions = dimensions; element = e })) ≡ Some kind
       → IsUsable p loaded kind × (kind / 16777216 ≡ dimensions)
   by-element dimensions kind (Primitive code) is there e =
-      subst (λ k. IsUsable p loaded k × (k / 16777216 ≡ dimensions)) (some-some (dimensions * 16777216 + code) kind e) (
+      subst (λ k. IsUsable p loaded k × (k / 16777216 ≡ dimensions)) (same_Some (dimensions * 16777216 + code) kind e) (
         of-primitive p loaded root dimensions code (is.deep code refl) (is.small code refl),
         div-mul-add dimensions 16777216 code (let small : code < 16 = is.small code refl in omega arith),
       )

@@ -5,6 +5,7 @@ use Rattle.std.specs.Prelude.{Option, Some, None, slice_get, ◌==◌, ◌&&◌,
 use Rattle.std.specs.List.{AllByRecursion}
 use Rattle.std.specs.Int.{is_in_range}
 use Rattle.std.specs.Option.{IfSome, option_and_then, option_map}
+use Rattle.std.proofs.lemmas.Option.{none-some, same_Some}
 use Rattle.const_pool.specs.declared.class.ClassFile.{ClassFile}
 use Rattle.const_pool.specs.declared.class.CodeAttribute.{CodeAttribute}
 use Rattle.const_pool.specs.declared.pool.Const.{Const}
@@ -23,12 +24,6 @@ use Rattle.jvm_model.specs.Basis.Methods.{method_code}
 use Rattle.jvm_model.specs.Codes.Originals.{original}
 use Rattle.jvm_model.specs.Basis.Programs.{class_at, name_of, place_of_method}
 use Rattle.jvm_model.specs.Soundness.Sound.{CanAttempt, HasClass, HasLoadedCaller, IsFit, IsLoaded}
-
-none-some : {A : Type 0} (x : A) → None ≡ Some x → ⊥
-none-some x e = cc
-
-some-some : {A : Type 0} (x y : A) → Some x ≡ Some y → x ≡ y
-some-some x y e = cc
 
 small : (code : ℕ) → is_in_range 4 11 code ≡ true → code < 16
 small code e = grind (arith)
@@ -175,7 +170,7 @@ module _ (c : ClassFile) where
   formed-at : (i : Instr) (o : Option Operation) (found : Instruction) → IfSome o IsFormed
       → option_map (λ op. record { operation = op; own = i.at; next = next_of op (end_of i); targets = targets_of i.arg }) o ≡ Some found → IsFormed found.operation
   formed-at i None found formed e = absurd (none-some found e)
-  formed-at i (Some op) found formed e = subst (λ (x : Instruction). IsFormed x.operation) (some-some _ found e) formed
+  formed-at i (Some op) found formed e = subst (λ (x : Instruction). IsFormed x.operation) (same_Some _ found e) formed
 
   instruction-formed : (o : Option Instr) (found : Instruction) → option_and_then (instruction_of c) o ≡ Some found → IsFormed found.operation
   instruction-formed None found e = absurd (none-some found e)
@@ -216,7 +211,7 @@ module _ (p : Program) (fit : IsFit p) (loaded : List ℕ) where
   caller-loaded c class (Invokespecial caller r interface) at there names =
       λ other found.
       subst (IsLoaded loaded)
-      (some-some class other (sym (fit.names class caller (ap (λ o. option_and_then name_of o) at ∙ names)) ∙ found)) there
+      (same_Some class other (sym (fit.names class caller (ap (λ o. option_and_then name_of o) at ∙ names)) ∙ found)) there
   caller-loaded c class (New name) at there names = tt
   caller-loaded c class (Getfield r) at there names = tt
   caller-loaded c class (Putfield r) at there names = tt

@@ -1,6 +1,6 @@
 -- Every state of a run over a sound text is sound: the start gives one, and a step of one gives one (JVM Specification 5.2, 5.3, 5.5).
 use Rattle.std.proofs.Common.{◌≡◌, ℕ, false, List, [], ◌∷◌, ◌++◌, sym, subst, refl, ◌∙◌, ◌⊎◌, inl, inr}
-use Rattle.std.proofs.lemmas.Option.{IfSome_then}
+use Rattle.std.proofs.lemmas.Option.{IfSome_then, none-some}
 use Rattle.std.specs.Prelude.{Option, Some, None}
 use Rattle.std.specs.List.{AllByRecursion}
 use Rattle.std.specs.Option.{IfSome}
@@ -25,9 +25,6 @@ use Rattle.jvm_model.proofs.Soundness.SoundListingSteps.{GoesTo, applied-goes, e
 
 some-none : {A : Type 0} (x : A) → Some x ≡ None → ⊥
 some-none x e = cc
-
-none-some : {A : Type 0} (x : A) → None ≡ Some x → ⊥
-none-some x e = cc
 
 -- `Runs` tells which versions a frame of a method can be in
 module _ (Runs : ℕ → ℕ → Type 0) where

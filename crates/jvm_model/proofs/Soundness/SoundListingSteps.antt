@@ -3,6 +3,7 @@ use Rattle.std.proofs.Common.{◌≡◌, ℕ, suc, Bool, true, false, List, [], 
 use Rattle.std.specs.Prelude.{Option, Some, None, slice_get, nat_le, nat_lt, if◌then◌else◌}
 use Rattle.std.specs.List.{AllByRecursion}
 use Rattle.std.specs.Option.{IfSome, option_and_then, option_map, option_map_or, option_to_list}
+use Rattle.std.proofs.lemmas.Option.{none-some}
 use Rattle.heap_objects.specs.declared.datum.Datum.{Datum}
 use Rattle.heap_objects.specs.declared.datum.Datum.TheVariants as datum
 use Rattle.heap_objects.specs.declared.Value.TheVariants.{Ref, Addr}
@@ -26,12 +27,6 @@ use Rattle.jvm_model.proofs.Soundness.SoundRules.{number-class}
 
 some-none : {A : Type 0} (x : A) → Some x ≡ None → ⊥
 some-none x e = cc
-
-none-some : {A : Type 0} (x : A) → None ≡ Some x → ⊥
-none-some x e = cc
-
-some-some : {A : Type 0} (x y : A) → Some x ≡ Some y → x ≡ y
-some-some x y e = cc
 
 -- `Runs` tells which versions a frame of a method can be in
 module _ (Runs : ℕ → ℕ → Type 0) where

@@ -3,6 +3,7 @@ use Rattle.std.proofs.Common.{◌≡◌, ℕ, zero, suc, ◌+◌, ◌-◌, ◌*�
 use Rattle.std.specs.Prelude.{Option, Some, None, is_some, slice_get, nat_le, pos, ◌==◌, if◌then◌else◌}
 use Rattle.std.specs.List.{AllByRecursion}
 use Rattle.std.specs.Option.{option_map, option_map_or}
+use Rattle.std.proofs.lemmas.Option.{none-some, same_Some}
 use Rattle.heap_objects.specs.declared.datum.Datum.{Datum}
 use Rattle.heap_objects.specs.declared.datum.Datum.TheVariants as datum
 use Rattle.heap_objects.specs.declared.object.Object.{Object}
@@ -23,12 +24,6 @@ use Rattle.jvm_model.specs.declared.program.Program.{Program}
 use Rattle.jvm_model.proofs.Soundness.SoundClasses.{all-both, all-then}
 use Rattle.jvm_model.proofs.Soundness.SoundKinds.{built-in-usable, kind-usable, under_usable, usable-grows}
 
-none-some : (n : ℕ) → None ≡ Some n → ⊥
-none-some n e = cc
-
-some-some : (a b : ℕ) → Some a ≡ Some b → a ≡ b
-some-some a b e = cc
-
 module _ (p : Program) (loaded : List ℕ) where
   abbrev pub AreSound : HeapView → Type 0
   AreSound h = AllByRecursion (IsOfLoaded p loaded) h.objects
@@ -37,7 +32,7 @@ module _ (p : Program) (loaded : List ℕ) where
 
   found-usable : (os : List Object) (at kind : ℕ) → AllByRecursion (IsOfLoaded p loaded) os → option_map kind_of (slice_get os at) ≡ Some kind → IsUsable p loaded kind
   found-usable [] at kind each e = absurd (none-some kind e)
-  found-usable (o ∷ os) zero kind each e = subst (IsUsable p loaded) (some-some (kind_of o) kind e) each.0
+  found-usable (o ∷ os) zero kind each e = subst (IsUsable p loaded) (same_Some (kind_of o) kind e) each.0
   found-usable (o ∷ os) (suc at) kind each e = found-usable os at kind each.1 e
 
   pub object-usable : (h : HeapView) (object kind : ℕ) → AllByRecursion (IsOfLoaded p loaded) h.objects → kind_at object h ≡ Some kind → IsUsable p loaded kind

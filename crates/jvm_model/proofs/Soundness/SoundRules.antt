@@ -8,6 +8,8 @@ use Rattle.std.specs.Prelude.{◌/◌, ◌%◌, not, codes, drop, map, Option, S
 use Rattle.std.specs.Bool.{beq}
 use Rattle.std.specs.List.{AllByRecursion, list_any}
 use Rattle.std.specs.Option.{option_and_then, option_map, option_map_or, option_to_list}
+use Rattle.std.proofs.lemmas.Bool.{false≢true}
+use Rattle.std.proofs.lemmas.Option.{none-some, same_Some}
 use Rattle.heap_objects.specs.declared.datum.Datum.{Datum}
 use Rattle.heap_objects.specs.declared.datum.Datum.TheVariants as datum
 use Rattle.heap_objects.specs.declared.Value.{Value}
@@ -54,15 +56,6 @@ use Rattle.jvm_model.proofs.Soundness.SoundClasses.{all-both, superclasses-loade
 use Rattle.jvm_model.proofs.Soundness.SoundKinds.{behind-usable, built-in-class, built-in-there, has-root, name-usable, of-primitive, over}
 use Rattle.jvm_model.proofs.Soundness.SoundObjects.{AreSound, object-usable, objects-array, objects-arrays, objects-instance, objects-slot, objects-text, static-sound, with-heap}
 
-false_true : false ≡ true → ⊥
-false_true e = cc
-
-none-some : {A : Type 0} (x : A) → None ≡ Some x → ⊥
-none-some x e = cc
-
-some-some : {A : Type 0} (x y : A) → Some x ≡ Some y → x ≡ y
-some-some x y e = cc
-
 equal : (a b : ℕ) → (a == b) ≡ true → a ≡ b
 equal a b e = grind (arith)
 
@@ -71,7 +64,7 @@ at-most a b e = grind (arith)
 
 first_of_and : (a b : Bool) → (a && b) ≡ true → a ≡ true
 first_of_and true b h = refl
-first_of_and false b h = absurd (false_true h)
+first_of_and false b h = absurd (false≢true h)
 
 -- ---- the class of a method that has Code
 
@@ -80,7 +73,7 @@ number-least k n class at [] e = absurd (none-some n e)
 number-least k n class at (x ∷ rest) e = by (same_place class at x) e (number-least (k + 1) n class at rest)
   where
     by : (b : Bool) → (if b then Some k else number_from (k + 1) class at rest) ≡ Some n → (number_from (k + 1) class at rest ≡ Some n → k + 1 ≤ n) → k ≤ n
-    by true e rest = let same = some-some k n e in omega arith
+    by true e rest = let same = same_Some k n e in omega arith
     by false e rest = let later = rest e in omega arith
 
 number-place : (k n class at : ℕ) (places : List MethodPlace) (i : ℕ) (place : MethodPlace) → number_from k class at places ≡ Some n → n ≡ k + i
@@ -94,8 +87,8 @@ number-place k n class at (x ∷ rest) i place e is member_found =
         → ((j : ℕ) → number_from (k + 1) class at rest ≡ Some n → n ≡ k + 1 + j → slice_get rest j ≡ Some place → place.class ≡ class)
         → place.class ≡ class
     by true same e zero is member_found behind =
-        ap (λ (q : MethodPlace). q.class) (sym (some-some x place member_found)) ∙ equal x.class class (first_of_and (x.class == class) (x.position == at) same)
-    by true same e (suc j) is member_found behind = let here = some-some k n e in absurd (omega arith)
+        ap (λ (q : MethodPlace). q.class) (sym (same_Some x place member_found)) ∙ equal x.class class (first_of_and (x.class == class) (x.position == at) same)
+    by true same e (suc j) is member_found behind = let here = same_Some k n e in absurd (omega arith)
     by false same e zero is member_found behind = let later = number-least (k + 1) n class at rest e in absurd (omega arith)
     by false same e (suc j) is member_found behind = behind j e (omega arith) member_found
 
@@ -113,7 +106,7 @@ first-loaded loaded at (class ∷ rest) m each e = by (at class) e (first-loaded
     by : (o : Option ℕ) → option_map_or (λ position. Some (record { class = class; position = position })) o (first_in at rest) ≡ Some m
         → (first_in at rest ≡ Some m → IsLoaded loaded m.class) → IsLoaded loaded m.class
     by None e rest = rest e
-    by (Some position) e rest = subst (λ (q : MemberPlace). IsLoaded loaded q.class) (some-some (let q : MemberPlace = record { class = class; position = position } in q) m e) each.0
+    by (Some position) e rest = subst (λ (q : MemberPlace). IsLoaded loaded q.class) (same_Some (let q : MemberPlace = record { class = class; position = position } in q) m e) each.0
 
 abbrev IsFoundLoaded : List ℕ → Option MemberPlace → Type 0
 IsFoundLoaded loaded o = (m : MemberPlace) → o ≡ Some m → IsLoaded loaded m.class
@@ -309,7 +302,7 @@ module _ (w : World) (fit : IsFit w.program) (s : Shared) (is : IsSoundShared w.
   -- ---- arrays of arrays
 
   counts-long : (n : ℕ) (above : List ℤ) (o : Operands) (counts : List ℤ) → counts_from n above o ≡ Some counts → length counts ≡ n + length above
-  counts-long zero above o counts e = let same : length counts ≡ length above = ap length (sym (some-some above counts e)) in omega (arith, same)
+  counts-long zero above o counts e = let same : length counts ≡ length above = ap length (sym (same_Some above counts e)) in omega (arith, same)
   counts-long (suc n) above [] counts e = absurd (none-some counts e)
   counts-long (suc n) above (Int count ∷ below) counts e = let rest = counts-long n (count ∷ above) below counts e in omega (arith, rest)
   counts-long (suc n) above (Long count ∷ below) counts e = absurd (none-some counts e)
@@ -317,14 +310,14 @@ module _ (w : World) (fit : IsFit w.program) (s : Shared) (is : IsSoundShared w.
   counts-long (suc n) above (Addr t ∷ below) counts e = absurd (none-some counts e)
 
   lengths-long : (counts : List ℤ) (lengths : List ℕ) → lengths_of counts ≡ Some lengths → length lengths ≡ length counts
-  lengths-long [] lengths e = ap length (sym (some-some [] lengths e))
+  lengths-long [] lengths e = ap length (sym (same_Some [] lengths e))
   lengths-long (negsuc n ∷ more) lengths e = absurd (none-some lengths e)
   lengths-long (pos n ∷ more) lengths e = by (lengths_of more) refl e (lengths-long more)
     where
       by : (o : Option (List ℕ)) → lengths_of more ≡ o → option_map (λ rest. n ∷ rest) o ≡ Some lengths
           → ((rest : List ℕ) → lengths_of more ≡ Some rest → length rest ≡ length more) → length lengths ≡ suc (length more)
       by None are e behind = absurd (none-some lengths e)
-      by (Some rest) are e behind = ap length (sym (some-some (n ∷ rest) lengths e)) ∙ ap suc (behind rest are)
+      by (Some rest) are e behind = ap length (sym (same_Some (n ∷ rest) lengths e)) ∙ ap suc (behind rest are)
 
   arrays-fine : (kind dimensions : ℕ) (counts : List ℤ) (o : Option (List ℕ)) (l : Locals) (operands : Operands) → IsUsable p s.loaded kind
       → length counts * 16777216 ≤ kind → lengths_of counts ≡ o → Fine (makes_arrays kind dimensions o s l operands)
@@ -463,7 +456,7 @@ module _ (w : World) (fit : IsFit w.program) (s : Shared) (is : IsSoundShared w.
   name-known : (names : List (List ℕ)) (place : ℕ) (name : List ℕ) → slice_get names place ≡ Some name → list_any (same_text name) names ≡ true
   name-known [] place name e = absurd (none-some name e)
   name-known (x ∷ names) zero name e =
-      ap (λ y. same_text name y || list_any (same_text name) names) (some-some x name e) ∙ ap (λ b. b || list_any (same_text name) names) (same-refl name)
+      ap (λ y. same_text name y || list_any (same_text name) names) (same_Some x name e) ∙ ap (λ b. b || list_any (same_text name) names) (same-refl name)
   name-known (x ∷ names) (suc place) name e = by (same_text name x) (name-known names place name e)
     where
       by : (b : Bool) → list_any (same_text name) names ≡ true → (b || list_any (same_text name) names) ≡ true
@@ -529,7 +522,7 @@ module _ (w : World) (fit : IsFit w.program) (s : Shared) (is : IsSoundShared w.
       by : (m : MemberPlace) → InLoaded m → (args : Option (List Datum)) → Fine (invokes_with_static w m args s l o)
       by m there None = quiet (Breaks false) tt
       by m there (Some args) =
-          selected-fine (Some m) args l (drop (length args) o) (λ member_found e. subst InLoaded (some-some m member_found e) there)
+          selected-fine (Some m) args l (drop (length args) o) (λ member_found e. subst InLoaded (same_Some m member_found e) there)
 
   -- ---- what is selected
 
@@ -556,7 +549,7 @@ module _ (w : World) (fit : IsFit w.program) (s : Shared) (is : IsSoundShared w.
     where
       by : (b : Bool) → IsFoundLoaded s.loaded (if b then nearest_above p caller m else Some m)
       by true m1 e = above-loaded caller m (super_of p caller) (is.above.superclass caller current) m1 e
-      by false m1 e = subst InLoaded (some-some m m1 e) there
+      by false m1 e = subst InLoaded (same_Some m m1 e) there
 
   special-loaded : (o : Option ℕ) (m : MemberPlace) → ((class : ℕ) → o ≡ Some class → IsLoaded s.loaded class) → InLoaded m
       → IsFoundLoaded s.loaded (option_and_then (λ current. invoked_special p current m) o)
@@ -583,7 +576,7 @@ module _ (w : World) (fit : IsFit w.program) (s : Shared) (is : IsSoundShared w.
   receiver-loaded object name e = by (kind_at object s.heap) refl e
     where
       by : (o : Option ℕ) → kind_at object s.heap ≡ o → is_below_kind p o (kind_named p name) ≡ true → IsLoaded s.loaded (option_map_or (class_of_kind p) o 0)
-      by None is_kind e = absurd (false_true e)
+      by None is_kind e = absurd (false≢true e)
       by (Some kind) is_kind e = (object-usable p s.loaded s.heap object kind is.objects is_kind).of_class
 
   on-fine : (by : Selecting) (r : Reference) (m : MemberPlace) (args : Option (List Datum)) (l : Locals) (o : Operands) → HasCaller by → InLoaded m
@@ -626,7 +619,7 @@ module _ (w : World) (fit : IsFit w.program) (s : Shared) (is : IsSoundShared w.
 
   second_of_and : (a b : Bool) → (a && b) ≡ true → b ≡ true
   second_of_and true b h = h
-  second_of_and false b h = absurd (false_true h)
+  second_of_and false b h = absurd (false≢true h)
 
   -- where all is loaded that it names, and it is resolved
   rule-fine : (n : SymbolicReference) (l : Locals) (o : Operands) → HasLoadedCaller p s.loaded n → has_dimensions n ≡ true → (resolves n o ≡ true → Whole (resolved_name n))

@@ -1,35 +1,19 @@
 -- What an instruction loads keeps what is shared sound, and nothing is left to load then (JVM Specification 5.3).
-use Rattle.std.proofs.Common.{◌≡◌, ℕ, Bool, true, false, List, [], ◌∷◌, ◌++◌, ap, sym, subst, refl, ◌∙◌, ◌⊎◌, inl, inr}
+use Rattle.std.proofs.Common.{◌≡◌, ℕ, Bool, true, false, List, [], ◌∷◌, ◌++◌, ap, sym, subst, refl, ◌∙◌}
 use Rattle.std.proofs.lemmas.List.{append-nil}
-use Rattle.std.proofs.lemmas.Option.{IfSome_then}
-use Rattle.std.specs.Prelude.{drop, length, Option, Some, None, unwrap_or, if◌then◌else◌}
-use Rattle.std.specs.List.{AllByRecursion}
-use Rattle.std.specs.Option.{IfSome}
-use Rattle.jvm_model.specs.Running.Applies.{applies, still}
-use Rattle.jvm_model.specs.Basis.Data.{Operands, Frame, Entry, Active, Initializing, Ending, Uncaught, Breaks, Shared, State, Turn, Instruction, Done, Operation, Within, Named, Athrow, Monitor, Newarray, Arraylength, LoadElement, StoreElement, LdcString, Program, World}
+use Rattle.std.specs.Prelude.{drop, length, Some, None, if◌then◌else◌}
+use Rattle.jvm_model.specs.Basis.Data.{Operands, Shared, State, Operation, Within, Named, Athrow, Monitor, Newarray, Arraylength, LoadElement, StoreElement, LdcString, Program, World}
 use Rattle.jvm_model.specs.Instructions.Does.{does, loads}
-use Rattle.jvm_model.specs.Classes.Kinds.{meaning_of}
-use Rattle.jvm_model.specs.Classes.Load.{Fault, NoClass, Circular, Incompatible, error_of, load_of}
-use Rattle.jvm_model.specs.Running.Moves.{move, moves, turn_settled, then_turn}
-use Rattle.jvm_model.specs.Instructions.SymbolicReference.{New, message_of, newly_loaded, resolved_name, resolves}
-use Rattle.jvm_model.specs.Codes.Originals.{original}
-use Rattle.jvm_model.specs.Basis.Programs.{name_at}
-use Rattle.jvm_model.specs.Running.Run.{arguments_made, attempt, before, main_class, main_classes, main_loading, main_loads, run_opened, start, starts, starts_if, starts_unless, starts_with, step, steps_at, steps_by, steps_on, tries, with_loaded}
-use Rattle.jvm_model.specs.Basis.SharedState.{arguments_fit, class_of, null, exception_raised, shared_before, with_arguments}
-use Rattle.jvm_model.specs.Soundness.Sound.{CanAttempt, HasClass, HasSupertypes, IsBuiltInName, IsFit, IsLoaded, IsSoundOutcome, IsSoundShared}
-use Rattle.jvm_model.proofs.Running.Attempts.{again-by, loaded-after, with_loaded-shared}
+use Rattle.jvm_model.specs.Classes.Load.{load_of}
+use Rattle.jvm_model.specs.Instructions.SymbolicReference.{newly_loaded, resolved_name, resolves}
+use Rattle.jvm_model.specs.Running.Run.{with_loaded}
+use Rattle.jvm_model.specs.Soundness.Sound.{HasSupertypes, IsSoundShared}
 use Rattle.jvm_model.proofs.Loading.LoadsAgain.{newly-again, newly-loaded}
-use Rattle.jvm_model.proofs.Running.Settles.{settled-keeps, settled-stops}
-use Rattle.jvm_model.proofs.Soundness.SoundAttempts.{sound-does}
-use Rattle.jvm_model.proofs.Soundness.SoundClasses.{all-then, among-front, load-supertypes, load-there, plain-element}
-use Rattle.jvm_model.proofs.Soundness.SoundLines.{can-attempt}
-use Rattle.jvm_model.proofs.Soundness.SoundObjects.{KeepsShared, arguments-sound, before-sound, exception-sound, objects-grow, with-heap}
+use Rattle.jvm_model.proofs.Soundness.SoundClasses.{among-front, load-supertypes}
+use Rattle.jvm_model.proofs.Soundness.SoundObjects.{objects-grow}
 
 some-none : {A : Type 0} (x : A) → Some x ≡ None → ⊥
 some-none x e = cc
-
-none-some : {A : Type 0} (x : A) → None ≡ Some x → ⊥
-none-some x e = cc
 
 -- ---- classes are loaded
 

@@ -2,7 +2,8 @@
 use Rattle.std.proofs.Common.{◌≡◌, ℕ, zero, suc, ◌<◌, ◌≤◌, Bool, true, false, List, [], ◌∷◌, ◌++◌, length, get_or, take, ◌+◌, ap, sym, subst, refl, ◌∙◌, arith, inl, inr}
 use Rattle.std.specs.List.{AllByRecursion}
 use Rattle.std.specs.Prelude.{◌⊎◌, replicate, Some, nat_lt, slice_get, ◌==◌, if◌then◌else◌}
-use Rattle.std.proofs.lemmas.Bool.{ltb-false, ltb-true}
+use Rattle.std.proofs.lemmas.Bool.{ltb-false, ltb-true, false≢true, or_cases, or_left, or_right}
+use Rattle.std.proofs.lemmas.Option.{none-some, same_Some}
 use Rattle.jvm_model.specs.declared.program.Program.{Program}
 use Rattle.jvm_model.specs.Classes.Load.{is_among}
 use Rattle.jvm_model.specs.Classes.Lookup.{interfaces_of, is_subtype, superclass_of}
@@ -11,7 +12,7 @@ use Rattle.class_index.specs.Orders.{with_class}
 use Rattle.possible_callees.specs.declared.lineage.Lineage.{Lineage}
 use Rattle.possible_callees.specs.Lineages.{AreFollowed, IsClosed, IsLed, IsLineage, IsNoted, LeadTo, direct, class_noted}
 use Rattle.possible_callees.specs.Tables.{Adds, IsPrefix, list_at, with_item}
-use Rattle.possible_callees.proofs.Truths.{either, false_true, none-some, or-false, or-first, or-later, some-some}
+use Rattle.possible_callees.proofs.Truths.{or-false}
 use Rattle.possible_callees.proofs.Numbers.Adding.{among-append, equal, itself}
 use Rattle.possible_callees.proofs.Numbers.Fronts.{front-among}
 use Rattle.possible_callees.proofs.Numbers.TableLemmas.{at-other, at-same, length-with, nothing_past}
@@ -30,7 +31,7 @@ among-item item n k x lists h = by (k == n) refl
   where
     there : k ≡ n → (n < length lists) ⊎ (length lists ≤ n) → (is_among x (list_at lists k) ≡ true) ⊎ ((x ≡ item) × (k ≡ n))
     there same (inl within) =
-        elim (either (is_among x (list_at lists n)) (is_among x (item ∷ []))
+        elim (or_cases (is_among x (list_at lists n)) (is_among x (item ∷ []))
         (sym (among-append x (list_at lists n) (item ∷ [])) ∙ (sym (ap (is_among x) (at-same item n lists within)) ∙ (ap (λ j. is_among x (list_at (with_item n item lists) j)) (sym same) ∙ h)))) [
           | inl a ↦ inl (ap (λ j. is_among x (list_at lists j)) same ∙ a)
           | inr b ↦ inr (equal x item (sym (or-false (x == item)) ∙ b), same)
@@ -48,7 +49,7 @@ item-kept item n k x lists h = by (k == n) refl
     there same (inl within) =
         ap (λ j. is_among x (list_at (with_item n item lists) j)) same
         ∙ (ap (is_among x) (at-same item n lists within) ∙ (among-append x (list_at lists n) (item ∷ [])
-        ∙ or-first (is_among x (list_at lists n)) (is_among x (item ∷ [])) (ap (λ j. is_among x (list_at lists j)) (sym same) ∙ h)))
+        ∙ or_left (is_among x (list_at lists n)) (is_among x (item ∷ [])) (ap (λ j. is_among x (list_at lists j)) (sym same) ∙ h)))
     there same (inr past) = sym (ap (λ l. is_among x (list_at l k)) (nothing_past item n lists past)) ∙ h
 
     by : (b : Bool) → (k == n) ≡ b → is_among x (list_at (with_item n item lists) k) ≡ true
@@ -72,29 +73,29 @@ noted-more lower classes before after class there is = record {
 -- an element of a list that is gone through
 pub among-at : (xs : List ℕ) (i x : ℕ) → slice_get xs i ≡ Some x → is_among x xs ≡ true
 among-at [] i x e = absurd (none-some x e)
-among-at (y ∷ xs) zero x e = or-first (x == y) (is_among x xs) (ap (λ z. x == z) (some-some y x e) ∙ itself x)
-among-at (y ∷ xs) (suc i) x e = or-later (x == y) (is_among x xs) (among-at xs i x e)
+among-at (y ∷ xs) zero x e = or_left (x == y) (is_among x xs) (ap (λ z. x == z) (same_Some y x e) ∙ itself x)
+among-at (y ∷ xs) (suc i) x e = or_right (x == y) (is_among x xs) (among-at xs i x e)
 
 pub among-get : (xs : List ℕ) (i : ℕ) → i < length xs → is_among (get_or xs i 0) xs ≡ true
 among-get [] i within = absurd (omega (arith, within))
-among-get (y ∷ xs) zero within = or-first (y == y) (is_among y xs) (itself y)
-among-get (y ∷ xs) (suc i) within = or-later (get_or xs i 0 == y) (is_among (get_or xs i 0) xs) (among-get xs i (omega (arith, within)))
+among-get (y ∷ xs) zero within = or_left (y == y) (is_among y xs) (itself y)
+among-get (y ∷ xs) (suc i) within = or_right (get_or xs i 0 == y) (is_among (get_or xs i 0) xs) (among-get xs i (omega (arith, within)))
 
 -- each of the lists has it
 pub noted-there : (lower : ℕ) (below : List (List ℕ)) (classes : List ℕ) (k : ℕ) → k < length below
     → (is_among lower (list_at below k) ≡ true) ⊎ (is_among k classes ≡ true) → is_among lower (list_at (class_noted lower below classes) k) ≡ true
 noted-there lower below [] k within (inl h) = h
-noted-there lower below [] k within (inr h) = absurd (false_true h)
+noted-there lower below [] k within (inr h) = absurd (false≢true h)
 noted-there lower below (class ∷ rest) k within (inl h) =
     noted-there lower (with_item class lower below) rest k (subst (λ n. k < n) (sym (length-with lower class below)) within)
     (inl (item-kept lower class k lower below h))
 noted-there lower below (class ∷ rest) k within (inr h) =
     let longer = subst (λ n. k < n) (sym (length-with lower class below)) within in
-    elim (either (k == class) (is_among k rest) h) [
+    elim (or_cases (k == class) (is_among k rest) h) [
       | inl same ↦ noted-there lower (with_item class lower below) rest k longer
           (inl (ap (is_among lower) (ap (λ j. list_at (with_item j lower below) k) (sym (equal k class same)) ∙ at-same lower k below within)
-          ∙ (among-append lower (list_at below k) (lower ∷ []) ∙ or-later (is_among lower (list_at below k)) (is_among lower (lower ∷ []))
-          (or-first (lower == lower) false (itself lower)))))
+          ∙ (among-append lower (list_at below k) (lower ∷ []) ∙ or_right (is_among lower (list_at below k)) (is_among lower (lower ∷ []))
+          (or_left (lower == lower) false (itself lower)))))
       | inr behind ↦ noted-there lower (with_item class lower below) rest k longer (inr behind)
     ]
 
@@ -104,7 +105,7 @@ among-with m a x h = by (is_among x a) h
     by : (b : Bool) → is_among m (if b then a else a ++ x ∷ []) ≡ true → (is_among m a ≡ true) ⊎ (m ≡ x)
     by true h = inl h
     by false h =
-        elim (either (is_among m a) (is_among m (x ∷ [])) (sym (among-append m a (x ∷ [])) ∙ h)) [
+        elim (or_cases (is_among m a) (is_among m (x ∷ [])) (sym (among-append m a (x ∷ [])) ∙ h)) [
           | inl k ↦ inl k
           | inr k ↦ inr (equal m x (sym (or-false (m == x)) ∙ k))
         ]
@@ -117,26 +118,26 @@ length-replicate (suc n) = ap suc (length-replicate n)
 pub loaded-before : (p : Program) (loaded : List ℕ) (class : ℕ) → HasSupertypes p (loaded ++ class ∷ []) → (d : ℕ) → is_among d (direct p class) ≡ true
     → (d == class) ≡ false → is_among d loaded ≡ true
 loaded-before p loaded class above d there other =
-    elim (either (is_among d loaded) (is_among d (class ∷ [])) (sym (among-append d loaded (class ∷ [])) ∙ in-all)) [
+    elim (or_cases (is_among d loaded) (is_among d (class ∷ [])) (sym (among-append d loaded (class ∷ [])) ∙ in-all)) [
       | inl a ↦ a
-      | inr b ↦ absurd (false_true (sym other ∙ (sym (or-false (d == class)) ∙ b)))
+      | inr b ↦ absurd (false≢true (sym other ∙ (sym (or-false (d == class)) ∙ b)))
     ]
   where
     itself-loaded : is_among class (loaded ++ class ∷ []) ≡ true
     itself-loaded =
-        among-append class loaded (class ∷ []) ∙ or-later (is_among class loaded) (is_among class (class ∷ [])) (or-first (class == class) false (itself class))
+        among-append class loaded (class ∷ []) ∙ or_right (is_among class loaded) (is_among class (class ∷ [])) (or_left (class == class) false (itself class))
 
     of-all : (xs : List ℕ) → AllByRecursion (λ x. is_among x (loaded ++ class ∷ []) ≡ true) xs → is_among d xs ≡ true → is_among d (loaded ++ class ∷ []) ≡ true
-    of-all [] each h = absurd (false_true h)
+    of-all [] each h = absurd (false≢true h)
     of-all (x ∷ xs) each h =
-        elim (either (d == x) (is_among d xs) h) [
+        elim (or_cases (d == x) (is_among d xs) h) [
           | inl same ↦ ap (λ y. is_among y (loaded ++ class ∷ [])) (equal d x same) ∙ each.0
           | inr behind ↦ of-all xs each.1 behind
         ]
 
     in-all : is_among d (loaded ++ class ∷ []) ≡ true
     in-all =
-        elim (either (is_among d (interfaces_of p class)) (is_among d (superclass_of p class)) (sym (among-append d (interfaces_of p class) (superclass_of p class)) ∙ there)) [
+        elim (or_cases (is_among d (interfaces_of p class)) (is_among d (superclass_of p class)) (sym (among-append d (interfaces_of p class) (superclass_of p class)) ∙ there)) [
           | inl a ↦ of-all (interfaces_of p class) (above.interfaces class itself-loaded) a
           | inr b ↦ of-all (superclass_of p class) (above.superclass class itself-loaded) b
         ]
@@ -198,7 +199,7 @@ nothing-noted p items empty = ap length empty ∙ length-replicate (length p.cla
 pub nothing-loaded : (p : Program) (v : Lineage) → v.loaded ≡ [] → v.below.items ≡ replicate (length p.classes) [] → IsLineage p v
 nothing-loaded p v none empty = record {
   places = nothing-noted p v.below.items empty;
-  whole = λ class lower classes within there sub own closed. absurd (false_true (sym (ap (is_among lower) none) ∙ there));
+  whole = λ class lower classes within there sub own closed. absurd (false≢true (sym (ap (is_among lower) none) ∙ there));
 }
 
 -- ---- a walk down
@@ -207,15 +208,15 @@ take-next : (xs more : List ℕ) (at d class : ℕ) → at < length xs → is_am
     → (is_among class (take at xs) ≡ true) ⊎ (class ≡ get_or xs at d)
 take-next [] more at d class within h = absurd (omega (arith, within))
 take-next (x ∷ xs) more zero d class within h =
-    elim (either (class == x) false h) [
+    elim (or_cases (class == x) false h) [
       | inl same ↦ inr (equal class x same)
-      | inr none ↦ absurd (false_true none)
+      | inr none ↦ absurd (false≢true none)
     ]
 take-next (x ∷ xs) more (suc at) d class within h =
-    elim (either (class == x) (is_among class (take (suc at) (xs ++ more))) h) [
-      | inl same ↦ inl (or-first (class == x) (is_among class (take at xs)) same)
+    elim (or_cases (class == x) (is_among class (take (suc at) (xs ++ more))) h) [
+      | inl same ↦ inl (or_left (class == x) (is_among class (take at xs)) same)
       | inr behind ↦ elim (take-next xs more at d class (omega (arith, within)) behind) [
-        | inl a ↦ inl (or-later (class == x) (is_among class (take at xs)) a)
+        | inl a ↦ inl (or_right (class == x) (is_among class (take at xs)) a)
         | inr b ↦ inr b
       ]
     ]
@@ -228,6 +229,6 @@ followed-next below found new at d next small there front adds before class lowe
     (sym (ap (λ l. is_among class (take (suc at) l)) front.is) ∙ (ap (λ n. is_among class (take n new)) (let e : suc at ≡ at + 1 = omega arith in e) ∙ among))) [
       | inl a ↦ front-among found new lower front (before class lower a within)
       | inr same ↦
-          adds lower ∙ or-later (is_among lower found) (is_among lower (list_at below next))
+          adds lower ∙ or_right (is_among lower found) (is_among lower (list_at below next))
           (ap (λ k. is_among lower (list_at below k)) (there ∙ sym same) ∙ within)
     ]

@@ -2,10 +2,11 @@
 use Rattle.std.proofs.Common.{◌≡◌, ℕ, zero, suc, ◌<◌, Bool, true, false, List, [], ◌∷◌, ◌++◌, length, take, ap, sym, refl, ◌∙◌, inl, inr}
 use Rattle.std.specs.Prelude.{Option, Some, None, is_some, replicate, slice_get, slice_set, ◌==◌, ◌||◌, ◌⊎◌, if◌then◌else◌}
 use Rattle.std.specs.Option.{option_map}
+use Rattle.std.proofs.lemmas.Bool.{false≢true, or_left, or_right}
+use Rattle.std.proofs.lemmas.Option.{none-some, same_Some}
 use Rattle.jvm_model.specs.Classes.Load.{is_among}
 use Rattle.possible_callees.specs.Ranks.{AreDistinct, IsRanked, rank_of}
 use Rattle.possible_callees.specs.Tables.{IsPadded}
-use Rattle.possible_callees.proofs.Truths.{false_true, none-some, or-first, or-later, some-some}
 use Rattle.possible_callees.proofs.Numbers.Adding.{equal, itself}
 use Rattle.possible_callees.proofs.Numbers.TableLemmas.{set-other, set-same}
 
@@ -13,7 +14,7 @@ pub ranked-nothing : (ranks : List ℕ) → IsRanked ranks []
 ranked-nothing ranks rank class e = absurd (none-some class e)
 
 pub distinct : (ranks classes : List ℕ) → IsRanked ranks classes → AreDistinct classes
-distinct ranks classes is i j class first second = some-some i j (sym (is i class first) ∙ is j class second)
+distinct ranks classes is i j class first second = same_Some i j (sym (is i class first) ∙ is j class second)
 
 -- a class stands at its first place
 pub rank-there : (class : ℕ) (classes : List ℕ) (rank : ℕ) → rank_of class classes ≡ Some rank → slice_get classes rank ≡ Some class
@@ -23,11 +24,11 @@ rank-there class (first ∷ rest) rank e = by (class == first) refl e (rank-ther
     later : (o : Option ℕ) → rank_of class rest ≡ o → ((k : ℕ) → rank_of class rest ≡ Some k → slice_get rest k ≡ Some class) → option_map suc o ≡ Some rank
         → slice_get (first ∷ rest) rank ≡ Some class
     later None is there e = absurd (none-some rank e)
-    later (Some k) is there e = ap (slice_get (first ∷ rest)) (sym (some-some (suc k) rank e)) ∙ there k is
+    later (Some k) is there e = ap (slice_get (first ∷ rest)) (sym (same_Some (suc k) rank e)) ∙ there k is
 
     by : (b : Bool) → (class == first) ≡ b → (if b then Some 0 else option_map suc (rank_of class rest)) ≡ Some rank
         → ((k : ℕ) → rank_of class rest ≡ Some k → slice_get rest k ≡ Some class) → slice_get (first ∷ rest) rank ≡ Some class
-    by true same e there = ap (slice_get (first ∷ rest)) (sym (some-some 0 rank e)) ∙ ap (λ c. Some c) (sym (equal class first same))
+    by true same e there = ap (slice_get (first ∷ rest)) (sym (same_Some 0 rank e)) ∙ ap (λ c. Some c) (sym (equal class first same))
     by false other e there = later (rank_of class rest) refl there e
 
 -- what stands somewhere has a first place
@@ -42,7 +43,7 @@ rank-some class (first ∷ rest) k e = by (class == first) refl k e (rank-some c
     by : (b : Bool) → (class == first) ≡ b → (k : ℕ) → slice_get (first ∷ rest) k ≡ Some class
         → ((j : ℕ) → slice_get rest j ≡ Some class → is_some (rank_of class rest) ≡ true) → is_some (if b then Some 0 else option_map suc (rank_of class rest)) ≡ true
     by true same k e later = refl
-    by false other zero e later = absurd (false_true (sym other ∙ (ap (λ c. class == c) (some-some first class e) ∙ itself class)))
+    by false other zero e later = absurd (false≢true (sym other ∙ (ap (λ c. class == c) (same_Some first class e) ∙ itself class)))
     by false other (suc k) e later = mapped (rank_of class rest) (later k e)
 
 -- of classes none of which stands there twice the first place is the one place
@@ -50,7 +51,7 @@ pub rank-is : (class : ℕ) (classes : List ℕ) (k : ℕ) → AreDistinct class
 rank-is class classes k alone e = by (rank_of class classes) refl (rank-some class classes k e)
   where
     by : (o : Option ℕ) → rank_of class classes ≡ o → is_some o ≡ true → rank_of class classes ≡ Some k
-    by None is h = absurd (false_true h)
+    by None is h = absurd (false≢true h)
     by (Some j) is h = is ∙ ap (λ i. Some i) (alone j k class (rank-there class classes j is) e)
 
 pub among-rank : (class : ℕ) (classes : List ℕ) → is_some (rank_of class classes) ≡ is_among class classes
@@ -66,7 +67,7 @@ among-rank class (first ∷ rest) = by (class == first) (among-rank class rest)
     by false later = mapped (rank_of class rest) ∙ later
 
 pub not-that : (a b : ℕ) → (a == b) ≡ false → Some a ≡ Some b → ⊥
-not-that a b other e = false_true (sym other ∙ (ap (λ k. k == b) (some-some a b e) ∙ itself b))
+not-that a b other e = false≢true (sym other ∙ (ap (λ k. k == b) (same_Some a b e) ∙ itself b))
 
 module _ (ranks classes : List ℕ) (is : IsRanked ranks classes) (class : ℕ) where
   -- a class without a place is none of them
@@ -85,7 +86,7 @@ module _ (ranks classes : List ℕ) (is : IsRanked ranks classes) (class : ℕ) 
       by None e = e
       by (Some j) e =
           let here = rank-there class classes j e in
-          let same : j ≡ k = some-some j k (sym (is j class here) ∙ kept) in
+          let same : j ≡ k = same_Some j k (sym (is j class here) ∙ kept) in
           absurd (other (sym there ∙ (ap (slice_get classes) (sym same) ∙ here)))
 
   pub this-rank : (k : ℕ) → slice_get classes k ≡ Some class → rank_of class classes ≡ Some k
@@ -102,7 +103,7 @@ ranked-padded before after classes padded is rank class e =
 
 -- what stands behind one more
 get-pushed : (xs : List ℕ) (x k y : ℕ) → slice_get (xs ++ x ∷ []) k ≡ Some y → (slice_get xs k ≡ Some y) ⊎ ((k ≡ length xs) × (y ≡ x))
-get-pushed [] x zero y e = inr (refl, sym (some-some x y e))
+get-pushed [] x zero y e = inr (refl, sym (same_Some x y e))
 get-pushed [] x (suc k) y e = absurd (none-some y e)
 get-pushed (z ∷ xs) x zero y e = inl e
 get-pushed (z ∷ xs) x (suc k) y e =
@@ -113,8 +114,8 @@ get-pushed (z ∷ xs) x (suc k) y e =
 
 among-get : (xs : List ℕ) (k x : ℕ) → slice_get xs k ≡ Some x → is_among x xs ≡ true
 among-get [] k x e = absurd (none-some x e)
-among-get (y ∷ xs) zero x e = or-first (x == y) (is_among x xs) (ap (λ z. x == z) (some-some y x e) ∙ itself x)
-among-get (y ∷ xs) (suc k) x e = or-later (x == y) (is_among x xs) (among-get xs k x e)
+among-get (y ∷ xs) zero x e = or_left (x == y) (is_among x xs) (ap (λ z. x == z) (same_Some y x e) ∙ itself x)
+among-get (y ∷ xs) (suc k) x e = or_right (x == y) (is_among x xs) (among-get xs k x e)
 
 pub ranked-more : (ranks classes : List ℕ) (class : ℕ) → IsRanked ranks classes → is_among class classes ≡ false → class < length ranks
     → IsRanked (slice_set ranks class (length classes)) (classes ++ class ∷ [])
@@ -129,7 +130,7 @@ ranked-more ranks classes class is fresh within rank other e =
     differs : slice_get classes rank ≡ Some other → (b : Bool) → (other == class) ≡ b → (other == class) ≡ false
     differs old false h = h
     differs old true h =
-        absurd (false_true (sym fresh ∙ (ap (λ c. is_among c classes) (sym (equal other class h)) ∙ among-get classes rank other old)))
+        absurd (false≢true (sym fresh ∙ (ap (λ c. is_among c classes) (sym (equal other class h)) ∙ among-get classes rank other old)))
 
 get-taken : (n : ℕ) (xs : List ℕ) (k x : ℕ) → slice_get (take n xs) k ≡ Some x → slice_get xs k ≡ Some x
 get-taken zero xs k x e = absurd (none-some x e)

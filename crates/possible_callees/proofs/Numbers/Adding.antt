@@ -3,10 +3,11 @@ use Rattle.std.proofs.Common.{◌≡◌, ℕ, Bool, true, false, List, [], ◌�
 use Rattle.std.specs.Prelude.{filter, filter_map, flat_map, Option, Some, None, ◌==◌, ◌||◌, ◌&&◌, if◌then◌else◌}
 use Rattle.std.specs.List.{cons_option}
 use Rattle.std.specs.Option.{option_to_list}
+use Rattle.std.proofs.lemmas.Bool.{false≢true, or_cases, or_left, or_right}
 use Rattle.jvm_model.specs.Classes.Load.{is_among}
 use Rattle.class_index.specs.Orders.{with_class, with_classes}
 use Rattle.possible_callees.specs.Tables.{Adds}
-use Rattle.possible_callees.proofs.Truths.{either, false_true, or-assoc, or-false, or-first, or-later, or-true}
+use Rattle.possible_callees.proofs.Truths.{or-assoc, or-false, or-true}
 
 pub equal : (a b : ℕ) → (a == b) ≡ true → a ≡ b
 equal a b e = grind (arith)
@@ -27,19 +28,19 @@ pub record IsIn (A : Type 0) (f : A → List ℕ) (Has : A → Type 0) (m : ℕ)
   pub within : is_among m (f item) ≡ true
 
 pub from_flat : (f : ℕ → List ℕ) (xs : List ℕ) (m : ℕ) → is_among m (flat_map f xs) ≡ true → IsIn ℕ f (λ x. is_among x xs ≡ true) m
-from_flat f [] m h = absurd (false_true h)
+from_flat f [] m h = absurd (false≢true h)
 from_flat f (x ∷ xs) m h =
-    elim (either (is_among m (f x)) (is_among m (flat_map f xs)) (sym (among-append m (f x) (flat_map f xs)) ∙ h)) [
-      | inl a ↦ record { item = x; there = or-first (x == x) (is_among x xs) (itself x); within = a }
-      | inr b ↦ let i = from_flat f xs m b in record { item = i.item; there = or-later (i.item == x) (is_among i.item xs) i.there; within = i.within }
+    elim (or_cases (is_among m (f x)) (is_among m (flat_map f xs)) (sym (among-append m (f x) (flat_map f xs)) ∙ h)) [
+      | inl a ↦ record { item = x; there = or_left (x == x) (is_among x xs) (itself x); within = a }
+      | inr b ↦ let i = from_flat f xs m b in record { item = i.item; there = or_right (i.item == x) (is_among i.item xs) i.there; within = i.within }
     ]
 
 pub to_flat : (f : ℕ → List ℕ) (xs : List ℕ) (x m : ℕ) → is_among x xs ≡ true → is_among m (f x) ≡ true → is_among m (flat_map f xs) ≡ true
-to_flat f [] x m there h = absurd (false_true there)
+to_flat f [] x m there h = absurd (false≢true there)
 to_flat f (y ∷ xs) x m there h =
-    among-append m (f y) (flat_map f xs) ∙ elim (either (x == y) (is_among x xs) there) [
-      | inl same ↦ or-first (is_among m (f y)) (is_among m (flat_map f xs)) (ap (λ z. is_among m (f z)) (sym (equal x y same)) ∙ h)
-      | inr behind ↦ or-later (is_among m (f y)) (is_among m (flat_map f xs)) (to_flat f xs x m behind h)
+    among-append m (f y) (flat_map f xs) ∙ elim (or_cases (x == y) (is_among x xs) there) [
+      | inl same ↦ or_left (is_among m (f y)) (is_among m (flat_map f xs)) (ap (λ z. is_among m (f z)) (sym (equal x y same)) ∙ h)
+      | inr behind ↦ or_right (is_among m (f y)) (is_among m (flat_map f xs)) (to_flat f xs x m behind h)
     ]
 
 -- made of those that give one

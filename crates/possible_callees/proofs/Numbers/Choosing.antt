@@ -2,8 +2,9 @@
 use Rattle.std.proofs.Common.{◌≡◌, ℕ, Bool, true, false, List, ap, sym, refl, ◌∙◌}
 use Rattle.std.specs.Prelude.{filter, filter_map, flat_map, Option, None, if◌then◌else◌}
 use Rattle.std.specs.Option.{option_to_list}
+use Rattle.std.proofs.lemmas.Bool.{and_from, false≢true}
 use Rattle.jvm_model.specs.Classes.Load.{is_among}
-use Rattle.possible_callees.proofs.Truths.{alike, both, false_true, first-of, second-of}
+use Rattle.possible_callees.proofs.Truths.{alike, first-of, second-of}
 use Rattle.possible_callees.proofs.Numbers.Adding.{among-filter, from_flat, made-flat, to_flat}
 
 module _ (loaded given : List ℕ) (asked : ℕ → Bool) (f : ℕ → Option ℕ) (h : ℕ → List ℕ) where
@@ -19,7 +20,7 @@ module _ (loaded given : List ℕ) (asked : ℕ → Bool) (f : ℕ → Option �
     where
       by : (b : Bool) → is_among m (option_to_list (if b then f x else None)) ≡ true → b ≡ true
       by true k = refl
-      by false k = absurd (false_true k)
+      by false k = absurd (false≢true k)
 
   of-it : (x m : ℕ) → is_among x loaded ≡ true → is_among m (listed x) ≡ is_among m (option_to_list (f x))
   of-it x m k = ap (λ b. is_among m (option_to_list (if b then f x else None))) k
@@ -31,7 +32,7 @@ module _ (loaded given : List ℕ) (asked : ℕ → Bool) (f : ℕ → Option �
         let i = from_flat listed given m k in
         let known = is-loaded i.item m i.within in
         to_flat h (filter asked loaded) i.item m
-        (among-filter asked loaded i.item ∙ both (is_among i.item loaded) (asked i.item) known (sound i.item i.there))
+        (among-filter asked loaded i.item ∙ and_from (is_among i.item loaded) (asked i.item) known (sound i.item i.there))
         (ap (is_among m) (sym (same i.item)) ∙ (sym (of-it i.item m known) ∙ i.within))
 
     back : (m : ℕ) → is_among m (flat_map h (filter asked loaded)) ≡ true → is_among m (flat_map listed given) ≡ true
@@ -63,8 +64,8 @@ module _ (loaded given : List ℕ) (asked : ℕ → Bool) (f : ℕ → Option �
         by : (a b : Bool) → is_among m (option_to_list (if a then (if b then f x else None) else None)) ≡ true
             → (a ≡ true) × ((b ≡ true) × (is_among m (option_to_list (f x)) ≡ true))
         by true true k = (refl, (refl, k))
-        by true false k = absurd (false_true k)
-        by false b k = absurd (false_true k)
+        by true false k = absurd (false≢true k)
+        by false b k = absurd (false≢true k)
 
     to-tested : (x m : ℕ) → is_among x loaded ≡ true → asked x ≡ true → is_among m (option_to_list (f x)) ≡ true → is_among m (option_to_list (of_tested x)) ≡ true
     to-tested x m a b k =
@@ -74,7 +75,7 @@ module _ (loaded given : List ℕ) (asked : ℕ → Bool) (f : ℕ → Option �
     tested-there m k =
         let i = from_flat (λ x. option_to_list (of_tested x)) given m k in
         let is = is-there i.item m i.within in
-        to_flat h (filter asked loaded) i.item m (among-filter asked loaded i.item ∙ both (is_among i.item loaded) (asked i.item) is.0 is.1.0)
+        to_flat h (filter asked loaded) i.item m (among-filter asked loaded i.item ∙ and_from (is_among i.item loaded) (asked i.item) is.0 is.1.0)
         (ap (is_among m) (sym (same i.item)) ∙ is.1.1)
 
     tested-back : (m : ℕ) → is_among m (flat_map h (filter asked loaded)) ≡ true → is_among m (flat_map (λ x. option_to_list (of_tested x)) given) ≡ true

@@ -1,10 +1,10 @@
 -- Lists that begin with others.
 use Rattle.std.proofs.Common.{◌≡◌, ℕ, Bool, true, false, List, [], ◌∷◌, ◌++◌, ◌≤◌, length, take, drop, ap, sym, subst, refl, ◌∙◌, arith}
 use Rattle.std.specs.Prelude.{if◌then◌else◌}
+use Rattle.std.proofs.lemmas.Bool.{or_left}
 use Rattle.jvm_model.specs.Classes.Load.{is_among}
 use Rattle.class_index.specs.Orders.{with_class}
 use Rattle.possible_callees.specs.Tables.{IsPrefix}
-use Rattle.possible_callees.proofs.Truths.{or-first}
 use Rattle.possible_callees.proofs.Numbers.Adding.{among-append}
 
 append-nothing : (xs : List ℕ) → xs ++ [] ≡ xs
@@ -42,7 +42,7 @@ pub front-with : (a b : List ℕ) (x : ℕ) → IsPrefix a b → IsPrefix a (wit
 front-with a b x front = front-then a b (with_class b x) front (front-one b x)
 
 pub front-among : (a b : List ℕ) (m : ℕ) → IsPrefix a b → is_among m a ≡ true → is_among m b ≡ true
-front-among a b m front h = ap (is_among m) front.is ∙ (among-append m a front.rest ∙ or-first (is_among m a) (is_among m front.rest) h)
+front-among a b m front h = ap (is_among m) front.is ∙ (among-append m a front.rest ∙ or_left (is_among m a) (is_among m front.rest) h)
 
 pub front-take : (a b : List ℕ) → IsPrefix a b → take (length a) b ≡ a
 front-take a b front = ap (take (length a)) front.is ∙ take-front a front.rest

@@ -2,10 +2,11 @@
 use Rattle.std.proofs.Common.{◌≡◌, ℕ, zero, suc, ◌+◌, ◌<◌, ◌≤◌, Bool, true, false, List, [], ◌∷◌, ◌++◌, ap, sym, refl, ◌∙◌, arith}
 use Rattle.std.specs.Prelude.{filter, ◌==◌, ◌||◌, ◌&&◌, if◌then◌else◌}
 use Rattle.std.specs.List.{AllByRecursion, range_with_len}
+use Rattle.std.proofs.lemmas.Bool.{and_from}
 use Rattle.jvm_model.specs.Classes.Load.{is_among}
 use Rattle.jvm_model.proofs.Revealing.Growing.{filter-front}
 use Rattle.possible_callees.specs.Tables.{IsRising}
-use Rattle.possible_callees.proofs.Truths.{alike, both, second-of}
+use Rattle.possible_callees.proofs.Truths.{alike, second-of}
 use Rattle.possible_callees.proofs.Numbers.Adding.{among-filter}
 
 -- each number of a range is above what is below the first
@@ -46,7 +47,7 @@ among-range found bound below m =
     among-filter (λ x. is_among x found) (range_with_len 0 bound) m
     ∙ alike (is_among m (range_with_len 0 bound) && is_among m found) (is_among m found)
     (λ h. second-of (is_among m (range_with_len 0 bound)) (is_among m found) h)
-    (λ h. let less : m < bound = below m h in both (is_among m (range_with_len 0 bound)) (is_among m found) (in-range 0 bound m (omega arith) (omega (arith, less))) h)
+    (λ h. let less : m < bound = below m h in and_from (is_among m (range_with_len 0 bound)) (is_among m found) (in-range 0 bound m (omega arith) (omega (arith, less))) h)
 
 last : (a n j : ℕ) → a + n ≡ j → range_with_len a (suc n) ≡ range_with_len a n ++ j ∷ []
 last a zero j e = ap (λ k. k ∷ []) (let z : a ≡ j = omega (arith, e) in z)

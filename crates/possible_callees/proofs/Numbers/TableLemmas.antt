@@ -1,8 +1,8 @@
 -- Lists that are kept by number.
 use Rattle.std.proofs.Common.{◌≡◌, ℕ, zero, suc, ◌<◌, ◌≤◌, false, List, [], ◌∷◌, ◌++◌, length, get_or, ap, sym, refl, arith}
 use Rattle.std.specs.Prelude.{Some, slice_get, slice_set, ◌==◌}
+use Rattle.std.proofs.lemmas.Bool.{false≢true}
 use Rattle.possible_callees.specs.Tables.{list_at, with_item}
-use Rattle.possible_callees.proofs.Truths.{false_true}
 
 -- what is written is the list with an item more
 pub is_with_item : {A : Type 0} (item : A) (n : ℕ) (lists : List (List A)) (d written : List A) → n < length lists
@@ -28,7 +28,7 @@ at-same item (suc n) (list ∷ lists) within = at-same item n lists (omega (arit
 
 pub at-other : {A : Type 0} (item : A) (n k : ℕ) (lists : List (List A)) → (k == n) ≡ false → list_at (with_item n item lists) k ≡ list_at lists k
 at-other item n k [] other = refl
-at-other item zero zero (list ∷ lists) other = absurd (false_true (sym other))
+at-other item zero zero (list ∷ lists) other = absurd (false≢true (sym other))
 at-other item zero (suc k) (list ∷ lists) other = refl
 at-other item (suc n) zero (list ∷ lists) other = refl
 at-other item (suc n) (suc k) (list ∷ lists) other = at-other item n k lists (less n k other)
@@ -45,7 +45,7 @@ set-same (c ∷ codes) (suc m) x within = set-same codes m x (omega (arith, with
 
 pub set-other : {A : Type 0} (codes : List A) (m k : ℕ) (x : A) → (k == m) ≡ false → slice_get (slice_set codes m x) k ≡ slice_get codes k
 set-other [] m k x other = refl
-set-other (c ∷ codes) zero zero x other = absurd (false_true (sym other))
+set-other (c ∷ codes) zero zero x other = absurd (false≢true (sym other))
 set-other (c ∷ codes) zero (suc k) x other = refl
 set-other (c ∷ codes) (suc m) zero x other = refl
 set-other (c ∷ codes) (suc m) (suc k) x other = set-other codes m k x (less m k other)

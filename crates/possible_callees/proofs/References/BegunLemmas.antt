@@ -2,6 +2,8 @@
 use Rattle.std.proofs.Common.{◌≡◌, ℕ, suc, ◌+◌, ◌<◌, Bool, true, false, List, [], ◌∷◌, length, ap, sym, refl, ◌∙◌, arith}
 use Rattle.std.specs.Prelude.{filter, filter_map, Option, Some, None, if◌then◌else◌}
 use Rattle.std.specs.Option.{option_map_or, option_to_list}
+use Rattle.std.proofs.lemmas.Bool.{false≢true}
+use Rattle.std.proofs.lemmas.Option.{none-some, same_Some}
 use Rattle.const_pool.specs.declared.class.ClassFile.{ClassFile}
 use Rattle.jvm_model.specs.declared.program.Program.{Program}
 use Rattle.jvm_model.specs.Classes.Load.{is_among}
@@ -17,7 +19,6 @@ use Rattle.jvm_model.specs.Profiling.Targets.{begun_by, method_coded, initialize
 use Rattle.jvm_model.specs.Instructions.InvocationRules.{selected_by}
 use Rattle.possible_callees.specs.declared.lineage.Lineage.{Lineage}
 use Rattle.possible_callees.specs.Lineages.{IsClosed, IsLineage, begun_named, initializer_in, number_of, selecting, selection_of}
-use Rattle.possible_callees.proofs.Truths.{false_true, none-some, some-some}
 use Rattle.possible_callees.proofs.Numbers.Adding.{made-flat}
 use Rattle.possible_callees.proofs.Numbers.Choosing.{chosen-alike, tested-alike}
 
@@ -52,7 +53,7 @@ found-within c wanted n at (m ∷ rest) e = by (is_member c.pool wanted m) e (λ
   where
     by : (b : Bool) → (if b then Some n else method_from c.pool wanted (n + 1) rest) ≡ Some at
         → (method_from c.pool wanted (n + 1) rest ≡ Some at → at < (n + 1) + length rest) → at < n + suc (length rest)
-    by true e behind = let same : n ≡ at = some-some n at e in omega (arith, same)
+    by true e behind = let same : n ≡ at = same_Some n at e in omega (arith, same)
     by false e behind = let less : at < (n + 1) + length rest = behind e in omega (arith, less)
 
 pub method_within : (c : ClassFile) (at : ℕ) → method_named c initializer_name ≡ Some at → at < length c.methods
@@ -78,7 +79,7 @@ begun-by-name p loaded (model.Putfield r) e = begins-nothing (loaded_class_named
 begun-by-name p loaded (model.Getstatic r) e = refl
 begun-by-name p loaded (model.Putstatic r) e = refl
 begun-by-name p loaded (model.Invokevirtual r) e = refl
-begun-by-name p loaded (model.Invokespecial caller r interface) e = absurd (false_true (sym e))
+begun-by-name p loaded (model.Invokespecial caller r interface) e = absurd (false≢true (sym e))
 begun-by-name p loaded (model.Invokestatic r) e = refl
 begun-by-name p loaded (model.Invokeinterface r) e = refl
 begun-by-name p loaded (model.Checkcast name) e = begins-nothing (loaded_class_named p loaded name)

@@ -2,6 +2,7 @@
 use Rattle.std.proofs.Common.{◌≡◌, ap, sym, refl, ◌∙◌}
 use Rattle.std.specs.Prelude.{Option, Some, None}
 use Rattle.std.specs.Option.{option_and_then, option_map}
+use Rattle.std.proofs.lemmas.Option.{none-some, same_Some}
 use Rattle.const_pool.specs.declared.class.ClassFile.{ClassFile}
 use Rattle.code_model.specs.declared.instr.Instr.{Instr}
 use Rattle.jvm_model.specs.Codes.Lines.{operation_of}
@@ -14,7 +15,6 @@ use Rattle.jvm_model.specs.declared.instruction.SymbolicReference.TheVariants.{N
 use Rattle.jvm_model.specs.Profiling.Revelation.{symbolic_reference_in}
 use Rattle.prepared_lines.specs.Lines.{action_of, line_of, line_with, local_action}
 use Rattle.possible_callees.specs.CodeReferences.{begins_by}
-use Rattle.possible_callees.proofs.Truths.{none-some, some-some}
 
 -- what a line names that can begin methods is what its operation names
 pub begins_alike : (op : Operation) → begins_by (action_of op) ≡ symbolic_reference_in op
@@ -50,4 +50,4 @@ line-begins c i line e = by (operation_of c i) e
   where
     by : (o : Option Operation) → option_map (line_with c i) (option_map action_of o) ≡ Some line → begins_by line.action ≡ option_and_then symbolic_reference_in o
     by None e = absurd (none-some line e)
-    by (Some op) e = ap (λ (l : Line). begins_by l.action) (sym (some-some (line_with c i (action_of op)) line e)) ∙ begins_alike op
+    by (Some op) e = ap (λ (l : Line). begins_by l.action) (sym (same_Some (line_with c i (action_of op)) line e)) ∙ begins_alike op

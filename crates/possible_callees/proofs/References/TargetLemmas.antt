@@ -4,6 +4,7 @@ use Rattle.std.proofs.lemmas.List.{drop_more}
 use Rattle.std.specs.Prelude.{flat_map, Option, Some, None, ◌==◌, ◌||◌}
 use Rattle.std.specs.List.{AllByRecursion, cons_option}
 use Rattle.std.specs.Option.{option_map_or}
+use Rattle.std.proofs.lemmas.Bool.{or_left, or_right}
 use Rattle.jvm_model.specs.declared.program.Program.{Program}
 use Rattle.jvm_model.specs.declared.instruction.Operation.{Operation}
 use Rattle.jvm_model.specs.declared.instruction.Operation.TheVariants.{Within, Named, Athrow, Monitor, Newarray, Arraylength, LoadElement, StoreElement, LdcString}
@@ -13,7 +14,7 @@ use Rattle.jvm_model.specs.declared.instruction.SymbolicReference.TheVariants.{N
 use Rattle.jvm_model.specs.Profiling.Revelation.{symbolic_reference_in, symbolic_references_of}
 use Rattle.jvm_model.specs.Profiling.Targets.{begun_by, begun_by_operation, operations_of, targets, targets_in}
 use Rattle.possible_callees.specs.Tables.{Adds}
-use Rattle.possible_callees.proofs.Truths.{or-assoc, or-false, or-first, or-later}
+use Rattle.possible_callees.proofs.Truths.{or-assoc, or-false}
 use Rattle.possible_callees.proofs.Numbers.Adding.{among-append, itself}
 use Rattle.possible_callees.proofs.Classes.SameLoaded.{targets-same}
 
@@ -69,7 +70,7 @@ one-added f x rest before after m whole adds e =
 pub all-behind : (xs ys : List ℕ) → ((x : ℕ) → is_among x ys ≡ true → is_among x xs ≡ true) → AllByRecursion (λ x. is_among x xs ≡ true) ys
 all-behind xs [] each = tt
 all-behind xs (y ∷ ys) each =
-    (each y (or-first (y == y) (is_among y ys) (itself y)), all-behind xs ys (λ x h. each x (or-later (x == y) (is_among x ys) h)))
+    (each y (or_left (y == y) (is_among y ys) (itself y)), all-behind xs ys (λ x h. each x (or_right (x == y) (is_among x ys) h)))
 
 pub all-among : (xs : List ℕ) → AllByRecursion (λ x. is_among x xs ≡ true) xs
 all-among xs = all-behind xs xs (λ x h. h)

@@ -2,6 +2,7 @@
 use Rattle.std.proofs.Common.{◌≡◌, ◌⊎◌, ℕ, zero, suc, Bool, true, false, List, [], ◌∷◌, ◌++◌, Option, Some, None, ap, sym, subst, refl, ◌∙◌, inl, inr}
 use Rattle.std.specs.Prelude.{◌==◌, ◌&&◌, slice_get, slice_set, if◌then◌else◌}
 use Rattle.std.specs.Option.{IfSome, option_and_then}
+use Rattle.std.proofs.lemmas.Option.{none-some}
 use Rattle.frame_stack.specs.FrameLists.{PlacedFrame, pins_of}
 use Rattle.method_versions.specs.Tables.{is_superseded_in}
 use Rattle.class_linker.specs.Linkers.{LinkerView}
@@ -18,9 +19,6 @@ use Rattle.prepared_code.specs.Versions.{line_at, line_in}
 use Rattle.prepared_lines.specs.declared.line.Action.{Action}
 use Rattle.prepared_lines.specs.declared.line.Action.TheVariants as action
 use Rattle.prepared_lines.specs.declared.line.Line.{Line}
-
-no-known : {A : Type 0} (k : A) → None ≡ Some k → ⊥
-no-known k e = cc
 
 same-known : (a b : Known) → Some a ≡ Some b → b ≡ a
 same-known a b e = cc
@@ -87,7 +85,7 @@ in-row old rows other place k known (inr is) = inr (refl, is.0, is.1)
 
 set-cell : (rows : Rows) (version v other place : ℕ) (known k : Known) (row old : List (Option Known)) → slice_get rows version ≡ Some old
     → KeepsItem place known old row → cell_at (slice_set rows version row) v other ≡ Some k → OneCell rows v other version place k known
-set-cell [] version v other place known k row old there keeps e = absurd (no-known old there)
+set-cell [] version v other place known k row old there keeps e = absurd (none-some old there)
 set-cell (x ∷ xs) zero zero other place known k row old there keeps e =
     subst (λ r. OneCell (r ∷ xs) 0 other 0 place k known) (let same : Some x ≡ Some old → old ≡ x = λ e. cc in same there)
     (in-row old xs other place k known (keeps.each other k e))
@@ -120,7 +118,7 @@ keeps_behind old between new version place known same keeps = record {
 -- ---- what is known
 
 pub nil-known : (l : LinkerView) (v : Versions) → AreKnown l v []
-nil-known l v = record { each = λ version place k e. absurd (no-known k e) }
+nil-known l v = record { each = λ version place k e. absurd (none-some k e) }
 
 pub known-kept : (l : LinkerView) (v : Versions) (old new : Rows) (version place : ℕ) (known : Known) → Keeps version place known old new → AreKnown l v old
     → IfNamed (line_at v version place) (λ n next. IsKnown l n known) → AreKnown l v new

@@ -5,7 +5,7 @@ use Rattle.std.specs.Borrow.{Bor}
 use Rattle.std.specs.Int.{is_in_range}
 use Rattle.std.specs.List.{AllByRecursion}
 use Rattle.std.specs.Option.{IfSome, option_and_then, option_map}
-use Rattle.std.proofs.lemmas.Bool.{ltb-true, leb-true}
+use Rattle.std.proofs.lemmas.Bool.{ltb-true, leb-true, and_parts}
 use Rattle.const_pool.specs.declared.class.ClassFile.{ClassFile}
 use Rattle.const_pool.specs.declared.pool.Const.{Const}
 use Rattle.const_pool.specs.declared.pool.Const.TheVariants as const
@@ -108,15 +108,11 @@ by-family c op a f = within (local_of f a (constant_in c.pool a))
 abbrev pub Fits : Line → Type 0
 Fits l = IfNamedBy l.action l.next (λ n next. HasDimensions n)
 
-both : (a b : Bool) → (a && b) ≡ true → (a ≡ true) × (b ≡ true)
-both true b h = (refl, h)
-both false b h = absurd cc
-
 -- as the format asks
 fits-reference : (n : SymbolicReference) → has_dimensions n ≡ true → HasDimensions n
 fits-reference (Anewarray name) h = ltb-true (meaning_of name).dimensions 255 h
 fits-reference (Multianewarray name dimensions) h =
-    let parts = both (nat_le 1 dimensions) (nat_le dimensions (meaning_of name).dimensions) h in
+    let parts = and_parts (nat_le 1 dimensions) (nat_le dimensions (meaning_of name).dimensions) h in
     (leb-true 1 dimensions parts.0, leb-true dimensions (meaning_of name).dimensions parts.1)
 fits-reference (New name) h = tt
 fits-reference (Getfield r) h = tt

@@ -1,6 +1,7 @@
 use Rattle.std.proofs.Common.{◌≡◌, ℕ, Option, Some, sym, ap, subst, ◌∙◌}
 use Rattle.std.specs.Prelude.{not}
 use Rattle.std.specs.Option.{option_map_or}
+use Rattle.std.proofs.lemmas.Bool.{not-false}
 use Rattle.jvm_model.specs.declared.event.Mark.TheVariants.{Off}
 use Rattle.prepared_code.specs.Tables.{Version, Versions, version_at}
 use Rattle.jvm_model.specs.Rewriting.Images.{is_off}
@@ -9,7 +10,7 @@ use Rattle.interpreter.specs.Moves.Onward.{GoesOnward}
 use Rattle.interpreter.specs.Moves.Trying.{returns_by}
 use Rattle.prepared_code.specs.Linked.{setup_in}
 use Rattle.interpreter.proofs.Moves.QuickSteps.{stops-quickly}
-use Rattle.interpreter.proofs.Silent.GoingOnward.{not-marked, onward-if}
+use Rattle.interpreter.proofs.Silent.GoingOnward.{onward-if}
 use Rattle.interpreter.proofs.turns.passing.pass_return.Goals as goal
 
 -- the version that has a number has the probes that are looked up by it
@@ -28,4 +29,4 @@ returns c =
     let ms = c.args.initializing.now in
     subst (λ o. GoesOnward w ms c.args.parts.now o c.leave.new.parts) (sym c.made_if.ensures)
     (onward-if w ms c.args.parts.now c.leave.new.parts c.leave.result
-    (c.leave.ensures.silent (not-marked (is_off (mark_of w.versions c.args.here.version)) (probed-as w.versions c.args.here.version c.args.version.now c.requires.runs ∙ sym c.is_probed.ensures ∙ c.if-is_probed.false))))
+    (c.leave.ensures.silent (not-false (is_off (mark_of w.versions c.args.here.version)) (probed-as w.versions c.args.here.version c.args.version.now c.requires.runs ∙ sym c.is_probed.ensures ∙ c.if-is_probed.false))))

@@ -1,10 +1,9 @@
 use Rattle.std.proofs.Common.{true, sym, subst, ◌∙◌, arith}
-use Rattle.std.proofs.lemmas.Bool.{false≢true}
+use Rattle.std.proofs.lemmas.Bool.{false≢true, not-false}
 use Rattle.jvm_model.specs.declared.due.Due.TheVariants.{Nothing}
 use Rattle.interpreter.specs.Moves.Quickly.{TriesIf, TriesQuickly}
 use Rattle.prepared_code.specs.Linked.{setup_in}
 use Rattle.interpreter.proofs.Moves.QuickHands.{hands-quickly, quick-moves, quick-tries, sound-quickly, start-quickly}
-use Rattle.interpreter.proofs.Silent.GoingOnward.{not-marked}
 use Rattle.interpreter.proofs.turns.quickly.go_quickly.Goals as goal
 
 -- by moves
@@ -32,7 +31,7 @@ returns-clause-goes c =
     let ms = c.args.initializing.now in
     let none = c.if-hand-gt0.false in
     quick-tries w ms c.args.hand c.args.parts.now c.gone_to-2.result c.gone_to-2.ensures.left c.end_told.new.parts Nothing c.if-hand.false (omega (arith, none))
-    (subst (λ b. TriesQuickly w ms b c.args.parts.now Nothing c.end_told.new.parts) (sym (not-marked c.args.hand.delivered c.if-not-hand.false))
+    (subst (λ b. TriesQuickly w ms b c.args.parts.now Nothing c.end_told.new.parts) (sym (not-false c.args.hand.delivered c.if-not-hand.false))
     (subst (λ b. TriesIf b w ms true c.args.parts.now Nothing c.end_told.new.parts) c.if-not-end_told.false c.end_told.ensures.tries))
     c.gone_to-2.ensures.due c.gone_to-2.ensures.passed
 
