@@ -3,14 +3,11 @@ use Rattle.std.proofs.Common.{◌≡◌, ℕ, ◌≤◌, Bool, true, false, cond
 use Rattle.std.proofs.lemmas.Bool.{ltb-true, ltb-false, lt-ltb, le-ltb}
 use Rattle.std.proofs.lemmas.List.{take_at, drop_at, length-append}
 use Rattle.byte_formats.specs.Formats.{place, IsCut}
-use Rattle.byte_formats.specs.Reading.{Read}
+use Rattle.byte_formats.specs.Reading.{Read, made_of_front}
 use Rattle.byte_formats.proofs.Items.{one_read, read_parts, no_fault}
 
 abbrev pub cut_at : {E A : Type 0} → (ℕ → E) → ℕ → (List ℕ → A) → ℕ → List ℕ → Read E A
-cut_at cut len make limit bytes =
-    cond (ltb (length bytes) len)
-    (Err (cut (place limit bytes)))
-    (one_read (make (take len bytes)) (drop len bytes))
+cut_at cut len make limit bytes = made_of_front (cut (place limit bytes)) len make bytes
 
 module _ {E A : Type 0} (cut : ℕ → E) (len : ℕ) (make : List ℕ → A) where
   pub cut_takes : (limit : ℕ) (bytes : List ℕ) (x : A) (rest : List ℕ)
