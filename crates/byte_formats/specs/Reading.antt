@@ -1,5 +1,5 @@
 -- Reading from left to right: the item at the front of the bytes and the bytes after it, or the first fault.
-use Rattle.std.specs.Prelude.{◌≡◌, ◌≢◌, ℕ, zero, suc, List, [], ◌∷◌, ◌++◌, Result, Ok, Err}
+use Rattle.std.specs.Prelude.{◌≡◌, ◌≢◌, ℕ, zero, suc, List, [], ◌∷◌, ◌++◌, length, take, drop, Result, Ok, Err, nat_lt, if◌then◌else◌}
 use Rattle.std.specs.Borrow.{Bor}
 
 infixl 10 ◌>>=◌
@@ -19,6 +19,10 @@ Gives want view (Err e) read = e ≢ want → read ≡ Err e
 -- an item with the bytes after it, which the code holds by a reference
 abbrev pub with_rest : {A : Type 0} → A × Bor (List ℕ) → A × List ℕ
 with_rest x = (x.0, x.1.now)
+
+-- what is made of so many bytes, or the fault that they are not there
+abbrev pub made_of_front : {E A : Type 0} → E → ℕ → (List ℕ → A) → List ℕ → Read E A
+made_of_front cut len make bytes = if nat_lt (length bytes) len then Err cut else Ok (make (take len bytes), drop len bytes)
 
 -- so many items, one after the other
 unfoldable pub many_at : {E A : Type 0} → (List ℕ → Read E A) → ℕ → List ℕ → Read E (List A)

@@ -1,69 +1,16 @@
 -- Reading numbers of a width, and runs of bytes.
-use Rattle.std.proofs.Common.{◌≡◌, ℕ, ◌*◌, ◌%◌, ◌^◌, ◌<◌, ◌≤◌, Bool, true, false, cond, ltb, List, [], ◌∷◌, ◌++◌, length, take, drop, Ok, Err, refl, sym, ap, subst, ◌∙◌, arith}
+use Rattle.std.proofs.Common.{◌≡◌, ℕ, ◌*◌, ◌%◌, ◌^◌, ◌<◌, ◌≤◌, List, [], ◌∷◌, ◌++◌, length, take, drop, Ok, Err, refl, sym, ap, subst, ◌∙◌, arith}
 use Rattle.std.specs.List.{AllByRecursion}
 use Rattle.std.specs.Int.{Width, w8, w16, w32, w64, byte_len, from_be_bytes, to_be_bytes}
-use Rattle.std.proofs.lemmas.Bool.{ltb-true, ltb-false, lt-ltb, le-ltb}
-use Rattle.std.proofs.lemmas.List.{take_at, drop_at, take-append-drop, length-append, length-take}
+use Rattle.std.proofs.lemmas.List.{take-append-drop, length-take}
 use Rattle.std.proofs.lemmas.Nat.{be_bytes_2, be_bytes_4, be_bytes_8, from_be_bytes-to_be_bytes_2, from_be_bytes-to_be_bytes_4, from_be_bytes-to_be_bytes_8}
 use Rattle.const_pool.specs.ClassFile.{IsByte}
+use Rattle.byte_formats.proofs.Cuts.{cut_takes, cut_again, cut_whole, cut_faults, cut_stops}
 use Rattle.class_reader.specs.declared.error.ReadError.{ReadError}
 use Rattle.class_reader.specs.declared.error.ReadError.TheVariants.{Truncated}
-use Rattle.class_reader.specs.Formats.{place, IsCut, number, run}
-use Rattle.class_reader.specs.Reading.{Read, number_at, run_at}
-use Rattle.class_reader.proofs.Items.{IsBytes, IsBytes-take, IsBytes-drop, IsBytes-each, Takes, IsRead, one_read, read_parts, no_fault}
-
--- ---- bytes that are there, or are not
-
--- nothing is read: the bytes end
-abbrev ended : {A : Type 0} → ℕ → List ℕ → Read A
-ended limit bytes = Err (Truncated (place limit bytes))
-
--- so many bytes are taken, where there are as many
-abbrev cut_at : {A : Type 0} → ℕ → (List ℕ → A) → ℕ → List ℕ → Read A
-cut_at len make limit bytes =
-    cond (ltb (length bytes) len)
-    (ended limit bytes)
-    (one_read (make (take len bytes)) (drop len bytes))
-
-module _ {A : Type 0} (len : ℕ) (make : List ℕ → A) where
-  cut_takes : (limit : ℕ) (bytes : List ℕ) (x : A) (rest : List ℕ)
-      → cut_at len make limit bytes ≡ Ok (x, rest)
-      → (len ≤ length bytes) × (make (take len bytes) ≡ x) × (drop len bytes ≡ rest)
-  cut_takes limit bytes x rest = by_case (ltb (length bytes) len) refl
-    where
-      by_case : (b : Bool) → ltb (length bytes) len ≡ b
-          → cond b (ended limit bytes) (one_read (make (take len bytes)) (drop len bytes))
-          ≡ one_read x rest
-          → (len ≤ length bytes) × (make (take len bytes) ≡ x) × (drop len bytes ≡ rest)
-      by_case true is e = absurd (no_fault x rest _ (sym e))
-      by_case false is e = let same = read_parts _ _ _ _ e in (ltb-false _ _ is, same.0, same.1)
-
-  cut_again : (limit : ℕ) (front rest : List ℕ) → length front ≡ len
-      → cut_at len make limit (front ++ rest) ≡ Ok (make front, rest)
-  cut_again limit front rest e =
-      let long : ltb (length (front ++ rest)) len ≡ false =
-      le-ltb _ _ (omega (arith, length-append front rest)) in
-      rw (long, take_at front rest len e, drop_at front rest len e) refl
-
-  cut_whole : (limit : ℕ) (bytes : List ℕ) → len ≤ length bytes
-      → cut_at len make limit bytes ≡ Ok (make (take len bytes), drop len bytes)
-  cut_whole limit bytes within = rw (le-ltb _ _ within) refl
-
-  cut_faults : (limit : ℕ) (bytes : List ℕ) (fault : ReadError)
-      → cut_at len make limit bytes ≡ Err fault → IsCut len limit bytes fault
-  cut_faults limit bytes fault = by_case (ltb (length bytes) len) refl
-    where
-      by_case : (b : Bool) → ltb (length bytes) len ≡ b
-          → cond b (ended limit bytes) (one_read (make (take len bytes)) (drop len bytes))
-          ≡ Err fault
-          → IsCut len limit bytes fault
-      by_case true is e =
-          let told : Truncated (place limit bytes) ≡ fault = cc in (ltb-true _ _ is, sym told)
-      by_case false is e = absurd (no_fault _ _ _ e)
-
-  cut_stops : (limit : ℕ) (bytes : List ℕ) (fault : ReadError) → IsCut len limit bytes fault
-      → cut_at len make limit bytes ≡ Err fault
-  cut_stops limit bytes fault h = rw (lt-ltb _ _ h.0, h.1) refl
+use Rattle.class_reader.specs.Formats.{IsCut, number, run}
+use Rattle.class_reader.specs.Reading.{number_at, run_at}
+use Rattle.class_reader.proofs.Items.{IsBytes, IsBytes-take, IsBytes-drop, IsBytes-each, Takes, IsRead, one_read}
 
 -- ---- numbers
 
@@ -121,7 +68,7 @@ module _ (w : Width) (wide : IsWide w) where
       → Takes (number w) bytes x rest
   unfolding number_at
   number_takes limit bytes x rest fits e =
-      let cut = cut_takes (byte_len w) (from_be_bytes w) limit bytes x rest e in
+      let cut = cut_takes Truncated (byte_len w) (from_be_bytes w) limit bytes x rest e in
       let front = take (byte_len w) bytes in
       let front_fits : IsBytes front = IsBytes-take (byte_len w) bytes fits in
       let len : length front ≡ byte_len w = omega (arith, length-take (byte_len w) bytes) in
@@ -143,20 +90,20 @@ module _ (w : Width) (wide : IsWide w) where
   number_again limit front rest n h =
       let len : length front ≡ byte_len w = ap length h.1 ∙ wide.len n in
       let value : from_be_bytes w front ≡ n = ap (from_be_bytes w) h.1 ∙ wide.again n h.0 in
-      cut_again (byte_len w) (from_be_bytes w) limit front rest len
+      cut_again Truncated (byte_len w) (from_be_bytes w) limit front rest len
       ∙ ap (λ k. one_read k rest) value
 
   number_faults : (limit : ℕ) (bytes : List ℕ) (fault : ReadError)
       → number_at w limit bytes ≡ Err fault
       → IsCut (byte_len w) limit bytes fault
   unfolding number_at
-  number_faults limit bytes fault e = cut_faults (byte_len w) (from_be_bytes w) limit bytes fault e
+  number_faults limit bytes fault e = cut_faults Truncated (byte_len w) (from_be_bytes w) limit bytes fault e
 
   number_stops : (limit : ℕ) (bytes : List ℕ) (fault : ReadError)
       → IsCut (byte_len w) limit bytes fault
       → number_at w limit bytes ≡ Err fault
   unfolding number_at
-  number_stops limit bytes fault h = cut_stops (byte_len w) (from_be_bytes w) limit bytes fault h
+  number_stops limit bytes fault h = cut_stops Truncated (byte_len w) (from_be_bytes w) limit bytes fault h
 
   number_is_read : IsRead (number_at w) (number w)
   number_is_read = record {
@@ -188,7 +135,7 @@ module _ (len : ℕ) where
       → run_at len limit bytes ≡ Ok (x, rest) → Takes (run len) bytes x rest
   unfolding run_at
   run_takes limit bytes x rest fits e =
-      let cut = cut_takes len itself limit bytes x rest e in
+      let cut = cut_takes Truncated len itself limit bytes x rest e in
       let front = take len bytes in
       let long : length front ≡ len = omega (arith, length-take len bytes) in
       let spelled : (front ≡ front) × (length front ≡ len) × AllByRecursion IsByte front =
@@ -205,27 +152,27 @@ module _ (len : ℕ) where
   pub run_takes_parts : (limit : ℕ) (bytes x rest : List ℕ) → run_at len limit bytes ≡ Ok (x, rest)
       → (len ≤ length bytes) × (take len bytes ≡ x) × (drop len bytes ≡ rest)
   unfolding run_at
-  run_takes_parts limit bytes x rest e = cut_takes len itself limit bytes x rest e
+  run_takes_parts limit bytes x rest e = cut_takes Truncated len itself limit bytes x rest e
 
   pub run_again : (limit : ℕ) (front rest : List ℕ) → length front ≡ len
       → run_at len limit (front ++ rest) ≡ Ok (front, rest)
   unfolding run_at
-  run_again limit front rest e = cut_again len itself limit front rest e
+  run_again limit front rest e = cut_again Truncated len itself limit front rest e
 
   pub run_whole : (limit : ℕ) (bytes : List ℕ) → len ≤ length bytes
       → run_at len limit bytes ≡ Ok (take len bytes, drop len bytes)
   unfolding run_at
-  run_whole limit bytes within = cut_whole len itself limit bytes within
+  run_whole limit bytes within = cut_whole Truncated len itself limit bytes within
 
   pub run_faults : (limit : ℕ) (bytes : List ℕ) (fault : ReadError)
       → run_at len limit bytes ≡ Err fault → IsCut len limit bytes fault
   unfolding run_at
-  run_faults limit bytes fault e = cut_faults len itself limit bytes fault e
+  run_faults limit bytes fault e = cut_faults Truncated len itself limit bytes fault e
 
   pub run_stops : (limit : ℕ) (bytes : List ℕ) (fault : ReadError) → IsCut len limit bytes fault
       → run_at len limit bytes ≡ Err fault
   unfolding run_at
-  run_stops limit bytes fault h = cut_stops len itself limit bytes fault h
+  run_stops limit bytes fault h = cut_stops Truncated len itself limit bytes fault h
 
   run_spelled : (limit : ℕ) (front rest x : List ℕ)
       → (front ≡ x) × (length x ≡ len) × AllByRecursion IsByte x

@@ -1,6 +1,6 @@
 -- Reading a class file from left to right: the item at the front of the bytes and the bytes after it, or the first fault.
 -- Only functions of this crate cite it; what the readers owe their callers is in Files.
-use Rattle.std.specs.Prelude.{ℕ, zero, suc, ◌+◌, ◌-◌, Bool, not, ◌&&◌, ◌||◌, List, [], ◌∷◌, ◌++◌, length, take, drop, Option, Some, None, Result, Ok, Err, nat_lt, nat_le, ◌==◌, if◌then◌else◌}
+use Rattle.std.specs.Prelude.{ℕ, zero, suc, ◌+◌, ◌-◌, Bool, not, ◌&&◌, ◌||◌, List, [], ◌∷◌, ◌++◌, length, drop, Option, Some, None, Result, Ok, Err, nat_lt, nat_le, ◌==◌, if◌then◌else◌}
 use Rattle.std.specs.Int.{Width, w8, w16, w32, w64, byte_len, from_be_bytes, cast_signed}
 use Rattle.const_pool.specs.declared.pool.Const.{Const}
 use Rattle.const_pool.specs.declared.pool.Const.TheVariants.{Gap, Utf8, Integer, Float, Long, Double, Class, Text, Field, Method, InterfaceMethod, NameType}
@@ -36,10 +36,10 @@ Gives = reading.Gives NoMemory
 -- ---- numbers, runs of bytes, and items one after the other
 
 unfoldable pub number_at : Width → ℕ → List ℕ → Read ℕ
-number_at w limit bytes = if nat_lt (length bytes) (byte_len w) then Err (Truncated (place limit bytes)) else Ok (from_be_bytes w (take (byte_len w) bytes), drop (byte_len w) bytes)
+number_at w limit bytes = reading.made_of_front (Truncated (place limit bytes)) (byte_len w) (from_be_bytes w) bytes
 
 unfoldable pub run_at : ℕ → ℕ → List ℕ → Read (List ℕ)
-run_at len limit bytes = if nat_lt (length bytes) len then Err (Truncated (place limit bytes)) else Ok (take len bytes, drop len bytes)
+run_at len limit bytes = reading.made_of_front (Truncated (place limit bytes)) len (λ run. run) bytes
 
 -- a text that was decoded, or the place of its first bad byte
 abbrev pub text_from : ℕ → List ℕ → List ℕ → Result (List ℕ) ℕ → Read (List ℕ)

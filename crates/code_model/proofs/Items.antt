@@ -1,7 +1,7 @@
 -- What it is to read a format of instructions: nothing is asked of the bytes, and no fault is told by where they end.
 use Rattle.std.proofs.Common.{ℕ, List}
 use Rattle.byte_formats.proofs.Items as items
-pub use Rattle.byte_formats.proofs.Items.{one_read, read_parts, no_fault, ok_parts, err_parts}
+pub use Rattle.byte_formats.proofs.Items.{one_read}
 use Rattle.code_model.specs.Formats.{Format}
 use Rattle.code_model.specs.Reading.{Read}
 

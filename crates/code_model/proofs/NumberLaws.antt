@@ -1,63 +1,41 @@
 -- Reading numbers of a width, and runs of bytes.
-use Rattle.std.proofs.Common.{◌≡◌, ℕ, ◌≤◌, Bool, true, false, cond, ltb, List, ◌++◌, length, take, drop, Ok, Err, refl, sym, ap, subst, ◌∙◌, arith}
+use Rattle.std.proofs.Common.{◌≡◌, ℕ, List, ◌++◌, length, take, Ok, sym, ap, subst, ◌∙◌, arith}
 use Rattle.std.specs.Int.{Width, byte_len, from_be_bytes, cast_signed}
-use Rattle.std.proofs.lemmas.Bool.{ltb-true, ltb-false, lt-ltb, le-ltb}
-use Rattle.std.proofs.lemmas.List.{take_at, drop_at, take-append-drop, length-append, length-take}
+use Rattle.std.proofs.lemmas.List.{take-append-drop, length-take}
 use Rattle.code_model.specs.declared.error.CodeError.{CodeError}
 use Rattle.code_model.specs.declared.error.CodeError.TheVariants.{Cut}
 use Rattle.code_model.specs.Formats.{Format, IsCut, number, run}
 use Rattle.code_model.specs.Operands.{number_signed, target, target_reached}
-use Rattle.code_model.specs.Reading.{Read, number_at, run_at, signed_at, target_at}
-use Rattle.code_model.proofs.Items.{Takes, IsRead, one_read, read_parts, no_fault}
+use Rattle.code_model.specs.Reading.{number_at, run_at, signed_at, target_at}
+use Rattle.code_model.proofs.Items.{Takes, IsRead, one_read}
+use Rattle.byte_formats.proofs.Cuts.{cut_at, cut_takes, cut_again, cut_faults, cut_stops}
 use Rattle.byte_formats.proofs.Turns.{made_is_read, in_turn_is_read}
 
--- so many bytes are taken, where there are as many
-abbrev cut_at : {A : Type 0} → ℕ → ℕ → (List ℕ → A) → List ℕ → Read A
-cut_at at len make bytes = cond (ltb (length bytes) len) (Err (Cut at)) (one_read (make (take len bytes)) (drop len bytes))
+-- the fault of bytes that end within an instruction, wherever that is
+abbrev cut_off : ℕ → ℕ → CodeError
+cut_off at place = Cut at
 
 -- what is spelled by so many bytes
 abbrev cut : {A : Type 0} → ℕ → ℕ → (List ℕ → A) → Format A
 cut at len make = record { Spells = λ text x. (length text ≡ len) × (make text ≡ x); Faults = IsCut at len }
 
 module _ {A : Type 0} (at len : ℕ) (make : List ℕ → A) where
-  cut_takes : (bytes : List ℕ) (x : A) (rest : List ℕ) → cut_at at len make bytes ≡ Ok (x, rest) → Takes (cut at len make) bytes x rest
-  cut_takes bytes x rest = by_case (ltb (length bytes) len) refl
-    where
-      by_case : (b : Bool) → ltb (length bytes) len ≡ b → cond b (Err (Cut at)) (one_read (make (take len bytes)) (drop len bytes)) ≡ one_read x rest → Takes (cut at len make) bytes x rest
-      by_case true is e = absurd (no_fault x rest _ (sym e))
-      by_case false is e =
-          let same = read_parts _ _ _ _ e in
-          let within : len ≤ length bytes = ltb-false _ _ is in
-          record {
-            front = take len bytes;
-            parts = subst (λ r. bytes ≡ take len bytes ++ r) same.1 (sym (take-append-drop len bytes));
-            spelled = (omega (arith, length-take len bytes), same.0);
-            rest_fits = tt;
-          }
+  is_taken : (limit : ℕ) (bytes : List ℕ) (x : A) (rest : List ℕ) → cut_at (cut_off at) len make limit bytes ≡ Ok (x, rest) → Takes (cut at len make) bytes x rest
+  is_taken limit bytes x rest e =
+      let taken = cut_takes (cut_off at) len make limit bytes x rest e in
+      record {
+        front = take len bytes;
+        parts = subst (λ r. bytes ≡ take len bytes ++ r) taken.2 (sym (take-append-drop len bytes));
+        spelled = (omega (arith, length-take len bytes, taken.0), taken.1);
+        rest_fits = tt;
+      }
 
-  cut_again : (front rest : List ℕ) (x : A) → (length front ≡ len) × (make front ≡ x) → cut_at at len make (front ++ rest) ≡ Ok (x, rest)
-  cut_again front rest x h =
-      let e = h.0 in
-      let long : ltb (length (front ++ rest)) len ≡ false = le-ltb _ _ (omega (arith, length-append front rest)) in
-      let whole : cut_at at len make (front ++ rest) ≡ one_read (make front) rest = rw (long, take_at front rest len e, drop_at front rest len e) refl in
-      whole ∙ ap (λ y. one_read y rest) h.1
-
-  cut_faults : (limit : ℕ) (bytes : List ℕ) (fault : CodeError) → cut_at at len make bytes ≡ Err fault → IsCut at len limit bytes fault
-  cut_faults limit bytes fault = by_case (ltb (length bytes) len) refl
-    where
-      by_case : (b : Bool) → ltb (length bytes) len ≡ b → cond b (Err (Cut at)) (one_read (make (take len bytes)) (drop len bytes)) ≡ Err fault → IsCut at len limit bytes fault
-      by_case true is e = let told : Cut at ≡ fault = cc in (ltb-true _ _ is, sym told)
-      by_case false is e = absurd (no_fault _ _ _ e)
-
-  cut_stops : (limit : ℕ) (bytes : List ℕ) (fault : CodeError) → IsCut at len limit bytes fault → cut_at at len make bytes ≡ Err fault
-  cut_stops limit bytes fault h = rw (lt-ltb _ _ h.0, h.1) refl
-
-  cut_is_read : IsRead (cut_at at len make) (cut at len make)
+  cut_is_read : IsRead (cut_at (cut_off at) len make 0) (cut at len make)
   cut_is_read = record {
-    takes = λ limit bytes x rest fits e. cut_takes bytes x rest e;
-    again = λ limit front rest x h. cut_again front rest x h;
-    faults = λ limit bytes fault fits e. cut_faults limit bytes fault e;
-    stops = cut_stops;
+    takes = λ limit bytes x rest fits e. is_taken limit bytes x rest e;
+    again = λ limit front rest x h. cut_again (cut_off at) len make limit front rest h.0 ∙ ap (λ y. one_read y rest) h.1;
+    faults = λ limit bytes fault fits e. cut_faults (cut_off at) len make limit bytes fault e;
+    stops = cut_stops (cut_off at) len make;
   }
 
 pub number_is_read : (at : ℕ) (w : Width) → IsRead (number_at at w) (number at w)

@@ -1,5 +1,5 @@
 -- Reading an instruction from left to right: what stands at the front of the bytes, and the bytes after it, or the first fault.
-use Rattle.std.specs.Prelude.{ℕ, Bool, List, [], ◌++◌, length, take, drop, map, Result, Ok, Err, ℤ, int_le, nat_lt, true, false, if◌then◌else◌}
+use Rattle.std.specs.Prelude.{ℕ, Bool, List, [], ◌++◌, map, Result, Ok, Err, ℤ, int_le, true, false, if◌then◌else◌}
 use Rattle.std.specs.Int.{Width, w8, w16, w32, byte_len, from_be_bytes, cast_signed}
 use Rattle.op_table.specs.declared.Form.{Form}
 use Rattle.op_table.specs.declared.Form.TheVariants as form
@@ -25,10 +25,10 @@ Gives = reading.Gives NoMemory
 -- ---- numbers
 
 unfoldable pub number_at : ℕ → Width → List ℕ → Read ℕ
-number_at at w bytes = if nat_lt (length bytes) (byte_len w) then Err (Cut at) else Ok (from_be_bytes w (take (byte_len w) bytes), drop (byte_len w) bytes)
+number_at at w bytes = reading.made_of_front (Cut at) (byte_len w) (from_be_bytes w) bytes
 
 unfoldable pub run_at : ℕ → ℕ → List ℕ → Read (List ℕ)
-run_at at len bytes = if nat_lt (length bytes) len then Err (Cut at) else Ok (take len bytes, drop len bytes)
+run_at at len bytes = reading.made_of_front (Cut at) len (λ run. run) bytes
 
 unfoldable pub signed_at : ℕ → Width → List ℕ → Read ℤ
 signed_at at w bytes = do

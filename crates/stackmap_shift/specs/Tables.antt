@@ -1,6 +1,6 @@
 -- Reading a table from left to right: the item at the front of the bytes and the bytes after it, or the first byte that breaks
 -- the grammar. A table that ends early is at fault where it ends.
-use Rattle.std.specs.Prelude.{ℕ, List, length, take, drop, Result, Ok, Err, nat_lt, ◌==◌, if◌then◌else◌}
+use Rattle.std.specs.Prelude.{ℕ, List, length, Result, Ok, Err, ◌==◌, if◌then◌else◌}
 use Rattle.std.specs.Int.{Width, w16, byte_len, from_be_bytes}
 use Rattle.byte_formats.specs.Reading as reading
 pub use Rattle.byte_formats.specs.Formats.{place}
@@ -19,7 +19,7 @@ Gives = reading.Gives NoMemory
 
 -- a big-endian number
 unfoldable pub number_at : Width → ℕ → List ℕ → Read ℕ
-number_at w limit bytes = if nat_lt (length bytes) (byte_len w) then Err (BadFrame limit) else Ok (from_be_bytes w (take (byte_len w) bytes), drop (byte_len w) bytes)
+number_at w limit bytes = reading.made_of_front (BadFrame limit) (byte_len w) (from_be_bytes w) bytes
 
 -- items behind a u2 that counts them
 unfoldable pub counted_at : {A : Type 0} → (ℕ → List ℕ → Read A) → ℕ → List ℕ → Read (List A)
