@@ -56,7 +56,7 @@ one_fault most at (byte ∷ bytes) fault some e = ap (λ r. r >>= λ first. inst
 -- what is left behind an instruction are the bytes from its end on
 left_behind : (bytes : List ℕ) (at : ℕ) (i : Instr) (rest : List ℕ) → read_instruction at (drop at bytes) ≡ Ok (i, rest) → rest ≡ drop (end_of i) bytes
 left_behind bytes at i rest e =
-    let t = (instruction_is_read at).takes (drop at bytes) i rest e in
+    let t = (instruction_is_read at).takes (length bytes) (drop at bytes) i rest tt e in
     let ends = rest-instruction_at bytes at i rest e in
     let within = instruction_at_within bytes at i (instruction_at-read bytes at i rest e) in
     let parts = ap length t.parts in
