@@ -4,7 +4,7 @@ use Rattle.std.specs.Prelude.{filter_map, is_some, nat_lt, ◌&&◌, ◌||◌, �
 use Rattle.std.specs.List.{AllByRecursion, cons_option, list_all}
 use Rattle.std.specs.Option.{option_and_then, option_map_or, option_to_list}
 use Rattle.std.proofs.Math.Nat.{add-zero}
-use Rattle.std.proofs.lemmas.Bool.{eq-eqb, ltb-true, or_cases}
+use Rattle.std.proofs.lemmas.Bool.{and_parts, eq-eqb, ltb-true, or_cases}
 use Rattle.std.proofs.lemmas.List.{length-append}
 use Rattle.std.proofs.lemmas.Option.{same_Some, none-some, option_and_then_some}
 use Rattle.const_pool.specs.declared.class.ClassFile.{ClassFile}
@@ -104,7 +104,7 @@ number-place : (n class at : ℕ) (places : List MethodPlace) (k j : ℕ) → nu
 number-place n class at [] k j e is = absurd (none-some k e)
 number-place n class at (x ∷ places) k zero e is = by (same_place class at x) refl e where
   by : (b : Bool) → same_place class at x ≡ b → cond b (Some n) (number_from (n + 1) class at places) ≡ Some k → HasPlace class (x ∷ places) zero
-  by true same e = record { place = x; there = refl; of_class = eqb-true x.class class (FitFiles.both (x.class == class) (x.position == at) same).0 }
+  by true same e = record { place = x; there = refl; of_class = eqb-true x.class class (and_parts (x.class == class) (x.position == at) same).0 }
   by false other e = absurd (let less = number-past (n + 1) class at places k e in omega (arith, less, is))
 number-place n class at (x ∷ places) k (suc j) e is = by (same_place class at x) (λ e. number-place (n + 1) class at places k j e (omega (arith, is))) e where
   by : (b : Bool) → (number_from (n + 1) class at places ≡ Some k → HasPlace class places j) → cond b (Some n) (number_from (n + 1) class at places) ≡ Some k → HasPlace class (x ∷ places) (suc j)
@@ -117,7 +117,7 @@ each-built : (files : List ClassFile) (names : List (List ℕ)) (p : Program) �
     → list_all (λ name. is_some (position (has_name name) files)) names ≡ true → AllByRecursion (IsBuiltIn p) names
 each-built files [] p found e = tt
 each-built files (name ∷ names) p found e =
-    let parts = FitFiles.both (is_some (position (has_name name) files)) (list_all (λ name. is_some (position (has_name name) files)) names) e in
+    let parts = and_parts (is_some (position (has_name name) files)) (list_all (λ name. is_some (position (has_name name) files)) names) e in
     (by (position (has_name name) files) refl parts.0, each-built files names p found parts.1)
   where
     by : (o : Option ℕ) → position (has_name name) files ≡ o → is_some o ≡ true → IsBuiltIn p name
@@ -127,7 +127,7 @@ each-built files (name ∷ names) p found e =
 needs-split : {A : Type 0} (test : A → Bool) (xs ys : List A) → list_all test (xs ++ ys) ≡ true → (list_all test xs ≡ true) × (list_all test ys ≡ true)
 needs-split test [] ys e = (refl, e)
 needs-split test (x ∷ xs) ys e =
-    let parts = FitFiles.both (test x) (list_all test (xs ++ ys)) e in
+    let parts = and_parts (test x) (list_all test (xs ++ ys)) e in
     let more = needs-split test xs ys parts.1 in
     (ap (λ b. b && list_all test xs) parts.0 ∙ more.0, more.1)
 
@@ -247,14 +247,14 @@ module _ (classes : List ClassFile) (name : List ℕ) (p : Program) (fine : clas
       → AllByRecursion (IsLoaded (shared_before p).loaded) (option_to_list (option_and_then (class_named p) o))
   supers at None few e = tt
   supers at (Some above) few e =
-      let needed = needed-loaded at (need false above) few (FitFiles.both (is_before built_in_files at (need false above)) true e).0 in
+      let needed = needed-loaded at (need false above) few (and_parts (is_before built_in_files at (need false above)) true e).0 in
       subst (λ o. AllByRecursion (IsLoaded (shared_before p).loaded) (option_to_list o)) (sym needed.1) (needed.2, tt)
 
   interfaces : (at : ℕ) (ns : List (List ℕ)) → at ≤ 53 → list_all (is_before built_in_files at) (map (need true) ns) ≡ true
       → AllByRecursion (IsLoaded (shared_before p).loaded) (filter_map (class_named p) ns)
   interfaces at [] few e = tt
   interfaces at (x ∷ ns) few e =
-      let parts = FitFiles.both (is_before built_in_files at (need true x)) (list_all (is_before built_in_files at) (map (need true) ns)) e in
+      let parts = and_parts (is_before built_in_files at (need true x)) (list_all (is_before built_in_files at) (map (need true) ns)) e in
       let needed = needed-loaded at (need true x) few parts.0 in
       by (class_named p x) needed.1 needed.2 (interfaces at ns few parts.1)
     where

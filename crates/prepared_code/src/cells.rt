@@ -81,6 +81,7 @@ fn add_row(
 }
 
 /// Makes so many rows that there is one of a version.
+#[tactic(auto, using(crate::proofs::Lines::CellLemmas::cell_more))]
 fn add_rows(
     alloc: Global,
     rows: &mut Vec<Seq<Option<Known>>>,
