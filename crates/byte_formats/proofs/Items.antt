@@ -1,5 +1,5 @@
--- What it is to read a format: what is read is spelled so, what is spelled so is read, whatever follows it, and the faults
--- are those of the format.
+-- What it is to read a format: what is read is spelled so, what is spelled so is read, whatever
+-- follows it, and the faults are those of the format.
 use Rattle.std.proofs.Common.{◌≡◌, ℕ, ◌⊎◌, inl, inr, List, ◌++◌, Result, Ok, Err, refl, sym, ap, ◌∙◌}
 use Rattle.byte_formats.specs.Formats.{Format}
 use Rattle.byte_formats.specs.Reading.{◌>>=◌, Read}

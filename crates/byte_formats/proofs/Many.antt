@@ -3,7 +3,8 @@ use Rattle.std.proofs.Common.{◌≡◌, ◌≢◌, ℕ, suc, ◌-◌, ◌+◌, 
 use Rattle.std.proofs.lemmas.List.{append-nil}
 use Rattle.byte_formats.specs.Reading.{◌>>=◌, Read, many_at, with_front}
 
--- What is made of the items that were read before and of those that are still read. It takes up items one by one.
+-- What is made of the items that were read before and of those that are still read. It takes up
+-- items one by one.
 module _ {E A F B : Type 0} (item : List ℕ → Read E A) (with : F → Read E (List A) → Read E B)
     (more : F → A → F)
     (takes_up : (front : F) (x : A) (read : Read E (List A))

@@ -1,9 +1,10 @@
--- Formats: which bytes spell a value, and with which fault bytes go wrong first. What stands before a fault is well
--- formed. The faults are of any type: each crate that has formats says its own, and its own numbers and runs of bytes.
+-- Formats: which bytes spell a value, and with which fault bytes go wrong first. What stands before
+-- a fault is well formed. The faults are of any type: each crate that has formats says its own, and
+-- its own numbers and runs of bytes.
 use Rattle.std.specs.Prelude.{◌≡◌, ℕ, zero, suc, ◌-◌, ◌<◌, ◌⊎◌, Bool, true, false, List, [], ◌∷◌, ◌++◌, length, Option, Some, None, if◌then◌else◌}
 
--- `Spells text value`: the text is the value's bytes. `Faults limit bytes fault`: the bytes, which end at the offset `limit`,
--- begin with no such text, and this is the first fault in them.
+-- `Spells text value`: the text is the value's bytes. `Faults limit bytes fault`: the bytes, which
+-- end at the offset `limit`, begin with no such text, and this is the first fault in them.
 pub record Format (E A : Type 0) : Type 1 where
   pub Spells : List ℕ → A → Type 0
   pub Faults : ℕ → List ℕ → E → Type 0
@@ -12,7 +13,7 @@ pub record Format (E A : Type 0) : Type 1 where
 abbrev pub place : ℕ → List ℕ → ℕ
 place limit bytes = limit - length bytes
 
--- so many bytes are not there: the fault is that of the offset of the item, which does not fit
+-- so many bytes are not there: the fault is that of the item's offset
 abbrev pub IsCut : {E : Type 0} → (ℕ → E) → ℕ → ℕ → List ℕ → E → Type 0
 IsCut cut len limit bytes fault = (length bytes < len) × (fault ≡ cut (place limit bytes))
 
@@ -60,7 +61,8 @@ pub record IsConverted {E A B : Type 0} (P : Format E A) (convert : A → Option
   pub spelled : P.Spells text x
   pub made : convert x ≡ Some y
 
--- The bytes begin with a text from which no value is made. The fault is told by the offset and by what is spelled there.
+-- The bytes begin with a text from which no value is made. The fault is told by the offset and by
+-- what is spelled there.
 pub record IsRefused {E A B : Type 0} (P : Format E A) (convert : A → Option B) (why : ℕ → A → E) (limit : ℕ) (bytes : List ℕ) (fault : E) : Type 0 where
   pub front : List ℕ
   pub rest : List ℕ

@@ -1,4 +1,5 @@
--- Reading from left to right: the item at the front of the bytes and the bytes after it, or the first fault.
+-- Reading from left to right: the item at the front of the bytes and the bytes after it, or the
+-- first fault.
 use Rattle.std.specs.Prelude.{◌≡◌, ◌≢◌, ℕ, zero, suc, List, [], ◌∷◌, ◌++◌, length, take, drop, Result, Ok, Err, nat_lt, if◌then◌else◌}
 use Rattle.std.specs.Borrow.{Bor}
 
@@ -11,7 +12,8 @@ abbrev pub ◌>>=◌ : {E A B : Type 0} → Result A E → (A → Result B E) �
 abbrev pub Read : Type 0 → Type 0 → Type 0
 Read E A = Result (A × List ℕ) E
 
--- What a function returned, seen by view, is what reading gives, unless the fault is that of want of memory.
+-- What a function returned, seen by view, is what reading gives, unless its fault is this one: that
+-- memory ran out.
 abbrev pub Gives : {E X Y : Type 0} → E → (X → Y) → Result X E → Result Y E → Type 0
 Gives want view (Ok x) read = read ≡ Ok (view x)
 Gives want view (Err e) read = e ≢ want → read ≡ Err e

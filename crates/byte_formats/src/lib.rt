@@ -1,5 +1,5 @@
-//! Formats of bytes, and how they are read from left to right: what the class file, the instructions and the tables of a
-//! method have in common. Which faults there are is left to those who use it.
+//! Formats of bytes, and how they are read from left to right: what the class file, instructions
+//! and a method's tables have in common. Which faults there are is left to those who use it.
 #![tactic(auto)]
 
 ghost use Rattle.std.specs.Prelude.{◌≡◌};

@@ -1,6 +1,6 @@
--- The formats of the class file's items: their numbers, runs of bytes and texts, and contents with their length. A fault of
--- theirs is told where it stands. How formats are put together is in byte_formats, and the formats of the class file's parts are
--- in ClassFormat.
+-- The formats of the class file's items: numbers, runs of bytes and texts, and contents with their
+-- length. A fault of theirs is told where it stands. How formats are put together is in
+-- byte_formats, and the formats of the class file's parts are in ClassFormat.
 use Rattle.std.specs.Prelude.{◌≡◌, ℕ, ◌*◌, ◌^◌, ◌<◌, ◌≤◌, ◌⊎◌, List, ◌++◌, length, take, drop}
 use Rattle.std.specs.List.{AllByRecursion}
 use Rattle.std.specs.Int.{Width, w32, byte_len, to_be_bytes}

@@ -1,5 +1,5 @@
--- The formats of an instruction's numbers and runs of bytes. Each fault of an instruction is told at its opcode, whose offset is
--- `at`. How formats are put together is in byte_formats.
+-- The formats of an instruction's numbers and runs of bytes. Each fault of an instruction is told at
+-- its opcode, whose offset is `at`. How formats are put together is in byte_formats.
 use Rattle.std.specs.Prelude.{◌≡◌, ℕ, Bool, List, length}
 use Rattle.std.specs.Int.{Width, byte_len, from_be_bytes}
 use Rattle.byte_formats.specs.Formats as formats
