@@ -1,26 +1,21 @@
 -- What the code finds of a throw that the caller of the current frame catches.
 use Rattle.std.proofs.Common.{◌≡◌, ◌≢◌, ℕ, ◌+◌, ◌-◌, Bool, true, false, List, [], ◌∷◌, length, Option, Some, None, sym, ap, ◌∙◌, arith}
-use Rattle.std.specs.Prelude.{nat_le, slice_get, if◌then◌else◌}
-use Rattle.jvm_model.specs.Basis.Descriptors.{same_text}
-use Rattle.std.specs.Option.{IfSome, option_and_then, option_map_or}
+use Rattle.std.specs.Prelude.{nat_le, if◌then◌else◌}
+use Rattle.std.specs.Option.{IfSome}
 use Rattle.std.proofs.lemmas.Bool.{false≢true}
 use Rattle.std.proofs.lemmas.Bool.{ne_eqb}
-use Rattle.std.proofs.lemmas.Slice.Eq.{bytes_eq-Decides}
 use Rattle.std.proofs.lemmas.Option.{none-some, same_Some}
-use Rattle.const_pool.specs.declared.class.ClassFile.{ClassFile}
 use Rattle.heap_objects.specs.declared.Value.TheVariants.{Ref}
 use Rattle.frame_stack.specs.FrameLists.{FramesView, PlacedFrame, can_give, caller_of, result_given, with_given}
 use Rattle.frame_stack.specs.Widths.{height_of}
 use Rattle.heap_objects.specs.Changes.{changed_if}
 use Rattle.jvm_model.specs.declared.event.Mark.TheVariants.{Off}
-use Rattle.jvm_model.specs.declared.program.Program.{Program}
 use Rattle.jvm_model.specs.declared.state.Shared.{Shared}
 use Rattle.jvm_model.specs.Basis.Data.{Breaks, Raises, Throws, World}
 use Rattle.jvm_model.specs.Instructions.ObjectRules.{throws}
 use Rattle.jvm_model.specs.Basis.SharedState.{class_of, null_pointer, throwable}
-use Rattle.jvm_model.specs.Classes.Lookup.{is_below, is_subtype}
+use Rattle.jvm_model.specs.Classes.Lookup.{is_below}
 use Rattle.jvm_model.specs.Running.Moves.{handler_for}
-use Rattle.jvm_model.specs.Basis.Programs.{class_named, has_name, name_at, name_of}
 use Rattle.prepared_code.specs.declared.initializations.Initialization.{Initialization}
 use Rattle.prepared_code.specs.declared.parts.Here.{Here}
 use Rattle.activations.specs.Catching.{caller_target, caught_back, fits_caught, CatchesBelow}
@@ -31,18 +26,6 @@ use Rattle.prepared_code.specs.Initializations.{initialization_on}
 use Rattle.prepared_code.specs.Versions.{mark_of}
 use Rattle.std.proofs.Common.{refl}
 use Rattle.std.specs.Prelude.{is_some}
-
--- ---- a class below another one that has this name, where each name stands for the class that has it
-
-named-so : (name : List ℕ) (o : Option (List ℕ)) → option_map_or (same_text name) o false ≡ true → o ≡ Some name
-named-so name None is = absurd (false≢true is)
-named-so name (Some found) is = ap Some (sym ((bytes_eq-Decides name found).0 is))
-
-pub named-below : (p : Program) (name : List ℕ) (class upper : ℕ) (file : ClassFile) → ((class : ℕ) (name : List ℕ) → name_at p class ≡ Some name → class_named p name ≡ Some class)
-    → slice_get p.classes upper ≡ Some file → has_name name file ≡ true → is_subtype p class upper ≡ true → is_below p class name ≡ true
-named-below p name class upper file names stands has below =
-    let at : name_at p upper ≡ Some name = ap (option_and_then name_of) stands ∙ named-so name (name_of file) has in
-    ap (λ o. option_map_or (is_subtype p class) o false) (names upper name at) ∙ below
 
 -- ---- where the caller goes on
 
@@ -86,12 +69,12 @@ caught-given b r target old mid new on given_is alone fits =
 
 -- ---- what an athrow throws
 
-pub throws-so : (w : World) (s : Shared) (o : Option ℕ) (r class : ℕ) → o ≡ Some r → r ≢ 0 → class ≡ class_of w.program s r → is_below w.program class throwable ≡ true
+pub throws-so : (w : World) (s : Shared) (o : Option ℕ) (r : ℕ) → o ≡ Some r → r ≢ 0 → is_below w.program (class_of w.program s r) throwable ≡ true
     → throws w s o ≡ Throws r
-throws-so w s o r class is some same below =
+throws-so w s o r is some below =
     ap (throws w s) is
     ∙ (ap (λ b. if b then Raises null_pointer None else if is_below w.program (class_of w.program s r) throwable then Throws r else Breaks false) (ne_eqb r 0 some)
-    ∙ ap (λ b. if b then Throws r else Breaks false) (ap (λ k. is_below w.program k throwable) (sym same) ∙ below))
+    ∙ ap (λ b. if b then Throws r else Breaks false) below)
 
 pub not-some : {A : Type 0} (o : Option A) → is_some o ≡ false → o ≡ None
 not-some None e = refl

@@ -6,6 +6,5 @@ pub mod Callees
 pub mod ConcludedOutcomes
 pub mod Passages
 pub mod CatchLemmas
-pub mod Above
 pub mod MovesCarried
 pub mod TurnsCarried

@@ -1,6 +1,5 @@
 -- A move of frames is the same beneath their initializations: what it changes, and what is due by it.
 use Rattle.std.proofs.Common.{◌≡◌, ℕ, suc, Bool, List, [], ◌∷◌, ◌++◌, length, map, Option, Some, None, refl, sym, ap, ap₂, subst, ◌∙◌}
-use Rattle.std.proofs.lemmas.Option.{none-some}
 use Rattle.std.specs.Prelude.{drop, is_some, IfOk, Result}
 use Rattle.frame_stack.specs.FrameLists.{FramesView, PlacedFrame, rest_of, without_frame}
 use Rattle.jvm_model.specs.declared.ending.Ending.{Ending}
@@ -19,12 +18,11 @@ use Rattle.jvm_model.specs.Basis.SharedState.{class_of}
 use Rattle.jvm_model.specs.Turns.Told.{Held, held_by, helds, mark_now}
 use Rattle.jvm_model.specs.Turns.Pauses.{changes_due}
 use Rattle.prepared_code.specs.declared.initializations.Initialization.{Initialization}
-use Rattle.prepared_code.specs.declared.parts.Here.{Here}
 use Rattle.prepared_code.specs.declared.parts.Parts.{Parts}
 use Rattle.prepared_code.specs.Initializations.{initializing_entry, initialization_on, above, beneath, stack_of, state_of, with_initializations}
 use Rattle.activations.specs.Settling.{after_move}
 use Rattle.activations.specs.declared.turning.Moved.{Moved}
-use Rattle.prepared_code.specs.States.{active, frame_in, here_of, state_in}
+use Rattle.prepared_code.specs.States.{active, frame_in, state_in}
 use Rattle.activations.specs.Turning.{changes_of, due_by, found_move, moved_as, moved_if, moved_to, state_by}
 use Rattle.prepared_code.specs.Versions.{Setup, listing_of, mark_of}
 use Rattle.activations.proofs.MovesCarried.{IsCarried, move-carried}
@@ -122,16 +120,20 @@ module _ (ms : List Initialization) (w : Setup) (p : Parts) (none : initializati
   pub carried-as : {A : Type 0} (result : Result Moved A) → IfOk result (λ m. m ≡ moved_as w (state_in p)) → IfOk result (λ m. m ≡ moved_as w (state_of ms p))
   carried-as result e = subst (λ x. IfOk result (λ m. m ≡ x)) moved-as-carried e
 
--- ---- the current frame is taken off
+-- ---- what stands on top is taken off
+
+bare : (ms : List Initialization) → initialization_on 0 ms ≡ None → map initializing_entry ms ≡ drop 1 (map initializing_entry ms)
+bare ms none = subst (λ all. map initializing_entry all ≡ drop 1 (map initializing_entry all)) (sym (none-left ms none)) refl
 
 module _ (ms : List Initialization) (p : Parts) (new : FramesView) where
-  popped-by : (fs : List PlacedFrame) (room : Option ℕ) (here : Here) → here_of fs ≡ Some here → initialization_on (length fs) ms ≡ None
+  popped-by : (fs : List PlacedFrame) (room : Option ℕ) → initialization_on (length fs) ms ≡ None
       → stack_of (map active (rest_of fs room).frames) ms ≡ drop 1 (stack_of (map active fs) ms)
-  popped-by [] room here some none = absurd (none-some here some)
-  popped-by (f ∷ fs) room here some none = sym (ap (drop 1) (top-frame ms f fs none))
+  unfolding stack_of
+  popped-by [] room none = bare ms none
+  popped-by (f ∷ fs) room none = sym (ap (drop 1) (top-frame ms f fs none))
 
-  pub popped-there : (here : Here) → here_of p.frames.frames ≡ Some here → initialization_on (length p.frames.frames) ms ≡ None → new ≡ without_frame p.frames
+  pub popped-there : initialization_on (length p.frames.frames) ms ≡ None → new ≡ without_frame p.frames
       → state_of ms (record p { frames = new }) ≡ frame_popped (state_of ms p)
-  popped-there here some none left =
+  popped-there none left =
       ap (λ (x : FramesView). state_of ms (record p { frames = x })) left
-      ∙ ap (λ es. record (state_of ms p) { stack = es }) (popped-by p.frames.frames p.frames.room here some none)
+      ∙ ap (λ es. record (state_of ms p) { stack = es }) (popped-by p.frames.frames p.frames.room none)

@@ -10,7 +10,7 @@ ghost use Rattle.member_selection.specs.Outcomes.{HasOperands, outcome_in_frame}
 ghost use Rattle.member_selection.specs.declared.outcome.Outcome.TheVariants.{Goes};
 ghost use Rattle.activations.specs.Applied.{IsTop, acts_asked, on_parts, raised_in};
 ghost use Rattle.activations.specs.TakenArguments.{TakesArguments};
-ghost use Rattle.prepared_code.specs.Linked.{setup_in};
+ghost use Rattle.prepared_code.specs.Originals.{setup_in};
 ghost use Rattle.prepared_code.specs.States.{state_in};
 
 use crate::invoking::call;

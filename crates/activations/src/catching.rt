@@ -4,51 +4,27 @@
 ghost use Rattle.std.specs.Prelude.{◌≡◌, true, IfSome, Some};
 ghost use Rattle.frame_stack.specs.FrameLists.{top_operands};
 ghost use Rattle.jvm_model.specs.Basis.Data.{Throws};
-ghost use Rattle.jvm_model.specs.Classes.Lookup.{is_below};
 ghost use Rattle.jvm_model.specs.Instructions.ObjectRules.{throws};
-ghost use Rattle.jvm_model.specs.Basis.SharedState.{throwable};
 ghost use Rattle.jvm_model.specs.Basis.Values.{ref_of};
 ghost use Rattle.jvm_model.specs.declared.event.Mark.TheVariants.{Off};
 ghost use Rattle.activations.specs.Catching.{CatchesBelow, caught_if, fits_caught};
-ghost use Rattle.prepared_code.specs.Linked.{setup_in};
-ghost use Rattle.jvm_model.specs.Soundness.Sound.{IsFit};
+ghost use Rattle.prepared_code.specs.Originals.{setup_in};
+ghost use Rattle.class_linker.specs.Linkers.{IsLoaded};
+ghost use Rattle.symbolic_references.specs.Runtimes.{linker_in};
 
-use crate::handlers::{class_of, handler_for};
+use crate::handlers::handler_for;
+use crate::objects::is_throwable;
 use crate::settling::put_alone;
-use crate::supertypes::is_subtype;
 use frame_stack::Frames;
 use heap_objects::Value;
 use jf_bytes::Stack;
 use jvm_basic::{recall, ref_of};
 use jvm_model::Mark;
 use prepared_code::{Here, Initialization, Originals, initialization_on};
-use prepared_lines::has_bytes;
 use symbolic_references::Runtime;
-
-/// How many classes of a program stand from java/lang/Throwable on.
-const FROM_THROWABLE: usize = 33;
-
-/// Whether a class is java/lang/Throwable, where that stands in its place, or below it.
-fn is_throwable(runtime: &Runtime, class: usize) -> bool
-    requires { IsFit runtime.now.world.program }
-    ensures { result ≡ true → is_below runtime.now.world.program class throwable ≡ true }
-{
-    let program = runtime.program();
-    let Some(upper) = program.classes.len().checked_sub(FROM_THROWABLE) else {
-        return false;
-    };
-    let Some(file) = program.classes.get(upper) else {
-        return false;
-    };
-    if !has_bytes(b"java/lang/Throwable", file) {
-        return false;
-    }
-    is_subtype(runtime.linker(), class, upper)
-}
 
 /// The object on top, where an athrow throws it.
 pub fn thrown_object(runtime: &Runtime, frames: &Frames) -> Option<u32>
-    requires { IsFit runtime.now.world.program }
     ensures { let w = runtime.now.world in let o = top_operands frames.now.frames in
         IfSome result (λ object. throws w runtime.now.shared (ref_of o) ≡ Throws object) }
 {
@@ -58,8 +34,7 @@ pub fn thrown_object(runtime: &Runtime, frames: &Frames) -> Option<u32>
     if object == 0 {
         return None;
     }
-    let class = class_of(runtime, object) as usize;
-    if !is_throwable(runtime, class) {
+    if !is_throwable(runtime, object) {
         return None;
     }
     Some(object)
@@ -86,8 +61,9 @@ pub fn caught_below(
     frames: &Frames,
     initializing: &Stack<Initialization>,
     here: Here,
-    class: usize,
+    class: u32,
 ) -> Option<u16>
+    requires { IsLoaded (linker_in runtime.now) class }
     ensures { let w = setup_in runtime.now originals.now in IfSome result
         (λ target. CatchesBelow w initializing.now here frames.now.frames class target) }
 {

@@ -11,7 +11,6 @@ use frame_stack::Frames;
 use heap_objects::{Datum, Value};
 use jvm_basic::{Effect, go_on, put, recall, value_of};
 use member_selection::datum_of;
-use prepared_lines::{Action, Line};
 
 /// Goes on as it is.
 fn keep(frames: &mut Frames, next: u16) -> Effect

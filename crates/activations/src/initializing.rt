@@ -3,24 +3,22 @@
 ghost use Rattle.std.specs.Prelude.{◌≡◌, suc, [], true, None, length, IfOk, OnOk};
 ghost use Rattle.jvm_model.specs.Running.Applies.{new_frame, with_frame};
 ghost use Rattle.jvm_model.specs.Running.Constants.{sets_constants};
-ghost use Rattle.jvm_model.specs.Classes.Lookup.{is_below};
 ghost use Rattle.jvm_model.specs.Running.Moves.{after_super, initializes, runs_initializer};
 ghost use Rattle.jvm_model.specs.Running.Moves.{with_constants, with_super, throw_wrapped};
 ghost use Rattle.jvm_model.specs.Basis.Programs.{initializer_of, super_of};
-ghost use Rattle.jvm_model.specs.Basis.SharedState.{class_of, error, phase_of};
+ghost use Rattle.jvm_model.specs.Basis.SharedState.{phase_of};
 ghost use Rattle.activations.specs.Initializing.{begins_class, failing};
 ghost use Rattle.activations.specs.Invoking.{may_begin};
 ghost use Rattle.activations.specs.Turning.{begun_in};
 ghost use Rattle.prepared_code.specs.Initializations.{initialization_on, state_of};
 ghost use Rattle.prepared_code.specs.Versions.{listing_of};
-ghost use Rattle.prepared_code.specs.Linked.{setup_in};
+ghost use Rattle.prepared_code.specs.Originals.{setup_in};
 ghost use Rattle.symbolic_references.specs.Runtimes.{with_shared};
 
 use crate::entering::enter;
-use crate::handlers::class_of;
 use crate::invoking::{may_begin, raise_unusable};
+use crate::objects::is_error;
 use crate::raising::raise;
-use crate::supertypes::is_below_bytes;
 use jf_bytes::{NoMemory, Stack};
 use jvm_model::{Exception, Part, Phase};
 use prepared_code::{Initialization, Originals, Parts, put_initialization};
@@ -43,15 +41,6 @@ pub fn initialize(
 }
 
 // ---- a throw meets an initialization
-
-/// Whether an object is an Error.
-fn is_error(runtime: &Runtime, object: u32) -> bool
-    ensures { let p = runtime.now.world.program in
-        result ≡ is_below p (class_of p runtime.now.shared object) error }
-{
-    let class = class_of(runtime, object) as usize;
-    is_below_bytes(runtime.linker(), class, b"java/lang/Error")
-}
 
 /// What is thrown on: an Error itself, or an ExceptionInInitializerError with the object as its
 /// cause.

@@ -10,7 +10,7 @@ ghost use Rattle.activations.specs.Arguments.{can_begin, with_begun};
 ghost use Rattle.activations.specs.Arguments.{taken_slots};
 ghost use Rattle.activations.specs.Invoking.{method_called, may_begin};
 ghost use Rattle.prepared_code.specs.States.{state_in};
-ghost use Rattle.prepared_code.specs.Linked.{setup_in};
+ghost use Rattle.prepared_code.specs.Originals.{setup_in};
 
 use crate::asking::raise_named;
 use crate::entering::enter;

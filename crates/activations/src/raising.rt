@@ -10,9 +10,6 @@ use jvm_model::{Ending, Exception};
 use prepared_code::{Here, Originals, Parts};
 use std::alloc::Global;
 
-/// The object that is thrown where an exception does not fit into the heap.
-pub const RESERVED: u32 = 1;
-
 /// Ends the run at this offset of the method; the frame stays as it was.
 pub fn break_off(parts: &mut Parts, method: u32, own: u16)
     ensures { parts.new ≡ run_ended method own parts.old }

@@ -6,7 +6,7 @@ ghost use Rattle.activations.specs.Applied.{IsTop, acts_end, acts_return, gives_
 ghost use Rattle.activations.specs.Applied.{on_parts};
 ghost use Rattle.activations.specs.Returning.{gives_back_by, has_result, left_by, returns_given};
 ghost use Rattle.prepared_code.specs.States.{state_in};
-ghost use Rattle.prepared_code.specs.Linked.{setup_in};
+ghost use Rattle.prepared_code.specs.Originals.{setup_in};
 
 use crate::going::{resume, top_datum};
 use crate::raising::{break_off, end_unless};
@@ -104,7 +104,8 @@ pub fn return_by(
 ) -> Result<(), NoMemory>
     requires top { IsTop method parts.old.frames.frames }
     ensures state { OnOk result (state_in parts.new
-        ≡ on_parts (acts_return (setup_in parts.old.runtime originals.now) line.now kind) parts.old) }
+        ≡ on_parts (acts_return (setup_in parts.old.runtime originals.now) line.now kind)
+        parts.old) }
     ensures runtime { parts.new.runtime ≡ parts.old.runtime }
 {
     match kind {

@@ -11,7 +11,7 @@ ghost use Rattle.activations.specs.Settling.{frame_emptied, fits_alone, with_alo
 ghost use Rattle.activations.specs.Settling.{caught_at, main_entries};
 ghost use Rattle.activations.specs.Turning.{begun_in};
 ghost use Rattle.prepared_code.specs.Versions.{listing_of};
-ghost use Rattle.prepared_code.specs.Linked.{setup_in};
+ghost use Rattle.prepared_code.specs.Originals.{setup_in};
 
 use crate::entering::enter;
 use crate::initializing::{fail, go_on};
@@ -58,7 +58,8 @@ pub fn go_to_handler(
 ) -> Result<(), NoMemory>
     requires { here_of parts.old.frames.frames ≡ Some here }
     ensures state { OnOk result (state_in parts.new ≡
-        caught_at (setup_in parts.old.runtime originals.now) object target parts.old.frames.frames parts.old) }
+        caught_at (setup_in parts.old.runtime originals.now) object target
+        parts.old.frames.frames parts.old) }
     ensures world { parts.new.runtime.world ≡ parts.old.runtime.world }
     ensures same_loaded { parts.new.runtime.shared.loaded ≡ parts.old.runtime.shared.loaded }
 {

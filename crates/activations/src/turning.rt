@@ -9,9 +9,10 @@ ghost use Rattle.prepared_code.specs.States.{here_of, state_in};
 ghost use Rattle.activations.specs.Turning.{begun_as, moved_as, moved_by, moved_to};
 ghost use Rattle.activations.specs.Turning.{unwind_due, unwound_by};
 ghost use Rattle.prepared_code.specs.Versions.{mark_of};
-ghost use Rattle.prepared_code.specs.Linked.{setup_in};
+ghost use Rattle.prepared_code.specs.Originals.{setup_in};
 
-use crate::handlers::{class_of, handler_for};
+use crate::handlers::handler_for;
+use crate::objects::class_of;
 use crate::settling::{begin_main, go_to_handler, move_initialization};
 use frame_stack::Frames;
 use jf_bytes::{NoMemory, Stack};
@@ -99,7 +100,7 @@ fn meet_frame(
     ensures world { parts.new.runtime.world ≡ parts.old.runtime.world }
     ensures same_loaded { parts.new.runtime.shared.loaded ≡ parts.old.runtime.shared.loaded }
 {
-    let class = class_of(&parts.runtime, object) as usize;
+    let class = class_of(&parts.runtime, object);
     match handler_for(originals, &parts.runtime, here.version, class, here.place) {
         Some(target) => {
             go_to_handler(alloc, originals, parts, object, here, target)?;

@@ -1,7 +1,26 @@
-//! The places of built-in classes that rules speak of, in the order of the table.
+//! The places of built-in classes that rules speak of, in the order of the table, and the numbers of
+//! native methods.
 
 /// How many built-in classes there are.
 pub const BUILT_IN_CLASSES: u16 = 53;
+
+pub const CLONEABLE: u16 = 1;
+
+pub const CLASS: u16 = 6;
+
+pub const STRING: u16 = 7;
+
+pub const INTEGER: u16 = 14;
+
+pub const LONG: u16 = 15;
+
+pub const CHARACTER: u16 = 16;
+
+pub const BOOLEAN: u16 = 17;
+
+pub const ENUM: u16 = 19;
+
+pub const THROWABLE: u16 = 20;
 
 pub const CLONE_NOT_SUPPORTED_EXCEPTION: u16 = 24;
 
@@ -32,3 +51,9 @@ pub const NO_SUCH_FIELD_ERROR: u16 = 49;
 pub const NO_SUCH_METHOD_ERROR: u16 = 50;
 
 pub const OUT_OF_MEMORY_ERROR: u16 = 51;
+
+/// How many native methods there are.
+pub const NATIVE_METHODS: u16 = 265;
+
+/// The number of System.arraycopy.
+pub const ARRAYCOPY: u16 = 79;

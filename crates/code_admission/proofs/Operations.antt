@@ -40,6 +40,7 @@ use Rattle.code_admission.specs.Texts.{dimensions_of, is_class_name}
 use Rattle.code_admission.specs.Uses.{fits_pool, fits_type, fits_use, is_loadable, is_wide_constant, named_dimensions, pool_use}
 use Rattle.code_admission.proofs.ArrayNames.{class-dimensions}
 use Rattle.jvm_model.proofs.Soundness.PoolTexts.{HaveTexts}
+use Rattle.jvm_model.specs.Instructions.ObjectRules.{array_kind}
 
 -- ---- opcodes, by the form of their operand
 
@@ -186,7 +187,7 @@ mapped-there f (Some x) e = refl
 
 -- a symbolic reference whose dimensions are as they have to be
 there : (n : SymbolicReference) → has_dimensions n ≡ true → is_some (named_by n) ≡ true
-there n h = ap (λ b. is_some (cond b (Some (Named n)) None)) h
+there n h = ap (λ b. let o : Option (Operation Local) = cond b (Some (Named n)) None in is_some o) h
 
 named-there : {A : Type 0} (make : A → SymbolicReference) (o : Option A) → ((x : A) → o ≡ Some x → has_dimensions (make x) ≡ true) → is_some o ≡ true → is_some (option_and_then named_by (option_map make o)) ≡ true
 named-there make None each e = e
@@ -272,7 +273,7 @@ module _ (c : ClassFile) (named : is_some (name_of c) ≡ true) where
 
   array-there : (op code : ℕ) → (op == 188) ≡ true → is_in_range 4 11 code ≡ true → is_some (newarray_of op code) ≡ true
   array-there op code same type =
-      let made : Option Operation = Some (Newarray code) in
+      let made : Option (Operation Local) = Some (Newarray (array_kind code)) in
       ap (λ a. is_some (cond (a && is_in_range 4 11 code) made None)) same ∙ ap (λ b. is_some (cond b made None)) type
 
   -- ---- of no family
@@ -325,7 +326,7 @@ module _ (c : ClassFile) (named : is_some (name_of c) ≡ true) where
   slot-is None entry e = absurd (none-some entry e)
   slot-is (Some k) entry e = ap (λ (x : Const). Some x) (entry-is k entry e)
 
-  abbrev given_by : Option Const → Option Operation
+  abbrev given_by : Option Const → Option (Operation Local)
   given_by o = pool_constant_operation (option_map Within (option_map (λ d. let l : Local = Constant d in l) (option_and_then number_of o))) (option_and_then (object_constant c.pool) o)
 
   loaded-there : (index : ℕ) (entry : Const) → HaveTexts c.pool → slice_get c.pool index ≡ Some entry → is_loadable c.pool entry ≡ true → is_floating_entry c.pool index entry ≡ false

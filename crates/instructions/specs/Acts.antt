@@ -3,7 +3,6 @@
 use Rattle.std.specs.Prelude.{◌≡◌, ℕ, Bool, true, false, ◌&&◌, ◌||◌, is_some, is_none, List, [], ◌∷◌, ◌++◌, Option, Some, None, Result, OnOk}
 use Rattle.jf_bytes.specs.declared.error.NoMemory.{NoMemory}
 use Rattle.std.specs.Option.{option_map_or}
-use Rattle.const_pool.specs.declared.descriptor.Kind.{Kind}
 use Rattle.frame_stack.specs.FrameLists.{PlacedFrame, has_frame}
 use Rattle.jvm_model.specs.declared.state.Entry.{Entry}
 use Rattle.jvm_model.specs.declared.state.Entry.TheVariants.{Active}
@@ -13,6 +12,8 @@ use Rattle.jvm_model.specs.declared.state.Shared.{Shared}
 use Rattle.jvm_model.specs.Basis.Data.{Locals, Operands, Done, World}
 use Rattle.jvm_model.specs.Basis.Data as model
 use Rattle.jvm_model.specs.declared.instruction.SymbolicReference.{SymbolicReference}
+use Rattle.jvm_model.specs.declared.instruction.Operation.{Operation}
+use Rattle.jvm_model.specs.declared.instruction.Operation.TheVariants as operation
 use Rattle.jvm_model.specs.Running.Applies.{breaks, goes, throws_at}
 use Rattle.jvm_model.specs.Instructions.ConstantRules.{pushes_string}
 use Rattle.jvm_model.specs.Instructions.LocalRules.{arithmetic_exception, by_zero}
@@ -24,8 +25,8 @@ use Rattle.jvm_model.specs.Basis.SharedState.{exception_raised}
 use Rattle.jvm_model.specs.Basis.Values.{int_of, ref_of}
 use Rattle.jvm_basic.specs.Outcomes.{Outcome as Comes, GoesOn, Raises, Breaks, Leaves}
 use Rattle.jvm_basic.specs.Rules.{rule_of}
-use Rattle.prepared_lines.specs.declared.line.Action.{Action}
-use Rattle.prepared_lines.specs.declared.line.Action.TheVariants as action
+use Rattle.prepared_lines.specs.declared.line.LocalAction.{LocalAction}
+use Rattle.prepared_lines.specs.declared.line.LocalAction.TheVariants as local_action
 use Rattle.prepared_lines.specs.declared.line.Line.{Line}
 use Rattle.prepared_code.specs.declared.initializations.Initialization.{Initialization}
 use Rattle.prepared_code.specs.declared.parts.Parts.{Parts}
@@ -69,69 +70,33 @@ with_done d s = record s { shared = d.shared; output = s.output ++ d.wrote }
 abbrev pub acts_named : Setup → Line → SymbolicReference → State → Frame → State
 acts_named w line n s f = let d = named_done w n s f in acts_asked w line (with_done d s) f d.outcome
 
--- ---- instructions that see objects
+-- ---- what an instruction that sees objects does to what is shared, and asks for
 
-abbrev pub acts_athrow : Setup → Line → State → Frame → State
-acts_athrow w line s f = acts_asked w line s f (throws w.world s.shared (ref_of f.operands))
-
-abbrev pub acts_monitor : Setup → Line → State → Frame → State
-acts_monitor w line s f = acts_asked w line s f (watches (ref_of f.operands) f.locals f.operands)
-
-abbrev pub acts_arraylength : Setup → Line → State → Frame → State
-acts_arraylength w line s f =
-    acts_asked w line s f (measures (ref_of f.operands) s.shared f.locals f.operands)
-
-abbrev pub acts_newarray : Setup → Line → ℕ → State → Frame → State
-acts_newarray w line kind s f =
-    acts_done w line s f (makes kind (int_of f.operands) s.shared f.locals f.operands)
-
-abbrev pub acts_load : Setup → Line → Kind → State → Frame → State
-acts_load w line k s f =
-    acts_asked w line s f (loads_element k (place_of f.operands) s.shared f.locals f.operands)
-
-abbrev pub acts_store : Setup → Line → Kind → State → Frame → State
-acts_store w line k s f =
-    acts_done w line s f (stores_element w.world.program k (storing_of k f.operands) s.shared f.locals f.operands)
-
--- ---- ldc of a String
-
-abbrev pub acts_string : Setup → Line → List ℕ → State → Frame → State
-acts_string w line units s f =
-    acts_done w line s f (pushes_string w.world.program units s.shared f.locals f.operands)
-
--- ---- what such an instruction does to what is shared, and asks for
-
-abbrev pub sees_objects : World → Action → Shared → Locals → Operands → Done
-sees_objects w action.Athrow s l o = done s (throws w s (ref_of o))
-sees_objects w action.Monitor s l o = done s (watches (ref_of o) l o)
-sees_objects w action.Arraylength s l o = done s (measures (ref_of o) s l o)
-sees_objects w (action.Newarray kind) s l o = makes kind (int_of o) s l o
-sees_objects w (action.LoadElement k) s l o = done s (loads_element k (place_of o) s l o)
-sees_objects w (action.StoreElement k) s l o = stores_element w.program k (storing_of k o) s l o
-sees_objects w (action.LdcString units) s l o = pushes_string w.program units s l o
+abbrev pub sees_objects : World → Operation LocalAction → Shared → Locals → Operands → Done
+sees_objects w operation.Athrow s l o = done s (throws w s (ref_of o))
+sees_objects w operation.Monitor s l o = done s (watches (ref_of o) l o)
+sees_objects w operation.Arraylength s l o = done s (measures (ref_of o) s l o)
+sees_objects w (operation.Newarray kind) s l o = makes kind (int_of o) s l o
+sees_objects w (operation.LoadElement k) s l o = done s (loads_element k (place_of o) s l o)
+sees_objects w (operation.StoreElement k) s l o = stores_element w.program k (storing_of k o) s l o
+sees_objects w (operation.LdcString units) s l o = pushes_string w.program units s l o
 sees_objects w _ s l o = done s (model.Breaks false)
 
 -- where it is a newarray, of its kind
-abbrev pub IfNewarray : Action → (ℕ → Type 0) → Type 0
-IfNewarray (action.Newarray kind) Holds = Holds kind
+abbrev pub IfNewarray : Operation LocalAction → (ℕ → Type 0) → Type 0
+IfNewarray (operation.Newarray kind) Holds = Holds kind
 IfNewarray _ Holds = Unit {0}
 
 -- ---- every line
 
-abbrev pub acts_by : Setup → Line → State → Frame → Action → State
-acts_by w line s f action.Local = acts_alone w line s f
-acts_by w line s f (action.Return k) = acts_return w line k s f
-acts_by w line s f (action.Named n) = acts_named w line n s f
-acts_by w line s f action.Athrow = acts_athrow w line s f
-acts_by w line s f action.Monitor = acts_monitor w line s f
-acts_by w line s f action.Arraylength = acts_arraylength w line s f
-acts_by w line s f (action.Newarray kind) = acts_newarray w line kind s f
-acts_by w line s f (action.LoadElement k) = acts_load w line k s f
-acts_by w line s f (action.StoreElement k) = acts_store w line k s f
-acts_by w line s f (action.LdcString units) = acts_string w line units s f
+abbrev pub acts_by : Setup → Line → State → Frame → Operation LocalAction → State
+acts_by w line s f (operation.Within local_action.Basic) = acts_alone w line s f
+acts_by w line s f (operation.Within (local_action.Return k)) = acts_return w line k s f
+acts_by w line s f (operation.Named n) = acts_named w line n s f
+acts_by w line s f o = acts_done w line s f (sees_objects w.world o s.shared f.locals f.operands)
 
 abbrev pub acts : Setup → Line → State → Frame → State
-acts w line s f = acts_by w line s f line.action
+acts w line s f = acts_by w line s f line.operation
 
 -- what stands at the frame's place is attempted; where nothing does the run ends
 abbrev pub attempts_line : Setup → State → Frame → Option Line → State
@@ -158,21 +123,21 @@ goes_on_in ms p = is_none p.ending && (has_frame p.frames.frames && is_executing
 
 -- ---- a class that is initialized before
 
-abbrev pub is_named : Action → Bool
-is_named (action.Named n) = true
+abbrev pub is_named : Operation LocalAction → Bool
+is_named (operation.Named n) = true
 is_named _ = false
 
 abbrev pub named_in : Option Line → Bool
-named_in line = option_map_or (λ (l : Line). is_named l.action) line false
+named_in line = option_map_or (λ (l : Line). is_named l.operation) line false
 
--- by a line with this action (5.5)
-abbrev pub class_awaited : Setup → State → Frame → Action → Option ℕ
-class_awaited w s f (action.Named n) = starts (named_done w n s f).outcome
+-- by a line with this operation (5.5)
+abbrev pub class_awaited : Setup → State → Frame → Operation LocalAction → Option ℕ
+class_awaited w s f (operation.Named n) = starts (named_done w n s f).outcome
 class_awaited w s f _ = None
 
 abbrev pub awaited_by : Setup → State → Frame → Option Line → Option ℕ
 awaited_by w s f None = None
-awaited_by w s f (Some line) = class_awaited w s f line.action
+awaited_by w s f (Some line) = class_awaited w s f line.operation
 
 -- by the line of the current frame
 abbrev pub awaited_on : Setup → State → List Entry → Option ℕ

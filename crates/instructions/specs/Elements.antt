@@ -1,11 +1,13 @@
 -- Elements of arrays (JVM Specification 6.5): where an array and an index lead, and what becomes of a state by that.
-use Rattle.std.specs.Prelude.{◌≡◌, ℕ, Bool, true, false, drop, Option, Some, None, ℤ, pos, ◌==◌}
+use Rattle.std.specs.Prelude.{◌≡◌, ℕ, Bool, true, false, drop, Option, Some, None, ℤ, pos}
 use Rattle.const_pool.specs.declared.descriptor.Kind.{Kind}
 use Rattle.frame_stack.specs.FrameLists.{top_operands}
 use Rattle.heap_objects.specs.declared.datum.Datum.{Datum}
 use Rattle.heap_objects.specs.declared.datum.Datum.TheVariants as datum
 use Rattle.heap_objects.specs.declared.Value.TheVariants.{Int}
 use Rattle.heap_objects.specs.Heaps.{HeapView, slot_at, with_slot_at}
+use Rattle.jvm_model.specs.declared.instruction.Operation.{Operation}
+use Rattle.jvm_model.specs.declared.instruction.Operation.TheVariants as operation
 use Rattle.jvm_model.specs.Instructions.ObjectRules.{Access, ToNull, ToAnother, Outside, Inside, Storing, access_to, array_length, place_of, storing_of}
 use Rattle.jvm_model.specs.Basis.Values.{as_value, ref_of}
 use Rattle.jvm_basic.specs.declared.effect.Effect.TheVariants.{Next}
@@ -15,8 +17,8 @@ use Rattle.instructions.specs.declared.elements.Led.{Led}
 use Rattle.instructions.specs.declared.elements.Led.TheVariants as led
 use Rattle.instructions.specs.declared.elements.ArrayElement.{ArrayElement}
 use Rattle.instructions.specs.declared.elements.Storing.{Storing as TheStoring}
-use Rattle.prepared_lines.specs.declared.line.Action.{Action}
-use Rattle.prepared_lines.specs.declared.line.Action.TheVariants as action
+use Rattle.prepared_lines.specs.declared.line.LocalAction.{LocalAction}
+use Rattle.prepared_lines.specs.declared.line.LocalAction.TheVariants as local_action
 use Rattle.prepared_lines.specs.declared.line.Line.{Line}
 use Rattle.prepared_code.specs.declared.parts.Parts.{Parts}
 use Rattle.symbolic_references.specs.Runtimes.{with_heap}
@@ -75,7 +77,6 @@ pub record IsMeasured (line : Line) (old new : Parts) : Type 0 where
   pub array : ℕ
   pub count : ℕ
   pub at : ref_of (top_operands old.frames.frames) ≡ Some array
-  pub there : (array == 0) ≡ false
   pub long : array_length array old.runtime.shared.heap ≡ Some count
   pub goes : effect_of (replaces 1 (Some (Int (pos count))) line.next) old.frames ≡ Next
   pub changed : new ≡ record old { frames = after (replaces 1 (Some (Int (pos count))) line.next) old.frames }
@@ -83,16 +84,16 @@ pub record IsMeasured (line : Line) (old new : Parts) : Type 0 where
 -- ---- lines that a step passes by
 
 -- what its frame does by itself, and elements
-abbrev pub is_plain : Action → Bool
-is_plain action.Local = true
-is_plain (action.LoadElement k) = true
-is_plain (action.StoreElement k) = true
+abbrev pub is_plain : Operation LocalAction → Bool
+is_plain (operation.Within local_action.Basic) = true
+is_plain (operation.LoadElement k) = true
+is_plain (operation.StoreElement k) = true
 is_plain _ = false
 
 -- it was done, where it raises nothing and the frame goes on
 pub record IsPassed (line : Line) (old new : Parts) : Type 0 where
-  pub plain : is_plain line.action ≡ true
-  pub alone : line.action ≡ action.Local → effect_of (rule_of line.instr line.constant line.next) old.frames ≡ Next
-  pub frames : line.action ≡ action.Local → new ≡ record old { frames = after (rule_of line.instr line.constant line.next) old.frames }
-  pub loaded : (k : Kind) → line.action ≡ action.LoadElement k → IsLoaded line k old new
-  pub stored : (k : Kind) → line.action ≡ action.StoreElement k → IsStored line k old new
+  pub plain : is_plain line.operation ≡ true
+  pub alone : line.operation ≡ operation.Within local_action.Basic → effect_of (rule_of line.instr line.constant line.next) old.frames ≡ Next
+  pub frames : line.operation ≡ operation.Within local_action.Basic → new ≡ record old { frames = after (rule_of line.instr line.constant line.next) old.frames }
+  pub loaded : (k : Kind) → line.operation ≡ operation.LoadElement k → IsLoaded line k old new
+  pub stored : (k : Kind) → line.operation ≡ operation.StoreElement k → IsStored line k old new

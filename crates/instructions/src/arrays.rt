@@ -63,9 +63,6 @@ pub fn pass_length(parts: &mut Parts, line: &Line) -> bool
     let Some(array) = ref_of(&parts.frames) else {
         return false;
     };
-    if array == 0 {
-        return false;
-    }
     let Some(count) = array_length(parts.runtime.heap(), array) else {
         return false;
     };

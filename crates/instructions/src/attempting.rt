@@ -5,7 +5,7 @@ ghost use Rattle.std.specs.Prelude.{IfNone, IfOk, OnOk};
 ghost use Rattle.std.specs.Option.{IfSome};
 ghost use Rattle.jvm_model.specs.Basis.Families.{family_of};
 ghost use Rattle.jvm_model.specs.Running.Run.{with_loaded};
-ghost use Rattle.member_selection.specs.Arrays.{IsPrimitiveArray};
+ghost use Rattle.jvm_model.specs.Soundness.Sound.{IsPrimitiveArray};
 ghost use Rattle.member_selection.specs.Outcomes.{Asks, HaveOperands};
 ghost use Rattle.symbolic_references.specs.Leaving.{Sets};
 ghost use Rattle.activations.specs.Applied.{IsTop, run_ended};
@@ -17,7 +17,7 @@ ghost use Rattle.prepared_code.specs.Initializations.{initialization_on, state_o
 ghost use Rattle.prepared_code.specs.States.{here_of};
 ghost use Rattle.activations.specs.Turning.{loads_in, loads_none};
 ghost use Rattle.prepared_code.specs.Versions.{line_at};
-ghost use Rattle.prepared_code.specs.Linked.{IsLinked, IsReady, setup_in};
+ghost use Rattle.prepared_code.specs.Originals.{AreNamesKnown, IsReady, setup_in};
 
 use crate::arrays::measure;
 use crate::elements::{load_element, store_element};
@@ -27,10 +27,10 @@ use activations::{break_off, conclude, end_initializer, initialize, raise_with, 
 use frame_stack::Frames;
 use jf_bytes::{NoMemory, Stack};
 use jvm_basic::{Effect, basic_by};
-use jvm_model::Exception;
+use jvm_model::{Exception, Operation};
 use member_selection::{AbruptCompletion, Outcome};
 use prepared_code::{Here, Initialization, Originals, Parts, initialization_on, where_now};
-use prepared_lines::{Action, Line};
+use prepared_lines::{Line, LocalAction};
 use std::alloc::Global;
 use symbolic_references::Runtime;
 
@@ -84,25 +84,25 @@ fn ask(
     frames: &Frames,
     line: &Line,
 ) -> Result<Outcome, NoMemory>
-    requires arrays { IfNewarray line.now.action IsPrimitiveArray }
+    requires arrays { IfNewarray line.now.operation IsPrimitiveArray }
     ensures answer { let w = runtime.old.world in let s = runtime.old.shared in
-        Asks result (sees_objects w line.now.action s) frames.now }
+        Asks result (sees_objects w line.now.operation s) frames.now }
     ensures runtime { let w = runtime.old.world in let s = runtime.old.shared in
-        Sets result runtime.new (sees_objects w line.now.action s) frames.now runtime.old }
+        Sets result runtime.new (sees_objects w line.now.operation s) frames.now runtime.old }
     ensures enough { HaveOperands result frames.now }
     ensures world { runtime.new.world ≡ runtime.old.world }
     ensures same_loaded { runtime.new.shared.loaded ≡ runtime.old.shared.loaded }
 {
-    match &line.action {
-        Action::Athrow => Ok(throw_object(runtime, frames)),
-        Action::Monitor => Ok(watch(frames)),
-        Action::Arraylength => measure(runtime, frames),
-        Action::Newarray(kind) => runtime.make_primitives(frames, *kind),
-        Action::LoadElement(kind) => load_element(alloc, runtime, frames, *kind),
-        Action::StoreElement(kind) => store_element(alloc, runtime, frames, *kind),
-        Action::LdcString(units) => runtime.push_string(frames, units),
+    match &line.operation {
+        Operation::Athrow => Ok(throw_object(runtime, frames)),
+        Operation::Monitor => Ok(watch(frames)),
+        Operation::Arraylength => measure(runtime, frames),
+        Operation::Newarray(kind) => runtime.make_primitives(frames, *kind),
+        Operation::LoadElement(kind) => load_element(alloc, runtime, frames, *kind),
+        Operation::StoreElement(kind) => store_element(alloc, runtime, frames, *kind),
+        Operation::LdcString(units) => runtime.push_string(frames, units),
         // These do not come here.
-        Action::Local | Action::Return(_) | Action::Named(_) => {
+        Operation::Within(_) | Operation::Named(_) => {
             Ok(Outcome::Abrupt(AbruptCompletion::Breaks))
         }
     }
@@ -118,16 +118,18 @@ fn act(
 ) -> Result<(), NoMemory>
     requires top { IsTop method parts.old.frames.frames }
     requires family { line.now.family ≡ family_of line.now.instr.op }
-    requires alone { is_named line.now.action ≡ false }
-    requires arrays { IfNewarray line.now.action IsPrimitiveArray }
+    requires alone { is_named line.now.operation ≡ false }
+    requires arrays { IfNewarray line.now.operation IsPrimitiveArray }
     ensures state { Becomes result parts.new
         (acts (setup_in parts.old.runtime originals.now) line.now) parts.old }
     ensures world { parts.new.runtime.world ≡ parts.old.runtime.world }
     ensures same_loaded { parts.new.runtime.shared.loaded ≡ parts.old.runtime.shared.loaded }
 {
-    match line.action {
-        Action::Local => act_alone(originals, parts, method, line),
-        Action::Return(kind) => return_by(alloc, originals, parts, method, line, kind),
+    match line.operation {
+        Operation::Within(action) => match action {
+            LocalAction::Basic => act_alone(originals, parts, method, line),
+            LocalAction::Return(kind) => return_by(alloc, originals, parts, method, line, kind),
+        },
         _ => {
             let outcome = ask(alloc, &mut parts.runtime, &parts.frames, line)?;
             conclude(originals, parts, method, line, outcome)?;
@@ -149,8 +151,8 @@ fn act_initializer(
 ) -> Result<(), NoMemory>
     requires top { IsTop method parts.old.frames.frames }
     requires family { line.now.family ≡ family_of line.now.instr.op }
-    requires alone { is_named line.now.action ≡ false }
-    requires arrays { IfNewarray line.now.action IsPrimitiveArray }
+    requires alone { is_named line.now.operation ≡ false }
+    requires arrays { IfNewarray line.now.operation IsPrimitiveArray }
     requires executing { initialization_on (length parts.old.frames.frames) initializing.now
         ≡ None }
     requires beneath { is_some
@@ -160,11 +162,14 @@ fn act_initializer(
     ensures world { parts.new.runtime.world ≡ parts.old.runtime.world }
     ensures same_loaded { parts.new.runtime.shared.loaded ≡ parts.old.runtime.shared.loaded }
 {
-    match line.action {
-        Action::Return(kind) => {
-            end_initializer(parts, method, line, kind);
-            Ok(())
-        }
+    match line.operation {
+        Operation::Within(action) => match action {
+            LocalAction::Return(kind) => {
+                end_initializer(parts, method, line, kind);
+                Ok(())
+            }
+            LocalAction::Basic => act(alloc, originals, parts, method, line),
+        },
         _ => act(alloc, originals, parts, method, line),
     }
 }
@@ -181,8 +186,8 @@ fn act_beneath(
 ) -> Result<(), NoMemory>
     requires top { IsTop method parts.old.frames.frames }
     requires family { line.now.family ≡ family_of line.now.instr.op }
-    requires alone { is_named line.now.action ≡ false }
-    requires arrays { IfNewarray line.now.action IsPrimitiveArray }
+    requires alone { is_named line.now.operation ≡ false }
+    requires arrays { IfNewarray line.now.operation IsPrimitiveArray }
     requires executing { initialization_on (length parts.old.frames.frames) initializing.now
         ≡ None }
     ensures state { BecomesBeneath result initializing.now parts.new
@@ -234,10 +239,10 @@ fn attempt_line(
 /// Whether a line names something.
 #[inline(always)]
 fn is_named(line: &Line) -> bool
-    ensures { result ≡ is_named line.now.action }
+    ensures { result ≡ is_named line.now.operation }
 {
-    match line.action {
-        Action::Named(_) => true,
+    match line.operation {
+        Operation::Named(_) => true,
         _ => false,
     }
 }
@@ -264,7 +269,7 @@ fn attempt_name(
     here: Here,
 ) -> Result<Option<u32>, NoMemory>
     requires ready { IsReady originals.old here.version }
-    requires linked { IsLinked originals.old parts.old.runtime }
+    requires known { AreNamesKnown originals.old parts.old.runtime }
     requires fit { CanRun (setup_in parts.old.runtime originals.old) }
     requires sound { IsSoundIn (setup_in parts.old.runtime originals.old)
         (state_of initializing.old parts.old) }
@@ -273,9 +278,10 @@ fn attempt_name(
         ≡ true }
     requires executing { initialization_on (length parts.old.frames.frames) initializing.old
         ≡ None }
+    ensures program { originals.new.program ≡ originals.old.program }
     ensures versions { originals.new.versions ≡ originals.old.versions }
     ensures world { parts.new.runtime.world ≡ parts.old.runtime.world }
-    ensures linked { OnOk result (IsLinked originals.new parts.new.runtime) }
+    ensures known { OnOk result (AreNamesKnown originals.new parts.new.runtime) }
     ensures answer { IfOk result (λ o.
         o
         ≡ awaited_in (setup_in parts.old.runtime originals.old)
@@ -315,16 +321,17 @@ fn attempt_there(
     here: Here,
 ) -> Result<Option<u32>, NoMemory>
     requires ready { IsReady originals.old here.version }
-    requires linked { IsLinked originals.old parts.old.runtime }
+    requires known { AreNamesKnown originals.old parts.old.runtime }
     requires fit { CanRun (setup_in parts.old.runtime originals.old) }
     requires sound { IsSoundIn (setup_in parts.old.runtime originals.old)
         (state_of initializing.old parts.old) }
     requires here { here_of parts.old.frames.frames ≡ Some here }
     requires executing { initialization_on (length parts.old.frames.frames) initializing.old
         ≡ None }
+    ensures program { originals.new.program ≡ originals.old.program }
     ensures versions { originals.new.versions ≡ originals.old.versions }
     ensures world { parts.new.runtime.world ≡ parts.old.runtime.world }
-    ensures linked { OnOk result (IsLinked originals.new parts.new.runtime) }
+    ensures known { OnOk result (AreNamesKnown originals.new parts.new.runtime) }
     ensures answer { IfOk result (λ o.
         o
         ≡ awaited_in (setup_in parts.old.runtime originals.old)
@@ -349,15 +356,16 @@ pub fn attempt(
     parts: &mut Parts,
     initializing: &mut Stack<Initialization>,
 ) -> Result<Option<u32>, NoMemory>
-    requires linked { IsLinked originals.old parts.old.runtime }
+    requires known { AreNamesKnown originals.old parts.old.runtime }
     requires fit { CanRun (setup_in parts.old.runtime originals.old) }
     requires sound { IsSoundIn (setup_in parts.old.runtime originals.old)
         (state_of initializing.old parts.old) }
     requires executing { initialization_on (length parts.old.frames.frames) initializing.old
         ≡ None }
+    ensures program { originals.new.program ≡ originals.old.program }
     ensures versions { originals.new.versions ≡ originals.old.versions }
     ensures world { parts.new.runtime.world ≡ parts.old.runtime.world }
-    ensures linked { OnOk result (IsLinked originals.new parts.new.runtime) }
+    ensures known { OnOk result (AreNamesKnown originals.new parts.new.runtime) }
     ensures answer { IfOk result (λ o.
         o
         ≡ awaited_in (setup_in parts.old.runtime originals.old)
@@ -385,7 +393,7 @@ fn attempt_name_loaded(
     here: Here,
 ) -> Result<Option<Option<u32>>, NoMemory>
     requires ready { IsReady originals.old here.version }
-    requires linked { IsLinked originals.old parts.old.runtime }
+    requires known { AreNamesKnown originals.old parts.old.runtime }
     requires fit { CanRun (setup_in parts.old.runtime originals.old) }
     requires sound { IsSoundIn (setup_in parts.old.runtime originals.old)
         (state_of initializing.old parts.old) }
@@ -395,9 +403,10 @@ fn attempt_name_loaded(
         ≡ true }
     requires executing { initialization_on (length parts.old.frames.frames) initializing.old
         ≡ None }
+    ensures program { originals.new.program ≡ originals.old.program }
     ensures versions { originals.new.versions ≡ originals.old.versions }
     ensures world { parts.new.runtime.world ≡ parts.old.runtime.world }
-    ensures linked { OnOk result (IsLinked originals.new parts.new.runtime) }
+    ensures known { OnOk result (AreNamesKnown originals.new parts.new.runtime) }
     ensures some { IfOk result (λ o. is_some o
         ≡ loads_none (setup_in parts.old.runtime originals.old)
         (state_of initializing.old parts.old)) }
@@ -446,7 +455,7 @@ fn attempt_loaded_there(
     here: Here,
 ) -> Result<Option<Option<u32>>, NoMemory>
     requires ready { IsReady originals.old here.version }
-    requires linked { IsLinked originals.old parts.old.runtime }
+    requires known { AreNamesKnown originals.old parts.old.runtime }
     requires fit { CanRun (setup_in parts.old.runtime originals.old) }
     requires sound { IsSoundIn (setup_in parts.old.runtime originals.old)
         (state_of initializing.old parts.old) }
@@ -454,9 +463,10 @@ fn attempt_loaded_there(
     requires here { here_of parts.old.frames.frames ≡ Some here }
     requires executing { initialization_on (length parts.old.frames.frames) initializing.old
         ≡ None }
+    ensures program { originals.new.program ≡ originals.old.program }
     ensures versions { originals.new.versions ≡ originals.old.versions }
     ensures world { parts.new.runtime.world ≡ parts.old.runtime.world }
-    ensures linked { OnOk result (IsLinked originals.new parts.new.runtime) }
+    ensures known { OnOk result (AreNamesKnown originals.new parts.new.runtime) }
     ensures some { IfOk result (λ o. is_some o
         ≡ loads_none (setup_in parts.old.runtime originals.old)
         (state_of initializing.old parts.old)) }
@@ -489,16 +499,17 @@ pub fn attempt_loaded(
     parts: &mut Parts,
     initializing: &mut Stack<Initialization>,
 ) -> Result<Option<Option<u32>>, NoMemory>
-    requires linked { IsLinked originals.old parts.old.runtime }
+    requires known { AreNamesKnown originals.old parts.old.runtime }
     requires fit { CanRun (setup_in parts.old.runtime originals.old) }
     requires sound { IsSoundIn (setup_in parts.old.runtime originals.old)
         (state_of initializing.old parts.old) }
     requires ending { parts.old.ending ≡ None }
     requires executing { initialization_on (length parts.old.frames.frames) initializing.old
         ≡ None }
+    ensures program { originals.new.program ≡ originals.old.program }
     ensures versions { originals.new.versions ≡ originals.old.versions }
     ensures world { parts.new.runtime.world ≡ parts.old.runtime.world }
-    ensures linked { OnOk result (IsLinked originals.new parts.new.runtime) }
+    ensures known { OnOk result (AreNamesKnown originals.new parts.new.runtime) }
     ensures some { IfOk result (λ o. is_some o
         ≡ loads_none (setup_in parts.old.runtime originals.old)
         (state_of initializing.old parts.old)) }

@@ -25,9 +25,9 @@ use jvm_basic::{
     Effect, Hot, basic_by, branch_to, calculate, go_to_place, increment_slot, load_from, put,
     store_int, store_to,
 };
-use jvm_model::Test;
+use jvm_model::{Operation, Test};
 use prepared_code::{Originals, Parts, Version, line_in, where_now};
-use prepared_lines::{Action, Line};
+use prepared_lines::{Line, LocalAction};
 
 /// The version that the current frame runs. None where there is no frame, or its lines are still to
 /// be made.
@@ -75,18 +75,21 @@ fn pass_alone(line: &Line, frames: &mut Frames) -> bool
 }
 
 /// Does a line that the current frame does by itself, or that loads or stores an element and raises
-/// nothing, by its action. False, with nothing changed, where the frame does not go on. It is a
+/// nothing, by its operation. False, with nothing changed, where the frame does not go on. It is a
 /// call of its own, so that the loop stays small.
 #[inline(never)]
-fn pass_by_action(line: &Line, parts: &mut Parts) -> bool
+fn pass_by_operation(line: &Line, parts: &mut Parts) -> bool
     requires { line.now.family ≡ family_of line.now.instr.op }
     ensures gone { result ≡ true → IsPassed line.now parts.old parts.new }
     ensures kept { result ≡ false → parts.new ≡ parts.old }
 {
-    match line.action {
-        Action::Local => pass_alone(line, &mut parts.frames),
-        Action::LoadElement(kind) => pass_load(parts, line, kind),
-        Action::StoreElement(kind) => pass_store(parts, line, kind),
+    match line.operation {
+        Operation::Within(action) => match action {
+            LocalAction::Basic => pass_alone(line, &mut parts.frames),
+            LocalAction::Return(_) => false,
+        },
+        Operation::LoadElement(kind) => pass_load(parts, line, kind),
+        Operation::StoreElement(kind) => pass_store(parts, line, kind),
         _ => false,
     }
 }
@@ -98,10 +101,10 @@ fn pass_cold(line: &Line, parts: &mut Parts) -> bool
     ensures gone { result ≡ true → IsPassed line.now parts.old parts.new }
     ensures kept { result ≡ false → parts.new ≡ parts.old }
 {
-    match line.action {
-        Action::Local | Action::LoadElement(_) | Action::StoreElement(_) => {
-            pass_by_action(line, parts)
-        }
+    match line.operation {
+        Operation::Within(LocalAction::Basic)
+        | Operation::LoadElement(_)
+        | Operation::StoreElement(_) => pass_by_operation(line, parts),
         _ => false,
     }
 }

@@ -2,4 +2,4 @@ pub mod Machines
 pub mod Shown
 pub mod Fresh
 pub mod Loaded
-pub mod LinkedParts
+pub mod KeptOn

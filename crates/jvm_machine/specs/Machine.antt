@@ -12,7 +12,7 @@ use Rattle.interpreter.specs.declared.turns.hands.Hand.{Hand}
 use Rattle.interpreter.specs.Machine.Before.{IsAtStart}
 use Rattle.interpreter.specs.Moves.Hands.{HasInHand}
 use Rattle.interpreter.specs.Moves.Passing.{runs}
-use Rattle.prepared_code.specs.Linked.{IsLinked, Linked, setup_in}
+use Rattle.prepared_code.specs.Originals.{AreNamesKnown, OriginalsView, setup_in}
 use Rattle.prepared_code.specs.Ready.{IsSoundIn}
 use Rattle.prepared_code.specs.Standing.{HasVersions, places_of}
 use Rattle.prepared_code.specs.Tables.{Versions}
@@ -95,8 +95,10 @@ pub record IsMachine (w : Setup) (hand : Hand) (v : View) (s : State) : Type 0 w
   pub before_the_run : v.started ≡ false → IsBeforeTheRun v
   pub whole : v.broken ≡ false → IsWhole w homes hand v s
 
--- unless memory has run out its code and its runtime are of one program, and no version is held needlessly
-pub record Keeps (o : Linked) (r : RuntimeView) (hand : Hand) (started broken : Bool) (clock : ℕ) (s : State) : Type 0 where
+-- Its code and its runtime are of one program. Unless memory has run out what is kept of names is what they come to, and no version is
+-- held needlessly.
+pub record Keeps (o : OriginalsView) (r : RuntimeView) (hand : Hand) (started broken : Bool) (clock : ℕ) (s : State) : Type 0 where
   pub machine : IsMachine (setup_in r o) hand (state_seen (setup_in r o) s started broken clock hand) s
-  pub linked : broken ≡ false → IsLinked o r
+  pub program : r.world.program ≡ o.program
+  pub known : broken ≡ false → AreNamesKnown o r
   pub tidy : broken ≡ false → IsTidy o.versions s.stack

@@ -1,6 +1,6 @@
 //! How a step is taken up, and what it has come to.
 
-ghost use Rattle.prepared_code.specs.Linked.{IsLinked};
+ghost use Rattle.prepared_code.specs.Originals.{AreNamesKnown};
 ghost use Rattle.std.specs.Prelude.{◌≡◌, ◌+◌, ◌++◌, ◌^◌, ◌<◌, drop, false, true, IfOk, OnErr, OnOk};
 ghost use Rattle.jvm_model.specs.Basis.Data.{World};
 ghost use Rattle.jvm_model.specs.Turns.InHand.{behind_load};
@@ -113,11 +113,12 @@ fn take_start(
     initializing: &mut Stack<Initialization>,
 ) -> Result<Taken, NoMemory>
     requires at_start { IsAtStart parts.old.runtime.world (state_of initializing.old parts.old) }
-    requires linked { IsLinked originals.old parts.old.runtime }
+    requires known { AreNamesKnown originals.old parts.old.runtime }
     requires fit { IsFit parts.old.runtime.world.program }
+    ensures program { originals.new.program ≡ originals.old.program }
     ensures versions { originals.new.versions ≡ originals.old.versions }
     ensures world { parts.new.runtime.world ≡ parts.old.runtime.world }
-    ensures linked { OnOk result (IsLinked originals.new parts.new.runtime) }
+    ensures known { OnOk result (AreNamesKnown originals.new parts.new.runtime) }
     ensures loads { IfOk result (λ t. t.loads ≡ main_loads parts.old.runtime.world) }
     ensures hand { let passed = behind_load (main_loads parts.old.runtime.world) in
         IfOk result (λ t. t.hand ≡ record { moves = true; delivered = false; passed = passed }) }
@@ -151,11 +152,12 @@ pub fn take_up(
 ) -> Result<Taken, NoMemory>
     requires at_start { started ≡ false → resting ≡ true
         → IsAtStart parts.old.runtime.world (state_of initializing.old parts.old) }
-    requires linked { IsLinked originals.old parts.old.runtime }
+    requires known { AreNamesKnown originals.old parts.old.runtime }
     requires fit { IsFit parts.old.runtime.world.program }
+    ensures program { originals.new.program ≡ originals.old.program }
     ensures versions { originals.new.versions ≡ originals.old.versions }
     ensures world { parts.new.runtime.world ≡ parts.old.runtime.world }
-    ensures linked { OnOk result (IsLinked originals.new parts.new.runtime) }
+    ensures known { OnOk result (AreNamesKnown originals.new parts.new.runtime) }
     ensures loads { let w = parts.old.runtime.world in
         IfOk result (λ t. t.loads ≡ taken_loads w resting started) }
     ensures hand { let w = parts.old.runtime.world in

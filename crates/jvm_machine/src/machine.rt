@@ -52,15 +52,14 @@ pub struct Vm {
 
 impl Model for Vm {
     ghost use Rattle.prepared_code.specs.Initializations.{state_of};
-    ghost use Rattle.prepared_code.specs.Linked.{setup_in};
+    ghost use Rattle.prepared_code.specs.Originals.{setup_in};
     ghost use Rattle.jvm_machine.specs.Machine.{Keeps, state_viewed};
     ghost use Rattle.jvm_machine.specs.View.{View};
 
     ghost Value = { View };
 
-    ghost view = { λ v. state_viewed (setup_in v.parts.runtime v.originals) (state_of v.initializing v.parts)
-        v.started
-        v.broken v.clock v.hand };
+    ghost view = { λ v. state_viewed (setup_in v.parts.runtime v.originals)
+        (state_of v.initializing v.parts) v.started v.broken v.clock v.hand };
 
     ghost invariant = { λ v. Keeps v.originals v.parts.runtime v.hand v.started
         v.broken v.clock (state_of v.initializing v.parts) };

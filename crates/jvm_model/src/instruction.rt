@@ -119,16 +119,17 @@ pub enum Local {
     Return(Option<Kind>),
 }
 
-/// An instruction as it is attempted.
+/// An instruction as it is attempted. L tells what its frame does by itself, as `Local` does in the
+/// definitions.
 #[derive(Drop)]
-pub enum Operation {
-    Within(Local),
+pub enum Operation<L> {
+    Within(L),
     Named(SymbolicReference),
     Athrow,
     /// monitorenter, monitorexit
     Monitor,
-    /// newarray, of elements with this code
-    Newarray(u8),
+    /// newarray, of an array of this kind
+    Newarray(u32),
     Arraylength,
     /// iaload, .., saload and iastore, .., sastore: baload and bastore are of bytes, and serve booleans too
     LoadElement(Kind),

@@ -9,7 +9,6 @@ use Rattle.frame_stack.specs.Widths.{height_of, width}
 use Rattle.jvm_basic.specs.declared.effect.Effect.TheVariants.{Next, Bad}
 use Rattle.jvm_basic.specs.Outcomes.{can_hold}
 use Rattle.jvm_model.specs.Basis.Data.{Operands}
-use Rattle.member_selection.specs.Answers.{Continues, Exceeds, is_next}
 use Rattle.member_selection.specs.Going.{has_gone}
 use Rattle.member_selection.specs.Outcomes.{HasOperands}
 use Rattle.member_selection.specs.declared.outcome.Outcome.TheVariants.{Goes}
@@ -72,9 +71,3 @@ pub enough-of : (n : ℕ) (v : Value) (o : Operands) → HasOperands (Goes n (So
 enough-of zero v o has least = omega arith
 enough-of (suc zero) v o has least = omega arith
 enough-of (suc (suc n)) v o has least = has
-
--- ---- whether it has gone on
-
-pub next_if : (b : Bool) → b ≡ is_next (if b then Continues else Exceeds)
-next_if true = refl
-next_if false = refl

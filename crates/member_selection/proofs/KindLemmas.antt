@@ -3,10 +3,10 @@ use Rattle.std.proofs.Common.{◌≡◌, ℕ, ◌+◌, ◌-◌, ◌*◌, ◌<◌
 use Rattle.std.proofs.Math.Nat.{mod-add-div', mod-lt}
 use Rattle.std.specs.Prelude.{Some, ◌/◌, ◌%◌, ◌^◌}
 use Rattle.jvm_model.specs.Basis.KindNumbers.{class_of_base, user_count}
+use Rattle.jvm_model.specs.Soundness.Sound.{IsPrimitiveArray}
 use Rattle.jvm_model.specs.Soundness.Sound as sound
 use Rattle.jvm_model.proofs.Soundness.SoundKinds as kinds
 use Rattle.class_linker.specs.Linkers.{IsLoaded, LinkerView}
-use Rattle.member_selection.specs.Arrays.{IsPrimitiveArray}
 use Rattle.member_selection.specs.Objects.{IsUsable}
 
 pub of-sound : (l : LinkerView) (kind : ℕ) → sound.IsUsable l.program l.loaded kind → IsUsable l kind
@@ -26,11 +26,7 @@ module _ (l : LinkerView) (root : IsLoaded l (user_count l.program)) where
       of-sound l (dimensions * 16777216 + base) (kinds.of-primitive l.program l.loaded root dimensions base deep small)
 
   pub primitive : (kind : ℕ) → IsPrimitiveArray kind → IsUsable l kind
-  primitive kind is =
-      let long : 16777216 ≤ kind = is.array in
-      let short : kind < 16777232 = is.primitive in
-      let whole : 1 * 16777216 + (kind - 16777216) ≡ kind = omega (arith, long) in
-      subst (IsUsable l) whole (of-primitive 1 (kind - 16777216) (omega arith) (omega (arith, long, short)))
+  primitive kind is = of-sound l kind (kinds.primitive l.program l.loaded root kind is)
 
   -- an array over a kind
   pub over : (kind : ℕ) → IsUsable l kind → IsUsable l (16777216 + kind)

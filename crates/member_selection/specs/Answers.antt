@@ -1,6 +1,6 @@
--- What an instruction comes to, by the outcome of its rule: the answer, and what becomes of the current frame (JVM Specification 2.6,
--- 4.9.2, 6.5).
-use Rattle.std.specs.Prelude.{ℕ, false, List, Result, Ok, Err, ◌==◌, if◌then◌else◌, Bool, true}
+-- What an instruction comes to, by the outcome of its rule, and what becomes of the current frame (JVM Specification 2.6, 4.9.2, 6.5).
+use Rattle.std.specs.Prelude.{ℕ, false, List, Result, Ok, Err, ◌==◌, if◌then◌else◌, Bool}
+use Rattle.base_classes.specs.declared.places.TheConstants.{CLASS_CIRCULARITY_ERROR, NO_CLASS_DEF_FOUND_ERROR, NO_SUCH_FIELD_ERROR, NO_SUCH_METHOD_ERROR}
 use Rattle.frame_stack.specs.FrameLists.{PlacedFrame, FramesView, top_operands}
 use Rattle.jvm_basic.specs.Outcomes.{can_hold, top_locals, with_top}
 use Rattle.jvm_model.specs.declared.state.Shared.{Shared}
@@ -19,10 +19,10 @@ use Rattle.member_selection.specs.declared.outcome.AbruptCompletion.TheVariants 
 -- that of the built-in class at this place, where it is the error of a load or of a resolution
 abbrev pub exception_numbered : ℕ → Exception
 exception_numbered number =
-    if number == 42 then exception.NoClassDefinition else
-    if number == 45 then exception.ClassCircularity else
-    if number == 49 then exception.NoSuchField else
-    if number == 50 then exception.NoSuchMethod else exception.IncompatibleClassChange
+    if number == NO_CLASS_DEF_FOUND_ERROR then exception.NoClassDefinition else
+    if number == CLASS_CIRCULARITY_ERROR then exception.ClassCircularity else
+    if number == NO_SUCH_FIELD_ERROR then exception.NoSuchField else
+    if number == NO_SUCH_METHOD_ERROR then exception.NoSuchMethod else exception.IncompatibleClassChange
 
 abbrev pub abrupt_view : AbruptCompletion → Outcome
 abrupt_view (abrupt.Raises e message) = Raises (exception_name e) message
@@ -42,22 +42,15 @@ place_found (Err e) = Err (abrupt_view e)
 
 -- ---- a frame that goes on, or not
 
-pub data Answer : Type 0 where
-  -- the frame has gone on
-  Continues : Answer
-  -- its operands would be deeper than its limit
-  Exceeds : Answer
-  -- nothing goes on by itself
-  Stops : Outcome → Answer
-
-abbrev pub answer_in : Outcome → List PlacedFrame → Answer
-answer_in (GoesOn l o Next) fs = if can_hold o fs then Continues else Exceeds
-answer_in q fs = Stops q
+-- to the next place, with operands within its limit
+abbrev pub goes_on : Outcome → List PlacedFrame → Bool
+goes_on (GoesOn l o Next) fs = can_hold o fs
+goes_on q fs = false
 
 -- Unless it goes on the frame is as it was.
-abbrev pub frames_in : Outcome → ℕ → List PlacedFrame → List PlacedFrame
-frames_in (GoesOn l o Next) next fs = if can_hold o fs then with_top l o next fs else fs
-frames_in q next fs = fs
+abbrev pub frames_after : Outcome → ℕ → List PlacedFrame → List PlacedFrame
+frames_after (GoesOn l o Next) next fs = if can_hold o fs then with_top l o next fs else fs
+frames_after q next fs = fs
 
 -- ---- a rule sees the locals and operands of the current frame
 
@@ -79,7 +72,3 @@ shared_by rule f = (done_on rule f).shared
 
 abbrev pub wrote_by : Rule → FramesView → List ℕ
 wrote_by rule f = (done_on rule f).wrote
-
-abbrev pub is_next : Answer → Bool
-is_next Continues = true
-is_next _ = false

@@ -1,5 +1,5 @@
 -- How multianewarray reads its operands and counts slots.
-use Rattle.std.specs.Prelude.{◌≤◌, ◌<◌, ◌-◌, ℕ, List, [], ◌∷◌, ◌++◌, Option, Some, None, ℤ, pos, negsuc, nat_lt, if◌then◌else◌}
+use Rattle.std.specs.Prelude.{◌-◌, ℕ, List, [], ◌∷◌, ◌++◌, Option, Some, None, ℤ, pos, negsuc, nat_lt, if◌then◌else◌}
 use Rattle.heap_objects.specs.declared.Value.{Value}
 use Rattle.heap_objects.specs.declared.Value.TheVariants.{Int}
 use Rattle.class_linker.specs.Linkers.{LinkerView}
@@ -24,8 +24,3 @@ abbrev pub AreUsable : LinkerView → ℕ → List ℕ → Type 0
 AreUsable l kind [] = Unit {0}
 AreUsable l kind (n ∷ []) = IsUsable l kind
 AreUsable l kind (n ∷ next ∷ more) = IsUsable l kind × AreUsable l (kind - 16777216) (next ∷ more)
-
--- an array of one dimension whose elements are of a primitive type
-pub record IsPrimitiveArray (kind : ℕ) : Type 0 where
-  pub array : 16777216 ≤ kind
-  pub primitive : kind < 16777232

@@ -46,9 +46,9 @@ HasDimensions (reference.Anewarray name) = (meaning_of name).dimensions < 255
 HasDimensions (reference.Multianewarray name dimensions) = (1 ≤ dimensions) × (dimensions ≤ (meaning_of name).dimensions)
 HasDimensions _ = Unit {0}
 
--- the class of an object of this kind, and 0 where there is no object
+-- the class of an object of this kind, and java/lang/Object where there is no object
 abbrev pub class_at_kind : Program → Option ℕ → ℕ
-class_at_kind p kind = option_map_or (class_of_kind p) kind 0
+class_at_kind p kind = option_map_or (class_of_kind p) kind (user_count p)
 
 -- an object of the first kind is of the second, and its class is the other one or inherits from it
 abbrev pub has_field_at : Program → Option ℕ → ℕ → ℕ → Bool

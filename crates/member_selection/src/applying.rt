@@ -3,7 +3,7 @@
 ghost use Rattle.std.specs.Prelude.{◌≡◌, true, None, Some};
 ghost use Rattle.frame_stack.specs.FrameLists.{top_operands, with_frames};
 ghost use Rattle.member_selection.specs.Going.{gone, has_gone, holds};
-ghost use Rattle.member_selection.specs.Answers.{answer_in, frames_in, is_next};
+ghost use Rattle.member_selection.specs.Answers.{frames_after, goes_on};
 ghost use Rattle.member_selection.specs.Outcomes.{HasOperands, outcome_in_frame};
 ghost use Rattle.member_selection.specs.declared.outcome.Outcome.TheVariants.{Goes};
 
@@ -101,13 +101,11 @@ pub fn apply(frames: &mut Frames, count: u16, value: Option<Value>, next: u16) -
 
 /// Whether the frame has gone on by what is asked for; it is as it was where it has not.
 #[inline(always)]
-#[tactic(auto, using(crate::proofs::Going::next_if))]
 pub fn pass_by(frames: &mut Frames, outcome: Outcome, next: u16) -> bool
     requires { HasOperands outcome (top_operands frames.old.frames) }
-    ensures answer { result
-        ≡ is_next (answer_in (outcome_in_frame outcome frames.old) frames.old.frames) }
+    ensures answer { result ≡ goes_on (outcome_in_frame outcome frames.old) frames.old.frames }
     ensures frames { frames.new ≡ with_frames
-        (frames_in (outcome_in_frame outcome frames.old) next frames.old.frames) frames.old }
+        (frames_after (outcome_in_frame outcome frames.old) next frames.old.frames) frames.old }
 {
     match outcome {
         Outcome::Goes(count, value) => apply(frames, count, value, next),

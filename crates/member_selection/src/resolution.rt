@@ -12,6 +12,9 @@ ghost use Rattle.member_selection.specs.Objects.{IsResolved};
 ghost use Rattle.class_index.specs.Indices.{IsLinkable};
 
 use crate::outcome::AbruptCompletion;
+use base_classes::{
+    CLASS_CIRCULARITY_ERROR, NO_CLASS_DEF_FOUND_ERROR, NO_SUCH_FIELD_ERROR, NO_SUCH_METHOD_ERROR,
+};
 use class_linker::{Linker, Loaded};
 use frame_stack::Frames;
 use jf_bytes::{NoMemory, Text16};
@@ -70,10 +73,10 @@ pub fn exception_numbered(number: u16) -> Exception
     ensures { result ≡ exception_numbered number }
 {
     match number {
-        42 => Exception::NoClassDefinition,
-        45 => Exception::ClassCircularity,
-        49 => Exception::NoSuchField,
-        50 => Exception::NoSuchMethod,
+        NO_CLASS_DEF_FOUND_ERROR => Exception::NoClassDefinition,
+        CLASS_CIRCULARITY_ERROR => Exception::ClassCircularity,
+        NO_SUCH_FIELD_ERROR => Exception::NoSuchField,
+        NO_SUCH_METHOD_ERROR => Exception::NoSuchMethod,
         _ => Exception::IncompatibleClassChange,
     }
 }

@@ -4,18 +4,18 @@ use Rattle.std.specs.Option.{option_map_or}
 use Rattle.const_pool.specs.declared.class.ClassFile.{ClassFile}
 use Rattle.const_pool.specs.declared.class.CodeAttribute.{CodeAttribute}
 use Rattle.const_pool.specs.declared.class.Member.{Member}
-use Rattle.jvm_model.specs.declared.instruction.Operation.TheVariants.{Named}
 use Rattle.jvm_model.specs.declared.instruction.SymbolicReference.{SymbolicReference}
+use Rattle.jvm_model.specs.declared.instruction.Operation.TheVariants.{Named}
+use Rattle.jvm_model.specs.declared.instruction.Operation.{Operation}
 use Rattle.jvm_model.specs.Codes.Lines.{operation_of}
 use Rattle.jvm_model.specs.Basis.Methods.{code_of}
 use Rattle.jvm_model.specs.Codes.Places.{read_from}
-use Rattle.prepared_lines.specs.declared.line.Action.{Action}
-use Rattle.prepared_lines.specs.declared.line.Action.TheVariants as action
+use Rattle.prepared_lines.specs.declared.line.LocalAction.{LocalAction}
 use Rattle.jvm_model.specs.Profiling.Revelation.{symbolic_reference_in}
 
 -- what a line names, where it can begin a method
-abbrev pub begins_by : Action → Option SymbolicReference
-begins_by (action.Named n) = symbolic_reference_in (Named n)
+abbrev pub begins_by : Operation LocalAction → Option SymbolicReference
+begins_by (Named n) = symbolic_reference_in (Named n)
 begins_by _ = None
 
 -- of so many instructions from an offset on

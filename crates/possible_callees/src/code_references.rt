@@ -14,15 +14,15 @@ use crate::tables::add_some;
 use code_model::{Instr, instr_at};
 use const_pool::{ClassFile, Member};
 use jf_bytes::{NoMemory, Seq};
-use jvm_model::{Program, SymbolicReference, code_of};
-use prepared_lines::{Action, Line, line_of};
+use jvm_model::{Operation, Program, SymbolicReference, code_of};
+use prepared_lines::{Line, LocalAction, line_of};
 use std::alloc::Global;
 
 /// What names something and can begin a method.
-fn beginning(action: Action) -> Option<SymbolicReference>
-    ensures { result ≡ begins_by action }
+fn beginning(operation: Operation<LocalAction>) -> Option<SymbolicReference>
+    ensures { result ≡ begins_by operation }
 {
-    let Action::Named(reference) = action else {
+    let Operation::Named(reference) = operation else {
         return None;
     };
     match reference {
@@ -43,10 +43,10 @@ fn beginning(action: Action) -> Option<SymbolicReference>
 
 /// What a line names, where it can begin a method.
 fn beginning_of(line: Line) -> Option<SymbolicReference>
-    ensures { result ≡ begins_by line.action }
+    ensures { result ≡ begins_by line.operation }
 {
-    let Line { action, .. } = line;
-    beginning(action)
+    let Line { operation, .. } = line;
+    beginning(operation)
 }
 
 /// What an instruction names, where it can begin a method.

@@ -1,6 +1,6 @@
 pub mod LineFamilies
 pub mod CellLemmas
-pub mod LinkedLemmas
+pub mod KnownNames
 pub mod Tied
 pub mod Entries
 pub mod Dimensions

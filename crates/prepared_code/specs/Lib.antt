@@ -10,7 +10,7 @@ pub mod Rewritten
 pub mod Making
 pub mod Lines
 pub mod Cells
-pub mod Linked
+pub mod Originals
 pub mod Initializations
 pub mod OriginalRun
 pub mod Ready

@@ -14,7 +14,7 @@ use Rattle.jvm_model.specs.declared.state.Entry.{Entry}
 use Rattle.jvm_model.specs.declared.state.State.{State}
 use Rattle.jvm_basic.specs.Rules.{datum_in, outcome_placed, rule_of}
 use Rattle.prepared_lines.specs.declared.line.Line.{Line}
-use Rattle.prepared_lines.specs.Lines.{action_of}
+use Rattle.prepared_lines.specs.Lines.{operation_kept}
 use Rattle.jvm_model.specs.Soundness.SoundListings.{IsSound, IsSoundEntry, IsSoundListing}
 use Rattle.prepared_code.specs.Versions.{Setup, line_at, method_of, next_in, operation_in, listing_of}
 
@@ -28,8 +28,8 @@ abbrev pub HasLocal : Line → Local → Type 0
 HasLocal line l = local_of (family_of line.instr.op) line.instr.arg (option_and_then datum_in line.constant) ≡ Some l
 
 -- a line is of an operation
-pub record IsTied (line : Line) (op : Operation) : Type 0 where
-  pub action : action_of op ≡ line.action
+pub record IsTied (line : Line) (op : Operation Local) : Type 0 where
+  pub kept : operation_kept op ≡ line.operation
   pub next : next_of op line.next ≡ next_in line
   pub alone : (l : Local) → op ≡ Within l → IsRuleOf line l
   pub within : (l : Local) → op ≡ Within l → HasLocal line l

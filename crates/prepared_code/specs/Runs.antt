@@ -2,9 +2,10 @@
 use Rattle.std.specs.Prelude.{◌≡◌, ℕ, zero, suc, ◌<◌, false, List, [], ◌∷◌, length, Option, Some, None, is_some, refl}
 use Rattle.std.specs.Option.{option_and_then}
 use Rattle.frame_stack.specs.FrameLists.{PlacedFrame}
+use Rattle.jvm_model.specs.declared.instruction.Operation.TheVariants.{Within}
 use Rattle.jvm_model.specs.declared.state.State.{State}
 use Rattle.jvm_model.specs.Running.Run.{step}
-use Rattle.prepared_lines.specs.declared.line.Action.TheVariants.{Local}
+use Rattle.prepared_lines.specs.declared.line.LocalAction.TheVariants.{Basic}
 use Rattle.prepared_lines.specs.declared.line.Line.{Line}
 use Rattle.prepared_code.specs.declared.initializations.Initialization.{Initialization}
 use Rattle.prepared_code.specs.declared.parts.Parts.{Parts}
@@ -36,7 +37,7 @@ pub record Leads (w : Setup) (old : State) (n : ℕ) (new : State) : Type 0 wher
 -- it stands at this line, which it does by itself
 abbrev pub IsPlainLine : Setup → List PlacedFrame → Line → Type 0
 IsPlainLine w [] line = ⊥
-IsPlainLine w (f ∷ fs) line = (line_at w.versions f.version f.place ≡ Some line) × (line.action ≡ Local)
+IsPlainLine w (f ∷ fs) line = (line_at w.versions f.version f.place ≡ Some line) × (line.operation ≡ Within Basic)
 
 -- it stands at this line of a version
 abbrev pub IsLineIn : Version → List PlacedFrame → Line → Type 0

@@ -3,6 +3,7 @@ use Rattle.std.specs.Prelude.{◌≡◌, ◌≤◌, ◌<◌, ℕ, [], length, ma
 use Rattle.std.specs.Option.{option_map}
 use Rattle.jvm_model.specs.declared.program.Program.{Program}
 use Rattle.jvm_model.specs.Basis.Data.{Instruction}
+use Rattle.jvm_model.specs.declared.instruction.Local.{Local}
 use Rattle.jvm_model.specs.declared.instruction.Operation.{Operation}
 use Rattle.jvm_model.specs.Codes.Moved.{HaveBounds, IsPlace, moved_catcher, moved_instruction}
 use Rattle.jvm_model.specs.Codes.Originals.{original}
@@ -10,7 +11,7 @@ use Rattle.prepared_code.specs.Tables.{Version, Versions, version_at}
 use Rattle.prepared_code.specs.Versions.{catcher_in, current_of, instruction_in, line_in}
 
 -- an instruction of the method does this
-pub record HasOperation (p : Program) (method : ℕ) (op : Operation) : Type 0 where
+pub record HasOperation (p : Program) (method : ℕ) (op : Operation Local) : Type 0 where
   pub place : ℕ
   pub instruction : Instruction
   pub there : (original p).at method place ≡ Some instruction

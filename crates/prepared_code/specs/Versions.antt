@@ -10,6 +10,7 @@ use Rattle.jvm_model.specs.declared.instruction.Local.{Local}
 use Rattle.jvm_model.specs.declared.instruction.Local.TheVariants.{Nop, Return}
 use Rattle.jvm_model.specs.declared.instruction.Operation.{Operation}
 use Rattle.jvm_model.specs.declared.instruction.Operation.TheVariants.{Within, Named, Athrow, Monitor, Newarray, Arraylength, LoadElement, StoreElement, LdcString}
+use Rattle.jvm_model.specs.declared.instruction.Operation.TheVariants as operation
 use Rattle.jvm_model.specs.Basis.Families.{family_of}
 use Rattle.jvm_model.specs.Codes.Lines.{local_of, next_of, targets_of}
 use Rattle.jvm_model.specs.declared.family.Family.{Family}
@@ -18,8 +19,8 @@ use Rattle.jvm_basic.specs.Rules.{datum_in}
 use Rattle.member_selection.specs.Objects.{HasDimensions}
 use Rattle.prepared_code.specs.Lines.{IfNamedBy}
 use Rattle.prepared_lines.specs.Lines.{hot_in}
-use Rattle.prepared_lines.specs.declared.line.Action.{Action}
-use Rattle.prepared_lines.specs.declared.line.Action.TheVariants as action
+use Rattle.prepared_lines.specs.declared.line.LocalAction.{LocalAction}
+use Rattle.prepared_lines.specs.declared.line.LocalAction.TheVariants as local_action
 use Rattle.prepared_lines.specs.declared.line.Line.{Line}
 use Rattle.prepared_code.specs.declared.versions.Catching.{Catching}
 use Rattle.prepared_code.specs.Tables.{Version, Versions, version_at}
@@ -43,12 +44,12 @@ line_at v version place = option_and_then (line_in place) (version_at v version)
 -- a line keeps the family of its instruction, and what it does as it is run
 pub record IsPrepared (l : Line) : Type 0 where
   pub family : l.family ≡ family_of l.instr.op
-  pub hot : l.hot ≡ hot_in l.action (family_of l.instr.op) l.instr.arg l.next
+  pub hot : l.hot ≡ hot_in l.operation (family_of l.instr.op) l.instr.arg l.next
 
 -- each line does, and the array's type that it names has the dimensions that it needs
 pub record HasLines (v : Versions) : Type 0 where
   pub prepared : (version place : ℕ) → IfSome (line_at v version place) IsPrepared
-  pub dimensions : (version place : ℕ) → IfSome (line_at v version place) (λ (l : Line). IfNamedBy l.action l.next (λ n next. HasDimensions n))
+  pub dimensions : (version place : ℕ) → IfSome (line_at v version place) (λ (l : Line). IfNamedBy l.operation l.next (λ n next. HasDimensions n))
 
 -- each line of the version does
 abbrev pub ArePrepared : Version → Type 0
@@ -57,7 +58,7 @@ ArePrepared x = (place : ℕ) → IfSome (line_in place x) IsPrepared
 -- the same of one version
 pub record HasOwnLines (x : Version) : Type 0 where
   pub prepared : ArePrepared x
-  pub dimensions : (place : ℕ) → IfSome (line_in place x) (λ (l : Line). IfNamedBy l.action l.next (λ n next. HasDimensions n))
+  pub dimensions : (place : ℕ) → IfSome (line_in place x) (λ (l : Line). IfNamedBy l.operation l.next (λ n next. HasDimensions n))
 
 -- The version in which a method begins. One that is none of the program's begins in a version that none is.
 abbrev pub current_of : Versions → ℕ → ℕ
@@ -86,13 +87,13 @@ is_last_family (family.Return k) = true
 is_last_family _ = false
 
 -- nor behind athrow
-abbrev pub is_athrow : Action → Bool
-is_athrow action.Athrow = true
+abbrev pub is_athrow : Operation LocalAction → Bool
+is_athrow operation.Athrow = true
 is_athrow _ = false
 
 abbrev pub next_in : Line → Option ℕ
 next_in line =
-    if is_athrow line.action then None
+    if is_athrow line.operation then None
     else if is_last_family (family_of line.instr.op) then None else Some line.next
 
 -- ---- the instruction that a line is
@@ -100,23 +101,23 @@ next_in line =
 abbrev pub local_in : Line → Local
 local_in line = unwrap_or (local_of (family_of line.instr.op) line.instr.arg (option_and_then datum_in line.constant)) Nop
 
-abbrev pub operation_as : Line → Action → Operation
-operation_as line action.Local = Within (local_in line)
-operation_as line (action.Return k) = Within (Return k)
-operation_as line (action.Named n) = Named n
-operation_as line action.Athrow = Athrow
-operation_as line action.Monitor = Monitor
-operation_as line action.Arraylength = Arraylength
-operation_as line (action.Newarray kind) = Newarray (kind - 16777216)
-operation_as line (action.LoadElement k) = LoadElement k
-operation_as line (action.StoreElement k) = StoreElement k
-operation_as line (action.LdcString units) = LdcString units
+abbrev pub operation_as : Line → Operation LocalAction → Operation Local
+operation_as line (operation.Within local_action.Basic) = Within (local_in line)
+operation_as line (operation.Within (local_action.Return k)) = Within (Return k)
+operation_as line (operation.Named n) = Named n
+operation_as line operation.Athrow = Athrow
+operation_as line operation.Monitor = Monitor
+operation_as line operation.Arraylength = Arraylength
+operation_as line (operation.Newarray kind) = Newarray kind
+operation_as line (operation.LoadElement k) = LoadElement k
+operation_as line (operation.StoreElement k) = StoreElement k
+operation_as line (operation.LdcString units) = LdcString units
 
-abbrev pub operation_in : Line → Operation
-operation_in line = operation_as line line.action
+abbrev pub operation_in : Line → Operation Local
+operation_in line = operation_as line line.operation
 
 -- with an operation
-abbrev pub instruction_by : Operation → Line → Instruction
+abbrev pub instruction_by : Operation Local → Line → Instruction
 instruction_by op line = record { operation = op; own = line.instr.at; next = next_of op line.next; targets = targets_of line.instr.arg }
 
 abbrev pub instruction_in : Line → Instruction

@@ -1,7 +1,7 @@
 //! The original code of a program, prepared: what stands at each offset is looked up once, and is
 //! found by its offset from then on.
 
-ghost use Rattle.std.specs.Prelude.{ℕ, [], ◌≡◌, ◌≢◌, Some, ◌<◌, ◌^◌, length, false, true};
+ghost use Rattle.std.specs.Prelude.{ℕ, [], ◌≡◌, ◌≢◌, Some, false, true};
 ghost use Rattle.std.specs.Prelude.{IfOk, OnErr, OnOk};
 ghost use Rattle.std.specs.Option.{option_copied, option_map, IfSome};
 ghost use Rattle.jvm_model.specs.Basis.Families.{family_of};
@@ -11,7 +11,7 @@ ghost use Rattle.prepared_code.specs.Tables.{Adds, AreAllCurrent, Releases, vers
 ghost use Rattle.method_versions.specs.Tables.{is_superseded_in};
 ghost use Rattle.prepared_code.specs.Cells.{cell_at};
 ghost use Rattle.jvm_model.specs.Basis.Data.{World};
-ghost use Rattle.prepared_code.specs.Linked.{IsLinked, IsReady, setup_of};
+ghost use Rattle.prepared_code.specs.Originals.{AreNamesKnown, IsReady, setup_of};
 ghost use Rattle.prepared_code.specs.Making.{passage_of};
 ghost use Rattle.prepared_code.specs.Prepared.{FitsOriginals};
 ghost use Rattle.prepared_code.specs.Entries.{original_versions};
@@ -40,7 +40,7 @@ use code_model::Homes;
 use const_pool::ClassFile;
 use frame_stack::Frames;
 use jf_bytes::{NoMemory, Seq};
-use jvm_model::{Mark, Program};
+use jvm_model::Mark;
 use member_selection::{Known, MethodNumbers};
 use prepared_lines::Line;
 use std::alloc::Global;
@@ -49,8 +49,7 @@ use std::rc::Rc;
 
 /// A program with the versions of its methods and what the names of its lines came to. The lines of
 /// a method's original code are made when it is first run; a clause sees the versions with all
-/// their lines, those that are kept beside them, and what is kept of names. The program is the
-/// runtime's too.
+/// their lines, those that are kept beside them, and what is kept of names.
 #[derive(Drop)]
 pub struct Originals {
     index: Rc<Index>,
@@ -60,10 +59,10 @@ pub struct Originals {
 
 impl Model for Originals {
     ghost use Rattle.prepared_code.specs.Kept.{IsKept};
-    ghost use Rattle.prepared_code.specs.Linked.{Linked};
+    ghost use Rattle.prepared_code.specs.Originals.{OriginalsView};
     ghost use Rattle.prepared_code.specs.Making.{with_lines};
 
-    ghost Value = { Linked };
+    ghost Value = { OriginalsView };
 
     ghost view = { λ o. record {
       program = o.index.value;
@@ -92,15 +91,6 @@ impl Originals {
             versions,
             cells,
         })
-    }
-
-    /// The program that it was made of.
-    pub fn program(&self) -> &Program
-        ensures program { result.now ≡ self.now.program }
-        ensures few { length result.now.classes < 2 ^ 24 }
-        ensures numbered { length result.now.methods < 2 ^ 32 }
-    {
-        self.index.as_ref().program()
     }
 
     /// The version with this number. None where its lines are still to be made.
@@ -156,7 +146,7 @@ impl Originals {
         ensures ready { OnOk result (IsReady self.new version) }
         ensures program { self.new.program ≡ self.old.program }
         ensures versions { self.new.versions ≡ self.old.versions }
-        ensures linked { (r : RuntimeView) → IsLinked self.old r → IsLinked self.new r }
+        ensures known { (r : RuntimeView) → AreNamesKnown self.old r → AreNamesKnown self.new r }
     {
         let Some(held) = version_at(&self.versions, version) else {
             return Ok(());
@@ -175,7 +165,7 @@ impl Originals {
         ensures ready { OnOk result (IsReady self.new version) }
         ensures program { self.new.program ≡ self.old.program }
         ensures versions { self.new.versions ≡ self.old.versions }
-        ensures linked { (r : RuntimeView) → IsLinked self.old r → IsLinked self.new r }
+        ensures known { (r : RuntimeView) → AreNamesKnown self.old r → AreNamesKnown self.new r }
     {
         if has_lines(&self.versions, version) {
             return Ok(());
@@ -249,7 +239,7 @@ impl Originals {
             self.new.versions) }
         ensures err { OnErr result (self.new.versions ≡ self.old.versions) }
         ensures program { self.new.program ≡ self.old.program }
-        ensures linked { (r : RuntimeView) → IsLinked self.old r → IsLinked self.new r }
+        ensures known { (r : RuntimeView) → AreNamesKnown self.old r → AreNamesKnown self.new r }
         // The versions are of the program, and what stood for the run stands for it.
         ensures set_up { (w : World) → w.program ≡ self.old.program → OnOk result
             (AreMethodImages w.program class image.now homes.now
@@ -274,7 +264,7 @@ impl Originals {
             self.new.versions }
         ensures same { AreAllCurrent self.old.versions → self.new.versions ≡ self.old.versions }
         ensures program { self.new.program ≡ self.old.program }
-        ensures linked { (r : RuntimeView) → IsLinked self.old r → IsLinked self.new r }
+        ensures known { (r : RuntimeView) → AreNamesKnown self.old r → AreNamesKnown self.new r }
     {
         self.versions.release(frames);
     }

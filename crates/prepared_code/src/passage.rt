@@ -7,8 +7,8 @@ ghost use Rattle.prepared_code.specs.Versions.{ArePrepared, IsPrepared, is_athro
 ghost use Rattle.jvm_model.specs.Basis.Families.{family_of};
 
 use crate::versions::{Version, line_in};
-use jvm_model::Family;
-use prepared_lines::{Action, Line};
+use jvm_model::{Family, Operation};
+use prepared_lines::{Line, LocalAction};
 
 /// Whether control never goes on behind an instruction of this family.
 fn is_last(family: Family) -> bool
@@ -21,11 +21,11 @@ fn is_last(family: Family) -> bool
 }
 
 /// Whether it is athrow.
-fn is_athrow(action: &Action) -> bool
-    ensures { result ≡ is_athrow action.now }
+fn is_athrow(operation: &Operation<LocalAction>) -> bool
+    ensures { result ≡ is_athrow operation.now }
 {
-    match action {
-        Action::Athrow => true,
+    match operation {
+        Operation::Athrow => true,
         _ => false,
     }
 }
@@ -35,7 +35,7 @@ pub fn next_in(line: &Line) -> Option<u16>
     requires { line.now.family ≡ family_of line.now.instr.op }
     ensures { result ≡ next_in line.now }
 {
-    if is_athrow(&line.action) || is_last(line.family) {
+    if is_athrow(&line.operation) || is_last(line.family) {
         None
     } else {
         Some(line.next)

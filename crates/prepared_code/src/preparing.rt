@@ -13,15 +13,16 @@ ghost use Rattle.prepared_code.specs.Prepared.{FitsOriginals, HasShortCode};
 ghost use Rattle.symbolic_references.specs.ProgramFacts.{AreTablesOf, exception_in, exception_kind};
 
 use crate::versions::{Catching, PreparedCode, Version, Versions};
+use class_index::Index;
 use code_model::instr_at;
 use const_pool::{ClassFile, Handler, Kind, Member};
 use jf_bytes::{NoMemory, Seq, Text16};
 use jvm_model::{Mark, MethodPlace, Program, code_of};
 use member_selection::MethodNumbers;
 use method_versions::Held;
-use prepared_lines::{Line, class_in, kind_for, line_of, shape_of};
+use prepared_lines::{Line, class_in, line_of, shape_of};
 use std::alloc::Global;
-use symbolic_references::{Exceptions, Method, ProgramTables};
+use symbolic_references::{Exceptions, Method, ProgramTables, class_for, kind_for};
 
 /// The line at an offset of a code.
 pub fn code_line(
@@ -344,44 +345,49 @@ pub fn bare_versions(alloc: Global, program: &Program) -> Result<Versions, NoMem
 }
 
 /// The kinds of the exceptions that instructions raise, and of texts.
-pub fn exceptions_of(program: &Program) -> Exceptions
-    requires { length program.now.classes < 2 ^ 24 }
-    ensures raised { (e : TheException) →
-        exception_in program.now result e ≡ exception_kind program.now e }
-    ensures string { result.string ≡ kind_for program.now string }
-    ensures small { result.string < 2 ^ 25 }
+pub fn exceptions_of(alloc: Global, index: &Index) -> Result<Exceptions, NoMemory>
+    ensures raised { IfOk result (λ x. (e : TheException) →
+        exception_in index.now x e ≡ exception_kind index.now e) }
+    ensures string { IfOk result (λ x. x.string ≡ kind_for index.now string) }
+    ensures small { IfOk result (λ x. x.string < 2 ^ 25) }
 {
-    Exceptions {
-        abstract_method: kind_for(program, b"java/lang/AbstractMethodError"),
-        arithmetic: kind_for(program, b"java/lang/ArithmeticException"),
-        array_store: kind_for(program, b"java/lang/ArrayStoreException"),
-        class_cast: kind_for(program, b"java/lang/ClassCastException"),
-        class_circularity: kind_for(program, b"java/lang/ClassCircularityError"),
-        incompatible_change: kind_for(program, b"java/lang/IncompatibleClassChangeError"),
-        in_initializer: kind_for(program, b"java/lang/ExceptionInInitializerError"),
-        index_outside: kind_for(program, b"java/lang/ArrayIndexOutOfBoundsException"),
-        instantiation: kind_for(program, b"java/lang/InstantiationError"),
-        negative_array_size: kind_for(program, b"java/lang/NegativeArraySizeException"),
-        no_class_definition: kind_for(program, b"java/lang/NoClassDefFoundError"),
-        no_such_field: kind_for(program, b"java/lang/NoSuchFieldError"),
-        no_such_method: kind_for(program, b"java/lang/NoSuchMethodError"),
-        null_pointer: kind_for(program, b"java/lang/NullPointerException"),
-        stack_overflow: kind_for(program, b"java/lang/StackOverflowError"),
-        unsatisfied_link: kind_for(program, b"java/lang/UnsatisfiedLinkError"),
-        string: kind_for(program, b"java/lang/String"),
-    }
+    Ok(Exceptions {
+        abstract_method: kind_for(alloc, index, b"java/lang/AbstractMethodError")?,
+        arithmetic: kind_for(alloc, index, b"java/lang/ArithmeticException")?,
+        array_store: kind_for(alloc, index, b"java/lang/ArrayStoreException")?,
+        class_cast: kind_for(alloc, index, b"java/lang/ClassCastException")?,
+        class_circularity: kind_for(alloc, index, b"java/lang/ClassCircularityError")?,
+        incompatible_change: kind_for(alloc, index, b"java/lang/IncompatibleClassChangeError")?,
+        in_initializer: kind_for(alloc, index, b"java/lang/ExceptionInInitializerError")?,
+        index_outside: kind_for(alloc, index, b"java/lang/ArrayIndexOutOfBoundsException")?,
+        instantiation: kind_for(alloc, index, b"java/lang/InstantiationError")?,
+        negative_array_size: kind_for(alloc, index, b"java/lang/NegativeArraySizeException")?,
+        no_class_definition: kind_for(alloc, index, b"java/lang/NoClassDefFoundError")?,
+        no_such_field: kind_for(alloc, index, b"java/lang/NoSuchFieldError")?,
+        no_such_method: kind_for(alloc, index, b"java/lang/NoSuchMethodError")?,
+        null_pointer: kind_for(alloc, index, b"java/lang/NullPointerException")?,
+        stack_overflow: kind_for(alloc, index, b"java/lang/StackOverflowError")?,
+        unsatisfied_link: kind_for(alloc, index, b"java/lang/UnsatisfiedLinkError")?,
+        string: kind_for(alloc, index, b"java/lang/String")?,
+    })
 }
 
 /// What is asked of a program again and again, in tables.
-pub fn tables_of(alloc: Global, program: &Program) -> Result<ProgramTables, NoMemory>
-    requires { FitsOriginals program.now }
-    ensures { IfOk result (AreTablesOf program.now) }
+pub fn tables_of(alloc: Global, index: &Index) -> Result<ProgramTables, NoMemory>
+    requires { FitsOriginals index.now }
+    ensures { IfOk result (AreTablesOf index.now) }
 {
+    let program = index.program();
     let numbers = MethodNumbers::new(alloc, program)?;
     let methods = prepare_methods(alloc, program)?;
+    let exceptions = exceptions_of(alloc, index)?;
+    let throwable = class_for(alloc, index, b"java/lang/Throwable")?;
+    let error = class_for(alloc, index, b"java/lang/Error")?;
     Ok(ProgramTables {
         numbers,
         methods,
-        exceptions: exceptions_of(program),
+        exceptions,
+        throwable,
+        error,
     })
 }

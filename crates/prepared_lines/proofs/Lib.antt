@@ -1,1 +1,1 @@
-pub mod Actions
+pub mod Operations

@@ -3,36 +3,21 @@
 use code_model::Instr;
 use const_pool::Kind;
 use heap_objects::Value;
-use jf_bytes::Text16;
 use jvm_basic::Hot;
-use jvm_model::{Family, SymbolicReference};
+use jvm_model::{Family, Operation};
 
-/// What an instruction does (JVM Specification 6.5), with the names that it gives.
-#[derive(Drop)]
-pub enum Action {
-    /// What its frame does by itself.
-    Local,
+/// What a frame does by itself, as a line keeps it (JVM Specification 6.5).
+#[derive(Clone, Copy)]
+pub enum LocalAction {
+    /// By the line's family and operand.
+    Basic,
     /// Ends the activation, with a result of this kind where there is one.
     Return(Option<Kind>),
-    /// What names a class, a field or a method, which is looked up when it is executed.
-    Named(SymbolicReference),
-    Athrow,
-    /// monitorenter and monitorexit.
-    Monitor,
-    Arraylength,
-    /// newarray, with the kind of the array.
-    Newarray(u32),
-    /// iaload to saload, by the kind of what is loaded: Byte is of booleans too.
-    LoadElement(Kind),
-    /// iastore to sastore.
-    StoreElement(Kind),
-    /// ldc and ldc_w of a String of these units.
-    LdcString(Text16),
 }
 
 /// An instruction with its offset, its family, the number that an ldc pushes, the offset behind it,
-/// and what it does; and the same as it is run, which stands first, so that a step reads little of
-/// the rest.
+/// and what it does, with the names that it gives; and the same as it is run, which stands first,
+/// so that a step reads little of the rest.
 #[derive(Drop)]
 pub struct Line {
     pub hot: Hot,
@@ -40,5 +25,5 @@ pub struct Line {
     pub family: Family,
     pub constant: Option<Value>,
     pub next: u16,
-    pub action: Action,
+    pub operation: Operation<LocalAction>,
 }

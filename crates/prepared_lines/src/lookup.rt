@@ -1,58 +1,11 @@
-//! Classes and methods of a program by their names (JVM Specification 5.4.3).
+//! The static initializers of a program's classes, and its main class (JVM Specification 5.2, 5.5).
 
-ghost use Rattle.std.specs.Prelude.{◌≡◌, ◌<◌, ◌^◌, length, position, IfSome};
-ghost use Rattle.jvm_model.specs.Basis.Programs.{class_named, has_name};
+ghost use Rattle.std.specs.Prelude.{◌≡◌, ◌<◌, ◌^◌, length};
 ghost use Rattle.jvm_model.specs.Running.Run.{main_class};
 ghost use Rattle.jvm_model.specs.Basis.Programs.{initializer_of, number_from, same_place};
 
 use crate::members::initializer_in;
-use const_pool::ClassFile;
-use jf_bytes::Text16;
 use jvm_model::{MethodPlace, Program};
-
-/// Whether the class has this name.
-pub fn has_name(name: &Text16, class: &ClassFile) -> bool
-    ensures { result ≡ has_name name.now class.now }
-{
-    match class.pool.class_name(class.this_class) {
-        Ok(found) => name.same(found),
-        Err(_) => false,
-    }
-}
-
-/// Whether the name of the class is these bytes.
-pub fn has_bytes(name: &[u8], class: &ClassFile) -> bool
-    ensures { result ≡ has_name name.now class.now }
-{
-    match class.pool.class_name(class.this_class) {
-        Ok(found) => found.is_bytes(name),
-        Err(_) => false,
-    }
-}
-
-/// Where the class with this name stands.
-pub fn position_of(classes: &[ClassFile], name: &Text16) -> Option<usize>
-    ensures { result ≡ position (has_name name.now) classes.now }
-{
-    classes.iter().position(|class| has_name(name, class))
-}
-
-/// Where the class stands whose name is these bytes.
-pub fn position_of_bytes(classes: &[ClassFile], name: &[u8]) -> Option<usize>
-    ensures { result ≡ position (has_name name.now) classes.now }
-{
-    classes.iter().position(|class| has_bytes(name, class))
-}
-
-/// The position of the class whose name is these bytes.
-pub fn class_of_bytes(program: &Program, name: &[u8]) -> Option<u32>
-    requires { length program.now.classes < 2 ^ 32 }
-    ensures class { result ≡ class_named program.now name.now }
-    ensures within { IfSome result (λ class. class < length program.now.classes) }
-{
-    let at = position_of_bytes(program.classes.as_slice(), name)?;
-    Some(at as u32)
-}
 
 /// Whether this is where the method at a position of a class stands.
 fn is_place(class: usize, at: usize, place: &MethodPlace) -> bool

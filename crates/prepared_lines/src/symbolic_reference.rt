@@ -7,19 +7,20 @@ ghost use Rattle.const_pool.specs.Members.{reference_view};
 ghost use Rattle.const_pool.specs.References.{named_class, named_field, named_method, named_text};
 ghost use Rattle.jvm_model.specs.declared.instruction.SymbolicReference.TheVariants.{LdcClass};
 ghost use Rattle.jvm_model.specs.declared.instruction.Operation.TheVariants.{Named};
-ghost use Rattle.jvm_model.specs.Codes.Lines.{has_dimensions, interface_reference, array_reference};
+ghost use Rattle.jvm_model.specs.Codes.Lines.{has_dimensions, named_by};
+ghost use Rattle.jvm_model.specs.Codes.Lines.{interface_reference, array_reference};
 ghost use Rattle.jvm_model.specs.Codes.Lines.{named_interface_method, symbolic_reference_of, special_of};
 ghost use Rattle.jvm_model.specs.Basis.Programs.{name_of};
 ghost use Rattle.jvm_model.specs.Basis.MemberNames.{params_by};
-ghost use Rattle.prepared_lines.specs.Lines.{action_of, named_action};
+ghost use Rattle.prepared_lines.specs.Lines.{operation_kept};
 
 use crate::descriptor::shape_of;
-use crate::line::Action;
+use crate::line::LocalAction;
 use crate::members::{field_at, interface_method_at, method_at};
 use class_index::meaning_of;
 use const_pool::{ClassFile, Kind, MemberRef, Pool};
 use jf_bytes::{NoMemory, Seq, Text16};
-use jvm_model::{MemberName, MethodName, SymbolicReference};
+use jvm_model::{MemberName, MethodName, Operation, SymbolicReference};
 use std::alloc::Global;
 
 // ---- names
@@ -197,11 +198,11 @@ pub fn array_reference(
 }
 
 /// ldc of a Class of this name.
-pub fn class_action(name: Option<Text16>) -> Option<Action>
+pub fn class_operation(name: Option<Text16>) -> Option<Operation<LocalAction>>
     ensures { let operation = option_map (λ units. Named (LdcClass units)) name in
-        result ≡ option_map action_of operation }
+        result ≡ option_map operation_kept operation }
 {
-    Some(Action::Named(SymbolicReference::LdcClass(name?)))
+    Some(Operation::Named(SymbolicReference::LdcClass(name?)))
 }
 
 // ---- dimensions of array types
@@ -220,12 +221,12 @@ fn has_dimensions(reference: &SymbolicReference) -> bool
 }
 
 /// What an instruction with names does; none where it is none for its dimensions.
-pub fn named_action(reference: Option<SymbolicReference>) -> Option<Action>
-    ensures { result ≡ option_and_then named_action reference }
+pub fn named_operation(reference: Option<SymbolicReference>) -> Option<Operation<LocalAction>>
+    ensures { result ≡ option_map operation_kept (option_and_then named_by reference) }
 {
     let reference = reference?;
     if has_dimensions(&reference) {
-        Some(Action::Named(reference))
+        Some(Operation::Named(reference))
     } else {
         None
     }

@@ -9,6 +9,7 @@ use Rattle.jvm_model.specs.declared.event.Mark.{Mark}
 use Rattle.jvm_model.specs.declared.program.Program.{Program}
 use Rattle.jvm_model.specs.Soundness.Calls.{AreCalled}
 use Rattle.jvm_model.specs.Basis.Data.{Change, Loads, Began, Left, Unwound}
+use Rattle.jvm_model.specs.declared.instruction.Local.{Local}
 use Rattle.jvm_model.specs.declared.instruction.Operation.{Operation}
 use Rattle.jvm_model.specs.Rewriting.Images.{is_off}
 use Rattle.jvm_model.specs.Running.Changes.{without_first}
@@ -33,7 +34,7 @@ drop-begin P (suc n) (Began m ∷ more) all = drop-begin P n more all.1
 drop-begin P (suc n) (Left ∷ more) all = drop-begin P n more all
 drop-begin P (suc n) (Unwound ∷ more) all = drop-begin P n more all
 
-pub called-begin : (p : Program) (code : ℕ → List Operation) (loaded live : List ℕ) (cs : List Change) → AreCalled p code loaded live cs
+pub called-begin : (p : Program) (code : ℕ → List (Operation Local)) (loaded live : List ℕ) (cs : List Change) → AreCalled p code loaded live cs
     → AllBegin (λ m. has_class p loaded m ≡ true) cs
 called-begin p code loaded live [] are = tt
 called-begin p code loaded live (Loads classes ∷ more) are = called-begin p code loaded live more are

@@ -12,6 +12,7 @@ use Rattle.jvm_model.specs.declared.program.MethodPlace.{MethodPlace}
 use Rattle.jvm_model.specs.declared.program.Program.{Program}
 use Rattle.jvm_model.specs.Running.Changes.{EndThenBegin, AreOrdered}
 use Rattle.jvm_model.specs.Basis.Data.{Change, Loads, Began, Left, Unwound, World}
+use Rattle.jvm_model.specs.declared.instruction.Local.{Local}
 use Rattle.jvm_model.specs.declared.instruction.Operation.{Operation}
 use Rattle.jvm_model.specs.Profiling.EventLists.{Marking, step_events}
 use Rattle.jvm_model.specs.Classes.Load.{is_among}
@@ -92,7 +93,7 @@ at-marks p s m = at-get (mark_seen p s) 0 p.methods m ∙ (ap (λ n. option_map_
 
 -- ---- what stands where an activation begins in a step
 
-pub same-marks : (p : Program) (code : ℕ → List Operation) (a b : Standing) (m : ℕ) → a.selected ≡ b.selected → a.entered ≡ b.entered → a.loaded ≡ b.loaded
+pub same-marks : (p : Program) (code : ℕ → List (Operation Local)) (a b : Standing) (m : ℕ) → a.selected ≡ b.selected → a.entered ≡ b.entered → a.loaded ≡ b.loaded
     → mark_in p code a m ≡ mark_in p code b m
 same-marks p code a b m e f g =
     ap (λ l. let s : Standing = record a { selected = l } in mark_in p code s m) e

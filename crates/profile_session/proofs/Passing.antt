@@ -10,6 +10,7 @@ use Rattle.jvm_model.specs.declared.event.Mark.TheVariants.{Off, Plain, Root}
 use Rattle.jvm_model.specs.declared.program.MethodPlace.{MethodPlace}
 use Rattle.jvm_model.specs.declared.program.Program.{Program}
 use Rattle.jvm_model.specs.Basis.Data.{World}
+use Rattle.jvm_model.specs.declared.instruction.Local.{Local}
 use Rattle.jvm_model.specs.declared.instruction.Operation.{Operation}
 use Rattle.jvm_model.specs.Profiling.EventLists.{Marking, step_events}
 use Rattle.jvm_model.specs.Profiling.Paths.{is_inside}
@@ -40,7 +41,7 @@ and-false : (b : Bool) → (b && false) ≡ false
 and-false true = refl
 and-false false = refl
 
-no-difference : (p : Program) (code : ℕ → List Operation) (s : Standing) (class : ℕ) → differs p code s s class ≡ false
+no-difference : (p : Program) (code : ℕ → List (Operation Local)) (s : Standing) (class : ℕ) → differs p code s s class ≡ false
 no-difference p code s class = by (enumerate_from 0 p.methods) where
   by : (l : List (ℕ × MethodPlace)) → list_any (λ (e : ℕ × MethodPlace). e.1.class == class && not (same_mark (mark_in p code s e.0) (mark_in p code s e.0))) l ≡ false
   by [] = refl

@@ -9,6 +9,7 @@ use Rattle.jvm_model.specs.declared.state.State.{State}
 use Rattle.jvm_model.specs.Profiling.Activations.{trace_before}
 use Rattle.jvm_model.specs.Soundness.Calls.{AreFrom}
 use Rattle.jvm_model.specs.Basis.Data.{World}
+use Rattle.jvm_model.specs.declared.instruction.Local.{Local}
 use Rattle.jvm_model.specs.declared.instruction.Operation.{Operation}
 use Rattle.jvm_model.specs.Classes.Load.{is_among}
 use Rattle.jvm_model.specs.Codes.Originals.{original}
@@ -99,7 +100,7 @@ mark-is x b g method s =
     ∙ marks-stand (world x.vm) s.rests.is.whole x.acts s.rests.is.from (step_of (profiling_in b g x)) method
 
 -- where it was quiet no method is marked
-pub quiet-mark : (p : Program) (code : ℕ → List Operation) (s : Standing) (method : ℕ) → IsQuiet s → mark_in p code s method ≡ Off
+pub quiet-mark : (p : Program) (code : ℕ → List (Operation Local)) (s : Standing) (method : ℕ) → IsQuiet s → mark_in p code s method ≡ Off
 quiet-mark p code s method quiet =
     ap₂ (λ selected entered. if has_class p s.loaded method then (if is_among method selected then Root else if is_target p code s.loaded entered method then Plain else Off) else Off)
     quiet.selected quiet.entered

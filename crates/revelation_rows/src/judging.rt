@@ -82,7 +82,7 @@ fn judge<R: CpuClock>(
         return Err(RowError::Unknown);
     };
     let mut scene = new_scene(alloc, program)?;
-    let found = run(rt, alloc, &mut *scene, &items)?;
+    let found = run(rt, alloc, &mut *scene, items.as_slice())?;
     let difference = match found {
         Some(came) => Some(text_of(alloc, scene.linker.program(), &came)?),
         None => None,

@@ -16,6 +16,7 @@ mod playing;
 mod reading;
 mod scenes;
 mod spent;
+mod words;
 
 use jf_bytes::DiskFiles;
 use judging::judge_all;
@@ -36,7 +37,9 @@ fn main(rt: HostRuntime) -> io::Result<ExitCode> {
     let words: Vec<String> = env::args(&rt)?.collect(rt.alloc())?;
     let timed = is_timed(&words);
     let mut files = DiskFiles::new(rt.alloc(), &rt);
-    let input = match read_files(rt.alloc(), &words, if timed { 2 } else { 1 }, &mut files) {
+    let first = if timed { 2 } else { 1 };
+    let paths = &words[words.len().min(first)..];
+    let input = match read_files(rt.alloc(), paths, &mut files) {
         Ok(input) => input,
         Err(error) => {
             eprintln!(rt; "revelation_rows: {error}")?;

@@ -1,6 +1,8 @@
 //! The files of the rows, and why a row is not played.
 
-ghost use Rattle.std.specs.Prelude.{◌≡◌};
+ghost use Rattle.std.specs.Prelude.{◌≡◌, map, IfOk, OnOk};
+ghost use Rattle.std.specs.String.{string_bytes};
+ghost use Rattle.revelation_rows.specs.Files.{AreRead, IsAdded, IsFileAt, is_class_path};
 ghost use Rattle.revelation_rows.specs.Lines.{is_row as row_line};
 
 use jf_bytes::{FetchError, Files, NoMemory};
@@ -57,12 +59,22 @@ pub struct Input {
     pub rows: String,
 }
 
-fn fetch_file<F: Files>(alloc: Global, path: &str, files: &mut F) -> Result<Vec<u8>, RowError> {
+fn fetch_file<F: Files>(alloc: Global, path: &str, files: &mut F) -> Result<Vec<u8>, RowError>
+    ensures found { IfOk result (λ bytes. IsFileAt (F.contents files.old) path.now bytes.items) }
+    ensures stay { F.contents files.new ≡ F.contents files.old }
+{
     match files.fetch(alloc, path, MOST) {
         Ok(bytes) => Ok(bytes),
         Err(FetchError::Failed) => Err(RowError::Missing(String::from_str(alloc, path)?)),
         Err(FetchError::NoMemory) => Err(RowError::NoMemory),
     }
+}
+
+/// Whether a file is a class file.
+fn is_class_path(path: &str) -> bool
+    ensures { result ≡ is_class_path path.now }
+{
+    path.as_bytes().ends_with(b".class")
 }
 
 /// Adds a file by its path: a class file where its name ends so, and else rows.
@@ -71,9 +83,16 @@ fn add_file<F: Files>(
     input: &mut Input,
     path: &str,
     files: &mut F,
-) -> Result<(), RowError> {
+) -> Result<(), RowError>
+    ensures added { let told = F.contents files.old in
+        let old = map (λ c. c.items) input.old.classes.items in
+        let new = map (λ c. c.items) input.new.classes.items in
+        OnOk result (IsAdded told path.now
+        old (string_bytes input.old.rows) new (string_bytes input.new.rows)) }
+    ensures stay { F.contents files.new ≡ F.contents files.old }
+{
     let bytes = fetch_file(alloc, path, files)?;
-    if path.ends_with(".class") {
+    if is_class_path(path) {
         input.classes.push(bytes)?;
         return Ok(());
     }
@@ -84,19 +103,23 @@ fn add_file<F: Files>(
     Ok(())
 }
 
-/// The files that these words name, but for so many first ones.
+/// The files at these paths.
 pub fn read_files<F: Files>(
     alloc: Global,
-    words: &[String],
-    first: usize,
+    paths: &[String],
     files: &mut F,
-) -> Result<Input, RowError> {
+) -> Result<Input, RowError>
+    ensures { let told = F.contents files.old in
+        let paths = map (λ path. string_bytes path) paths.now in
+        IfOk result (λ input. AreRead told paths
+        (map (λ c. c.items) input.classes.items) (string_bytes input.rows)) }
+{
     let mut input = Input {
         classes: Vec::new(alloc),
         rows: String::new(alloc),
     };
-    for word in words.iter().skip(first) {
-        add_file(alloc, &mut input, word.as_str(), files)?;
+    for path in paths {
+        add_file(alloc, &mut input, path.as_str(), files)?;
     }
     Ok(input)
 }

@@ -1,7 +1,19 @@
 //! Reads what a row says: `WORD.. => MARKED.. | CLASS..`.
 
+ghost use Rattle.std.specs.Prelude.{◌≡◌, ◌++◌, map, Some, None, IfOk, if◌then◌else◌};
+ghost use Rattle.std.specs.Option.{option_map};
+ghost use Rattle.jf_bytes.specs.Unicode.{utf16_of};
+ghost use Rattle.revelation_rows.specs.declared.item.Happening.TheVariants.{Loaded as class_loaded};
+ghost use Rattle.revelation_rows.specs.declared.item.Item.TheVariants.{Happens};
+ghost use Rattle.revelation_rows.specs.Names.{class_called, method_called};
+ghost use Rattle.revelation_rows.specs.Reading.{IsHalved, IsRead, all_found, begins_item, due_items, happening_said};
+ghost use Rattle.revelation_rows.specs.Reading.{marks_with, method_item, no_marks as none_marked, verb_item};
+ghost use Rattle.revelation_rows.specs.Reading.{with_mark, word_item, word_items};
+ghost use Rattle.revelation_rows.specs.Words.{words_in as words_between};
+
 use crate::item::{Fact, Happening, Item};
 use crate::names::{class_named, method_named};
+use crate::words::{parted, words_in};
 use jf_bytes::{NoMemory, Seq, from_utf8};
 use jvm_model::{Mark, Program};
 use std::alloc::Global;
@@ -12,9 +24,16 @@ const AGAIN: u32 = 10_000_000;
 // ---- what must be the case
 
 /// The numbers of the methods that these words name, in their order.
-fn methods_of(alloc: Global, program: &Program, words: &str) -> Result<Option<Seq<u32>>, NoMemory> {
+fn methods_of(
+    alloc: Global,
+    program: &Program,
+    words: &[&str],
+) -> Result<Option<Seq<u32>>, NoMemory>
+    ensures { IfOk result (λ found.
+        found ≡ all_found (method_called program.now) (map (λ w. w.now) words.now)) }
+{
     let mut methods = Seq::new(alloc);
-    for word in words.split(',').filter(|word| !word.is_empty()) {
+    for word in words {
         match method_named(program, word) {
             Some(method) => methods.push(method)?,
             None => return Ok(None),
@@ -24,9 +43,16 @@ fn methods_of(alloc: Global, program: &Program, words: &str) -> Result<Option<Se
 }
 
 /// The positions of the classes that these words name, in their order.
-fn classes_of(alloc: Global, program: &Program, words: &str) -> Result<Option<Seq<u32>>, NoMemory> {
+fn classes_of(
+    alloc: Global,
+    program: &Program,
+    words: &[&str],
+) -> Result<Option<Seq<u32>>, NoMemory>
+    ensures { IfOk result (λ found.
+        found ≡ all_found (class_called program.now) (map (λ w. w.now) words.now)) }
+{
     let mut classes = Seq::new(alloc);
-    for word in words.split(' ').filter(|word| !word.is_empty()) {
+    for word in words {
         match class_named(program, word) {
             Some(class) => classes.push(class)?,
             None => return Ok(None),
@@ -36,36 +62,45 @@ fn classes_of(alloc: Global, program: &Program, words: &str) -> Result<Option<Se
 }
 
 /// No method is marked.
-fn no_marks(alloc: Global, count: usize) -> Result<Vec<Mark>, NoMemory> {
-    let mut marks = Vec::with_capacity(alloc, count)?;
-    for _ in 0..count {
+fn no_marks(alloc: Global, program: &Program) -> Result<Vec<Mark>, NoMemory>
+    ensures { IfOk result (λ marks. marks.items ≡ none_marked program.now) }
+{
+    let mut marks = Vec::new(alloc);
+    for _place in program.methods.as_slice() {
         marks.push(Mark::Off)?;
     }
     Ok(marks)
 }
 
-/// Marks the method that a word names, as a root where a `!` ends it. Whether there is one.
-fn mark_one(marks: &mut [Mark], program: &Program, word: &str) -> bool {
-    let (name, mark) = match word.strip_suffix('!') {
-        Some(name) => (name, Mark::Root),
-        None => (word, Mark::Plain),
+/// Marks the method that a word names, as a root where a `!` is behind its name. Whether there is
+/// one.
+fn mark_one(marks: &mut Vec<Mark>, program: &Program, word: &str) -> bool
+    ensures { with_mark program.now marks.old.items word.now
+        ≡ if result then Some marks.new.items else None }
+{
+    let (name, _) = parted(word, '!');
+    let mark = if name.len() == word.len() {
+        Mark::Plain
+    } else {
+        Mark::Root
     };
     let Some(method) = method_named(program, name) else {
         return false;
     };
-    match marks.get_mut(method as usize) {
-        Some(place) => {
-            *place = mark;
-            true
-        }
-        None => false,
+    if method as usize >= marks.len() {
+        return false;
     }
+    marks[method as usize] = mark;
+    true
 }
 
 /// The marks of all methods, where those that these words name are marked.
-fn marks_of(alloc: Global, program: &Program, words: &str) -> Result<Option<Seq<Mark>>, NoMemory> {
-    let mut marks = no_marks(alloc, program.methods.len())?;
-    for word in words.split(' ').filter(|word| !word.is_empty()) {
+fn marks_of(alloc: Global, program: &Program, words: &[&str]) -> Result<Option<Seq<Mark>>, NoMemory>
+    ensures { IfOk result (λ found.
+        found ≡ marks_with program.now (none_marked program.now) (map (λ w. w.now) words.now)) }
+{
+    let mut marks = no_marks(alloc, program)?;
+    for word in words {
         if !mark_one(&mut marks, program, word) {
             return Ok(None);
         }
@@ -76,7 +111,9 @@ fn marks_of(alloc: Global, program: &Program, words: &str) -> Result<Option<Seq<
 // ---- what happens
 
 /// What happens to a method.
-fn happening_of(verb: &str, method: u32) -> Option<Happening> {
+fn happening_of(verb: &str, method: u32) -> Option<Happening>
+    ensures { result ≡ happening_said verb.now method }
+{
     match verb {
         "enter" => Some(Happening::Entered(method, 1)),
         "again" => Some(Happening::Entered(method, AGAIN)),
@@ -87,7 +124,9 @@ fn happening_of(verb: &str, method: u32) -> Option<Happening> {
 }
 
 /// What a verb and the name of a method say.
-fn item_of(verb: &str, method: u32) -> Option<Item> {
+fn item_of(verb: &str, method: u32) -> Option<Item>
+    ensures { result ≡ method_item verb.now method }
+{
     match verb {
         "selected" => Some(Item::Is(Fact::IsSelected(method, true))),
         "unselected" => Some(Item::Is(Fact::IsSelected(method, false))),
@@ -96,25 +135,37 @@ fn item_of(verb: &str, method: u32) -> Option<Item> {
 }
 
 /// A class that is loaded.
-fn item_loaded(alloc: Global, name: &str) -> Result<Option<Item>, NoMemory> {
+fn item_loaded(alloc: Global, name: &str) -> Result<Option<Item>, NoMemory>
+    ensures { IfOk result (λ item.
+        item ≡ Some (Happens (class_loaded (utf16_of name.now)))) }
+{
     Ok(Some(Item::Happens(Happening::Loaded(from_utf8(alloc, name)?))))
 }
 
 /// The methods that a method can begin: `begins:METHOD=METHOD,..`.
-fn begins(alloc: Global, program: &Program, words: &str) -> Result<Option<Item>, NoMemory> {
-    let (name, targets) = words.split_once('=').unwrap_or((words, ""));
+fn begins(alloc: Global, program: &Program, words: &str) -> Result<Option<Item>, NoMemory>
+    ensures { IfOk result (λ item. item ≡ begins_item program.now words.now) }
+{
+    let (name, targets) = parted(words, '=');
     let Some(method) = method_named(program, name) else {
         return Ok(None);
     };
-    match methods_of(alloc, program, targets)? {
+    let targets = words_in(alloc, targets, ',')?;
+    match methods_of(alloc, program, &targets)? {
         Some(methods) => Ok(Some(Item::Is(Fact::Begins(method, methods)))),
         None => Ok(None),
     }
 }
 
-/// What a word says: a verb, and for most of them a colon and a class or a method.
-fn read_word(alloc: Global, program: &Program, word: &str) -> Result<Option<Item>, NoMemory> {
-    let (verb, name) = word.split_once(':').unwrap_or((word, ""));
+/// What a verb says, and what stands behind its colon: a class or a method, for most of them.
+fn read_verb(
+    alloc: Global,
+    program: &Program,
+    verb: &str,
+    name: &str,
+) -> Result<Option<Item>, NoMemory>
+    ensures { IfOk result (λ item. item ≡ verb_item program.now verb.now name.now) }
+{
     match verb {
         "load" => item_loaded(alloc, name),
         "begins" => begins(alloc, program, name),
@@ -129,56 +180,78 @@ fn read_word(alloc: Global, program: &Program, word: &str) -> Result<Option<Item
     }
 }
 
+fn read_word(alloc: Global, program: &Program, word: &str) -> Result<Option<Item>, NoMemory>
+    ensures { IfOk result (λ item. item ≡ word_item program.now word.now) }
+{
+    let (verb, name) = parted(word, ':');
+    read_verb(alloc, program, verb, name)
+}
+
 // ---- rows
 
-/// Adds what each of these words says. Whether each says something.
-fn add_words(
-    alloc: Global,
-    program: &Program,
-    words: &str,
-    items: &mut Vec<Item>,
-) -> Result<bool, NoMemory> {
-    for word in words.split(' ').filter(|word| !word.is_empty()) {
+/// What these words say, where each says something.
+fn items_of(alloc: Global, program: &Program, words: &[&str]) -> Result<Option<Seq<Item>>, NoMemory>
+    ensures { IfOk result (λ found.
+        found ≡ all_found (word_item program.now) (map (λ w. w.now) words.now)) }
+{
+    let mut items = Seq::new(alloc);
+    for word in words {
         match read_word(alloc, program, word)? {
             Some(item) => items.push(item)?,
-            None => return Ok(false),
+            None => return Ok(None),
         }
     }
-    Ok(true)
+    Ok(Some(items))
+}
+
+fn read_words(alloc: Global, program: &Program, words: &str) -> Result<Option<Seq<Item>>, NoMemory>
+    ensures { IfOk result (λ found. found ≡ word_items program.now words.now) }
+{
+    let words = words_in(alloc, words, ' ')?;
+    items_of(alloc, program, &words)
 }
 
 /// Adds which marks there must be, and which classes must have others than those that were shown.
-fn add_due(
+fn with_due(
     alloc: Global,
     program: &Program,
+    items: Seq<Item>,
     due: &str,
-    items: &mut Vec<Item>,
-) -> Result<bool, NoMemory> {
-    let (marked, changed) = due.split_once('|').unwrap_or((due, ""));
-    let Some(marks) = marks_of(alloc, program, marked)? else {
-        return Ok(false);
+) -> Result<Option<Seq<Item>>, NoMemory>
+    ensures { IfOk result (λ found.
+        found ≡ option_map (λ more. items ++ more) (due_items program.now due.now)) }
+{
+    let (marked, changed) = parted(due, '|');
+    let marked = words_in(alloc, marked, ' ')?;
+    let changed = words_in(alloc, changed, ' ')?;
+    let Some(marks) = marks_of(alloc, program, &marked)? else {
+        return Ok(None);
     };
-    let Some(classes) = classes_of(alloc, program, changed)? else {
-        return Ok(false);
+    let Some(classes) = classes_of(alloc, program, &changed)? else {
+        return Ok(None);
     };
+    let mut items = items;
     items.push(Item::Is(Fact::Marks(marks)))?;
     items.push(Item::Is(Fact::Changed(classes)))?;
-    Ok(true)
+    Ok(Some(items))
+}
+
+/// What stands before the first `=>` of a row, and behind it.
+fn halves(row: &str) -> Option<(&str, &str)>
+    ensures { IsHalved row.now (option_map (λ parts. (parts.0.now, parts.1.now)) result) }
+{
+    row.split_once("=>")
 }
 
 /// What a row says, where each of its words says something.
-pub fn read_row(
-    alloc: Global,
-    program: &Program,
-    row: &str,
-) -> Result<Option<Vec<Item>>, NoMemory> {
-    let mut items = Vec::new(alloc);
-    let read = match row.split_once("=>") {
-        Some((words, due)) => {
-            add_words(alloc, program, words, &mut items)?
-                && add_due(alloc, program, due, &mut items)?
-        }
-        None => add_words(alloc, program, row, &mut items)?,
-    };
-    if read { Ok(Some(items)) } else { Ok(None) }
+pub fn read_row(alloc: Global, program: &Program, row: &str) -> Result<Option<Seq<Item>>, NoMemory>
+    ensures { IfOk result (IsRead program.now row.now) }
+{
+    match halves(row) {
+        Some((words, due)) => match read_words(alloc, program, words)? {
+            Some(items) => with_due(alloc, program, items, due),
+            None => Ok(None),
+        },
+        None => read_words(alloc, program, row),
+    }
 }

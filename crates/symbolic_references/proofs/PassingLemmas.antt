@@ -2,7 +2,7 @@
 use Rattle.std.proofs.Common.{◌≡◌, ◌≤◌, ℕ, Bool, true, false, cond, List, length, Option, Some, None, drop, refl, sym, ap, subst, ◌∙◌}
 use Rattle.std.proofs.lemmas.Bool.{false≢true}
 use Rattle.frame_stack.specs.FrameLists.{FramesView, PlacedFrame, top_operands, with_frames}
-use Rattle.jvm_basic.specs.Outcomes.{can_hold, top_locals, with_top}
+use Rattle.jvm_basic.specs.Outcomes.{top_locals, with_top}
 use Rattle.std.specs.Prelude.{Ok, IfSome}
 use Rattle.std.specs.Option.{option_map}
 use Rattle.const_pool.specs.References.{Reference}
@@ -17,7 +17,7 @@ use Rattle.jvm_model.specs.declared.state.Phase.TheVariants.{Erroneous, Fresh, R
 use Rattle.jvm_model.specs.declared.state.Shared.{Shared}
 use Rattle.jvm_model.specs.Basis.Data.{Back, Breaks, Done, Exits, GoesOn, Initializes, Invokes, Locals, Next, Operands, Outcome, Raises, Returns, Subroutine, Target, Throws, World}
 use Rattle.jvm_model.specs.Instructions.Rules.{when_ready}
-use Rattle.member_selection.specs.Answers.{Answer, Continues, Exceeds, Stops, answer_in, frames_in, is_next}
+use Rattle.member_selection.specs.Answers.{frames_after, goes_on}
 use Rattle.symbolic_references.specs.Fields.{writes}
 use Rattle.jvm_model.specs.Instructions.InvocationRules.{invokes_selected}
 use Rattle.member_selection.specs.declared.known.Callee.TheVariants as callee
@@ -30,16 +30,8 @@ use Rattle.member_selection.specs.Resolved.{field_found, puts_instance}
 use Rattle.member_selection.specs.Targets.{data_in}
 use Rattle.symbolic_references.proofs.CalleeLemmas.{code-invoked, native-invoked}
 
-pub next-is : (a : Answer) → is_next a ≡ true → a ≡ Continues
-next-is Continues is = refl
-next-is Exceeds is = absurd (false≢true is)
-next-is (Stops q) is = absurd (false≢true is)
-
-stays : (q : Outcome) (next : ℕ) (fs : List PlacedFrame) → is_next (answer_in q fs) ≡ false → frames_in q next fs ≡ fs
-stays (GoesOn l o Next) next fs off = by (can_hold o fs) off where
-  by : (b : Bool) → is_next (cond b Continues Exceeds) ≡ false → cond b (with_top l o next fs) fs ≡ fs
-  by true off = absurd (false≢true (sym off))
-  by false off = refl
+stays : (q : Outcome) (next : ℕ) (fs : List PlacedFrame) → goes_on q fs ≡ false → frames_after q next fs ≡ fs
+stays (GoesOn l o Next) next fs off = ap (λ b. cond b (with_top l o next fs) fs) off
 stays (GoesOn l o (Target k)) next fs off = refl
 stays (GoesOn l o (Back k)) next fs off = refl
 stays Subroutine next fs off = refl
@@ -51,29 +43,22 @@ stays (Initializes c) next fs off = refl
 stays (Exits n) next fs off = refl
 stays (Breaks b) next fs off = refl
 
-either : {A : Type 0} (b : Bool) → (b ≡ true → A) → (b ≡ false → A) → A
-either true on off = on refl
-either false on off = off refl
-
 module _ (d : Done) (old new : FramesView) (next : ℕ) (before left : RuntimeView) where
   -- it has gone on
-  pub passed-on : answer_in d.outcome old.frames ≡ Continues → new ≡ with_frames (frames_in d.outcome next old.frames) old → left ≡ after d before
+  pub passed-on : goes_on d.outcome old.frames ≡ true → new ≡ with_frames (frames_after d.outcome next old.frames) old → left ≡ after d before
       → IfPassed true d next old before new left
-  passed-on answer moved same = record { answer = answer; frames = moved; runtime = same }
+  passed-on on moved same = record { goes = on; frames = moved; runtime = same }
 
   -- by what it answers, where nothing that is shared changes
-  pub passed-by : (a : Answer) → a ≡ answer_in d.outcome old.frames → new ≡ with_frames (frames_in d.outcome next old.frames) old → before ≡ after d before
-      → left ≡ before → IfPassed (is_next a) d next old before new left
-  passed-by a told moved same kept = either (is_next a)
-      (λ on. subst (λ b. IfPassed b d next old before new left) (sym on) (passed-on (sym told ∙ next-is a on) moved (kept ∙ same)))
-      (λ off.
-      subst (λ b. IfPassed b d next old before new left) (sym off)
-      (moved ∙ ap (λ fs. with_frames fs old) (stays d.outcome next old.frames (sym (ap is_next told) ∙ off)), kept))
+  pub passed-by : (b : Bool) → b ≡ goes_on d.outcome old.frames → new ≡ with_frames (frames_after d.outcome next old.frames) old → before ≡ after d before
+      → left ≡ before → IfPassed b d next old before new left
+  passed-by true told moved same kept = passed-on (sym told) moved (kept ∙ same)
+  passed-by false told moved same kept = (moved ∙ ap (λ fs. with_frames fs old) (stays d.outcome next old.frames (sym told)), kept)
 
 -- where a frame has not gone on without the operands
-pub not-moved : (a : Answer) (q : Outcome) (next : ℕ) (old new : FramesView) → a ≡ answer_in q old.frames → is_next a ≡ false
-    → new ≡ with_frames (frames_in q next old.frames) old → new ≡ old
-not-moved a q next old new told off moved = moved ∙ ap (λ fs. with_frames fs old) (stays q next old.frames (sym (ap is_next told) ∙ off))
+pub not-moved : (q : Outcome) (next : ℕ) (old new : FramesView) → goes_on q old.frames ≡ false
+    → new ≡ with_frames (frames_after q next old.frames) old → new ≡ old
+not-moved q next old new off moved = moved ∙ ap (λ fs. with_frames fs old) (stays q next old.frames off)
 
 -- a class that is usable is not initialized before
 pub when-usable : (p : Program) (o : Option Phase) (class : ℕ) (s : Shared) (d : Done) → is_usable o ≡ true → d ≡ when_ready p o class s d

@@ -1,5 +1,5 @@
 -- A native method that raises nothing is done, and of one that does nothing is changed (JVM Specification 2.11.8, 6.5).
-use Rattle.std.proofs.Common.{◌≡◌, ◌≤◌, ◌<◌, ℕ, zero, suc, Bool, true, false, cond, List, [], ◌∷◌, length, drop, Option, Some, None, inl, inr, refl, sym, ap, subst, ◌∙◌, arith}
+use Rattle.std.proofs.Common.{◌≡◌, ◌≤◌, ◌<◌, ℕ, zero, suc, Bool, true, false, List, [], ◌∷◌, length, drop, Option, Some, None, inl, inr, refl, sym, ap, subst, ◌∙◌, arith}
 use Rattle.std.specs.Prelude.{◌==◌}
 use Rattle.std.specs.Option.{option_map}
 use Rattle.std.proofs.lemmas.Bool.{false≢true}
@@ -24,12 +24,12 @@ use Rattle.symbolic_references.specs.Natives.{outcome_by}
 use Rattle.member_selection.proofs.Going.{height-dropped, least-width, within-limit}
 use Rattle.symbolic_references.proofs.NativesKept.{IsNarrow, IsNarrowValue, call-keeps}
 use Rattle.frame_stack.specs.FrameLists.{with_frames}
-use Rattle.member_selection.specs.Answers.{Continues, Exceeds, answer_in, frames_in, is_next}
+use Rattle.member_selection.specs.Answers.{frames_after, goes_on}
 use Rattle.symbolic_references.specs.Passing.{IfPassed}
 use Rattle.symbolic_references.specs.Runtimes.{RuntimeView}
 use Rattle.symbolic_references.proofs.NativeLemmas.{answers, leaves}
 use Rattle.symbolic_references.specs.NativeCalls.{with_left}
-use Rattle.symbolic_references.proofs.PassingLemmas.{next-is, not-moved, passed-on}
+use Rattle.symbolic_references.proofs.PassingLemmas.{not-moved, passed-on}
 
 -- ---- what is answered has room in place of an argument
 
@@ -56,15 +56,15 @@ fits-value v n (f ∷ fs) sound is some within =
 
 -- so the frame goes on
 goes-narrow : (a : Answer) (l : Locals) (n : ℕ) (fs : List PlacedFrame) → AreSound fs → IsNarrow a → 0 < n → n ≤ length (top_operands fs)
-    → is_next (answer_in (outcome_by (native_of_answer a) l (drop n (top_operands fs))) fs) ≡ true
-goes-narrow (answer.Value v) l n fs sound is some within = ap (λ b. is_next (cond b Continues Exceeds)) (fits-value v n fs sound is some within)
+    → goes_on (outcome_by (native_of_answer a) l (drop n (top_operands fs))) fs ≡ true
+goes-narrow (answer.Value v) l n fs sound is some within = fits-value v n fs sound is some within
 goes-narrow (answer.Throws class) l n fs sound is some within = absurd is
 goes-narrow (answer.Exit status) l n fs sound is some within = absurd is
 goes-narrow answer.Bad l n fs sound is some within = absurd is
 
 -- ---- only a call that is done goes on
 
-not-done : (x : Native) (l : Locals) (o : Operands) (fs : List PlacedFrame) → is_done x ≡ false → is_next (answer_in (outcome_by x l o) fs) ≡ false
+not-done : (x : Native) (l : Locals) (o : Operands) (fs : List PlacedFrame) → is_done x ≡ false → goes_on (outcome_by x l o) fs ≡ false
 not-done (native.Value v) l o fs is = absurd (false≢true (sym is))
 not-done (native.Throws class) l o fs is = absurd (false≢true (sym is))
 not-done (native.Exit status) l o fs is = absurd (false≢true (sym is))
@@ -95,12 +95,12 @@ module _ (v : RuntimeView) (number : ℕ) (f : FramesView) (count next : ℕ) (a
   behind left = with_left left v
 
   module _ (x : Native) (moved : FramesView) (sound : AreSound f.frames) (other : (number == 79) ≡ false) (some : 0 < count) (within : count ≤ length (top_operands f.frames))
-      (is : IsAnswer x (answer_by number kinds args seen)) (goes : moved ≡ with_frames (frames_in (goes_by x) next f.frames) f) where
+      (is : IsAnswer x (answer_by number kinds args seen)) (goes : moved ≡ with_frames (frames_after (goes_by x) next f.frames) f) where
     abbrev left_in : natives.World
     left_in = left_by (is_done x) number kinds args seen
 
     -- where the frame has not gone on nothing is changed
-    kept-off : is_next (answer_in (goes_by x) f.frames) ≡ false → left_in ≡ seen
+    kept-off : goes_on (goes_by x) f.frames ≡ false → left_in ≡ seen
     kept-off off = either (is_done x) done
         (λ undone. ap (λ b. changed_if b (world_by number kinds args) seen) undone)
       where
@@ -109,30 +109,30 @@ module _ (v : RuntimeView) (number : ℕ) (f : FramesView) (count next : ℕ) (a
           | inl same ↦ ap (λ b. changed_if b (world_by number kinds args) seen) enough ∙ same
           | inr narrow ↦
               absurd (false≢true (sym off
-              ∙ (ap (λ y. is_next (answer_in (outcome_by y (top_locals f.frames) (drop count (top_operands f.frames))) f.frames)) (is enough)
+              ∙ (ap (λ y. goes_on (outcome_by y (top_locals f.frames) (drop count (top_operands f.frames))) f.frames) (is enough)
               ∙ goes-narrow (answer_by number kinds args seen) (top_locals f.frames) count f.frames sound narrow some within)))
         ]
 
-    was-done : is_next (answer_in (goes_by x) f.frames) ≡ true → is_done x ≡ true
+    was-done : goes_on (goes_by x) f.frames ≡ true → is_done x ≡ true
     was-done told = either (is_done x) (λ enough. enough)
         (λ undone. absurd (false≢true (sym (not-done x (top_locals f.frames) (drop count (top_operands f.frames)) f.frames undone) ∙ told)))
 
-    ran : (b : Bool) → b ≡ is_next (answer_in (goes_by x) f.frames) → IfPassed b comes_to next f v moved (behind left_in)
+    ran : (b : Bool) → b ≡ goes_on (goes_by x) f.frames → IfPassed b comes_to next f v moved (behind left_in)
     ran true told =
         let enough = was-done (sym told) in
         let same = answers v number args f count x enough is in
         passed-on comes_to f moved next v (behind left_in)
-        (sym (ap (λ q. answer_in q f.frames) same) ∙ next-is (answer_in (goes_by x) f.frames) (sym told))
-        (goes ∙ ap (λ q. with_frames (frames_in q next f.frames) f) same)
+        (sym (told ∙ ap (λ q. goes_on q f.frames) same))
+        (goes ∙ ap (λ q. with_frames (frames_after q next f.frames) f) same)
         (leaves v number args f count x enough)
     ran false told = (
-      not-moved (answer_in (goes_by x) f.frames) (goes_by x) next f moved refl (sym told) goes,
+      not-moved (goes_by x) next f moved (sym told) goes,
       ap behind (kept-off (sym told)) ∙ ap (λ out. record v { output = out }) (append-nil v.output),
     )
 
   pub native-ran : (x : Native) (b : Bool) (moved : FramesView) (new : RuntimeView) → AreSound f.frames → (number == 79) ≡ false
       → 0 < count → count ≤ length (top_operands f.frames) → IsAnswer x (answer_by number kinds args seen) → new ≡ behind (left_by (is_done x) number kinds args seen)
-      → b ≡ is_next (answer_in (goes_by x) f.frames) → moved ≡ with_frames (frames_in (goes_by x) next f.frames) f
+      → b ≡ goes_on (goes_by x) f.frames → moved ≡ with_frames (frames_after (goes_by x) next f.frames) f
       → IfPassed b comes_to next f v moved new
   native-ran x b moved new sound other some within is left told goes =
       subst (λ (y : RuntimeView). IfPassed b comes_to next f v moved y) (sym left) (ran x moved sound other some within is goes b told)

@@ -1,6 +1,7 @@
 pub mod Held
 pub mod ProgramFacts
 pub mod Fields
+pub mod Rules
 pub mod Natives
 pub mod MadeObjects
 pub mod Passing

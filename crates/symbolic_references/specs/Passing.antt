@@ -18,7 +18,7 @@ use Rattle.symbolic_references.specs.declared.invoked.Invoked.{Invoked}
 use Rattle.symbolic_references.specs.declared.invoked.Invoked.TheVariants as invoked
 use Rattle.symbolic_references.specs.declared.invoked.NativeCall.{NativeCall}
 use Rattle.symbolic_references.specs.Runtimes.{RuntimeView, after}
-use Rattle.member_selection.specs.Answers.{Continues, answer_in, frames_in}
+use Rattle.member_selection.specs.Answers.{frames_after, goes_on}
 use Rattle.member_selection.specs.Targets.{data_in}
 
 -- a class is initialized, or is being
@@ -29,8 +29,8 @@ is_usable _ = false
 
 -- by what its rule says the frame has gone on, to the next place
 pub record HasPassed (d : Done) (next : ℕ) (old : FramesView) (before : RuntimeView) (new : FramesView) (left : RuntimeView) : Type 0 where
-  pub answer : answer_in d.outcome old.frames ≡ Continues
-  pub frames : new ≡ with_frames (frames_in d.outcome next old.frames) old
+  pub goes : goes_on d.outcome old.frames ≡ true
+  pub frames : new ≡ with_frames (frames_after d.outcome next old.frames) old
   pub runtime : left ≡ after d before
 
 -- it has, or nothing was done

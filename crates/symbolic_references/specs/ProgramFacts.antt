@@ -1,5 +1,5 @@
--- What tables tell of a program: the numbers of its methods, what these take and their limits, and the kinds of the exceptions that
--- instructions raise.
+-- What tables tell of a program: the numbers of its methods, what these take and their limits, the kinds of the exceptions that
+-- instructions raise, and which classes Throwable and Error are.
 use Rattle.std.specs.Prelude.{◌≡◌, ◌<◌, ◌^◌, ℕ, List, [], length, slice_get}
 use Rattle.std.specs.Option.{option_and_then, option_map_or}
 use Rattle.jvm_model.specs.declared.program.Program.{Program}
@@ -7,8 +7,8 @@ use Rattle.jvm_model.specs.declared.exception.Exception.{Exception}
 use Rattle.jvm_model.specs.declared.exception.Exception.TheVariants.{AbstractMethod, Arithmetic, ArrayStore, ClassCast, ClassCircularity, IncompatibleClassChange, InInitializer, IndexOutside, Instantiation, NegativeArraySize, NoClassDefinition, NoSuchField, NoSuchMethod, NullPointer, StackOverflow, UnsatisfiedLink, BuiltIn}
 use Rattle.jvm_model.specs.Instructions.Exceptions.{exception_name}
 use Rattle.jvm_model.specs.Basis.Data.{World}
-use Rattle.jvm_model.specs.Basis.Programs.{params_of_method, max_stack_of, max_locals_of}
-use Rattle.jvm_model.specs.Basis.SharedState.{kind_for, string}
+use Rattle.jvm_model.specs.Basis.Programs.{class_named, params_of_method, max_stack_of, max_locals_of}
+use Rattle.jvm_model.specs.Basis.SharedState.{error, kind_for, string, throwable}
 use Rattle.symbolic_references.specs.declared.program_tables.Exceptions.{Exceptions}
 use Rattle.symbolic_references.specs.declared.program_tables.ProgramTables.{ProgramTables}
 use Rattle.member_selection.specs.Numbers.{AreNumbers}
@@ -52,6 +52,8 @@ pub record AreTablesOf (p : Program) (t : ProgramTables) : Type 0 where
   pub raised : (e : Exception) → exception_in p t.exceptions e ≡ exception_kind p e
   pub string : t.exceptions.string ≡ kind_for p string
   pub small : t.exceptions.string < 2 ^ 25
+  pub throwable : t.throwable ≡ class_named p throwable
+  pub error : t.error ≡ class_named p error
 
 -- the classes of all exceptions that the machine makes and java/lang/String are loaded
 pub record HasExceptions (l : LinkerView) : Type 0 where

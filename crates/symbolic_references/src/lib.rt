@@ -6,11 +6,13 @@
 
 mod held;
 mod invoked;
+mod named_classes;
 mod owners;
 mod program_tables;
 mod runtime;
 mod static_fields;
 
 pub use invoked::{Call, Invoked, NativeCall};
+pub use named_classes::{class_for, kind_for};
 pub use program_tables::{Exceptions, Method, ProgramTables};
-pub use runtime::{Beginning, Runtime};
+pub use runtime::{Beginning, RESERVED, Runtime};

@@ -35,11 +35,13 @@ pub struct Exceptions {
     pub string: u32,
 }
 
-/// The numbers of a program's methods, what is kept of each by its number, and the kinds of its
-/// exceptions.
+/// The numbers of a program's methods, what is kept of each by its number, the kinds of its
+/// exceptions, and the positions of java/lang/Throwable and java/lang/Error, where it has them.
 #[derive(Drop)]
 pub struct ProgramTables {
     pub numbers: MethodNumbers,
     pub methods: Seq<Method>,
     pub exceptions: Exceptions,
+    pub throwable: Option<u32>,
+    pub error: Option<u32>,
 }

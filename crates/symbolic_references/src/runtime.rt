@@ -29,6 +29,7 @@ mod statics;
 
 use crate::program_tables::ProgramTables;
 use class_linker::Linker;
+pub use creation::RESERVED;
 use heap_objects::{Datum, Heap};
 use jf_bytes::Seq;
 use jvm_model::{Phase, SymbolicReference};

@@ -17,8 +17,8 @@ use Rattle.call_revelation.proofs.Revelations.First.{all-get}
 use Rattle.call_revelation.proofs.Classes.LoadStep.{read-at}
 
 module _ (p : Program) (loaded : List ℕ) (codes : Codes) (waiting calls : List (List Use)) (book : IsBook p codes waiting calls) (fit : IsFit p) where
-  pub caller-there : (u : Use) (n : SymbolicReference) → symbolic_reference_at codes u ≡ Some n → HasClass p loaded u.caller → HasLoadedCaller p loaded n
-  caller-there u n e has =
+  pub loaded-caller : (u : Use) (n : SymbolicReference) → symbolic_reference_at codes u ≡ Some n → HasClass p loaded u.caller → HasLoadedCaller p loaded n
+  loaded-caller u n e has =
       all-get (HasLoadedCaller p loaded) (symbolic_references_of (operations_of p u.caller)) u.at n (callers-loaded p loaded fit u.caller has)
       (read-at p codes waiting calls book [] u (code_at codes u.caller) n refl e)
 

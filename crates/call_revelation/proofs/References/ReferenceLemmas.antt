@@ -7,6 +7,7 @@ use Rattle.std.proofs.lemmas.Bool.{false≢true, or_cases, or_left, or_right}
 use Rattle.std.proofs.lemmas.Option.{none-some, same_Some}
 use Rattle.const_pool.specs.References.{Reference}
 use Rattle.jvm_model.specs.declared.program.Program.{Program}
+use Rattle.jvm_model.specs.declared.instruction.Local.{Local}
 use Rattle.jvm_model.specs.declared.instruction.Operation.{Operation}
 use Rattle.jvm_model.specs.declared.instruction.Operation.TheVariants.{Within, Named, Athrow, Monitor, Newarray, Arraylength, LoadElement, StoreElement, LdcString}
 use Rattle.jvm_model.specs.Instructions.InvocationRules.{Selecting, Virtual, OfInterface}
@@ -22,12 +23,12 @@ use Rattle.call_revelation.specs.Books.{called_on, is_call}
 -- ---- an operation and what it names
 
 -- a function on operations that looks at what can begin methods alone
-abbrev SeesReference : (Operation → List ℕ) → (SymbolicReference → List ℕ) → Operation → Option SymbolicReference → Type 0
+abbrev SeesReference : (Operation Local → List ℕ) → (SymbolicReference → List ℕ) → Operation Local → Option SymbolicReference → Type 0
 SeesReference of_operation of_reference op None = of_operation op ≡ []
 SeesReference of_operation of_reference op (Some n) = of_operation op ≡ of_reference n
 
 module _ (p : Program) (loaded : List ℕ) where
-  begins : (op : Operation) → SeesReference (begun_by_operation p loaded) (begun_by p loaded) op (symbolic_reference_in op)
+  begins : (op : Operation Local) → SeesReference (begun_by_operation p loaded) (begun_by p loaded) op (symbolic_reference_in op)
   begins (Named (New name)) = refl
   begins (Named (Getstatic r)) = refl
   begins (Named (Putstatic r)) = refl
@@ -45,13 +46,13 @@ module _ (p : Program) (loaded : List ℕ) where
   begins (Within i) = refl
   begins Athrow = refl
   begins Monitor = refl
-  begins (Newarray code) = refl
+  begins (Newarray kind) = refl
   begins Arraylength = refl
   begins (LoadElement k) = refl
   begins (StoreElement k) = refl
   begins (LdcString units) = refl
 
-  gains : (new : ℕ) (op : Operation) → SeesReference (gained_by_operation p loaded new) (gained_by p loaded new) op (symbolic_reference_in op)
+  gains : (new : ℕ) (op : Operation Local) → SeesReference (gained_by_operation p loaded new) (gained_by p loaded new) op (symbolic_reference_in op)
   gains new (Named (New name)) = refl
   gains new (Named (Getstatic r)) = refl
   gains new (Named (Putstatic r)) = refl
@@ -69,7 +70,7 @@ module _ (p : Program) (loaded : List ℕ) where
   gains new (Within i) = refl
   gains new Athrow = refl
   gains new Monitor = refl
-  gains new (Newarray code) = refl
+  gains new (Newarray kind) = refl
   gains new Arraylength = refl
   gains new (LoadElement k) = refl
   gains new (StoreElement k) = refl
@@ -84,16 +85,16 @@ pub record IsOne (f : SymbolicReference → List ℕ) (ns : List SymbolicReferen
   pub there : slice_get ns index ≡ Some reference
   pub within : is_among m (f reference) ≡ true
 
-module _ (of_operation : Operation → List ℕ) (f : SymbolicReference → List ℕ) (sees : (op : Operation) → SeesReference of_operation f op (symbolic_reference_in op)) where
+module _ (of_operation : Operation Local → List ℕ) (f : SymbolicReference → List ℕ) (sees : (op : Operation Local) → SeesReference of_operation f op (symbolic_reference_in op)) where
   pub one-behind : (o : Option SymbolicReference) (ns : List SymbolicReference) (m : ℕ) → IsOne f ns m → IsOne f (cons_option o ns) m
   one-behind None ns m one = one
   one-behind (Some n) ns m one = record { index = suc one.index; reference = one.reference; there = one.there; within = one.within }
 
-  abbrev all_of : List Operation → List ℕ
+  abbrev all_of : List (Operation Local) → List ℕ
   all_of [] = []
   all_of (op ∷ rest) = of_operation op ++ all_of rest
 
-  pub from-all : (ops : List Operation) (m : ℕ) → is_among m (all_of ops) ≡ true → IsOne f (symbolic_references_of ops) m
+  pub from-all : (ops : List (Operation Local)) (m : ℕ) → is_among m (all_of ops) ≡ true → IsOne f (symbolic_references_of ops) m
   from-all [] m h = absurd (false≢true h)
   from-all (op ∷ rest) m h =
       elim (or_cases (is_among m (of_operation op)) (is_among m (all_of rest)) (sym (among-append m (of_operation op) (all_of rest)) ∙ h)) [
@@ -105,7 +106,7 @@ module _ (of_operation : Operation → List ℕ) (f : SymbolicReference → List
       first None e a = absurd (false≢true (sym (ap (is_among m) e) ∙ a))
       first (Some n) e a = record { index = 0; reference = n; there = refl; within = sym (ap (is_among m) e) ∙ a }
 
-  pub to-all : (ops : List Operation) (m i : ℕ) (n : SymbolicReference) → slice_get (symbolic_references_of ops) i ≡ Some n → is_among m (f n) ≡ true → is_among m (all_of ops) ≡ true
+  pub to-all : (ops : List (Operation Local)) (m i : ℕ) (n : SymbolicReference) → slice_get (symbolic_references_of ops) i ≡ Some n → is_among m (f n) ≡ true → is_among m (all_of ops) ≡ true
   to-all [] m i n e h = absurd (none-some n e)
   to-all (op ∷ rest) m i n e h = among-append m (of_operation op) (all_of rest) ∙ by (symbolic_reference_in op) i (sees op) e (λ j. to-all rest m j n)
     where
@@ -117,7 +118,7 @@ module _ (of_operation : Operation → List ℕ) (f : SymbolicReference → List
           or_left (is_among m (of_operation op)) (is_among m (all_of rest)) (ap (is_among m) s ∙ (ap (λ y. is_among m (f y)) (same_Some x n e) ∙ h))
       by (Some x) (suc j) s e behind = or_right (is_among m (of_operation op)) (is_among m (all_of rest)) (behind j e h)
 
-  pub is-all : (ops : List Operation) (g : List Operation → List ℕ) → g [] ≡ [] → ((op : Operation) (rest : List Operation) → g (op ∷ rest) ≡ of_operation op ++ g rest)
+  pub is-all : (ops : List (Operation Local)) (g : List (Operation Local) → List ℕ) → g [] ≡ [] → ((op : Operation Local) (rest : List (Operation Local)) → g (op ∷ rest) ≡ of_operation op ++ g rest)
       → g ops ≡ all_of ops
   is-all [] g nothing one = nothing
   is-all (op ∷ rest) g nothing one = one op rest ∙ ap (λ l. of_operation op ++ l) (is-all rest g nothing one)
@@ -125,20 +126,20 @@ module _ (of_operation : Operation → List ℕ) (f : SymbolicReference → List
 -- ---- targets and gains
 
 module _ (p : Program) (loaded : List ℕ) where
-  pub target-of : (ops : List Operation) (m i : ℕ) (n : SymbolicReference) → slice_get (symbolic_references_of ops) i ≡ Some n → is_among m (begun_by p loaded n) ≡ true
+  pub target-of : (ops : List (Operation Local)) (m i : ℕ) (n : SymbolicReference) → slice_get (symbolic_references_of ops) i ≡ Some n → is_among m (begun_by p loaded n) ≡ true
       → is_among m (targets_in p loaded ops) ≡ true
   target-of ops m i n e h =
       ap (is_among m) (is-all (begun_by_operation p loaded) (begun_by p loaded) (begins p loaded) ops (targets_in p loaded) refl (λ op rest. refl))
       ∙ to-all (begun_by_operation p loaded) (begun_by p loaded) (begins p loaded) ops m i n e h
 
   module _ (new : ℕ) where
-    pub gain-of : (ops : List Operation) (m i : ℕ) (n : SymbolicReference) → slice_get (symbolic_references_of ops) i ≡ Some n → is_among m (gained_by p loaded new n) ≡ true
+    pub gain-of : (ops : List (Operation Local)) (m i : ℕ) (n : SymbolicReference) → slice_get (symbolic_references_of ops) i ≡ Some n → is_among m (gained_by p loaded new n) ≡ true
         → is_among m (gained_in p loaded new ops) ≡ true
     gain-of ops m i n e h =
         ap (is_among m) (is-all (gained_by_operation p loaded new) (gained_by p loaded new) (gains p loaded new) ops (gained_in p loaded new) refl (λ op rest. refl))
         ∙ to-all (gained_by_operation p loaded new) (gained_by p loaded new) (gains p loaded new) ops m i n e h
 
-    pub gain-from : (ops : List Operation) (m : ℕ) → is_among m (gained_in p loaded new ops) ≡ true → IsOne (gained_by p loaded new) (symbolic_references_of ops) m
+    pub gain-from : (ops : List (Operation Local)) (m : ℕ) → is_among m (gained_in p loaded new ops) ≡ true → IsOne (gained_by p loaded new) (symbolic_references_of ops) m
     gain-from ops m h =
         from-all (gained_by_operation p loaded new) (gained_by p loaded new) (gains p loaded new) ops m
         (sym (ap (is_among m) (is-all (gained_by_operation p loaded new) (gained_by p loaded new) (gains p loaded new) ops (gained_in p loaded new) refl (λ op rest. refl))) ∙ h)

@@ -1,8 +1,9 @@
 -- A load or a store of an element that raises nothing is a step of the run, as one of the current frame alone is: nothing follows from it.
-use Rattle.std.proofs.Common.{◌≡◌, ℕ, Bool, true, false, List, [], ◌∷◌, drop, length, map, Option, Some, None, refl, sym, ap, ◌∙◌}
-use Rattle.std.specs.Prelude.{if◌then◌else◌, is_none, is_some, pos, ◌&&◌}
+use Rattle.std.proofs.Common.{◌≡◌, ℕ, zero, suc, Bool, true, false, List, [], ◌∷◌, drop, length, map, Option, Some, None, refl, sym, ap, ◌∙◌, arith}
+use Rattle.std.specs.Prelude.{if◌then◌else◌, is_none, is_some, pos, ◌==◌, ◌&&◌}
 use Rattle.std.specs.Option.{option_map}
-use Rattle.std.proofs.lemmas.Bool.{false≢true}
+use Rattle.std.proofs.lemmas.Bool.{false≢true, ne_eqb}
+use Rattle.std.proofs.lemmas.Option.{none-some}
 use Rattle.const_pool.specs.declared.descriptor.Kind.{Kind}
 use Rattle.heap_objects.specs.declared.datum.Datum.{Datum}
 use Rattle.heap_objects.specs.declared.datum.Datum.TheVariants as datum
@@ -13,6 +14,7 @@ use Rattle.jvm_model.specs.declared.state.Shared.{Shared}
 use Rattle.jvm_model.specs.declared.state.State.{State}
 use Rattle.jvm_model.specs.Basis.Data.{Done, GoesOn, Locals, Next as Following, Operands, Raises}
 use Rattle.jvm_model.specs.declared.program.Program.{Program}
+use Rattle.jvm_model.specs.declared.instruction.Operation.TheVariants as operation
 use Rattle.jvm_model.specs.Instructions.ObjectRules.{done, Storing, access_to, array_length, fits_array, loads_element, measures, place_of, stores_at, stores_element, storing_of}
 use Rattle.jvm_model.specs.Running.Run.{step, steps_at, steps_on}
 use Rattle.jvm_model.specs.Instructions.LocalRules.{replaces as gives_way}
@@ -21,7 +23,6 @@ use Rattle.jvm_model.specs.Basis.Values.{as_value, ref_of}
 use Rattle.jvm_basic.specs.declared.effect.Effect.TheVariants.{Next}
 use Rattle.jvm_basic.specs.Outcomes.{GoesOn as Goes, Rule, after, outcome_asked, effect_of, frames_in}
 use Rattle.jvm_basic.specs.Rules.{replaces, rule_of}
-use Rattle.prepared_lines.specs.declared.line.Action.TheVariants as action
 use Rattle.symbolic_references.specs.Runtimes.{with_shared}
 use Rattle.prepared_lines.specs.declared.line.Line.{Line}
 use Rattle.prepared_code.specs.declared.initializations.Initialization.{Initialization}
@@ -62,7 +63,7 @@ stands-there w x (f ∷ fs) line runs is = ap (λ (o : Option Version). by o) ru
 module _ (w : Setup) (run : CanRun w) (line : Line) where
   -- ---- a line that names nothing, behind which the frame goes on
 
-  module _ (old new : Parts) (unnamed : is_named line.action ≡ false) (within : goes_within line.action ≡ true)
+  module _ (old new : Parts) (unnamed : is_named line.operation ≡ false) (within : goes_within line.operation ≡ true)
       (done : state_in new ≡ on_parts (acts w line) old) (ending : new.ending ≡ old.ending) (thrown : new.thrown ≡ old.thrown)
       (many : length new.frames.frames ≡ length old.frames.frames) (has : has_frame new.frames.frames ≡ true) (framed_before : has_frame old.frames.frames ≡ true)
       (here : Here) (stands : here_of old.frames.frames ≡ Some here) (found : line_at w.versions here.version here.place ≡ Some line)
@@ -102,7 +103,7 @@ module _ (w : Setup) (run : CanRun w) (line : Line) where
 
   -- ---- loads
 
-  module _ (k : Kind) (loads : line.action ≡ action.LoadElement k) (old new : Parts) (is : IsLoaded line k old new) where
+  module _ (k : Kind) (loads : line.operation ≡ operation.LoadElement k) (old new : Parts) (is : IsLoaded line k old new) where
     abbrev rule : Rule
     rule = replaces 2 (Some (as_value is.datum)) line.next
 
@@ -130,7 +131,11 @@ module _ (w : Setup) (run : CanRun w) (line : Line) where
 
   -- ---- lengths
 
-  module _ (length_of : line.action ≡ action.Arraylength) (old new : Parts) (is : IsMeasured line old new) where
+  not-null : (array count : ℕ) (h : HeapView) → array_length array h ≡ Some count → (array == 0) ≡ false
+  not-null zero count h long = absurd (none-some count long)
+  not-null (suc n) count h long = ne_eqb (suc n) 0 (λ e. omega (arith, e))
+
+  module _ (length_of : line.operation ≡ operation.Arraylength) (old new : Parts) (is : IsMeasured line old new) where
     abbrev own_rule : Rule
     own_rule = replaces 1 (Some (Int (pos is.count))) line.next
 
@@ -138,7 +143,7 @@ module _ (w : Setup) (run : CanRun w) (line : Line) where
         → measures (ref_of (top_operands fs)) old.runtime.shared l (top_operands fs) ≡ GoesOn l (Int (pos is.count) ∷ drop 1 (top_operands fs)) Following
     length-asks fs at l =
         ap (λ x. measures x old.runtime.shared l (top_operands fs)) at
-        ∙ (ap (λ b. if b then Raises null_pointer None else gives_way 1 (option_map (λ count. Int (pos count)) (array_length is.array old.runtime.shared.heap)) l (top_operands fs)) is.there
+        ∙ (ap (λ b. if b then Raises null_pointer None else gives_way 1 (option_map (λ count. Int (pos count)) (array_length is.array old.runtime.shared.heap)) l (top_operands fs)) (not-null is.array is.count old.runtime.shared.heap is.long)
         ∙ ap (λ n. gives_way 1 (option_map (λ count. Int (pos count)) n) l (top_operands fs)) is.long)
 
     length-quiet : (fs : List PlacedFrame) (ms : List Initialization) → ref_of (top_operands fs) ≡ Some is.array → IsAtInstruction (length fs) ms old → StandsAt w fs line
@@ -164,7 +169,7 @@ module _ (w : Setup) (run : CanRun w) (line : Line) where
   fits-number p (datum.Long n) r h is = refl
   fits-number p (datum.Ref v) r h is = absurd (false≢true is)
 
-  module _ (k : Kind) (stores : line.action ≡ action.StoreElement k) (old new : Parts) (is : IsStored line k old new) where
+  module _ (k : Kind) (stores : line.operation ≡ operation.StoreElement k) (old new : Parts) (is : IsStored line k old new) where
     abbrev x : Storing
     x = is.storing
 
@@ -243,7 +248,7 @@ still-has r (f ∷ fs) has = still-framed (r f.locals f.operands) f fs
 module _ (w : Setup) (run : CanRun w) (line : Line) (k : Kind) (old new : Parts) (stands : StandsAt w old.frames.frames line) where
   -- from what is changed, and what that is a step of
   alone-by : (rule : Rule) (shared : Shared) → new ≡ record old { frames = after rule old.frames; runtime = with_shared shared old.runtime } → shared.loaded ≡ old.runtime.shared.loaded
-      → is_named line.action ≡ false → goes_within line.action ≡ true → state_in new ≡ on_parts (acts w line) old
+      → is_named line.operation ≡ false → goes_within line.operation ≡ true → state_in new ≡ on_parts (acts w line) old
       → ((ms : List Initialization) → IsAtInstruction (length old.frames.frames) ms old → (step w.world (listing_of w.versions) (state_of ms old)).changes ≡ [])
       → LeadsAlone w old 1 new
   alone-by rule shared changed kept unnamed within does quiet =
@@ -264,21 +269,21 @@ module _ (w : Setup) (run : CanRun w) (line : Line) (k : Kind) (old new : Parts)
         quiet = λ ms at_instruction. quiet-one w (state_of ms old) (quiet ms at_instruction);
       }
 
-  pub load-alone : line.action ≡ action.LoadElement k → IsLoaded line k old new → LeadsAlone w old 1 new
+  pub load-alone : line.operation ≡ operation.LoadElement k → IsLoaded line k old new → LeadsAlone w old 1 new
   load-alone loads is =
       alone-by (replaces 2 (Some (as_value is.datum)) line.next) old.runtime.shared is.changed refl
       (ap is_named loads) (ap goes_within loads)
       (ap state_in is.changed ∙ load-done w run line k loads old new is old.frames.frames stands is.at is.goes)
       (λ ms at_instruction. load-quiet w run line k loads old new is old.frames.frames ms is.at at_instruction stands)
 
-  pub store-alone : line.action ≡ action.StoreElement k → IsStored line k old new → LeadsAlone w old 1 new
+  pub store-alone : line.operation ≡ operation.StoreElement k → IsStored line k old new → LeadsAlone w old 1 new
   store-alone stores is =
       alone-by (drops_three line.next) (record old.runtime.shared { heap = with_slot_at is.storing.array is.slot is.storing.datum old.runtime.shared.heap }) is.changed refl
       (ap is_named stores) (ap goes_within stores)
       (ap state_in is.changed ∙ store-done w run line k stores old new is old.frames.frames stands is.at is.goes)
       (λ ms at_instruction. store-quiet w run line k stores old new is old.frames.frames ms is.at at_instruction stands)
 
-  pub length-alone : line.action ≡ action.Arraylength → IsMeasured line old new → LeadsAlone w old 1 new
+  pub length-alone : line.operation ≡ operation.Arraylength → IsMeasured line old new → LeadsAlone w old 1 new
   length-alone length_of is =
       alone-by (replaces 1 (Some (Int (pos is.count))) line.next) old.runtime.shared is.changed refl
       (ap is_named length_of) (ap goes_within length_of)

@@ -22,13 +22,13 @@ use Rattle.jvm_model.specs.Basis.Data.{Locals, Operands, Listing, Instruction, O
 use Rattle.jvm_model.specs.declared.instruction.Local.{Local}
 use Rattle.jvm_model.specs.declared.instruction.Local.TheVariants.{Nop, Constant, Load, Store, ManageStack, BinaryOfInts, BinaryOfLongs, DivisionOfInts, DivisionOfLongs, ShiftOfLong, UnaryOfInt, UnaryOfLong, Lcmp, Iinc, Branch, Goto, Switch, Jsr, Ret, Return}
 use Rattle.jvm_model.specs.declared.instruction.SymbolicReference.{SymbolicReference}
+use Rattle.jvm_model.specs.declared.instruction.Keys.{Keys}
 use Rattle.jvm_model.specs.declared.instruction.Operation.{Operation}
 use Rattle.jvm_model.specs.declared.instruction.Operation.TheVariants.{Within, Named, Athrow, Monitor, Newarray, Arraylength, LoadElement, StoreElement, LdcString}
-use Rattle.jvm_model.specs.declared.instruction.Keys.{Keys}
 use Rattle.jvm_model.specs.Codes.Lines.{ends, is_last, targets_of}
 use Rattle.jvm_model.specs.Instructions.LocalRules.{arithmetic_exception, by_zero, divides_these, goes_if, holds, tests, switches_on, goes_back, replaces, returns, returns_datum, within}
 use Rattle.jvm_model.specs.Classes.Lookup.{is_below}
-use Rattle.jvm_model.specs.Instructions.ObjectRules.{Access, ToNull, ToAnother, Outside, Inside, Storing, access_to, array_kind, done, fits_array, loads_at, loads_element, makes, measures, place_of, stores_at, stores_element, storing_of, throws, watches}
+use Rattle.jvm_model.specs.Instructions.ObjectRules.{Access, ToNull, ToAnother, Outside, Inside, Storing, access_to, done, fits_array, loads_at, loads_element, makes, measures, place_of, stores_at, stores_element, storing_of, throws, watches}
 use Rattle.jvm_model.specs.Instructions.Does.{does, loads}
 use Rattle.jvm_model.specs.Instructions.SymbolicReference.{newly_loaded}
 use Rattle.jvm_model.specs.Instructions.ReferenceRules.{does_named}
@@ -38,12 +38,11 @@ use Rattle.jvm_model.specs.Basis.StackForms.{forms_of}
 use Rattle.jvm_model.specs.Basis.Values.{datum_of, local_loaded, local_in, int_of, ref_of, managed_stack}
 use Rattle.jvm_basic.specs.Rules.{goes_at, outcome_placed}
 use Rattle.jvm_basic.proofs.PlacedOutcomes.{is_simple, pushes-simple, replaces-simple, leaves-simple, stores-simple, increments-simple}
-use Rattle.prepared_lines.specs.declared.line.Action.{Action}
-use Rattle.prepared_lines.specs.declared.line.Action.TheVariants as action
+use Rattle.prepared_lines.specs.declared.line.LocalAction.{LocalAction}
 use Rattle.prepared_lines.specs.declared.line.Line.{Line}
 use Rattle.activations.specs.Applied.{placed_line, acts_asked, resumes_line, gives_back_line, returns_or_ends, acts_return}
 use Rattle.instructions.specs.Acts.{comes_to, acts_alone, acts_done, acts_by, acts, class_awaited, ready_for, with_done}
-use Rattle.prepared_lines.specs.Lines.{action_of, local_action}
+use Rattle.prepared_lines.specs.Lines.{operation_kept, local_kept}
 use Rattle.prepared_code.specs.Ready.{IsRuleOf, IsTied}
 use Rattle.prepared_code.specs.Tables.{Versions}
 use Rattle.prepared_code.specs.Versions.{Setup, listing_of, line_at, instruction_by, instruction_in}
@@ -166,11 +165,11 @@ module _ (w : Setup) (t : Listing) (line : Line) (s : State) (f : Frame) where
   at-same m o None = refl
   at-same m o (Some place) = refl
 
-  abbrev by_next : Operation → Option ℕ → Instruction
+  abbrev by_next : Operation Local → Option ℕ → Instruction
   by_next op next = record { operation = op; own = line.instr.at; next = next; targets = targets_of line.instr.arg }
 
   -- with the offset behind it, where it has one
-  own-same : (op : Operation) (last : Bool) (q : Outcome) → IsOwn last q
+  own-same : (op : Operation Local) (last : Bool) (q : Outcome) → IsOwn last q
       → (applies w.world t (by_next op (cond last None (Some line.next))) q s f).after ≡ comes_to w line s f (outcome_placed line.next (targets_of line.instr.arg) f.locals f.operands q)
   own-same op last (GoesOn m o Next) h = ap (λ b. goes s f line.instr.at m o (cond b None (Some line.next))) h
   own-same op last (GoesOn m o (Target k)) h = at-same m o (slice_get (targets_of line.instr.arg) k)
@@ -232,7 +231,7 @@ return-starts (Throws r) h = absurd h
 return-starts (Initializes c) h = absurd h
 return-starts (Exits n) h = absurd h
 
-return-same : (w : Setup) (line : Line) (op : Operation) (s : State) (f : Frame) (q : Outcome) → IsReturn q
+return-same : (w : Setup) (line : Line) (op : Operation Local) (s : State) (f : Frame) (q : Outcome) → IsReturn q
     → (applies w.world (listing_of w.versions) (instruction_by op line) q s f).after ≡ returns_or_ends w line s f q
 return-same w line op s f (Returns d) h = gives-same w.versions s d s.stack
 return-same w line op s f (Breaks true) h = refl
@@ -275,14 +274,14 @@ return-acts w line s f k =
     (return-same w line (Within (Return k)) s f (returns k f.operands) (returns-return k f.operands))
 
 within-acts : (w : Setup) (line : Line) (s : State) (f : Frame) (l : Local) → IsRuleOf line l
-    → ActsAs w (instruction_by (Within l) line) s f (does w.world (Within l) s.shared f.locals f.operands) (acts_by w line s f (local_action l))
+    → ActsAs w (instruction_by (Within l) line) s f (does w.world (Within l) s.shared f.locals f.operands) (acts_by w line s f (Within (local_kept l)))
 within-acts w line s f (Return k) rule = return-acts w line s f k
 within-acts w line s f l rule = alone-acts w line s f l refl rule
 
 -- ---- what the model's rule asks for, at the line's place
 
 -- what applies does not ask which operation it is, where control goes on behind it
-placed-same : (w : Setup) (line : Line) (op : Operation) (s : State) (f : Frame) (q : Outcome) → ends op ≡ false
+placed-same : (w : Setup) (line : Line) (op : Operation Local) (s : State) (f : Frame) (q : Outcome) → ends op ≡ false
     → (applies w.world (listing_of w.versions) (instruction_by op line) q s f).after ≡ (applies w.world (listing_of w.versions) (placed_line line) q s f).after
 placed-same w line op s f (GoesOn m o Next) behind = ap (λ b. goes s f line.instr.at m o (cond b None (Some line.next))) behind
 placed-same w line op s f (GoesOn m o (Target k)) behind = refl
@@ -297,7 +296,7 @@ placed-same w line op s f (Throws x) behind = refl
 placed-same w line op s f (Initializes c) behind = refl
 placed-same w line op s f (Exits n) behind = refl
 
-asked-acts : (w : Setup) (line : Line) (op : Operation) (s : State) (f : Frame) (q : Outcome) → ends op ≡ false → starts q ≡ None
+asked-acts : (w : Setup) (line : Line) (op : Operation Local) (s : State) (f : Frame) (q : Outcome) → ends op ≡ false → starts q ≡ None
     → ActsAs w (instruction_by op line) s f (done s.shared q) (acts_asked w line s f q)
 asked-acts w line op s f q behind starts_none =
     quiet-acts w (instruction_by op line) s f q (acts_asked w line s f q) starts_none (placed-same w line op s f q behind)
@@ -307,7 +306,7 @@ pub record IsSilent (d : Done) : Type 0 where
   pub kept : stays d.outcome ≡ true
   pub wrote : d.wrote ≡ []
 
-done-acts : (w : Setup) (line : Line) (op : Operation) (s : State) (f : Frame) (d : Done) → ends op ≡ false → IsSilent d
+done-acts : (w : Setup) (line : Line) (op : Operation Local) (s : State) (f : Frame) (d : Done) → ends op ≡ false → IsSilent d
     → ActsAs w (instruction_by op line) s f d (acts_done w line s f d)
 done-acts w line op s f d behind silent = record {
   starts_none = stays-starts d.outcome silent.kept;
@@ -398,57 +397,53 @@ throws-stays w s (Some r) =
 -- ---- every line
 
 -- by the action that the line has
-acted : (w : Setup) (line : Line) (s : State) (f : Frame) (op : Operation) (a : Action) → a ≡ line.action
+acted : (w : Setup) (line : Line) (s : State) (f : Frame) (op : Operation Local) (a : Operation LocalAction) → a ≡ line.operation
     → ActsAs w (instruction_by op line) s f (does w.world op s.shared f.locals f.operands) (acts_by w line s f a)
     → ActsAs w (instruction_by op line) s f (does w.world op s.shared f.locals f.operands) (acts w line s f)
 acted w line s f op a is acts_so =
     subst (λ x. ActsAs w (instruction_by op line) s f (does w.world op s.shared f.locals f.operands) (acts_by w line s f x)) is acts_so
 
 -- an instruction that names nothing
-abbrev names : Operation → Bool
+abbrev names : Operation Local → Bool
 names (Named n) = true
 names op = false
 
-op-acts : (w : Setup) (line : Line) (s : State) (f : Frame) (op : Operation) → names op ≡ false → IsTied line op
+op-acts : (w : Setup) (line : Line) (s : State) (f : Frame) (op : Operation Local) → names op ≡ false → IsTied line op
     → ActsAs w (instruction_by op line) s f (does w.world op s.shared f.locals f.operands) (acts w line s f)
 op-acts w line s f (Named n) none tied = absurd (false≢true (sym none))
-op-acts w line s f (Within l) none tied = acted w line s f (Within l) (local_action l) tied.action (within-acts w line s f l (tied.alone l refl))
-op-acts w line s f Athrow none tied = acted w line s f Athrow action.Athrow tied.action (athrow-acts w line s f (ref_of f.operands))
+op-acts w line s f (Within l) none tied = acted w line s f (Within l) (Within (local_kept l)) tied.kept (within-acts w line s f l (tied.alone l refl))
+op-acts w line s f Athrow none tied = acted w line s f Athrow Athrow tied.kept (athrow-acts w line s f (ref_of f.operands))
 op-acts w line s f Monitor none tied =
-    acted w line s f Monitor action.Monitor tied.action
+    acted w line s f Monitor Monitor tied.kept
     (asked-acts w line Monitor s f (watches (ref_of f.operands) f.locals f.operands) refl
     (stays-starts _ (watches-stays (ref_of f.operands) f.locals f.operands)))
 op-acts w line s f Arraylength none tied =
-    acted w line s f Arraylength action.Arraylength tied.action
+    acted w line s f Arraylength Arraylength tied.kept
     (asked-acts w line Arraylength s f (measures (ref_of f.operands) s.shared f.locals f.operands) refl (stays-starts _ (measures-stays (ref_of f.operands) s.shared f.locals f.operands)))
-op-acts w line s f (Newarray code) none tied =
-    acted w line s f (Newarray code) (action.Newarray (array_kind code)) tied.action
-    (done-acts w line (Newarray code) s f (makes (array_kind code) (int_of f.operands) s.shared f.locals f.operands) refl
-    (makes-silent (array_kind code) (int_of f.operands) s.shared f.locals f.operands))
+op-acts w line s f (Newarray kind) none tied =
+    acted w line s f (Newarray kind) (Newarray kind) tied.kept
+    (done-acts w line (Newarray kind) s f (makes kind (int_of f.operands) s.shared f.locals f.operands) refl
+    (makes-silent kind (int_of f.operands) s.shared f.locals f.operands))
 op-acts w line s f (LoadElement k) none tied =
-    acted w line s f (LoadElement k) (action.LoadElement k) tied.action
+    acted w line s f (LoadElement k) (LoadElement k) tied.kept
     (asked-acts w line (LoadElement k) s f (loads_element k (place_of f.operands) s.shared f.locals f.operands) refl
     (stays-starts _ (loads-stays k (place_of f.operands) s.shared f.locals f.operands)))
 op-acts w line s f (StoreElement k) none tied =
-    acted w line s f (StoreElement k) (action.StoreElement k) tied.action
+    acted w line s f (StoreElement k) (StoreElement k) tied.kept
     (done-acts w line (StoreElement k) s f (stores_element w.world.program k (storing_of k f.operands) s.shared f.locals f.operands) refl
     (stores-silent w.world.program k (storing_of k f.operands) s.shared f.locals f.operands))
 op-acts w line s f (LdcString units) none tied =
-    acted w line s f (LdcString units) (action.LdcString units) tied.action
+    acted w line s f (LdcString units) (LdcString units) tied.kept
     (done-acts w line (LdcString units) s f (pushes_string w.world.program units s.shared f.locals f.operands) refl
     (string-silent w.world.program units s.shared f.locals f.operands))
 
-local-awaits : (w : Setup) (s : State) (f : Frame) (l : Local) → class_awaited w s f (local_action l) ≡ None
-local-awaits w s f (Return k) = refl
-local-awaits w s f l = refl
-
-op-awaits : (w : Setup) (s : State) (f : Frame) (op : Operation) → names op ≡ false → class_awaited w s f (action_of op) ≡ None
+op-awaits : (w : Setup) (s : State) (f : Frame) (op : Operation Local) → names op ≡ false → class_awaited w s f (operation_kept op) ≡ None
 op-awaits w s f (Named n) none = absurd (false≢true (sym none))
-op-awaits w s f (Within l) none = local-awaits w s f l
+op-awaits w s f (Within l) none = refl
 op-awaits w s f Athrow none = refl
 op-awaits w s f Monitor none = refl
 op-awaits w s f Arraylength none = refl
-op-awaits w s f (Newarray code) none = refl
+op-awaits w s f (Newarray kind) none = refl
 op-awaits w s f (LoadElement k) none = refl
 op-awaits w s f (StoreElement k) none = refl
 op-awaits w s f (LdcString units) none = refl
@@ -461,7 +456,7 @@ with-loaded (c ∷ more) s = refl
 
 -- ---- every operation, over the classes that it loads
 
-module _ (w : Setup) (line : Line) (op : Operation) (s : State) (f : Frame) where
+module _ (w : Setup) (line : Line) (op : Operation Local) (s : State) (f : Frame) where
   abbrev pub readied : State
   readied = with_loaded (loads w.world op s.shared f.operands) s
 
@@ -470,7 +465,7 @@ module _ (w : Setup) (line : Line) (op : Operation) (s : State) (f : Frame) wher
 
   -- what applies is what the line comes to, and the same class is initialized before
   pub record StepsAs : Type 0 where
-    pub starts_same : starts done_there.outcome ≡ class_awaited w s f line.action
+    pub starts_same : starts done_there.outcome ≡ class_awaited w s f line.operation
     pub applied : (applies w.world (listing_of w.versions) (instruction_by op line) done_there.outcome (with_done done_there readied) f).after ≡ acts w line s f
 
 named-steps : (w : Setup) (line : Line) (n : SymbolicReference) (s : State) (f : Frame) → IsTied line (Named n) → StepsAs w line (Named n) s f
@@ -481,54 +476,51 @@ named-steps w line n s f tied =
     record {
       starts_same =
           ap (λ (x : State). starts (does_named w.world n x.shared f.locals f.operands).outcome) same
-          ∙ ap (class_awaited w s f) tied.action;
+          ∙ ap (class_awaited w s f) tied.kept;
       applied =
           placed-same w line (Named n) (with_done there ready) f there.outcome refl
           ∙ (ap (λ (x : State). let d = does_named w.world n x.shared f.locals f.operands in acts_asked w line (with_done d x) f d.outcome) same
-          ∙ ap (acts_by w line s f) tied.action);
+          ∙ ap (acts_by w line s f) tied.kept);
     }
 
-pub steps-as : (w : Setup) (line : Line) (op : Operation) (s : State) (f : Frame) → IsTied line op → StepsAs w line op s f
+pub steps-as : (w : Setup) (line : Line) (op : Operation Local) (s : State) (f : Frame) → IsTied line op → StepsAs w line op s f
 steps-as w line (Named n) s f tied = named-steps w line n s f tied
 steps-as w line (Within l) s f tied =
     let acts_so = op-acts w line s f (Within l) refl tied in
-    record { starts_same = acts_so.starts_none ∙ (sym (op-awaits w s f (Within l) refl) ∙ ap (class_awaited w s f) tied.action); applied = acts_so.applied }
+    record { starts_same = acts_so.starts_none ∙ (sym (op-awaits w s f (Within l) refl) ∙ ap (class_awaited w s f) tied.kept); applied = acts_so.applied }
 steps-as w line Athrow s f tied =
     let acts_so = op-acts w line s f Athrow refl tied in
-    record { starts_same = acts_so.starts_none ∙ ap (class_awaited w s f) tied.action; applied = acts_so.applied }
+    record { starts_same = acts_so.starts_none ∙ ap (class_awaited w s f) tied.kept; applied = acts_so.applied }
 steps-as w line Monitor s f tied =
     let acts_so = op-acts w line s f Monitor refl tied in
-    record { starts_same = acts_so.starts_none ∙ ap (class_awaited w s f) tied.action; applied = acts_so.applied }
+    record { starts_same = acts_so.starts_none ∙ ap (class_awaited w s f) tied.kept; applied = acts_so.applied }
 steps-as w line Arraylength s f tied =
     let acts_so = op-acts w line s f Arraylength refl tied in
-    record { starts_same = acts_so.starts_none ∙ ap (class_awaited w s f) tied.action; applied = acts_so.applied }
-steps-as w line (Newarray code) s f tied =
-    let acts_so = op-acts w line s f (Newarray code) refl tied in
-    record { starts_same = acts_so.starts_none ∙ ap (class_awaited w s f) tied.action; applied = acts_so.applied }
+    record { starts_same = acts_so.starts_none ∙ ap (class_awaited w s f) tied.kept; applied = acts_so.applied }
+steps-as w line (Newarray kind) s f tied =
+    let acts_so = op-acts w line s f (Newarray kind) refl tied in
+    record { starts_same = acts_so.starts_none ∙ ap (class_awaited w s f) tied.kept; applied = acts_so.applied }
 steps-as w line (LoadElement k) s f tied =
     let acts_so = op-acts w line s f (LoadElement k) refl tied in
-    record { starts_same = acts_so.starts_none ∙ ap (class_awaited w s f) tied.action; applied = acts_so.applied }
+    record { starts_same = acts_so.starts_none ∙ ap (class_awaited w s f) tied.kept; applied = acts_so.applied }
 steps-as w line (StoreElement k) s f tied =
     let acts_so = op-acts w line s f (StoreElement k) refl tied in
-    record { starts_same = acts_so.starts_none ∙ ap (class_awaited w s f) tied.action; applied = acts_so.applied }
+    record { starts_same = acts_so.starts_none ∙ ap (class_awaited w s f) tied.kept; applied = acts_so.applied }
 steps-as w line (LdcString units) s f tied =
     let acts_so = op-acts w line s f (LdcString units) refl tied in
-    record { starts_same = acts_so.starts_none ∙ ap (class_awaited w s f) tied.action; applied = acts_so.applied }
+    record { starts_same = acts_so.starts_none ∙ ap (class_awaited w s f) tied.kept; applied = acts_so.applied }
 
 -- a line that awaits a class names something
-pub awaits-named : (w : Setup) (line : Line) (op : Operation) (s : State) (f : Frame) (c : ℕ) → IsTied line op → class_awaited w s f line.action ≡ Some c
+pub awaits-named : (w : Setup) (line : Line) (op : Operation Local) (s : State) (f : Frame) (c : ℕ) → IsTied line op → class_awaited w s f line.operation ≡ Some c
     → (n : SymbolicReference) × (op ≡ Named n)
-awaits-named w line op s f c tied is = by op (ap (class_awaited w s f) tied.action ∙ is) where
-  never : (x : Option ℕ) → x ≡ None → x ≡ Some c → ⊥
-  never x none some = none-some c (sym none ∙ some)
-
-  by : (o : Operation) → class_awaited w s f (action_of o) ≡ Some c → (n : SymbolicReference) × (o ≡ Named n)
+awaits-named w line op s f c tied is = by op (ap (class_awaited w s f) tied.kept ∙ is) where
+  by : (o : Operation Local) → class_awaited w s f (operation_kept o) ≡ Some c → (n : SymbolicReference) × (o ≡ Named n)
   by (Named n) e = (n, refl)
-  by (Within l) e = absurd (never _ (local-awaits w s f l) e)
+  by (Within l) e = absurd (none-some c e)
   by Athrow e = absurd (none-some c e)
   by Monitor e = absurd (none-some c e)
   by Arraylength e = absurd (none-some c e)
-  by (Newarray code) e = absurd (none-some c e)
+  by (Newarray kind) e = absurd (none-some c e)
   by (LoadElement k) e = absurd (none-some c e)
   by (StoreElement k) e = absurd (none-some c e)
   by (LdcString units) e = absurd (none-some c e)

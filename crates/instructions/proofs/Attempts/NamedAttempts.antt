@@ -6,14 +6,15 @@ use Rattle.frame_stack.specs.FrameLists.{PlacedFrame, top_operands}
 use Rattle.jvm_basic.specs.Outcomes.{top_locals}
 use Rattle.jvm_model.specs.declared.state.State.{State}
 use Rattle.jvm_model.specs.declared.instruction.SymbolicReference.{SymbolicReference}
-use Rattle.jvm_model.specs.Basis.Data.{Done, Initializes, Outcome, World}
+use Rattle.jvm_model.specs.declared.instruction.Operation.{Operation}
+use Rattle.jvm_model.specs.declared.instruction.Operation.TheVariants as operation
+use Rattle.jvm_model.specs.Basis.Data.{Done, Initializes, Outcome}
 use Rattle.jvm_model.specs.Running.Run.{starts}
 use Rattle.member_selection.specs.Answers.{done_on}
 use Rattle.member_selection.specs.Attempts.{attempts, shared_loaded}
 use Rattle.member_selection.specs.Outcomes.{outcome_by_rule}
 use Rattle.symbolic_references.specs.Runtimes.{RuntimeView, after}
-use Rattle.prepared_lines.specs.declared.line.Action.{Action}
-use Rattle.prepared_lines.specs.declared.line.Action.TheVariants as action
+use Rattle.prepared_lines.specs.declared.line.LocalAction.{LocalAction}
 use Rattle.prepared_lines.specs.declared.line.Line.{Line}
 use Rattle.prepared_code.specs.declared.initializations.Initialization.{Initialization}
 use Rattle.prepared_code.specs.declared.parts.Here.{Here}
@@ -22,9 +23,8 @@ use Rattle.instructions.specs.Acts.{acts, acts_by, attempts_on, awaited_by, awai
 use Rattle.activations.specs.Applied.{acts_asked, on_parts, on_top, placed_line}
 use Rattle.activations.specs.TakenArguments.{TakesArguments, done_top}
 use Rattle.activations.specs.Initializing.{begins_class}
-use Rattle.prepared_code.specs.Kept.{AreKnown}
 use Rattle.prepared_code.specs.Lines.{IfNamed, IfNamedBy}
-use Rattle.prepared_code.specs.Linked.{IsLinked, Linked, setup_in}
+use Rattle.prepared_code.specs.Originals.{OriginalsView, setup_in}
 use Rattle.prepared_code.specs.Initializations.{initialization_on, stack_of, state_of, with_initializations}
 use Rattle.prepared_code.specs.States.{active, frame_in, here_of, state_in, state_with}
 use Rattle.prepared_code.specs.Versions.{Setup, line_at, listing_of}
@@ -39,19 +39,10 @@ use Rattle.std.specs.Prelude.{OnOk, Result, Ok, Err}
 
 -- ---- the world stays
 
-pub same-setup : (r s : RuntimeView) (o p : Linked) → s.world ≡ r.world → p.versions ≡ o.versions → setup_in s p ≡ setup_in r o
+pub same-setup : (r s : RuntimeView) (o p : OriginalsView) → s.world ≡ r.world → p.versions ≡ o.versions → setup_in s p ≡ setup_in r o
 same-setup r s o p world versions =
     ap (λ x. let w : Setup = record { world = x; versions = p.versions } in w) world
     ∙ ap (λ x. let w : Setup = record { world = r.world; versions = x } in w) versions
-
--- and what is loaded
-pub linked-kept : (o : Linked) (r s : RuntimeView) → s.world ≡ r.world → s.shared.loaded ≡ r.shared.loaded → IsLinked o r → IsLinked o s
-linked-kept o r s world loaded linked = record {
-  program = ap (λ (w : World). w.program) world ∙ linked.program;
-  known =
-      subst (λ (w : World). AreKnown (record { program = w.program; loaded = s.shared.loaded }) o.versions o.rows) (sym world)
-      (subst (λ (x : List ℕ). AreKnown (record { program = r.world.program; loaded = x }) o.versions o.rows) (sym loaded) linked.known);
-}
 
 -- ---- a line that names something
 
@@ -59,23 +50,22 @@ pub record Names (lo : Option Line) : Type 0 where
   pub line : Line
   pub kept : SymbolicReference
   pub there : lo ≡ Some line
-  pub named : line.action ≡ action.Named kept
+  pub named : line.operation ≡ operation.Named kept
 
-names-by : (a : Action) → is_named a ≡ true → (n : SymbolicReference) × (a ≡ action.Named n)
-names-by (action.Named n) is = (n, refl)
-names-by action.Local is = absurd (false≢true is)
-names-by (action.Return k) is = absurd (false≢true is)
-names-by action.Athrow is = absurd (false≢true is)
-names-by action.Monitor is = absurd (false≢true is)
-names-by action.Arraylength is = absurd (false≢true is)
-names-by (action.Newarray kind) is = absurd (false≢true is)
-names-by (action.LoadElement k) is = absurd (false≢true is)
-names-by (action.StoreElement k) is = absurd (false≢true is)
-names-by (action.LdcString units) is = absurd (false≢true is)
+names-by : (a : Operation LocalAction) → is_named a ≡ true → (n : SymbolicReference) × (a ≡ operation.Named n)
+names-by (operation.Named n) is = (n, refl)
+names-by (operation.Within i) is = absurd (false≢true is)
+names-by operation.Athrow is = absurd (false≢true is)
+names-by operation.Monitor is = absurd (false≢true is)
+names-by operation.Arraylength is = absurd (false≢true is)
+names-by (operation.Newarray kind) is = absurd (false≢true is)
+names-by (operation.LoadElement k) is = absurd (false≢true is)
+names-by (operation.StoreElement k) is = absurd (false≢true is)
+names-by (operation.LdcString units) is = absurd (false≢true is)
 
 pub names-there : (lo : Option Line) → named_in lo ≡ true → Names lo
 names-there None is = absurd (false≢true is)
-names-there (Some line) is = let found = names-by line.action is in record { line = line; kept = found.0; there = refl; named = found.1 }
+names-there (Some line) is = let found = names-by line.operation is in record { line = line; kept = found.0; there = refl; named = found.1 }
 
 -- what holds of it where it is known
 pub held : (lo : Option Line) (names : Names lo) (Holds : SymbolicReference → ℕ → Type 0) → IfNamed lo Holds → Holds names.kept names.line.next
@@ -89,8 +79,8 @@ module _ (w : Setup) (ms : List Initialization) (here : Here) (line : Line) (p :
     (none : initialization_on (length p.frames.frames) ms ≡ None) (q : Outcome) (left : RuntimeView)
     (answers : IfNamed (line_at w.versions here.version here.place) (λ n next. q ≡ outcome_by_rule (attempts w.world n p.runtime.shared p.frames) p.frames))
     (leaves : IfNamed (line_at w.versions here.version here.place) (λ n next. left ≡ after (done_on (attempts w.world n p.runtime.shared p.frames) p.frames) p.runtime)) where
-  by_name : (n : SymbolicReference) × (line.action ≡ action.Named n)
-  by_name = names-by line.action (sym (ap named_in found) ∙ is)
+  by_name : (n : SymbolicReference) × (line.operation ≡ operation.Named n)
+  by_name = names-by line.operation (sym (ap named_in found) ∙ is)
 
   abbrev names : Names (line_at w.versions here.version here.place)
   names = record { line = line; kept = by_name.0; there = found; named = by_name.1 }

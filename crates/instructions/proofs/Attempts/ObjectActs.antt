@@ -11,6 +11,8 @@ use Rattle.jvm_model.specs.declared.program.Program.{Program}
 use Rattle.jvm_model.specs.declared.state.Frame.{Frame}
 use Rattle.jvm_model.specs.declared.state.Shared.{Shared}
 use Rattle.jvm_model.specs.declared.state.State.{State}
+use Rattle.jvm_model.specs.declared.instruction.Operation.{Operation}
+use Rattle.jvm_model.specs.declared.instruction.Operation.TheVariants as operation
 use Rattle.jvm_model.specs.Basis.Data.{Locals, Operands, Outcome, GoesOn, Subroutine, Invokes, Returns, Throws, Raises, Initializes, Exits, Breaks, Done, World}
 use Rattle.jvm_model.specs.Basis.SharedState.{class_of, throwable}
 use Rattle.jvm_model.specs.Basis.Values.{int_of, ref_of}
@@ -21,11 +23,10 @@ use Rattle.jvm_model.specs.Instructions.ObjectRules.{Access, ToNull, ToAnother, 
 use Rattle.jvm_model.specs.Running.Constants.{can_intern}
 use Rattle.jvm_model.specs.Running.Run.{starts}
 use Rattle.symbolic_references.specs.Runtimes.{RuntimeView, with_shared}
-use Rattle.prepared_lines.specs.declared.line.Action.{Action}
-use Rattle.prepared_lines.specs.declared.line.Action.TheVariants as action
+use Rattle.prepared_lines.specs.declared.line.LocalAction.{LocalAction}
 use Rattle.prepared_lines.specs.declared.line.Line.{Line}
 use Rattle.prepared_code.specs.declared.parts.Parts.{Parts}
-use Rattle.prepared_code.specs.Linked.{Linked, setup_in}
+use Rattle.prepared_code.specs.Originals.{OriginalsView, setup_in}
 use Rattle.prepared_code.specs.States.{frame_in, state_in, state_with}
 use Rattle.prepared_code.specs.Versions.{Setup}
 use Rattle.activations.specs.Applied.{IsTop, acts_asked, on_parts, on_top}
@@ -85,17 +86,16 @@ stored p k (Some x) s l o = by (access_to k x.array x.index s.heap) where
 pushed : (p : Program) (units : List ℕ) (s : Shared) (l : Locals) (o : Operands) → is_plain (pushes_string p units s l o).outcome ≡ true
 pushed p units s l o = if-done (can_intern units s.heap) _ _ refl refl
 
-pub objects-plain : (w : World) (a : Action) (s : Shared) (l : Locals) (o : Operands) → is_plain (sees_objects w a s l o).outcome ≡ true
-objects-plain w action.Athrow s l o = thrown w s (ref_of o)
-objects-plain w action.Monitor s l o = watched (ref_of o) l o
-objects-plain w action.Arraylength s l o = measured (ref_of o) s l o
-objects-plain w (action.Newarray kind) s l o = made kind (int_of o) s l o
-objects-plain w (action.LoadElement k) s l o = loaded k (place_of o) s l o
-objects-plain w (action.StoreElement k) s l o = stored w.program k (storing_of k o) s l o
-objects-plain w (action.LdcString units) s l o = pushed w.program units s l o
-objects-plain w action.Local s l o = refl
-objects-plain w (action.Return k) s l o = refl
-objects-plain w (action.Named n) s l o = refl
+pub objects-plain : (w : World) (a : Operation LocalAction) (s : Shared) (l : Locals) (o : Operands) → is_plain (sees_objects w a s l o).outcome ≡ true
+objects-plain w operation.Athrow s l o = thrown w s (ref_of o)
+objects-plain w operation.Monitor s l o = watched (ref_of o) l o
+objects-plain w operation.Arraylength s l o = measured (ref_of o) s l o
+objects-plain w (operation.Newarray kind) s l o = made kind (int_of o) s l o
+objects-plain w (operation.LoadElement k) s l o = loaded k (place_of o) s l o
+objects-plain w (operation.StoreElement k) s l o = stored w.program k (storing_of k o) s l o
+objects-plain w (operation.LdcString units) s l o = pushed w.program units s l o
+objects-plain w (operation.Within i) s l o = refl
+objects-plain w (operation.Named n) s l o = refl
 
 pub plain-starts : (q : Outcome) → is_plain q ≡ true → starts q ≡ None
 plain-starts (Initializes c) plain = absurd (false≢true plain)
@@ -122,55 +122,52 @@ plain-takes (Breaks b) o plain = tt
 -- ---- what the line does
 
 -- it sees objects
-abbrev pub sees : Action → Bool
-sees action.Local = false
-sees (action.Return k) = false
-sees (action.Named n) = false
+abbrev pub sees : Operation LocalAction → Bool
+sees (operation.Within i) = false
+sees (operation.Named n) = false
 sees _ = true
 
-pub acts-seeing : (w : Setup) (line : Line) (s : State) (f : Frame) (a : Action) → sees a ≡ true
+pub acts-seeing : (w : Setup) (line : Line) (s : State) (f : Frame) (a : Operation LocalAction) → sees a ≡ true
     → acts_done w line s f (sees_objects w.world a s.shared f.locals f.operands) ≡ acts_by w line s f a
-acts-seeing w line s f action.Athrow is = refl
-acts-seeing w line s f action.Monitor is = refl
-acts-seeing w line s f action.Arraylength is = refl
-acts-seeing w line s f (action.Newarray kind) is = refl
-acts-seeing w line s f (action.LoadElement k) is = refl
-acts-seeing w line s f (action.StoreElement k) is = refl
-acts-seeing w line s f (action.LdcString units) is = refl
-acts-seeing w line s f action.Local is = absurd (false≢true is)
-acts-seeing w line s f (action.Return k) is = absurd (false≢true is)
-acts-seeing w line s f (action.Named n) is = absurd (false≢true is)
+acts-seeing w line s f operation.Athrow is = refl
+acts-seeing w line s f operation.Monitor is = refl
+acts-seeing w line s f operation.Arraylength is = refl
+acts-seeing w line s f (operation.Newarray kind) is = refl
+acts-seeing w line s f (operation.LoadElement k) is = refl
+acts-seeing w line s f (operation.StoreElement k) is = refl
+acts-seeing w line s f (operation.LdcString units) is = refl
+acts-seeing w line s f (operation.Within i) is = absurd (false≢true is)
+acts-seeing w line s f (operation.Named n) is = absurd (false≢true is)
 
 -- a line that is none of the others does
-pub seeing : (a : Action) → is_named a ≡ false → (a ≡ action.Local → ⊥) → ((k : Option Kind) → a ≡ action.Return k → ⊥) → sees a ≡ true
-seeing action.Athrow unnamed local returns = refl
-seeing action.Monitor unnamed local returns = refl
-seeing action.Arraylength unnamed local returns = refl
-seeing (action.Newarray kind) unnamed local returns = refl
-seeing (action.LoadElement k) unnamed local returns = refl
-seeing (action.StoreElement k) unnamed local returns = refl
-seeing (action.LdcString units) unnamed local returns = refl
-seeing action.Local unnamed local returns = absurd (local refl)
-seeing (action.Return k) unnamed local returns = absurd (returns k refl)
-seeing (action.Named n) unnamed local returns = absurd (false≢true (sym unnamed))
+pub seeing : (a : Operation LocalAction) → is_named a ≡ false → ((i : LocalAction) → a ≡ operation.Within i → ⊥) → sees a ≡ true
+seeing operation.Athrow unnamed within = refl
+seeing operation.Monitor unnamed within = refl
+seeing operation.Arraylength unnamed within = refl
+seeing (operation.Newarray kind) unnamed within = refl
+seeing (operation.LoadElement k) unnamed within = refl
+seeing (operation.StoreElement k) unnamed within = refl
+seeing (operation.LdcString units) unnamed within = refl
+seeing (operation.Within i) unnamed within = absurd (within i refl)
+seeing (operation.Named n) unnamed within = absurd (false≢true (sym unnamed))
 
 -- what is done by what the code asks for, over what is left
-module _ (o : Linked) (line : Line) (method : ℕ) (p : Parts) where
+module _ (o : OriginalsView) (line : Line) (method : ℕ) (p : Parts) where
   abbrev w : Setup
   w = setup_in p.runtime o
 
   abbrev asks : List PlacedFrame → Done
-  asks all = sees_objects p.runtime.world line.action p.runtime.shared (top_locals all) (top_operands all)
+  asks all = sees_objects p.runtime.world line.operation p.runtime.shared (top_locals all) (top_operands all)
 
   abbrev acted : Setup → RuntimeView → Outcome → List PlacedFrame → State
   acted v left q all = on_top (λ s f. acts_asked v line s f q) (record p { runtime = left }) all
 
-  seen-acts : sees line.action ≡ true → (all : List PlacedFrame) → IsTop method all
+  seen-acts : sees line.operation ≡ true → (all : List PlacedFrame) → IsTop method all
       → acted w (with_shared (asks all).shared p.runtime) (asks all).outcome all ≡ on_top (acts w line) p all
   seen-acts is [] top = absurd top
-  seen-acts is (f ∷ fs) top = acts-seeing w line (state_with fs p) (frame_in f) line.action is
+  seen-acts is (f ∷ fs) top = acts-seeing w line (state_with fs p) (frame_in f) line.operation is
 
-  pub object-acts : (left : RuntimeView) (q : Outcome) (new : Parts) → sees line.action ≡ true → IsTop method p.frames.frames
+  pub object-acts : (left : RuntimeView) (q : Outcome) (new : Parts) → sees line.operation ≡ true → IsTop method p.frames.frames
       → q ≡ (asks p.frames.frames).outcome → left ≡ with_shared (asks p.frames.frames).shared p.runtime
       → state_in new ≡ acted (setup_in left o) left q p.frames.frames → state_in new ≡ on_parts (acts w line) p
   object-acts left q new is top asks_so leaves made =
@@ -182,10 +179,10 @@ module _ (o : Linked) (line : Line) (method : ℕ) (p : Parts) where
   -- it starts nothing, and invokes nothing
   pub object-starts : (q : Outcome) → q ≡ (asks p.frames.frames).outcome → starts q ≡ None
   object-starts q is =
-      ap starts is ∙ plain-starts (asks p.frames.frames).outcome (objects-plain p.runtime.world line.action p.runtime.shared (top_locals p.frames.frames) (top_operands p.frames.frames))
+      ap starts is ∙ plain-starts (asks p.frames.frames).outcome (objects-plain p.runtime.world line.operation p.runtime.shared (top_locals p.frames.frames) (top_operands p.frames.frames))
 
   pub object-takes : (q : Outcome) → q ≡ (asks p.frames.frames).outcome → TakesArguments q (top_operands p.frames.frames)
   object-takes q is =
       subst (λ (x : Outcome). TakesArguments x (top_operands p.frames.frames)) (sym is)
       (plain-takes (asks p.frames.frames).outcome (top_operands p.frames.frames)
-      (objects-plain p.runtime.world line.action p.runtime.shared (top_locals p.frames.frames) (top_operands p.frames.frames)))
+      (objects-plain p.runtime.world line.operation p.runtime.shared (top_locals p.frames.frames) (top_operands p.frames.frames)))

@@ -9,8 +9,10 @@ use Rattle.frame_stack.specs.FrameLists.{PlacedFrame}
 use Rattle.jvm_model.specs.declared.ending.Ending.TheVariants.{Unverifiable}
 use Rattle.jvm_model.specs.declared.state.Frame.{Frame}
 use Rattle.jvm_model.specs.declared.state.State.{State}
-use Rattle.prepared_lines.specs.declared.line.Action.{Action}
-use Rattle.prepared_lines.specs.declared.line.Action.TheVariants as action
+use Rattle.jvm_model.specs.declared.instruction.Operation.{Operation}
+use Rattle.jvm_model.specs.declared.instruction.Operation.TheVariants as operation
+use Rattle.prepared_lines.specs.declared.line.LocalAction.{LocalAction}
+use Rattle.prepared_lines.specs.declared.line.LocalAction.TheVariants as local_action
 use Rattle.prepared_lines.specs.declared.line.Line.{Line}
 use Rattle.prepared_code.specs.declared.initializations.Initialization.{Initialization}
 use Rattle.prepared_code.specs.declared.parts.Here.{Here}
@@ -27,8 +29,8 @@ use Rattle.prepared_code.proofs.Initializing.InitializingStacks.{none-left, stac
 use Rattle.prepared_code.specs.Versions.{Setup, line_at}
 
 module _ (w : Setup) (line : Line) (ms : List Initialization) (p new : Parts) (method : ℕ) where
-  pub does-beneath : (fs : List PlacedFrame) → IsTop method fs → initialization_on (length fs) ms ≡ None → is_named line.action ≡ false
-      → (goes_within line.action ≡ false → initialization_on (length fs - 1) ms ≡ None) → state_in new ≡ on_top (acts w line) p fs
+  pub does-beneath : (fs : List PlacedFrame) → IsTop method fs → initialization_on (length fs) ms ≡ None → is_named line.operation ≡ false
+      → (goes_within line.operation ≡ false → initialization_on (length fs - 1) ms ≡ None) → state_in new ≡ on_top (acts w line) p fs
       → state_of ms new ≡ becomes_beneath ms (acts w line) p fs
   does-beneath [] top none awaits beneath_it e = absurd top
   does-beneath (f ∷ fs) top none awaits beneath_it e =
@@ -38,7 +40,7 @@ module _ (w : Setup) (line : Line) (ms : List Initialization) (p new : Parts) (m
       (λ ends. ap (λ n. initialization_on n ms) (length-active fs) ∙ (ap (λ n. initialization_on n ms) (sym less) ∙ beneath_it ends))
 
   -- a return of a static initializer
-  pub ends-beneath : (k : Option Kind) → line.action ≡ action.Return k → (fs : List PlacedFrame) → IsTop method fs
+  pub ends-beneath : (k : Option Kind) → line.operation ≡ operation.Within (local_action.Return k) → (fs : List PlacedFrame) → IsTop method fs
       → is_some (initialization_on (length fs - 1) ms) ≡ true → state_in new ≡ on_top (acts_end line k) p fs
       → state_of ms new ≡ becomes_beneath ms (acts w line) p fs
   ends-beneath k is [] top some e = absurd top
@@ -55,17 +57,17 @@ module _ (w : Setup) (line : Line) (ms : List Initialization) (p new : Parts) (m
         ∙ sym (ap (acts_by w line (with_initializations ms (state_with fs p)) (frame_in f)) is))
 
 -- no return
-pub within-unless : (a : Action) → ((k : Option Kind) → a ≡ action.Return k → ⊥) → goes_within a ≡ false → ⊥
-within-unless (action.Return k) isnt h = isnt k refl
-within-unless action.Local isnt h = false≢true (sym h)
-within-unless (action.Named n) isnt h = false≢true (sym h)
-within-unless action.Athrow isnt h = false≢true (sym h)
-within-unless action.Monitor isnt h = false≢true (sym h)
-within-unless action.Arraylength isnt h = false≢true (sym h)
-within-unless (action.Newarray kind) isnt h = false≢true (sym h)
-within-unless (action.LoadElement k) isnt h = false≢true (sym h)
-within-unless (action.StoreElement k) isnt h = false≢true (sym h)
-within-unless (action.LdcString units) isnt h = false≢true (sym h)
+pub within-unless : (a : Operation LocalAction) → ((k : Option Kind) → a ≡ operation.Within (local_action.Return k) → ⊥) → goes_within a ≡ false → ⊥
+within-unless (operation.Within (local_action.Return k)) isnt h = isnt k refl
+within-unless (operation.Within local_action.Basic) isnt h = false≢true (sym h)
+within-unless (operation.Named n) isnt h = false≢true (sym h)
+within-unless operation.Athrow isnt h = false≢true (sym h)
+within-unless operation.Monitor isnt h = false≢true (sym h)
+within-unless operation.Arraylength isnt h = false≢true (sym h)
+within-unless (operation.Newarray kind) isnt h = false≢true (sym h)
+within-unless (operation.LoadElement k) isnt h = false≢true (sym h)
+within-unless (operation.StoreElement k) isnt h = false≢true (sym h)
+within-unless (operation.LdcString units) isnt h = false≢true (sym h)
 
 -- ---- what stands at the top
 
@@ -84,18 +86,17 @@ module _ (w : Setup) (ms : List Initialization) (p : Parts) where
   -- a frame that stands at a line that names nothing
   unnamed-by : (lo : Option Line) → named_in lo ≡ false → (x : State) (f : Frame) → awaited_by w x f lo ≡ None
   unnamed-by None is x f = refl
-  unnamed-by (Some line) is x f = by line.action is where
-    by : (a : Action) → is_named a ≡ false → class_awaited w x f a ≡ None
-    by (action.Named n) is = absurd (false≢true (sym is))
-    by action.Local is = refl
-    by (action.Return k) is = refl
-    by action.Athrow is = refl
-    by action.Monitor is = refl
-    by action.Arraylength is = refl
-    by (action.Newarray kind) is = refl
-    by (action.LoadElement k) is = refl
-    by (action.StoreElement k) is = refl
-    by (action.LdcString units) is = refl
+  unnamed-by (Some line) is x f = by line.operation is where
+    by : (a : Operation LocalAction) → is_named a ≡ false → class_awaited w x f a ≡ None
+    by (operation.Named n) is = absurd (false≢true (sym is))
+    by (operation.Within i) is = refl
+    by operation.Athrow is = refl
+    by operation.Monitor is = refl
+    by operation.Arraylength is = refl
+    by (operation.Newarray kind) is = refl
+    by (operation.LoadElement k) is = refl
+    by (operation.StoreElement k) is = refl
+    by (operation.LdcString units) is = refl
 
   awaits-by : (fs : List PlacedFrame) (here : Here) → here_of fs ≡ Some here → initialization_on (length fs) ms ≡ None
       → named_in (line_at w.versions here.version here.place) ≡ false → awaited_on w s (stack_of (map active fs) ms) ≡ None

@@ -11,6 +11,8 @@ use Rattle.jvm_model.specs.declared.state.Entry.{Entry}
 use Rattle.jvm_model.specs.declared.state.Entry.TheVariants.{Active, Initializing}
 use Rattle.jvm_model.specs.declared.state.Frame.{Frame}
 use Rattle.jvm_model.specs.declared.state.State.{State}
+use Rattle.jvm_model.specs.declared.instruction.Operation.{Operation}
+use Rattle.jvm_model.specs.declared.instruction.Operation.TheVariants as operation
 use Rattle.jvm_model.specs.Running.Applies.{still, breaks, place_of, enters_subroutine, new_frame, throws_at, has_room, begins, invokes, most_live, live_in, applies}
 use Rattle.jvm_model.specs.Instructions.ConstantRules.{pushes_string}
 use Rattle.jvm_model.specs.Basis.Data.{Operands, Listing, Instruction, Outcome, GoesOn, Subroutine, Invokes, Returns, Throws, Raises, Initializes, Exits, Breaks, Turn}
@@ -20,8 +22,8 @@ use Rattle.jvm_model.specs.Basis.SharedState.{Allocated, exception_raised, stack
 use Rattle.jvm_model.specs.Basis.Values.{as_value, int_of, ref_of, with_value}
 use Rattle.jvm_basic.specs.Outcomes.{Outcome as Comes, GoesOn as Goes, Raises as Divides, Breaks as Fails, Leaves}
 use Rattle.jvm_basic.specs.Rules.{rule_of}
-use Rattle.prepared_lines.specs.declared.line.Action.{Action}
-use Rattle.prepared_lines.specs.declared.line.Action.TheVariants as action
+use Rattle.prepared_lines.specs.declared.line.LocalAction.{LocalAction}
+use Rattle.prepared_lines.specs.declared.line.LocalAction.TheVariants as local_action
 use Rattle.prepared_lines.specs.declared.line.Line.{Line}
 use Rattle.prepared_code.specs.declared.initializations.Initialization.{Initialization}
 use Rattle.activations.specs.Applied.{placed_line, resumes_line, gives_back_line, returns_or_ends, acts_return, acts_end, ends_initializer}
@@ -36,8 +38,8 @@ use Rattle.prepared_code.specs.Versions.{Setup, listing_of, line_at, next_in}
 use Rattle.activations.proofs.MovesCarried.{IsFree, framed, breaks-carried, goes-carried}
 
 -- a line with this action does not end the activation
-abbrev pub goes_within : Action → Bool
-goes_within (action.Return k) = false
+abbrev pub goes_within : Operation LocalAction → Bool
+goes_within (operation.Within (local_action.Return k)) = false
 goes_within _ = true
 
 module _ (ms : List Initialization) where
@@ -96,30 +98,30 @@ module _ (ms : List Initialization) where
   comes-carried w line s f Fails free = breaks-carried ms s f line.instr.at free
   comes-carried w line s f Leaves free = breaks-carried ms s f line.instr.at free
 
-  action-carried : (w : Setup) (line : Line) (s : State) (f : Frame) (a : Action) → IsFree ms s → is_named a ≡ false → goes_within a ≡ true
+  operation-carried : (w : Setup) (line : Line) (s : State) (f : Frame) (a : Operation LocalAction) → IsFree ms s → is_named a ≡ false → goes_within a ≡ true
       → with_initializations ms (acts_by w line s f a) ≡ acts_by w line (with_initializations ms s) f a
-  action-carried w line s f (action.Named n) free none within = absurd (false≢true (sym none))
-  action-carried w line s f action.Local free none within = comes-carried w line s f (rule_of line.instr line.constant line.next f.locals f.operands) free
-  action-carried w line s f (action.Return k) free none within = absurd (false≢true within)
-  action-carried w line s f action.Athrow free none within =
+  operation-carried w line s f (operation.Named n) free none within = absurd (false≢true (sym none))
+  operation-carried w line s f (operation.Within local_action.Basic) free none within = comes-carried w line s f (rule_of line.instr line.constant line.next f.locals f.operands) free
+  operation-carried w line s f (operation.Within (local_action.Return k)) free none within = absurd (false≢true within)
+  operation-carried w line s f operation.Athrow free none within =
       applies-carried w (listing_of w.versions) (placed_line line) (throws w.world s.shared (ref_of f.operands)) (throws-stays w s.shared (ref_of f.operands)) s f free
-  action-carried w line s f action.Monitor free none within =
+  operation-carried w line s f operation.Monitor free none within =
       applies-carried w (listing_of w.versions) (placed_line line) (watches (ref_of f.operands) f.locals f.operands) (watches-stays (ref_of f.operands) f.locals f.operands) s f free
-  action-carried w line s f action.Arraylength free none within =
+  operation-carried w line s f operation.Arraylength free none within =
       applies-carried w (listing_of w.versions) (placed_line line) (measures (ref_of f.operands) s.shared f.locals f.operands)
       (measures-stays (ref_of f.operands) s.shared f.locals f.operands) s f free
-  action-carried w line s f (action.Newarray kind) free none within =
+  operation-carried w line s f (operation.Newarray kind) free none within =
       let d = makes kind (int_of f.operands) s.shared f.locals f.operands in
       applies-carried w (listing_of w.versions) (placed_line line) d.outcome (makes-silent kind (int_of f.operands) s.shared f.locals f.operands).kept
       (record s { shared = d.shared }) f free
-  action-carried w line s f (action.LoadElement k) free none within =
+  operation-carried w line s f (operation.LoadElement k) free none within =
       applies-carried w (listing_of w.versions) (placed_line line) (loads_element k (element_of f.operands) s.shared f.locals f.operands)
       (loads-stays k (element_of f.operands) s.shared f.locals f.operands) s f free
-  action-carried w line s f (action.StoreElement k) free none within =
+  operation-carried w line s f (operation.StoreElement k) free none within =
       let d = stores_element w.world.program k (storing_of k f.operands) s.shared f.locals f.operands in
       applies-carried w (listing_of w.versions) (placed_line line) d.outcome (stores-silent w.world.program k (storing_of k f.operands) s.shared f.locals f.operands).kept
       (record s { shared = d.shared }) f free
-  action-carried w line s f (action.LdcString units) free none within =
+  operation-carried w line s f (operation.LdcString units) free none within =
       let d = pushes_string w.world.program units s.shared f.locals f.operands in
       applies-carried w (listing_of w.versions) (placed_line line) d.outcome (string-silent w.world.program units s.shared f.locals f.operands).kept
       (record s { shared = d.shared }) f free
@@ -157,25 +159,25 @@ module _ (ms : List Initialization) where
   return-carried w line s f fs (Exits n) none = refl
 
   -- every line, where no initialization stands beneath the frame at a return
-  pub line-carried : (w : Setup) (line : Line) (s : State) (f : Frame) (fs : List PlacedFrame) → s.stack ≡ map active fs → IsFree ms s → is_named line.action ≡ false
-      → (goes_within line.action ≡ false → initialization_on (length (map active fs)) ms ≡ None)
+  pub line-carried : (w : Setup) (line : Line) (s : State) (f : Frame) (fs : List PlacedFrame) → s.stack ≡ map active fs → IsFree ms s → is_named line.operation ≡ false
+      → (goes_within line.operation ≡ false → initialization_on (length (map active fs)) ms ≡ None)
       → with_initializations ms (acts w line s f) ≡ acts w line (with_initializations ms s) f
-  line-carried w line s f fs is free none beneath_it = by line.action none beneath_it where
-    by : (a : Action) → is_named a ≡ false → (goes_within a ≡ false → initialization_on (length (map active fs)) ms ≡ None)
+  line-carried w line s f fs is free none beneath_it = by line.operation none beneath_it where
+    by : (a : Operation LocalAction) → is_named a ≡ false → (goes_within a ≡ false → initialization_on (length (map active fs)) ms ≡ None)
         → with_initializations ms (acts_by w line s f a) ≡ acts_by w line (with_initializations ms s) f a
-    by (action.Return k) none below =
+    by (operation.Within (local_action.Return k)) none below =
         ap (λ es. with_initializations ms (acts_return w line k (record s { stack = es }) f)) is
         ∙ (return-carried w line s f fs (returns k f.operands) (below refl)
         ∙ sym (ap (λ es. acts_return w line k (with_initializations ms (record s { stack = es })) f) is))
-    by action.Local none below = action-carried w line s f action.Local free none refl
-    by (action.Named n) none below = absurd (false≢true (sym none))
-    by action.Athrow none below = action-carried w line s f action.Athrow free none refl
-    by action.Monitor none below = action-carried w line s f action.Monitor free none refl
-    by action.Arraylength none below = action-carried w line s f action.Arraylength free none refl
-    by (action.Newarray kind) none below = action-carried w line s f (action.Newarray kind) free none refl
-    by (action.LoadElement k) none below = action-carried w line s f (action.LoadElement k) free none refl
-    by (action.StoreElement k) none below = action-carried w line s f (action.StoreElement k) free none refl
-    by (action.LdcString units) none below = action-carried w line s f (action.LdcString units) free none refl
+    by (operation.Within local_action.Basic) none below = operation-carried w line s f (operation.Within local_action.Basic) free none refl
+    by (operation.Named n) none below = absurd (false≢true (sym none))
+    by operation.Athrow none below = operation-carried w line s f operation.Athrow free none refl
+    by operation.Monitor none below = operation-carried w line s f operation.Monitor free none refl
+    by operation.Arraylength none below = operation-carried w line s f operation.Arraylength free none refl
+    by (operation.Newarray kind) none below = operation-carried w line s f (operation.Newarray kind) free none refl
+    by (operation.LoadElement k) none below = operation-carried w line s f (operation.LoadElement k) free none refl
+    by (operation.StoreElement k) none below = operation-carried w line s f (operation.StoreElement k) free none refl
+    by (operation.LdcString units) none below = operation-carried w line s f (operation.LdcString units) free none refl
 
   -- ---- a return of a static initializer
 

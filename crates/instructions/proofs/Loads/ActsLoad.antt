@@ -16,6 +16,8 @@ use Rattle.jvm_model.specs.Instructions.ConstantRules.{pushes_string}
 use Rattle.jvm_model.specs.Running.Constants.{can_intern}
 use Rattle.jvm_model.specs.Basis.Data.{Locals, Operands, Listing, Instruction, Outcome, GoesOn, Subroutine, Invokes, Returns, Throws, Raises, Initializes, Exits, Breaks, Done}
 use Rattle.jvm_model.specs.declared.instruction.SymbolicReference.{SymbolicReference}
+use Rattle.jvm_model.specs.declared.instruction.Operation.{Operation}
+use Rattle.jvm_model.specs.declared.instruction.Operation.TheVariants as operation
 use Rattle.jvm_model.specs.Instructions.LocalRules.{arithmetic_exception, by_zero, returns}
 use Rattle.jvm_model.specs.Instructions.SymbolicReference.{newly_loaded}
 use Rattle.jvm_model.specs.Instructions.ObjectRules.{Access, ToNull, ToAnother, Outside, Inside, Storing, access_to, fits_array, loads_element, makes, measures, place_of as element_of, stores_at, stores_element, storing_of, throws, watches}
@@ -23,8 +25,8 @@ use Rattle.jvm_model.specs.Basis.SharedState.{null, exception_raised, stack_over
 use Rattle.jvm_model.specs.Basis.Values.{as_value, int_of, ref_of, with_value}
 use Rattle.jvm_basic.specs.Outcomes.{Outcome as Comes, GoesOn as Goes, Raises as Divides, Breaks as Fails, Leaves}
 use Rattle.jvm_basic.specs.Rules.{rule_of}
-use Rattle.prepared_lines.specs.declared.line.Action.{Action}
-use Rattle.prepared_lines.specs.declared.line.Action.TheVariants as action
+use Rattle.prepared_lines.specs.declared.line.LocalAction.{LocalAction}
+use Rattle.prepared_lines.specs.declared.line.LocalAction.TheVariants as local_action
 use Rattle.prepared_lines.specs.declared.line.Line.{Line}
 use Rattle.instructions.specs.Acts.{acts_by, acts_named, attempts_line, comes_to, is_named, named_done, ready_for, with_done}
 use Rattle.activations.specs.Applied.{gives_back_line, placed_line, resumes_line, returns_or_ends}
@@ -131,27 +133,27 @@ module _ (w : Setup) (line : Line) (s : State) (f : Frame) where
   string-keeps : (units : List ℕ) → (pushes_string w.world.program units s.shared f.locals f.operands).shared.loaded ≡ s.shared.loaded
   string-keeps units = chosen-keeps (can_intern units s.shared.heap) _ _ refl refl
 
-  acts-keep : (a : Action) → is_named a ≡ false → Keeps s (acts_by w line s f a)
-  acts-keep (action.Named n) none = absurd (false≢true (sym none))
-  acts-keep action.Local none = comes-keeps (rule_of line.instr line.constant line.next f.locals f.operands)
-  acts-keep (action.Return k) none = returns-keep (returns k f.operands)
-  acts-keep action.Athrow none = asked-keeps s (throws w.world s.shared (ref_of f.operands))
-  acts-keep action.Monitor none = asked-keeps s (watches (ref_of f.operands) f.locals f.operands)
-  acts-keep action.Arraylength none = asked-keeps s (measures (ref_of f.operands) s.shared f.locals f.operands)
-  acts-keep (action.Newarray kind) none =
+  acts-keep : (a : Operation LocalAction) → is_named a ≡ false → Keeps s (acts_by w line s f a)
+  acts-keep (operation.Named n) none = absurd (false≢true (sym none))
+  acts-keep (operation.Within local_action.Basic) none = comes-keeps (rule_of line.instr line.constant line.next f.locals f.operands)
+  acts-keep (operation.Within (local_action.Return k)) none = returns-keep (returns k f.operands)
+  acts-keep operation.Athrow none = asked-keeps s (throws w.world s.shared (ref_of f.operands))
+  acts-keep operation.Monitor none = asked-keeps s (watches (ref_of f.operands) f.locals f.operands)
+  acts-keep operation.Arraylength none = asked-keeps s (measures (ref_of f.operands) s.shared f.locals f.operands)
+  acts-keep (operation.Newarray kind) none =
       let d = makes kind (int_of f.operands) s.shared f.locals f.operands in
       asked-keeps (record s { shared = d.shared }) d.outcome ∙ makes-keep kind (int_of f.operands)
-  acts-keep (action.LoadElement k) none = asked-keeps s (loads_element k (element_of f.operands) s.shared f.locals f.operands)
-  acts-keep (action.StoreElement k) none =
+  acts-keep (operation.LoadElement k) none = asked-keeps s (loads_element k (element_of f.operands) s.shared f.locals f.operands)
+  acts-keep (operation.StoreElement k) none =
       let d = stores_element w.world.program k (storing_of k f.operands) s.shared f.locals f.operands in
       asked-keeps (record s { shared = d.shared }) d.outcome ∙ stores-keep k (storing_of k f.operands)
-  acts-keep (action.LdcString units) none =
+  acts-keep (operation.LdcString units) none =
       let d = pushes_string w.world.program units s.shared f.locals f.operands in
       asked-keeps (record s { shared = d.shared }) d.outcome ∙ string-keeps units
 
-pub attempts-keep : (w : Setup) (s : State) (f : Frame) (lo : Option Line) → ((l : Line) → lo ≡ Some l → is_named l.action ≡ false) → Keeps s (attempts_line w s f lo)
+pub attempts-keep : (w : Setup) (s : State) (f : Frame) (lo : Option Line) → ((l : Line) → lo ≡ Some l → is_named l.operation ≡ false) → Keeps s (attempts_line w s f lo)
 attempts-keep w s f None quiet = refl
-attempts-keep w s f (Some line) quiet = acts-keep w line s f line.action (quiet line refl)
+attempts-keep w s f (Some line) quiet = acts-keep w line s f line.operation (quiet line refl)
 
 -- ---- lines that name something
 

@@ -7,6 +7,8 @@ use Rattle.std.specs.Prelude.{◌==◌, is_some, IfNone}
 use Rattle.frame_stack.specs.FrameLists.{PlacedFrame, top_operands}
 use Rattle.jvm_model.specs.declared.state.State.{State}
 use Rattle.jvm_model.specs.declared.instruction.SymbolicReference.{SymbolicReference}
+use Rattle.jvm_model.specs.declared.instruction.Operation.{Operation}
+use Rattle.jvm_model.specs.declared.instruction.Operation.TheVariants as operation
 use Rattle.jvm_model.specs.Instructions.Does.{loads}
 use Rattle.jvm_model.specs.Instructions.SymbolicReference.{newly_loaded}
 use Rattle.jvm_model.specs.Turns.Rest.{loads_at, loads_on}
@@ -17,8 +19,8 @@ use Rattle.member_selection.specs.Attempts.{attempts, is_loaded, loaded_for}
 use Rattle.member_selection.specs.Outcomes.{outcome_by_rule, outcome_in_frame}
 use Rattle.symbolic_references.specs.Runtimes.{RuntimeView, after}
 use Rattle.symbolic_references.specs.Runtimes as runtimes
-use Rattle.prepared_lines.specs.declared.line.Action.{Action}
-use Rattle.prepared_lines.specs.declared.line.Action.TheVariants as action
+use Rattle.prepared_lines.specs.declared.line.LocalAction.{LocalAction}
+use Rattle.prepared_lines.specs.declared.line.LocalAction.TheVariants as local_action
 use Rattle.prepared_lines.specs.declared.line.Line.{Line}
 use Rattle.prepared_code.specs.declared.initializations.Initialization.{Initialization}
 use Rattle.prepared_code.specs.declared.parts.Here.{Here}
@@ -43,18 +45,18 @@ loads_of w s (f ∷ fs) lo = loads_at w.world s (frame_in f) (option_map instruc
 unnamed-loads : (w : Setup) (s : State) (fs : List PlacedFrame) (lo : Option Line) → named_in lo ≡ false → loads_of w s fs lo ≡ []
 unnamed-loads w s [] lo is = refl
 unnamed-loads w s (f ∷ fs) None is = refl
-unnamed-loads w s (f ∷ fs) (Some line) is = by line.action is where
-  by : (a : Action) → is_named a ≡ false → loads w.world (operation_as line a) s.shared f.operands ≡ []
-  by (action.Named n) is = absurd (false≢true (sym is))
-  by action.Local is = refl
-  by (action.Return k) is = refl
-  by action.Athrow is = refl
-  by action.Monitor is = refl
-  by action.Arraylength is = refl
-  by (action.Newarray kind) is = refl
-  by (action.LoadElement k) is = refl
-  by (action.StoreElement k) is = refl
-  by (action.LdcString units) is = refl
+unnamed-loads w s (f ∷ fs) (Some line) is = by line.operation is where
+  by : (a : Operation LocalAction) → is_named a ≡ false → loads w.world (operation_as line a) s.shared f.operands ≡ []
+  by (operation.Named n) is = absurd (false≢true (sym is))
+  by (operation.Within local_action.Basic) is = refl
+  by (operation.Within (local_action.Return k)) is = refl
+  by operation.Athrow is = refl
+  by operation.Monitor is = refl
+  by operation.Arraylength is = refl
+  by (operation.Newarray kind) is = refl
+  by (operation.LoadElement k) is = refl
+  by (operation.StoreElement k) is = refl
+  by (operation.LdcString units) is = refl
 
 module _ (w : Setup) (ms : List Initialization) (p : Parts) (going : p.ending ≡ None) where
   abbrev s : State

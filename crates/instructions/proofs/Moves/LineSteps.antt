@@ -16,6 +16,7 @@ use Rattle.jvm_model.specs.declared.state.State.{State}
 use Rattle.jvm_model.specs.Running.Applies.{still, breaks, applies}
 use Rattle.jvm_model.specs.Basis.Data.{Listing, Instruction, Initializes, Done, Turn}
 use Rattle.jvm_model.specs.declared.instruction.SymbolicReference.{SymbolicReference}
+use Rattle.jvm_model.specs.declared.instruction.Local.{Local}
 use Rattle.jvm_model.specs.declared.instruction.Operation.{Operation}
 use Rattle.jvm_model.specs.declared.instruction.Operation.TheVariants.{Named}
 use Rattle.jvm_model.specs.Running.Moves.{move, moves, moves_left, settles, turn_settled, then_turn}
@@ -96,7 +97,7 @@ module _ (w : Setup) where
   abbrev pub behind : State → State
   behind x = (turn_settled w.world t (still x)).after
 
-  module _ (s : State) (f : Frame) (line : Line) (op : Operation) (tied : IsTied line op) where
+  module _ (s : State) (f : Frame) (line : Line) (op : Operation Local) (tied : IsTied line op) where
     abbrev first : Turn
     first = tries w.world t (instruction_by op line) (readied w line op s f) f (done_there w line op s f)
 
@@ -107,7 +108,7 @@ module _ (w : Setup) where
         (steps-as w line op s f tied).applied
 
     -- the classes are loaded, and a class may be initialized before
-    steps-by : (o : Option ℕ) → class_awaited w s f line.action ≡ o
+    steps-by : (o : Option ℕ) → class_awaited w s f line.operation ≡ o
         → (steps_at w.world t s f (Some (instruction_by op line))).after ≡ (goes_again w.world t (instruction_by op line) (readied w line op s f) f o first).after
     steps-by o is =
         loaded-after (loads w.world op s.shared f.operands) (steps_by w.world t (instruction_by op line) (readied w line op s f) f (done_there w line op s f))
@@ -131,20 +132,20 @@ module _ (w : Setup) where
   ready-of None h = absurd (false≢true h)
 
   -- by an instruction that names something
-  module _ (s : State) (f : Frame) (line : Line) (n : SymbolicReference) (c : ℕ) (tied : IsTied line (Named n)) (is : class_awaited w s f line.action ≡ Some c) where
+  module _ (s : State) (f : Frame) (line : Line) (n : SymbolicReference) (c : ℕ) (tied : IsTied line (Named n)) (is : class_awaited w s f line.operation ≡ Some c) where
     abbrev i : Instruction
     i = instruction_by (Named n) line
 
     abbrev there : Done
     there = named_done w n s f
 
-    named-action : acts w line s f ≡ acts_named w line n s f
-    named-action = ap (acts_by w line s f) (sym tied.action)
+    named-acts : acts w line s f ≡ acts_named w line n s f
+    named-acts = ap (acts_by w line s f) (sym tied.kept)
 
     asks-for : there.outcome ≡ Initializes c
     asks-for =
         starts-some there.outcome c
-        (ap (class_awaited w s f) tied.action ∙ is)
+        (ap (class_awaited w s f) tied.kept ∙ is)
 
     law : IsNamed (ready_for w n s f).shared f.operands there
     law = is-named (ready_for w n s f).shared f.operands w n f.locals
@@ -157,7 +158,7 @@ module _ (w : Setup) where
     begun = record (with_done there s) { stack = Initializing c Constants ∷ Active f ∷ s.stack; shared = with_phase there.shared c Running }
 
     pub acts-begun : acts w line s f ≡ begun
-    acts-begun = named-action ∙ ap (acts_asked w line (with_done there s) f) asks-for
+    acts-begun = named-acts ∙ ap (acts_asked w line (with_done there s) f) asks-for
 
     abbrev turn : Turn
     turn = turn_settled w.world t (still begun)
@@ -180,7 +181,7 @@ module _ (w : Setup) where
     there : lo ≡ Some line
     instruction : io ≡ Some (instruction_by (Named named) line)
     tied : IsTied line (Named named)
-    awaits : class_awaited w s f line.action ≡ Some c
+    awaits : class_awaited w s f line.operation ≡ Some c
 
   is-awaiting : (s : State) (f : Frame) (c : ℕ) (lo : Option Line) (io : Option Instruction) → awaited_by w s f lo ≡ Some c → Tie lo io → IsAwaiting s f c lo io
   is-awaiting s f c None io is tie = absurd (none-some c is)

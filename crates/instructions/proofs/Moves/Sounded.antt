@@ -1,5 +1,5 @@
 -- A sound state is what an attempt of an instruction that names something asks for, and an attempt leaves one.
-use Rattle.std.proofs.Common.{◌≡◌, ◌<◌, ℕ, refl, List, [], ◌∷◌, ◌++◌, length, map, false, Option, Some, None, sym, ap, subst, ◌∙◌, arith}
+use Rattle.std.proofs.Common.{◌≡◌, ◌<◌, ℕ, refl, List, [], ◌∷◌, ◌++◌, length, map, false, Option, Some, None, sym, ap, subst, ◌∙◌}
 use Rattle.std.specs.List.{AllByRecursion}
 use Rattle.std.specs.Option.{IfSome}
 use Rattle.std.proofs.lemmas.Option.{none-some, same_Some}
@@ -12,7 +12,6 @@ use Rattle.jvm_model.specs.Basis.Data.{Instruction, Breaks, Done}
 use Rattle.jvm_model.specs.declared.instruction.SymbolicReference.{SymbolicReference}
 use Rattle.jvm_model.specs.declared.instruction.SymbolicReference.TheVariants.{Invokespecial}
 use Rattle.jvm_model.specs.declared.instruction.Local.{Local}
-use Rattle.jvm_model.specs.declared.instruction.Local.TheVariants.{Return}
 use Rattle.jvm_model.specs.declared.instruction.Operation.{Operation}
 use Rattle.jvm_model.specs.declared.instruction.Operation.TheVariants.{Within, Named, Athrow, Monitor, Newarray, Arraylength, LoadElement, StoreElement, LdcString}
 use Rattle.jvm_model.specs.Instructions.Does.{loads}
@@ -26,7 +25,7 @@ use Rattle.jvm_model.proofs.Soundness.SoundListingRuns.{sound-loaded}
 use Rattle.jvm_model.proofs.Soundness.SoundListingSteps.{entry-grows, sound-applied}
 use Rattle.prepared_code.specs.Ready.{CanRun, IsSoundEntryIn, IsSoundIn, IsTied, RunsIn}
 use Rattle.class_linker.specs.Linkers.{LinkerView}
-use Rattle.member_selection.specs.Arrays.{IsPrimitiveArray}
+use Rattle.jvm_model.specs.Soundness.Sound.{IsPrimitiveArray}
 use Rattle.member_selection.specs.Objects.{HasLoadedCaller}
 use Rattle.prepared_lines.specs.declared.line.Line.{Line}
 use Rattle.prepared_code.specs.declared.initializations.Initialization.{Initialization}
@@ -34,7 +33,7 @@ use Rattle.prepared_code.specs.declared.parts.Here.{Here}
 use Rattle.prepared_code.specs.declared.parts.Parts.{Parts}
 use Rattle.instructions.specs.Acts.{IfNewarray, acts, attempts_line, attempts_on, with_done}
 use Rattle.prepared_code.specs.Lines.{IfNamed, IfNamedBy}
-use Rattle.prepared_lines.specs.Lines.{action_of, local_action}
+use Rattle.prepared_lines.specs.Lines.{operation_kept}
 use Rattle.prepared_code.specs.Initializations.{initialization_on, stack_of, state_of}
 use Rattle.prepared_code.specs.States.{active, here_of}
 use Rattle.instructions.proofs.Attempts.LineActs.{readied, done_there, steps-as, with-loaded}
@@ -57,19 +56,15 @@ module _ (p : Program) (fit : IsFit p) (loaded : List ℕ) where
     by (Invokespecial caller r interface) has = has
     by m has = tt
 
-  within-by : (line : Line) (l : Local) → IfNamedBy (local_action l) line.next (λ n next. HasLoadedCaller (linker_of p loaded) n)
-  within-by line (Return k) = tt
-  within-by line l = tt
-
-  named-by : (line : Line) (op : Operation) → IsTied line op → CanAttempt p loaded op
-      → IfNamedBy line.action line.next (λ n next. HasLoadedCaller (linker_of p loaded) n)
-  named-by line op tied can = subst (λ a. IfNamedBy a line.next (λ n next. HasLoadedCaller (linker_of p loaded) n)) tied.action (by op can) where
-    by : (o : Operation) → CanAttempt p loaded o → IfNamedBy (action_of o) line.next (λ n next. HasLoadedCaller (linker_of p loaded) n)
+  named-by : (line : Line) (op : Operation Local) → IsTied line op → CanAttempt p loaded op
+      → IfNamedBy line.operation line.next (λ n next. HasLoadedCaller (linker_of p loaded) n)
+  named-by line op tied can = subst (λ a. IfNamedBy a line.next (λ n next. HasLoadedCaller (linker_of p loaded) n)) tied.kept (by op can) where
+    by : (o : Operation Local) → CanAttempt p loaded o → IfNamedBy (operation_kept o) line.next (λ n next. HasLoadedCaller (linker_of p loaded) n)
     by (Named n) can = can-name n can
-    by (Within l) can = within-by line l
+    by (Within l) can = tt
     by Athrow can = tt
     by Monitor can = tt
-    by (Newarray code) can = tt
+    by (Newarray kind) can = tt
     by Arraylength can = tt
     by (LoadElement k) can = tt
     by (StoreElement k) can = tt
@@ -83,25 +78,21 @@ module _ (p : Program) (fit : IsFit p) (loaded : List ℕ) where
       named-by line tie.op tie.tied (subst (CanAttempt p loaded) (ap (λ (x : Instruction). x.operation) tie.is) (can i refl))
 
   -- a newarray is of a primitive type
-  array-local : (l : Local) → IfNewarray (local_action l) IsPrimitiveArray
-  array-local (Return k) = tt
-  array-local l = tt
-
-  array-by : (line : Line) (op : Operation) → IsTied line op → CanAttempt p loaded op → IfNewarray line.action IsPrimitiveArray
-  array-by line op tied can = subst (λ a. IfNewarray a IsPrimitiveArray) tied.action (by op can) where
-    by : (o : Operation) → CanAttempt p loaded o → IfNewarray (action_of o) IsPrimitiveArray
+  array-by : (line : Line) (op : Operation Local) → IsTied line op → CanAttempt p loaded op → IfNewarray line.operation IsPrimitiveArray
+  array-by line op tied can = subst (λ a. IfNewarray a IsPrimitiveArray) tied.kept (by op can) where
+    by : (o : Operation Local) → CanAttempt p loaded o → IfNewarray (operation_kept o) IsPrimitiveArray
     by (Named n) can = tt
-    by (Within l) can = array-local l
+    by (Within l) can = tt
     by Athrow can = tt
     by Monitor can = tt
-    by (Newarray code) can = record { array = omega arith; primitive = (let few : code < 16 = can in omega (arith, few)) }
+    by (Newarray kind) can = can
     by Arraylength can = tt
     by (LoadElement k) can = tt
     by (StoreElement k) can = tt
     by (LdcString units) can = tt
 
   tie-array : (lo : Option Line) (io : Option Instruction) → ((i : Instruction) → io ≡ Some i → CanAttempt p loaded i.operation) → Tie lo io
-      → IfSome lo (λ (line : Line). IfNewarray line.action IsPrimitiveArray)
+      → IfSome lo (λ (line : Line). IfNewarray line.operation IsPrimitiveArray)
   tie-array None io can tie = tt
   tie-array (Some line) None can tie = absurd tie
   tie-array (Some line) (Some i) can tie =
@@ -118,10 +109,10 @@ can-stand w run loaded ms here (f ∷ fs) is none each i at =
     run.listing.attempts loaded f.version f.method f.place i top.1 top.0 (ap (λ (h : Here). (listing_of w.versions).at h.version h.place) same ∙ at)
 
 -- the caller of an invokespecial that stands there
-pub caller-linked : (w : Setup) (ms : List Initialization) (parts : Parts) (here : Here) → CanRun w → IsSoundIn w (state_of ms parts)
+pub caller-is-loaded : (w : Setup) (ms : List Initialization) (parts : Parts) (here : Here) → CanRun w → IsSoundIn w (state_of ms parts)
     → here_of parts.frames.frames ≡ Some here → initialization_on (length parts.frames.frames) ms ≡ None
     → IfNamed (line_at w.versions here.version here.place) (λ n next. HasLoadedCaller (linker_of w.world.program parts.runtime.shared.loaded) n)
-caller-linked w ms parts here run is at none =
+caller-is-loaded w ms parts here run is at none =
     let loaded = parts.runtime.shared.loaded in
     tie-named w.world.program run.fit loaded (line_at w.versions here.version here.place) ((listing_of w.versions).at here.version here.place)
     (can-stand w run loaded ms here parts.frames.frames at none is.stack) (tied-there w run here.version here.place)
@@ -129,7 +120,7 @@ caller-linked w ms parts here run is at none =
 -- the type of a newarray that does
 pub array-primitive : (w : Setup) (ms : List Initialization) (parts : Parts) (here : Here) → CanRun w → IsSoundIn w (state_of ms parts)
     → here_of parts.frames.frames ≡ Some here → initialization_on (length parts.frames.frames) ms ≡ None
-    → IfSome (line_at w.versions here.version here.place) (λ (line : Line). IfNewarray line.action IsPrimitiveArray)
+    → IfSome (line_at w.versions here.version here.place) (λ (line : Line). IfNewarray line.operation IsPrimitiveArray)
 array-primitive w ms parts here run is at none =
     let loaded = parts.runtime.shared.loaded in
     tie-array w.world.program run.fit loaded (line_at w.versions here.version here.place) ((listing_of w.versions).at here.version here.place)
@@ -138,7 +129,7 @@ array-primitive w ms parts here run is at none =
 -- ---- an attempt leaves a sound state
 
 module _ (w : Setup) (run : CanRun w) where
-  acts-sound : (s : State) (f : Frame) (line : Line) (op : Operation) → IsSoundIn w s → IsSoundEntryIn w s.shared.loaded (Active f) → IsTied line op
+  acts-sound : (s : State) (f : Frame) (line : Line) (op : Operation Local) → IsSoundIn w s → IsSoundEntryIn w s.shared.loaded (Active f) → IsTied line op
       → (listing_of w.versions).at f.version f.place ≡ Some (instruction_by op line) → IsSoundIn w (acts w line s f)
   acts-sound s f line op is entry tied at =
       let classes : List ℕ = loads w.world op s.shared f.operands in

@@ -6,6 +6,8 @@ use Rattle.code_model.specs.declared.instr.Arg.{Arg}
 use Rattle.frame_stack.specs.FrameLists.{FramesView, PlacedFrame}
 use Rattle.jvm_model.specs.Basis.Families.{family_of}
 use Rattle.jvm_model.specs.declared.family.Family.{Family}
+use Rattle.jvm_model.specs.declared.instruction.Operation.{Operation}
+use Rattle.jvm_model.specs.declared.instruction.Operation.TheVariants as operation
 use Rattle.jvm_basic.specs.declared.effect.Effect.{Effect}
 use Rattle.jvm_basic.specs.declared.effect.Effect.TheVariants.{Next}
 use Rattle.jvm_basic.specs.declared.hot.Hot.{Hot}
@@ -15,8 +17,8 @@ use Rattle.jvm_basic.specs.Outcomes.{after, effect_of}
 use Rattle.jvm_basic.specs.Rules.{rule_of}
 use Rattle.jvm_basic.proofs.Exact.{kept-unless-next}
 use Rattle.jvm_basic.proofs.HotLines.{hot-after, hot-effect, no-element}
-use Rattle.prepared_lines.specs.declared.line.Action.{Action}
-use Rattle.prepared_lines.specs.declared.line.Action.TheVariants as action
+use Rattle.prepared_lines.specs.declared.line.LocalAction.{LocalAction}
+use Rattle.prepared_lines.specs.declared.line.LocalAction.TheVariants as local_action
 use Rattle.prepared_lines.specs.declared.line.Line.{Line}
 use Rattle.prepared_code.specs.declared.parts.Parts.{Parts}
 use Rattle.instructions.specs.Elements.{IsLoaded, IsPassed, IsStored, is_plain}
@@ -29,39 +31,39 @@ use Rattle.instructions.proofs.Silent.PlainSteps.{stays-in}
 
 -- ---- of which action it is
 
-alone-local : (a : Action) (f : Family) (x : Arg) (next : ℕ) → is_alone (hot_in a f x next) ≡ true → a ≡ action.Local
-alone-local action.Local f x next e = refl
+alone-local : (a : Operation LocalAction) (f : Family) (x : Arg) (next : ℕ) → is_alone (hot_in a f x next) ≡ true → a ≡ operation.Within local_action.Basic
+alone-local (operation.Within local_action.Basic) f x next e = refl
 alone-local _ f x next e = absurd (false≢true e)
 
-loads-elements : (a : Action) (f : Family) (x : Arg) (next : ℕ) (k : Kind) → hot_in a f x next ≡ hot.LoadElement k → a ≡ action.LoadElement k
-loads-elements action.Local f x next k e = absurd (false≢true (sym (no-element f x next) ∙ ap is_element e))
-loads-elements (action.LoadElement j) f x next k e = cc
+loads-elements : (a : Operation LocalAction) (f : Family) (x : Arg) (next : ℕ) (k : Kind) → hot_in a f x next ≡ hot.LoadElement k → a ≡ operation.LoadElement k
+loads-elements (operation.Within local_action.Basic) f x next k e = absurd (false≢true (sym (no-element f x next) ∙ ap is_element e))
+loads-elements (operation.LoadElement j) f x next k e = cc
 loads-elements _ f x next k e = cc
 
-stores-elements : (a : Action) (f : Family) (x : Arg) (next : ℕ) (k : Kind) → hot_in a f x next ≡ hot.StoreElement k → a ≡ action.StoreElement k
-stores-elements action.Local f x next k e = absurd (false≢true (sym (no-element f x next) ∙ ap is_element e))
-stores-elements (action.StoreElement j) f x next k e = cc
+stores-elements : (a : Operation LocalAction) (f : Family) (x : Arg) (next : ℕ) (k : Kind) → hot_in a f x next ≡ hot.StoreElement k → a ≡ operation.StoreElement k
+stores-elements (operation.Within local_action.Basic) f x next k e = absurd (false≢true (sym (no-element f x next) ∙ ap is_element e))
+stores-elements (operation.StoreElement j) f x next k e = cc
 stores-elements _ f x next k e = cc
 
-not-local-load : {k : Kind} → action.Local ≡ action.LoadElement k → ⊥
+not-local-load : {k : Kind} → operation.Within local_action.Basic ≡ operation.LoadElement k → ⊥
 not-local-load e = cc
 
-not-local-store : {k : Kind} → action.Local ≡ action.StoreElement k → ⊥
+not-local-store : {k : Kind} → operation.Within local_action.Basic ≡ operation.StoreElement k → ⊥
 not-local-store e = cc
 
-not-load-store : {j k : Kind} → action.LoadElement j ≡ action.StoreElement k → ⊥
+not-load-store : {j k : Kind} → ◌≡◌ {A = Operation LocalAction} (operation.LoadElement j) (operation.StoreElement k) → ⊥
 not-load-store e = cc
 
-same-load : {j k : Kind} → action.LoadElement j ≡ action.LoadElement k → j ≡ k
+same-load : {j k : Kind} → ◌≡◌ {A = Operation LocalAction} (operation.LoadElement j) (operation.LoadElement k) → j ≡ k
 same-load e = cc
 
-same-store : {j k : Kind} → action.StoreElement j ≡ action.StoreElement k → j ≡ k
+same-store : {j k : Kind} → ◌≡◌ {A = Operation LocalAction} (operation.StoreElement j) (operation.StoreElement k) → j ≡ k
 same-store e = cc
 
 -- ---- what was done
 
 module _ (line : Line) (old new : Parts) where
-  pub passed-alone : line.action ≡ action.Local → effect_of (rule_of line.instr line.constant line.next) old.frames ≡ Next
+  pub passed-alone : line.operation ≡ operation.Within local_action.Basic → effect_of (rule_of line.instr line.constant line.next) old.frames ≡ Next
       → new ≡ record old { frames = after (rule_of line.instr line.constant line.next) old.frames } → IsPassed line old new
   passed-alone local goes changed = record {
     plain = ap is_plain local;
@@ -71,7 +73,7 @@ module _ (line : Line) (old new : Parts) where
     stored = λ k is. absurd (not-local-store (sym local ∙ is));
   }
 
-  pub passed-load : (k : Kind) → line.action ≡ action.LoadElement k → IsLoaded line k old new → IsPassed line old new
+  pub passed-load : (k : Kind) → line.operation ≡ operation.LoadElement k → IsLoaded line k old new → IsPassed line old new
   passed-load k loads done = record {
     plain = ap is_plain loads;
     alone = λ local. absurd (not-local-load (sym local ∙ loads));
@@ -80,7 +82,7 @@ module _ (line : Line) (old new : Parts) where
     stored = λ j is. absurd (not-load-store (sym loads ∙ is));
   }
 
-  pub passed-store : (k : Kind) → line.action ≡ action.StoreElement k → IsStored line k old new → IsPassed line old new
+  pub passed-store : (k : Kind) → line.operation ≡ operation.StoreElement k → IsStored line k old new → IsPassed line old new
   passed-store k stores done = record {
     plain = ap is_plain stores;
     alone = λ local. absurd (not-local-store (sym local ∙ stores));
@@ -99,12 +101,12 @@ module _ (line : Line) (old new : Parts) where
       → IsPassed line old new
   passed-as hot.Cold effect is prepared next e f l s cold = cold is next
   passed-as (hot.LoadElement k) effect is prepared next e f l s cold =
-      passed-load k (loads-elements line.action (family_of line.instr.op) line.instr.arg line.next k (sym prepared.hot ∙ is)) (l k is next)
+      passed-load k (loads-elements line.operation (family_of line.instr.op) line.instr.arg line.next k (sym prepared.hot ∙ is)) (l k is next)
   passed-as (hot.StoreElement k) effect is prepared next e f l s cold =
-      passed-store k (stores-elements line.action (family_of line.instr.op) line.instr.arg line.next k (sym prepared.hot ∙ is)) (s k is next)
+      passed-store k (stores-elements line.operation (family_of line.instr.op) line.instr.arg line.next k (sym prepared.hot ∙ is)) (s k is next)
   passed-as h effect is prepared next e f l s cold =
       let alone : is_alone line.hot ≡ true = ap is_alone is in
-      let local = alone-local line.action (family_of line.instr.op) line.instr.arg line.next (ap is_alone (sym prepared.hot) ∙ alone) in
+      let local = alone-local line.operation (family_of line.instr.op) line.instr.arg line.next (ap is_alone (sym prepared.hot) ∙ alone) in
       let form : line.hot ≡ hot_by (family_of line.instr.op) line.instr.arg line.next =
       prepared.hot ∙ ap (λ a. hot_in a (family_of line.instr.op) line.instr.arg line.next) local in
       let own : is_alone (hot_by (family_of line.instr.op) line.instr.arg line.next) ≡ true = ap is_alone (sym form) ∙ alone in
@@ -115,30 +117,30 @@ module _ (line : Line) (old new : Parts) where
 
 -- ---- it is a step
 
-by-actions : (a : Action) {P : Type 0} → is_plain a ≡ true → (a ≡ action.Local → P) → ((k : Kind) → a ≡ action.LoadElement k → P) → ((k : Kind) → a ≡ action.StoreElement k → P) → P
-by-actions action.Local plain local loads stores = local refl
-by-actions (action.LoadElement k) plain local loads stores = loads k refl
-by-actions (action.StoreElement k) plain local loads stores = stores k refl
+by-actions : (a : Operation LocalAction) {P : Type 0} → is_plain a ≡ true → (a ≡ operation.Within local_action.Basic → P) → ((k : Kind) → a ≡ operation.LoadElement k → P) → ((k : Kind) → a ≡ operation.StoreElement k → P) → P
+by-actions (operation.Within local_action.Basic) plain local loads stores = local refl
+by-actions (operation.LoadElement k) plain local loads stores = loads k refl
+by-actions (operation.StoreElement k) plain local loads stores = stores k refl
 by-actions _ plain local loads stores = absurd (false≢true plain)
 
 either : {A : Type 0} (b : Bool) → (b ≡ true → A) → (b ≡ false → A) → A
 either true on off = on refl
 either false on off = off refl
 
-plain-line : (w : Setup) (fs : List PlacedFrame) (line : Line) → StandsAt w fs line → line.action ≡ action.Local → IsPlainLine w fs line
+plain-line : (w : Setup) (fs : List PlacedFrame) (line : Line) → StandsAt w fs line → line.operation ≡ operation.Within local_action.Basic → IsPlainLine w fs line
 plain-line w [] line stands local = absurd stands
 plain-line w (f ∷ fs) line stands local = (stands, local)
 
 module _ (line : Line) (old new : Parts) (is : IsPassed line old new) where
   pub passed-leads : (w : Setup) → CanRun w → StandsAt w old.frames.frames line → LeadsAlone w old 1 new
-  passed-leads w run stands = by-actions line.action is.plain
+  passed-leads w run stands = by-actions line.operation is.plain
       (λ local. subst (λ (p : Parts). LeadsAlone w old 1 p) (sym (is.frames local))
       (plain-alone w run line old (after (rule_of line.instr line.constant line.next) old.frames) (plain-line w old.frames.frames line stands local) (is.alone local) refl))
       (λ k loads. load-alone w run line k old new stands loads (is.loaded k loads))
       (λ k stores. store-alone w run line k old new stands stores (is.stored k stores))
 
   pub passed-stays : top_version new.frames.frames ≡ top_version old.frames.frames
-  passed-stays = by-actions line.action is.plain
+  passed-stays = by-actions line.operation is.plain
       (λ local. ap (λ (p : Parts). top_version p.frames.frames) (is.frames local)
       ∙ stays-in line old.frames (after (rule_of line.instr line.constant line.next) old.frames) refl)
       (λ k loads. load-stays line k old new true (λ e. absurd (false≢true (sym e))) (λ _. is.loaded k loads))

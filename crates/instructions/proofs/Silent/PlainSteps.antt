@@ -7,11 +7,12 @@ use Rattle.frame_stack.specs.Widths.{height_of}
 use Rattle.frame_stack.specs.FrameLists.{PlacedFrame, FramesView, has_frame}
 use Rattle.jvm_model.specs.declared.ending.Ending.{Ending}
 use Rattle.jvm_model.specs.declared.state.State.{State}
+use Rattle.jvm_model.specs.declared.instruction.Operation.TheVariants as operation
 use Rattle.jvm_model.specs.Running.Run.{step}
 use Rattle.jvm_basic.specs.declared.effect.Effect.TheVariants.{Next}
 use Rattle.jvm_basic.specs.Outcomes.{Outcome, GoesOn, Raises, Breaks, Leaves, frames_in, with_top, outcome_asked, effect_of, after}
 use Rattle.jvm_basic.specs.Rules.{rule_of}
-use Rattle.prepared_lines.specs.declared.line.Action.TheVariants as action
+use Rattle.prepared_lines.specs.declared.line.LocalAction.TheVariants as local_action
 use Rattle.prepared_lines.specs.declared.line.Line.{Line}
 use Rattle.prepared_code.specs.declared.initializations.Initialization.{Initialization}
 use Rattle.prepared_code.specs.declared.parts.Here.{Here}
@@ -110,7 +111,7 @@ quiet-at w run line ms p (f ∷ fs) room at_instruction stands e = quiet-step w 
 
 -- ---- in the version that is at hand
 
-pub plain-there : (w : Setup) (x : Version) (fs : List PlacedFrame) (line : Line) → RunsVersion w x fs → IsLineIn x fs line → line.action ≡ action.Local → IsPlainLine w fs line
+pub plain-there : (w : Setup) (x : Version) (fs : List PlacedFrame) (line : Line) → RunsVersion w x fs → IsLineIn x fs line → line.operation ≡ operation.Within local_action.Basic → IsPlainLine w fs line
 plain-there w x [] line runs stands local = absurd stands
 plain-there w x (f ∷ fs) line runs stands local = (ap (option_and_then (line_in f.place)) runs ∙ stands, local)
 

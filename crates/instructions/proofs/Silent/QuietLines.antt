@@ -12,9 +12,10 @@ use Rattle.jvm_model.specs.declared.state.Frame.{Frame}
 use Rattle.jvm_model.specs.declared.state.State.{State}
 use Rattle.jvm_model.specs.Running.Applies.{applies, enters_subroutine, goes, place_of, still, with_frame}
 use Rattle.jvm_model.specs.Basis.Data.{Breaks, Done, Exits, GoesOn, Initializes, Instruction, Invokes, Locals, Operands, Outcome, Raises, Returns, Subroutine, Listing, Throws, Turn, Where, Next as Following}
-use Rattle.jvm_model.specs.declared.instruction.Operation.TheVariants.{Arraylength, LoadElement, StoreElement, Within}
 use Rattle.jvm_model.specs.declared.instruction.Local.{Local}
+use Rattle.jvm_model.specs.declared.instruction.Operation.TheVariants.{Arraylength, LoadElement, StoreElement, Within}
 use Rattle.jvm_model.specs.declared.instruction.Operation.{Operation}
+use Rattle.jvm_model.specs.declared.instruction.Operation.TheVariants as operation
 use Rattle.jvm_model.specs.Instructions.Does.{does, loads}
 use Rattle.jvm_model.specs.Codes.Lines.{targets_of}
 use Rattle.jvm_model.specs.Basis.Values.{ref_of}
@@ -26,7 +27,7 @@ use Rattle.jvm_model.proofs.Running.QuietSettles.{stops}
 use Rattle.jvm_basic.specs.declared.effect.Effect.TheVariants.{Next}
 use Rattle.jvm_basic.specs.Outcomes.{effect_in}
 use Rattle.jvm_basic.specs.Rules.{outcome_placed, rule_of}
-use Rattle.prepared_lines.specs.declared.line.Action.TheVariants as action
+use Rattle.prepared_lines.specs.declared.line.LocalAction.TheVariants as local_action
 use Rattle.prepared_lines.specs.declared.line.Line.{Line}
 use Rattle.prepared_code.specs.declared.initializations.Initialization.{Initialization}
 use Rattle.prepared_code.specs.declared.parts.Parts.{Parts}
@@ -83,7 +84,7 @@ module _ (w : Setup) where
 
   -- ---- an instruction within its frame
 
-  abbrev pub step_by : Instruction → Operation → State → Frame → Turn
+  abbrev pub step_by : Instruction → Operation Local → State → Frame → Turn
   step_by i op s f =
       let classes = loads w.world op s.shared f.operands in
       let ready = with_loaded classes s in
@@ -115,7 +116,7 @@ module _ (w : Setup) where
   store-quiet i k s f is =
       ap (λ o. (goes_again w.world t i s f o (tries w.world t i s f (stored k s f))).changes) is.alone ∙ is.quiet
 
-  pub line-load-quiet : (line : Line) (k : Kind) (s : State) (f : Frame) (l : Locals) (o : Operands) → line.action ≡ action.LoadElement k
+  pub line-load-quiet : (line : Line) (k : Kind) (s : State) (f : Frame) (l : Locals) (o : Operands) → line.operation ≡ operation.LoadElement k
       → loads_element k (element_of f.operands) s.shared f.locals f.operands ≡ GoesOn l o Following → s.ending ≡ None → s.thrown ≡ None
       → (steps_at w.world t s f (Some (instruction_in line))).changes ≡ []
   line-load-quiet line k s f l o loads is at_instruction nothing =
@@ -123,7 +124,7 @@ module _ (w : Setup) where
       (load-quiet (instruction_in line) k s f
       (goes-on-quiet (instruction_in line) (loads_element k (element_of f.operands) s.shared f.locals f.operands) l o Following (record s { output = s.output ++ [] }) f is at_instruction nothing))
 
-  pub line-store-quiet : (line : Line) (k : Kind) (s : State) (f : Frame) (l : Locals) (o : Operands) → line.action ≡ action.StoreElement k
+  pub line-store-quiet : (line : Line) (k : Kind) (s : State) (f : Frame) (l : Locals) (o : Operands) → line.operation ≡ operation.StoreElement k
       → (stored k s f).outcome ≡ GoesOn l o Following → s.ending ≡ None → s.thrown ≡ None
       → (steps_at w.world t s f (Some (instruction_in line))).changes ≡ []
   line-store-quiet line k s f l o stores is at_instruction nothing =
@@ -140,7 +141,7 @@ module _ (w : Setup) where
       let d : Done = done s.shared (measures (ref_of f.operands) s.shared f.locals f.operands) in
       ap (λ o. (goes_again w.world t i s f o (tries w.world t i s f d)).changes) is.alone ∙ is.quiet
 
-  pub line-length-quiet : (line : Line) (s : State) (f : Frame) (l : Locals) (o : Operands) → line.action ≡ action.Arraylength
+  pub line-length-quiet : (line : Line) (s : State) (f : Frame) (l : Locals) (o : Operands) → line.operation ≡ operation.Arraylength
       → measures (ref_of f.operands) s.shared f.locals f.operands ≡ GoesOn l o Following → s.ending ≡ None → s.thrown ≡ None
       → (steps_at w.world t s f (Some (instruction_in line))).changes ≡ []
   line-length-quiet line s f l o length is at_instruction nothing =
@@ -148,7 +149,7 @@ module _ (w : Setup) where
       (length-quiet (instruction_in line) s f
       (goes-on-quiet (instruction_in line) (measures (ref_of f.operands) s.shared f.locals f.operands) l o Following (record s { output = s.output ++ [] }) f is at_instruction nothing))
 
-  line-quiet : (line : Line) (s : State) (f : Frame) (fs : List PlacedFrame) → line.action ≡ action.Local → IsOwnLine line
+  line-quiet : (line : Line) (s : State) (f : Frame) (fs : List PlacedFrame) → line.operation ≡ operation.Within local_action.Basic → IsOwnLine line
       → effect_in (rule_of line.instr line.constant line.next f.locals f.operands) fs ≡ Next → s.ending ≡ None → s.thrown ≡ None
       → (steps_at w.world t s f (Some (instruction_in line))).changes ≡ []
   line-quiet line s f fs local own on at_instruction nothing =

@@ -20,7 +20,7 @@ use Rattle.instructions.proofs.Attempts.LineActs.{with-loaded}
 use Rattle.prepared_code.specs.declared.initializations.Initialization.{Initialization}
 use Rattle.prepared_code.specs.declared.parts.Parts.{Parts}
 use Rattle.prepared_code.specs.Initializations.{state_of}
-use Rattle.prepared_code.specs.Linked.{Linked, setup_in}
+use Rattle.prepared_code.specs.Originals.{OriginalsView, setup_in}
 use Rattle.prepared_code.specs.Versions.{Setup}
 use Rattle.symbolic_references.specs.Runtimes.{RuntimeView, with_heap, with_loaded}
 
@@ -55,7 +55,7 @@ begins-main w old after found is delivered begins =
     ∙ ap (starts_unless w.world (main_loading w.world).fault) (opens w))))
 
 -- by what the code has found, over the arguments that it has made, with the classes that it has loaded
-pub begins-all : {A : Type 0} (result : Result A NoMemory) (o : Linked) (ms : List Initialization) (p : Parts) (class : ℕ) (after : State) (found : Result ℕ Outcome)
+pub begins-all : {A : Type 0} (result : Result A NoMemory) (o : OriginalsView) (ms : List Initialization) (p : Parts) (class : ℕ) (after : State) (found : Result ℕ Outcome)
     (opened left : RuntimeView) → state_of ms p ≡ before p.runtime.world → opened ≡ with_heap (with_arguments p.runtime.world.program p.runtime.shared.heap) p.runtime
     → left ≡ with_loaded (load_of opened.world.program opened.shared.loaded (main_name opened.world.program)).loaded opened
     → found ≡ resolved_kind opened.world.program opened.shared.loaded (main_name opened.world.program) → class ≡ main_class left.world.program

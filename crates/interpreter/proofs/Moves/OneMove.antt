@@ -17,7 +17,7 @@ use Rattle.jvm_model.proofs.Turns.LoopOfPauses.{paused-move, begun-stops}
 use Rattle.activations.specs.declared.turning.Moved.{Moved}
 use Rattle.activations.specs.declared.turning.Moved.TheVariants as moved
 use Rattle.symbolic_references.specs.Runtimes.{RuntimeView}
-use Rattle.prepared_code.specs.Linked.{Linked, setup_in}
+use Rattle.prepared_code.specs.Originals.{OriginalsView, setup_in}
 use Rattle.prepared_code.specs.Versions.{Setup, listing_of, mark_of}
 use Rattle.activations.specs.Turning.{changes_of, due_by, moved_by, moved_if, moved_as, state_by, moved_to, paused_in}
 use Rattle.instructions.proofs.Attempts.NamedAttempts.{same-setup}
@@ -122,7 +122,7 @@ means-as : (w : Setup) (n : ℕ) (s after : State) (m k : Moved) → m ≡ moved
 means-as w n s after m k answer state is = subst (Means w n s after) is (means-of w n s after m answer state)
 
 -- in the world that stays
-pub moves-as : (o : Linked) (r there : RuntimeView) → there.world ≡ r.world → (n : ℕ) (s after : State) (m k : Moved) → m ≡ moved_as (setup_in there o) s
+pub moves-as : (o : OriginalsView) (r there : RuntimeView) → there.world ≡ r.world → (n : ℕ) (s after : State) (m k : Moved) → m ≡ moved_as (setup_in there o) s
     → after ≡ moved_to (setup_in there o) s → m ≡ k → Means (setup_in r o) n s after k
 moves-as o r there world n s after m k answer state is =
     let same = same-setup r there o o world refl in

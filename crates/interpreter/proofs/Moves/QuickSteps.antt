@@ -107,7 +107,7 @@ module _ (w : Setup) (run : CanRun w) (ms : List Initialization) (old new : Part
 
 -- the probe of a return tells first
 pub stops-quickly : (w : Setup) (run : CanRun w) (ms : List Initialization) (old : Parts) (here : Here) (line : Line) → here_of old.frames.frames ≡ Some here
-    → IsAtInstruction (length old.frames.frames) ms old → line_at w.versions here.version here.place ≡ Some line → returns_by line.action ≡ true
+    → IsAtInstruction (length old.frames.frames) ms old → line_at w.versions here.version here.place ≡ Some line → returns_by line.operation ≡ true
     → not (is_off (mark_of w.versions here.version)) ≡ true → TriesQuickly w ms false old (Ends kind.Leave) old
 stops-quickly w run ms old here line stands at_instruction found returns marked =
     let going = goes old.ending (has_frame old.frames.frames && is_none (initialization_on (length old.frames.frames) ms)) at_instruction.ending
@@ -125,7 +125,7 @@ stops-quickly w run ms old here line stands at_instruction found returns marked 
 
 -- a line that is none
 pub no-return : (w : Setup) (here : Here) (line : Line) (fs : List PlacedFrame) → here_of fs ≡ Some here → line_at w.versions here.version here.place ≡ Some line
-    → returns_by line.action ≡ false → leaves_in w.versions fs ≡ false
+    → returns_by line.operation ≡ false → leaves_in w.versions fs ≡ false
 no-return w here line fs stands found isnt =
     leaves-here w here fs stands
     ∙ and_right (not (is_off (mark_of w.versions here.version))) (is_return_line (line_at w.versions here.version here.place)) (ap is_return_line found ∙ isnt)

@@ -21,8 +21,8 @@ use Rattle.jvm_model.specs.Running.Between.{changes_between, attempt_followed}
 use Rattle.jvm_model.specs.Basis.Data.{Breaks, Instruction, Operands, Listing}
 use Rattle.jvm_model.specs.declared.instruction.Local.{Local}
 use Rattle.jvm_model.specs.declared.instruction.SymbolicReference.{SymbolicReference}
-use Rattle.jvm_model.specs.declared.instruction.Operation.TheVariants.{Named, Within}
 use Rattle.jvm_model.specs.declared.instruction.Local.TheVariants.{Nop, Return}
+use Rattle.jvm_model.specs.declared.instruction.Operation.TheVariants.{Named, Within}
 use Rattle.jvm_model.specs.declared.instruction.Operation.{Operation}
 use Rattle.jvm_model.specs.Instructions.Does.{does, loads}
 use Rattle.jvm_model.specs.Rewriting.Images.{is_off}
@@ -35,12 +35,11 @@ use Rattle.jvm_model.specs.Turns.StepPauses.{again_pause, instruction_attempted,
 use Rattle.jvm_model.proofs.Turns.AttemptPauses.{breaks-pause, goes-again, goes-once, leaves, settled-there, stays-once}
 use Rattle.jvm_model.proofs.Running.ChangesBetween.{applies-tell}
 use Rattle.jvm_model.proofs.Turns.LoopOfPauses.{paused-move}
-use Rattle.prepared_lines.specs.declared.line.Action.TheVariants as action
 use Rattle.prepared_lines.specs.declared.line.Line.{Line}
 use Rattle.prepared_code.specs.declared.initializations.Initialization.{Initialization}
 use Rattle.prepared_code.specs.declared.parts.Parts.{Parts}
 use Rattle.instructions.specs.Acts.{acts, acts_by, attempts_line, attempts_on, class_awaited, awaited_by, awaited_in, awaited_on, goes_on_in}
-use Rattle.prepared_lines.specs.Lines.{action_of, local_action}
+use Rattle.prepared_lines.specs.Lines.{operation_kept, local_kept}
 use Rattle.prepared_code.specs.Initializations.{initializing_entry, initialization_on, stack_of, state_of}
 use Rattle.prepared_code.specs.Ready.{CanRun, IsSoundIn, IsTied}
 use Rattle.prepared_code.specs.States.{active, frame_in}
@@ -61,22 +60,22 @@ use Rattle.prepared_code.proofs.Lines.Tied.{Tie, tied-there}
 -- ---- what an operation loads
 
 -- it depends on what is loaded alone
-loads-same : (w : Setup) (op : Operation) (a b : Shared) (o : Operands) → a.loaded ≡ b.loaded → loads w.world op a o ≡ loads w.world op b o
+loads-same : (w : Setup) (op : Operation Local) (a b : Shared) (o : Operands) → a.loaded ≡ b.loaded → loads w.world op a o ≡ loads w.world op b o
 loads-same w (Named n) a b o same = ap (λ loaded. loads w.world (Named n) (record a { loaded = loaded }) o) same
 loads-same w (Within l) a b o same = refl
 loads-same w op a b o same = refl
 
 -- a return loads nothing
-return-loads : (w : Setup) (op : Operation) (s : Shared) (o : Operands) → is_return op ≡ true → loads w.world op s o ≡ []
+return-loads : (w : Setup) (op : Operation Local) (s : Shared) (o : Operands) → is_return op ≡ true → loads w.world op s o ≡ []
 return-loads w (Within l) s o is = refl
 return-loads w op s o is = absurd (false≢true is)
 
 -- it is one by its line
-local-returns : (l : Local) → returns_by (local_action l) ≡ is_return (Within l)
+local-returns : (l : Local) → returns_by (Within (local_kept l)) ≡ is_return (Within l)
 local-returns (Return k) = refl
 local-returns l = refl
 
-op-returns : (op : Operation) → returns_by (action_of op) ≡ is_return op
+op-returns : (op : Operation Local) → returns_by (operation_kept op) ≡ is_return op
 op-returns (Within l) = local-returns l
 op-returns op = refl
 
@@ -118,7 +117,7 @@ module _ (w : Setup) (run : CanRun w) (n : ℕ) (s : State) (going : IsGoing s) 
   due-by delivered (Some line) i tie =
       and-and (not delivered) (not (is_off (v f.version))) (is_return i.operation)
       ∙ ap (λ b. not delivered && (not (is_off (v f.version)) && b))
-      (ap (λ (x : Instruction). is_return x.operation) tie.is ∙ (sym (op-returns tie.op) ∙ ap returns_by tie.tied.action))
+      (ap (λ (x : Instruction). is_return x.operation) tie.is ∙ (sym (op-returns tie.op) ∙ ap returns_by tie.tied.kept))
 
   told-by : (delivered : Bool) (lo : Option Line) (io : Option Instruction) → t.at f.version f.place ≡ io → Tie lo io
       → (not delivered && (not (is_off (v f.version)) && is_return_line lo)) ≡ true
@@ -160,11 +159,11 @@ module _ (w : Setup) (run : CanRun w) (n : ℕ) (s : State) (going : IsGoing s) 
 
   -- ---- an attempt, where its classes are loaded
 
-  module _ (line : Line) (op : Operation) (tied : IsTied line op) (x : State) (none : loads w.world op x.shared f.operands ≡ []) where
+  module _ (line : Line) (op : Operation Local) (tied : IsTied line op) (x : State) (none : loads w.world op x.shared f.operands ≡ []) where
     same-ready : readied w line op x f ≡ x
     same-ready = ap (λ classes. with_loaded classes x) none
 
-    starts-same : starts (does w.world op x.shared f.locals f.operands).outcome ≡ class_awaited w x f line.action
+    starts-same : starts (does w.world op x.shared f.locals f.operands).outcome ≡ class_awaited w x f line.operation
     starts-same =
         sym (ap (λ (y : State). starts (does w.world op y.shared f.locals f.operands).outcome) same-ready) ∙ (steps-as w line op x f tied).starts_same
 
@@ -177,7 +176,7 @@ module _ (w : Setup) (run : CanRun w) (n : ℕ) (s : State) (going : IsGoing s) 
     none-by : loads w.world tie.op x.shared f.operands ≡ []
     none-by = sym (ap (λ (j : Instruction). loads w.world j.operation x.shared f.operands) tie.is) ∙ none
 
-    starts-is : starts (does w.world i.operation x.shared f.locals f.operands).outcome ≡ class_awaited w x f line.action
+    starts-is : starts (does w.world i.operation x.shared f.locals f.operands).outcome ≡ class_awaited w x f line.operation
     starts-is =
         ap (λ (j : Instruction). starts (does w.world j.operation x.shared f.locals f.operands).outcome) tie.is ∙ starts-same line tie.op tie.tied x none-by
 
@@ -223,11 +222,11 @@ module _ (w : Setup) (run : CanRun w) (n : ℕ) (s : State) (going : IsGoing s) 
   acts-loaded : (line : Line) (m : SymbolicReference) → IsTied line (Named m) → loads w.world (Named m) s.shared f.operands ≡ []
       → (acts w line under f).shared.loaded ≡ s.shared.loaded
   acts-loaded line m tied none =
-      ap (λ (x : State). x.shared.loaded) (ap (acts_by w line under f) (sym tied.action))
+      ap (λ (x : State). x.shared.loaded) (ap (acts_by w line under f) (sym tied.kept))
       ∙ (named-loads w line m under f ∙ (ap (λ classes. s.shared.loaded ++ classes) none ∙ append-nil s.shared.loaded))
 
   module _ (c : ℕ) (line : Line) (i : Instruction) (at : t.at f.version f.place ≡ Some i) (there : here ≡ Some line) (tie : Tie (Some line) (Some i))
-      (none : loads w.world i.operation s.shared f.operands ≡ []) (awaits : class_awaited w under f line.action ≡ Some c) where
+      (none : loads w.world i.operation s.shared f.operands ≡ []) (awaits : class_awaited w under f line.operation ≡ Some c) where
     abbrev mid : State
     mid = attempts_on w s s.stack
 
@@ -272,7 +271,7 @@ module _ (w : Setup) (run : CanRun w) (n : ℕ) (s : State) (going : IsGoing s) 
     there : lo ≡ Some line
     at : io ≡ Some i
     tie : Tie (Some line) (Some i)
-    awaits : class_awaited w under f line.action ≡ Some c
+    awaits : class_awaited w under f line.operation ≡ Some c
 
   is-there : (c : ℕ) (lo : Option Line) (io : Option Instruction) → Tie lo io → awaited_by w under f lo ≡ Some c → IsThere c lo io
   is-there c None io tie is = absurd (none-some c is)

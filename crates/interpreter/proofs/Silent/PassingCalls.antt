@@ -19,6 +19,7 @@ use Rattle.jvm_model.specs.declared.state.State.{State}
 use Rattle.jvm_model.specs.Running.Applies.{begins, begins_beside, breaks, has_room, invokes, live_in, most_live, new_frame, still, throws_at, with_frame}
 use Rattle.jvm_model.specs.Basis.Data.{Began, Datum, Done, Invokes, Operands, Listing, Turn}
 use Rattle.jvm_model.specs.declared.instruction.SymbolicReference.{SymbolicReference}
+use Rattle.jvm_model.specs.declared.instruction.Operation.TheVariants as operation
 use Rattle.jvm_model.specs.Instructions.Does.{loads}
 use Rattle.jvm_model.specs.Running.Moves.{moves_left, turn_settled}
 use Rattle.jvm_model.specs.Instructions.SymbolicReference.{newly_loaded}
@@ -38,7 +39,6 @@ use Rattle.symbolic_references.specs.Passing.{IsCall}
 use Rattle.symbolic_references.specs.Runtimes.{after}
 use Rattle.member_selection.specs.Targets.{data_in}
 use Rattle.activations.proofs.Arguments.{length-data, height-reverse, length-slots, spread-data}
-use Rattle.prepared_lines.specs.declared.line.Action.TheVariants as action
 use Rattle.prepared_lines.specs.declared.line.Line.{Line}
 use Rattle.prepared_code.specs.declared.initializations.Initialization.{Initialization}
 use Rattle.prepared_code.specs.declared.parts.Here.{Here}
@@ -98,7 +98,7 @@ module _ (w : Setup) (m : ℕ) (args : List Datum) (below : Operands) (f : Place
 -- ---- at a line
 
 module _ (w : Setup) (run : CanRun w) (ms : List Initialization) (here : Here) (line : Line) (kept : SymbolicReference) (old : Parts) (stands : here_of old.frames.frames ≡ Some here)
-    (found : line_at w.versions here.version here.place ≡ Some line) (named : line.action ≡ action.Named kept) (at_instruction : IsAtInstruction (length old.frames.frames) ms old)
+    (found : line_at w.versions here.version here.place ≡ Some line) (named : line.operation ≡ operation.Named kept) (at_instruction : IsAtInstruction (length old.frames.frames) ms old)
     (nothing : newly_loaded w.world.program old.runtime.shared.loaded kept (top_operands old.frames.frames) ≡ []) (c : Call) where
   abbrev n : SymbolicReference
   n = kept

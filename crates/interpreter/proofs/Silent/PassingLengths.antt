@@ -3,7 +3,7 @@ use Rattle.std.proofs.Common.{◌≡◌, Bool, true, false, List, [], ◌∷◌,
 use Rattle.std.proofs.lemmas.Option.{none-some, same_Some}
 use Rattle.const_pool.specs.declared.descriptor.Kind.TheVariants as kind
 use Rattle.frame_stack.specs.FrameLists.{PlacedFrame}
-use Rattle.prepared_lines.specs.declared.line.Action.TheVariants as action
+use Rattle.jvm_model.specs.declared.instruction.Operation.TheVariants as operation
 use Rattle.prepared_lines.specs.declared.line.Line.{Line}
 use Rattle.prepared_code.specs.declared.initializations.Initialization.{Initialization}
 use Rattle.prepared_code.specs.declared.parts.Here.{Here}
@@ -22,7 +22,7 @@ module _ (w : Setup) (run : CanRun w) (ms : List Initialization) (here : Here) (
   stands-here [] is found = absurd (none-some here is)
   stands-here (f ∷ fs) is found = ap (λ (h : Here). line_at w.versions h.version h.place) (same_Some _ here is) ∙ found
 
-  pub length-passes : (b : Bool) → here_of old.frames.frames ≡ Some here → line_at w.versions here.version here.place ≡ Some line → line.action ≡ action.Arraylength
+  pub length-passes : (b : Bool) → here_of old.frames.frames ≡ Some here → line_at w.versions here.version here.place ≡ Some line → line.operation ≡ operation.Arraylength
       → IsAtInstruction (length old.frames.frames) ms old → (b ≡ true → IsMeasured line old new) → (b ≡ false → new ≡ old) → Passes w ms old (steps_if b) new
   length-passes true is found measures at_instruction gone kept =
       passes-alone w ms old new 1 (length-alone w run line kind.Int old new (stands-here old.frames.frames is found) measures (gone refl)) at_instruction

@@ -14,6 +14,7 @@ use Rattle.jvm_model.specs.declared.event.Mark.{Mark}
 use Rattle.jvm_model.specs.declared.event.Mark.TheVariants.{Off}
 use Rattle.jvm_model.specs.declared.state.Entry.{Entry}
 use Rattle.jvm_model.specs.declared.state.State.{State}
+use Rattle.jvm_model.specs.declared.instruction.Operation.TheVariants as operation
 use Rattle.jvm_model.specs.Running.Applies.{breaks, gives_back, goes, resumes, with_frame}
 use Rattle.jvm_model.specs.Basis.Data.{Instruction, Left, Returns, Listing, Turn}
 use Rattle.jvm_model.specs.Instructions.LocalRules.{returns}
@@ -26,7 +27,7 @@ use Rattle.jvm_model.specs.Running.Run.{goes_again, starts, step, steps_at, step
 use Rattle.jvm_model.specs.Turns.Told.{Held, helds, mark_now}
 use Rattle.jvm_model.specs.Basis.Values.{as_value, with_value}
 use Rattle.jvm_model.proofs.Running.QuietSettles.{stops}
-use Rattle.prepared_lines.specs.declared.line.Action.TheVariants as action
+use Rattle.prepared_lines.specs.declared.line.LocalAction.TheVariants as local_action
 use Rattle.prepared_lines.specs.declared.line.Line.{Line}
 use Rattle.prepared_code.specs.declared.initializations.Initialization.{Initialization}
 use Rattle.prepared_code.specs.declared.parts.Here.{Here}
@@ -63,7 +64,7 @@ pub record GivesBack (w : Setup) (ms : List Initialization) (here : Here) (k : O
   pub current : is_superseded_in w.versions.slots w.versions.current here.version ≡ false
 
 module _ (w : Setup) (run : CanRun w) (ms : List Initialization) (here : Here) (line : Line) (k : Option Kind) (old : Parts) (stands : here_of old.frames.frames ≡ Some here)
-    (found : line_at w.versions here.version here.place ≡ Some line) (ends : line.action ≡ action.Return k) (at_instruction : IsAtInstruction (length old.frames.frames) ms old)
+    (found : line_at w.versions here.version here.place ≡ Some line) (ends : line.operation ≡ operation.Within (local_action.Return k)) (at_instruction : IsAtInstruction (length old.frames.frames) ms old)
     (d : Option Datum) (next : ℕ) where
   abbrev t : Listing
   t = listing_of w.versions
@@ -195,7 +196,7 @@ module _ (w : Setup) (run : CanRun w) (ms : List Initialization) (here : Here) (
     abbrev new : Parts
     new = on_frames frames old
 
-    unnamed : is_named line.action ≡ false
+    unnamed : is_named line.operation ≡ false
     unnamed = ap is_named ends
 
     free : initialization_on (length frames.frames) ms ≡ None

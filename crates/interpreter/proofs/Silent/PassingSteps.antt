@@ -12,8 +12,9 @@ use Rattle.jvm_model.specs.declared.state.Shared.{Shared}
 use Rattle.jvm_model.specs.declared.state.State.{State}
 use Rattle.jvm_model.specs.Running.Applies.{applies, breaks}
 use Rattle.jvm_model.specs.Basis.Data.{Back, Breaks, Done, Exits, GoesOn, Initializes, Instruction, Invokes, Locals, Next as Following, Operands, Outcome, Raises, Returns, Subroutine, Target, Listing, Throws, Turn}
-use Rattle.jvm_model.specs.declared.instruction.Operation.TheVariants.{Named}
 use Rattle.jvm_model.specs.declared.instruction.SymbolicReference.{SymbolicReference}
+use Rattle.jvm_model.specs.declared.instruction.Operation.TheVariants.{Named}
+use Rattle.jvm_model.specs.declared.instruction.Operation.TheVariants as operation
 use Rattle.jvm_model.specs.Running.Moves.{turn_settled}
 use Rattle.jvm_model.specs.Instructions.SymbolicReference.{newly_loaded}
 use Rattle.jvm_model.specs.Instructions.ReferenceRules.{does_named}
@@ -21,12 +22,11 @@ use Rattle.jvm_model.specs.Running.Run.{goes_again, loaded_turn, starts, step, s
 use Rattle.symbolic_references.specs.declared.invoked.Invoked.{Invoked}
 use Rattle.symbolic_references.specs.declared.invoked.Invoked.TheVariants as invoked
 use Rattle.symbolic_references.specs.declared.invoked.NativeCall.{NativeCall}
-use Rattle.member_selection.specs.Answers.{Continues, Exceeds, answer_in, done_on, frames_in}
+use Rattle.member_selection.specs.Answers.{done_on, frames_after, goes_on}
 use Rattle.member_selection.specs.Attempts.{attempts, loads_nothing, shared_loaded}
 use Rattle.member_selection.specs.Outcomes.{outcome_by_rule}
 use Rattle.symbolic_references.specs.Runtimes.{RuntimeView, after}
 use Rattle.symbolic_references.specs.Passing.{HasPassed, IfPassed, IsNativeCall, runs_native_call}
-use Rattle.prepared_lines.specs.declared.line.Action.TheVariants as action
 use Rattle.prepared_lines.specs.declared.line.Line.{Line}
 use Rattle.prepared_code.specs.declared.initializations.Initialization.{Initialization}
 use Rattle.prepared_code.specs.declared.parts.Here.{Here}
@@ -61,35 +61,32 @@ record GoesSo (q : Outcome) (fs : List PlacedFrame) : Type 0 where
   is : q ≡ GoesOn locals operands Following
   holds : can_hold operands fs ≡ true
 
-goes-so : (q : Outcome) (fs : List PlacedFrame) → answer_in q fs ≡ Continues → GoesSo q fs
-goes-so (GoesOn l o Following) fs said = by (can_hold o fs) refl said where
-  by : (b : Bool) → can_hold o fs ≡ b → cond b Continues Exceeds ≡ Continues → GoesSo (GoesOn l o Following) fs
-  by true is said = record { locals = l; operands = o; is = refl; holds = is }
-  by false is said = absurd cc
-goes-so (GoesOn l o (Target k)) fs said = absurd cc
-goes-so (GoesOn l o (Back k)) fs said = absurd cc
-goes-so Subroutine fs said = absurd cc
-goes-so (Invokes m args below) fs said = absurd cc
-goes-so (Returns d) fs said = absurd cc
-goes-so (Throws r) fs said = absurd cc
-goes-so (Raises name message) fs said = absurd cc
-goes-so (Initializes c) fs said = absurd cc
-goes-so (Exits n) fs said = absurd cc
-goes-so (Breaks b) fs said = absurd cc
+goes-so : (q : Outcome) (fs : List PlacedFrame) → goes_on q fs ≡ true → GoesSo q fs
+goes-so (GoesOn l o Following) fs said = record { locals = l; operands = o; is = refl; holds = said }
+goes-so (GoesOn l o (Target k)) fs said = absurd (false≢true said)
+goes-so (GoesOn l o (Back k)) fs said = absurd (false≢true said)
+goes-so Subroutine fs said = absurd (false≢true said)
+goes-so (Invokes m args below) fs said = absurd (false≢true said)
+goes-so (Returns d) fs said = absurd (false≢true said)
+goes-so (Throws r) fs said = absurd (false≢true said)
+goes-so (Raises name message) fs said = absurd (false≢true said)
+goes-so (Initializes c) fs said = absurd (false≢true said)
+goes-so (Exits n) fs said = absurd (false≢true said)
+goes-so (Breaks b) fs said = absurd (false≢true said)
 
 -- the frames are as many
-same-many : (q : Outcome) (next : ℕ) (fs : List PlacedFrame) → GoesSo q fs → length (frames_in q next fs) ≡ length fs
-same-many q next fs so = ap (λ x. length (frames_in x next fs)) so.is ∙ (ap (λ b. length (cond b (with_top so.locals so.operands next fs) fs)) so.holds ∙ by fs) where
+same-many : (q : Outcome) (next : ℕ) (fs : List PlacedFrame) → GoesSo q fs → length (frames_after q next fs) ≡ length fs
+same-many q next fs so = ap (λ x. length (frames_after x next fs)) so.is ∙ (ap (λ b. length (cond b (with_top so.locals so.operands next fs) fs)) so.holds ∙ by fs) where
   by : (fs : List PlacedFrame) → length (with_top so.locals so.operands next fs) ≡ length fs
   by [] = refl
   by (f ∷ fs) = refl
 
 -- it is what applies
 gone-asked : (w : Setup) (line : Line) (q : Outcome) (p : Parts) (fs : List PlacedFrame) → GoesSo q fs
-    → state_with (frames_in q line.next fs) p ≡ on_top (λ s f. acts_asked w line s f q) p fs
+    → state_with (frames_after q line.next fs) p ≡ on_top (λ s f. acts_asked w line s f q) p fs
 gone-asked w line q p [] so = absurd (false≢true so.holds)
 gone-asked w line q p (f ∷ fs) so =
-    ap (λ x. state_with (frames_in x line.next (f ∷ fs)) p) so.is
+    ap (λ x. state_with (frames_after x line.next (f ∷ fs)) p) so.is
     ∙ (by (nat_le (height_of so.operands) f.max_stack) so.holds
     ∙ sym (ap (acts_asked w line (state_with fs p) (frame_in f)) so.is))
   where
@@ -102,7 +99,7 @@ gone-asked w line q p (f ∷ fs) so =
 -- ---- what stands at a line
 
 module _ (w : Setup) (run : CanRun w) (ms : List Initialization) (here : Here) (line : Line) (kept : SymbolicReference) (old : Parts) (stands : here_of old.frames.frames ≡ Some here)
-    (found : line_at w.versions here.version here.place ≡ Some line) (named : line.action ≡ action.Named kept) (at_instruction : IsAtInstruction (length old.frames.frames) ms old)
+    (found : line_at w.versions here.version here.place ≡ Some line) (named : line.operation ≡ operation.Named kept) (at_instruction : IsAtInstruction (length old.frames.frames) ms old)
     (nothing : newly_loaded w.world.program old.runtime.shared.loaded kept (top_operands old.frames.frames) ≡ []) where
   abbrev n : SymbolicReference
   n = kept
@@ -214,13 +211,13 @@ module _ (w : Setup) (run : CanRun w) (ms : List Initialization) (here : Here) (
       → Passes w ms old 1 (record old { frames = frames; runtime = left })
   done-passes frames left went loaded =
       let new : Parts = record old { frames = frames; runtime = left } in
-      let so = goes-so d.outcome old.frames.frames went.answer in
+      let so = goes-so d.outcome old.frames.frames went.goes in
       let many : length frames.frames ≡ length old.frames.frames =
       ap (λ (s : FramesView). length s.frames) went.frames ∙ same-many d.outcome line.next old.frames.frames so in
       let has : has_frame frames.frames ≡ true = has-many frames.frames old.frames.frames many (has-one old.frames.frames stands) in
       let concludes : state_in new ≡ on_parts (λ s f. acts_asked w line s f d.outcome) reached =
       ap (λ (s : FramesView). let p : Parts = record new { frames = s } in state_in p) went.frames
-      ∙ (ap (λ (r : RuntimeView). state_with (frames_in d.outcome line.next old.frames.frames) (record old { runtime = r })) went.runtime
+      ∙ (ap (λ (r : RuntimeView). state_with (frames_after d.outcome line.next old.frames.frames) (record old { runtime = r })) went.runtime
       ∙ gone-asked w line d.outcome reached old.frames.frames so) in
       let resting = at-rest old.ending old.thrown (has_frame frames.frames && is_none (initialization_on (length frames.frames) ms)) at_instruction.ending at_instruction.thrown
       (framed (length old.frames.frames) ms frames.frames at_instruction.executing many has) in
@@ -251,7 +248,7 @@ none-new xs is = by xs (zero-is (length xs) is) where
   by (x ∷ xs) e = absurd (omega (arith, e))
 
 module _ (w : Setup) (run : CanRun w) (ms : List Initialization) (here : Here) (line : Line) (kept : SymbolicReference) (old : Parts) (stands : here_of old.frames.frames ≡ Some here)
-    (found : line_at w.versions here.version here.place ≡ Some line) (named : line.action ≡ action.Named kept) (at_instruction : IsAtInstruction (length old.frames.frames) ms old)
+    (found : line_at w.versions here.version here.place ≡ Some line) (named : line.operation ≡ operation.Named kept) (at_instruction : IsAtInstruction (length old.frames.frames) ms old)
     (silent : loads_nothing w.world.program old.runtime.shared.loaded kept (top_operands old.frames.frames) ≡ true) where
   pub nothing-new : newly_loaded w.world.program old.runtime.shared.loaded kept (top_operands old.frames.frames) ≡ []
   nothing-new = none-new (newly_loaded w.world.program old.runtime.shared.loaded kept (top_operands old.frames.frames)) silent
@@ -281,7 +278,7 @@ module _ (w : Setup) (run : CanRun w) (ms : List Initialization) (here : Here) (
       access-passes b frames left (subst (λ (d : Done). IfPassed b d line.next old.frames old.runtime frames left) (sym call.runs) went)
 
 -- what holds of a line that names something, where it stands
-pub held-there : (lo : Option Line) (line : Line) (kept : SymbolicReference) → lo ≡ Some line → line.action ≡ action.Named kept → (Holds : SymbolicReference → ℕ → Type 0) → IfNamed lo Holds
+pub held-there : (lo : Option Line) (line : Line) (kept : SymbolicReference) → lo ≡ Some line → line.operation ≡ operation.Named kept → (Holds : SymbolicReference → ℕ → Type 0) → IfNamed lo Holds
     → Holds kept line.next
 held-there lo line kept found named Holds holds = subst (λ a. IfNamedBy a line.next Holds) named (subst (λ o. IfNamed o Holds) found holds)
 

@@ -16,6 +16,7 @@ use Rattle.jvm_model.specs.declared.state.Entry.{Entry}
 use Rattle.jvm_model.specs.declared.state.Entry.TheVariants.{Active}
 use Rattle.jvm_model.specs.declared.state.Frame.{Frame}
 use Rattle.jvm_model.specs.declared.state.State.{State}
+use Rattle.jvm_model.specs.declared.instruction.Operation.TheVariants as operation
 use Rattle.jvm_model.specs.Running.Applies.{breaks, still, throws_at, with_frame}
 use Rattle.jvm_model.specs.Basis.Data.{Instruction, Listing, Throws, Turn, Unwound}
 use Rattle.jvm_model.specs.Instructions.Does.{loads}
@@ -28,7 +29,6 @@ use Rattle.jvm_model.specs.Basis.SharedState.{class_of}
 use Rattle.jvm_model.specs.Turns.Told.{Held, helds, mark_now}
 use Rattle.jvm_model.specs.Basis.Values.{ref_of}
 use Rattle.jvm_model.proofs.Running.LoopOfMoves.{moved-end, moved-same}
-use Rattle.prepared_lines.specs.declared.line.Action.TheVariants as action
 use Rattle.prepared_lines.specs.declared.line.Line.{Line}
 use Rattle.prepared_code.specs.declared.initializations.Initialization.{Initialization}
 use Rattle.prepared_code.specs.declared.parts.Here.{Here}
@@ -101,7 +101,7 @@ module _ (w : Setup) (s : State) (r target : ℕ) (f g : Frame) (rest : List Ent
 -- ---- at an athrow
 
 module _ (w : Setup) (run : CanRun w) (ms : List Initialization) (here : Here) (line : Line) (old : Parts) (stands : here_of old.frames.frames ≡ Some here)
-    (found : line_at w.versions here.version here.place ≡ Some line) (ends : line.action ≡ action.Athrow) (at_instruction : IsAtInstruction (length old.frames.frames) ms old)
+    (found : line_at w.versions here.version here.place ≡ Some line) (ends : line.operation ≡ operation.Athrow) (at_instruction : IsAtInstruction (length old.frames.frames) ms old)
     (r target : ℕ) where
   abbrev t : Listing
   t = listing_of w.versions
@@ -249,7 +249,7 @@ module _ (w : Setup) (run : CanRun w) (ms : List Initialization) (here : Here) (
       → (frames : FramesView) → frames.frames ≡ caught_back r target old.frames.frames → Passes w ms old 1 (on_frames frames old)
   throw-passes is fits thrown frames are =
       let new : Parts = on_frames frames old in
-      let unnamed : is_named line.action ≡ false = ap is_named ends in
+      let unnamed : is_named line.operation ≡ false = ap is_named ends in
       let attempted : state_of ms mid ≡ attempts_on w (state_of ms old) (state_of ms old).stack =
       does-beneath w line ms old mid here.method old.frames.frames (top-there w ms old here old.frames.frames stands) at_instruction.executing unnamed
       (λ last. is.executing) (thrown-by old.frames.frames stands thrown)

@@ -14,10 +14,11 @@ use Rattle.frame_stack.specs.Widths.{height_of, width}
 use Rattle.method_versions.specs.Tables.{is_superseded_in}
 use Rattle.jvm_model.specs.declared.due.Due.TheVariants.{Nothing}
 use Rattle.jvm_model.specs.declared.event.Mark.TheVariants.{Off}
+use Rattle.jvm_model.specs.declared.instruction.Operation.TheVariants as operation
 use Rattle.jvm_model.specs.Basis.Data.{Operands, Returns}
 use Rattle.jvm_model.specs.Instructions.LocalRules.{returns}
 use Rattle.jvm_model.specs.Basis.Values.{as_value, with_value}
-use Rattle.prepared_lines.specs.declared.line.Action.TheVariants as action
+use Rattle.prepared_lines.specs.declared.line.LocalAction.TheVariants as local_action
 use Rattle.prepared_lines.specs.declared.line.Line.{Line}
 use Rattle.prepared_code.specs.declared.initializations.Initialization.{Initialization}
 use Rattle.prepared_code.specs.declared.parts.Here.{Here}
@@ -35,11 +36,11 @@ use Rattle.interpreter.proofs.Silent.PassingReturns.{GivesBack, fewer, has-calle
 use Rattle.interpreter.proofs.Silent.SilentSteps.{passes_none}
 
 -- where the caller stands
-pub caller-there : (v : Versions) (fs : List PlacedFrame) (version place : ℕ) (line : Line) → caller_of fs ≡ Some (version, place) → line_at v version place ≡ Some line
+pub loaded-caller : (v : Versions) (fs : List PlacedFrame) (version place : ℕ) (line : Line) → caller_of fs ≡ Some (version, place) → line_at v version place ≡ Some line
     → caller_line v fs ≡ Some line
-caller-there v [] version place line is found = absurd (none-some (version, place) is)
-caller-there v (f ∷ []) version place line is found = absurd (none-some (version, place) is)
-caller-there v (f ∷ g ∷ fs) version place line is found =
+loaded-caller v [] version place line is found = absurd (none-some (version, place) is)
+loaded-caller v (f ∷ []) version place line is found = absurd (none-some (version, place) is)
+loaded-caller v (f ∷ g ∷ fs) version place line is found =
     let same : (g.version, g.place) ≡ (version, place) = same_Some (g.version, g.place) (version, place) is in
     ap (λ (at : ℕ × ℕ). line_at v at.0 at.1) same ∙ found
 
@@ -75,7 +76,7 @@ same-back v next (f ∷ g ∷ fs) fits = ap (λ o. record g { place = next; oper
 -- ---- the step
 
 module _ (w : Setup) (run : CanRun w) (ms : List Initialization) (here : Here) (line : Line) (k : Option Kind) (old : Parts) (stands : here_of old.frames.frames ≡ Some here)
-    (found : line_at w.versions here.version here.place ≡ Some line) (ends : line.action ≡ action.Return k) (at_instruction : IsAtInstruction (length old.frames.frames) ms old)
+    (found : line_at w.versions here.version here.place ≡ Some line) (ends : line.operation ≡ operation.Within (local_action.Return k)) (at_instruction : IsAtInstruction (length old.frames.frames) ms old)
     (d : Option Datum) (next : ℕ) (v : Option Value) (frames : FramesView) (sound : AreSound old.frames.frames)
     (current : is_superseded_in w.versions.slots w.versions.current here.version ≡ false)
     (result : returns k (top_operands old.frames.frames) ≡ Returns d) (value : v ≡ option_map as_value d) where

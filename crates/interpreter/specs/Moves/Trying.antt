@@ -4,6 +4,8 @@ use Rattle.frame_stack.specs.FrameLists.{PlacedFrame}
 use Rattle.jvm_model.specs.declared.due.Due.{Due}
 use Rattle.jvm_model.specs.declared.due.Due.TheVariants.{Nothing, Ends, Begins}
 use Rattle.jvm_model.specs.declared.state.State.{State}
+use Rattle.jvm_model.specs.declared.instruction.Operation.{Operation}
+use Rattle.jvm_model.specs.declared.instruction.Operation.TheVariants as operation
 use Rattle.jvm_model.specs.Basis.Data.{Change}
 use Rattle.jvm_model.specs.Rewriting.Images.{is_off}
 use Rattle.jvm_model.specs.Running.Run.{goes_on, is_ready}
@@ -12,8 +14,8 @@ use Rattle.jvm_model.specs.Turns.Told.{mark_now}
 use Rattle.jvm_model.specs.Running.Between.{changes_between, depths_compared, attempt_followed}
 use Rattle.jvm_model.specs.Turns.Pauses.{Pause, changes_due}
 use Rattle.jvm_model.specs.Turns.StepPauses.{is_nothing, step_pause}
-use Rattle.prepared_lines.specs.declared.line.Action.{Action}
-use Rattle.prepared_lines.specs.declared.line.Action.TheVariants as action
+use Rattle.prepared_lines.specs.declared.line.LocalAction.{LocalAction}
+use Rattle.prepared_lines.specs.declared.line.LocalAction.TheVariants as local_action
 use Rattle.prepared_lines.specs.declared.line.Line.{Line}
 use Rattle.prepared_code.specs.Tables.{Versions}
 use Rattle.prepared_code.specs.Versions.{Setup, line_at, listing_of, mark_of}
@@ -21,13 +23,13 @@ use Rattle.prepared_code.specs.Versions.{Setup, line_at, listing_of, mark_of}
 -- ---- before an attempt
 
 -- the line is a return
-abbrev pub returns_by : Action → Bool
-returns_by (action.Return k) = true
+abbrev pub returns_by : Operation LocalAction → Bool
+returns_by (operation.Within (local_action.Return k)) = true
 returns_by _ = false
 
 abbrev pub is_return_line : Option Line → Bool
 is_return_line None = false
-is_return_line (Some line) = returns_by line.action
+is_return_line (Some line) = returns_by line.operation
 
 -- a probe tells of it first
 abbrev pub leaves_at : Versions → ℕ → ℕ → Bool

@@ -8,7 +8,7 @@ ghost use Rattle.jvm_model.specs.Soundness.Sound.{IsFit};
 ghost use Rattle.member_selection.specs.Answers.{found_view};
 ghost use Rattle.interpreter.specs.Machine.Before.{IsAtStart, begun_by};
 ghost use Rattle.prepared_code.specs.Initializations.{state_of};
-ghost use Rattle.prepared_code.specs.Linked.{IsLinked};
+ghost use Rattle.prepared_code.specs.Originals.{AreNamesKnown};
 
 use activations::{initialize, raise_named};
 use jf_bytes::{NoMemory, Stack};
@@ -16,9 +16,7 @@ use member_selection::AbruptCompletion;
 use prepared_code::{Initialization, Originals, Parts};
 use prepared_lines::{arguments_fit, main_class};
 use std::alloc::Global;
-
-/// The OutOfMemoryError that the machine throws.
-const OUT_OF_MEMORY: u32 = 1;
+use symbolic_references::RESERVED;
 
 // ---- the main class is loaded
 
@@ -56,11 +54,12 @@ fn load_main(
 ) -> Result<(), NoMemory>
     requires at_start { IsAtStart parts.old.runtime.world (state_of initializing.old parts.old) }
     requires fits { arguments_fit parts.old.runtime.world.program ≡ true }
-    requires linked { IsLinked originals.old parts.old.runtime }
+    requires known { AreNamesKnown originals.old parts.old.runtime }
     requires fit { IsFit parts.old.runtime.world.program }
+    ensures program { originals.new.program ≡ originals.old.program }
     ensures versions { originals.new.versions ≡ originals.old.versions }
     ensures world { parts.new.runtime.world ≡ parts.old.runtime.world }
-    ensures linked { OnOk result (IsLinked originals.new parts.new.runtime) }
+    ensures known { OnOk result (AreNamesKnown originals.new parts.new.runtime) }
     ensures state { OnOk result
         (state_of initializing.new parts.new ≡ starts_if parts.old.runtime.world true) }
 {
@@ -79,11 +78,12 @@ pub fn begin_start(
     initializing: &mut Stack<Initialization>,
 ) -> Result<(), NoMemory>
     requires at_start { IsAtStart parts.old.runtime.world (state_of initializing.old parts.old) }
-    requires linked { IsLinked originals.old parts.old.runtime }
+    requires known { AreNamesKnown originals.old parts.old.runtime }
     requires fit { IsFit parts.old.runtime.world.program }
+    ensures program { originals.new.program ≡ originals.old.program }
     ensures versions { originals.new.versions ≡ originals.old.versions }
     ensures world { parts.new.runtime.world ≡ parts.old.runtime.world }
-    ensures linked { OnOk result (IsLinked originals.new parts.new.runtime) }
+    ensures known { OnOk result (AreNamesKnown originals.new parts.new.runtime) }
     ensures state { OnOk result
         (state_of initializing.new parts.new ≡ starts_with parts.old.runtime.world) }
     ensures loads { let w = parts.old.runtime.world in OnOk result
@@ -92,6 +92,6 @@ pub fn begin_start(
     if arguments_fit(parts.runtime.program()) {
         return load_main(alloc, originals, parts, initializing);
     }
-    parts.thrown = Some(OUT_OF_MEMORY);
+    parts.thrown = Some(RESERVED);
     Ok(())
 }

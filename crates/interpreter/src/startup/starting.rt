@@ -1,24 +1,26 @@
 //! The state before the start, in which the built-in classes are loaded and ready, and the start
 //! (JVM Specification 5.2, 5.3, 5.5).
 
-ghost use Rattle.std.specs.Prelude.{◌≡◌, ◌<◌, ◌≤◌, ◌^◌, [], IfOk, length, map, unwrap_or};
+ghost use Rattle.std.specs.Prelude.{◌≡◌, ◌≤◌, [], IfOk, map, unwrap_or};
 ghost use Rattle.std.specs.Option.{option_and_then};
 ghost use Rattle.const_pool.specs.References.{named_text};
+ghost use Rattle.jvm_model.specs.Basis.Programs.{has_name};
 ghost use Rattle.jvm_model.specs.Basis.SharedState.{phase_before, shared_before, static_zeros};
 ghost use Rattle.jvm_model.specs.Basis.SharedState.{system_static, system_stream, zero_for, zeros};
 ghost use Rattle.jvm_model.specs.Running.Run.{before};
 ghost use Rattle.jvm_model.specs.Soundness.Sound.{IsFit};
 ghost use Rattle.prepared_code.specs.States.{state_in};
-ghost use Rattle.prepared_code.specs.Linked.{IsLinked};
+ghost use Rattle.prepared_code.specs.Originals.{AreNamesKnown};
 
+use crate::startup::first_objects::heap_before;
+use class_linker::Linker;
 use const_pool::{ClassFile, Member, Pool};
 use frame_stack::Frames;
 use heap_objects::Datum;
 use jf_bytes::{NoMemory, Seq, Text16};
-use jvm_model::{Phase, Program};
+use jvm_model::Phase;
 use native_effects::Made;
 use prepared_code::{Originals, Parts, has_built_in_name};
-use prepared_lines::{has_bytes, heap_before};
 use std::alloc::Global;
 use symbolic_references::{Beginning, Runtime};
 
@@ -129,11 +131,21 @@ fn system_statics(alloc: Global, class: &ClassFile) -> Result<Seq<Datum>, NoMemo
     Ok(values)
 }
 
+/// Whether the name of a class is these bytes.
+fn has_name(class: &ClassFile, name: &[u8]) -> bool
+    ensures { result ≡ has_name name.now class.now }
+{
+    match class.pool.class_name(class.this_class) {
+        Ok(found) => found.is_bytes(name),
+        Err(_) => false,
+    }
+}
+
 /// The first values of a class's static fields; every field has a place for one.
 fn static_zeros(alloc: Global, class: &ClassFile) -> Result<Seq<Datum>, NoMemory>
     ensures { IfOk result (λ values. values ≡ static_zeros class.now) }
 {
-    if has_bytes(b"java/lang/System", class) {
+    if has_name(class, b"java/lang/System") {
         system_statics(alloc, class)
     } else {
         zeros(alloc, class)
@@ -152,19 +164,18 @@ fn statics_of(alloc: Global, classes: &[ClassFile]) -> Result<Seq<Seq<Datum>>, N
 }
 
 /// What all share before the start.
-fn beginning_of(alloc: Global, program: &Program) -> Result<Beginning, NoMemory>
-    requires few { length program.now.classes < 2 ^ 24 }
-    requires room { 1024 ≤ program.now.heap }
-    ensures phases { IfOk result (λ b. b.phases ≡ (shared_before program.now).phases) }
-    ensures statics { IfOk result (λ b. b.statics ≡ (shared_before program.now).statics) }
-    ensures heap { IfOk result (λ b. b.heap ≡ (shared_before program.now).heap) }
-    ensures made { IfOk result (λ b. b.made ≡ (shared_before program.now).made) }
+fn beginning_of(alloc: Global, linker: &Linker) -> Result<Beginning, NoMemory>
+    requires { 1024 ≤ linker.now.program.heap }
+    ensures phases { IfOk result (λ b. b.phases ≡ (shared_before linker.now.program).phases) }
+    ensures statics { IfOk result (λ b. b.statics ≡ (shared_before linker.now.program).statics) }
+    ensures heap { IfOk result (λ b. b.heap ≡ (shared_before linker.now.program).heap) }
+    ensures made { IfOk result (λ b. b.made ≡ (shared_before linker.now.program).made) }
 {
-    let classes = program.classes.as_slice();
+    let classes = linker.program().classes.as_slice();
     Ok(Beginning {
         phases: phases_of(alloc, classes)?,
         statics: statics_of(alloc, classes)?,
-        heap: heap_before(alloc, program)?,
+        heap: heap_before(alloc, linker)?,
         made: Made::new(alloc),
     })
 }
@@ -178,11 +189,11 @@ pub fn parts_before(alloc: Global, originals: &Originals, input: Seq<u8>) -> Res
         ≡ before (record { program = originals.now.program; input = input })) }
     ensures world { IfOk result (λ p. p.runtime.world
         ≡ record { program = originals.now.program; input = input }) }
-    ensures linked { IfOk result (λ p. IsLinked originals.now p.runtime) }
+    ensures known { IfOk result (λ p. AreNamesKnown originals.now p.runtime) }
 {
     let linker = originals.linker_before(alloc)?;
     let tables = originals.tables_before(alloc)?;
-    let beginning = beginning_of(alloc, originals.program())?;
+    let beginning = beginning_of(alloc, &linker)?;
     Ok(Parts {
         frames: Frames::new(alloc),
         thrown: None,

@@ -11,7 +11,7 @@ ghost use Rattle.prepared_code.specs.Initializations.{state_of};
 ghost use Rattle.prepared_code.specs.Ready.{CanRun, IsSoundIn};
 ghost use Rattle.prepared_code.specs.Standing.{HasVersions};
 ghost use Rattle.activations.specs.Turning.{loads_in, loads_none, pause_at};
-ghost use Rattle.prepared_code.specs.Linked.{IsLinked, setup_in};
+ghost use Rattle.prepared_code.specs.Originals.{AreNamesKnown, setup_in};
 
 use crate::turns::pausing::go_by_moves;
 use crate::turns::trying::go_by_attempt;
@@ -97,13 +97,15 @@ pub fn go(
     initializing: &mut Stack<Initialization>,
     hand: Hand,
 ) -> Result<Option<Gone>, NoMemory>
-    requires linked { IsLinked originals.old parts.old.runtime }
+    requires known { AreNamesKnown originals.old parts.old.runtime }
     requires fit { CanRun (setup_in parts.old.runtime originals.old) }
     requires sound { hand.moves ≡ false
-        → IsSoundIn (setup_in parts.old.runtime originals.old) (state_of initializing.old parts.old) }
+        → IsSoundIn (setup_in parts.old.runtime originals.old)
+        (state_of initializing.old parts.old) }
+    ensures program { originals.new.program ≡ originals.old.program }
     ensures versions { originals.new.versions ≡ originals.old.versions }
     ensures world { parts.new.runtime.world ≡ parts.old.runtime.world }
-    ensures linked { OnOk result (IsLinked originals.new parts.new.runtime) }
+    ensures known { OnOk result (AreNamesKnown originals.new parts.new.runtime) }
     ensures sound { let w = setup_in parts.old.runtime originals.old in
         OnOk result (IsSoundIn w (state_of initializing.old parts.old)
         → IsSoundIn w (state_of initializing.new parts.new)) }

@@ -12,7 +12,8 @@ ghost use Rattle.jvm_model.specs.Basis.Values.{as_value};
 ghost use Rattle.jvm_model.specs.Rewriting.Images.{is_off};
 ghost use Rattle.jvm_model.specs.declared.due.Due.TheVariants as due;
 ghost use Rattle.member_selection.specs.Known.{IsKnown};
-ghost use Rattle.prepared_lines.specs.declared.line.Action.TheVariants as action;
+ghost use Rattle.jvm_model.specs.declared.instruction.Operation.TheVariants as operation;
+ghost use Rattle.prepared_lines.specs.declared.line.LocalAction.TheVariants as local_action;
 ghost use Rattle.activations.specs.Arguments.{can_begin, with_begun};
 ghost use Rattle.activations.specs.Invoking.{may_begin};
 ghost use Rattle.prepared_code.specs.Initializations.{state_of};
@@ -27,7 +28,7 @@ ghost use Rattle.interpreter.specs.Moves.Onward.{begun_due, is_telling, made_if}
 ghost use Rattle.method_versions.specs.Tables.{is_superseded_in};
 ghost use Rattle.prepared_code.specs.Tables.{version_at};
 ghost use Rattle.prepared_code.specs.Versions.{current_of, line_at, mark_of};
-ghost use Rattle.prepared_code.specs.Linked.{IsLinked, setup_in};
+ghost use Rattle.prepared_code.specs.Originals.{AreNamesKnown, setup_in};
 ghost use Rattle.symbolic_references.specs.Runtimes.{linker_in};
 
 use crate::turns::hands::{Passed, gone_to};
@@ -41,12 +42,12 @@ use heap_objects::{Datum, Value};
 use instructions::{pass_length, plain_to, version_now};
 use jf_bytes::Stack;
 use jvm_basic::{recall, value_of};
-use jvm_model::{Due, EventKind, Mark, SymbolicReference};
+use jvm_model::{Due, EventKind, Mark, Operation, SymbolicReference};
 use member_selection::{Found, Known};
 use prepared_code::{
     Here, Initialization, Originals, Parts, Version, initialization_on, next_in, where_now,
 };
-use prepared_lines::{Action, Line};
+use prepared_lines::{Line, LocalAction};
 use symbolic_references::{Call, Invoked};
 
 // ---- a call
@@ -69,7 +70,8 @@ fn begin_call(originals: &Originals, parts: &mut Parts, call: Call) -> Option<Du
     ensures due { let v = originals.now.versions in IfSome result (λ due.
         due ≡ begun_due (not (is_off (mark_of v (current_of v call.method))))) }
     ensures frames { parts.new.frames.frames ≡ with_begun
-        (is_some result) (setup_in parts.old.runtime originals.now) call.method call.count parts.old.frames.frames }
+        (is_some result) (setup_in parts.old.runtime originals.now) call.method call.count
+        parts.old.frames.frames }
     ensures same { parts.new ≡ on_frames parts.new.frames parts.old }
 {
     if !may_begin(&parts.frames) {
@@ -108,14 +110,13 @@ fn pass_call(
     known: &Known,
 ) -> Option<Due>
     requires run { CanRun (setup_in parts.old.runtime originals.now) }
-    requires linked { IsLinked originals.now parts.old.runtime }
     requires sound { IsSoundIn (setup_in parts.old.runtime originals.now)
         (state_of initializing.now parts.old) }
     requires at_instruction { IsAtInstruction
         (length parts.old.frames.frames) initializing.now parts.old }
     requires here { here_of parts.old.frames.frames ≡ Some here }
     requires line { line_at originals.now.versions here.version here.place ≡ Some line.now }
-    requires named { line.now.action ≡ action.Named reference.now }
+    requires named { line.now.operation ≡ operation.Named reference.now }
     requires known { IsKnown (linker_in parts.old.runtime) reference.now known.now }
     ensures { GoesOnward (setup_in parts.old.runtime originals.now) initializing.now parts.old
         result parts.new }
@@ -148,14 +149,13 @@ fn pass_access(
     known: &Known,
 ) -> bool
     requires run { CanRun (setup_in parts.old.runtime originals.now) }
-    requires linked { IsLinked originals.now parts.old.runtime }
     requires sound { IsSoundIn (setup_in parts.old.runtime originals.now)
         (state_of initializing.now parts.old) }
     requires at_instruction { IsAtInstruction
         (length parts.old.frames.frames) initializing.now parts.old }
     requires here { here_of parts.old.frames.frames ≡ Some here }
     requires line { line_at originals.now.versions here.version here.place ≡ Some line.now }
-    requires named { line.now.action ≡ action.Named reference.now }
+    requires named { line.now.operation ≡ operation.Named reference.now }
     requires known { IsKnown (linker_in parts.old.runtime) reference.now known.now }
     ensures { Passes (setup_in parts.old.runtime originals.now) initializing.now parts.old
         (steps_if result) parts.new }
@@ -178,7 +178,7 @@ fn pass_measure(
         (length parts.old.frames.frames) initializing.now parts.old }
     requires here { here_of parts.old.frames.frames ≡ Some here }
     requires line { line_at originals.now.versions here.version here.place ≡ Some line.now }
-    requires measures { line.now.action ≡ action.Arraylength }
+    requires measures { line.now.operation ≡ operation.Arraylength }
     ensures { Passes (setup_in parts.old.runtime originals.now) initializing.now parts.old
         (steps_if result) parts.new }
 {
@@ -284,7 +284,7 @@ pub fn leave(
     requires here { here_of parts.old.frames.frames ≡ Some here }
     requires runs { version_at originals.now.versions here.version ≡ Some version.now }
     requires line { line_at originals.now.versions here.version here.place ≡ Some line.now }
-    requires ends { line.now.action ≡ action.Return kind }
+    requires ends { line.now.operation ≡ operation.Within (local_action.Return kind) }
     ensures delivered { let w = setup_in parts.old.runtime originals.now in
         TriesIf result w initializing.now true parts.old due.Nothing parts.new }
     ensures at_instruction { result ≡ true → IsAtInstruction
@@ -324,7 +324,7 @@ fn pass_return(
     requires here { here_of parts.old.frames.frames ≡ Some here }
     requires runs { version_at originals.now.versions here.version ≡ Some version.now }
     requires line { line_at originals.now.versions here.version here.place ≡ Some line.now }
-    requires ends { line.now.action ≡ action.Return kind }
+    requires ends { line.now.operation ≡ operation.Within (local_action.Return kind) }
     ensures { GoesOnward (setup_in parts.old.runtime originals.now) initializing.now parts.old
         result parts.new }
 {
@@ -349,14 +349,14 @@ fn pass_throw(
         (length parts.old.frames.frames) initializing.now parts.old }
     requires here { here_of parts.old.frames.frames ≡ Some here }
     requires line { line_at originals.now.versions here.version here.place ≡ Some line.now }
-    requires throws { line.now.action ≡ action.Athrow }
+    requires throws { line.now.operation ≡ operation.Athrow }
     ensures { Passes (setup_in parts.old.runtime originals.now) initializing.now parts.old
         (steps_if result) parts.new }
 {
     let Some(object) = thrown_object(&parts.runtime, &parts.frames) else {
         return false;
     };
-    let class = class_of(&parts.runtime, object) as usize;
+    let class = class_of(&parts.runtime, object);
     let Some(target) = caught_below(
         originals,
         &parts.runtime,
@@ -394,14 +394,14 @@ fn pass_named(
     reference: &SymbolicReference,
 ) -> Option<Due>
     requires run { CanRun (setup_in parts.old.runtime originals.now) }
-    requires linked { IsLinked originals.now parts.old.runtime }
+    requires known { AreNamesKnown originals.now parts.old.runtime }
     requires sound { IsSoundIn (setup_in parts.old.runtime originals.now)
         (state_of initializing.now parts.old) }
     requires at_instruction { IsAtInstruction
         (length parts.old.frames.frames) initializing.now parts.old }
     requires here { here_of parts.old.frames.frames ≡ Some here }
     requires line { line_at originals.now.versions here.version here.place ≡ Some line.now }
-    requires named { line.now.action ≡ action.Named reference.now }
+    requires named { line.now.operation ≡ operation.Named reference.now }
     ensures { GoesOnward (setup_in parts.old.runtime originals.now) initializing.now parts.old
         result parts.new }
 {
@@ -426,7 +426,7 @@ fn pass_line(
     line: &Line,
 ) -> Option<Due>
     requires run { CanRun (setup_in parts.old.runtime originals.now) }
-    requires linked { IsLinked originals.now parts.old.runtime }
+    requires known { AreNamesKnown originals.now parts.old.runtime }
     requires sound { IsSoundIn (setup_in parts.old.runtime originals.now)
         (state_of initializing.now parts.old) }
     requires at_instruction { IsAtInstruction
@@ -440,8 +440,8 @@ fn pass_line(
     let Some(here) = where_now(&parts.frames) else {
         return None;
     };
-    match &line.action {
-        Action::Named(reference) => pass_named(
+    match &line.operation {
+        Operation::Named(reference) => pass_named(
             originals,
             parts,
             initializing,
@@ -449,17 +449,20 @@ fn pass_line(
             line,
             reference,
         ),
-        Action::Return(kind) => pass_return(
-            originals,
-            parts,
-            initializing,
-            here,
-            version,
-            line,
-            *kind,
-        ),
-        Action::Athrow => made_if(pass_throw(originals, parts, initializing, here, line)),
-        Action::Arraylength => made_if(pass_measure(originals, parts, initializing, here, line)),
+        Operation::Within(action) => match action {
+            LocalAction::Return(kind) => pass_return(
+                originals,
+                parts,
+                initializing,
+                here,
+                version,
+                line,
+                *kind,
+            ),
+            LocalAction::Basic => None,
+        },
+        Operation::Athrow => made_if(pass_throw(originals, parts, initializing, here, line)),
+        Operation::Arraylength => made_if(pass_measure(originals, parts, initializing, here, line)),
         _ => None,
     }
 }
@@ -497,7 +500,7 @@ fn pass_to(
     count: &mut u64,
 ) -> Option<Due>
     requires run { CanRun (setup_in parts.old.runtime originals.now) }
-    requires linked { IsLinked originals.now parts.old.runtime }
+    requires known { AreNamesKnown originals.now parts.old.runtime }
     requires sound { IsSoundIn (setup_in parts.old.runtime originals.now)
         (state_of initializing.now parts.old) }
     requires at_instruction { IsAtInstruction
@@ -544,7 +547,7 @@ pub fn pass_steps(
     most: u64,
 ) -> Passed
     requires run { CanRun (setup_in parts.old.runtime originals.now) }
-    requires linked { IsLinked originals.now parts.old.runtime }
+    requires known { AreNamesKnown originals.now parts.old.runtime }
     requires sound { IsSoundIn (setup_in parts.old.runtime originals.now)
         (state_of initializing.now parts.old) }
     requires at_instruction { IsAtInstruction

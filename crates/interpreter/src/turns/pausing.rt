@@ -6,13 +6,13 @@ ghost use Rattle.jvm_model.specs.Turns.InHand.{frame_popped};
 ghost use Rattle.prepared_code.specs.Initializations.{state_of};
 ghost use Rattle.activations.specs.Turning.{goes_by_moves, pause_at, paused_in};
 ghost use Rattle.activations.specs.Turning.{frame_resumed, resumed_count};
-ghost use Rattle.prepared_code.specs.Linked.{setup_in};
+ghost use Rattle.prepared_code.specs.Originals.{setup_in};
 
 use crate::turns::resting::is_at_rest;
 use activations::{Moved, make_move};
 use jf_bytes::{NoMemory, Stack};
 use jvm_model::{Due, EventKind};
-use prepared_code::{Initialization, Originals, Parts, initialization_on, where_now};
+use prepared_code::{Initialization, Originals, Parts, take_initialization};
 use std::alloc::Global;
 
 /// One change more. (More changes than fit do not come.)
@@ -81,34 +81,31 @@ pub fn pause(
 
 // ---- where moves alone are left of a step
 
-/// Takes the current frame off, behind its unwind probe. (There is one then, and no initialization
-/// stands on it.)
-fn take_off(parts: &mut Parts, initializing: &Stack<Initialization>) -> Result<(), NoMemory>
-    ensures state { OnOk result
-        (state_of initializing.now parts.new ≡ frame_popped (state_of initializing.now parts.old)) }
+/// Takes off what stands on top, which behind an unwind probe is the current frame.
+fn take_off(parts: &mut Parts, initializing: &mut Stack<Initialization>)
+    ensures state { state_of initializing.new parts.new
+        ≡ frame_popped (state_of initializing.old parts.old) }
     ensures world { parts.new.runtime.world ≡ parts.old.runtime.world }
     ensures same_loaded { parts.new.runtime.shared.loaded ≡ parts.old.runtime.shared.loaded }
 {
-    let Some(_) = where_now(&parts.frames) else {
-        return Err(NoMemory);
-    };
-    if initialization_on(initializing, parts.frames.depth()).is_some() {
-        return Err(NoMemory);
+    match take_initialization(parts, initializing) {
+        Some(_) => {}
+        None => {
+            parts.frames.leave();
+        }
     }
-    parts.frames.leave();
-    Ok(())
 }
 
 /// Behind an unwind probe that has told, the current frame is taken off, which is one change more.
 fn resume(
     parts: &mut Parts,
-    initializing: &Stack<Initialization>,
+    initializing: &mut Stack<Initialization>,
     delivered: bool,
     passed: &mut u64,
 ) -> Result<(), NoMemory>
     ensures state { OnOk result
-        (state_of initializing.now parts.new
-        ≡ frame_resumed delivered (state_of initializing.now parts.old)) }
+        (state_of initializing.new parts.new
+        ≡ frame_resumed delivered (state_of initializing.old parts.old)) }
     ensures passed { OnOk result (passed.new ≡ resumed_count delivered passed.old) }
     ensures world { parts.new.runtime.world ≡ parts.old.runtime.world }
     ensures same_loaded { parts.new.runtime.shared.loaded ≡ parts.old.runtime.shared.loaded }
@@ -116,7 +113,7 @@ fn resume(
     if !delivered {
         return Ok(());
     }
-    take_off(parts, initializing)?;
+    take_off(parts, initializing);
     *passed = one_more(*passed)?;
     Ok(())
 }

@@ -12,15 +12,15 @@ ghost use Rattle.prepared_code.specs.Runs.{IsAtInstruction};
 ghost use Rattle.prepared_code.specs.Standing.{HasVersions};
 ghost use Rattle.interpreter.specs.Moves.Quickly.{GoesQuickly, TriesIf};
 ghost use Rattle.interpreter.specs.Moves.Hands.{HasGoneOn, HasInHand};
-ghost use Rattle.prepared_code.specs.Linked.{setup_in};
+ghost use Rattle.prepared_code.specs.Originals.{setup_in};
 
 use crate::turns::hands::{Gone, Hand, gone_to};
 use crate::turns::passing::leave;
 use crate::turns::resting::is_at_rest;
 use jf_bytes::Stack;
-use jvm_model::Due;
+use jvm_model::{Due, Operation};
 use prepared_code::{Initialization, Originals, Parts, line_in, where_now};
-use prepared_lines::Action;
+use prepared_lines::LocalAction;
 
 /// A return of which its probe has told. False, with nothing of the run changed, where the line is
 /// none, or the caller can't go on.
@@ -44,8 +44,13 @@ fn end_told(originals: &Originals, parts: &mut Parts, initializing: &Stack<Initi
     let Some(line) = line_in(version, here.place) else {
         return false;
     };
-    match line.action {
-        Action::Return(kind) => leave(originals, parts, initializing, here, version, line, kind),
+    match line.operation {
+        Operation::Within(action) => match action {
+            LocalAction::Return(kind) => {
+                leave(originals, parts, initializing, here, version, line, kind)
+            }
+            LocalAction::Basic => false,
+        },
         _ => false,
     }
 }

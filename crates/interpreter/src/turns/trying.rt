@@ -14,7 +14,7 @@ ghost use Rattle.prepared_code.specs.Ready.{CanRun, IsSoundIn};
 ghost use Rattle.activations.specs.Turning.{loads_in, loads_none, pause_at};
 ghost use Rattle.interpreter.specs.Moves.Trying.{changes_since, enters_by, leaves_in};
 ghost use Rattle.interpreter.specs.Moves.Trying.{pause_behind_attempt, tried_in};
-ghost use Rattle.prepared_code.specs.Linked.{IsLinked, setup_in};
+ghost use Rattle.prepared_code.specs.Originals.{AreNamesKnown, setup_in};
 
 use crate::turns::pausing::{one_more, pause};
 use crate::turns::resting::{goes_on, is_ready};
@@ -22,9 +22,9 @@ use activations::is_marked;
 use frame_stack::Frames;
 use instructions::{attempt, attempt_loaded};
 use jf_bytes::{NoMemory, Stack};
-use jvm_model::{Due, EventKind};
+use jvm_model::{Due, EventKind, Operation};
 use prepared_code::{Initialization, Originals, Parts, where_now};
-use prepared_lines::Action;
+use prepared_lines::LocalAction;
 use std::alloc::Global;
 
 // ---- behind an attempt
@@ -92,7 +92,7 @@ fn leaves(originals: &Originals, frames: &Frames) -> bool
         return false;
     }
     match originals.line(here.version, here.place) {
-        Some(line) => matches!(line.action, Action::Return(_)),
+        Some(line) => matches!(line.operation, Operation::Within(LocalAction::Return(_))),
         None => false,
     }
 }
@@ -139,15 +139,16 @@ fn try_again(
     depth: u32,
     passed: &mut u64,
 ) -> Result<Due, NoMemory>
-    requires linked { IsLinked originals.old parts.old.runtime }
+    requires known { AreNamesKnown originals.old parts.old.runtime }
     requires fit { CanRun (setup_in parts.old.runtime originals.old) }
     requires sound { IsSoundIn (setup_in parts.old.runtime originals.old)
         (state_of initializing.old parts.old) }
     requires executing { initialization_on (length parts.old.frames.frames) initializing.old
         ≡ None }
+    ensures program { originals.new.program ≡ originals.old.program }
     ensures versions { originals.new.versions ≡ originals.old.versions }
     ensures world { parts.new.runtime.world ≡ parts.old.runtime.world }
-    ensures linked { OnOk result (IsLinked originals.new parts.new.runtime) }
+    ensures known { OnOk result (AreNamesKnown originals.new parts.new.runtime) }
     ensures reaches { let w = setup_in parts.old.runtime originals.old in
         let s = state_of initializing.old parts.old in
         IfOk result (λ due. pause_at (state_of initializing.new parts.new) passed.new due
@@ -167,14 +168,15 @@ fn try_line(
     initializing: &mut Stack<Initialization>,
     passed: &mut u64,
 ) -> Result<Option<Due>, NoMemory>
-    requires linked { IsLinked originals.old parts.old.runtime }
+    requires known { AreNamesKnown originals.old parts.old.runtime }
     requires fit { CanRun (setup_in parts.old.runtime originals.old) }
     requires sound { IsSoundIn (setup_in parts.old.runtime originals.old)
         (state_of initializing.old parts.old) }
     requires goes { goes_on_in initializing.old parts.old ≡ true }
+    ensures program { originals.new.program ≡ originals.old.program }
     ensures versions { originals.new.versions ≡ originals.old.versions }
     ensures world { parts.new.runtime.world ≡ parts.old.runtime.world }
-    ensures linked { OnOk result (IsLinked originals.new parts.new.runtime) }
+    ensures known { OnOk result (AreNamesKnown originals.new parts.new.runtime) }
     ensures some { IfOk result (λ o. is_some o
         ≡ loads_none (setup_in parts.old.runtime originals.old)
         (state_of initializing.old parts.old)) }
@@ -218,13 +220,14 @@ pub fn go_by_attempt(
     delivered: bool,
     passed: &mut u64,
 ) -> Result<Option<Due>, NoMemory>
-    requires linked { IsLinked originals.old parts.old.runtime }
+    requires known { AreNamesKnown originals.old parts.old.runtime }
     requires fit { CanRun (setup_in parts.old.runtime originals.old) }
     requires sound { IsSoundIn (setup_in parts.old.runtime originals.old)
         (state_of initializing.old parts.old) }
+    ensures program { originals.new.program ≡ originals.old.program }
     ensures versions { originals.new.versions ≡ originals.old.versions }
     ensures world { parts.new.runtime.world ≡ parts.old.runtime.world }
-    ensures linked { OnOk result (IsLinked originals.new parts.new.runtime) }
+    ensures known { OnOk result (AreNamesKnown originals.new parts.new.runtime) }
     ensures some { IfOk result (λ o. is_some o
         ≡ loads_none (setup_in parts.old.runtime originals.old)
         (state_of initializing.old parts.old)) }

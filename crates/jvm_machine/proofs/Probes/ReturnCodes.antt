@@ -26,6 +26,7 @@ use Rattle.jvm_model.specs.Codes.Lines.{ObjectRow, constant_in, pool_constant_op
 use Rattle.jvm_model.specs.Turns.StepPauses.{is_return}
 use Rattle.jvm_model.specs.Rewriting.Versions.{is_return_opcode}
 use Rattle.jvm_model.proofs.Running.Opcodes.{all_below, all_below-each}
+use Rattle.jvm_model.specs.Instructions.ObjectRules.{array_kind}
 
 -- ---- by the family of an opcode
 
@@ -43,16 +44,16 @@ or-second false b e is = absurd (let f : false ≡ true = is in cc)
 
 -- ---- what another family does
 
-abbrev Stays : Option Operation → Type 0
-Stays x = (o : Operation) → x ≡ Some o → is_return o ≡ false
+abbrev Stays : Option (Operation Local) → Type 0
+Stays x = (o : Operation Local) → x ≡ Some o → is_return o ≡ false
 
 none-stays : Stays None
 none-stays o e = absurd (none-some o e)
 
-some-stays : (x : Operation) → is_return x ≡ false → Stays (Some x)
+some-stays : (x : Operation Local) → is_return x ≡ false → Stays (Some x)
 some-stays x stays o e = ap is_return (sym (same_Some x o e)) ∙ stays
 
-map-stays : {A : Type 0} (f : A → Operation) → ((a : A) → is_return (f a) ≡ false) → (x : Option A) → Stays (option_map f x)
+map-stays : {A : Type 0} (f : A → Operation Local) → ((a : A) → is_return (f a) ≡ false) → (x : Option A) → Stays (option_map f x)
 map-stays f each None = none-stays
 map-stays f each (Some a) = some-stays (f a) (each a)
 
@@ -76,8 +77,8 @@ among-stays (r ∷ rs) op all = by (op == r.op) (among-stays rs op all.1) where
 
 newarray-stays : (op code : ℕ) → Stays (newarray_of op code)
 newarray-stays op code = by (op == 188 && is_in_range 4 11 code) where
-  by : (b : Bool) → Stays (if b then Some (Newarray code) else None)
-  by true = some-stays (Newarray code) refl
+  by : (b : Bool) → Stays (if b then Some (Newarray (array_kind code)) else None)
+  by true = some-stays (Newarray (array_kind code)) refl
   by false = none-stays
 
 other-stays : (c : ClassFile) (op : ℕ) (a : Arg) → Stays (other_operation c op a)
@@ -123,7 +124,7 @@ object-stays c (arg.Target t) = none-stays
 object-stays c (arg.Table d low ts) = none-stays
 object-stays c (arg.Lookup d ks ts) = none-stays
 
-given-stays : (x : Option Datum) (y : Option Operation) → Stays y → Stays (pool_constant_operation (option_map Within (option_map Constant x)) y)
+given-stays : (x : Option Datum) (y : Option (Operation Local)) → Stays y → Stays (pool_constant_operation (option_map Within (option_map Constant x)) y)
 given-stays None y stays = stays
 given-stays (Some d) y stays = some-stays (Within (Constant d)) refl
 
@@ -156,7 +157,7 @@ family-stays c op a (family.Return k) other = absurd (let e : true ≡ false = o
 
 -- ---- an instruction that returns
 
-pub return-opcode : (c : ClassFile) (i : Instr) (o : Operation) → i.op < 256 → operation_of c i ≡ Some o → is_return o ≡ true → is_return_opcode i.op ≡ true
+pub return-opcode : (c : ClassFile) (i : Instr) (o : Operation Local) → i.op < 256 → operation_of c i ≡ Some o → is_return o ≡ true → is_return_opcode i.op ≡ true
 return-opcode c i o lt is back = by (returns (family_of i.op)) refl where
   by : (b : Bool) → returns (family_of i.op) ≡ b → is_return_opcode i.op ≡ true
   by true e = or-second (returns (family_of i.op)) (is_return_opcode i.op) (all_below-each (λ op. not (returns (family_of op)) || is_return_opcode op) 256 i.op returns-by-opcode lt) e

@@ -21,6 +21,7 @@ use Rattle.jvm_model.specs.declared.event.Mark.TheVariants as mark
 use Rattle.jvm_model.specs.declared.program.MethodPlace.{MethodPlace}
 use Rattle.jvm_model.specs.declared.program.Program.{Program}
 use Rattle.jvm_model.specs.Basis.Data.{Began, Change, Instruction, Left, Loads, Unwound}
+use Rattle.jvm_model.specs.declared.instruction.Local.{Local}
 use Rattle.jvm_model.specs.declared.instruction.Operation.{Operation}
 use Rattle.jvm_model.specs.Rewriting.Images.{is_off}
 use Rattle.jvm_model.specs.Codes.Lines.{code_instruction, instruction_of, method_instruction, operation_of}
@@ -98,7 +99,7 @@ true-of f (Some x) e = (x, refl, e)
 pub record Returning (c : ClassFile) (code : List ℕ) (at : ℕ) : Type 0 where
   pub instr : Instr
   pub here : instruction_at code at ≡ Some instr
-  pub operation : Operation
+  pub operation : Operation Local
   pub does : operation_of c instr ≡ Some operation
   pub returns : is_return operation ≡ true
 

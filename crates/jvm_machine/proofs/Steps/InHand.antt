@@ -14,7 +14,7 @@ use Rattle.jvm_model.specs.Turns.Pauses.{told_at}
 use Rattle.prepared_code.specs.declared.initializations.Initialization.{Initialization}
 use Rattle.prepared_code.specs.declared.parts.Parts.{Parts}
 use Rattle.prepared_code.specs.Initializations.{state_of}
-use Rattle.prepared_code.specs.Linked.{IsLinked, Linked, setup_in, setup_of}
+use Rattle.prepared_code.specs.Originals.{AreNamesKnown, OriginalsView, setup_in, setup_of}
 use Rattle.prepared_code.specs.Ready.{CanRun, IsSoundIn}
 use Rattle.prepared_code.specs.Runs.{IsAtInstruction}
 use Rattle.prepared_code.specs.Versions.{Setup}
@@ -28,7 +28,7 @@ use Rattle.jvm_machine.specs.Turns.{Settles, Turns, turn_by}
 use Rattle.jvm_machine.specs.View.{View, has_ended, is_resting}
 use Rattle.jvm_machine.proofs.Steps.Quickly.{quick-going, quick-leaves, quick-machine, quick-stops, quick-tidy}
 use Rattle.jvm_machine.proofs.Steps.Exits.{GoesOnFrom}
-use Rattle.jvm_machine.proofs.States.LinkedParts.{keeps-on}
+use Rattle.jvm_machine.proofs.States.KeptOn.{keeps-on}
 use Rattle.jvm_machine.proofs.Versions.HeldVersions.{plain-view, seen-is}
 use Rattle.jvm_machine.proofs.Steps.Onward.{behind-none, behind-some}
 use Rattle.jvm_machine.proofs.Steps.Turned.{rests-then, turned}
@@ -38,7 +38,7 @@ not-ended : (rests ended : Bool) → rests ≡ true → (rests && ended) ≡ fal
 not-ended true ended e going = going
 not-ended false ended e going = absurd (let h : false ≡ true = e in cc)
 
-module _ (o : Linked) (hand : Hand) (started broken : Bool) (clock : ℕ) (ms : List Initialization) (p : Parts) (v : View)
+module _ (o : OriginalsView) (hand : Hand) (started broken : Bool) (clock : ℕ) (ms : List Initialization) (p : Parts) (v : View)
     (keeps : Keeps o p.runtime hand started broken clock (state_of ms p)) (viewed : state_viewed (setup_in p.runtime o) (state_of ms p) started broken clock hand ≡ v)
     (begun_is : started ≡ true) (whole : broken ≡ false) (in_hand : is_resting v ≡ false)
     (after : Parts) (gone : Gone) (goes : GoesQuickly (setup_in p.runtime o) ms hand p gone after) (hands : GoesOnFrom (setup_in p.runtime o) hand (state_of ms p) gone (state_of ms after))
@@ -64,7 +64,7 @@ module _ (o : Linked) (hand : Hand) (started broken : Bool) (clock : ℕ) (ms : 
       (keeps.tidy whole)
 
   first-keeps : Keeps o after.runtime (left_in gone) started broken clock (state_of ms after)
-  first-keeps = keeps-on o p.runtime after.runtime goes.world goes.loaded keeps.linked machine (λ same. tidy)
+  first-keeps = keeps-on o p.runtime after.runtime goes.world goes.loaded keeps.program keeps.known machine (λ same. tidy)
 
   first-viewed : state_viewed (setup_in after.runtime o) (state_of ms after) started broken clock (left_in gone) ≡ first
   first-viewed =
@@ -96,8 +96,8 @@ module _ (o : Linked) (hand : Hand) (started broken : Bool) (clock : ℕ) (ms : 
       (turned v first gone.due (ap (λ (x : View). x.broken) (sym view) ∙ whole) (ap (λ b. b && has_ended v) in_hand) stops leaves)
 
   -- what steps behind it ask
-  pub linked-behind : IsLinked o after.runtime
-  linked-behind = first-keeps.linked whole
+  pub known-behind : AreNamesKnown o after.runtime
+  known-behind = first-keeps.known whole
 
   pub run-behind : CanRun (setup_in after.runtime o)
   run-behind = set-up-runs (setup_in after.runtime o) first-keeps.machine.homes first-keeps.machine.has

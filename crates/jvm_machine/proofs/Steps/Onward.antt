@@ -9,18 +9,18 @@ use Rattle.jvm_model.specs.Basis.Data.{World}
 use Rattle.prepared_code.specs.declared.initializations.Initialization.{Initialization}
 use Rattle.prepared_code.specs.declared.parts.Parts.{Parts}
 use Rattle.prepared_code.specs.Initializations.{state_of}
-use Rattle.prepared_code.specs.Linked.{Linked, setup_in, setup_of}
+use Rattle.prepared_code.specs.Originals.{OriginalsView, setup_in, setup_of}
 use Rattle.prepared_code.specs.Versions.{Setup}
 use Rattle.jvm_machine.specs.Advances.{left_in}
 use Rattle.jvm_machine.specs.Machine.{IsMachine, IsTidy, Keeps, state_seen, state_viewed}
 use Rattle.jvm_machine.specs.Several.{Passes, PassesUpTo}
 use Rattle.jvm_machine.specs.View.{View, is_resting}
 use Rattle.jvm_machine.proofs.Steps.Quickly.{quick-going, quick-leaves, quick-machine, quick-stops, quick-tidy}
-use Rattle.jvm_machine.proofs.States.LinkedParts.{keeps-on}
+use Rattle.jvm_machine.proofs.States.KeptOn.{keeps-on}
 use Rattle.jvm_machine.proofs.Versions.HeldVersions.{plain-view, seen-is}
 use Rattle.jvm_machine.proofs.Steps.QuietSteps.{plain-machine, plain-passes, plain-tidy}
 
-module _ (o : Linked) (hand : Hand) (started broken : Bool) (clock : ℕ) (ms : List Initialization) (p : Parts) (v : View)
+module _ (o : OriginalsView) (hand : Hand) (started broken : Bool) (clock : ℕ) (ms : List Initialization) (p : Parts) (v : View)
     (keeps : Keeps o p.runtime hand started broken clock (state_of ms p)) (viewed : state_viewed (setup_in p.runtime o) (state_of ms p) started broken clock hand ≡ v)
     (begun_is : started ≡ true) (whole : broken ≡ false) (rests : is_resting v ≡ true)
     (n : ℕ) (between : Parts) (silent : Silent (setup_in p.runtime o) ms p n between) where
@@ -53,7 +53,7 @@ module _ (o : Linked) (hand : Hand) (started broken : Bool) (clock : ℕ) (ms : 
   behind-seen : (h : Hand) (c : ℕ) (due : Option Due) (after : Parts) → after.runtime.world ≡ p.runtime.world → after.runtime.shared.loaded ≡ p.runtime.shared.loaded → IsMachine w h (state_seen w (state_of ms after) started broken c h) (state_of ms after)
       → IsTidy w.versions (state_of ms after).stack → PassesUpTo v n due (state_seen w (state_of ms after) started broken c h) → Behind h c due after
   behind-seen h c due after world loaded machine tidy passes = record {
-    kept = keeps-on o p.runtime after.runtime world loaded keeps.linked machine (λ same. tidy);
+    kept = keeps-on o p.runtime after.runtime world loaded keeps.program keeps.known machine (λ same. tidy);
     passes = subst (λ (x : World). PassesUpTo v n due (state_viewed (setup_of x o) (state_of ms after) started broken c h)) (sym world)
         (subst (PassesUpTo v n due) (sym (plain-view w h started broken c (state_of ms after) (λ same. tidy))) passes);
   }

@@ -14,7 +14,7 @@ use Rattle.jvm_model.specs.declared.state.State.{State}
 use Rattle.prepared_code.specs.declared.initializations.Initialization.{Initialization}
 use Rattle.prepared_code.specs.declared.parts.Parts.{Parts}
 use Rattle.prepared_code.specs.Initializations.{above, beneath, initializing_entry, stack_of, state_of}
-use Rattle.prepared_code.specs.Linked.{Linked, setup_in}
+use Rattle.prepared_code.specs.Originals.{OriginalsView, setup_in}
 use Rattle.prepared_code.specs.States.{active}
 use Rattle.prepared_code.specs.Tables.{Adds, AreAllCurrent, AreOfMethods, IsAdded, Releases, Version, Versions, version_at}
 use Rattle.jvm_model.specs.Running.Run.{starts_with, with_loaded}
@@ -47,11 +47,11 @@ plain-view w hand started true clock s tidy = refl
 plain-view w hand started false clock s tidy = ap (λ b. record (state_seen w s started false clock hand) { stale = b }) (tidy-seen w.versions s.stack (tidy refl))
 
 -- what is seen is that
-pub seen-is : {o : Linked} {r : RuntimeView} {hand : Hand} {started broken : Bool} {clock : ℕ} {s : State} {v : View} (is : Keeps o r hand started broken clock s)
+pub seen-is : {o : OriginalsView} {r : RuntimeView} {hand : Hand} {started broken : Bool} {clock : ℕ} {s : State} {v : View} (is : Keeps o r hand started broken clock s)
     → state_viewed (setup_in r o) s started broken clock hand ≡ v → state_seen (setup_in r o) s started broken clock hand ≡ v
 seen-is {o} {r} {hand} {started} {broken} {clock} {s} is view = sym (plain-view (setup_in r o) hand started broken clock s is.tidy) ∙ view
 
-pub never-stale : {o : Linked} {r : RuntimeView} {hand : Hand} {started broken : Bool} {clock : ℕ} {s : State} {v : View} (is : Keeps o r hand started broken clock s)
+pub never-stale : {o : OriginalsView} {r : RuntimeView} {hand : Hand} {started broken : Bool} {clock : ℕ} {s : State} {v : View} (is : Keeps o r hand started broken clock s)
     → state_viewed (setup_in r o) s started broken clock hand ≡ v → v.stale ≡ false
 never-stale is view = sym (ap (λ (v : View). v.stale) (seen-is is view))
 

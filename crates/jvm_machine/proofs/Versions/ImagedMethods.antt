@@ -27,6 +27,7 @@ use Rattle.jvm_model.specs.declared.event.Mark.{Mark}
 use Rattle.jvm_model.specs.declared.event.Mark.TheVariants.{Off, Plain, Root}
 use Rattle.jvm_model.specs.declared.program.MethodPlace.{MethodPlace}
 use Rattle.jvm_model.specs.declared.program.Program.{Program}
+use Rattle.jvm_model.specs.declared.instruction.Local.{Local}
 use Rattle.jvm_model.specs.declared.instruction.Operation.{Operation}
 use Rattle.jvm_model.specs.Rewriting.Images.{AreMemberImages, IsImage, IsMarkedMember, IsMemberImage, IsOriginal, IsRewritten, all_off, is_off, next_number, number_behind}
 use Rattle.jvm_model.specs.Codes.Lines.{operation_of}
@@ -180,7 +181,7 @@ catches-named c image formed stays (h ∷ hs) are = (catch-named c image formed 
 does-same : (c image : ClassFile) → StaysLike c image → (is : List Instr) → AllByRecursion (λ i. is_some (operation_of c i) ≡ true) is → AllByRecursion (λ i. operation_of image i ≡ operation_of c i) is
 does-same c image stays [] known = tt
 does-same c image stays (i ∷ is) known = (by (operation_of c i) refl known.0, does-same c image stays is known.1) where
-  by : (o : Option Operation) → operation_of c i ≡ o → is_some o ≡ true → operation_of image i ≡ operation_of c i
+  by : (o : Option (Operation Local)) → operation_of c i ≡ o → is_some o ≡ true → operation_of image i ≡ operation_of c i
   by None e some = absurd (let f : false ≡ true = some in cc)
   by (Some op) e some = operation-more c image i op (record { more = stays.more; pool = stays.pool; this = stays.this }) e ∙ sym e
 

@@ -10,7 +10,7 @@ use Rattle.jvm_model.specs.declared.event.Event.{Event}
 use Rattle.jvm_model.specs.declared.event.EventKind.{EventKind}
 use Rattle.jvm_model.specs.declared.event.EventKind.TheVariants as kind
 use Rattle.jvm_model.specs.Profiling.Activations.{Activation, Trace, no_trace, current, without_current, with_end, trace_changed, all_changed, trace, trace_in-zero, trace_in-suc}
-use Rattle.jvm_model.specs.Basis.Data.{Change, Loads, Began, Left, Unwound, Operation, Listing, World}
+use Rattle.jvm_model.specs.Basis.Data.{Change, Loads, Began, Left, Unwound, Local, Operation, Listing, World}
 use Rattle.jvm_model.specs.Profiling.EventLists.{Marking, all_told, begin_events, end_events, end_of, events_of, events_of-zero, events_of-suc, events_told}
 use Rattle.jvm_model.specs.Codes.Originals.{original}
 use Rattle.jvm_model.specs.Profiling.Paths.{contexts_of, is_inside}
@@ -263,14 +263,14 @@ module _ (acts : List Act) (x : Act) (behind : 1 ≤ x.moment) where
     same-before step s (Left ∷ rest) = same-before step (after_change acts step s Left) rest
     same-before step s (Unwound ∷ rest) = same-before step (after_change acts step s Unwound) rest
 
-    pub same-marking : (code : ℕ → List Operation) (step method : ℕ) → step ≤ x.moment → marking_in more w t code step method ≡ marking_in acts w t code step method
+    pub same-marking : (code : ℕ → List (Operation Local)) (step method : ℕ) → step ≤ x.moment → marking_in more w t code step method ≡ marking_in acts w t code step method
     same-marking code step method le =
         ap (λ s. mark_in w.program code (before_begin more step s (turn_in w t step).changes) method) (same-standing step le)
         ∙ ap (λ s. mark_in w.program code s method) (same-before step (standing_in acts w t step) (turn_in w t step).changes)
 
   -- ---- events, and the projection
 
-  module _ (w : World) (code : ℕ → List Operation) where
+  module _ (w : World) (code : ℕ → List (Operation Local)) where
     abbrev pub after : Marking
     after = marking_in more w (original w.program) code
 

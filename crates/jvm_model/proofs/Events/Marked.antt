@@ -9,7 +9,7 @@ use Rattle.std.proofs.lemmas.Option.{slice_get_within, same_Some}
 use Rattle.jvm_model.specs.declared.event.Act.{Act}
 use Rattle.jvm_model.specs.declared.event.Mark.{Mark}
 use Rattle.jvm_model.specs.declared.event.Mark.TheVariants.{Off, Plain, Root}
-use Rattle.jvm_model.specs.Basis.Data.{Program, Change, Loads, Began, Left, Unwound, Operation, World}
+use Rattle.jvm_model.specs.Basis.Data.{Program, Change, Loads, Began, Left, Unwound, Local, Operation, World}
 use Rattle.jvm_model.specs.Profiling.Activations.{Activation, Trace, current, without_current, with_end, trace_changed, all_changed, trace, trace_before, trace_in-zero, trace_in-suc}
 use Rattle.jvm_model.specs.Running.Changes.{EndThenBegin, AreOrdered}
 use Rattle.jvm_model.specs.Profiling.EventLists.{Marking}
@@ -424,7 +424,7 @@ other-suits path mark false e called = record {
   inside = λ within off. false≢true (called within);
 }
 
-module _ (acts : List Act) (p : Program) (code : ℕ → List Operation) (marking : Marking) (step : ℕ) where
+module _ (acts : List Act) (p : Program) (code : ℕ → List (Operation Local)) (marking : Marking) (step : ℕ) where
   -- a method that is called on a profiled activation is a target of what is entered
   called-target : (s : Standing) (method : ℕ) → Keeps acts marking step s → IsCalled p code s.loaded (live_methods s.trace) method
       → is_inside (open_of acts s.trace) ≡ true → is_target p code s.loaded s.entered method ≡ true
@@ -666,7 +666,7 @@ methods-live : (w : World) (n : ℕ) → live_methods (trace_before w n) ≡ met
 methods-live w zero = refl
 methods-live w (suc n) = live-frames w (original w.program) n
 
-module _ (acts : List Act) (w : World) (code : ℕ → List Operation) (from : AreFrom 0 acts) (told : (n : ℕ) → IsTold w code n) where
+module _ (acts : List Act) (w : World) (code : ℕ → List (Operation Local)) (from : AreFrom 0 acts) (told : (n : ℕ) → IsTold w code n) where
   abbrev marking : Marking
   marking = marking_in acts w (original w.program) code
 

@@ -15,7 +15,7 @@ use Rattle.code_model.specs.Instructions.{end_of}
 use Rattle.code_model.specs.Operands.{padding_len}
 use Rattle.code_model.specs.Layout.{home_of, instr_moved, moved_arg, opcode_bytes, operand_len, place_of, size_at, width_of}
 use Rattle.code_model.proofs.Lengths.{size_at-is}
-use Rattle.jvm_model.specs.Basis.Data.{Instruction, Operation}
+use Rattle.jvm_model.specs.Basis.Data.{Instruction, Local, Operation}
 use Rattle.jvm_model.specs.Codes.Lines.{code_instruction, ends, instruction_of, next_of, operation_of, targets_of}
 use Rattle.jvm_model.specs.Codes.Moved.{moved_instruction}
 use Rattle.jvm_model.specs.Codes.Homed.{with_own}
@@ -38,7 +38,7 @@ operand-long h place w (arg.Array code) = refl
 size-same : (h : ℕ → ℕ) (place : ℕ) (i : Instr) → size_at place (instr_moved h place i) ≡ size_at place i
 size-same h place i = size_at-is place (instr_moved h place i) ∙ (ap (λ n. length (opcode_bytes i.wide i.op) + n) (operand-long h place (width_of i) i.arg) ∙ sym (size_at-is place i))
 
-next-moves : (h : ℕ → ℕ) (op : Operation) (at to : ℕ) → to ≡ h at → next_of op to ≡ option_map h (next_of op at)
+next-moves : (h : ℕ → ℕ) (op : Operation Local) (at to : ℕ) → to ≡ h at → next_of op to ≡ option_map h (next_of op at)
 next-moves h op at to same = by (ends op) where
   by : (b : Bool) → cond b None (Some to) ≡ option_map h (cond b None (Some at))
   by true = refl
@@ -58,10 +58,10 @@ module _ (c image : ClassFile) (laid : Laid) (g : Group) (is : IsLaidIn laid g) 
   end-there = ap (λ n. place + n) (size-same h place g.instr) ∙ sym (ap (λ o. unwrap_or o 0) is.next)
 
   -- with what it does
-  abbrev with_operation : ℕ → ℕ → List ℕ → Operation → Instruction
+  abbrev with_operation : ℕ → ℕ → List ℕ → Operation Local → Instruction
   with_operation own to targets o = record { operation = o; own = own; next = next_of o to; targets = targets }
 
-  by-operation : (o : Option Operation) → option_map (with_own g.instr.at) (option_map (with_operation place (end_of there) (targets_of there.arg)) o)
+  by-operation : (o : Option (Operation Local)) → option_map (with_own g.instr.at) (option_map (with_operation place (end_of there) (targets_of there.arg)) o)
       ≡ option_map (moved_instruction h) (option_map (with_operation g.instr.at (end_of g.instr) (targets_of g.instr.arg)) o)
   by-operation None = refl
   by-operation (Some op) =

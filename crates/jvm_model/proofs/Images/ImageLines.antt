@@ -25,7 +25,7 @@ use Rattle.jvm_model.specs.declared.event.Mark.{Mark}
 use Rattle.jvm_model.specs.declared.event.Mark.TheVariants.{Off, Plain, Root}
 use Rattle.jvm_model.specs.declared.operation.Line.{Line}
 use Rattle.jvm_model.specs.declared.operation.Resolved.{Resolved}
-use Rattle.jvm_model.specs.Basis.Data.{Operation, Instruction}
+use Rattle.jvm_model.specs.Basis.Data.{Local, Operation, Instruction}
 use Rattle.jvm_model.specs.Rewriting.Agreement.{IsStart, Agrees, is_return_operation, is_left_by, place_at, leave_probe_of, entry_kind, entry_probe_of}
 use Rattle.jvm_model.specs.Rewriting.Images.{is_off}
 use Rattle.jvm_model.specs.Codes.Lines.{operation_of, ends, next_of, targets_of, instruction_of}
@@ -116,7 +116,7 @@ HasOwnName-alike c image built alike =
     }
 
 -- the line at a start
-abbrev made : Instr → Operation → Resolved → Line
+abbrev made : Instr → Operation Local → Resolved → Line
 made i o q = record { operation = q; own = i.at; next = next_of o (end_of i) }
 
 -- the instruction at a start, and what it does in the image
@@ -142,10 +142,10 @@ pub same-line : (c : ClassFile) (m at : ℕ) (i : Instr) (has : HasLine c m at i
 same-line c m at i has line e = same_Some (made i has.operation has.resolved) line (sym has.lined ∙ e)
 
 -- the line of an instruction of the image, wherever it stands
-decoded-line : (image : ClassFile) (code : List ℕ) (place : ℕ) (i : Instr) (o : Operation) (q : Resolved) → instruction_at code place ≡ Some i → operation_of image i ≡ Some o → resolved_in image o ≡ Some q
+decoded-line : (image : ClassFile) (code : List ℕ) (place : ℕ) (i : Instr) (o : Operation Local) (q : Resolved) → instruction_at code place ≡ Some i → operation_of image i ≡ Some o → resolved_in image o ≡ Some q
     → code_line image code place ≡ Some (made i o q)
 decoded-line image code place i o q here is resolves =
-    let instruction : Operation → Instruction = λ x. record { operation = x; own = i.at; next = next_of x (end_of i); targets = targets_of i.arg } in
+    let instruction : Operation Local → Instruction = λ x. record { operation = x; own = i.at; next = next_of x (end_of i); targets = targets_of i.arg } in
     let line : Resolved → Line = λ x. record { operation = x; own = i.at; next = next_of o (end_of i) } in
     ap (option_and_then (line_of image)) (ap (option_and_then (instruction_of image)) here ∙ ap (option_map instruction) is) ∙ ap (option_map line) resolves
 
@@ -171,7 +171,7 @@ module _ (c image : ClassFile) (marks : List Mark) (homes : List (Option Homes))
       let off : is_left_by marks m line.operation ≡ false = ap (λ b. is_return_operation line.operation && not b) plain.off ∙ and-false (is_return_operation line.operation) in
       let home : (n : ℕ) → home_at homes m n ≡ n = λ n. ap (λ h. home_by h n) plain.unmoved in
       let place : place_at marks homes m at line.operation ≡ at = ap (λ b. cond b (home_at homes m at + 6) (home_at homes m at)) off ∙ home at in
-      let o : Operation = with.has.operation in
+      let o : Operation Local = with.has.operation in
       let there : code_line image start.code.code at ≡ Some (made i o with.has.resolved) = decoded-line image start.code.code at i o with.has.resolved with.here with.operated with.resolves in
       let found : version_line image homes m at ≡ Some (record (made i o with.has.resolved) { own = at }) =
       ap (option_and_then (λ (k : CodeAttribute). placed_line image (homes_at homes m) k.code at)) plain.coded
@@ -295,7 +295,7 @@ module _ (c image : ClassFile) (marks : List Mark) (homes : List (Option Homes))
       let version = laid_version (length c.pool) m laid.mark laid.reading.instrs in
       let place : ℕ = place_of home g in
       let there : Instr = record i { at = place } in
-      let o : Operation = with.has.operation in
+      let o : Operation Local = with.has.operation in
       let decoded : code_line image version.code place ≡ Some (made there o with.has.resolved) = decoded-line image version.code place there o with.has.resolved (laid-instr m at start laid) with.operated with.resolves in
       let placed : placed_line image (Some version.homes) version.code place ≡ Some (record (made there o with.has.resolved) { own = at }) =
       ap (option_and_then (λ own. option_map (λ (l : Line). record l { own = own }) (code_line image version.code place))) (stands.origin_is ∙ ap (λ n. let o : Option ℕ = Some n in o) start.here)

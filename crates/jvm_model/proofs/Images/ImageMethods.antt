@@ -17,7 +17,7 @@ use Rattle.jvm_model.specs.declared.event.Mark.{Mark}
 use Rattle.jvm_model.specs.declared.operation.Resolved.{Resolved}
 use Rattle.jvm_model.specs.declared.operation.Resolved.TheVariants as resolved
 use Rattle.jvm_model.specs.declared.family.Family.TheVariants as family
-use Rattle.jvm_model.specs.Basis.Data.{SymbolicReference, Invokestatic, Operation, Named}
+use Rattle.jvm_model.specs.Basis.Data.{SymbolicReference, Invokestatic, Local, Operation, Named}
 use Rattle.jvm_model.specs.Basis.Descriptors.{same_text}
 use Rattle.jvm_model.specs.Rewriting.Images.{with_code_among, IsMarkedMember, IsMemberImage}
 use Rattle.jvm_model.specs.Codes.Lines.{operation_of}
@@ -84,7 +84,7 @@ own_method-kept c image r k alike e =
     ∙ (ap (λ m. cond (same_text r.class own) m None) (alike.methods r.member) ∙ rest))
 
 -- an instruction does in the image what it does in the class
-pub operation_of-kept : (c image : ClassFile) (i : Instr) (o : Operation) → LooksAlike c image → operation_of c i ≡ Some o → operation_of image i ≡ Some o
+pub operation_of-kept : (c image : ClassFile) (i : Instr) (o : Operation Local) → LooksAlike c image → operation_of c i ≡ Some o → operation_of image i ≡ Some o
 operation_of-kept c image i o alike e = operation-more c image i o (has-more c image alike) e
 
 -- and so with its names looked up
@@ -92,7 +92,7 @@ resolved_name-kept : (c image : ClassFile) (n : SymbolicReference) (q : Resolved
 resolved_name-kept c image (Invokestatic r) q alike e = map-kept resolved.Invokestatic (own_method c r) (own_method image r) q (λ k is. own_method-kept c image r k alike is) e
 resolved_name-kept c image n q alike e = e
 
-pub resolved_in-kept : (c image : ClassFile) (o : Operation) (q : Resolved) → LooksAlike c image → resolved_in c o ≡ Some q → resolved_in image o ≡ Some q
+pub resolved_in-kept : (c image : ClassFile) (o : Operation Local) (q : Resolved) → LooksAlike c image → resolved_in c o ≡ Some q → resolved_in image o ≡ Some q
 resolved_in-kept c image (Named n) q alike e = resolved_name-kept c image n q alike e
 resolved_in-kept c image o q alike e = e
 

@@ -25,7 +25,7 @@ use Rattle.jvm_model.specs.declared.event.EventKind.{EventKind}
 use Rattle.jvm_model.specs.Rewriting.StandsFor.{ProbeCall, probe_kind, invoked_kind, invoked_probe, pushed_number, probe_in}
 use Rattle.jvm_model.specs.Rewriting.Versions.{probe_bytes}
 use Rattle.jvm_model.specs.Basis.Descriptors.{same_text}
-use Rattle.jvm_model.specs.Basis.Data.{Operation, Invokestatic, Named}
+use Rattle.jvm_model.specs.Basis.Data.{Local, Operation, Invokestatic, Named}
 use Rattle.jvm_model.specs.declared.family.Family.TheVariants as family
 use Rattle.jvm_model.specs.Basis.Families.{rows, family_of}
 use Rattle.jvm_model.specs.Codes.Lines.{named_by, operation_by, operation_of}
@@ -144,7 +144,7 @@ invokestatic-elsewhere : family_of 184 ≡ family.NotLocal
 unfolding family_of rows
 invokestatic-elsewhere = refl
 
-invoked_by : (image : ClassFile) (own : List ℕ) (op : ℕ) (a : Arg) (o : Operation) (q : Resolved) → named_class image.pool image.this_class ≡ Some own → is_free_name own ≡ true
+invoked_by : (image : ClassFile) (own : List ℕ) (op : ℕ) (a : Arg) (o : Operation Local) (q : Resolved) → named_class image.pool image.this_class ≡ Some own → is_free_name own ≡ true
     → operation_by image op a (family_of op) ≡ Some o → resolved_in image o ≡ Some q → invoked_kind image op a ≡ None
 invoked_by image own op (arg.Pool index) o q has_name free e resolves = by_opcode (op == 184) refl
   where
@@ -164,6 +164,6 @@ invoked_by image own op (arg.Pool index) o q has_name free e resolves = by_opcod
         ap (λ b. cond b (option_and_then probe_kind (named_method image.pool index)) None) is ∙ (ap (option_and_then probe_kind) found.1 ∙ other-kind found.0 other)
 invoked_by image own op _ o q named free e resolves = refl
 
-pub invoked-none : (image : ClassFile) (own : List ℕ) (i : Instr) (o : Operation) (q : Resolved) → named_class image.pool image.this_class ≡ Some own → is_free_name own ≡ true
+pub invoked-none : (image : ClassFile) (own : List ℕ) (i : Instr) (o : Operation Local) (q : Resolved) → named_class image.pool image.this_class ≡ Some own → is_free_name own ≡ true
     → operation_of image i ≡ Some o → resolved_in image o ≡ Some q → invoked_probe image i ≡ None
 invoked-none image own i o q named free e resolves = invoked_by image own i.op i.arg o q named free e resolves

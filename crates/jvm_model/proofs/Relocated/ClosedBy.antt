@@ -12,7 +12,7 @@ use Rattle.const_pool.specs.declared.class.Handler.{Handler}
 use Rattle.code_model.specs.declared.instr.Instr.{Instr}
 use Rattle.code_model.specs.Instructions.{Reads, end_of, instruction_at}
 use Rattle.code_model.proofs.Readings.{at-instruction_at, instruction_at-past}
-use Rattle.jvm_model.specs.Basis.Data.{MethodPlace, Program, Catcher, Instruction, Operation}
+use Rattle.jvm_model.specs.Basis.Data.{MethodPlace, Program, Catcher, Instruction, Local, Operation}
 use Rattle.jvm_model.specs.Codes.Closed.{IsClosed}
 use Rattle.jvm_model.specs.Codes.Lines.{code_instruction, ends, instruction_of, method_instruction, next_of, operation_of, targets_of}
 use Rattle.jvm_model.specs.Basis.Methods.{method_code}
@@ -79,14 +79,14 @@ inside code at j found e = place-start code.code at j found (by (at == 0 || is_s
 
 record IsOf (code : CodeAttribute) (at : ℕ) (i : Instruction) : Type 0 where
   instr : Instr
-  op : Operation
+  op : Operation Local
   stands : instruction_at code.code at ≡ Some instr
   is : i ≡ record { operation = op; own = instr.at; next = next_of op (end_of instr); targets = targets_of instr.arg }
 
 is-of : (c : ClassFile) (code : CodeAttribute) (at : ℕ) (i : Instruction) → code_instruction c code.code at ≡ Some i → IsOf code at i
 is-of c code at i e = by (instruction_at code.code at) refl e
   where
-    made : (j : Instr) (o : Option Operation) → instruction_at code.code at ≡ Some j
+    made : (j : Instr) (o : Option (Operation Local)) → instruction_at code.code at ≡ Some j
         → option_map (λ op. record { operation = op; own = j.at; next = next_of op (end_of j); targets = targets_of j.arg }) o ≡ Some i → IsOf code at i
     made j None stands e = absurd (none-some i e)
     made j (Some op) stands e =

@@ -14,7 +14,7 @@ use Rattle.code_model.proofs.Readings.{Reads-each, at-instruction_at, instructio
 use Rattle.jvm_model.specs.declared.program.MethodPlace.{MethodPlace}
 use Rattle.jvm_model.specs.declared.program.Program.{Program}
 use Rattle.jvm_model.specs.Codes.Closed.{IsClosed, IsWithin, norm_of}
-use Rattle.jvm_model.specs.Basis.Data.{Catcher, Instruction, Operation}
+use Rattle.jvm_model.specs.Basis.Data.{Catcher, Instruction, Local, Operation}
 use Rattle.jvm_model.specs.Codes.Lines.{code_instruction, ends, instruction_of, method_instruction, next_of, operation_of, targets_of}
 use Rattle.jvm_model.specs.Basis.Methods.{method_code}
 use Rattle.jvm_model.specs.Codes.Moved.{Agrees, self}
@@ -79,7 +79,7 @@ module _ (c : ClassFile) (code : CodeAttribute) (closed : IsClosedCode code) whe
       by false false ia ib h =
           absurd (none-some j (sym (instruction_at-past code.code at (let e : at ≡ length code.code = eqb-true at (length code.code) h in omega (arith, e))) ∙ there))
 
-  next-place : (op : Operation) (k : ℕ) (j : Instr) → slice_get (reading_of code) k ≡ Some j → IfSome (next_of op (end_of j)) (λ n. is_place_of code n ≡ true)
+  next-place : (op : Operation Local) (k : ℕ) (j : Instr) → slice_get (reading_of code) k ≡ Some j → IfSome (next_of op (end_of j)) (λ n. is_place_of code n ≡ true)
   next-place op k j nth = by (ends op) where
     by : (b : Bool) → IfSome (cond b None (Some (end_of j))) (λ n. is_place_of code n ≡ true)
     by true = tt
@@ -91,7 +91,7 @@ module _ (c : ClassFile) (code : CodeAttribute) (closed : IsClosedCode code) whe
   code-next at None i place there e = absurd (none-some i e)
   code-next at (Some j) i place there e = by (operation_of c j) e (at-nth at j place there)
     where
-      by : (o : Option Operation) → option_map (λ op. record { operation = op; own = j.at; next = next_of op (end_of j); targets = targets_of j.arg }) o ≡ Some i
+      by : (o : Option (Operation Local)) → option_map (λ op. record { operation = op; own = j.at; next = next_of op (end_of j); targets = targets_of j.arg }) o ≡ Some i
           → (k : ℕ) × (slice_get (reading_of code) k ≡ Some j) → IfSome i.next (λ n. is_place_of code n ≡ true) × AllByRecursion (λ n. is_place_of code n ≡ true) i.targets
       by None e found = absurd (none-some i e)
       by (Some op) e found =

@@ -10,7 +10,7 @@ use Rattle.const_pool.specs.declared.class.CodeAttribute.{CodeAttribute}
 use Rattle.code_model.specs.declared.instr.Instr.{Instr}
 use Rattle.code_model.specs.Instructions.{instruction_at, end_of}
 use Rattle.code_model.proofs.Readings.{at-instruction_at, instruction_at-past}
-use Rattle.jvm_model.specs.Basis.Data.{MethodPlace, Entry, Active, Initializing, Frame, Operation, Instruction, World}
+use Rattle.jvm_model.specs.Basis.Data.{MethodPlace, Entry, Active, Initializing, Frame, Local, Operation, Instruction, World}
 use Rattle.jvm_model.specs.Codes.Lines.{code_instruction, instruction_of, method_instruction, next_of, operation_of, targets_of}
 use Rattle.jvm_model.specs.Basis.Methods.{method_code}
 use Rattle.jvm_model.specs.Codes.Originals.{original}
@@ -41,10 +41,10 @@ module _ (bytes : List ℕ) where
       by None e rest = tt
       by (Some i) e rest = (ap (instruction_at bytes) (at-instruction_at bytes at i e) ∙ e, rest (end_of i))
 
-  module _ (c : ClassFile) (j : Instr) (op : Operation) (is : operation_of c j ≡ Some op) where
-    has-behind : (o : Option Operation) (ops : List Operation) → Has ops op → Has (cons_option o ops) op
+  module _ (c : ClassFile) (j : Instr) (op : Operation Local) (is : operation_of c j ≡ Some op) where
+    has-behind : (o : Option (Operation Local)) (ops : List (Operation Local)) → Has ops op → Has (cons_option o ops) op
     has-behind None ops has = has
-    has-behind (Some k) ops has = record { front = k ∷ has.front; rest = has.rest; is = ap (λ (l : List Operation). k ∷ l) has.is }
+    has-behind (Some k) ops has = record { front = k ∷ has.front; rest = has.rest; is = ap (λ (l : List (Operation Local)). k ∷ l) has.is }
 
     has-made : (js : List Instr) (at : ℕ) → Stand js → is_start_in js at ≡ true → instruction_at bytes at ≡ Some j → Has (filter_map (operation_of c) js) op
     has-made [] at stand start found = absurd (false≢true start)
@@ -88,7 +88,7 @@ reading-has : (c : ClassFile) (position at : ℕ) (i : Instruction) → (is_plac
     → Has (filter_map (operation_of c) (method_reading c position)) i.operation
 reading-has c position at i place found = by (method_code c position) place found
   where
-    made : (bytes : List ℕ) (j : Instr) (o : Option Operation) → operation_of c j ≡ o → is_start_in (read_from (length bytes) bytes 0) at ≡ true → instruction_at bytes at ≡ Some j
+    made : (bytes : List ℕ) (j : Instr) (o : Option (Operation Local)) → operation_of c j ≡ o → is_start_in (read_from (length bytes) bytes 0) at ≡ true → instruction_at bytes at ≡ Some j
         → option_map (λ op. record { operation = op; own = j.at; next = next_of op (end_of j); targets = targets_of j.arg }) o ≡ Some i
         → Has (filter_map (operation_of c) (read_from (length bytes) bytes 0)) i.operation
     made bytes j None is start stands e = absurd (none-some i e)

@@ -3,7 +3,7 @@
 use Rattle.std.proofs.Common.{◌≡◌, ℕ, zero, suc, Bool, true, false, List, [], ◌∷◌, ◌++◌, Option, Some, None, ◌&&◌, refl, sym, ap, subst, ◌∙◌}
 use Rattle.std.specs.Option.{option_map, option_map_or}
 use Rattle.std.proofs.lemmas.Option.{same_Some}
-use Rattle.jvm_model.specs.Basis.Data.{Locals, Operands, Frame, Entry, Active, Initializing, Shared, Ending, State, Turn, Operation, Instruction, Listing, Outcome, Initializes, Done, World}
+use Rattle.jvm_model.specs.Basis.Data.{Locals, Operands, Frame, Entry, Active, Initializing, Shared, Ending, State, Turn, Local, Operation, Instruction, Listing, Outcome, Initializes, Done, World}
 use Rattle.jvm_model.specs.Basis.SharedState.{arguments_fit, phase_of}
 use Rattle.jvm_model.specs.Instructions.Does.{does, loads}
 use Rattle.jvm_model.specs.Classes.Load.{Fault}
@@ -51,7 +51,7 @@ module _ (norm : ℕ → ℕ → ℕ) where
 -- ---- what becomes of a placed state
 
 -- the outcome of a placed frame has places alone
-pub done-placed : (h : ℕ → ℕ) (w : World) (op : Operation) (s : Shared) (l : Locals) (o : Operands) → moved_locals h l ≡ l → moved_operands h o ≡ o → moved_done h (does w op s l o) ≡ does w op s l o
+pub done-placed : (h : ℕ → ℕ) (w : World) (op : Operation Local) (s : Shared) (l : Locals) (o : Operands) → moved_locals h l ≡ l → moved_operands h o ≡ o → moved_done h (does w op s l o) ≡ does w op s l o
 done-placed h w op s l o ls os = sym (does-moves h w op s l o) ∙ (ap (λ x. does w op s x (moved_operands h o)) ls ∙ ap (does w op s l) os)
 
 module _ (norm : ℕ → ℕ → ℕ) (w : World) (t : Listing) (own : Agrees norm (self norm) t t) where

@@ -8,7 +8,7 @@ use Rattle.std.specs.Option.{IfSome, option_map_or}
 use Rattle.std.proofs.lemmas.Bool.{false≢true}
 use Rattle.heap_objects.specs.declared.Value.TheVariants.{Ref}
 use Rattle.frame_stack.specs.Widths.{height_of}
-use Rattle.jvm_model.specs.Basis.Data.{Ending, MethodPlace, Program, Frame, Entry, Active, Initializing, Part, Constants, Superclass, Initializer, Finish, Phase, Fresh, Running, Ready, Erroneous, Shared, State, Locals, Operands, Change, Loads, Began, Left, Unwound, Turn, Instruction, Listing, Operation, Done, World}
+use Rattle.jvm_model.specs.Basis.Data.{Ending, MethodPlace, Program, Frame, Entry, Active, Initializing, Part, Constants, Superclass, Initializer, Finish, Phase, Fresh, Running, Ready, Erroneous, Shared, State, Locals, Operands, Change, Loads, Began, Left, Unwound, Turn, Instruction, Listing, Local, Operation, Done, World}
 use Rattle.jvm_model.specs.Basis.Data as operation
 use Rattle.jvm_model.specs.Running.Applies.{still, with_frame, breaks, goes, new_frame, has_room, live_in, most_live, applies}
 use Rattle.jvm_model.specs.Running.Changes.{methods, without_first, after_changes, EndThenBegin, AreOrdered}
@@ -47,7 +47,7 @@ if-both : {A : Type 0} (o : Option A) (P Q : A → Type 0) → IfSome o P → If
 if-both None P Q first second = tt
 if-both (Some x) P Q first second = (first, second)
 
-module _ (w : World) (fit : IsFit w.program) (bare : HasBareObject w.program) (code : ℕ → List Operation) (main_is : is_some (place_of_method w.program w.program.main) ≡ true) where
+module _ (w : World) (fit : IsFit w.program) (bare : HasBareObject w.program) (code : ℕ → List (Operation Local)) (main_is : is_some (place_of_method w.program w.program.main) ≡ true) where
   abbrev p : Program
   p = w.program
 
@@ -102,10 +102,10 @@ module _ (w : World) (fit : IsFit w.program) (bare : HasBareObject w.program) (c
       settled-both s.shared.loaded (f.method ∷ methods s.stack) climbs (applies w t i d.outcome after f)
       (applied, applies-calls w code s.shared.loaded i d.outcome after f due begins)
 
-  loads-same : (op : Operation) (a b : Shared) (o : Operands) → a.loaded ≡ b.loaded → loads w op a o ≡ loads w op b o
+  loads-same : (op : Operation Local) (a b : Shared) (o : Operands) → a.loaded ≡ b.loaded → loads w op a o ≡ loads w op b o
   loads-same op a b o e = by op
     where
-      by : (op : Operation) → loads w op a o ≡ loads w op b o
+      by : (op : Operation Local) → loads w op a o ≡ loads w op b o
       by (operation.Named n) = ap (λ loaded. newly_loaded p loaded n o) e
       by (operation.Within i) = refl
       by operation.Athrow = refl

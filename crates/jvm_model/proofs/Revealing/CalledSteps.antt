@@ -7,7 +7,7 @@ use Rattle.std.proofs.lemmas.Bool.{false≢true}
 use Rattle.heap_objects.specs.declared.datum.Datum.{Datum}
 use Rattle.heap_objects.specs.declared.Value.TheVariants.{Ref, Addr}
 use Rattle.frame_stack.specs.Widths.{height_of}
-use Rattle.jvm_model.specs.Basis.Data.{Ending, Program, Frame, Entry, Active, Initializing, Part, Constants, Superclass, Initializer, Finish, Phase, Fresh, Running, Ready, Erroneous, State, Locals, Operands, Change, Loads, Began, Left, Unwound, Turn, Instruction, Listing, Operation, Outcome, GoesOn, Subroutine, Invokes, Returns, Throws, Raises, Initializes, Exits, Breaks, World}
+use Rattle.jvm_model.specs.Basis.Data.{Ending, Program, Frame, Entry, Active, Initializing, Part, Constants, Superclass, Initializer, Finish, Phase, Fresh, Running, Ready, Erroneous, State, Locals, Operands, Change, Loads, Began, Left, Unwound, Turn, Instruction, Listing, Local, Operation, Outcome, GoesOn, Subroutine, Invokes, Returns, Throws, Raises, Initializes, Exits, Breaks, World}
 use Rattle.jvm_model.specs.Running.Applies.{still, with_frame, breaks, goes, new_frame, place_of, enters_subroutine, has_room, live_in, most_live, begins, begins_beside, resumes, gives_back, applies}
 use Rattle.jvm_model.specs.Running.Changes.{methods, without_first, after_changes}
 use Rattle.jvm_model.specs.Classes.Load.{is_among}
@@ -27,18 +27,18 @@ use Rattle.jvm_model.specs.Profiling.Targets.{begun_by_operation, targets_in}
 -- ---- lists
 
 -- the operation stands among these
-pub record Has (operations : List Operation) (op : Operation) : Type 0 where
-  pub front : List Operation
-  pub rest : List Operation
+pub record Has (operations : List (Operation Local)) (op : Operation Local) : Type 0 where
+  pub front : List (Operation Local)
+  pub rest : List (Operation Local)
   pub is : operations ≡ front ++ op ∷ rest
 
-front-targets : (p : Program) (loaded : List ℕ) (front rest : List Operation) (op : Operation) (m : ℕ) → is_among m (begun_by_operation p loaded op) ≡ true
+front-targets : (p : Program) (loaded : List ℕ) (front rest : List (Operation Local)) (op : Operation Local) (m : ℕ) → is_among m (begun_by_operation p loaded op) ≡ true
     → is_among m (targets_in p loaded (front ++ op ∷ rest)) ≡ true
 front-targets p loaded [] rest op m e = among-first m (begun_by_operation p loaded op) (targets_in p loaded rest) e
 front-targets p loaded (o ∷ front) rest op m e =
     among-second m (begun_by_operation p loaded o) (targets_in p loaded (front ++ op ∷ rest)) (front-targets p loaded front rest op m e)
 
-pub has-targets : (p : Program) (loaded : List ℕ) (operations : List Operation) (op : Operation) → Has operations op → (m : ℕ) → is_among m (begun_by_operation p loaded op) ≡ true
+pub has-targets : (p : Program) (loaded : List ℕ) (operations : List (Operation Local)) (op : Operation Local) → Has operations op → (m : ℕ) → is_among m (begun_by_operation p loaded op) ≡ true
     → is_among m (targets_in p loaded operations) ≡ true
 has-targets p loaded operations op has m e =
     subst (λ ops. is_among m (targets_in p loaded ops) ≡ true) (sym has.is) (front-targets p loaded has.front has.rest op m e)
@@ -54,7 +54,7 @@ all-at P (y ∷ xs) x each there = by (x == y) refl there (λ h. all-at P xs x e
 -- ---- changes
 
 -- what begins is called
-abbrev pub Targeted : Program → (ℕ → List Operation) → List ℕ → List ℕ → List Change → Type 0
+abbrev pub Targeted : Program → (ℕ → List (Operation Local)) → List ℕ → List ℕ → List Change → Type 0
 Targeted p code loaded ms [] = Unit {0}
 Targeted p code loaded ms (Loads classes ∷ more) = Targeted p code loaded ms more
 Targeted p code loaded ms (Began m ∷ more) = IsCalled p code loaded ms m × Targeted p code loaded (m ∷ ms) more
@@ -69,7 +69,7 @@ Placed p (Began m ∷ more) = (is_some (place_of_method p m) ≡ true) × Placed
 Placed p (Left ∷ more) = Placed p more
 Placed p (Unwound ∷ more) = Placed p more
 
-targeted-append : (p : Program) (code : ℕ → List Operation) (loaded ms : List ℕ) (a b : List Change) → Targeted p code loaded ms a → Targeted p code loaded (after_changes ms a) b
+targeted-append : (p : Program) (code : ℕ → List (Operation Local)) (loaded ms : List ℕ) (a b : List Change) → Targeted p code loaded ms a → Targeted p code loaded (after_changes ms a) b
     → Targeted p code loaded ms (a ++ b)
 targeted-append p code loaded ms [] b first second = second
 targeted-append p code loaded ms (Loads classes ∷ more) b first second = targeted-append p code loaded ms more b first second
@@ -105,7 +105,7 @@ begins-more p loaded ms more within (Initializes c) is = λ d m there sub e. wit
 begins-more p loaded ms more within (Exits n) is = tt
 begins-more p loaded ms more within (Breaks ends) is = tt
 
-module _ (w : World) (code : ℕ → List Operation) where
+module _ (w : World) (code : ℕ → List (Operation Local)) where
   abbrev p : Program
   p = w.program
 

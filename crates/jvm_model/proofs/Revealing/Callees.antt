@@ -23,7 +23,7 @@ use Rattle.native_effects.specs.declared.effects.answer.Answer.TheVariants as an
 use Rattle.native_ops.specs.Methods.Calls.{answer_by}
 use Rattle.native_effects.specs.Effects.Making.{answer_of_class}
 use Rattle.native_effects.specs.Inputs.Numbers.{out_of_memory_error}
-use Rattle.jvm_model.specs.Basis.Data.{MethodPlace, Program, Phase, Fresh, Running, Ready, Erroneous, Shared, Operation, Within, Athrow, Monitor, Newarray, Arraylength, LoadElement, StoreElement, LdcString, Locals, Operands, World, Outcome, GoesOn, Next, Throws, Raises, Breaks, Done}
+use Rattle.jvm_model.specs.Basis.Data.{MethodPlace, Program, Phase, Fresh, Running, Ready, Erroneous, Shared, Local, Operation, Within, Athrow, Monitor, Newarray, Arraylength, LoadElement, StoreElement, LdcString, Locals, Operands, World, Outcome, GoesOn, Next, Throws, Raises, Breaks, Done}
 use Rattle.jvm_model.specs.Basis.Values.{as_value, int_of, ref_of}
 use Rattle.jvm_model.specs.Basis.Data as operation
 use Rattle.jvm_model.specs.Instructions.CreationRules.{allocates, answers, array_over, casts, casts_to, class_cast, counts_of, has_no_instances, instantiation_error, is_text_class, lengths_of, makes_arrays, makes_by_counts, makes_instance, makes_multi, makes_new, makes_object, slots_of_arrays, tells_instance, with_arrays, zero_of}
@@ -41,7 +41,7 @@ use Rattle.jvm_model.specs.Instructions.ConstantRules.{pushes_object_of}
 use Rattle.jvm_model.specs.Running.Constants.{can_intern}
 use Rattle.jvm_model.specs.Instructions.Does.{does, loads}
 use Rattle.jvm_model.specs.Instructions.ReferenceRules.{does_named}
-use Rattle.jvm_model.specs.Instructions.ObjectRules.{Access, ToNull, ToAnother, Outside, Inside, Storing, access_to, array_kind, done, fits_array, makes, place_of, stores_at, stores_element, storing_of}
+use Rattle.jvm_model.specs.Instructions.ObjectRules.{Access, ToNull, ToAnother, Outside, Inside, Storing, access_to, done, fits_array, makes, place_of, stores_at, stores_element, storing_of}
 use Rattle.jvm_model.specs.Basis.Methods.{method_named}
 use Rattle.jvm_model.specs.Basis.Programs.{class_at, class_named, has_name, initializer_name, initializer_of, number_from, number_of_method, place_of_method, same_place}
 use Rattle.jvm_model.specs.Instructions.Rules.{class_initialized, when_ready}
@@ -745,7 +745,7 @@ module _ (w : World) (fit : IsFit w.program) (s : Shared) (is : IsSoundShared w.
           received (receives_class above) = in_class class is_class named there above
           received (receives_array is_object) = in_array is_object
 
-      by : (o : Option ℕ) → kind_at object s.heap ≡ o → is_below_kind p o (Some kind) ≡ true → HasReceiver name kind (option_map_or (class_of_kind p) o 0)
+      by : (o : Option ℕ) → kind_at object s.heap ≡ o → is_below_kind p o (Some kind) ≡ true → HasReceiver name kind (option_map_or (class_of_kind p) o (user_count p))
       by None at sub = absurd (false≢true sub)
       by (Some lower) at sub = of lower (object-usable p s.loaded s.heap object lower is.objects at).of_class is_kind.0 sub
 
@@ -964,12 +964,12 @@ module _ (w : World) (fit : IsFit w.program) (s : Shared) (is : IsSoundShared w.
   store-idle ms k None l o = tt
   store-idle ms k (Some x) l o = stores-idle ms (access_to k x.array x.index s.heap) x.array x.index x.datum l o
 
-  pub does-due : (op : Operation) (l : Locals) (o : Operands) → loads w op s o ≡ [] → Begins p s.loaded (begun_by_operation p s.loaded op) (does w op s l o).outcome
+  pub does-due : (op : Operation Local) (l : Locals) (o : Operands) → loads w op s o ≡ [] → Begins p s.loaded (begun_by_operation p s.loaded op) (does w op s l o).outcome
   does-due (Within i) l o nothing = within-sound p s.loaded [] i l o
   does-due (operation.Named n) l o nothing = named-rule n l o (whole-by n o nothing)
   does-due Athrow l o nothing = throws-sound p s.loaded [] w s (ref_of o)
   does-due Monitor l o nothing = watches-sound p s.loaded [] (ref_of o) l o
-  does-due (Newarray code) l o nothing = array-idle [] (array_kind code) (int_of o) l o
+  does-due (Newarray kind) l o nothing = array-idle [] kind (int_of o) l o
   does-due Arraylength l o nothing = measures-sound p s.loaded [] (ref_of o) s l o
   does-due (LoadElement k) l o nothing = element-sound p s.loaded [] k (place_of o) s l o
   does-due (StoreElement k) l o nothing = store-idle [] k (storing_of k o) l o

@@ -5,7 +5,7 @@ use Rattle.std.specs.Prelude.{filter, filter_map, flat_map, Option, Some, None, 
 use Rattle.std.specs.Option.{option_and_then, option_map_or}
 use Rattle.std.proofs.lemmas.Bool.{false≢true, or_right}
 use Rattle.const_pool.specs.References.{Reference}
-use Rattle.jvm_model.specs.Basis.Data.{Program, Operation, Within, Named, Athrow, Monitor, Newarray, Arraylength, LoadElement, StoreElement, LdcString}
+use Rattle.jvm_model.specs.Basis.Data.{Program, Local, Operation, Within, Named, Athrow, Monitor, Newarray, Arraylength, LoadElement, StoreElement, LdcString}
 use Rattle.jvm_model.specs.Instructions.SymbolicReference.{SymbolicReference, New, Getfield, Putfield, Getstatic, Putstatic, Invokevirtual, Invokespecial, Invokestatic, Invokeinterface, Checkcast, Instanceof, Anewarray, Multianewarray, LdcClass}
 use Rattle.jvm_model.specs.Instructions.FieldRules.{is_static_field}
 use Rattle.jvm_model.specs.Instructions.InvocationRules.{Selecting, Virtual, OfInterface, Special, names_interface, selected_by}
@@ -229,19 +229,19 @@ module _ (p : Program) (loaded : List ℕ) (new : ℕ) (above : HasSupertypes p 
   begun-more (Multianewarray name dimensions) m h = absurd (false≢true h)
   begun-more (LdcClass name) m h = absurd (false≢true h)
 
-  operation-more : (op : Operation) (m : ℕ) → is_among m (begun_by_operation p all op) ≡ true → Or m (begun_by_operation p loaded op) (gained_by_operation p loaded new op)
+  operation-more : (op : Operation Local) (m : ℕ) → is_among m (begun_by_operation p all op) ≡ true → Or m (begun_by_operation p loaded op) (gained_by_operation p loaded new op)
   operation-more (Named n) m h = begun-more n m h
   operation-more (Within i) m h = absurd (false≢true h)
   operation-more Athrow m h = absurd (false≢true h)
   operation-more Monitor m h = absurd (false≢true h)
-  operation-more (Newarray code) m h = absurd (false≢true h)
+  operation-more (Newarray kind) m h = absurd (false≢true h)
   operation-more Arraylength m h = absurd (false≢true h)
   operation-more (LoadElement k) m h = absurd (false≢true h)
   operation-more (StoreElement k) m h = absurd (false≢true h)
   operation-more (LdcString units) m h = absurd (false≢true h)
 
   -- Whatever is a target then was one before, or is gained.
-  pub targets-gain : (operations : List Operation) (m : ℕ) → is_among m (targets_in p all operations) ≡ true
+  pub targets-gain : (operations : List (Operation Local)) (m : ℕ) → is_among m (targets_in p all operations) ≡ true
       → Or m (targets_in p loaded operations) (gained_in p loaded new operations)
   targets-gain [] m h = absurd (false≢true h)
   targets-gain (op ∷ rest) m h = by (among-either m (begun_by_operation p all op) (targets_in p all rest) h) (targets-gain rest m)
@@ -325,18 +325,18 @@ module _ (p : Program) (loaded : List ℕ) (new : ℕ) (above : HasSupertypes p 
   begun-gains (Multianewarray name dimensions) m h = absurd (false≢true h)
   begun-gains (LdcClass name) m h = absurd (false≢true h)
 
-  operation-gains : (op : Operation) (m : ℕ) → is_among m (gained_by_operation p loaded new op) ≡ true → is_among m (begun_by_operation p all op) ≡ true
+  operation-gains : (op : Operation Local) (m : ℕ) → is_among m (gained_by_operation p loaded new op) ≡ true → is_among m (begun_by_operation p all op) ≡ true
   operation-gains (Named n) m h = begun-gains n m h
   operation-gains (Within i) m h = absurd (false≢true h)
   operation-gains Athrow m h = absurd (false≢true h)
   operation-gains Monitor m h = absurd (false≢true h)
-  operation-gains (Newarray code) m h = absurd (false≢true h)
+  operation-gains (Newarray kind) m h = absurd (false≢true h)
   operation-gains Arraylength m h = absurd (false≢true h)
   operation-gains (LoadElement k) m h = absurd (false≢true h)
   operation-gains (StoreElement k) m h = absurd (false≢true h)
   operation-gains (LdcString units) m h = absurd (false≢true h)
 
-  pub gained-targets : (operations : List Operation) (m : ℕ) → is_among m (gained_in p loaded new operations) ≡ true → is_among m (targets_in p all operations) ≡ true
+  pub gained-targets : (operations : List (Operation Local)) (m : ℕ) → is_among m (gained_in p loaded new operations) ≡ true → is_among m (targets_in p all operations) ≡ true
   gained-targets [] m h = absurd (false≢true h)
   gained-targets (op ∷ rest) m h = by (among-either m (gained_by_operation p loaded new op) (gained_in p loaded new rest) h) (gained-targets rest m)
     where

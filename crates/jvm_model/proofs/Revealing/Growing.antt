@@ -5,7 +5,7 @@ use Rattle.std.specs.List.{cons_option}
 use Rattle.std.specs.Option.{option_and_then, option_map_or}
 use Rattle.std.proofs.lemmas.Bool.{false≢true}
 use Rattle.const_pool.specs.References.{Reference}
-use Rattle.jvm_model.specs.Basis.Data.{Program, Operation, Within, Named, Athrow, Monitor, Newarray, Arraylength, LoadElement, StoreElement, LdcString}
+use Rattle.jvm_model.specs.Basis.Data.{Program, Local, Operation, Within, Named, Athrow, Monitor, Newarray, Arraylength, LoadElement, StoreElement, LdcString}
 use Rattle.jvm_model.specs.Instructions.SymbolicReference.{SymbolicReference, New, Getfield, Putfield, Getstatic, Putstatic, Invokevirtual, Invokespecial, Invokestatic, Invokeinterface, Checkcast, Instanceof, Anewarray, Multianewarray, LdcClass}
 use Rattle.jvm_model.specs.Instructions.FieldRules.{is_static_field}
 use Rattle.jvm_model.specs.Instructions.InvocationRules.{Selecting, Virtual, OfInterface, Special, names_interface, selected_by}
@@ -139,18 +139,18 @@ module _ (p : Program) (loaded more : List ℕ) where
   begun-grows (Multianewarray name dimensions) = none []
   begun-grows (LdcClass name) = none []
 
-  operation-grows : (op : Operation) → Among (begun_by_operation p loaded op) (begun_by_operation p all op)
+  operation-grows : (op : Operation Local) → Among (begun_by_operation p loaded op) (begun_by_operation p all op)
   operation-grows (Named n) = begun-grows n
   operation-grows (Within i) = none []
   operation-grows Athrow = none []
   operation-grows Monitor = none []
-  operation-grows (Newarray code) = none []
+  operation-grows (Newarray kind) = none []
   operation-grows Arraylength = none []
   operation-grows (LoadElement k) = none []
   operation-grows (StoreElement k) = none []
   operation-grows (LdcString units) = none []
 
-  pub targets-grow : (operations : List Operation) → Among (targets_in p loaded operations) (targets_in p all operations)
+  pub targets-grow : (operations : List (Operation Local)) → Among (targets_in p loaded operations) (targets_in p all operations)
   targets-grow [] = none []
   targets-grow (op ∷ rest) =
       either (begun_by_operation p loaded op) (targets_in p loaded rest) (begun_by_operation p all op) (targets_in p all rest) (operation-grows op) (targets-grow rest)

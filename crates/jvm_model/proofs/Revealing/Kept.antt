@@ -6,7 +6,7 @@ use Rattle.std.specs.Prelude.{filter_map, flat_map, Option, Some, None, ◌==◌
 use Rattle.std.specs.List.{cons_option}
 use Rattle.std.specs.Option.{option_and_then, option_map, option_map_or}
 use Rattle.const_pool.specs.References.{Reference}
-use Rattle.jvm_model.specs.Basis.Data.{Program, Operation, Within, Named, Athrow, Monitor, Newarray, Arraylength, LoadElement, StoreElement, LdcString}
+use Rattle.jvm_model.specs.Basis.Data.{Program, Local, Operation, Within, Named, Athrow, Monitor, Newarray, Arraylength, LoadElement, StoreElement, LdcString}
 use Rattle.jvm_model.specs.Instructions.SymbolicReference.{SymbolicReference, New, Getfield, Putfield, Getstatic, Putstatic, Invokevirtual, Invokespecial, Invokestatic, Invokeinterface, Checkcast, Instanceof, Anewarray, Multianewarray, LdcClass}
 use Rattle.jvm_model.specs.Instructions.InvocationRules.{Selecting, Virtual, OfInterface, names_interface, selected_by}
 use Rattle.jvm_model.specs.Classes.Load.{is_among}
@@ -24,10 +24,10 @@ among-append m (x ∷ xs) ys = by (m == x) (among-append m xs ys)
     by false e = e
 
 module _ (p : Program) (loaded : List ℕ) (new : ℕ) where
-  abbrev named_part : Operation → List ℕ
+  abbrev named_part : Operation Local → List ℕ
   named_part op = option_map_or (named_gain p loaded new) (symbolic_reference_in op) []
 
-  abbrev call_part : Operation → List ℕ
+  abbrev call_part : Operation Local → List ℕ
   call_part op = option_map_or (call_gain p new) (call_in p loaded op) []
 
   -- the gain of a call, by the call that is kept
@@ -51,7 +51,7 @@ module _ (p : Program) (loaded : List ℕ) (new : ℕ) where
       at (Some class) = mapped class (found_where (is_static p) false (resolved_method p class (names_interface by) r.member))
 
   -- an operation's gain is that of its name and that of its call
-  operation-kept : (op : Operation) → gained_by_operation p loaded new op ≡ named_part op ++ call_part op
+  operation-kept : (op : Operation Local) → gained_by_operation p loaded new op ≡ named_part op ++ call_part op
   operation-kept (Named (New name)) = sym (append-nil (gained_by p loaded new (New name)))
   operation-kept (Named (Getstatic r)) = sym (append-nil (gained_by p loaded new (Getstatic r)))
   operation-kept (Named (Putstatic r)) = sym (append-nil (gained_by p loaded new (Putstatic r)))
@@ -69,13 +69,13 @@ module _ (p : Program) (loaded : List ℕ) (new : ℕ) where
   operation-kept (Within i) = refl
   operation-kept Athrow = refl
   operation-kept Monitor = refl
-  operation-kept (Newarray code) = refl
+  operation-kept (Newarray kind) = refl
   operation-kept Arraylength = refl
   operation-kept (LoadElement k) = refl
   operation-kept (StoreElement k) = refl
   operation-kept (LdcString units) = refl
 
-  flat-made : (A : Type 0) (f : A → List ℕ) (g : Operation → Option A) (op : Operation) (rest : List Operation)
+  flat-made : (A : Type 0) (f : A → List ℕ) (g : Operation Local → Option A) (op : Operation Local) (rest : List (Operation Local))
       → flat_map f (filter_map g (op ∷ rest)) ≡ option_map_or f (g op) [] ++ flat_map f (filter_map g rest)
   flat-made A f g op rest = by (g op)
     where
@@ -97,7 +97,7 @@ module _ (p : Program) (loaded : List ℕ) (new : ℕ) where
       exchanged false false c d = refl
 
   -- What is gained by operations is gained from what is kept of them.
-  pub kept-gains : (operations : List Operation) (m : ℕ)
+  pub kept-gains : (operations : List (Operation Local)) (m : ℕ)
       → is_among m (gained_in p loaded new operations) ≡ is_among m (gained_from p loaded new (symbolic_references_of operations) (calls_of p loaded operations))
   kept-gains [] m = refl
   kept-gains (op ∷ rest) m =

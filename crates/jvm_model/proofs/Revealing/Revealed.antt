@@ -5,7 +5,7 @@ use Rattle.std.specs.List.{list_any}
 use Rattle.std.proofs.lemmas.Bool.{false≢true}
 use Rattle.jvm_model.specs.declared.event.Act.{Act}
 use Rattle.jvm_model.specs.declared.event.Mark.TheVariants.{Off, Plain, Root}
-use Rattle.jvm_model.specs.Basis.Data.{Program, Operation}
+use Rattle.jvm_model.specs.Basis.Data.{Program, Local, Operation}
 use Rattle.jvm_model.specs.Classes.Load.{is_among}
 use Rattle.jvm_model.specs.Soundness.Sound.{HasSupertypes}
 use Rattle.jvm_model.proofs.Revealing.Gained.{gained-targets, targets-gain}
@@ -15,7 +15,7 @@ use Rattle.jvm_model.specs.Profiling.Points.{Standing, methods_selected, has_cla
 use Rattle.jvm_model.specs.Profiling.Revelation.{gained_in}
 use Rattle.jvm_model.specs.Profiling.Targets.{targets_in}
 
-module _ (p : Program) (code : ℕ → List Operation) where
+module _ (p : Program) (code : ℕ → List (Operation Local)) where
   -- an action changes the mark of its own method alone
   pub act-changes : (s : Standing) (act : Act) (m : ℕ) → (act.method == m) ≡ false → mark_in p code (record s { selected = methods_selected act s.selected }) m ≡ mark_in p code s m
   act-changes s act m other =
@@ -46,7 +46,7 @@ module _ (p : Program) (code : ℕ → List Operation) where
     both-ways false false true split first second = elim (split refl) [ inl e ↦ absurd (false≢true e) | inr e ↦ absurd (false≢true e) ]
     both-ways false false false split first second = refl
 
-    one-caller : (operations : List Operation)
+    one-caller : (operations : List (Operation Local))
         → is_among m (targets_in p (loaded ++ new ∷ []) operations) ≡ (is_among m (targets_in p loaded operations) || is_among m (gained_in p loaded new operations))
     one-caller operations =
         both-ways (is_among m (targets_in p loaded operations)) (is_among m (gained_in p loaded new operations)) (is_among m (targets_in p (loaded ++ new ∷ []) operations))

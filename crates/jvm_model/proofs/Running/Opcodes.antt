@@ -38,6 +38,7 @@ use Rattle.jvm_model.specs.Small.SmallClass.{is_return}
 use Rattle.jvm_model.specs.Rewriting.Versions.{is_return_opcode}
 use Rattle.jvm_model.specs.declared.operation.Resolved.{Resolved}
 use Rattle.jvm_model.specs.declared.operation.Resolved.TheVariants as resolved
+use Rattle.jvm_model.specs.Instructions.ObjectRules.{array_kind}
 
 -- ---- a test of each number below a bound
 
@@ -218,12 +219,12 @@ reference-goes_on c (Invokevirtual r) q e = elim (chosen (is_println r) (Some re
 reference-goes_on c n q e = absurd (none-some q e)
 
 -- the operation is one that names what was found
-pub record IsSymbolicReference (found : Option SymbolicReference) (o : Operation) : Type 0 where
+pub record IsSymbolicReference (found : Option SymbolicReference) (o : Operation Local) : Type 0 where
   pub reference : SymbolicReference
   pub is : found ≡ Some reference
   pub named : Named reference ≡ o
 
-pub named_by-is : (found : Option SymbolicReference) (o : Operation) → option_and_then named_by found ≡ Some o → IsSymbolicReference found o
+pub named_by-is : (found : Option SymbolicReference) (o : Operation Local) → option_and_then named_by found ≡ Some o → IsSymbolicReference found o
 named_by-is None o e = absurd (none-some o e)
 named_by-is (Some n) o e = by_test (has_dimensions n) e
   where
@@ -257,10 +258,10 @@ multi-stays c op index dimensions n = row-stays op 197 _ None n (refl, refl) (λ
 
 -- ---- no small class has instructions that see objects
 
-abbrev IsUnresolved : ClassFile → Operation → Type 0
+abbrev IsUnresolved : ClassFile → Operation Local → Type 0
 IsUnresolved c o = resolved_in c o ≡ None
 
-among-unresolved : (c : ClassFile) (op : ℕ) (o : Operation) (rows : List ObjectRow) → AllByRecursion (λ (r : ObjectRow). IsUnresolved c r.operation) rows
+among-unresolved : (c : ClassFile) (op : ℕ) (o : Operation Local) (rows : List ObjectRow) → AllByRecursion (λ (r : ObjectRow). IsUnresolved c r.operation) rows
     → object_among rows op ≡ Some o → IsUnresolved c o
 among-unresolved c op o [] all e = absurd (none-some o e)
 among-unresolved c op o (r ∷ rest) all e = elim (chosen (op == r.op) (Some r.operation) (object_among rest op) o e) [
@@ -268,13 +269,13 @@ among-unresolved c op o (r ∷ rest) all e = elim (chosen (op == r.op) (Some r.o
   | inr more ↦ among-unresolved c op o rest all.1 more
 ]
 
-object-unresolved : (c : ClassFile) (op : ℕ) (o : Operation) → object_among object_rows op ≡ Some o → IsUnresolved c o
+object-unresolved : (c : ClassFile) (op : ℕ) (o : Operation Local) → object_among object_rows op ≡ Some o → IsUnresolved c o
 object-unresolved c op o e =
     among-unresolved c op o object_rows (refl, (refl, (refl, (refl, (refl, (refl, (refl, (refl, (refl, (refl, (refl, (refl, (refl, (refl, (refl, (refl, tt)))))))))))))))) e
 
-newarray-unresolved : (c : ClassFile) (op code : ℕ) (o : Operation) → newarray_of op code ≡ Some o → IsUnresolved c o
-newarray-unresolved c op code o e = elim (chosen (op == 188 && is_in_range 4 11 code) (Some (Newarray code)) None o e) [
-  | inl is ↦ subst (IsUnresolved c) (same_Some (Newarray code) o is.1) refl
+newarray-unresolved : (c : ClassFile) (op code : ℕ) (o : Operation Local) → newarray_of op code ≡ Some o → IsUnresolved c o
+newarray-unresolved c op code o e = elim (chosen (op == 188 && is_in_range 4 11 code) (Some (Newarray (array_kind code))) None o e) [
+  | inl is ↦ subst (IsUnresolved c) (same_Some (Newarray (array_kind code)) o is.1) refl
   | inr none ↦ absurd (none-some o none)
 ]
 
@@ -284,14 +285,14 @@ abbrev returns_alike : ℕ → Resolved → Type 0
 returns_alike op q = (is_return_operation q ≡ is_return_opcode op) × ((op == 172 || op == 177) ≡ is_return_opcode op)
 
 -- what names something
-named-returns : (c : ClassFile) (op : ℕ) (found : Option SymbolicReference) (o : Operation) (q : Resolved) → ((n : SymbolicReference) → found ≡ Some n → stays_at op)
+named-returns : (c : ClassFile) (op : ℕ) (found : Option SymbolicReference) (o : Operation Local) (q : Resolved) → ((n : SymbolicReference) → found ≡ Some n → stays_at op)
     → option_and_then named_by found ≡ Some o → resolved_in c o ≡ Some q → returns_alike op q
 named-returns c op found o q stays is e =
     let names = named_by-is found o is in
     let at : stays_at op = stays names.reference names.is in
     (reference-goes_on c names.reference q (ap (resolved_in c) names.named ∙ e) ∙ sym at.0, at.1 ∙ sym at.0)
 
-other-returns : (c : ClassFile) (op : ℕ) (a : Arg) (o : Operation) (q : Resolved) → other_operation c op a ≡ Some o → resolved_in c o ≡ Some q → returns_alike op q
+other-returns : (c : ClassFile) (op : ℕ) (a : Arg) (o : Operation Local) (q : Resolved) → other_operation c op a ≡ Some o → resolved_in c o ≡ Some q → returns_alike op q
 other-returns c op (arg.Pool index) o q is e = named-returns c op (symbolic_reference_of c op index) o q (reference-stays c op index) is e
 other-returns c op (arg.Interface index count last) o q is e = named-returns c op (interface_reference c op index) o q (interface-stays c op index) is e
 other-returns c op (arg.Multi index dimensions) o q is e = named-returns c op (array_reference c op index dimensions) o q (multi-stays c op index dimensions) is e
@@ -308,40 +309,40 @@ within-returns op f i q test fits e =
     (is.1 ∙ opcode, sym listed ∙ opcode)
 
 -- an operation by a family: it stays within its frame, or has a name
-abbrev IsWithin : Family → Arg → Option Datum → Operation → Type 0
+abbrev IsWithin : Family → Arg → Option Datum → Operation Local → Type 0
 IsWithin f a d o = (i : Local) × (local_of f a d ≡ Some i) × (Within i ≡ o)
 
-local-within : (f : Family) (a : Arg) (d : Option Datum) (o : Operation) → option_map Within (local_of f a d) ≡ Some o → IsWithin f a d o
+local-within : (f : Family) (a : Arg) (d : Option Datum) (o : Operation Local) → option_map Within (local_of f a d) ≡ Some o → IsWithin f a d o
 local-within f a d o e = by (local_of f a d) refl e where
   by : (x : Option Local) → local_of f a d ≡ x → option_map Within x ≡ Some o → IsWithin f a d o
   by None is e = absurd (none-some o e)
   by (Some i) is e = (i, is, same_Some (Within i) o e)
 
 -- or is an object of the pool, which no small class has
-texts-unresolved : (c : ClassFile) (make : List ℕ → Operation) (text : Option (List ℕ)) (o : Operation) → ((name : List ℕ) → IsUnresolved c (make name))
+texts-unresolved : (c : ClassFile) (make : List ℕ → Operation Local) (text : Option (List ℕ)) (o : Operation Local) → ((name : List ℕ) → IsUnresolved c (make name))
     → option_map make text ≡ Some o → IsUnresolved c o
 texts-unresolved c make None o each e = absurd (none-some o e)
 texts-unresolved c make (Some name) o each e = subst (IsUnresolved c) (same_Some (make name) o e) (each name)
 
-entry-unresolved : (c : ClassFile) (entry : Const) (o : Operation) → object_constant c.pool entry ≡ Some o → IsUnresolved c o
+entry-unresolved : (c : ClassFile) (entry : Const) (o : Operation Local) → object_constant c.pool entry ≡ Some o → IsUnresolved c o
 entry-unresolved c (const.Text i) o e = texts-unresolved c LdcString (named_text c.pool i) o (λ units. refl) e
 entry-unresolved c (const.Class i) o e = texts-unresolved c (λ name. Named (LdcClass name)) (named_text c.pool i) o (λ name. refl) e
 entry-unresolved c _ o e = absurd (none-some o e)
 
-constant-unresolved : (c : ClassFile) (a : Arg) (o : Operation) → object_constant_in c.pool a ≡ Some o → IsUnresolved c o
+constant-unresolved : (c : ClassFile) (a : Arg) (o : Operation Local) → object_constant_in c.pool a ≡ Some o → IsUnresolved c o
 constant-unresolved c (arg.Pool index) o e =
     option_and_then_some (object_constant c.pool) (slice_get c.pool index) o e (λ entry is found. entry-unresolved c entry o found)
 constant-unresolved c _ o e = absurd (none-some o e)
 
-abbrev IsOperationBy : ClassFile → ℕ → Arg → Family → Operation → Type 0
+abbrev IsOperationBy : ClassFile → ℕ → Arg → Family → Operation Local → Type 0
 IsOperationBy c op a f o = (other_operation c op a ≡ Some o) ⊎ IsWithin f a (constant_in c.pool a) o ⊎ IsUnresolved c o
 
-given-within : (c : ClassFile) (op : ℕ) (a : Arg) (o : Operation) (number : Option Operation) → option_map Within (local_of family.PoolConstant a (constant_in c.pool a)) ≡ number
+given-within : (c : ClassFile) (op : ℕ) (a : Arg) (o : Operation Local) (number : Option (Operation Local)) → option_map Within (local_of family.PoolConstant a (constant_in c.pool a)) ≡ number
     → pool_constant_operation number (object_constant_in c.pool a) ≡ Some o → IsOperationBy c op a family.PoolConstant o
 given-within c op a o (Some number) is e = inr (inl (local-within family.PoolConstant a (constant_in c.pool a) o (is ∙ e)))
 given-within c op a o None is e = inr (inr (constant-unresolved c a o e))
 
-operation-within : (c : ClassFile) (op : ℕ) (a : Arg) (f : Family) (o : Operation) → operation_by c op a f ≡ Some o → IsOperationBy c op a f o
+operation-within : (c : ClassFile) (op : ℕ) (a : Arg) (f : Family) (o : Operation Local) → operation_by c op a f ≡ Some o → IsOperationBy c op a f o
 operation-within c op a family.NotLocal o e = inl e
 operation-within c op a family.PoolConstant o e = given-within c op a o (option_map Within (local_of family.PoolConstant a (constant_in c.pool a))) refl e
 operation-within c op a f o e = inr (inl (local-within f a (constant_in c.pool a) o e))
@@ -358,7 +359,7 @@ returns-instr c i q lt e =
     ])
 
 -- Control ends behind an operation of a small class exactly where it returns.
-pub ends-resolved : (c : ClassFile) (o : Operation) (q : Resolved) → resolved_in c o ≡ Some q → ends o ≡ is_return_operation q
+pub ends-resolved : (c : ClassFile) (o : Operation Local) (q : Resolved) → resolved_in c o ≡ Some q → ends o ≡ is_return_operation q
 ends-resolved c (Within Nop) q e = ap is_return_operation (same_Some resolved.Nop q e)
 ends-resolved c (Within (Constant (datum.Int n))) q e = ap is_return_operation (same_Some (resolved.Constant n) q e)
 ends-resolved c (Within (Load kind.Int slot)) q e = ap is_return_operation (same_Some (resolved.Iload slot) q e)
@@ -412,7 +413,7 @@ form-alike form.Wide a is s = absurd s
 form-alike form.Unknown a is s = absurd s
 form-alike _ a is s = absurd cc
 
-other-alike : (c : ClassFile) (op : ℕ) (a : Arg) (o : Operation) → other_operation c op a ≡ Some o → StaysAlike a
+other-alike : (c : ClassFile) (op : ℕ) (a : Arg) (o : Operation Local) → other_operation c op a ≡ Some o → StaysAlike a
 other-alike c op (arg.Pool index) o e = pool-alike index
 other-alike c op (arg.Interface index count last) o e = interface-alike index count last
 other-alike c op (arg.Multi index dimensions) o e = multi-alike index dimensions
@@ -420,7 +421,7 @@ other-alike c op (arg.Array code) o e = array-alike code
 other-alike c op arg.Plain o e = plain-alike
 other-alike c op _ o e = absurd (none-some o e)
 
-pub StaysAlike-operation : (c : ClassFile) (bytes : List ℕ) (at : ℕ) (i : Instr) (o : Operation) (q : Resolved) → i.op < 256 → instruction_at bytes at ≡ Some i
+pub StaysAlike-operation : (c : ClassFile) (bytes : List ℕ) (at : ℕ) (i : Instr) (o : Operation Local) (q : Resolved) → i.op < 256 → instruction_at bytes at ≡ Some i
     → operation_of c i ≡ Some o → resolved_in c o ≡ Some q → StaysAlike i.arg
 StaysAlike-operation c bytes at i o q lt stands is e =
     let f = family_of i.op in

@@ -22,7 +22,7 @@ use Rattle.code_model.proofs.Readings.{at-instruction_at, IsReading-unique}
 use Rattle.jvm_model.specs.declared.operation.Line.{Line}
 use Rattle.jvm_model.specs.declared.operation.Resolved.{Resolved}
 use Rattle.jvm_model.specs.declared.operation.Resolved.TheVariants.{Invokestatic}
-use Rattle.jvm_model.specs.Basis.Data.{Operation, Instruction}
+use Rattle.jvm_model.specs.Basis.Data.{Local, Operation, Instruction}
 use Rattle.jvm_model.specs.Rewriting.Agreement.{IsStart, is_return_operation}
 use Rattle.jvm_model.specs.Codes.Lines.{operation_of, ends, next_of, targets_of, instruction_of, code_instruction, method_instruction}
 use Rattle.jvm_model.specs.Small.Resolved.{resolved_in, resolved_of, line_of}
@@ -127,7 +127,7 @@ bytes-each (b ∷ bytes) each (suc k) = bytes-each bytes each.1 k
 
 -- the instruction at a start, and where it leads
 pub record HasLine (c : ClassFile) (m at : ℕ) (i : Instr) : Type 0 where
-  pub operation : Operation
+  pub operation : Operation Local
   pub operated : operation_of c i ≡ Some operation
   pub resolved : Resolved
   pub resolves : resolved_in c operation ≡ Some resolved
@@ -183,7 +183,7 @@ HasLine-start c m at built start =
     let returns = returns-instr c i q byte fits.1 in
     option_and_then_some (resolved_in c) (operation_of c i) q fits.1
     (λ o is rest. (
-    let made : Operation → Instruction = λ op. record { operation = op; own = i.at; next = next_of op (end_of i); targets = targets_of i.arg } in
+    let made : Operation Local → Instruction = λ op. record { operation = op; own = i.at; next = next_of op (end_of i); targets = targets_of i.arg } in
     let line : Resolved → Line = λ x. record { operation = x; own = i.at; next = next_of o (end_of i) } in
     let before : (k : ℕ) → q ≡ Invokestatic k → k < m = λ k is. ltb-true k m (subst (λ (o : Resolved). fits_method m start.code.max_locals code.shape o ≡ true) is fits.2) in
     let coded : code_instruction c bytes at ≡ Some (made o) = ap (option_and_then (instruction_of c)) here ∙ ap (option_map made) is in

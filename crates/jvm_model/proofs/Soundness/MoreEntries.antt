@@ -13,7 +13,7 @@ use Rattle.code_model.specs.declared.instr.Arg.TheVariants as arg
 use Rattle.code_model.specs.declared.instr.Instr.{Instr}
 use Rattle.jvm_model.specs.declared.family.Family.{Family}
 use Rattle.jvm_model.specs.declared.family.Family.TheVariants as family
-use Rattle.jvm_model.specs.Basis.Data.{Constant, SymbolicReference, New, Getfield, Putfield, Getstatic, Putstatic, Invokevirtual, Invokestatic, Invokeinterface, Checkcast, Instanceof, Anewarray, LdcClass, Operation, Within, Named, LdcString}
+use Rattle.jvm_model.specs.Basis.Data.{Constant, SymbolicReference, New, Getfield, Putfield, Getstatic, Putstatic, Invokevirtual, Invokestatic, Invokeinterface, Checkcast, Instanceof, Anewarray, LdcClass, Local, Operation, Within, Named, LdcString}
 use Rattle.jvm_model.specs.Basis.Families.{family_of}
 use Rattle.jvm_model.specs.Codes.Lines.{number_of, named_interface_method, special_of, symbolic_reference_of, interface_reference, multi_of, array_reference, named_by, other_operation, pool_constant_operation, object_constant, operation_by, operation_of}
 use Rattle.jvm_model.specs.Basis.Programs.{name_of}
@@ -107,10 +107,10 @@ array_reference-kept c image op index dimensions has n =
     chosen-kept (op == 197) _ None _ None n
     (map-kept (multi_of dimensions) (named_class c.pool index) (named_class image.pool index) n (class-kept c image index has)) (λ none. none)
 
-named-kept : (old new : Option SymbolicReference) (o : Operation) → Kept old new → option_and_then named_by old ≡ Some o → option_and_then named_by new ≡ Some o
+named-kept : (old new : Option SymbolicReference) (o : Operation Local) → Kept old new → option_and_then named_by old ≡ Some o → option_and_then named_by new ≡ Some o
 named-kept old new o keeps = then-kept named_by named_by old new o keeps (λ n is. is)
 
-other_operation-kept : (c image : ClassFile) (op : ℕ) (a : Arg) (o : Operation) → HasMore c image → other_operation c op a ≡ Some o → other_operation image op a ≡ Some o
+other_operation-kept : (c image : ClassFile) (op : ℕ) (a : Arg) (o : Operation Local) → HasMore c image → other_operation c op a ≡ Some o → other_operation image op a ≡ Some o
 other_operation-kept c image op (arg.Pool index) o has e = named-kept (symbolic_reference_of c op index) (symbolic_reference_of image op index) o (symbolic_reference_of-kept c image op index has) e
 other_operation-kept c image op (arg.Interface index count last) o has e =
     named-kept (interface_reference c op index) (interface_reference image op index) o (interface_reference-kept c image op index has) e
@@ -119,17 +119,17 @@ other_operation-kept c image op (arg.Multi index dimensions) o has e =
 other_operation-kept c image op a o has e = e
 
 -- what an entry of the pool is to an ldc
-abbrev given_by : List Const → Option Const → Option Operation
+abbrev given_by : List Const → Option Const → Option (Operation Local)
 given_by pool entry = pool_constant_operation (option_map Within (option_map Constant (option_and_then number_of entry))) (option_and_then (object_constant pool) entry)
 
-entry-kept : (c image : ClassFile) (entry : Const) (o : Operation) → HasMore c image → given_by c.pool (Some entry) ≡ Some o → given_by image.pool (Some entry) ≡ Some o
+entry-kept : (c image : ClassFile) (entry : Const) (o : Operation Local) → HasMore c image → given_by c.pool (Some entry) ≡ Some o → given_by image.pool (Some entry) ≡ Some o
 entry-kept c image (const.Integer n) o has e = e
 entry-kept c image (const.Long n) o has e = e
 entry-kept c image (const.Text i) o has e = map-kept LdcString (named_text c.pool i) (named_text image.pool i) o (text-kept c image i has) e
 entry-kept c image (const.Class i) o has e = map-kept (λ name. Named (LdcClass name)) (named_text c.pool i) (named_text image.pool i) o (text-kept c image i has) e
 entry-kept c image _ o has e = absurd (none-some o e)
 
-given-kept : (c image : ClassFile) (a : Arg) (o : Operation) → HasMore c image → operation_by c 18 a family.PoolConstant ≡ Some o → operation_by image 18 a family.PoolConstant ≡ Some o
+given-kept : (c image : ClassFile) (a : Arg) (o : Operation Local) → HasMore c image → operation_by c 18 a family.PoolConstant ≡ Some o → operation_by image 18 a family.PoolConstant ≡ Some o
 given-kept c image (arg.Pool index) o has e = by (slice_get c.pool index) refl e
   where
     by : (x : Option Const) → slice_get c.pool index ≡ x → given_by c.pool x ≡ Some o → given_by image.pool (slice_get image.pool index) ≡ Some o
@@ -139,13 +139,13 @@ given-kept c image (arg.Pool index) o has e = by (slice_get c.pool index) refl e
         (entry-kept c image entry o has e)
 given-kept c image _ o has e = absurd (none-some o e)
 
-operation_by-kept : (c image : ClassFile) (op : ℕ) (a : Arg) (f : Family) (o : Operation) → HasMore c image → operation_by c op a f ≡ Some o → operation_by image op a f ≡ Some o
+operation_by-kept : (c image : ClassFile) (op : ℕ) (a : Arg) (f : Family) (o : Operation Local) → HasMore c image → operation_by c op a f ≡ Some o → operation_by image op a f ≡ Some o
 operation_by-kept c image op a family.NotLocal o has e = other_operation-kept c image op a o has e
 operation_by-kept c image op a family.PoolConstant o has e = given-kept c image a o has e
 operation_by-kept c image op a f o has e = e
 
 -- an instruction that does something in the class does it there
-pub operation-more : (c image : ClassFile) (i : Instr) (o : Operation) → HasMore c image → operation_of c i ≡ Some o → operation_of image i ≡ Some o
+pub operation-more : (c image : ClassFile) (i : Instr) (o : Operation Local) → HasMore c image → operation_of c i ≡ Some o → operation_of image i ≡ Some o
 operation-more c image i o has e = operation_by-kept c image i.op i.arg (family_of i.op) o has e
 
 -- ---- of a class file

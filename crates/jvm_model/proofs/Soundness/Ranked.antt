@@ -8,7 +8,7 @@ use Rattle.std.specs.List.{AllByRecursion, cons_option}
 use Rattle.std.specs.Option.{option_and_then, option_map_or, option_to_list}
 use Rattle.const_pool.specs.declared.class.ClassFile.{ClassFile}
 use Rattle.const_pool.specs.References.{named_class}
-use Rattle.jvm_model.specs.Basis.Data.{Ending, Program, Entry, Active, Initializing, Frame, Shared, State, Operation, Operands, Instruction, Turn, World}
+use Rattle.jvm_model.specs.Basis.Data.{Ending, Program, Entry, Active, Initializing, Frame, Shared, State, Local, Operation, Operands, Instruction, Turn, World}
 use Rattle.jvm_model.specs.Basis.Data as operation
 use Rattle.jvm_model.specs.Instructions.Does.{does, loads}
 use Rattle.jvm_model.specs.Classes.Load.{is_among, load_of, needs_of}
@@ -372,13 +372,13 @@ module _ (p : Program) where
 -- whatever each load keeps is kept
 module _ (w : World) (fit : IsFit w.program) (P : List ℕ → Type 0)
     (load-keeps : (loaded name : List ℕ) → P loaded → P (load_of w.program loaded name).loaded) where
-  loads-keep : (op : Operation) (s : Shared) (o : Operands) → P s.loaded → P (s.loaded ++ loads w op s o)
+  loads-keep : (op : Operation Local) (s : Shared) (o : Operands) → P s.loaded → P (s.loaded ++ loads w op s o)
   loads-keep op s o h = by op
     where
       same : P (s.loaded ++ [])
       same = subst P (sym (append-nil s.loaded)) h
 
-      by : (op : Operation) → P (s.loaded ++ loads w op s o)
+      by : (op : Operation Local) → P (s.loaded ++ loads w op s o)
       by (operation.Named n) = resolved (resolves n o) refl
         where
           resolved : (b : Bool) → resolves n o ≡ b → P (s.loaded ++ newly_loaded w.program s.loaded n o)

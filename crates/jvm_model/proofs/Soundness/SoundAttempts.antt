@@ -1,5 +1,5 @@
 -- The attempt of any instruction keeps what is shared sound (JVM Specification 6.5), and an instruction of original code can be attempted.
-use Rattle.std.proofs.Common.{◌≡◌, ℕ, Bool, true, false, List, [], ◌∷◌, refl, arith}
+use Rattle.std.proofs.Common.{◌≡◌, ℕ, Bool, true, false, List, [], ◌∷◌, refl}
 use Rattle.std.specs.Prelude.{drop, Option, Some, None, ℤ, ◌==◌, ◌&&◌, if◌then◌else◌}
 use Rattle.heap_objects.specs.declared.datum.Datum.{Datum}
 use Rattle.heap_objects.specs.declared.Value.{Value}
@@ -12,12 +12,12 @@ use Rattle.jvm_model.specs.Running.Constants.{can_intern}
 use Rattle.jvm_model.specs.Instructions.Does.{does, loads}
 use Rattle.jvm_model.specs.Instructions.LocalRules.{divides_these, goes_back, goes_if, holds, increments, leaves, pushes, replaces, returns, returns_datum, stores, switches_on, tests, within}
 use Rattle.jvm_model.specs.Classes.Lookup.{is_below}
-use Rattle.jvm_model.specs.Instructions.ObjectRules.{Access, ToNull, ToAnother, Outside, Inside, Storing, access_to, array_kind, done, fits_array, loads_at, loads_element, measures, place_of, access_refused, stores_at, stores_element, storing_of, throws, watches}
+use Rattle.jvm_model.specs.Instructions.ObjectRules.{Access, ToNull, ToAnother, Outside, Inside, Storing, access_to, done, fits_array, loads_at, loads_element, measures, place_of, access_refused, stores_at, stores_element, storing_of, throws, watches}
 use Rattle.jvm_model.specs.Basis.SharedState.{array_store, class_of, kind_for, null_pointer, string, throwable}
 use Rattle.jvm_model.specs.Soundness.Sound.{CanAttempt, IsFit, IsSoundDone, IsSoundOutcome, IsSoundShared}
 use Rattle.jvm_model.specs.Basis.StackForms.{forms_of}
 use Rattle.jvm_model.specs.Basis.Values.{managed_stack, datum_of, int_of, is_storable, has_slots, local_in, ref_of, local_stored}
-use Rattle.jvm_model.proofs.Soundness.SoundKinds.{has-root, kind-usable, of-primitive}
+use Rattle.jvm_model.proofs.Soundness.SoundKinds.{has-root, kind-usable, primitive}
 use Rattle.jvm_model.proofs.Soundness.SoundObjects.{objects-interned, objects-slot, with-heap}
 use Rattle.jvm_model.proofs.Soundness.SoundRules.{array-fine, sound-named}
 
@@ -187,15 +187,14 @@ module _ (w : World) (fit : IsFit w.program) (s : Shared) (is : IsSoundShared w.
       }
       by false = quiet (Throws 1) tt
 
-  pub sound-does : (op : Operation) (l : Locals) (o : Operands) → CanAttempt w.program s.loaded op → loads w op s o ≡ []
+  pub sound-does : (op : Operation Local) (l : Locals) (o : Operands) → CanAttempt w.program s.loaded op → loads w op s o ≡ []
       → IsSoundDone w.program s.loaded (does w op s l o)
   sound-does (Within i) l o can nothing = quiet (within i l o) (within-sound w.program s.loaded i l o)
   sound-does (Named n) l o can nothing = sound-named w fit s is n l o can.0 can.1 nothing
   sound-does Athrow l o can nothing = quiet (throws w s (ref_of o)) (throws-sound w.program s.loaded w s (ref_of o))
   sound-does Monitor l o can nothing = quiet (watches (ref_of o) l o) (watches-sound w.program s.loaded (ref_of o) l o)
-  sound-does (Newarray code) l o can nothing =
-      array-fine w fit s is (array_kind code) (int_of o) l o
-      (of-primitive w.program s.loaded (has-root w.program fit s.loaded is.built_in) 1 code (omega arith) can)
+  sound-does (Newarray kind) l o can nothing =
+      array-fine w fit s is kind (int_of o) l o (primitive w.program s.loaded (has-root w.program fit s.loaded is.built_in) kind can)
   sound-does Arraylength l o can nothing = quiet (measures (ref_of o) s l o) (measures-sound w.program s.loaded (ref_of o) s l o)
   sound-does (LoadElement k) l o can nothing = quiet (loads_element k (place_of o) s l o) (element-sound w.program s.loaded k (place_of o) s l o)
   sound-does (StoreElement k) l o can nothing = store-fine k (storing_of k o) l o

@@ -15,7 +15,7 @@ use Rattle.jvm_model.specs.Classes.Kinds.{Element, Primitive, Named, Meaning, ar
 use Rattle.jvm_model.specs.Classes.Load.{load_of}
 use Rattle.jvm_model.specs.Basis.Programs.{class_named, has_name}
 use Rattle.jvm_model.specs.Basis.SharedState.{class_of_kind, kind_for}
-use Rattle.jvm_model.specs.Soundness.Sound.{HasBuiltIn, IsBuiltIn, IsBuiltInName, IsFit, IsLoaded, IsUsable}
+use Rattle.jvm_model.specs.Soundness.Sound.{HasBuiltIn, IsBuiltIn, IsBuiltInName, IsFit, IsLoaded, IsUsable, IsPrimitiveArray}
 use Rattle.jvm_model.proofs.Soundness.SoundClasses.{load-there}
 
 below : (a b : ℕ) → a < b → nat_lt a b ≡ true
@@ -92,6 +92,13 @@ module _ (p : Program) (loaded : List ℕ) (root : IsLoaded loaded (user_count p
         ∙ (ap (class_of_base p) (sym (mod-mul-add dimensions 16777216 base (omega arith))) ∙ e)));
     of_class = array-class (dimensions * 16777216 + base) (omega arith);
   }
+
+  pub primitive : (kind : ℕ) → IsPrimitiveArray kind → IsUsable p loaded kind
+  primitive kind is =
+      let long : 16777216 ≤ kind = is.array in
+      let short : kind < 16777232 = is.primitive in
+      let whole : 1 * 16777216 + (kind - 16777216) ≡ kind = omega (arith, long) in
+      subst (IsUsable p loaded) whole (of-primitive 1 (kind - 16777216) (omega arith) (omega (arith, long, short)))
 
   -- an array over a kind
   pub over : (kind : ℕ) → IsUsable p loaded kind → IsUsable p loaded (16777216 + kind)

@@ -23,7 +23,8 @@ use Rattle.jvm_model.specs.Codes.Lines.{ObjectRow, code_instruction, constant_in
 use Rattle.jvm_model.specs.Basis.Methods.{method_code}
 use Rattle.jvm_model.specs.Codes.Originals.{original}
 use Rattle.jvm_model.specs.Basis.Programs.{class_at, name_of, place_of_method}
-use Rattle.jvm_model.specs.Soundness.Sound.{CanAttempt, HasClass, HasLoadedCaller, IsFit, IsLoaded}
+use Rattle.jvm_model.specs.Soundness.Sound.{CanAttempt, HasClass, HasLoadedCaller, IsFit, IsLoaded, IsPrimitiveArray}
+use Rattle.jvm_model.specs.Instructions.ObjectRules.{array_kind}
 
 small : (code : ℕ) → is_in_range 4 11 code ≡ true → code < 16
 small code e = grind (arith)
@@ -35,9 +36,9 @@ module _ (c : ClassFile) where
   NamesCaller (Invokespecial caller r interface) = name_of c ≡ Some caller
   NamesCaller n = Unit {0}
 
-  abbrev IsFormed : Operation → Type 0
+  abbrev IsFormed : Operation Local → Type 0
   IsFormed (Named n) = NamesCaller n × (has_dimensions n ≡ true)
-  IsFormed (Newarray code) = code < 16
+  IsFormed (Newarray kind) = IsPrimitiveArray kind
   IsFormed o = Unit {0}
 
   mapped : {A : Type 0} (make : A → SymbolicReference) (o : Option A) → ((x : A) → NamesCaller (make x)) → IfSome (option_map make o) NamesCaller
@@ -94,8 +95,8 @@ module _ (c : ClassFile) where
   array-formed : (op code : ℕ) → IfSome (newarray_of op code) IsFormed
   array-formed op code = by (op == 188) (is_in_range 4 11 code) refl
     where
-      by : (a b : Bool) → is_in_range 4 11 code ≡ b → IfSome (if a && b then Some (Newarray code) else None) IsFormed
-      by true true e = small code e
+      by : (a b : Bool) → is_in_range 4 11 code ≡ b → IfSome (if a && b then Some (Newarray (array_kind code)) else None) IsFormed
+      by true true e = record { array = omega arith; primitive = (let few : code < 16 = small code e in omega (arith, few)) }
       by true false e = tt
       by false b e = tt
 
@@ -117,7 +118,7 @@ module _ (c : ClassFile) where
   within-formed None = tt
   within-formed (Some i) = tt
 
-  texts-formed : (make : List ℕ → Operation) (o : Option (List ℕ)) → ((name : List ℕ) → IsFormed (make name)) → IfSome (option_map make o) IsFormed
+  texts-formed : (make : List ℕ → Operation Local) (o : Option (List ℕ)) → ((name : List ℕ) → IsFormed (make name)) → IfSome (option_map make o) IsFormed
   texts-formed make None each = tt
   texts-formed make (Some name) each = each name
 
@@ -134,7 +135,7 @@ module _ (c : ClassFile) where
   object-constant-formed (arg.Pool index) = entry-at-formed (slice_get c.pool index)
   object-constant-formed _ = tt
 
-  given-formed : (number : Option Operation) (a : Arg) → IfSome number IsFormed → IfSome (pool_constant_operation number (object_constant_in c.pool a)) IsFormed
+  given-formed : (number : Option (Operation Local)) (a : Arg) → IfSome number IsFormed → IfSome (pool_constant_operation number (object_constant_in c.pool a)) IsFormed
   given-formed (Some op) a formed = formed
   given-formed None a formed = object-constant-formed a
 
@@ -167,7 +168,7 @@ module _ (c : ClassFile) where
 
   -- ---- the instruction at an offset of a method
 
-  formed-at : (i : Instr) (o : Option Operation) (found : Instruction) → IfSome o IsFormed
+  formed-at : (i : Instr) (o : Option (Operation Local)) (found : Instruction) → IfSome o IsFormed
       → option_map (λ op. record { operation = op; own = i.at; next = next_of op (end_of i); targets = targets_of i.arg }) o ≡ Some found → IsFormed found.operation
   formed-at i None found formed e = absurd (none-some found e)
   formed-at i (Some op) found formed e = subst (λ (x : Instruction). IsFormed x.operation) (same_Some _ found e) formed
@@ -226,9 +227,9 @@ module _ (p : Program) (fit : IsFit p) (loaded : List ℕ) where
   caller-loaded c class (Multianewarray name dimensions) at there names = tt
   caller-loaded c class (LdcClass name) at there names = tt
 
-  formed-can : (c : ClassFile) (class : ℕ) (op : Operation) → class_at p class ≡ Some c → IsLoaded loaded class → IsFormed c op → CanAttempt p loaded op
+  formed-can : (c : ClassFile) (class : ℕ) (op : Operation Local) → class_at p class ≡ Some c → IsLoaded loaded class → IsFormed c op → CanAttempt p loaded op
   formed-can c class (Named n) at there formed = (caller-loaded c class n at there formed.0, formed.1)
-  formed-can c class (Newarray code) at there formed = formed
+  formed-can c class (Newarray kind) at there formed = formed
   formed-can c class (Within i) at there formed = tt
   formed-can c class Athrow at there formed = tt
   formed-can c class Monitor at there formed = tt

@@ -5,7 +5,7 @@ use Rattle.std.specs.Prelude.{Option, Some, None}
 use Rattle.std.specs.List.{AllByRecursion}
 use Rattle.std.specs.Option.{IfSome}
 use Rattle.jvm_model.specs.Running.Applies.{applies, still}
-use Rattle.jvm_model.specs.Basis.Data.{Listing, Operands, Frame, Entry, Active, Initializing, Ending, Uncaught, Breaks, State, Turn, Instruction, Done, Operation, Athrow, Program, World}
+use Rattle.jvm_model.specs.Basis.Data.{Listing, Operands, Frame, Entry, Active, Initializing, Ending, Uncaught, Breaks, State, Turn, Instruction, Done, Local, Operation, Athrow, Program, World}
 use Rattle.jvm_model.specs.Instructions.Does.{does, loads}
 use Rattle.jvm_model.specs.Running.Moves.{move, moves, turn_settled, then_turn}
 use Rattle.jvm_model.specs.Codes.Originals.{original}
@@ -38,7 +38,7 @@ module _ (Runs : ℕ → ℕ → Type 0) where
   }
 
   -- where all is loaded that the instruction names
-  pub sound-loaded : (w : World) (op : Operation) (o : Operands) (s : State) → IsSound Runs w.program s → IsSound Runs w.program (with_loaded (loads w op s.shared o) s)
+  pub sound-loaded : (w : World) (op : Operation Local) (o : Operands) (s : State) → IsSound Runs w.program s → IsSound Runs w.program (with_loaded (loads w op s.shared o) s)
   sound-loaded w op o s is = more-sound w.program (loads w op s.shared o) s (loads-supertypes w op s.shared o is.shared.above) is
 
   -- ---- a step

@@ -575,7 +575,7 @@ module _ (w : World) (fit : IsFit w.program) (s : Shared) (is : IsSoundShared w.
   receiver-loaded : (object : ℕ) (name : List ℕ) → is_instance p s.heap object name ≡ true → IsLoaded s.loaded (class_of p s object)
   receiver-loaded object name e = by (kind_at object s.heap) refl e
     where
-      by : (o : Option ℕ) → kind_at object s.heap ≡ o → is_below_kind p o (kind_named p name) ≡ true → IsLoaded s.loaded (option_map_or (class_of_kind p) o 0)
+      by : (o : Option ℕ) → kind_at object s.heap ≡ o → is_below_kind p o (kind_named p name) ≡ true → IsLoaded s.loaded (option_map_or (class_of_kind p) o (user_count p))
       by None is_kind e = absurd (false≢true e)
       by (Some kind) is_kind e = (object-usable p s.loaded s.heap object kind is.objects is_kind).of_class
 

@@ -2,7 +2,7 @@
 use Rattle.std.proofs.Common.{◌≡◌, ℕ, Bool, true, false, List, [], ◌∷◌, ◌++◌, ap, sym, subst, refl, ◌∙◌}
 use Rattle.std.proofs.lemmas.List.{append-nil}
 use Rattle.std.specs.Prelude.{drop, length, Some, None, if◌then◌else◌}
-use Rattle.jvm_model.specs.Basis.Data.{Operands, Shared, State, Operation, Within, Named, Athrow, Monitor, Newarray, Arraylength, LoadElement, StoreElement, LdcString, Program, World}
+use Rattle.jvm_model.specs.Basis.Data.{Operands, Shared, State, Local, Operation, Within, Named, Athrow, Monitor, Newarray, Arraylength, LoadElement, StoreElement, LdcString, Program, World}
 use Rattle.jvm_model.specs.Instructions.Does.{does, loads}
 use Rattle.jvm_model.specs.Classes.Load.{load_of}
 use Rattle.jvm_model.specs.Instructions.SymbolicReference.{newly_loaded, resolved_name, resolves}
@@ -21,7 +21,7 @@ pub with-loaded-is : (classes : List ℕ) (s : State) → (with_loaded classes s
 with-loaded-is [] s = sym (append-nil s.shared.loaded)
 with-loaded-is (c ∷ more) s = refl
 
-pub loads-supertypes : (w : World) (op : Operation) (s : Shared) (o : Operands) → HasSupertypes w.program s.loaded → HasSupertypes w.program (s.loaded ++ loads w op s o)
+pub loads-supertypes : (w : World) (op : Operation Local) (s : Shared) (o : Operands) → HasSupertypes w.program s.loaded → HasSupertypes w.program (s.loaded ++ loads w op s o)
 loads-supertypes w (Named n) s o above = by (resolves n o) refl
   where
     by : (b : Bool) → resolves n o ≡ b → HasSupertypes w.program (s.loaded ++ newly_loaded w.program s.loaded n o)
@@ -33,32 +33,32 @@ loads-supertypes w (Named n) s o above = by (resolves n o) refl
 loads-supertypes w (Within i) s o above = subst (HasSupertypes w.program) (sym (append-nil s.loaded)) above
 loads-supertypes w Athrow s o above = subst (HasSupertypes w.program) (sym (append-nil s.loaded)) above
 loads-supertypes w Monitor s o above = subst (HasSupertypes w.program) (sym (append-nil s.loaded)) above
-loads-supertypes w (Newarray code) s o above = subst (HasSupertypes w.program) (sym (append-nil s.loaded)) above
+loads-supertypes w (Newarray kind) s o above = subst (HasSupertypes w.program) (sym (append-nil s.loaded)) above
 loads-supertypes w Arraylength s o above = subst (HasSupertypes w.program) (sym (append-nil s.loaded)) above
 loads-supertypes w (LoadElement k) s o above = subst (HasSupertypes w.program) (sym (append-nil s.loaded)) above
 loads-supertypes w (StoreElement k) s o above = subst (HasSupertypes w.program) (sym (append-nil s.loaded)) above
 loads-supertypes w (LdcString units) s o above = subst (HasSupertypes w.program) (sym (append-nil s.loaded)) above
 
 -- what is loaded is looked at alone
-pub loads-same : (w : World) (op : Operation) (a b : Shared) (o : Operands) → a.loaded ≡ b.loaded → loads w op a o ≡ loads w op b o
+pub loads-same : (w : World) (op : Operation Local) (a b : Shared) (o : Operands) → a.loaded ≡ b.loaded → loads w op a o ≡ loads w op b o
 loads-same w (Named n) a b o e = ap (λ loaded. newly_loaded w.program loaded n o) e
 loads-same w (Within i) a b o e = refl
 loads-same w Athrow a b o e = refl
 loads-same w Monitor a b o e = refl
-loads-same w (Newarray code) a b o e = refl
+loads-same w (Newarray kind) a b o e = refl
 loads-same w Arraylength a b o e = refl
 loads-same w (LoadElement k) a b o e = refl
 loads-same w (StoreElement k) a b o e = refl
 loads-same w (LdcString units) a b o e = refl
 
 -- nothing is left to load then
-pub loads-again : (w : World) (op : Operation) (s : State) (o : Operands) → loads w op (with_loaded (loads w op s.shared o) s).shared o ≡ []
+pub loads-again : (w : World) (op : Operation Local) (s : State) (o : Operands) → loads w op (with_loaded (loads w op s.shared o) s).shared o ≡ []
 loads-again w (Named n) s o =
     ap (λ loaded. newly_loaded w.program loaded n o) (with-loaded-is (newly_loaded w.program s.shared.loaded n o) s) ∙ newly-again w.program s.shared.loaded n o
 loads-again w (Within i) s o = refl
 loads-again w Athrow s o = refl
 loads-again w Monitor s o = refl
-loads-again w (Newarray code) s o = refl
+loads-again w (Newarray kind) s o = refl
 loads-again w Arraylength s o = refl
 loads-again w (LoadElement k) s o = refl
 loads-again w (StoreElement k) s o = refl

@@ -1,7 +1,7 @@
 -- What is left of a step: behind its load, and behind some of its moves.
 use Rattle.std.proofs.Common.{append-nil, append_assoc, ◌≡◌, ℕ, zero, suc, List, [], ◌∷◌, ◌++◌, Option, Some, None, refl, sym, ap, ◌∙◌}
 use Rattle.std.specs.Option.{option_map_or}
-use Rattle.jvm_model.specs.Basis.Data.{Operands, Frame, Entry, Active, Initializing, Ending, Shared, State, Change, Loads, Turn, Operation, Within, Named, Athrow, Monitor, Newarray, Arraylength, LoadElement, StoreElement, LdcString, Instruction, Listing, World}
+use Rattle.jvm_model.specs.Basis.Data.{Operands, Frame, Entry, Active, Initializing, Ending, Shared, State, Change, Loads, Turn, Local, Operation, Within, Named, Athrow, Monitor, Newarray, Arraylength, LoadElement, StoreElement, LdcString, Instruction, Listing, World}
 use Rattle.jvm_model.specs.Instructions.Does.{does, loads}
 use Rattle.jvm_model.specs.Instructions.SymbolicReference.{newly_loaded}
 use Rattle.jvm_model.specs.Running.Applies.{still}
@@ -28,13 +28,13 @@ named-again w [] s o n e = e
 named-again w (c ∷ more) s o n e =
     ap (λ cs. newly_loaded w.program (s.shared.loaded ++ cs) n o) (sym e) ∙ newly-again w.program s.shared.loaded n o
 
-loads-again : (w : World) (classes : List ℕ) (s : State) (o : Operands) (op : Operation) → loads w op s.shared o ≡ classes
+loads-again : (w : World) (classes : List ℕ) (s : State) (o : Operands) (op : Operation Local) → loads w op s.shared o ≡ classes
     → loads w op (with_loaded classes s).shared o ≡ []
 loads-again w classes s o (Named n) e = named-again w classes s o n e
 loads-again w classes s o (Within i) e = refl
 loads-again w classes s o Athrow e = refl
 loads-again w classes s o Monitor e = refl
-loads-again w classes s o (Newarray code) e = refl
+loads-again w classes s o (Newarray kind) e = refl
 loads-again w classes s o Arraylength e = refl
 loads-again w classes s o (LoadElement k) e = refl
 loads-again w classes s o (StoreElement k) e = refl

@@ -7,7 +7,7 @@ use Rattle.jvm_model.specs.declared.event.EventKind.TheVariants as kind
 use Rattle.jvm_model.specs.declared.event.Mark.{Mark}
 use Rattle.jvm_model.specs.declared.event.Mark.TheVariants.{Off, Plain, Root}
 use Rattle.jvm_model.specs.Rewriting.Images.{is_off}
-use Rattle.jvm_model.specs.Basis.Data.{Datum, Locals, Operands, Shared, Operation, Within, Return, Frame, Entry, Active, Initializing, Ending, State, Change, Began, Left, Unwound, Turn, Instruction, Outcome, GoesOn, Subroutine, Invokes, Returns, Throws, Raises, Initializes, Exits, Breaks, Done, Listing, World}
+use Rattle.jvm_model.specs.Basis.Data.{Datum, Locals, Operands, Shared, Local, Operation, Within, Return, Frame, Entry, Active, Initializing, Ending, State, Change, Began, Left, Unwound, Turn, Instruction, Outcome, GoesOn, Subroutine, Invokes, Returns, Throws, Raises, Initializes, Exits, Breaks, Done, Listing, World}
 use Rattle.const_pool.specs.declared.descriptor.Kind.{Kind}
 use Rattle.jvm_model.specs.Basis.Values.{datum_of}
 use Rattle.jvm_model.specs.Instructions.LocalRules.{returns, returns_datum}
@@ -259,7 +259,7 @@ module _ (w : World) (t : Listing) (v : ℕ → Mark) where
   at-rest s f i loaded =
       ap (λ cs. loaded_turn cs (steps_by w t i (with_loaded cs s) f (does w i.operation (with_loaded cs s).shared f.locals f.operands))) loaded
 
-  pub return-ends : (op : Operation) (s : Shared) (l : Locals) (o : Operands) → is_return op ≡ true → ends_by (does w op s l o).outcome ≡ true
+  pub return-ends : (op : Operation Local) (s : Shared) (l : Locals) (o : Operands) → is_return op ≡ true → ends_by (does w op s l o).outcome ≡ true
   return-ends (Within (Return k)) s l o e = returns-end k o where
     datum-ends : (d : Option Datum) → ends_by (returns_datum d) ≡ true
     datum-ends None = refl
@@ -277,14 +277,14 @@ module _ (w : World) (t : Listing) (v : ℕ → Mark) where
   ends-start _ e = absurd (let h : false ≡ true = e in cc)
 
   -- Only returns end an activation: a law of the rules.
-  module _ (only : (op : Operation) (s : Shared) (l : Locals) (o : Operands) → ends_by (does w op s l o).outcome ≡ true → is_return op ≡ true) where
+  module _ (only : (op : Operation Local) (s : Shared) (l : Locals) (o : Operands) → ends_by (does w op s l o).outcome ≡ true → is_return op ≡ true) where
     -- where no probe tells of a return that is attempted, its version is an original
-    off-unless : (m : Mark) (op : Operation) → leave_due false m op ≡ false → is_return op ≡ true → is_off m ≡ true
+    off-unless : (m : Mark) (op : Operation Local) → leave_due false m op ≡ false → is_return op ≡ true → is_off m ≡ true
     off-unless Off op e r = refl
     off-unless Plain op e r = absurd (let h : true ≡ false = sym r ∙ e in cc)
     off-unless Root op e r = absurd (let h : true ≡ false = sym r ∙ e in cc)
 
-    told-once : (m : Mark) (op : Operation) → leave_due true m op ≡ false
+    told-once : (m : Mark) (op : Operation Local) → leave_due true m op ≡ false
     told-once m op = refl
 
     line-paused : (told : Bool) (n : ℕ) (s : State) (f : Frame) (i : Instruction) → (told ≡ true → is_return i.operation ≡ true) → leave_due told (v f.version) i.operation ≡ false
@@ -329,7 +329,7 @@ module _ (w : World) (t : Listing) (v : ℕ → Mark) where
     applies-left i (Breaks false) s f e = absurd (let h : false ≡ true = e in cc)
     applies-left i _ s f e = absurd (let h : false ≡ true = e in cc)
 
-    leave-parts : (m : Mark) (op : Operation) → leave_due false m op ≡ true → (is_return op ≡ true) × (unless_off m (Ends kind.Leave) ≡ Ends kind.Leave)
+    leave-parts : (m : Mark) (op : Operation Local) → leave_due false m op ≡ true → (is_return op ≡ true) × (unless_off m (Ends kind.Leave) ≡ Ends kind.Leave)
     leave-parts Off op e = absurd (let h : false ≡ true = e in cc)
     leave-parts Plain op e = (e, refl)
     leave-parts Root op e = (e, refl)

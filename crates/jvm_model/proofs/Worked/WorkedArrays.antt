@@ -20,7 +20,7 @@ use Rattle.base_classes.specs.ThrowableClasses.{throwable_classes}
 use Rattle.base_classes.specs.Natives.{native_methods}
 use Rattle.native_effects.specs.Inputs.KindsViews.{is_among}
 use Rattle.native_ops.specs.Methods.Rows.{rows as native_rows}
-use Rattle.jvm_model.specs.Basis.Data.{Datum, Operands, Frame, Active, Initializing, Constants, Finish, Returned, Unverifiable, State, Quotient, Constant, Store, DivisionOfInts, Operation, Within, Athrow, Monitor, Newarray, Arraylength, LoadElement, StoreElement, Instruction, Catcher, Began, Unwound, Turn, World}
+use Rattle.jvm_model.specs.Basis.Data.{Datum, Operands, Frame, Active, Initializing, Constants, Finish, Returned, Unverifiable, State, Quotient, Constant, Store, DivisionOfInts, Local, Operation, Within, Athrow, Monitor, Newarray, Arraylength, LoadElement, StoreElement, Instruction, Catcher, Began, Unwound, Turn, World}
 use Rattle.jvm_model.specs.Running.Applies.{begins_beside, invokes, live_in, new_frame}
 use Rattle.jvm_model.specs.Basis.Families.{family_of, rows}
 use Rattle.jvm_model.specs.Codes.Lines.{operation_by}
@@ -30,21 +30,22 @@ use Rattle.jvm_model.specs.Running.Moves.{runs_initializer, turn_settled}
 use Rattle.jvm_model.specs.Running.Run.{turn_in}
 use Rattle.jvm_model.specs.Basis.SharedState.{array_store, index_outside, negative_array_size, null_pointer, out_of_memory, stack_overflow}
 use Rattle.jvm_model.proofs.Worked.WorkedPrograms.{Sketches, after, aload_0, alone, at, call, get_out, getstatic, int, main_routine, null, operands_of, places_of, pop, println, returns, listing_by, uncaught_of, world_by}
+use Rattle.jvm_model.specs.Instructions.ObjectRules.{array_kind}
 
 -- ---- programs of one class, whose main this is
 
 abbrev pub main_of : List Instruction → List Catcher → Sketches
 main_of code handlers = record { classes = alone (codes "A") (record (main_routine 4 code) { handlers = handlers } ∷ []) ∷ []; main = 0 }
 
-abbrev pub number : ℤ → Operation
+abbrev pub number : ℤ → Operation Local
 number n = Within (Constant (datum.Int n))
 
-abbrev pub astore_0 : Operation
+abbrev pub astore_0 : Operation Local
 astore_0 = Within (Store kind.Ref 0)
 
 -- a new array of so many ints
 abbrev pub ints : ℤ → List Instruction → List Instruction
-ints count rest = at 0 1 (number count) ∷ at 1 2 (Newarray 10) ∷ rest
+ints count rest = at 0 1 (number count) ∷ at 1 2 (Newarray (array_kind 10)) ∷ rest
 
 -- ---- elements: an int that is stored and loaded. The array is object 6, behind those of the start
 
@@ -79,7 +80,7 @@ prints_element-slots = refl
 
 -- ---- arraylength
 
-abbrev pub measures : Operation → Sketches
+abbrev pub measures : Operation Local → Sketches
 measures array = main_of (at 0 3 array ∷ at 3 1 Arraylength ∷ at 4 1 returns ∷ []) []
 
 abbrev pub measures_ints : Sketches
@@ -183,7 +184,7 @@ stores_12-text = refl
 
 abbrev pub keeps : ℕ → Kind → ℤ → Sketches
 keeps code k n = main_of (
-    at 0 1 (int 1) ∷ at 1 2 (Newarray code) ∷ at 3 1 astore_0 ∷
+    at 0 1 (int 1) ∷ at 1 2 (Newarray (array_kind code)) ∷ at 3 1 astore_0 ∷
     at 4 1 aload_0 ∷ at 5 1 (int 0) ∷ at 6 3 (number n) ∷ at 9 1 (StoreElement k) ∷
     at 10 1 aload_0 ∷ at 11 1 (int 0) ∷ at 12 1 (LoadElement k) ∷ at 13 1 returns ∷ []) []
 
@@ -213,7 +214,7 @@ short-keeps_16_bits = refl
 -- ---- instructions serve arrays of their own elements alone
 
 abbrev pub loads_as : ℕ → Kind → Sketches
-loads_as code k = main_of (at 0 1 (int 1) ∷ at 1 2 (Newarray code) ∷ at 3 1 (int 0) ∷ at 4 1 (LoadElement k) ∷ at 5 1 returns ∷ []) []
+loads_as code k = main_of (at 0 1 (int 1) ∷ at 1 2 (Newarray (array_kind code)) ∷ at 3 1 (int 0) ∷ at 4 1 (LoadElement k) ∷ at 5 1 returns ∷ []) []
 
 pub chars-as_ints : (after (loads_as 5 kind.Int) 4).ending ≡ Some (Unverifiable 0 4)
 unfolding turn_in
@@ -236,7 +237,7 @@ unfolding turn_in
 longs-as_ints = refl
 
 -- the object is asked before the index, and null before all
-abbrev pub loads_of : Operation → Sketches
+abbrev pub loads_of : Operation Local → Sketches
 loads_of array = main_of (at 0 3 array ∷ at 3 1 (number (negsuc 0)) ∷ at 4 1 (LoadElement kind.Int) ∷ at 5 1 returns ∷ []) []
 
 pub element-of_null : (after (loads_of null) 3).ending ≡ uncaught_of (loads_of null) null_pointer
@@ -249,7 +250,7 @@ element-of_object = refl
 
 -- ---- monitorenter and monitorexit: null is refused, and any other object taken off
 
-abbrev pub watches : Operation → Sketches
+abbrev pub watches : Operation Local → Sketches
 watches object = main_of (at 0 1 (int 9) ∷ at 1 3 object ∷ at 4 1 Monitor ∷ at 5 1 returns ∷ []) []
 
 pub monitor-of_null : (after (watches null) 3).ending ≡ uncaught_of (watches null) null_pointer
@@ -270,7 +271,7 @@ monitor-of_int = refl
 
 -- ---- athrow: of null, and of what is no Throwable
 
-abbrev pub throws : Operation → List Catcher → Sketches
+abbrev pub throws : Operation Local → List Catcher → Sketches
 throws object handlers = main_of (at 0 3 object ∷ at 3 1 Athrow ∷ at 4 1 returns ∷ at 5 1 returns ∷ at 6 1 returns ∷ []) handlers
 
 pub throw-of_null : (after (throws null []) 2).ending ≡ uncaught_of (throws null []) null_pointer
@@ -311,7 +312,7 @@ abbrev pub after_given : Sketches → ℕ → State
 after_given s n = (turn_in (given (world_by s)) (listing_by s) n).after
 
 -- main stores into that array, and loads what it stored
-abbrev pub stores : Operation → Sketches
+abbrev pub stores : Operation Local → Sketches
 stores object = main_of (
     at 0 1 aload_0 ∷ at 1 1 (int 0) ∷ at 2 3 object ∷ at 5 1 (StoreElement kind.Ref) ∷
     at 6 1 aload_0 ∷ at 7 1 (int 0) ∷ at 8 1 (LoadElement kind.Ref) ∷ at 9 1 returns ∷ []) []
@@ -355,7 +356,7 @@ unfolding turn_in
 division-text = refl
 
 -- a class that is not there is told by its name
-abbrev pub message_by : Operation → Option (List ℕ)
+abbrev pub message_by : Operation Local → Option (List ℕ)
 message_by operation = units_at 6 (after (main_of (at 0 3 operation ∷ []) []) 1).shared.heap
 
 pub call-text : message_by (call (codes "p/Absent") (codes "f") (codes "()V")) ≡ Some (codes "p/Absent")
@@ -478,7 +479,7 @@ live-frames = refl
 
 -- ---- which opcodes these are
 
-abbrev pub operation_at : Arg → ℕ → Option Operation
+abbrev pub operation_at : Arg → ℕ → Option (Operation Local)
 operation_at a op = operation_by no_class op a (family_of op)
 
 pub loads-opcodes : map (operation_at arg.Plain) (46 ∷ 47 ∷ 50 ∷ 51 ∷ 52 ∷ 53 ∷ [])
@@ -495,7 +496,7 @@ pub other-opcodes : map (operation_at arg.Plain) (190 ∷ 191 ∷ 194 ∷ 195 �
 unfolding family_of rows
 other-opcodes = refl
 
-pub newarray-opcode : operation_at (arg.Array 8) 188 ≡ Some (Newarray 8)
+pub newarray-opcode : operation_at (arg.Array 8) 188 ≡ Some (Newarray (array_kind 8))
 unfolding family_of rows
 newarray-opcode = refl
 

@@ -2,7 +2,7 @@
 use Rattle.std.specs.Prelude.{◌≡◌, List, [], ◌∷◌, Some, None, pos, refl, codes}
 use Rattle.heap_objects.specs.declared.datum.Datum.TheVariants as datum
 use Rattle.heap_objects.specs.declared.Value.TheVariants.{Int, Long, Ref, Addr}
-use Rattle.jvm_model.specs.Basis.Data.{Pop, DupX1, Dup2X2, Operation, Nop, Constant, Within, Athrow, Unverifiable, Loads, Left, Unwound}
+use Rattle.jvm_model.specs.Basis.Data.{Pop, DupX1, Dup2X2, Local, Operation, Nop, Constant, Within, Athrow, Unverifiable, Loads, Left, Unwound}
 use Rattle.jvm_model.specs.Running.Run.{turn_in}
 use Rattle.jvm_model.specs.Profiling.Activations.{trace_in}
 use Rattle.jvm_model.specs.Basis.Values.{managed_stack}
@@ -27,7 +27,7 @@ pub constants-end : (after constants 4).ending ≡ Some (Unverifiable 0 3)
 unfolding turn_in
 constants-end = refl
 
-abbrev pub long_constant : Operation
+abbrev pub long_constant : Operation Local
 long_constant = Within (Constant (datum.Long (pos 1)))
 
 pub longs-end : (after (main_with (main_routine 3 (at 0 1 long_constant ∷ at 1 1 long_constant ∷ [])) []) 2).ending ≡ Some (Unverifiable 0 1)

@@ -5,7 +5,7 @@ use Rattle.const_pool.specs.declared.pool.Const.TheVariants.{Gap, Utf8, Class, F
 use Rattle.const_pool.specs.References.{Reference}
 use Rattle.code_model.specs.declared.instr.Arg.{Arg}
 use Rattle.code_model.specs.declared.instr.Arg.TheVariants as arg
-use Rattle.jvm_model.specs.Basis.Data.{New, Getfield, Putfield, Getstatic, Putstatic, Invokevirtual, Invokespecial, Invokestatic, Invokeinterface, Checkcast, Instanceof, Anewarray, Multianewarray, Operation, Named}
+use Rattle.jvm_model.specs.Basis.Data.{New, Getfield, Putfield, Getstatic, Putstatic, Invokevirtual, Invokespecial, Invokestatic, Invokeinterface, Checkcast, Instanceof, Anewarray, Multianewarray, Local, Operation, Named}
 use Rattle.jvm_model.specs.Basis.Families.{family_of, rows}
 use Rattle.jvm_model.specs.Codes.Lines.{operation_by}
 use Rattle.jvm_model.specs.Basis.Programs.{no_class}
@@ -20,7 +20,7 @@ class_with name = record no_class {
   this_class = 1;
 }
 
-abbrev operation_in : List ℕ → ℕ → Arg → Option Operation
+abbrev operation_in : List ℕ → ℕ → Arg → Option (Operation Local)
 operation_in name op a = operation_by (class_with name) op a (family_of op)
 
 -- with two dimensions
@@ -28,7 +28,7 @@ abbrev square : List ℕ
 square = codes "[[I"
 
 -- an instruction with this entry's index
-abbrev at_entry : ℕ → ℕ → Option Operation
+abbrev at_entry : ℕ → ℕ → Option (Operation Local)
 at_entry op index = operation_in square op (arg.Pool index)
 
 abbrev a : List ℕ

@@ -16,7 +16,7 @@ use Rattle.jvm_model.specs.declared.event.EventKind.{EventKind}
 use Rattle.jvm_model.specs.declared.event.EventKind.TheVariants as kind
 use Rattle.jvm_model.specs.declared.event.Mark.{Mark}
 use Rattle.jvm_model.specs.declared.event.Mark.TheVariants.{Off, Plain, Root}
-use Rattle.jvm_model.specs.Basis.Data.{Iadd, Dup, Operation, Instruction, ManageStack, Within, BinaryOfInts}
+use Rattle.jvm_model.specs.Basis.Data.{Iadd, Dup, Local, Operation, Instruction, ManageStack, Within, BinaryOfInts}
 use Rattle.jvm_model.specs.Running.Run.{turn_in}
 use Rattle.jvm_model.specs.Profiling.Activations.{no_trace, trace_in}
 use Rattle.jvm_model.specs.Profiling.EventLists.{Marking, all_told}
@@ -28,7 +28,7 @@ use Rattle.jvm_model.specs.Profiling.Points.{marking_in, standing_in}
 use Rattle.jvm_model.specs.Profiling.Swaps.{Swapped, first_number, points_in, swaps_in}
 
 -- the operations of a method that is given by hand
-abbrev pub code_by : Sketches → ℕ → List Operation
+abbrev pub code_by : Sketches → ℕ → List (Operation Local)
 code_by s method = map (λ (i : Instruction). i.operation) (code_in (routines_of s.classes) method)
 
 abbrev pub swaps_by : List Act → Sketches → ℕ → List Swapped
@@ -193,7 +193,7 @@ p1-neither = refl
 
 -- ---- new and invokestatic start an initializer: main is method 0, X's initializer 1 and its f 2
 
-abbrev starting : Operation → Sketches
+abbrev starting : Operation Local → Sketches
 starting operation = record {
   classes = alone (codes "M") (main_routine 1 (at 0 3 operation ∷ at 3 1 pop ∷ at 4 1 returns ∷ []) ∷ [])
       ∷ alone (codes "X") (
@@ -219,7 +219,7 @@ static-events = refl
 -- ---- the run ends as unverifiable in the root, which was deselected: f is method 0, g is 1 and main 2. At a return the root has ended, so
 -- the point at the end is quiet and g is marked no more; elsewhere it stays live.
 
-abbrev ending_by : Operation → Sketches
+abbrev ending_by : Operation Local → Sketches
 ending_by operation = record {
   classes = alone (codes "U") (
       routine (member (codes "f") (codes "()I")) 1 0 (at 0 1 operation ∷ at 1 3 (call (codes "U") (codes "g") (codes "()I")) ∷ at 4 1 ireturn ∷ [])

@@ -7,7 +7,7 @@ use Rattle.const_pool.specs.declared.descriptor.Kind.TheVariants as kind
 use Rattle.const_pool.specs.declared.class.ClassFile.{ClassFile}
 use Rattle.const_pool.specs.declared.class.Attribute.TheVariants.{Code}
 use Rattle.const_pool.specs.References.{NameAndType, Reference}
-use Rattle.jvm_model.specs.Basis.Data.{Pop, Ending, Uncaught, Entry, Active, Initializing, Constant, Load, ManageStack, Return, Operation, Within, Named, New, Getstatic, Putstatic, Invokestatic, Invokevirtual, Invokespecial, Operands, Instruction, Catcher, Listing, World, Change, State, Turn}
+use Rattle.jvm_model.specs.Basis.Data.{Pop, Ending, Uncaught, Entry, Active, Initializing, Constant, Load, ManageStack, Return, Local, Operation, Within, Named, New, Getstatic, Putstatic, Invokestatic, Invokevirtual, Invokespecial, Operands, Instruction, Catcher, Listing, World, Change, State, Turn}
 use Rattle.jvm_model.specs.Codes.Lines.{next_of}
 use Rattle.jvm_model.specs.Basis.Programs.{methods_numbered, class_named}
 use Rattle.jvm_model.specs.Running.Run.{turn_in}
@@ -168,60 +168,60 @@ alone name routines = sketch (class name object_name []) routines
 -- ---- instructions
 
 -- at an offset, of so many bytes
-abbrev pub at : ℕ → ℕ → Operation → Instruction
+abbrev pub at : ℕ → ℕ → Operation Local → Instruction
 at own size operation = record { operation = operation; own = own; next = next_of operation (own + size); targets = [] }
 
 -- with the one target that it has
-abbrev pub at_to : ℕ → ℕ → Operation → ℕ → Instruction
+abbrev pub at_to : ℕ → ℕ → Operation Local → ℕ → Instruction
 at_to own size operation target = record (at own size operation) { targets = target ∷ [] }
 
-abbrev pub int : ℕ → Operation
+abbrev pub int : ℕ → Operation Local
 int n = Within (Constant (datum.Int (pos n)))
 
-abbrev pub null : Operation
+abbrev pub null : Operation Local
 null = Within (Constant (datum.Ref 0))
 
-abbrev pub iload : ℕ → Operation
+abbrev pub iload : ℕ → Operation Local
 iload slot = Within (Load kind.Int slot)
 
-abbrev pub aload_0 : Operation
+abbrev pub aload_0 : Operation Local
 aload_0 = Within (Load kind.Ref 0)
 
-abbrev pub pop : Operation
+abbrev pub pop : Operation Local
 pop = Within (ManageStack Pop)
 
-abbrev pub ireturn : Operation
+abbrev pub ireturn : Operation Local
 ireturn = Within (Return (Some kind.Int))
 
-abbrev pub returns : Operation
+abbrev pub returns : Operation Local
 returns = Within (Return None)
 
 abbrev pub reference : List ℕ → List ℕ → List ℕ → Reference
 reference class name descriptor = record { class = class; member = member name descriptor }
 
-abbrev pub getstatic : List ℕ → List ℕ → Operation
+abbrev pub getstatic : List ℕ → List ℕ → Operation Local
 getstatic class name = Named (Getstatic (reference class name (codes "I")))
 
-abbrev pub putstatic : List ℕ → List ℕ → Operation
+abbrev pub putstatic : List ℕ → List ℕ → Operation Local
 putstatic class name = Named (Putstatic (reference class name (codes "I")))
 
-abbrev pub call : List ℕ → List ℕ → List ℕ → Operation
+abbrev pub call : List ℕ → List ℕ → List ℕ → Operation Local
 call class name descriptor = Named (Invokestatic (reference class name descriptor))
 
-abbrev pub new : List ℕ → Operation
+abbrev pub new : List ℕ → Operation Local
 new name = Named (New name)
 
 -- invokespecial, in a class of this name
-abbrev pub call_special : List ℕ → List ℕ → List ℕ → List ℕ → Operation
+abbrev pub call_special : List ℕ → List ℕ → List ℕ → List ℕ → Operation Local
 call_special caller class name descriptor = Named (Invokespecial caller (reference class name descriptor) false)
 
-abbrev pub call_virtual : List ℕ → List ℕ → List ℕ → Operation
+abbrev pub call_virtual : List ℕ → List ℕ → List ℕ → Operation Local
 call_virtual class name descriptor = Named (Invokevirtual (reference class name descriptor))
 
-abbrev pub get_out : Operation
+abbrev pub get_out : Operation Local
 get_out = Named (Getstatic (reference (codes "java/lang/System") (codes "out") (codes "Ljava/io/PrintStream;")))
 
-abbrev pub println : Operation
+abbrev pub println : Operation Local
 println = Named (Invokevirtual (reference (codes "java/io/PrintStream") (codes "println") (codes "(I)V")))
 
 -- main prints what a method of this class gives for a number

@@ -2,7 +2,7 @@
 use Rattle.std.specs.Prelude.{◌≡◌, ℕ, List, [], ◌∷◌, Option, Some, None, refl, codes}
 use Rattle.jvm_model.specs.declared.event.Event.{Event}
 use Rattle.jvm_model.specs.declared.event.EventKind.TheVariants as kind
-use Rattle.jvm_model.specs.Basis.Data.{Instruction, Operation, Athrow, Returned, Unwound, Catcher}
+use Rattle.jvm_model.specs.Basis.Data.{Instruction, Local, Operation, Athrow, Returned, Unwound, Catcher}
 use Rattle.jvm_model.specs.Running.Run.{turn_in}
 use Rattle.jvm_model.specs.Profiling.Activations.{Activation, trace_in}
 use Rattle.jvm_model.specs.Profiling.EventLists.{full_marking, all_told}
@@ -11,7 +11,7 @@ use Rattle.jvm_model.proofs.Worked.WorkedPrograms.{Routine, Sketches, places_of,
 
 -- ---- main calls a, a calls b, b calls c, and c throws a NullPointerException
 
-abbrev pub calls_of_t : List ℕ → Operation
+abbrev pub calls_of_t : List ℕ → Operation Local
 calls_of_t name = call (codes "T") name (codes "()V")
 
 abbrev pub no_argument : List ℕ → ℕ → List Instruction → Routine
@@ -108,11 +108,11 @@ other_range-passes = refl
 -- ---- names that are not there: the class is sought first, then its member; nothing of it is initialized
 
 -- main is this instruction, of three bytes
-abbrev pub lone : Operation → Sketches
+abbrev pub lone : Operation Local → Sketches
 lone operation = record { classes = alone (codes "Q") (main_routine 1 (at 0 3 operation ∷ []) ∷ []) ∷ []; main = 0 }
 
 -- it ends the run by this exception
-abbrev pub Raises : Operation → List ℕ → Type 0
+abbrev pub Raises : Operation Local → List ℕ → Type 0
 Raises operation name = (after (lone operation) 1).ending ≡ uncaught_of (lone operation) name
 
 pub no_class-of_field : Raises (getstatic (codes "Absent") (codes "b")) no_class_definition

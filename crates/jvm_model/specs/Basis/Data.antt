@@ -65,7 +65,7 @@ pub record StackForm : Type 0 where
 -- An instruction in a method: its offset in the original code, the place behind it, unless control never goes on there, and
 -- the places that it names.
 pub record Instruction : Type 0 where
-  pub operation : Operation
+  pub operation : Operation Local
   pub own : ℕ
   pub next : Option ℕ
   pub targets : List ℕ

@@ -53,8 +53,9 @@ kind_for p name = base_of_class p (unwrap_or (class_named p name) 0)
 abbrev pub class_of_kind : Program → ℕ → ℕ
 class_of_kind p kind = if nat_lt kind first_array then unwrap_or (class_of_base p kind) 0 else user_count p
 
+-- where there is no object it is java/lang/Object too
 abbrev pub class_of : Program → Shared → ℕ → ℕ
-class_of p s r = option_map_or (class_of_kind p) (kind_at r s.heap) 0
+class_of p s r = option_map_or (class_of_kind p) (kind_at r s.heap) (user_count p)
 
 -- what is shared, and a reference to an object
 pub record Allocated : Type 0 where

@@ -21,6 +21,7 @@ use Rattle.jvm_model.specs.Basis.Families.{family_of}
 use Rattle.jvm_model.specs.Classes.Kinds.{meaning_of}
 use Rattle.jvm_model.specs.Basis.Methods.{method_code}
 use Rattle.jvm_model.specs.Basis.Programs.{name_of}
+use Rattle.jvm_model.specs.Instructions.ObjectRules.{array_kind}
 
 -- ---- instructions that see their frame alone: their family with what they have of an operand
 
@@ -134,7 +135,7 @@ has_dimensions (Anewarray name) = nat_lt (meaning_of name).dimensions 255
 has_dimensions (Multianewarray name dimensions) = nat_le 1 dimensions && nat_le dimensions (meaning_of name).dimensions
 has_dimensions n = true
 
-abbrev pub named_by : SymbolicReference → Option Operation
+abbrev pub named_by : SymbolicReference → Option (Operation Local)
 named_by n = if has_dimensions n then Some (Named n) else None
 
 -- ---- instructions that see objects
@@ -142,9 +143,9 @@ named_by n = if has_dimensions n then Some (Named n) else None
 -- arraylength, athrow, monitorenter and monitorexit, iaload to saload, iastore to sastore, a row each
 pub record ObjectRow : Type 0 where
   pub op : ℕ
-  pub operation : Operation
+  pub operation : Operation Local
 
-abbrev pub object_row : ℕ → Operation → ObjectRow
+abbrev pub object_row : ℕ → Operation Local → ObjectRow
 object_row op operation = record { op = op; operation = operation }
 
 abbrev pub object_rows : List ObjectRow
@@ -155,19 +156,19 @@ object_rows =
     object_row 84 (StoreElement kind.Byte) ∷ object_row 85 (StoreElement kind.Char) ∷ object_row 86 (StoreElement kind.Short) ∷
     object_row 190 Arraylength ∷ object_row 191 Athrow ∷ object_row 194 Monitor ∷ object_row 195 Monitor ∷ []
 
-abbrev pub object_among : List ObjectRow → ℕ → Option Operation
+abbrev pub object_among : List ObjectRow → ℕ → Option (Operation Local)
 object_among [] op = None
 object_among (r ∷ rs) op = if op == r.op then Some r.operation else object_among rs op
 
--- newarray, with the code of its elements: those of the eight primitive types are 4 to 11 (6.5). With another code it is none; decoded code
+-- newarray, with the kind of its array: the codes of the eight primitive types are 4 to 11 (6.5). With another code it is none; decoded code
 -- that was looked at has none such.
-abbrev pub newarray_of : ℕ → ℕ → Option Operation
-newarray_of op code = if op == 188 && is_in_range 4 11 code then Some (Newarray code) else None
+abbrev pub newarray_of : ℕ → ℕ → Option (Operation Local)
+newarray_of op code = if op == 188 && is_in_range 4 11 code then Some (Newarray (array_kind code)) else None
 
 -- ---- every instruction
 
 -- of no family: by the form of its operand
-abbrev pub other_operation : ClassFile → ℕ → Arg → Option Operation
+abbrev pub other_operation : ClassFile → ℕ → Arg → Option (Operation Local)
 other_operation c op (arg.Pool index) = option_and_then named_by (symbolic_reference_of c op index)
 other_operation c op (arg.Interface index count zero) = option_and_then named_by (interface_reference c op index)
 other_operation c op (arg.Multi index dimensions) = option_and_then named_by (array_reference c op index dimensions)
@@ -176,29 +177,29 @@ other_operation c op arg.Plain = object_among object_rows op
 other_operation c op _ = None
 
 -- ldc, ldc_w: a String or a Class that an entry of the pool is (5.1)
-abbrev pub object_constant : List Const → Const → Option Operation
+abbrev pub object_constant : List Const → Const → Option (Operation Local)
 object_constant pool (const.Text i) = option_map LdcString (named_text pool i)
 object_constant pool (const.Class i) = option_map (λ name. Named (LdcClass name)) (named_text pool i)
 object_constant pool _ = None
 
-abbrev pub object_constant_in : List Const → Arg → Option Operation
+abbrev pub object_constant_in : List Const → Arg → Option (Operation Local)
 object_constant_in pool (arg.Pool index) = option_and_then (object_constant pool) (slice_get pool index)
 object_constant_in pool _ = None
 
 -- a number, or else an object
-abbrev pub pool_constant_operation : Option Operation → Option Operation → Option Operation
+abbrev pub pool_constant_operation : Option (Operation Local) → Option (Operation Local) → Option (Operation Local)
 pool_constant_operation (Some number) object = Some number
 pool_constant_operation None object = object
 
 -- by its family
-abbrev pub operation_by : ClassFile → ℕ → Arg → Family → Option Operation
+abbrev pub operation_by : ClassFile → ℕ → Arg → Family → Option (Operation Local)
 operation_by c op a family.NotLocal = other_operation c op a
 operation_by c op a family.PoolConstant =
     pool_constant_operation (option_map Within (local_of family.PoolConstant a (constant_in c.pool a))) (object_constant_in c.pool a)
 operation_by c op a f = option_map Within (local_of f a (constant_in c.pool a))
 
 -- what an instruction of the class does
-abbrev pub operation_of : ClassFile → Instr → Option Operation
+abbrev pub operation_of : ClassFile → Instr → Option (Operation Local)
 operation_of c i = operation_by c i.op i.arg (family_of i.op)
 
 -- ---- instructions
@@ -211,12 +212,12 @@ is_last (Ret slot) = true
 is_last (Return k) = true
 is_last _ = false
 
-abbrev pub ends : Operation → Bool
+abbrev pub ends : Operation Local → Bool
 ends (Within i) = is_last i
 ends Athrow = true
 ends _ = false
 
-abbrev pub next_of : Operation → ℕ → Option ℕ
+abbrev pub next_of : Operation Local → ℕ → Option ℕ
 next_of op «end» = if ends op then None else Some «end»
 
 -- the offsets that an instruction names: the jump's, or the default's and then the others

@@ -6,7 +6,7 @@ use Rattle.std.specs.Option.{option_map_or}
 use Rattle.jvm_model.specs.declared.event.Act.{Act}
 use Rattle.jvm_model.specs.declared.event.Mark.{Mark}
 use Rattle.jvm_model.specs.declared.event.Mark.TheVariants.{Off, Plain, Root}
-use Rattle.jvm_model.specs.Basis.Data.{MethodPlace, Program, Change, Loads, Began, Left, Unwound, Operation, Listing, World}
+use Rattle.jvm_model.specs.Basis.Data.{MethodPlace, Program, Change, Loads, Began, Left, Unwound, Local, Operation, Listing, World}
 use Rattle.jvm_model.specs.Profiling.Activations.{Activation, Trace, no_trace, current, trace_changed}
 use Rattle.jvm_model.specs.Profiling.EventLists.{Marking}
 use Rattle.jvm_model.specs.Classes.Load.{is_among}
@@ -118,10 +118,10 @@ abbrev pub has_class : Program → List ℕ → ℕ → Bool
 has_class p loaded method = option_map_or (λ (place : MethodPlace). is_among place.class loaded) (place_of_method p method) false
 
 -- the method is a target of an entered one
-abbrev pub is_target : Program → (ℕ → List Operation) → List ℕ → List ℕ → ℕ → Bool
+abbrev pub is_target : Program → (ℕ → List (Operation Local)) → List ℕ → List ℕ → ℕ → Bool
 is_target p code loaded entered method = list_any (λ caller. is_among method (targets_in p loaded (code caller))) entered
 
-abbrev pub mark_in : Program → (ℕ → List Operation) → Standing → ℕ → Mark
+abbrev pub mark_in : Program → (ℕ → List (Operation Local)) → Standing → ℕ → Mark
 mark_in p code s method =
     if has_class p s.loaded method then
     (if is_among method s.selected then Root else if is_target p code s.loaded s.entered method then Plain else Off)
@@ -137,7 +137,7 @@ before_begin acts step s (Left ∷ more) = before_begin acts step (after_change 
 before_begin acts step s (Unwound ∷ more) = before_begin acts step (after_change acts step s Unwound) more
 
 -- the mark that a method has at the last point before an activation begins in a step
-abbrev pub marking_in : List Act → World → Listing → (ℕ → List Operation) → Marking
+abbrev pub marking_in : List Act → World → Listing → (ℕ → List (Operation Local)) → Marking
 marking_in acts w t code step method =
     mark_in w.program code (before_begin acts step (standing_in acts w t step) (turn_in w t step).changes) method
 

@@ -3,7 +3,7 @@
 use Rattle.std.specs.Prelude.{◌≡◌, ℕ, Bool, false, List, [], ◌∷◌, ◌++◌, flat_map, filter_map, Option, Some, None, ◌==◌, if◌then◌else◌}
 use Rattle.std.specs.Option.{option_and_then, option_map, option_map_or}
 use Rattle.const_pool.specs.References.{Reference}
-use Rattle.jvm_model.specs.Basis.Data.{Program, Operation, Named, SymbolicReference, New, Getstatic, Putstatic, Invokevirtual, Invokespecial, Invokestatic, Invokeinterface}
+use Rattle.jvm_model.specs.Basis.Data.{Program, Local, Operation, Named, SymbolicReference, New, Getstatic, Putstatic, Invokevirtual, Invokespecial, Invokestatic, Invokeinterface}
 use Rattle.jvm_model.specs.Instructions.InvocationRules.{Selecting, Virtual, OfInterface, names_interface, selected_by}
 use Rattle.jvm_model.specs.Classes.Load.{is_among}
 use Rattle.jvm_model.specs.Classes.Lookup.{MemberPlace, is_subtype, resolved_method}
@@ -53,17 +53,17 @@ gained_by p loaded new (Invokevirtual r) = gained_named p loaded new (Invokevirt
 gained_by p loaded new (Invokeinterface r) = gained_named p loaded new (Invokeinterface r) r.class ++ gained_call p loaded new OfInterface r
 gained_by p loaded new _ = []
 
-abbrev pub gained_by_operation : Program → List ℕ → ℕ → Operation → List ℕ
+abbrev pub gained_by_operation : Program → List ℕ → ℕ → Operation Local → List ℕ
 gained_by_operation p loaded new (Named n) = gained_by p loaded new n
 gained_by_operation p loaded new _ = []
 
-abbrev pub gained_in : Program → List ℕ → ℕ → List Operation → List ℕ
+abbrev pub gained_in : Program → List ℕ → ℕ → List (Operation Local) → List ℕ
 gained_in p loaded new operations = flat_map (gained_by_operation p loaded new) operations
 
 -- ---- what a revelation keeps of the operations of entered methods
 
 -- the instruction with a name that begins something
-abbrev pub symbolic_reference_in : Operation → Option SymbolicReference
+abbrev pub symbolic_reference_in : Operation Local → Option SymbolicReference
 symbolic_reference_in (Named (New name)) = Some (New name)
 symbolic_reference_in (Named (Getstatic r)) = Some (Getstatic r)
 symbolic_reference_in (Named (Putstatic r)) = Some (Putstatic r)
@@ -85,15 +85,15 @@ call_on p loaded by r =
     option_map (λ m. record { class = class; by = by; method = m }) (found_where (is_static p) false (resolved_method p class (names_interface by) r.member)))
     (loaded_class_named p loaded r.class)
 
-abbrev pub call_in : Program → List ℕ → Operation → Option Call
+abbrev pub call_in : Program → List ℕ → Operation Local → Option Call
 call_in p loaded (Named (Invokevirtual r)) = call_on p loaded Virtual r
 call_in p loaded (Named (Invokeinterface r)) = call_on p loaded OfInterface r
 call_in p loaded _ = None
 
-abbrev pub symbolic_references_of : List Operation → List SymbolicReference
+abbrev pub symbolic_references_of : List (Operation Local) → List SymbolicReference
 symbolic_references_of operations = filter_map symbolic_reference_in operations
 
-abbrev pub calls_of : Program → List ℕ → List Operation → List Call
+abbrev pub calls_of : Program → List ℕ → List (Operation Local) → List Call
 calls_of p loaded operations = filter_map (call_in p loaded) operations
 
 -- what the new class makes of them: those that name it, and the calls on a class above it

@@ -9,7 +9,7 @@ use Rattle.code_model.specs.declared.laying.Homes.{Homes}
 use Rattle.jvm_model.specs.declared.event.Act.{Act}
 use Rattle.jvm_model.specs.declared.event.Mark.{Mark}
 use Rattle.jvm_model.specs.declared.event.Mark.TheVariants.{Off, Plain, Root}
-use Rattle.jvm_model.specs.Basis.Data.{MethodPlace, Program, Change, Loads, Began, Left, Unwound, Operation, Listing, World}
+use Rattle.jvm_model.specs.Basis.Data.{MethodPlace, Program, Change, Loads, Began, Left, Unwound, Local, Operation, Listing, World}
 use Rattle.jvm_model.specs.Rewriting.Images.{IsImage}
 use Rattle.jvm_model.specs.Basis.Programs.{class_at, no_class, number_of_method}
 use Rattle.jvm_model.specs.Running.Run.{turn_in}
@@ -60,12 +60,12 @@ same_mark Root Root = true
 same_mark _ _ = false
 
 -- a method of the class has another mark
-abbrev pub differs : Program → (ℕ → List Operation) → Standing → Standing → ℕ → Bool
+abbrev pub differs : Program → (ℕ → List (Operation Local)) → Standing → Standing → ℕ → Bool
 differs p code before now class =
     list_any (λ (e : ℕ × MethodPlace). e.1.class == class && not (same_mark (mark_in p code before e.0) (mark_in p code now e.0))) (enumerate_from 0 p.methods)
 
 -- the marks of the methods of a class, in its order; one without Code has none but Off
-abbrev pub marks_of_class : Program → (ℕ → List Operation) → Standing → ℕ → List Mark
+abbrev pub marks_of_class : Program → (ℕ → List (Operation Local)) → Standing → ℕ → List Mark
 marks_of_class p code s class =
     map (λ (e : ℕ × Member). option_map_or (mark_in p code s) (number_of_method p class e.0) Off) (enumerate_from 0 (unwrap_or (class_at p class) no_class).methods)
 
@@ -75,18 +75,18 @@ pub record Swapped : Type 0 where
   pub class : ℕ
   pub marks : List Mark
 
-abbrev pub class_swapped : Program → (ℕ → List Operation) → Point → ℕ → Swapped
+abbrev pub class_swapped : Program → (ℕ → List (Operation Local)) → Point → ℕ → Swapped
 class_swapped p code now class = record { clock = now.clock; class = class; marks = marks_of_class p code now.standing class }
 
-abbrev pub swapped_at : Program → (ℕ → List Operation) → Standing → Point → List Swapped
+abbrev pub swapped_at : Program → (ℕ → List (Operation Local)) → Standing → Point → List Swapped
 swapped_at p code before now = map (class_swapped p code now) (filter (differs p code before now.standing) now.standing.loaded)
 
 -- in the order of the points, and at each in load order
-abbrev pub swaps_from : Program → (ℕ → List Operation) → Standing → List Point → List Swapped
+abbrev pub swaps_from : Program → (ℕ → List (Operation Local)) → Standing → List Point → List Swapped
 swaps_from p code before [] = []
 swaps_from p code before (now ∷ more) = swapped_at p code before now ++ swaps_from p code now.standing more
 
-abbrev pub swaps_in : List Act → World → Listing → (ℕ → List Operation) → ℕ → List Swapped
+abbrev pub swaps_in : List Act → World → Listing → (ℕ → List (Operation Local)) → ℕ → List Swapped
 swaps_in acts w t code n = swaps_from w.program code (nothing w) (points_in acts w t n)
 
 -- how many methods with Code the classes in front of a class have: the number of its first one

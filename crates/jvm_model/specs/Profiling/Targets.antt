@@ -5,7 +5,7 @@ use Rattle.std.specs.Bool.{beq}
 use Rattle.std.specs.Option.{option_and_then, option_map_or, option_to_list}
 use Rattle.const_pool.specs.declared.class.ClassFile.{ClassFile}
 use Rattle.const_pool.specs.References.{Reference}
-use Rattle.jvm_model.specs.Basis.Data.{Operation, Named, SymbolicReference, New, Getstatic, Putstatic, Invokevirtual, Invokespecial, Invokestatic, Invokeinterface, Program}
+use Rattle.jvm_model.specs.Basis.Data.{Local, Operation, Named, SymbolicReference, New, Getstatic, Putstatic, Invokevirtual, Invokespecial, Invokestatic, Invokeinterface, Program}
 use Rattle.jvm_model.specs.Instructions.FieldRules.{is_static_field}
 use Rattle.jvm_model.specs.Instructions.InvocationRules.{Selecting, Virtual, OfInterface, Special, names_interface, selected_by}
 use Rattle.jvm_model.specs.Basis.KindNumbers.{user_count}
@@ -88,20 +88,20 @@ begun_by p loaded (Invokevirtual r) = where_loaded p loaded r.class (λ class. b
 begun_by p loaded (Invokeinterface r) = where_loaded p loaded r.class (λ class. begun_on p loaded class OfInterface r)
 begun_by p loaded _ = []
 
-abbrev pub begun_by_operation : Program → List ℕ → Operation → List ℕ
+abbrev pub begun_by_operation : Program → List ℕ → Operation Local → List ℕ
 begun_by_operation p loaded (Named n) = begun_by p loaded n
 begun_by_operation p loaded _ = []
 
 -- ---- by method
 
 -- the operations of a method's original code, in order
-abbrev pub operations_in : ClassFile → ℕ → Option (List Operation)
+abbrev pub operations_in : ClassFile → ℕ → Option (List (Operation Local))
 operations_in c method = Some (filter_map (operation_of c) (method_reading c method))
 
-abbrev pub operations_of : Program → ℕ → List Operation
+abbrev pub operations_of : Program → ℕ → List (Operation Local)
 operations_of p method = unwrap_or (by_number p operations_in method) []
 
-abbrev pub targets_in : Program → List ℕ → List Operation → List ℕ
+abbrev pub targets_in : Program → List ℕ → List (Operation Local) → List ℕ
 targets_in p loaded operations = flat_map (begun_by_operation p loaded) operations
 
 abbrev pub targets : Program → List ℕ → ℕ → List ℕ

@@ -56,7 +56,7 @@ resolved_name c (Invokevirtual r) = if is_println r then Some resolved.Println e
 resolved_name c (Invokestatic r) = option_map resolved.Invokestatic (own_method c r)
 resolved_name c _ = None
 
-abbrev pub resolved_in : ClassFile → Operation → Option Resolved
+abbrev pub resolved_in : ClassFile → Operation Local → Option Resolved
 resolved_in c (Within i) = resolved_local i
 resolved_in c (Named n) = resolved_name c n
 resolved_in c _ = None

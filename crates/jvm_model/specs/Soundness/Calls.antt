@@ -6,7 +6,7 @@ use Rattle.const_pool.specs.declared.class.ClassFile.{ClassFile}
 use Rattle.const_pool.specs.declared.class.CodeAttribute.{CodeAttribute}
 use Rattle.jvm_model.specs.Basis.Methods.{method_code}
 use Rattle.jvm_model.specs.declared.event.Act.{Act}
-use Rattle.jvm_model.specs.Basis.Data.{Program, Entry, Active, Initializing, Change, Loads, Began, Left, Unwound, Operation, World}
+use Rattle.jvm_model.specs.Basis.Data.{Program, Entry, Active, Initializing, Change, Loads, Began, Left, Unwound, Local, Operation, World}
 use Rattle.jvm_model.specs.Codes.Places.{is_place}
 use Rattle.jvm_model.specs.Basis.Programs.{by_number}
 use Rattle.jvm_model.specs.Running.Changes.{methods, without_first}
@@ -21,11 +21,11 @@ AreFrom least [] = Unit {0}
 AreFrom least (act ∷ more) = (least ≤ act.moment) × AreFrom act.moment more
 
 -- on these live methods, the current one first
-abbrev pub IsCalled : Program → (ℕ → List Operation) → List ℕ → List ℕ → ℕ → Type 0
+abbrev pub IsCalled : Program → (ℕ → List (Operation Local)) → List ℕ → List ℕ → ℕ → Type 0
 IsCalled p code loaded [] method = Unit {0}
 IsCalled p code loaded (caller ∷ rest) method = is_among method (targets_in p loaded (code caller)) ≡ true
 
-abbrev pub AreCalled : Program → (ℕ → List Operation) → List ℕ → List ℕ → List Change → Type 0
+abbrev pub AreCalled : Program → (ℕ → List (Operation Local)) → List ℕ → List ℕ → List Change → Type 0
 AreCalled p code loaded live [] = Unit {0}
 AreCalled p code loaded live (Loads classes ∷ more) = AreCalled p code loaded live more
 AreCalled p code loaded live (Began method ∷ more) =
@@ -51,7 +51,7 @@ methods_before w zero = []
 methods_before w (suc n) = methods (run w n).stack
 
 -- what a step tells to load is what it loads, and what begins is called
-pub record IsTold (w : World) (code : ℕ → List Operation) (n : ℕ) : Type 0 where
+pub record IsTold (w : World) (code : ℕ → List (Operation Local)) (n : ℕ) : Type 0 where
   pub loads : (run w n).shared.loaded ≡ loaded_before w n ++ loads_of (turn w n).changes
   pub calls : AreCalled w.program code (run w n).shared.loaded (methods_before w n) (turn w n).changes
 

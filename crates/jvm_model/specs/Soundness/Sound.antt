@@ -4,7 +4,7 @@ use Rattle.std.specs.List.{AllByRecursion, list_any}
 use Rattle.const_pool.specs.BuiltIn.{built_in_names}
 use Rattle.heap_objects.specs.declared.object.Object.{Object}
 use Rattle.heap_objects.specs.Objects.{kind_of}
-use Rattle.jvm_model.specs.Basis.Data.{Entry, Active, Initializing, MethodPlace, SymbolicReference, Invokespecial, Operation, Named, Newarray, Outcome, Invokes, Raises, Initializes, Done, Program, Shared, State}
+use Rattle.jvm_model.specs.Basis.Data.{Entry, Active, Initializing, MethodPlace, SymbolicReference, Invokespecial, Local, Operation, Named, Newarray, Outcome, Invokes, Raises, Initializes, Done, Program, Shared, State}
 use Rattle.jvm_model.specs.Basis.Descriptors.{same_text}
 use Rattle.jvm_model.specs.Basis.KindNumbers.{class_of_base, user_count}
 use Rattle.jvm_model.specs.Classes.Kinds.{is_array_name}
@@ -60,11 +60,16 @@ abbrev pub HasLoadedCaller : Program → List ℕ → SymbolicReference → Type
 HasLoadedCaller p loaded (Invokespecial caller r interface) = (class : ℕ) → class_named p caller ≡ Some class → IsLoaded loaded class
 HasLoadedCaller p loaded n = Unit {0}
 
--- What an attempt asks: of an instruction that names an array's type that it has the dimensions that it needs, and of newarray the
--- code of a primitive type (4.9.1).
-abbrev pub CanAttempt : Program → List ℕ → Operation → Type 0
+-- an array of one dimension whose elements are of a primitive type
+pub record IsPrimitiveArray (kind : ℕ) : Type 0 where
+  pub array : 16777216 ≤ kind
+  pub primitive : kind < 16777232
+
+-- What an attempt asks: of an instruction that names an array's type that it has the dimensions that it needs, and of newarray that
+-- its array's elements are of a primitive type (4.9.1).
+abbrev pub CanAttempt : Program → List ℕ → Operation Local → Type 0
 CanAttempt p loaded (Named n) = HasLoadedCaller p loaded n × (has_dimensions n ≡ true)
-CanAttempt p loaded (Newarray code) = code < 16
+CanAttempt p loaded (Newarray kind) = IsPrimitiveArray kind
 CanAttempt p loaded o = Unit {0}
 
 -- ---- what an instruction asks for

@@ -4,7 +4,7 @@ use Rattle.std.specs.Option.{option_map_or}
 use Rattle.jvm_model.specs.declared.event.EventKind.TheVariants as kind
 use Rattle.jvm_model.specs.declared.event.Mark.{Mark}
 use Rattle.jvm_model.specs.Rewriting.Images.{is_off}
-use Rattle.jvm_model.specs.Basis.Data.{Shared, Locals, Operands, Frame, Entry, Active, Ending, State, Change, Turn, Return, Operation, Within, Instruction, Outcome, Returns, Breaks, Listing, World}
+use Rattle.jvm_model.specs.Basis.Data.{Shared, Locals, Operands, Frame, Entry, Active, Ending, State, Change, Turn, Return, Local, Operation, Within, Instruction, Outcome, Returns, Breaks, Listing, World}
 use Rattle.jvm_model.specs.Basis.SharedState.{phase_of}
 use Rattle.jvm_model.specs.Instructions.Does.{does}
 use Rattle.jvm_model.specs.Running.Applies.{still, breaks, applies}
@@ -44,7 +44,7 @@ again_pause w t v n live i s f (Some c) p =
     then turn_pause w t v n live (instruction_attempted w t i (record p.state { stack = s.stack }) f)
     else p
 
-abbrev pub is_return : Operation → Bool
+abbrev pub is_return : Operation Local → Bool
 is_return (Within (Return k)) = true
 is_return _ = false
 
@@ -56,10 +56,10 @@ ends_by _ = false
 
 -- Only returns end an activation: a law of the rules.
 abbrev pub EndsByReturn : World → Type 0
-EndsByReturn w = (op : Operation) (s : Shared) (l : Locals) (o : Operands) → ends_by (does w op s l o).outcome ≡ true → is_return op ≡ true
+EndsByReturn w = (op : Operation Local) (s : Shared) (l : Locals) (o : Operands) → ends_by (does w op s l o).outcome ≡ true → is_return op ≡ true
 
 -- a probe tells of it first, unless it has told
-abbrev pub leave_due : Bool → Mark → Operation → Bool
+abbrev pub leave_due : Bool → Mark → Operation Local → Bool
 leave_due told m op = not told && not (is_off m) && is_return op
 
 abbrev pub line_pause : World → Listing → (ℕ → Mark) → Bool → ℕ → State → Frame → Instruction → Pause

@@ -1,26 +1,31 @@
 //! The kinds of the built-in classes that rules speak of.
 
-pub const CLONEABLE_KIND: u32 = 17;
+use base_classes::{BOOLEAN, CHARACTER, CLASS, CLONEABLE, ENUM, INTEGER, LONG, STRING, THROWABLE};
 
-pub const CLASS_KIND: u32 = 22;
+/// The kinds of the built-in classes are counted from here on, in the order of their places.
+const FIRST_CLASS_KIND: u32 = 16;
 
-pub const STRING_KIND: u32 = 23;
-/// One dimension of char.
-pub const CHARS_KIND: u32 = 16777221;
+pub const CLONEABLE_KIND: u32 = FIRST_CLASS_KIND + CLONEABLE as u32;
 
-pub const INTEGER_KIND: u32 = 30;
+pub const CLASS_KIND: u32 = FIRST_CLASS_KIND + CLASS as u32;
 
-pub const LONG_KIND: u32 = 31;
+pub const STRING_KIND: u32 = FIRST_CLASS_KIND + STRING as u32;
+/// One dimension of char, which is primitive kind 5.
+pub const CHARS_KIND: u32 = FIRST_ARRAY_KIND + 5;
 
-pub const CHARACTER_KIND: u32 = 32;
+pub const INTEGER_KIND: u32 = FIRST_CLASS_KIND + INTEGER as u32;
 
-pub const BOOLEAN_KIND: u32 = 33;
+pub const LONG_KIND: u32 = FIRST_CLASS_KIND + LONG as u32;
 
-pub const ENUM_KIND: u32 = 35;
+pub const CHARACTER_KIND: u32 = FIRST_CLASS_KIND + CHARACTER as u32;
 
-pub const THROWABLE_KIND: u32 = 36;
+pub const BOOLEAN_KIND: u32 = FIRST_CLASS_KIND + BOOLEAN as u32;
+
+pub const ENUM_KIND: u32 = FIRST_CLASS_KIND + ENUM as u32;
+
+pub const THROWABLE_KIND: u32 = FIRST_CLASS_KIND + THROWABLE as u32;
 
 /// The kinds from here on are arrays'.
 pub const FIRST_ARRAY_KIND: u32 = 16777216;
 /// Arrays of references have the kinds from here on.
-pub const FIRST_REFERENCE_ARRAY_KIND: u32 = 16777232;
+pub const FIRST_REFERENCE_ARRAY_KIND: u32 = FIRST_ARRAY_KIND + FIRST_CLASS_KIND;

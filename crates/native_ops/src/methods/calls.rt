@@ -3,6 +3,7 @@
 ghost use Rattle.std.specs.Prelude.{◌≡◌, ◌<◌, ◌++◌, ℕ, List, IfOk, IsSome, slice_get, true};
 ghost use Rattle.std.specs.Option.{option_map};
 ghost use Rattle.base_classes.specs.Natives.{native_methods};
+ghost use Rattle.base_classes.specs.declared.places.TheConstants.{NATIVE_METHODS};
 ghost use Rattle.native_ops.specs.Methods.Named.{reference_of};
 ghost use Rattle.native_ops.specs.Methods.Rows.{rows};
 ghost use Rattle.native_effects.specs.Effects.Worlds.{world};
@@ -84,7 +85,7 @@ fn effect_of<K: Kinds>(
     heap: &Heap,
     made: &Made,
 ) -> Result<Effect, NoMemory>
-    requires { native < 265 }
+    requires { native < NATIVE_METHODS }
     ensures { (input : List ℕ) → (read : ℕ) → IfOk result (λ e. e
         ≡ effect_of native (K.seen kinds.now) args.now (world heap.now made.now input read)) }
 {

@@ -1,6 +1,7 @@
 //! The native methods by number.
 
 ghost use Rattle.std.specs.Prelude.{◌≡◌, ◌<◌, Some, slice_get};
+ghost use Rattle.base_classes.specs.declared.places.TheConstants.{NATIVE_METHODS};
 ghost use Rattle.native_ops.specs.Methods.Rows.{rows};
 
 use crate::methods::method::{
@@ -9,6 +10,7 @@ use crate::methods::method::{
     SystemMethod, ThrowableMethod,
 };
 use crate::methods::signature::{Parameters, Receiver};
+use base_classes::NATIVE_METHODS;
 use native_effects::Printable;
 
 /// What a native method does, and what it takes.
@@ -60,7 +62,7 @@ macro_rules! rows {
 }
 
 /// The native methods, in the order of the classes and of each class's methods.
-const ROWS: [Row; 265] = rows![
+const ROWS: [Row; NATIVE_METHODS as usize] = rows![
     [Receiver::Any;
         [Object ObjectMethod::Init, Nothing]
         [Object ObjectMethod::Equals, OneObject]
@@ -240,7 +242,7 @@ const ROWS: [Row; 265] = rows![
 
 /// The row of a native method.
 pub fn row_of(number: u16) -> Row
-    requires { number < 265 }
+    requires { number < NATIVE_METHODS }
     ensures { slice_get rows number ≡ Some result }
 {
     at(&ROWS, number as usize)

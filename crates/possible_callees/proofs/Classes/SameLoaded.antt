@@ -5,6 +5,7 @@ use Rattle.std.specs.Option.{option_and_then, option_map_or, option_to_list}
 use Rattle.std.proofs.lemmas.Bool.{and_from}
 use Rattle.const_pool.specs.References.{Reference}
 use Rattle.jvm_model.specs.declared.program.Program.{Program}
+use Rattle.jvm_model.specs.declared.instruction.Local.{Local}
 use Rattle.jvm_model.specs.declared.instruction.Operation.{Operation}
 use Rattle.jvm_model.specs.declared.instruction.Operation.TheVariants.{Within, Named, Athrow, Monitor, Newarray, Arraylength, LoadElement, StoreElement, LdcString}
 use Rattle.jvm_model.specs.Instructions.FieldRules.{is_static_field}
@@ -128,18 +129,18 @@ module _ (p : Program) where
   begun-same a b (Multianewarray name dimensions) m same = refl
   begun-same a b (LdcClass name) m same = refl
 
-  operation-same : (a b : List ℕ) (op : Operation) (m : ℕ) → AreSame a b → is_among m (begun_by_operation p a op) ≡ is_among m (begun_by_operation p b op)
+  operation-same : (a b : List ℕ) (op : Operation Local) (m : ℕ) → AreSame a b → is_among m (begun_by_operation p a op) ≡ is_among m (begun_by_operation p b op)
   operation-same a b (Named n) m same = begun-same a b n m same
   operation-same a b (Within i) m same = refl
   operation-same a b Athrow m same = refl
   operation-same a b Monitor m same = refl
-  operation-same a b (Newarray code) m same = refl
+  operation-same a b (Newarray kind) m same = refl
   operation-same a b Arraylength m same = refl
   operation-same a b (LoadElement k) m same = refl
   operation-same a b (StoreElement k) m same = refl
   operation-same a b (LdcString units) m same = refl
 
-  pub targets-same : (a b : List ℕ) (ops : List Operation) (m : ℕ) → AreSame a b → is_among m (targets_in p a ops) ≡ is_among m (targets_in p b ops)
+  pub targets-same : (a b : List ℕ) (ops : List (Operation Local)) (m : ℕ) → AreSame a b → is_among m (targets_in p a ops) ≡ is_among m (targets_in p b ops)
   targets-same a b [] m same = refl
   targets-same a b (op ∷ rest) m same =
       among-append m (begun_by_operation p a op) (targets_in p a rest)

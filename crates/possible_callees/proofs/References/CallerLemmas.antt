@@ -10,6 +10,7 @@ use Rattle.code_model.specs.Instructions.{end_of, instruction_at}
 use Rattle.jvm_model.specs.declared.program.MethodPlace.{MethodPlace}
 use Rattle.jvm_model.specs.declared.program.Program.{Program}
 use Rattle.jvm_model.specs.Basis.Data.{Instruction}
+use Rattle.jvm_model.specs.declared.instruction.Local.{Local}
 use Rattle.jvm_model.specs.declared.instruction.Operation.{Operation}
 use Rattle.jvm_model.specs.declared.instruction.Operation.TheVariants.{Within, Named, Athrow, Monitor, Newarray, Arraylength, LoadElement, StoreElement, LdcString}
 use Rattle.jvm_model.specs.Codes.Lines.{code_instruction, instruction_of, method_instruction, next_of, operation_of, targets_of}
@@ -25,7 +26,7 @@ use Rattle.jvm_model.specs.Profiling.Targets.{operations_in, operations_of}
 use Rattle.jvm_model.proofs.Soundness.SoundLines.{can-attempt}
 
 module _ (p : Program) (loaded : List ℕ) where
-  fine : (op : Operation) → CanAttempt p loaded op → IfSome (symbolic_reference_in op) (HasLoadedCaller p loaded)
+  fine : (op : Operation Local) → CanAttempt p loaded op → IfSome (symbolic_reference_in op) (HasLoadedCaller p loaded)
   fine (Named (New name)) can = can.0
   fine (Named (Getstatic r)) can = can.0
   fine (Named (Putstatic r)) can = can.0
@@ -43,7 +44,7 @@ module _ (p : Program) (loaded : List ℕ) where
   fine (Within i) can = tt
   fine Athrow can = tt
   fine Monitor can = tt
-  fine (Newarray code) can = tt
+  fine (Newarray kind) can = tt
   fine Arraylength can = tt
   fine (LoadElement k) can = tt
   fine (StoreElement k) can = tt
@@ -57,8 +58,8 @@ module _ (p : Program) (loaded : List ℕ) where
   one-more (Some n) ns first rest = (first, rest)
 
   module _ (c : ClassFile) (code : List ℕ)
-      (each : (offset : ℕ) (i : Instr) (op : Operation) → instruction_at code offset ≡ Some i → operation_of c i ≡ Some op → CanAttempt p loaded op) where
-    op-fine : (offset : ℕ) (i : Instr) (o : Option Operation) (ops : List Operation) → instruction_at code offset ≡ Some i → operation_of c i ≡ o
+      (each : (offset : ℕ) (i : Instr) (op : Operation Local) → instruction_at code offset ≡ Some i → operation_of c i ≡ Some op → CanAttempt p loaded op) where
+    op-fine : (offset : ℕ) (i : Instr) (o : Option (Operation Local)) (ops : List (Operation Local)) → instruction_at code offset ≡ Some i → operation_of c i ≡ o
         → AreFine (symbolic_references_of ops) → AreFine (symbolic_references_of (cons_option o ops))
     op-fine offset i None ops there e rest = rest
     op-fine offset i (Some op) ops there e rest = one-more (symbolic_reference_in op) (symbolic_references_of ops) (fine op (each offset i op there e)) rest
@@ -73,10 +74,10 @@ module _ (p : Program) (loaded : List ℕ) where
         by (Some i) e rest = op-fine at i (operation_of c i) (filter_map (operation_of c) (read_from n code (end_of i))) e refl (rest (end_of i))
 
   module _ (fit : IsFit p) (method : ℕ) (has : HasClass p loaded method) where
-    abbrev made : Instr → Operation → Instruction
+    abbrev made : Instr → Operation Local → Instruction
     made i op = record { operation = op; own = i.at; next = next_of op (end_of i); targets = targets_of i.arg }
 
-    stands : (place : MethodPlace) (c : ClassFile) (code : CodeAttribute) (offset : ℕ) (i : Instr) (op : Operation)
+    stands : (place : MethodPlace) (c : ClassFile) (code : CodeAttribute) (offset : ℕ) (i : Instr) (op : Operation Local)
         → place_of_method p method ≡ Some place → class_at p place.class ≡ Some c → method_code c place.position ≡ Some code
         → instruction_at code.code offset ≡ Some i → operation_of c i ≡ Some op → (original p).at method offset ≡ Some (made i op)
     stands place c code offset i op at of_class has_code there is =

@@ -7,17 +7,16 @@ use Rattle.const_pool.specs.declared.class.ClassFile.{ClassFile}
 use Rattle.code_model.specs.declared.instr.Instr.{Instr}
 use Rattle.jvm_model.specs.Codes.Lines.{operation_of}
 use Rattle.prepared_lines.specs.declared.line.Line.{Line}
+use Rattle.jvm_model.specs.declared.instruction.Local.{Local}
+use Rattle.jvm_model.specs.declared.instruction.SymbolicReference.TheVariants.{New, Getfield, Putfield, Getstatic, Putstatic, Invokevirtual, Invokespecial, Invokestatic, Invokeinterface, Checkcast, Instanceof, Anewarray, Multianewarray, LdcClass}
 use Rattle.jvm_model.specs.declared.instruction.Operation.{Operation}
 use Rattle.jvm_model.specs.declared.instruction.Operation.TheVariants.{Within, Named, Athrow, Monitor, Newarray, Arraylength, LoadElement, StoreElement, LdcString}
-use Rattle.jvm_model.specs.declared.instruction.Local.{Local}
-use Rattle.jvm_model.specs.declared.instruction.Local.TheVariants.{Return}
-use Rattle.jvm_model.specs.declared.instruction.SymbolicReference.TheVariants.{New, Getfield, Putfield, Getstatic, Putstatic, Invokevirtual, Invokespecial, Invokestatic, Invokeinterface, Checkcast, Instanceof, Anewarray, Multianewarray, LdcClass}
 use Rattle.jvm_model.specs.Profiling.Revelation.{symbolic_reference_in}
-use Rattle.prepared_lines.specs.Lines.{action_of, line_of, line_with, local_action}
+use Rattle.prepared_lines.specs.Lines.{operation_kept, line_of, line_with}
 use Rattle.possible_callees.specs.CodeReferences.{begins_by}
 
 -- what a line names that can begin methods is what its operation names
-pub begins_alike : (op : Operation) → begins_by (action_of op) ≡ symbolic_reference_in op
+pub begins_alike : (op : Operation Local) → begins_by (operation_kept op) ≡ symbolic_reference_in op
 begins_alike (Named (New name)) = refl
 begins_alike (Named (Getstatic r)) = refl
 begins_alike (Named (Putstatic r)) = refl
@@ -32,22 +31,18 @@ begins_alike (Named (Instanceof name)) = refl
 begins_alike (Named (Anewarray name)) = refl
 begins_alike (Named (Multianewarray name dimensions)) = refl
 begins_alike (Named (LdcClass name)) = refl
-begins_alike (Within i) = local i
-  where
-    local : (i : Local) → begins_by (local_action i) ≡ None
-    local (Return k) = refl
-    local i = refl
+begins_alike (Within i) = refl
 begins_alike Athrow = refl
 begins_alike Monitor = refl
-begins_alike (Newarray code) = refl
+begins_alike (Newarray kind) = refl
 begins_alike Arraylength = refl
 begins_alike (LoadElement k) = refl
 begins_alike (StoreElement k) = refl
 begins_alike (LdcString units) = refl
 
-pub line-begins : (c : ClassFile) (i : Instr) (line : Line) → line_of c i ≡ Some line → begins_by line.action ≡ option_and_then symbolic_reference_in (operation_of c i)
+pub line-begins : (c : ClassFile) (i : Instr) (line : Line) → line_of c i ≡ Some line → begins_by line.operation ≡ option_and_then symbolic_reference_in (operation_of c i)
 line-begins c i line e = by (operation_of c i) e
   where
-    by : (o : Option Operation) → option_map (line_with c i) (option_map action_of o) ≡ Some line → begins_by line.action ≡ option_and_then symbolic_reference_in o
+    by : (o : Option (Operation Local)) → option_map (line_with c i) (option_map operation_kept o) ≡ Some line → begins_by line.operation ≡ option_and_then symbolic_reference_in o
     by None e = absurd (none-some line e)
-    by (Some op) e = ap (λ (l : Line). begins_by l.action) (sym (same_Some (line_with c i (action_of op)) line e)) ∙ begins_alike op
+    by (Some op) e = ap (λ (l : Line). begins_by l.operation) (sym (same_Some (line_with c i (operation_kept op)) line e)) ∙ begins_alike op

@@ -6,6 +6,7 @@ use Rattle.std.specs.Option.{option_and_then, option_map, option_map_or, option_
 use Rattle.const_pool.specs.declared.class.ClassFile.{ClassFile}
 use Rattle.code_model.specs.declared.instr.Instr.{Instr}
 use Rattle.code_model.specs.Instructions.{end_of, instruction_at}
+use Rattle.jvm_model.specs.declared.instruction.Local.{Local}
 use Rattle.jvm_model.specs.declared.instruction.Operation.{Operation}
 use Rattle.jvm_model.specs.Codes.Lines.{operation_of}
 use Rattle.jvm_model.specs.Codes.Places.{read_from}
@@ -13,7 +14,7 @@ use Rattle.jvm_model.specs.Profiling.Revelation.{symbolic_reference_in}
 use Rattle.jvm_model.specs.declared.instruction.SymbolicReference.{SymbolicReference}
 use Rattle.possible_callees.specs.CodeReferences.{symbolic_references_from}
 
-one-operation : (o : Option Operation) (ops : List Operation)
+one-operation : (o : Option (Operation Local)) (ops : List (Operation Local))
     → filter_map symbolic_reference_in (cons_option o ops) ≡ cons_option (option_and_then symbolic_reference_in o) (filter_map symbolic_reference_in ops)
 one-operation None ops = refl
 one-operation (Some op) ops = refl

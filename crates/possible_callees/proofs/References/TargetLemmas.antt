@@ -6,6 +6,7 @@ use Rattle.std.specs.List.{AllByRecursion, cons_option}
 use Rattle.std.specs.Option.{option_map_or}
 use Rattle.std.proofs.lemmas.Bool.{or_left, or_right}
 use Rattle.jvm_model.specs.declared.program.Program.{Program}
+use Rattle.jvm_model.specs.declared.instruction.Local.{Local}
 use Rattle.jvm_model.specs.declared.instruction.Operation.{Operation}
 use Rattle.jvm_model.specs.declared.instruction.Operation.TheVariants.{Within, Named, Athrow, Monitor, Newarray, Arraylength, LoadElement, StoreElement, LdcString}
 use Rattle.jvm_model.specs.Classes.Load.{is_among}
@@ -19,7 +20,7 @@ use Rattle.possible_callees.proofs.Numbers.Adding.{among-append, itself}
 use Rattle.possible_callees.proofs.Classes.SameLoaded.{targets-same}
 
 module _ (p : Program) (loaded : List ℕ) where
-  op-made : (op : Operation) → begun_by_operation p loaded op ≡ option_map_or (begun_by p loaded) (symbolic_reference_in op) []
+  op-made : (op : Operation Local) → begun_by_operation p loaded op ≡ option_map_or (begun_by p loaded) (symbolic_reference_in op) []
   op-made (Named (New name)) = refl
   op-made (Named (Getstatic r)) = refl
   op-made (Named (Putstatic r)) = refl
@@ -37,7 +38,7 @@ module _ (p : Program) (loaded : List ℕ) where
   op-made (Within i) = refl
   op-made Athrow = refl
   op-made Monitor = refl
-  op-made (Newarray code) = refl
+  op-made (Newarray kind) = refl
   op-made Arraylength = refl
   op-made (LoadElement k) = refl
   op-made (StoreElement k) = refl
@@ -47,7 +48,7 @@ module _ (p : Program) (loaded : List ℕ) where
   cons-made f None ns = refl
   cons-made f (Some n) ns = refl
 
-  pub targets-made : (ops : List Operation) → targets_in p loaded ops ≡ flat_map (begun_by p loaded) (symbolic_references_of ops)
+  pub targets-made : (ops : List (Operation Local)) → targets_in p loaded ops ≡ flat_map (begun_by p loaded) (symbolic_references_of ops)
   targets-made [] = refl
   targets-made (op ∷ rest) = ap₂ (λ a b. a ++ b) (op-made op) (targets-made rest) ∙ sym (cons-made (begun_by p loaded) (symbolic_reference_in op) (symbolic_references_of rest))
 

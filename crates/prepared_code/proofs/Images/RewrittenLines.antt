@@ -13,7 +13,7 @@ use Rattle.jvm_model.specs.Basis.Families.{family_of}
 use Rattle.jvm_model.specs.Codes.Lines.{instruction_of, operation_of}
 use Rattle.prepared_lines.specs.declared.line.Line.{Line}
 use Rattle.jvm_model.specs.Codes.Homed.{start_in}
-use Rattle.prepared_lines.specs.Lines.{action_of, line_of}
+use Rattle.prepared_lines.specs.Lines.{operation_kept, line_of}
 use Rattle.prepared_code.specs.Ready.{IsOwnLine}
 use Rattle.prepared_code.specs.Rewritten.{homed_line, line_for, own_line, placed_line, rewritten_version}
 use Rattle.prepared_code.specs.Versions.{HasOwnLines, IsPrepared, line_in}
@@ -53,11 +53,11 @@ module _ (P : Line → Type 0) (image : ClassFile) (each : (i : Instr) → IfSom
 
 pub rewritten-lines : (method : ℕ) (image : ClassFile) (code : CodeAttribute) (homes : Homes) (len : ℕ) → HasOwnLines (rewritten_version method image code homes len)
 rewritten-lines method image code homes len = record {
-  prepared = λ place. lines-each IsPrepared image (λ i. made-with image i (option_map action_of (operation_of image i))) (λ own line h. record { family = h.family; hot = h.hot }) method code homes len place;
+  prepared = λ place. lines-each IsPrepared image (λ i. made-with image i (option_map operation_kept (operation_of image i))) (λ own line h. record { family = h.family; hot = h.hot }) method code homes len place;
   dimensions = λ place. lines-each Fits image (λ i. fits-with image i (operation_of image i) (by-family image i.op i.arg (family_of i.op))) (λ own line h. h) method code homes len place;
 }
 
 pub rewritten-own : (method : ℕ) (image : ClassFile) (code : CodeAttribute) (homes : Homes) (len place : ℕ) → IfSome (line_in place (rewritten_version method image code homes len)) IsOwnLine
 rewritten-own method image code homes len place =
     lines-each IsOwnLine image (λ i. own-tie (line_of image i) (instruction_of image i) (tied-instruction image i))
-    (λ own line h. record { action = h.action; next = h.next; alone = h.alone; within = h.within }) method code homes len place
+    (λ own line h. record { kept = h.kept; next = h.next; alone = h.alone; within = h.within }) method code homes len place

@@ -7,6 +7,8 @@ use Rattle.frame_stack.specs.FrameLists.{PlacedFrame, pins_of}
 use Rattle.method_versions.specs.Tables.{is_superseded_in}
 use Rattle.class_linker.specs.Linkers.{LinkerView}
 use Rattle.jvm_model.specs.declared.instruction.SymbolicReference.{SymbolicReference}
+use Rattle.jvm_model.specs.declared.instruction.Operation.{Operation}
+use Rattle.jvm_model.specs.declared.instruction.Operation.TheVariants as operation
 use Rattle.member_selection.specs.Attempts.{with_more}
 use Rattle.member_selection.specs.declared.known.Known.{Known}
 use Rattle.member_selection.specs.Known.{IsKnown}
@@ -16,8 +18,7 @@ use Rattle.prepared_code.specs.Kept.{AreKnown, IsLater}
 use Rattle.prepared_code.specs.Lines.{IfNamed, IfNamedBy}
 use Rattle.prepared_code.specs.Tables.{Releases, Versions, version_at}
 use Rattle.prepared_code.specs.Versions.{line_at, line_in}
-use Rattle.prepared_lines.specs.declared.line.Action.{Action}
-use Rattle.prepared_lines.specs.declared.line.Action.TheVariants as action
+use Rattle.prepared_lines.specs.declared.line.LocalAction.{LocalAction}
 use Rattle.prepared_lines.specs.declared.line.Line.{Line}
 
 same-known : (a b : Known) → Some a ≡ Some b → b ≡ a
@@ -135,21 +136,20 @@ known-kept l v old new version place known keeps are one = record {
 
 -- ---- with more loaded
 
-by-action : (a : Action) (next : ℕ) (P Q : SymbolicReference → ℕ → Type 0) → ((n : SymbolicReference) (next : ℕ) → P n next → Q n next) → IfNamedBy a next P → IfNamedBy a next Q
-by-action (action.Named n) next P Q f h = f _ next h
-by-action action.Local next P Q f h = tt
-by-action (action.Return k) next P Q f h = tt
-by-action action.Athrow next P Q f h = tt
-by-action action.Monitor next P Q f h = tt
-by-action action.Arraylength next P Q f h = tt
-by-action (action.Newarray k) next P Q f h = tt
-by-action (action.LoadElement k) next P Q f h = tt
-by-action (action.StoreElement k) next P Q f h = tt
-by-action (action.LdcString units) next P Q f h = tt
+by-operation : (a : Operation LocalAction) (next : ℕ) (P Q : SymbolicReference → ℕ → Type 0) → ((n : SymbolicReference) (next : ℕ) → P n next → Q n next) → IfNamedBy a next P → IfNamedBy a next Q
+by-operation (operation.Named n) next P Q f h = f _ next h
+by-operation (operation.Within i) next P Q f h = tt
+by-operation operation.Athrow next P Q f h = tt
+by-operation operation.Monitor next P Q f h = tt
+by-operation operation.Arraylength next P Q f h = tt
+by-operation (operation.Newarray k) next P Q f h = tt
+by-operation (operation.LoadElement k) next P Q f h = tt
+by-operation (operation.StoreElement k) next P Q f h = tt
+by-operation (operation.LdcString units) next P Q f h = tt
 
 by-line : (o : Option Line) (P Q : SymbolicReference → ℕ → Type 0) → ((n : SymbolicReference) (next : ℕ) → P n next → Q n next) → IfNamed o P → IfNamed o Q
 by-line None P Q f h = tt
-by-line (Some line) P Q f h = by-action line.action line.next P Q f h
+by-line (Some line) P Q f h = by-operation line.operation line.next P Q f h
 
 pub known-later : (l new : LinkerView) (v : Versions) (rows : Rows) → IsLater l new → AreKnown l v rows → AreKnown new v rows
 known-later l new v rows later are = record {
@@ -174,25 +174,25 @@ known-learnt l new v rows after version place (Some k) later are learns one =
 -- ---- the line that stands at a place
 
 pub learnt-at : (new : LinkerView) (v : Versions) (version place : ℕ) (line : Line) (learnt : Option Known) → line_at v version place ≡ Some line
-    → IfSome learnt (λ k. IfNamedBy line.action line.next (λ n next. IsKnown new n k))
+    → IfSome learnt (λ k. IfNamedBy line.operation line.next (λ n next. IsKnown new n k))
     → IfSome learnt (λ k. IfNamed (line_at v version place) (λ n next. IsKnown new n k))
 learnt-at new v version place line learnt is one =
     subst (λ o. IfSome learnt (λ k. IfNamed o (λ n next. IsKnown new n k))) (sym is) one
 
 pub known-at : (l : LinkerView) (v : Versions) (rows : Rows) (version place : ℕ) (k : Known) (line : Line) → AreKnown l v rows
-    → cell_at rows version place ≡ Some k → line_at v version place ≡ Some line → IfNamedBy line.action line.next (λ n next. IsKnown l n k)
+    → cell_at rows version place ≡ Some k → line_at v version place ≡ Some line → IfNamedBy line.operation line.next (λ n next. IsKnown l n k)
 known-at l v rows version place k line are there is =
     subst (λ o. IfNamed o (λ n next. IsKnown l n k)) is (are.each version place k there)
 
 -- what the line's own attempts leave
 pub renewed : (l : LinkerView) (v : Versions) (rows after : Rows) (version place : ℕ) (k : Known) (line : Line) → line_at v version place ≡ Some line
-    → Keeps version place k rows after → AreKnown l v rows → IfNamedBy line.action line.next (λ n next. IsKnown l n k) → AreKnown l v after
+    → Keeps version place k rows after → AreKnown l v rows → IfNamedBy line.operation line.next (λ n next. IsKnown l n k) → AreKnown l v after
 renewed l v rows after version place k line is keeps are one =
     known-kept l v rows after version place k keeps are (subst (λ o. IfNamed o (λ n next. IsKnown l n k)) (sym is) one)
 
 pub learnt-kept : (l new : LinkerView) (v : Versions) (rows after : Rows) (version place : ℕ) (learnt : Option Known) (line : Line) → line_at v version place ≡ Some line
     → IsLater l new → AreKnown l v rows → Learns version place learnt rows after
-    → IfSome learnt (λ k. IfNamedBy line.action line.next (λ n next. IsKnown new n k)) → AreKnown new v after
+    → IfSome learnt (λ k. IfNamedBy line.operation line.next (λ n next. IsKnown new n k)) → AreKnown new v after
 learnt-kept l new v rows after version place learnt line is later are learns one =
     known-learnt l new v rows after version place learnt later are learns (learnt-at new v version place line learnt is one)
 

@@ -19,26 +19,27 @@ use Rattle.jvm_model.specs.declared.family.Family.TheVariants as family
 use Rattle.jvm_model.specs.declared.program.Program.{Program}
 use Rattle.jvm_model.specs.declared.instruction.Local.{Local}
 use Rattle.jvm_model.specs.declared.instruction.Local.TheVariants.{Return}
-use Rattle.jvm_model.specs.declared.instruction.Operation.{Operation}
-use Rattle.jvm_model.specs.declared.instruction.Operation.TheVariants.{Within, Named, Athrow, Monitor, Newarray, Arraylength, LoadElement, StoreElement, LdcString}
 use Rattle.jvm_model.specs.declared.instruction.SymbolicReference.{SymbolicReference}
 use Rattle.jvm_model.specs.declared.instruction.SymbolicReference.TheVariants.{New, Getfield, Putfield, Getstatic, Putstatic, Invokevirtual, Invokespecial, Invokestatic, Invokeinterface, Checkcast, Instanceof, Anewarray, Multianewarray, LdcClass}
+use Rattle.jvm_model.specs.declared.instruction.Operation.{Operation}
+use Rattle.jvm_model.specs.declared.instruction.Operation.TheVariants.{Within, Named, Athrow, Monitor, Newarray, Arraylength, LoadElement, StoreElement, LdcString}
 use Rattle.jvm_model.specs.Basis.Families.{family_of}
 use Rattle.jvm_model.specs.Classes.Kinds.{meaning_of}
 use Rattle.jvm_model.specs.Codes.Lines.{ObjectRow, constant_in, pool_constant_operation, has_dimensions, interface_reference, local_of, array_reference, named_by, symbolic_reference_of, object_among, object_constant, object_constant_in, object_rows, operation_by, operation_of, other_operation}
 use Rattle.jvm_model.specs.Basis.Methods.{method_code}
 use Rattle.jvm_model.specs.Basis.Programs.{class_at, place_of_method}
+use Rattle.jvm_model.specs.Instructions.ObjectRules.{array_kind}
 use Rattle.member_selection.specs.Objects.{HasDimensions}
 use Rattle.prepared_lines.specs.declared.line.Line.{Line}
 use Rattle.prepared_code.specs.Versions as versions
 use Rattle.prepared_code.specs.Versions.{HasLines}
 use Rattle.prepared_code.specs.Tables.{Versions}
 use Rattle.prepared_code.specs.Lines.{IfNamed, IfNamedBy, line_at}
-use Rattle.prepared_lines.specs.Lines.{action_of, line_with}
+use Rattle.prepared_lines.specs.Lines.{operation_kept, line_with}
 
 -- ---- operations
 
-abbrev Dimensioned : Operation → Type 0
+abbrev Dimensioned : Operation Local → Type 0
 Dimensioned (Named n) = has_dimensions n ≡ true
 Dimensioned _ = Unit {0}
 
@@ -50,7 +51,7 @@ named-one : (n : Option SymbolicReference) → IfSome (option_and_then named_by 
 named-one None = tt
 named-one (Some n) = named n (has_dimensions n) refl
 
-chosen : (b : Bool) (o : Operation) → Dimensioned o → IfSome (cond b (Some o) None) Dimensioned
+chosen : (b : Bool) (o : Operation Local) → Dimensioned o → IfSome (cond b (Some o) None) Dimensioned
 chosen true o h = h
 chosen false o h = tt
 
@@ -68,7 +69,7 @@ other : (c : ClassFile) (op : ℕ) (a : Arg) → IfSome (other_operation c op a)
 other c op (arg.Pool index) = named-one (symbolic_reference_of c op index)
 other c op (arg.Interface index count zero) = named-one (interface_reference c op index)
 other c op (arg.Multi index dimensions) = named-one (array_reference c op index dimensions)
-other c op (arg.Array code) = chosen (op == 188 && is_in_range 4 11 code) (Newarray code) tt
+other c op (arg.Array code) = chosen (op == 188 && is_in_range 4 11 code) (Newarray (array_kind code)) tt
 other c op arg.Plain = among object_rows op (tt, (tt, (tt, (tt, (tt, (tt, (tt, (tt, (tt, (tt, (tt, (tt, (tt, (tt, (tt, (tt, tt))))))))))))))))
 other c op _ = tt
 
@@ -77,7 +78,7 @@ within None = tt
 within (Some i) = tt
 
 -- what ldc pushes has none
-text : (make : List ℕ → Operation) → ((units : List ℕ) → Dimensioned (make units)) → (o : Option (List ℕ)) → IfSome (option_map make o) Dimensioned
+text : (make : List ℕ → Operation Local) → ((units : List ℕ) → Dimensioned (make units)) → (o : Option (List ℕ)) → IfSome (option_map make o) Dimensioned
 text make each None = tt
 text make each (Some units) = each units
 
@@ -106,7 +107,7 @@ by-family c op a f = within (local_of f a (constant_in c.pool a))
 -- ---- lines
 
 abbrev pub Fits : Line → Type 0
-Fits l = IfNamedBy l.action l.next (λ n next. HasDimensions n)
+Fits l = IfNamedBy l.operation l.next (λ n next. HasDimensions n)
 
 -- as the format asks
 fits-reference : (n : SymbolicReference) → has_dimensions n ≡ true → HasDimensions n
@@ -127,25 +128,25 @@ fits-reference (Checkcast name) h = tt
 fits-reference (Instanceof name) h = tt
 fits-reference (LdcClass name) h = tt
 
-abbrev FitsBy : ℕ → Operation → Type 0
-FitsBy next o = IfNamedBy (action_of o) next (λ n place. HasDimensions n)
+abbrev FitsBy : ℕ → Operation Local → Type 0
+FitsBy next o = IfNamedBy (operation_kept o) next (λ n place. HasDimensions n)
 
 local : (next : ℕ) (i : Local) → FitsBy next (Within i)
 local next (Return k) = tt
 local next i = tt
 
-fits-operation : (next : ℕ) (o : Operation) → Dimensioned o → FitsBy next o
+fits-operation : (next : ℕ) (o : Operation Local) → Dimensioned o → FitsBy next o
 fits-operation next (Named n) h = fits-reference n h
 fits-operation next (Within i) h = local next i
 fits-operation next Athrow h = tt
 fits-operation next Monitor h = tt
-fits-operation next (Newarray code) h = tt
+fits-operation next (Newarray kind) h = tt
 fits-operation next Arraylength h = tt
 fits-operation next (LoadElement k) h = tt
 fits-operation next (StoreElement k) h = tt
 fits-operation next (LdcString units) h = tt
 
-pub made-with : (c : ClassFile) (i : Instr) (o : Option Operation) → IfSome o Dimensioned → IfSome (option_map (line_with c i) (option_map action_of o)) Fits
+pub made-with : (c : ClassFile) (i : Instr) (o : Option (Operation Local)) → IfSome o Dimensioned → IfSome (option_map (line_with c i) (option_map operation_kept o)) Fits
 made-with c i None h = tt
 made-with c i (Some o) h = fits-operation _ o h
 
@@ -170,13 +171,13 @@ seen l o found h = subst (λ (x : Option Line). IfSome x Fits) (sym found) h
 
 -- of the line that stands there
 pub line-fits : (v : Versions) → HasLines v → (version place : ℕ) (l : Bor Line) → Some l.now ≡ versions.line_at v version place
-    → IfNamedBy l.now.action l.now.next (λ n next. HasDimensions n)
+    → IfNamedBy l.now.operation l.now.next (λ n next. HasDimensions n)
 line-fits v lines version place l found = seen l (versions.line_at v version place) found (lines.dimensions version place)
 
 -- ---- what holds of the reference of the line that stands there
 
-pub line-named : (o : Option Line) (l : Line) (Holds : SymbolicReference → ℕ → Type 0) → Some l ≡ o → IfNamedBy l.action l.next Holds → IfNamed o Holds
+pub line-named : (o : Option Line) (l : Line) (Holds : SymbolicReference → ℕ → Type 0) → Some l ≡ o → IfNamedBy l.operation l.next Holds → IfNamed o Holds
 line-named o l Holds found h = subst (λ (x : Option Line). IfNamed x Holds) found h
 
-pub line-names : (o : Option Line) (l : Line) (Holds : SymbolicReference → ℕ → Type 0) → Some l ≡ o → IfNamed o Holds → IfNamedBy l.action l.next Holds
+pub line-names : (o : Option Line) (l : Line) (Holds : SymbolicReference → ℕ → Type 0) → Some l ≡ o → IfNamed o Holds → IfNamedBy l.operation l.next Holds
 line-names o l Holds found h = subst (λ (x : Option Line). IfNamed x Holds) (sym found) h

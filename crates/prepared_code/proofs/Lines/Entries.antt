@@ -10,8 +10,8 @@ use Rattle.const_pool.specs.declared.class.CodeAttribute.{CodeAttribute}
 use Rattle.jvm_model.specs.declared.program.MethodPlace.{MethodPlace}
 use Rattle.jvm_model.specs.declared.program.Program.{Program}
 use Rattle.jvm_model.specs.Basis.Methods.{code_of, method_code, method_params, member_shape}
-use Rattle.jvm_model.specs.Basis.Programs.{class_at}
-use Rattle.jvm_model.specs.Basis.SharedState.{kind_for, string}
+use Rattle.jvm_model.specs.Basis.Programs.{class_at, class_named}
+use Rattle.jvm_model.specs.Basis.SharedState.{error, kind_for, string, throwable}
 use Rattle.jvm_model.specs.declared.exception.Exception.{Exception}
 use Rattle.symbolic_references.specs.declared.program_tables.Method.{Method}
 use Rattle.symbolic_references.specs.declared.program_tables.ProgramTables.{ProgramTables}
@@ -84,8 +84,9 @@ IsPrepared-entries p v fits few numbered made = record {
 }
 
 pub tables-entries : (p : Program) (t : ProgramTables) → length p.classes < 2 ^ 24 → length p.methods < 2 ^ 32 → t.methods ≡ map (entry_at p) p.methods
-    → ((e : Exception) → exception_in p t.exceptions e ≡ exception_kind p e) → t.exceptions.string ≡ kind_for p string → t.exceptions.string < 2 ^ 25 → AreNumbers p t.numbers → AreTablesOf p t
-tables-entries p t few numbered is raised text small numbers =
+    → ((e : Exception) → exception_in p t.exceptions e ≡ exception_kind p e) → t.exceptions.string ≡ kind_for p string → t.exceptions.string < 2 ^ 25 → AreNumbers p t.numbers
+    → t.throwable ≡ class_named p throwable → t.error ≡ class_named p error → AreTablesOf p t
+tables-entries p t few numbered is raised text small numbers above errors =
     let entry : (k : ℕ) → slice_get t.methods k ≡ option_map (entry_at p) (slice_get p.methods k) = λ k. ap (λ ms. slice_get ms k) is ∙ slice_get-map (entry_at p) p.methods k in
     record {
       few = few;
@@ -97,4 +98,6 @@ tables-entries p t few numbered is raised text small numbers =
       raised = raised;
       string = text;
       small = small;
+      throwable = above;
+      error = errors;
     }

@@ -6,10 +6,11 @@ use Rattle.const_pool.specs.declared.class.ClassFile.{ClassFile}
 use Rattle.code_model.specs.declared.instr.Instr.{Instr}
 use Rattle.code_model.specs.Instructions.{instruction_at}
 use Rattle.jvm_model.specs.declared.program.Program.{Program}
+use Rattle.jvm_model.specs.declared.instruction.Operation.{Operation}
 use Rattle.jvm_model.specs.Basis.Families.{family_of}
 use Rattle.jvm_model.specs.Basis.Methods.{method_code}
 use Rattle.jvm_model.specs.Basis.Programs.{class_at, place_of_method}
-use Rattle.prepared_lines.specs.declared.line.Action.{Action}
+use Rattle.prepared_lines.specs.declared.line.LocalAction.{LocalAction}
 use Rattle.prepared_lines.specs.declared.line.Line.{Line}
 use Rattle.prepared_code.specs.Lines.{line_at}
 use Rattle.prepared_lines.specs.Lines.{line_with}
@@ -21,7 +22,7 @@ each-then : {A : Type 0} (f : A → Option Line) → ((x : A) → IfSome (f x) I
 each-then f each None = tt
 each-then f each (Some x) = each x
 
-pub made-with : (c : ClassFile) (i : Instr) (a : Option Action) → IfSome (option_map (line_with c i) a) IsPrepared
+pub made-with : (c : ClassFile) (i : Instr) (a : Option (Operation LocalAction)) → IfSome (option_map (line_with c i) a) IsPrepared
 made-with c i None = tt
 made-with c i (Some a) = record { family = refl; hot = refl }
 

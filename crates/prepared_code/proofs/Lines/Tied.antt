@@ -1,5 +1,5 @@
 -- What stands at an offset of the prepared code is what the text of original code has there.
-use Rattle.std.proofs.Common.{◌≡◌, ℕ, Bool, true, false, cond, List, [], ◌∷◌, Option, Some, None, refl, sym, ap, subst, ◌∙◌, arith}
+use Rattle.std.proofs.Common.{◌≡◌, ℕ, Bool, true, false, cond, List, [], ◌∷◌, Option, Some, None, refl, sym, ap, subst, ◌∙◌}
 use Rattle.std.proofs.lemmas.Bool.{false≢true}
 use Rattle.std.specs.Prelude.{slice_get, unwrap_or, ◌==◌, ◌&&◌}
 use Rattle.std.specs.Int.{is_in_range}
@@ -32,19 +32,20 @@ use Rattle.jvm_model.specs.Basis.Methods.{method_code}
 use Rattle.jvm_model.specs.Codes.Originals.{original}
 use Rattle.jvm_model.specs.Basis.Programs.{class_at, place_of_method}
 use Rattle.jvm_model.specs.Basis.Values.{as_value}
+use Rattle.jvm_model.specs.Instructions.ObjectRules.{array_kind}
 use Rattle.jvm_basic.specs.Rules.{datum_in, outcome_placed, going, needs, rule_by, rule_of}
 use Rattle.prepared_lines.specs.declared.line.Line.{Line}
 use Rattle.prepared_code.specs.Ready.{CanRun, HasLocal, IsOwnLine, IsRuleOf, IsTied}
-use Rattle.prepared_code.specs.Versions.{Setup, instruction_by, instruction_in, is_athrow, is_last_family, next_in, operation_as, operation_in, listing_of}
+use Rattle.prepared_code.specs.Versions.{Setup, instruction_by, instruction_in, is_last_family, next_in, operation_as, operation_in, listing_of}
 use Rattle.prepared_code.specs.Versions as versions
 use Rattle.prepared_code.specs.Lines.{line_at}
-use Rattle.prepared_lines.specs.Lines.{local_action, action_of, line_with, line_of}
+use Rattle.prepared_lines.specs.Lines.{local_kept, operation_kept, line_with, line_of}
 
 -- ---- a line and what it does
 
 -- with its operation
 pub record Stands (line : Line) (i : Instruction) : Type 0 where
-  pub op : Operation
+  pub op : Operation Local
   pub is : i ≡ instruction_by op line
   pub tied : IsTied line op
 
@@ -91,11 +92,6 @@ last-same family.Switch a c l e = made-last Switch true (λ keys. refl) (keys_in
 last-same (family.Return k) a c l e = known-last (Return k) l true refl e
 last-same family.NotLocal a c l e = absurd (none-some l e)
 
--- none of them is athrow
-local-throws : (l : Local) → is_athrow (local_action l) ≡ false
-local-throws (Return k) = refl
-local-throws l = refl
-
 -- a datum as a value is that datum
 datum-back : (c : Option Datum) → option_and_then datum_in (option_map as_value c) ≡ c
 datum-back None = refl
@@ -110,10 +106,10 @@ rule-by-is f apart a c next m o = refl
 
 -- ---- operations that see objects
 
-abbrev is_object : Operation → Bool
+abbrev is_object : Operation Local → Bool
 is_object Athrow = true
 is_object Monitor = true
-is_object (Newarray code) = true
+is_object (Newarray kind) = true
 is_object Arraylength = true
 is_object (LoadElement k) = true
 is_object (StoreElement k) = true
@@ -134,18 +130,17 @@ module _ (c : ClassFile) (i : Instr) where
   constant = constant_in c.pool i.arg
 
   -- the line and the instruction of an operation
-  abbrev the_line : Option Operation → Option Line
-  the_line o = option_map (line_with c i) (option_map action_of o)
+  abbrev the_line : Option (Operation Local) → Option Line
+  the_line o = option_map (line_with c i) (option_map operation_kept o)
 
-  abbrev the_instruction : Option Operation → Option Instruction
+  abbrev the_instruction : Option (Operation Local) → Option Instruction
   the_instruction o = option_map (λ op. record { operation = op; own = i.at; next = next_of op (end_of i); targets = targets_of i.arg }) o
 
   next-same : (f : Family) → family_of i.op ≡ f → (l : Local) → local_of f i.arg constant ≡ Some l
-      → next_of (Within l) (end_of i) ≡ cond (is_athrow (local_action l)) None (cond (is_last_family (family_of i.op)) None (Some (end_of i)))
+      → next_of (Within l) (end_of i) ≡ cond (is_last_family (family_of i.op)) None (Some (end_of i))
   next-same f is l e =
       ap (λ b. cond b None (Some (end_of i))) (last-same f i.arg constant l e)
       ∙ ap (λ x. cond (is_last_family x) None (Some (end_of i))) (sym is)
-      ∙ ap (λ b. cond b None (cond (is_last_family (family_of i.op)) None (Some (end_of i)))) (sym (local-throws l))
 
   rule-same : (f : Family) → (f ≡ family.NotLocal → ⊥) → family_of i.op ≡ f → (l : Local) → local_of f i.arg constant ≡ Some l → (m : Locals) (o : Operands)
       → rule_of i (option_map as_value constant) (end_of i) m o ≡ outcome_placed (end_of i) (targets_of i.arg) m o (within l m o)
@@ -155,13 +150,13 @@ module _ (c : ClassFile) (i : Instr) where
       ∙ (rule-by-is f apart i.arg constant (end_of i) m o
       ∙ ap (λ x. needs x (λ k. going (within k) (end_of i) (targets_of i.arg)) m o) e))
 
-  local-same : (f : Family) → family_of i.op ≡ f → (l : Local) → local_of f i.arg constant ≡ Some l → HasLocal (line_with c i (local_action l)) l
+  local-same : (f : Family) → family_of i.op ≡ f → (l : Local) → local_of f i.arg constant ≡ Some l → HasLocal (line_with c i (Within (local_kept l))) l
   local-same f is l e =
       ap (λ x. local_of x i.arg (option_and_then datum_in (option_map as_value constant))) is ∙ (ap (local_of f i.arg) (datum-back constant) ∙ e)
 
   within-is : (l k : Local) (P : Local → Type 0) → P l → Within l ≡ Within k → P k
   within-is l k P h e = subst P (ap local e) h where
-    local : Operation → Local
+    local : Operation Local → Local
     local (Within x) = x
     local _ = l
 
@@ -172,10 +167,10 @@ module _ (c : ClassFile) (i : Instr) where
     op = Within l;
     is = refl;
     tied = record {
-      action = refl;
+      kept = refl;
       next = next-same f is l e;
-      alone = λ k same. within-is l k (IsRuleOf (line_with c i (local_action l))) (rule-same f apart is l e) same;
-      within = λ k same. within-is l k (HasLocal (line_with c i (local_action l))) (local-same f is l e) same;
+      alone = λ k same. within-is l k (IsRuleOf (line_with c i (Within (local_kept l)))) (rule-same f apart is l e) same;
+      within = λ k same. within-is l k (HasLocal (line_with c i (Within (local_kept l)))) (local-same f is l e) same;
     };
   }
 
@@ -185,10 +180,10 @@ module _ (c : ClassFile) (i : Instr) where
   behind : family_of i.op ≡ family.NotLocal → Some (end_of i) ≡ cond (is_last_family (family_of i.op)) None (Some (end_of i))
   behind is = ap (λ x. cond (is_last_family x) None (Some (end_of i))) (sym is)
 
-  abbrev TiedOperation : Option Operation → Type 0
+  abbrev TiedOperation : Option (Operation Local) → Type 0
   TiedOperation o = Tie (the_line o) (the_instruction o)
 
-  either : (b : Bool) (x y : Option Operation) → TiedOperation x → TiedOperation y → TiedOperation (cond b x y)
+  either : (b : Bool) (x y : Option (Operation Local)) → TiedOperation x → TiedOperation y → TiedOperation (cond b x y)
   either true x y tx ty = tx
   either false x y tx ty = ty
 
@@ -196,17 +191,17 @@ module _ (c : ClassFile) (i : Instr) where
   tied-reference is None = tt
   tied-reference is (Some n) =
       either (has_dimensions n) (Some (Named n)) None
-      (record { op = Named n; is = refl; tied = record { action = refl; next = behind is; alone = λ k same. absurd cc; within = λ k same. absurd cc } }) tt
+      (record { op = Named n; is = refl; tied = record { kept = refl; next = behind is; alone = λ k same. absurd cc; within = λ k same. absurd cc } }) tt
 
   -- ---- instructions that see objects
 
-  tied-object : family_of i.op ≡ family.NotLocal → (op : Operation) → is_object op ≡ true → TiedOperation (Some op)
-  tied-object is Athrow object = record { op = Athrow; is = refl; tied = record { action = refl; next = refl; alone = λ k same. absurd cc; within = λ k same. absurd cc } }
-  tied-object is Monitor object = record { op = Monitor; is = refl; tied = record { action = refl; next = behind is; alone = λ k same. absurd cc; within = λ k same. absurd cc } }
-  tied-object is (Newarray code) object = record { op = Newarray code; is = refl; tied = record { action = refl; next = behind is; alone = λ k same. absurd cc; within = λ k same. absurd cc } }
-  tied-object is Arraylength object = record { op = Arraylength; is = refl; tied = record { action = refl; next = behind is; alone = λ k same. absurd cc; within = λ k same. absurd cc } }
-  tied-object is (LoadElement k) object = record { op = LoadElement k; is = refl; tied = record { action = refl; next = behind is; alone = λ k same. absurd cc; within = λ k same. absurd cc } }
-  tied-object is (StoreElement k) object = record { op = StoreElement k; is = refl; tied = record { action = refl; next = behind is; alone = λ k same. absurd cc; within = λ k same. absurd cc } }
+  tied-object : family_of i.op ≡ family.NotLocal → (op : Operation Local) → is_object op ≡ true → TiedOperation (Some op)
+  tied-object is Athrow object = record { op = Athrow; is = refl; tied = record { kept = refl; next = refl; alone = λ k same. absurd cc; within = λ k same. absurd cc } }
+  tied-object is Monitor object = record { op = Monitor; is = refl; tied = record { kept = refl; next = behind is; alone = λ k same. absurd cc; within = λ k same. absurd cc } }
+  tied-object is (Newarray kind) object = record { op = Newarray kind; is = refl; tied = record { kept = refl; next = behind is; alone = λ k same. absurd cc; within = λ k same. absurd cc } }
+  tied-object is Arraylength object = record { op = Arraylength; is = refl; tied = record { kept = refl; next = behind is; alone = λ k same. absurd cc; within = λ k same. absurd cc } }
+  tied-object is (LoadElement k) object = record { op = LoadElement k; is = refl; tied = record { kept = refl; next = behind is; alone = λ k same. absurd cc; within = λ k same. absurd cc } }
+  tied-object is (StoreElement k) object = record { op = StoreElement k; is = refl; tied = record { kept = refl; next = behind is; alone = λ k same. absurd cc; within = λ k same. absurd cc } }
   tied-object is (Within l) object = absurd (false≢true object)
   tied-object is (Named n) object = absurd (false≢true object)
   tied-object is (LdcString units) object = absurd (false≢true object)
@@ -221,7 +216,7 @@ module _ (c : ClassFile) (i : Instr) where
   tied-other is (arg.Pool index) = tied-reference is (symbolic_reference_of c i.op index)
   tied-other is (arg.Interface index count zero) = tied-reference is (interface_reference c i.op index)
   tied-other is (arg.Multi index dimensions) = tied-reference is (array_reference c i.op index dimensions)
-  tied-other is (arg.Array code) = either (i.op == 188 && is_in_range 4 11 code) _ _ (tied-object is (Newarray code) refl) tt
+  tied-other is (arg.Array code) = either (i.op == 188 && is_in_range 4 11 code) _ _ (tied-object is (Newarray (array_kind code)) refl) tt
   tied-other is arg.Plain = tied-rows is object_rows refl
   tied-other is _ = tt
 
@@ -232,11 +227,11 @@ module _ (c : ClassFile) (i : Instr) where
 
   tied-string : family_of i.op ≡ family.PoolConstant → (text : Option (List ℕ)) → TiedOperation (option_map LdcString text)
   tied-string is None = tt
-  tied-string is (Some units) = record { op = LdcString units; is = refl; tied = record { action = refl; next = behind-ldc is; alone = λ k same. absurd cc; within = λ k same. absurd cc } }
+  tied-string is (Some units) = record { op = LdcString units; is = refl; tied = record { kept = refl; next = behind-ldc is; alone = λ k same. absurd cc; within = λ k same. absurd cc } }
 
   tied-class : family_of i.op ≡ family.PoolConstant → (text : Option (List ℕ)) → TiedOperation (option_map (λ name. Named (LdcClass name)) text)
   tied-class is None = tt
-  tied-class is (Some name) = record { op = Named (LdcClass name); is = refl; tied = record { action = refl; next = behind-ldc is; alone = λ k same. absurd cc; within = λ k same. absurd cc } }
+  tied-class is (Some name) = record { op = Named (LdcClass name); is = refl; tied = record { kept = refl; next = behind-ldc is; alone = λ k same. absurd cc; within = λ k same. absurd cc } }
 
   tied-entry : family_of i.op ≡ family.PoolConstant → (entry : Const) → TiedOperation (object_constant c.pool entry)
   tied-entry is (const.Text index) = tied-string is (named_text c.pool index)
@@ -281,25 +276,25 @@ tied-at p method at =
 
 -- ---- the operation that a line shows
 
-local-shown : (line : Line) (l : Local) → HasLocal line l → operation_as line (local_action l) ≡ Within l
+local-shown : (line : Line) (l : Local) → HasLocal line l → operation_as line (Within (local_kept l)) ≡ Within l
 local-shown line (Return k) e = refl
 local-shown line l e = ap (λ o. Within (unwrap_or o Nop)) e
 
-shown-by : (line : Line) (op : Operation) → ((l : Local) → op ≡ Within l → HasLocal line l) → operation_as line (action_of op) ≡ op
+shown-by : (line : Line) (op : Operation Local) → ((l : Local) → op ≡ Within l → HasLocal line l) → operation_as line (operation_kept op) ≡ op
 shown-by line (Within l) within = local-shown line l (within l refl)
 shown-by line (Named n) within = refl
 shown-by line Athrow within = refl
 shown-by line Monitor within = refl
-shown-by line (Newarray code) within = ap Newarray (omega arith)
+shown-by line (Newarray kind) within = refl
 shown-by line Arraylength within = refl
 shown-by line (LoadElement k) within = refl
 shown-by line (StoreElement k) within = refl
 shown-by line (LdcString units) within = refl
 
-pub operation-is : (line : Line) (op : Operation) → IsTied line op → operation_in line ≡ op
-operation-is line op tied = ap (operation_as line) (sym tied.action) ∙ shown-by line op tied.within
+pub operation-is : (line : Line) (op : Operation Local) → IsTied line op → operation_in line ≡ op
+operation-is line op tied = ap (operation_as line) (sym tied.kept) ∙ shown-by line op tied.within
 
-pub tied-own : (line : Line) (op : Operation) → IsTied line op → IsOwnLine line
+pub tied-own : (line : Line) (op : Operation Local) → IsTied line op → IsOwnLine line
 tied-own line op tied = subst (IsTied line) (sym (operation-is line op tied)) tied
 
 pub own-tie : (lo : Option Line) (io : Option Instruction) → Tie lo io → IfSome lo IsOwnLine
@@ -313,7 +308,7 @@ shown None None tie = refl
 shown None (Some i) tie = absurd tie
 shown (Some line) None tie = absurd tie
 shown (Some line) (Some i) tie =
-    ap (λ (op : Operation). Some (record { operation = op; own = line.instr.at; next = next_in line; targets = targets_of line.instr.arg })) (operation-is line tie.op tie.tied)
+    ap (λ (op : Operation Local). Some (record { operation = op; own = line.instr.at; next = next_in line; targets = targets_of line.instr.arg })) (operation-is line tie.op tie.tied)
     ∙ (ap (λ (next : Option ℕ). Some (record { operation = tie.op; own = line.instr.at; next = next; targets = targets_of line.instr.arg })) (sym tie.tied.next)
     ∙ ap Some (sym tie.is))
 

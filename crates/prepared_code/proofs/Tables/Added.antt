@@ -40,7 +40,7 @@ module _ (P : Line → Type 0) where
       subst (at place) (sym (released.held k)) (left-or-none v k place (is_superseded_in v.slots v.current k && pins_of k fs == 0) each)
 
 abbrev CanHave : Line → Type 0
-CanHave l = IfNamedBy l.action l.next (λ n next. HasDimensions n)
+CanHave l = IfNamedBy l.operation l.next (λ n next. HasDimensions n)
 
 prepared-of : (xs : List Version) → AllByRecursion HasOwnLines xs → AllByRecursion (λ (x : Version). (place : ℕ) → IfSome (line_in place x) IsPrepared) xs
 prepared-of [] each = tt

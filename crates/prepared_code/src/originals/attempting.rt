@@ -13,15 +13,16 @@ ghost use Rattle.symbolic_references.specs.Leaving.{Leaves};
 ghost use Rattle.symbolic_references.specs.Runtimes.{after, linker_in, with_loaded};
 ghost use Rattle.prepared_code.specs.Kept.{IsLater};
 ghost use Rattle.prepared_code.specs.Lines.{IfNamed, IfNamedBy};
-ghost use Rattle.prepared_code.specs.Linked.{IsLinked, IsReady};
+ghost use Rattle.prepared_code.specs.Originals.{AreNamesKnown, IsReady};
 ghost use Rattle.prepared_code.specs.Versions.{line_at};
 
 use crate::originals::Originals;
 use crate::versions::line_there;
 use frame_stack::Frames;
 use jf_bytes::NoMemory;
+use jvm_model::Operation;
 use member_selection::{AbruptCompletion, Known, Outcome};
-use prepared_lines::{Action, Line};
+use prepared_lines::Line;
 use std::alloc::Global;
 use symbolic_references::Runtime;
 
@@ -35,23 +36,24 @@ fn attempt_line(
     frames: &Frames,
     learnt: &mut Option<Known>,
 ) -> Result<Outcome, NoMemory>
-    requires caller { IfNamedBy line.now.action line.now.next
+    requires caller { IfNamedBy line.now.operation line.now.next
         (λ n next. HasLoadedCaller (linker_in runtime.old) n) }
-    requires dimensions { IfNamedBy line.now.action line.now.next (λ n next. HasDimensions n) }
+    requires dimensions { IfNamedBy line.now.operation line.now.next (λ n next. HasDimensions n) }
     ensures answer { let w = runtime.old.world in let s = runtime.old.shared in
-        IfNamedBy line.now.action line.now.next (λ n next.
+        IfNamedBy line.now.operation line.now.next (λ n next.
         Asks result (attempts w n s frames.now) frames.now) }
     ensures runtime { let w = runtime.old.world in let s = runtime.old.shared in
-        IfNamedBy line.now.action line.now.next (λ n next.
+        IfNamedBy line.now.operation line.now.next (λ n next.
         Leaves result runtime.new (attempts w n s frames.now) frames.now runtime.old) }
     ensures enough { HaveOperands result frames.now }
     ensures world { runtime.new.world ≡ runtime.old.world }
     ensures later { OnOk result (IsLater (linker_in runtime.old) (linker_in runtime.new)) }
     ensures learnt { OnOk result (IfSome learnt.new (λ k.
-        IfNamedBy line.now.action line.now.next (λ n next. IsKnown (linker_in runtime.new) n k))) }
+        IfNamedBy line.now.operation line.now.next
+        (λ n next. IsKnown (linker_in runtime.new) n k))) }
 {
-    match &line.action {
-        Action::Named(reference) => runtime.attempt(frames, reference, learnt),
+    match &line.operation {
+        Operation::Named(reference) => runtime.attempt(frames, reference, learnt),
         _ => {
             *learnt = None;
             Ok(Outcome::Abrupt(AbruptCompletion::Breaks))
@@ -68,31 +70,32 @@ fn attempt_line_loaded(
     frames: &Frames,
     learnt: &mut Option<Known>,
 ) -> Result<Option<Outcome>, NoMemory>
-    requires caller { IfNamedBy line.now.action line.now.next
+    requires caller { IfNamedBy line.now.operation line.now.next
         (λ n next. HasLoadedCaller (linker_in runtime.old) n) }
-    requires dimensions { IfNamedBy line.now.action line.now.next (λ n next. HasDimensions n) }
+    requires dimensions { IfNamedBy line.now.operation line.now.next (λ n next. HasDimensions n) }
     ensures some { let w = runtime.old.world in let s = runtime.old.shared in
-        IfNamedBy line.now.action line.now.next (λ n next.
+        IfNamedBy line.now.operation line.now.next (λ n next.
         IfOk result (λ a. is_some a ≡ is_loaded w n s frames.now)) }
     ensures answer { let w = runtime.old.world in let s = runtime.old.shared in
-        IfNamedBy line.now.action line.now.next (λ n next. IfOk result (λ a.
+        IfNamedBy line.now.operation line.now.next (λ n next. IfOk result (λ a.
         IfSome a (λ a. outcome_in_frame a frames.now
         ≡ outcome_by_rule (attempts w n s frames.now) frames.now))) }
     ensures runtime { let w = runtime.old.world in let s = runtime.old.shared in
-        IfNamedBy line.now.action line.now.next (λ n next. IfOk result (λ a. IfSome a (λ _.
+        IfNamedBy line.now.operation line.now.next (λ n next. IfOk result (λ a. IfSome a (λ _.
         runtime.new ≡ after (done_on (attempts w n s frames.now) frames.now) runtime.old))) }
     ensures loads { let p = runtime.old.world.program in let s = runtime.old.shared in
-        IfNamedBy line.now.action line.now.next (λ n next. IfOk result (λ a. IfNone a
+        IfNamedBy line.now.operation line.now.next (λ n next. IfOk result (λ a. IfNone a
         (runtime.new ≡ with_loaded (loaded_for p n s frames.now) runtime.old))) }
     ensures enough { IfOk result (λ a. IfSome a
         (λ a. HasOperands a (top_operands frames.now.frames))) }
     ensures world { runtime.new.world ≡ runtime.old.world }
     ensures later { OnOk result (IsLater (linker_in runtime.old) (linker_in runtime.new)) }
     ensures learnt { OnOk result (IfSome learnt.new (λ k.
-        IfNamedBy line.now.action line.now.next (λ n next. IsKnown (linker_in runtime.new) n k))) }
+        IfNamedBy line.now.operation line.now.next
+        (λ n next. IsKnown (linker_in runtime.new) n k))) }
 {
-    match &line.action {
-        Action::Named(reference) => runtime.attempt_loaded(frames, reference, learnt),
+    match &line.operation {
+        Operation::Named(reference) => runtime.attempt_loaded(frames, reference, learnt),
         _ => {
             *learnt = None;
             Ok(None)
@@ -108,27 +111,27 @@ fn attempt_line_known(
     frames: &Frames,
     known: &mut Known,
 ) -> Result<Outcome, NoMemory>
-    requires known { IfNamedBy line.now.action line.now.next
+    requires known { IfNamedBy line.now.operation line.now.next
         (λ n next. IsKnown (linker_in runtime.old) n known.old) }
-    requires caller { IfNamedBy line.now.action line.now.next
+    requires caller { IfNamedBy line.now.operation line.now.next
         (λ n next. HasLoadedCaller (linker_in runtime.old) n) }
-    requires dimensions { IfNamedBy line.now.action line.now.next (λ n next. HasDimensions n) }
+    requires dimensions { IfNamedBy line.now.operation line.now.next (λ n next. HasDimensions n) }
     ensures answer { let w = runtime.old.world in let s = runtime.old.shared in
-        IfNamedBy line.now.action line.now.next (λ n next.
+        IfNamedBy line.now.operation line.now.next (λ n next.
         Asks result (attempts w n s frames.now) frames.now) }
     ensures runtime { let w = runtime.old.world in let s = runtime.old.shared in
-        IfNamedBy line.now.action line.now.next (λ n next.
+        IfNamedBy line.now.operation line.now.next (λ n next.
         Leaves result runtime.new (attempts w n s frames.now) frames.now runtime.old) }
     ensures loads { let w = runtime.old.world in let s = runtime.old.shared in
-        IfNamedBy line.now.action line.now.next (λ n next. is_loaded w n s frames.now ≡ true) }
+        IfNamedBy line.now.operation line.now.next (λ n next. is_loaded w n s frames.now ≡ true) }
     ensures enough { HaveOperands result frames.now }
     ensures world { runtime.new.world ≡ runtime.old.world }
     ensures same_loaded { runtime.new.shared.loaded ≡ runtime.old.shared.loaded }
-    ensures known { IfNamedBy line.now.action line.now.next
+    ensures known { IfNamedBy line.now.operation line.now.next
         (λ n next. IsKnown (linker_in runtime.old) n known.new) }
 {
-    match &line.action {
-        Action::Named(reference) => {
+    match &line.operation {
+        Operation::Named(reference) => {
             // Mostly a method that has Code is invoked.
             if let Some(call) = runtime.known_code(frames, reference, known) {
                 return Ok(Outcome::Invokes(call.method, call.count));
@@ -141,15 +144,15 @@ fn attempt_line_known(
 
 /// Keeps what a line's names came to, where that is of another receiver than what was known before.
 fn keep_selected(runtime: &mut Runtime, line: &Line, before: Known, known: Known)
-    requires { IfNamedBy line.now.action line.now.next
+    requires { IfNamedBy line.now.operation line.now.next
         (λ n next. IsKnown (linker_in runtime.old) n known) }
     ensures { runtime.new ≡ runtime.old }
 {
     if known == before {
         return;
     }
-    match &line.action {
-        Action::Named(reference) => runtime.keep_selection(reference, &known),
+    match &line.operation {
+        Operation::Named(reference) => runtime.keep_selection(reference, &known),
         _ => {}
     }
 }
@@ -166,7 +169,7 @@ impl Originals {
         place: u16,
     ) -> Result<Outcome, NoMemory>
         requires ready { IsReady self.old version }
-        requires linked { IsLinked self.old runtime.old }
+        requires known { AreNamesKnown self.old runtime.old }
         requires caller { IfNamed (line_at self.old.versions version place)
             (λ n next. HasLoadedCaller (linker_in runtime.old) n) }
         ensures answer { let w = runtime.old.world in let s = runtime.old.shared in
@@ -176,7 +179,7 @@ impl Originals {
             IfNamed (line_at self.old.versions version place) (λ n next.
             Leaves result runtime.new (attempts w n s frames.now) frames.now runtime.old) }
         ensures enough { HaveOperands result frames.now }
-        ensures linked { OnOk result (IsLinked self.new runtime.new) }
+        ensures known { OnOk result (AreNamesKnown self.new runtime.new) }
         ensures program { self.new.program ≡ self.old.program }
         ensures versions { self.new.versions ≡ self.old.versions }
         ensures kept { self.new.kept ≡ self.old.kept }
@@ -208,7 +211,7 @@ impl Originals {
         place: u16,
     ) -> Result<Option<Outcome>, NoMemory>
         requires ready { IsReady self.old version }
-        requires linked { IsLinked self.old runtime.old }
+        requires known { AreNamesKnown self.old runtime.old }
         requires caller { IfNamed (line_at self.old.versions version place)
             (λ n next. HasLoadedCaller (linker_in runtime.old) n) }
         ensures some { let w = runtime.old.world in let s = runtime.old.shared in
@@ -227,7 +230,7 @@ impl Originals {
             (λ a. IfNone a (runtime.new ≡ with_loaded (loaded_for p n s frames.now) runtime.old))) }
         ensures enough { IfOk result (λ a. IfSome a
             (λ a. HasOperands a (top_operands frames.now.frames))) }
-        ensures linked { OnOk result (IsLinked self.new runtime.new) }
+        ensures known { OnOk result (AreNamesKnown self.new runtime.new) }
         ensures program { self.new.program ≡ self.old.program }
         ensures versions { self.new.versions ≡ self.old.versions }
         ensures kept { self.new.kept ≡ self.old.kept }

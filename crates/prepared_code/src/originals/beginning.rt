@@ -8,7 +8,7 @@ ghost use Rattle.jvm_model.specs.Instructions.SymbolicReference.{resolved_kind};
 ghost use Rattle.member_selection.specs.Answers.{found_view};
 ghost use Rattle.symbolic_references.specs.ProgramFacts.{AreTablesOf};
 ghost use Rattle.symbolic_references.specs.Runtimes.{with_loaded};
-ghost use Rattle.prepared_code.specs.Linked.{IsLinked};
+ghost use Rattle.prepared_code.specs.Originals.{AreNamesKnown};
 ghost use Rattle.prepared_code.specs.Prepared.{main_name};
 
 use crate::loading::{load_built_in, main_name};
@@ -36,25 +36,25 @@ impl Originals {
     pub fn tables_before(&self, alloc: Global) -> Result<ProgramTables, NoMemory>
         ensures { IfOk result (AreTablesOf self.now.program) }
     {
-        tables_of(alloc, self.index.as_ref().program())
+        tables_of(alloc, self.index.as_ref())
     }
 
     /// Loads the main class by its name, with what it needs, and gives its kind, or what its fault
-    /// raises. What was loaded before a fault stays loaded.
+    /// raises. What was loaded before a fault stays loaded, and what is kept of names stays so.
     pub fn load_main(
         &self,
         alloc: Global,
         runtime: &mut Runtime,
     ) -> Result<Result<u32, AbruptCompletion>, NoMemory>
-        requires linked { IsLinked self.now runtime.old }
+        requires known { AreNamesKnown self.now runtime.old }
         ensures found { let p = runtime.old.world.program in IfOk result
             (λ r. found_view r ≡ resolved_kind p runtime.old.shared.loaded (main_name p)) }
         ensures runtime { let p = runtime.old.world.program in OnOk result (runtime.new
             ≡ with_loaded (load_of p runtime.old.shared.loaded (main_name p)).loaded runtime.old) }
-        ensures linked { OnOk result (IsLinked self.now runtime.new) }
+        ensures known { OnOk result (AreNamesKnown self.now runtime.new) }
         ensures world { runtime.new.world ≡ runtime.old.world }
     {
-        let name = main_name(alloc, self.index.as_ref().program())?;
+        let name = main_name(alloc, runtime.program())?;
         runtime.resolve(&name)
     }
 }

@@ -10,7 +10,7 @@ ghost use Rattle.symbolic_references.specs.Runtimes.{with_heap};
 
 use crate::runtime::Runtime;
 use class_index::FIRST_ARRAY;
-use heap_objects::{Datum, Heap};
+use heap_objects::{Datum, Heap, HeapError};
 use jf_bytes::{NoMemory, Text16};
 
 /// A text goes into an element of an array. There is room for it.
@@ -27,7 +27,8 @@ fn put_text(kind: u32, array: u32, at: u32, units: &[u16], heap: &mut Heap) -> R
             heap.put(array, at, Datum::Ref(text));
             Ok(())
         }
-        Err(_) => Err(NoMemory),
+        Err(HeapError::HeapFull) => unreachable!(),
+        Err(HeapError::NoMemory) => Err(NoMemory),
     }
 }
 
@@ -60,7 +61,8 @@ fn make_arguments(kind: u32, args: &[Text16], heap: &mut Heap) -> Result<(), NoM
 {
     match heap.array(FIRST_ARRAY + kind, Datum::Ref(0), args.len() as u32) {
         Ok(array) => put_texts(kind, args, array, heap),
-        Err(_) => Err(NoMemory),
+        Err(HeapError::HeapFull) => unreachable!(),
+        Err(HeapError::NoMemory) => Err(NoMemory),
     }
 }
 

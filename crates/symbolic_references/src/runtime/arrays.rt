@@ -4,7 +4,7 @@ ghost use Rattle.std.specs.Prelude.{◌≡◌, ◌+◌, ◌<◌, ◌^◌};
 ghost use Rattle.jvm_model.specs.Instructions.CreationRules.{array_over};
 ghost use Rattle.jvm_model.specs.Instructions.ObjectRules.{makes, makes_array};
 ghost use Rattle.jvm_model.specs.Basis.Values.{int_of};
-ghost use Rattle.member_selection.specs.Arrays.{IsPrimitiveArray};
+ghost use Rattle.jvm_model.specs.Soundness.Sound.{IsPrimitiveArray};
 ghost use Rattle.member_selection.specs.Objects.{IsUsable};
 ghost use Rattle.member_selection.specs.Outcomes.{Asks, HaveOperands};
 ghost use Rattle.symbolic_references.specs.Leaving.{Sets};
@@ -38,7 +38,7 @@ impl Runtime {
         match self.heap.array(kind, Datum::Int(0), count) {
             Ok(number) => Ok(Outcome::Goes(1, Some(Value::Ref(number)))),
             // There is room.
-            Err(HeapError::HeapFull) => Err(NoMemory),
+            Err(HeapError::HeapFull) => unreachable!(),
             Err(HeapError::NoMemory) => Err(NoMemory),
         }
     }

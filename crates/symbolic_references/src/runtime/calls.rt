@@ -1,7 +1,7 @@
 //! invokestatic, invokevirtual, invokeinterface and invokespecial (JVM Specification 5.4.3.3,
 //! 5.4.3.4, 6.5), where the class of the method's name was resolved.
 
-ghost use Rattle.std.specs.Prelude.{◌≡◌, ◌≤◌, Some, length, drop, IfSome};
+ghost use Rattle.std.specs.Prelude.{◌≡◌, ◌≤◌, Some, length, IfSome};
 ghost use Rattle.std.specs.Option.{option_map};
 ghost use Rattle.frame_stack.specs.FrameLists.{top_operands};
 ghost use Rattle.jvm_model.specs.Instructions.InvocationRules.{invokes_native, invokes_selected};
@@ -11,9 +11,10 @@ ghost use Rattle.member_selection.specs.Known.{IsFoundAs, symbolic_reference_by}
 ghost use Rattle.member_selection.specs.Objects.{IsResolved};
 ghost use Rattle.member_selection.specs.Members.{at_place};
 ghost use Rattle.member_selection.specs.Resolved.{invokes_instance, invokes_static_method};
-ghost use Rattle.member_selection.specs.Targets.{HasCaller, selecting_view, data_in};
+ghost use Rattle.member_selection.specs.Targets.{HasCaller, selecting_view};
 ghost use Rattle.member_selection.specs.Outcomes.{Asks, HaveOperands};
 ghost use Rattle.symbolic_references.specs.Leaving.{Leaves};
+ghost use Rattle.symbolic_references.specs.Rules.{on_arguments};
 ghost use Rattle.symbolic_references.specs.Runtimes.{linker_in};
 
 use crate::runtime::Runtime;
@@ -34,11 +35,11 @@ impl Runtime {
     ) -> Result<Outcome, NoMemory>
         requires within { count ≤ length (top_operands frames.now.frames) }
         ensures answer { Asks result
-            (λ l o. invokes_native self.old.world (at_place m) (data_in count o)
-            self.old.shared l (drop count o)) frames.now }
+            (on_arguments count (invokes_native self.old.world (at_place m)) self.old.shared)
+            frames.now }
         ensures runtime { Leaves result self.new
-            (λ l o. invokes_native self.old.world (at_place m) (data_in count o)
-            self.old.shared l (drop count o)) frames.now self.old }
+            (on_arguments count (invokes_native self.old.world (at_place m)) self.old.shared)
+            frames.now self.old }
         ensures world { self.new.world ≡ self.old.world }
         ensures same_loaded { self.new.shared.loaded ≡ self.old.shared.loaded }
         ensures enough { HaveOperands result frames.now }
@@ -59,11 +60,13 @@ impl Runtime {
     ) -> Result<Outcome, NoMemory>
         requires within { count ≤ length (top_operands frames.now.frames) }
         ensures answer { Asks result
-            (λ l o. invokes_selected self.old.world (Some (at_place m)) (data_in count o)
-            self.old.shared l (drop count o)) frames.now }
+            (on_arguments count
+            (invokes_selected self.old.world (Some (at_place m))) self.old.shared)
+            frames.now }
         ensures runtime { Leaves result self.new
-            (λ l o. invokes_selected self.old.world (Some (at_place m)) (data_in count o)
-            self.old.shared l (drop count o)) frames.now self.old }
+            (on_arguments count
+            (invokes_selected self.old.world (Some (at_place m))) self.old.shared)
+            frames.now self.old }
         ensures world { self.new.world ≡ self.old.world }
         ensures same_loaded { self.new.shared.loaded ≡ self.old.shared.loaded }
         ensures enough { HaveOperands result frames.now }
@@ -82,11 +85,13 @@ impl Runtime {
         requires callee { HasCallee self.old.world.program m }
         requires within { count ≤ length (top_operands frames.now.frames) }
         ensures answer { Asks result
-            (λ l o. invokes_selected self.old.world (Some (chosen_place m)) (data_in count o)
-            self.old.shared l (drop count o)) frames.now }
+            (on_arguments count
+            (invokes_selected self.old.world (Some (chosen_place m))) self.old.shared)
+            frames.now }
         ensures runtime { Leaves result self.new
-            (λ l o. invokes_selected self.old.world (Some (chosen_place m)) (data_in count o)
-            self.old.shared l (drop count o)) frames.now self.old }
+            (on_arguments count
+            (invokes_selected self.old.world (Some (chosen_place m))) self.old.shared)
+            frames.now self.old }
         ensures world { self.new.world ≡ self.old.world }
         ensures same_loaded { self.new.shared.loaded ≡ self.old.shared.loaded }
         ensures enough { HaveOperands result frames.now }
@@ -107,14 +112,12 @@ impl Runtime {
     ) -> Result<Outcome, NoMemory>
         requires callee { IfSome selected (HasCallee self.old.world.program) }
         requires within { count ≤ length (top_operands frames.now.frames) }
-        ensures answer { Asks result
-            (λ l o. invokes_selected self.old.world (option_map chosen_place selected)
-            (data_in count o)
-            self.old.shared l (drop count o)) frames.now }
-        ensures runtime { Leaves result self.new
-            (λ l o. invokes_selected self.old.world (option_map chosen_place selected)
-            (data_in count o)
-            self.old.shared l (drop count o)) frames.now self.old }
+        ensures answer { let m = option_map chosen_place selected in Asks result
+            (on_arguments count (invokes_selected self.old.world m) self.old.shared)
+            frames.now }
+        ensures runtime { let m = option_map chosen_place selected in Leaves result self.new
+            (on_arguments count (invokes_selected self.old.world m) self.old.shared)
+            frames.now self.old }
         ensures world { self.new.world ≡ self.old.world }
         ensures same_loaded { self.new.shared.loaded ≡ self.old.shared.loaded }
         ensures enough { HaveOperands result frames.now }

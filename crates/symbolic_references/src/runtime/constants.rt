@@ -16,6 +16,7 @@ ghost use Rattle.symbolic_references.specs.Runtimes.{with_fields, with_shared};
 
 use crate::held::field_narrowed;
 use crate::runtime::Runtime;
+use crate::runtime::creation::RESERVED;
 use crate::static_fields::set_static;
 use base_classes::STATIC;
 use class_index::field_kind;
@@ -24,9 +25,6 @@ use heap_objects::{Datum, Heap, HeapError};
 use jf_bytes::{NoMemory, Seq, Text16};
 use jvm_model::has_flag;
 use std::alloc::Global;
-
-/// The OutOfMemoryError that the machine makes before the start.
-const RESERVED: u32 = 1;
 
 /// A number, or the units of a String.
 #[derive(Clone, Copy)]

@@ -1,11 +1,9 @@
 //! new (JVM Specification 2.3, 2.4, 5.5, 6.5), where the name was resolved.
 
-ghost use Rattle.std.specs.Prelude.{◌≡◌, ◌+◌, [], true, length, map, IfNone, IfOk, IfSome};
-ghost use Rattle.heap_objects.specs.Heaps.{with_instance, with_text};
+ghost use Rattle.std.specs.Prelude.{◌≡◌, [], true, map, IfNone, IfOk, IfSome};
+ghost use Rattle.heap_objects.specs.Heaps.{with_text};
 ghost use Rattle.jvm_model.specs.Instructions.CreationRules.{allocates, has_no_instances, makes_instance};
 ghost use Rattle.jvm_model.specs.Instructions.CreationRules.{zero_of};
-ghost use Rattle.jvm_model.specs.Classes.Layouts.{layout};
-ghost use Rattle.jvm_model.specs.Instructions.Rules.{class_initialized};
 ghost use Rattle.jvm_model.specs.Basis.SharedState.{class_of_kind};
 ghost use Rattle.class_linker.specs.Linkers.{IsLoaded};
 ghost use Rattle.member_selection.specs.Known.{IsClassFound, IsMade};
@@ -13,6 +11,7 @@ ghost use Rattle.member_selection.specs.Objects.{IsUsable};
 ghost use Rattle.member_selection.specs.Resolved.{makes_new};
 ghost use Rattle.member_selection.specs.Outcomes.{Asks, HaveOperands};
 ghost use Rattle.symbolic_references.specs.Leaving.{Sets};
+ghost use Rattle.symbolic_references.specs.Rules.{makes_fields, once_initialized};
 ghost use Rattle.symbolic_references.specs.Runtimes.{linker_in};
 
 use crate::runtime::Runtime;
@@ -56,15 +55,10 @@ impl Runtime {
     fn make_fields(&mut self, frames: &Frames, kind: u32, class: u32) -> Result<Outcome, NoMemory>
         requires class { IsLoaded (linker_in self.old) class }
         requires usable { IsUsable (linker_in self.old) kind }
-        ensures answer { Asks result (allocates (1 + length (layout self.old.world.program class))
-            (with_instance kind (map zero_of (layout self.old.world.program class)))
-            0 self.old.shared)
-            frames.now }
+        ensures answer { Asks result
+            (makes_fields self.old.world.program kind class self.old.shared) frames.now }
         ensures runtime { Sets result self.new
-            (allocates (1 + length (layout self.old.world.program class))
-            (with_instance kind (map zero_of (layout self.old.world.program class)))
-            0 self.old.shared)
-            frames.now self.old }
+            (makes_fields self.old.world.program kind class self.old.shared) frames.now self.old }
         ensures world { self.new.world ≡ self.old.world }
         ensures same_loaded { self.new.shared.loaded ≡ self.old.shared.loaded }
         ensures enough { HaveOperands result frames.now }
@@ -77,7 +71,7 @@ impl Runtime {
         match self.heap.instance(kind, fields.as_slice()) {
             Ok(number) => Ok(Outcome::Goes(0, Some(Value::Ref(number)))),
             // There is room.
-            Err(HeapError::HeapFull) => Err(NoMemory),
+            Err(HeapError::HeapFull) => unreachable!(),
             Err(HeapError::NoMemory) => Err(NoMemory),
         }
     }
@@ -100,7 +94,7 @@ impl Runtime {
         match self.heap.text(kind, &[]) {
             Ok(number) => Ok(Outcome::Goes(0, Some(Value::Ref(number)))),
             // There is room.
-            Err(HeapError::HeapFull) => Err(NoMemory),
+            Err(HeapError::HeapFull) => unreachable!(),
             Err(HeapError::NoMemory) => Err(NoMemory),
         }
     }
@@ -178,12 +172,10 @@ impl Runtime {
         requires usable { IsUsable (linker_in self.old) kind }
         requires kind { class ≡ class_of_kind self.old.world.program kind }
         requires found { IsClassFound found.old self.old.world.program kind }
-        ensures answer { Asks result
-            (λ l o. class_initialized self.old.world.program class self.old.shared
-            (makes_instance self.old.world.program kind class self.old.shared l o)) frames.now }
-        ensures runtime { Sets result self.new
-            (λ l o. class_initialized self.old.world.program class self.old.shared
-            (makes_instance self.old.world.program kind class self.old.shared l o))
+        ensures answer { let p = self.old.world.program in let s = self.old.shared in Asks result
+            (once_initialized p class s (makes_instance p kind class s)) frames.now }
+        ensures runtime { let p = self.old.world.program in let s = self.old.shared in
+            Sets result self.new (once_initialized p class s (makes_instance p kind class s))
             frames.now self.old }
         ensures found { IsClassFound found.new self.old.world.program kind }
         ensures world { self.new.world ≡ self.old.world }

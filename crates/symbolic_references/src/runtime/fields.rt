@@ -6,13 +6,13 @@ ghost use Rattle.std.specs.Prelude.{take, true, IfOk, IfSome, Ok, Some};
 ghost use Rattle.std.specs.Option.{option_map};
 ghost use Rattle.frame_stack.specs.FrameLists.{top_operands};
 ghost use Rattle.heap_objects.specs.Heaps.{kind_at, slot_at, with_slot_at};
-ghost use Rattle.jvm_model.specs.Instructions.FieldRules.{field_owner, fields_before, gets_of, kind_by};
-ghost use Rattle.jvm_model.specs.Instructions.FieldRules.{puts_into, putting_of, slot_of};
+ghost use Rattle.jvm_model.specs.Instructions.FieldRules.{field_owner, fields_before};
+ghost use Rattle.jvm_model.specs.Instructions.FieldRules.{putting_of, slot_of};
 ghost use Rattle.jvm_model.specs.Classes.Kinds.{kind_named};
 ghost use Rattle.jvm_model.specs.Instructions.LocalRules.{replaces};
 ghost use Rattle.jvm_model.specs.Instructions.SymbolicReference.{extends};
 ghost use Rattle.jvm_model.specs.declared.instruction.SymbolicReference.TheVariants.{Getfield, Putfield};
-ghost use Rattle.jvm_model.specs.Basis.Values.{as_value, ref_of};
+ghost use Rattle.jvm_model.specs.Basis.Values.{as_value};
 ghost use Rattle.class_linker.specs.Linkers.{IsLoaded};
 ghost use Rattle.symbolic_references.specs.Fields.{is_of_instances, owner_found};
 ghost use Rattle.symbolic_references.specs.Fields.{putting_view, writes};
@@ -23,6 +23,7 @@ ghost use Rattle.member_selection.specs.Resolved.{field_found, gets_instance, pu
 ghost use Rattle.member_selection.specs.Answers.{asking_in_frame, shared_by};
 ghost use Rattle.member_selection.specs.Outcomes.{Asks, HasOperands, HaveOperands, outcome_by_rule, outcome_in_frame};
 ghost use Rattle.symbolic_references.specs.Leaving.{Sets};
+ghost use Rattle.symbolic_references.specs.Rules.{gets_from, puts_to};
 ghost use Rattle.symbolic_references.specs.Runtimes.{linker_in, with_shared};
 ghost use Rattle.member_selection.specs.Answers.{found_view};
 
@@ -252,8 +253,9 @@ impl Runtime {
             ≡ Ok (at_place field) }
         requires found { let n = Getfield member.now in
             IsFoundAs found.old self.now.world.program kind n }
-        ensures answer { Asks result (λ l o. gets_of self.now.world.program member.now
-            (at_place field) (ref_of o) self.now.shared l o) frames.now }
+        ensures answer { Asks result
+            (gets_from self.now.world.program member.now (at_place field) self.now.shared)
+            frames.now }
         ensures found { let n = Getfield member.now in
             IsFoundAs found.new self.now.world.program kind n }
         ensures enough { HaveOperands result frames.now }
@@ -287,9 +289,9 @@ impl Runtime {
         requires named { kind_named self.now.world.program member.now.class ≡ Some kind }
         requires slot { slot ≡ slot_of self.now.world.program (at_place field) }
         requires own { has_field_at self.now.world.program (Some last) kind field.class ≡ true }
-        ensures answer { outcome_in_frame result frames.now
-            ≡ outcome_by_rule (λ l o. gets_of self.now.world.program
-            member.now (at_place field) (ref_of o) self.now.shared l o) frames.now }
+        ensures answer { outcome_in_frame result frames.now ≡ outcome_by_rule
+            (gets_from self.now.world.program member.now (at_place field) self.now.shared)
+            frames.now }
         ensures enough { HasOperands result (top_operands frames.now.frames) }
     {
         let Some(object) = ref_of(frames) else {
@@ -391,11 +393,11 @@ impl Runtime {
         requires found { let n = Putfield member.now in
             IsFoundAs found.old self.old.world.program kind n }
         ensures answer { Asks result
-            (λ l o. puts_into self.old.world.program member.now (at_place field)
-            (putting_of (kind_by member.now) o) self.old.shared l o) frames.now }
+            (puts_to self.old.world.program member.now (at_place field) self.old.shared)
+            frames.now }
         ensures runtime { Sets result self.new
-            (λ l o. puts_into self.old.world.program member.now (at_place field)
-            (putting_of (kind_by member.now) o) self.old.shared l o) frames.now self.old }
+            (puts_to self.old.world.program member.now (at_place field) self.old.shared)
+            frames.now self.old }
         ensures found { let n = Putfield member.now in
             IsFoundAs found.new self.old.world.program kind n }
         ensures world { self.new.world ≡ self.old.world }
@@ -433,11 +435,11 @@ impl Runtime {
         requires slot { slot ≡ slot_of self.old.world.program (at_place field) }
         requires own { has_field_at self.old.world.program (Some last) kind field.class ≡ true }
         ensures answer { Asks result
-            (λ l o. puts_into self.old.world.program member.now (at_place field)
-            (putting_of (kind_by member.now) o) self.old.shared l o) frames.now }
+            (puts_to self.old.world.program member.now (at_place field) self.old.shared)
+            frames.now }
         ensures runtime { Sets result self.new
-            (λ l o. puts_into self.old.world.program member.now (at_place field)
-            (putting_of (kind_by member.now) o) self.old.shared l o) frames.now self.old }
+            (puts_to self.old.world.program member.now (at_place field) self.old.shared)
+            frames.now self.old }
         ensures world { self.new.world ≡ self.old.world }
         ensures same_loaded { self.new.shared.loaded ≡ self.old.shared.loaded }
         ensures enough { HaveOperands result frames.now }

@@ -17,14 +17,15 @@ ghost use Rattle.symbolic_references.specs.Passing.{IfPassed, runs_native_call};
 ghost use Rattle.member_selection.specs.Targets.{as_datum, data_in};
 ghost use Rattle.member_selection.specs.Outcomes.{Asks, HaveOperands, outcome_in_frame};
 ghost use Rattle.symbolic_references.specs.Leaving.{Leaves};
-ghost use Rattle.member_selection.specs.Answers.{abrupt_view, answer_in, frames_in, is_next};
+ghost use Rattle.symbolic_references.specs.Rules.{on_arguments};
+ghost use Rattle.member_selection.specs.Answers.{abrupt_view, frames_after, goes_on};
 ghost use Rattle.symbolic_references.specs.Natives.{outcome_by};
 ghost use Rattle.frame_stack.specs.FrameLists.{with_frames};
 
 use crate::invoked::NativeCall;
 use crate::runtime::Runtime;
 use crate::runtime::creation::RESERVED;
-use base_classes::{BUILT_IN_CLASSES, OUT_OF_MEMORY_ERROR};
+use base_classes::{ARRAYCOPY, BUILT_IN_CLASSES, OUT_OF_MEMORY_ERROR};
 use frame_stack::Frames;
 use heap_objects::{Datum, Value};
 use jf_bytes::{NoMemory, Seq};
@@ -59,9 +60,8 @@ fn arguments(alloc: Global, frames: &Frames, count: u16) -> Result<Seq<Datum>, N
     let mut left = count;
     while left > 0 {
         left -= 1;
-        // It is there.
         let Some(value) = frames.peek(left) else {
-            return Err(NoMemory);
+            unreachable!()
         };
         args.push(as_datum(value))?;
     }
@@ -115,18 +115,14 @@ fn conclude(frames: &Frames, native: Native, count: u16) -> Result<Outcome, NoMe
 
 // ---- a call that raises nothing
 
-/// The number of System.arraycopy, which stores values up to the first that may not stand there,
-/// and then throws.
-const ARRAYCOPY: u16 = 79;
-
 /// The frame goes on by an answer to so many arguments. False, with nothing of it changed, where it
 /// doesn't.
 #[tactic(auto, using(crate::proofs::Carried::enough_operands))]
 fn pass_answer(frames: &mut Frames, native: Native, count: u16, next: u16) -> bool
     requires { count ≤ length (top_operands frames.old.frames) }
-    ensures answer { let fs = frames.old.frames in result ≡ is_next (answer_in
-        (outcome_by native (top_locals fs) (drop count (top_operands fs))) fs) }
-    ensures frames { let fs = frames.old.frames in frames.new ≡ with_frames (frames_in
+    ensures answer { let fs = frames.old.frames in result ≡ goes_on
+        (outcome_by native (top_locals fs) (drop count (top_operands fs))) fs }
+    ensures frames { let fs = frames.old.frames in frames.new ≡ with_frames (frames_after
         (outcome_by native (top_locals fs) (drop count (top_operands fs))) next fs) frames.old }
 {
     match native {
@@ -196,7 +192,8 @@ impl Runtime {
     }
 
     /// Does a native method, where it raises nothing. False, with nothing changed, where anything
-    /// but that the frame goes on would come.
+    /// but that the frame goes on would come. System.arraycopy stores values up to the first that
+    /// may not stand there, and then throws.
     pub fn pass_native(&mut self, frames: &mut Frames, native: NativeCall, next: u16) -> bool
         requires stands { IsSome (slice_get native_methods native.number) }
         requires within { native.count ≤ length (top_operands frames.old.frames) }
@@ -211,17 +208,17 @@ impl Runtime {
         }
         if native.count == 1 {
             let Some(value) = frames.peek(0) else {
-                return false;
+                unreachable!()
             };
             let args = [as_datum(value)];
             return self.pass_with(frames, native, &args, next);
         }
         if native.count == 2 {
             let Some(first) = frames.peek(1) else {
-                return false;
+                unreachable!()
             };
             let Some(second) = frames.peek(0) else {
-                return false;
+                unreachable!()
             };
             let args = [as_datum(first), as_datum(second)];
             return self.pass_with(frames, native, &args, next);
@@ -241,10 +238,11 @@ impl Runtime {
     ) -> Result<Outcome, NoMemory>
         requires stands { IsSome (slice_get native_methods number) }
         requires within { count ≤ length (top_operands frames.now.frames) }
-        ensures answer { Asks result (λ l o. runs_number self.old.world number (data_in count o)
-            self.old.shared l (drop count o)) frames.now }
-        ensures runtime { Leaves result self.new (λ l o. runs_number self.old.world number
-            (data_in count o) self.old.shared l (drop count o)) frames.now self.old }
+        ensures answer { Asks result
+            (on_arguments count (runs_number self.old.world number) self.old.shared) frames.now }
+        ensures runtime { Leaves result self.new
+            (on_arguments count (runs_number self.old.world number) self.old.shared)
+            frames.now self.old }
         ensures world { self.new.world ≡ self.old.world }
         ensures same_loaded { self.new.shared.loaded ≡ self.old.shared.loaded }
         ensures enough { HaveOperands result frames.now }
@@ -262,12 +260,11 @@ impl Runtime {
         count: u16,
     ) -> Result<Outcome, NoMemory>
         requires within { count ≤ length (top_operands frames.now.frames) }
-        ensures answer { Asks result (λ l o. runs_native self.old.world (reference_to
-            self.old.world.program (at_place m)) (data_in count o) self.old.shared l
-            (drop count o)) frames.now }
-        ensures runtime { Leaves result self.new (λ l o. runs_native self.old.world (reference_to
-            self.old.world.program (at_place m)) (data_in count o) self.old.shared l
-            (drop count o)) frames.now self.old }
+        ensures answer { let w = self.old.world in let r = reference_to w.program (at_place m) in
+            Asks result (on_arguments count (runs_native w r) self.old.shared) frames.now }
+        ensures runtime { let w = self.old.world in let r = reference_to w.program (at_place m) in
+            Leaves result self.new (on_arguments count (runs_native w r) self.old.shared)
+            frames.now self.old }
         ensures world { self.new.world ≡ self.old.world }
         ensures same_loaded { self.new.shared.loaded ≡ self.old.shared.loaded }
         ensures enough { HaveOperands result frames.now }

@@ -2,7 +2,7 @@
 //! are initialized (JVM Specification
 //! 2.10, 5.1, 5.5).
 
-ghost use Rattle.std.specs.Prelude.{◌≡◌, IfOk, None, OnOk, Some};
+ghost use Rattle.std.specs.Prelude.{◌≡◌, ◌≤◌, ◌+◌, length, IfOk, None, OnOk, Some};
 ghost use Rattle.class_linker.specs.Linkers.{LinkerView};
 ghost use Rattle.heap_objects.specs.Changes.{changed_if};
 ghost use Rattle.heap_objects.specs.Heaps.{has_slot_at, next_number, with_slot_at, with_text};
@@ -41,17 +41,25 @@ fn make(heap: &mut Heap, kind: u32, cause: u32) -> Result<u32, NoMemory>
     }
 }
 
-/// Makes the text of a message and then the exception. Where there is room for both nothing but
-/// memory can be wanting.
+/// Makes the text of a message and then the exception. There is room for both.
 #[tactic(auto, using(member_selection::proofs::ObjectLemmas::objects_with))]
-fn make_both(heap: &mut Heap, string: u32, kind: u32, message: &[u16]) -> Result<u32, HeapError>
+fn make_both(heap: &mut Heap, string: u32, kind: u32, message: &[u16]) -> Result<u32, NoMemory>
+    requires room { heap.old.used + (1 + length message.now + 3) ≤ heap.old.limit }
     ensures heap { OnOk result (heap.new ≡ with_both string kind message.now heap.old) }
     ensures number { IfOk result (λ r. r ≡ next_number (with_text string message.now heap.old)) }
     ensures loaded { (l : LinkerView) → IsUsable l string → IsUsable l kind → AreLoaded l heap.old
         → AreLoaded l heap.new }
 {
-    let text = heap.text(string, message)?;
-    heap.instance(kind, &[Datum::Ref(text), Datum::Ref(0)])
+    let text = match heap.text(string, message) {
+        Ok(number) => number,
+        Err(HeapError::HeapFull) => unreachable!(),
+        Err(HeapError::NoMemory) => return Err(NoMemory),
+    };
+    match heap.instance(kind, &[Datum::Ref(text), Datum::Ref(0)]) {
+        Ok(number) => Ok(number),
+        Err(HeapError::HeapFull) => unreachable!(),
+        Err(HeapError::NoMemory) => Err(NoMemory),
+    }
 }
 
 /// Makes an exception of this kind behind its message, and gives its number.
@@ -64,11 +72,7 @@ fn make_with(heap: &mut Heap, string: u32, kind: u32, message: &[u16]) -> Result
     if !heap.has_room(1 + message.len() + 3) {
         return Ok(RESERVED);
     }
-    match make_both(heap, string, kind, message) {
-        Ok(number) => Ok(number),
-        Err(HeapError::HeapFull) => Err(NoMemory),
-        Err(HeapError::NoMemory) => Err(NoMemory),
-    }
+    make_both(heap, string, kind, message)
 }
 
 impl Runtime {

@@ -1,18 +1,18 @@
 //! What is told of the program that is run, without a look into its class files.
 
-ghost use Rattle.std.specs.Prelude.{◌≡◌, ◌<◌, ◌^◌, length, unwrap_or, IfOk};
+ghost use Rattle.std.specs.Prelude.{◌≡◌, ◌<◌, ◌^◌, length, IfOk};
 ghost use Rattle.std.specs.Option.{option_copied};
 ghost use Rattle.jvm_model.specs.Basis.Programs.{class_named, max_locals_of, max_stack_of, params_of_method};
-ghost use Rattle.jvm_model.specs.Basis.SharedState.{kind_for, string};
+ghost use Rattle.jvm_model.specs.Basis.SharedState.{error, kind_for, string, throwable};
 ghost use Rattle.jvm_model.specs.Instructions.Exceptions.{exception_name};
 ghost use Rattle.jvm_model.specs.declared.exception.Exception.TheVariants.{BuiltIn};
 ghost use Rattle.member_selection.specs.Objects.{IsUsable};
 ghost use Rattle.symbolic_references.specs.ProgramFacts.{exception_kind};
 ghost use Rattle.symbolic_references.specs.Runtimes.{linker_in};
 
+use crate::named_classes::kind_named;
 use crate::runtime::Runtime;
 use base_classes::built_in_name;
-use class_index::{Index, base_of_class};
 use const_pool::Kind;
 use jf_bytes::{NoMemory, Seq};
 use jvm_model::{Exception, Program};
@@ -26,27 +26,6 @@ fn built_in_named(place: u16) -> &'static str
         Some(name) => name,
         None => "java/lang/Throwable",
     }
-}
-
-/// The position of the class of this name, found by hashing; 0 where there is none.
-#[tactic(auto, using(crate::proofs::Positions::position_within))]
-fn position_named(index: &Index, name: &[u16]) -> u32
-    requires { length index.now.classes < 2 ^ 24 }
-    ensures class { result ≡ unwrap_or (class_named index.now name.now) 0 }
-    ensures most { result < 2 ^ 24 }
-{
-    match index.class_named(name) {
-        Some(class) => class,
-        None => 0,
-    }
-}
-
-/// The kind of the instances of the class of this name, found by hashing.
-fn kind_named(index: &Index, name: &[u16]) -> u32
-    requires { length index.now.classes < 2 ^ 24 }
-    ensures { result ≡ kind_for index.now name.now }
-{
-    base_of_class(index.program(), position_named(index, name))
 }
 
 impl Runtime {
@@ -134,5 +113,19 @@ impl Runtime {
         ensures most { result < 2 ^ 25 }
     {
         self.tables.exceptions.string
+    }
+
+    /// The position of java/lang/Throwable, where the program has it.
+    pub fn throwable(&self) -> Option<u32>
+        ensures { result ≡ class_named self.now.world.program throwable }
+    {
+        self.tables.throwable
+    }
+
+    /// The position of java/lang/Error, where the program has it.
+    pub fn error(&self) -> Option<u32>
+        ensures { result ≡ class_named self.now.world.program error }
+    {
+        self.tables.error
     }
 }

@@ -7,11 +7,10 @@ ghost use Rattle.frame_stack.specs.FrameLists.{top_operands};
 ghost use Rattle.symbolic_references.specs.Held.{with_static_in};
 ghost use Rattle.jvm_model.specs.Basis.Data.{Raises};
 ghost use Rattle.jvm_model.specs.Instructions.FieldRules.{held_of};
-ghost use Rattle.jvm_model.specs.Instructions.FieldRules.{pushes_static, sets_static, static_field};
+ghost use Rattle.jvm_model.specs.Instructions.FieldRules.{pushes_static, static_field};
 ghost use Rattle.jvm_model.specs.Instructions.LocalRules.{pushes};
 ghost use Rattle.jvm_model.specs.declared.instruction.SymbolicReference.TheVariants.{Getstatic, Putstatic};
 ghost use Rattle.jvm_model.specs.Basis.Programs.{name_at};
-ghost use Rattle.jvm_model.specs.Instructions.Rules.{class_initialized};
 ghost use Rattle.jvm_model.specs.Basis.SharedState.{no_class_definition, static_at};
 ghost use Rattle.jvm_model.specs.Basis.Values.{as_value};
 ghost use Rattle.member_selection.specs.Known.{IsFoundAs};
@@ -21,6 +20,7 @@ ghost use Rattle.member_selection.specs.Resolved.{gets_static, puts_static};
 ghost use Rattle.member_selection.specs.Answers.{asking_in_frame, shared_by};
 ghost use Rattle.member_selection.specs.Outcomes.{Asks, HasOperands, HaveOperands, outcome_by_rule, outcome_in_frame};
 ghost use Rattle.symbolic_references.specs.Leaving.{Sets};
+ghost use Rattle.symbolic_references.specs.Rules.{once_initialized, sets_held};
 ghost use Rattle.symbolic_references.specs.Runtimes.{linker_in, with_shared};
 
 use crate::held::field_narrowed;
@@ -164,10 +164,9 @@ impl Runtime {
     /// being.
     fn set_static_field(&mut self, frames: &Frames, field: DeclaredMember, kind: Kind) -> Outcome
         ensures answer { outcome_in_frame result frames.now
-            ≡ outcome_by_rule (λ l o. sets_static (at_place field)
-            (held_of kind o) self.old.shared l o) frames.now }
-        ensures runtime { self.new ≡ with_shared (shared_by (λ l o. sets_static (at_place field)
-            (held_of kind o) self.old.shared l o) frames.now) self.old }
+            ≡ outcome_by_rule (sets_held (at_place field) kind self.old.shared) frames.now }
+        ensures runtime { self.new ≡ with_shared
+            (shared_by (sets_held (at_place field) kind self.old.shared) frames.now) self.old }
         ensures world { self.new.world ≡ self.old.world }
         ensures same_loaded { self.new.shared.loaded ≡ self.old.shared.loaded }
         ensures enough { HasOperands result (top_operands frames.now.frames) }
@@ -186,13 +185,12 @@ impl Runtime {
         field: DeclaredMember,
         kind: Kind,
     ) -> Result<Outcome, NoMemory>
-        ensures answer { Asks result
-            (λ l o. class_initialized self.old.world.program field.class self.old.shared
-            (sets_static (at_place field) (held_of kind o) self.old.shared l o)) frames.now }
-        ensures runtime { Sets result self.new
-            (λ l o. class_initialized self.old.world.program field.class self.old.shared
-            (sets_static (at_place field) (held_of kind o) self.old.shared l o))
-            frames.now self.old }
+        ensures answer { let s = self.old.shared in Asks result
+            (once_initialized self.old.world.program field.class s
+            (sets_held (at_place field) kind s)) frames.now }
+        ensures runtime { let s = self.old.shared in Sets result self.new
+            (once_initialized self.old.world.program field.class s
+            (sets_held (at_place field) kind s)) frames.now self.old }
         ensures world { self.new.world ≡ self.old.world }
         ensures same_loaded { self.new.shared.loaded ≡ self.old.shared.loaded }
         ensures enough { HaveOperands result frames.now }

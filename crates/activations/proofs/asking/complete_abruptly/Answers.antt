@@ -3,7 +3,7 @@ use Rattle.std.proofs.lemmas.Int.{to_z-of_z}
 use Rattle.jvm_model.specs.declared.ending.Ending.TheVariants.{Exited}
 use Rattle.jvm_model.specs.Instructions.Exceptions.{exception_name}
 use Rattle.member_selection.specs.Answers.{abrupt_view}
-use Rattle.prepared_code.specs.Linked.{setup_in}
+use Rattle.prepared_code.specs.Originals.{setup_in}
 use Rattle.prepared_code.specs.States.{state_in}
 use Rattle.activations.specs.Applied.{acts_asked, on_parts}
 use Rattle.activations.proofs.ConcludedOutcomes.{breaks-is, exits-is, raises-is, throws-is}

@@ -4,7 +4,7 @@ use Rattle.frame_stack.specs.FrameLists.{top_operands}
 use Rattle.jvm_model.specs.Running.Run.{starts}
 use Rattle.member_selection.specs.Outcomes.{HasOperands, outcome_in_frame}
 use Rattle.member_selection.specs.Targets.{data_in}
-use Rattle.prepared_code.specs.Linked.{setup_in}
+use Rattle.prepared_code.specs.Originals.{setup_in}
 use Rattle.prepared_code.specs.States.{state_in}
 use Rattle.activations.specs.Applied.{acts_asked, on_parts}
 use Rattle.activations.specs.TakenArguments.{TakesArguments}

@@ -1,5 +1,5 @@
 use Rattle.std.proofs.Common.{ap, ◌∙◌}
-use Rattle.prepared_code.specs.Linked.{setup_in}
+use Rattle.prepared_code.specs.Originals.{setup_in}
 use Rattle.prepared_code.specs.States.{state_in}
 use Rattle.activations.proofs.ConcludedOutcomes.{ended-is, gone-is}
 use Rattle.activations.proofs.asking.go_on.Goals as goal

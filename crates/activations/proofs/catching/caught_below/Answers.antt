@@ -1,6 +1,6 @@
 use Rattle.std.proofs.Common.{◌-◌, sym, ap, ◌∙◌}
 use Rattle.prepared_code.specs.Initializations.{initialization_on}
-use Rattle.prepared_code.specs.Linked.{setup_in}
+use Rattle.prepared_code.specs.Originals.{setup_in}
 use Rattle.activations.proofs.CatchLemmas.{not-some, catches-there}
 use Rattle.activations.proofs.catching.caught_below.Goals as goal
 

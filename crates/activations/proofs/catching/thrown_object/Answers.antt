@@ -6,5 +6,5 @@ use Rattle.activations.proofs.catching.thrown_object.Goals as goal
 
 pub returns : goal.returns
 returns c =
-    throws-so c.args.runtime.now.world c.args.runtime.now.shared (ref_of (top_operands c.args.frames.now.frames)) c.in-Some.object c.class_of-class.result
-    (sym c.ref_of.ensures.found ∙ c.in-Some.is) c.if-object-eq0.false c.class_of-class.ensures (c.is_throwable.ensures c.if-not-is_throwable.false)
+    throws-so c.args.runtime.now.world c.args.runtime.now.shared (ref_of (top_operands c.args.frames.now.frames)) c.in-Some.object
+    (sym c.ref_of.ensures.found ∙ c.in-Some.is) c.if-object-eq0.false (sym c.is_throwable.ensures ∙ c.if-not-is_throwable.false)

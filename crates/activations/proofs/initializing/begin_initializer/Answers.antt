@@ -1,4 +1,4 @@
-use Rattle.prepared_code.specs.Linked.{setup_in}
+use Rattle.prepared_code.specs.Originals.{setup_in}
 use Rattle.activations.proofs.InitializerFrames.{begins-on}
 use Rattle.activations.proofs.initializing.begin_initializer.Goals as goal
 

@@ -4,7 +4,7 @@ use Rattle.jvm_model.specs.Running.Moves.{raises}
 use Rattle.jvm_model.specs.Basis.Programs.{initializer_of}
 use Rattle.jvm_model.specs.Basis.SharedState.{stack_overflow}
 use Rattle.prepared_code.specs.Initializations.{state_of}
-use Rattle.prepared_code.specs.Linked.{setup_in}
+use Rattle.prepared_code.specs.Originals.{setup_in}
 use Rattle.activations.proofs.InitializerFrames.{live-of, method-begun, method-none, runs-begun, runs-over}
 use Rattle.activations.proofs.initializing.run_initializer.Goals as goal
 use Rattle.prepared_code.specs.Versions.{listing_of}

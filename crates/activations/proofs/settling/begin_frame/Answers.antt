@@ -1,4 +1,4 @@
-use Rattle.prepared_code.specs.Linked.{setup_in}
+use Rattle.prepared_code.specs.Originals.{setup_in}
 use Rattle.activations.proofs.MainFrames.{main_frame}
 use Rattle.activations.proofs.settling.begin_frame.Goals as goal
 

@@ -1,6 +1,6 @@
 use Rattle.std.proofs.lemmas.Result.{on_ok_weaker}
 use Rattle.prepared_code.proofs.Initializing.InitializingParts.{not-taken}
-use Rattle.prepared_code.specs.Linked.{setup_in}
+use Rattle.prepared_code.specs.Originals.{setup_in}
 use Rattle.activations.proofs.TurnsCarried.{carried-as, carried-to}
 use Rattle.activations.proofs.turning.make_move.Goals as goal
 

@@ -5,7 +5,7 @@ use Rattle.jvm_model.specs.declared.exception.Exception.TheVariants.{Arithmetic}
 use Rattle.instructions.specs.Acts.{acts_alone}
 use Rattle.activations.specs.Applied.{on_parts, raising}
 use Rattle.prepared_code.specs.States.{state_in}
-use Rattle.prepared_code.specs.Linked.{setup_in}
+use Rattle.prepared_code.specs.Originals.{setup_in}
 use Rattle.instructions.proofs.Attempts.Alone.{goes-next, goes-bad, goes-other, goes-throws}
 use Rattle.activations.proofs.Callees.{came-to}
 use Rattle.instructions.proofs.attempting.act_alone.Goals as goal

@@ -2,7 +2,7 @@ use Rattle.std.proofs.Common.{◌-◌, length, sym, ap, ◌∙◌}
 use Rattle.std.specs.Prelude.{is_some}
 use Rattle.std.proofs.lemmas.Result.{on_ok_weaker}
 use Rattle.prepared_code.specs.Initializations.{initialization_on}
-use Rattle.prepared_code.specs.Linked.{setup_in}
+use Rattle.prepared_code.specs.Originals.{setup_in}
 use Rattle.instructions.proofs.Initializing.Beneath.{does-beneath}
 use Rattle.activations.proofs.CatchLemmas.{not-some}
 use Rattle.instructions.proofs.attempting.act_beneath.Goals as goal

@@ -4,7 +4,7 @@ use Rattle.prepared_code.specs.Versions.{Setup}
 use Rattle.instructions.specs.Acts.{attempts_on, awaited_in, awaited_on}
 use Rattle.prepared_code.specs.Initializations.{state_of}
 use Rattle.prepared_code.specs.Ready.{CanRun, IsSoundIn}
-use Rattle.prepared_code.specs.Linked.{setup_in}
+use Rattle.prepared_code.specs.Originals.{setup_in}
 use Rattle.instructions.proofs.Initializing.Beneath.{nothing-there}
 use Rattle.instructions.proofs.Attempts.NamedAttempts.{same-setup}
 use Rattle.instructions.proofs.attempting.attempt.Goals as goal
@@ -21,8 +21,8 @@ returns-in_default-clause-state c =
     let p = c.args.parts.now in
     sym (ap (attempts_on w (state_of c.args.initializing.now p)) (nothing-there w c.args.initializing.now p (sym c.where_now.ensures ∙ c.in_default.is) c.requires.executing))
 
-pub attempt_there-requires-clause-linked : goal.attempt_there-requires-clause-linked
-attempt_there-requires-clause-linked c = c.in_ok-prepare.ensures.linked c.args.parts.now.runtime c.requires.linked
+pub attempt_there-requires-clause-known : goal.attempt_there-requires-clause-known
+attempt_there-requires-clause-known c = c.in_ok-prepare.ensures.known c.args.parts.now.runtime c.requires.known
 
 pub attempt_there-requires-clause-fit : goal.attempt_there-requires-clause-fit
 attempt_there-requires-clause-fit c = subst CanRun (sym (same-setup c.args.parts.now.runtime c.args.parts.now.runtime c.args.originals.now c.prepare.new.self refl c.in_ok-prepare.ensures.versions)) c.requires.fit

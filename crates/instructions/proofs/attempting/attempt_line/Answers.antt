@@ -1,9 +1,9 @@
 use Rattle.std.proofs.Common.{sym, ap, subst, ◌∙◌}
 use Rattle.std.specs.Option.{IfSome}
-use Rattle.member_selection.specs.Arrays.{IsPrimitiveArray}
+use Rattle.jvm_model.specs.Soundness.Sound.{IsPrimitiveArray}
 use Rattle.prepared_lines.specs.declared.line.Line.{Line}
 use Rattle.prepared_code.specs.Initializations.{state_of}
-use Rattle.prepared_code.specs.Linked.{setup_in}
+use Rattle.prepared_code.specs.Originals.{setup_in}
 use Rattle.instructions.specs.Acts.{IfNewarray}
 use Rattle.instructions.proofs.Initializing.Beneath.{breaks-there, done-there}
 use Rattle.instructions.proofs.Moves.Sounded.{array-primitive}
@@ -21,5 +21,5 @@ returns-clause-state c =
 
 pub act_beneath-requires-clause-arrays : goal.act_beneath-requires-clause-arrays
 act_beneath-requires-clause-arrays c =
-    subst (λ o. IfSome o (λ (line : Line). IfNewarray line.action IsPrimitiveArray)) c.in-Some.ensures.line
+    subst (λ o. IfSome o (λ (line : Line). IfNewarray line.operation IsPrimitiveArray)) c.in-Some.ensures.line
     (array-primitive (setup_in c.args.parts.now.runtime c.args.originals.now) c.args.initializing.now c.args.parts.now c.args.here c.requires.fit c.requires.sound c.requires.here c.requires.executing)

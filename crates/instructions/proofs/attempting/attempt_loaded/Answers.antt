@@ -7,7 +7,7 @@ use Rattle.instructions.specs.Acts.{attempts_on, awaited_in, awaited_on}
 use Rattle.prepared_code.specs.Initializations.{state_of}
 use Rattle.prepared_code.specs.Ready.{CanRun, IsSoundIn}
 use Rattle.activations.specs.Turning.{loads_in, loads_none}
-use Rattle.prepared_code.specs.Linked.{setup_in}
+use Rattle.prepared_code.specs.Originals.{setup_in}
 use Rattle.instructions.proofs.Initializing.Beneath.{nothing-there}
 use Rattle.instructions.proofs.Attempts.NamedAttempts.{same-setup}
 use Rattle.instructions.proofs.Loads.LoadedApart.{nothing-loads}
@@ -30,8 +30,8 @@ pub returns-in_default-clause-some : goal.returns-in_default-clause-some
 returns-in_default-clause-some c =
     sym (nothing-loads (setup_in c.args.parts.now.runtime c.args.originals.now) c.args.initializing.now c.args.parts.now c.requires.ending (sym c.where_now.ensures ∙ c.in_default.is) c.requires.executing)
 
-pub attempt_loaded_there-requires-clause-linked : goal.attempt_loaded_there-requires-clause-linked
-attempt_loaded_there-requires-clause-linked c = c.in_ok-prepare.ensures.linked c.args.parts.now.runtime c.requires.linked
+pub attempt_loaded_there-requires-clause-known : goal.attempt_loaded_there-requires-clause-known
+attempt_loaded_there-requires-clause-known c = c.in_ok-prepare.ensures.known c.args.parts.now.runtime c.requires.known
 
 pub attempt_loaded_there-requires-clause-fit : goal.attempt_loaded_there-requires-clause-fit
 attempt_loaded_there-requires-clause-fit c = subst CanRun (sym (same-setup c.args.parts.now.runtime c.args.parts.now.runtime c.args.originals.now c.prepare.new.self refl c.in_ok-prepare.ensures.versions)) c.requires.fit

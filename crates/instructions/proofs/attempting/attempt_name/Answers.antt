@@ -6,21 +6,22 @@ use Rattle.frame_stack.specs.FrameLists.{top_operands}
 use Rattle.jvm_basic.specs.Outcomes.{top_locals}
 use Rattle.member_selection.specs.Outcomes.{outcome_in_frame}
 use Rattle.prepared_code.specs.declared.parts.Parts.{Parts}
-use Rattle.prepared_code.specs.Linked.{setup_in}
+use Rattle.prepared_code.specs.Originals.{setup_in}
 use Rattle.prepared_code.specs.States.{state_in}
 use Rattle.prepared_code.specs.Tables.{Versions}
 use Rattle.prepared_code.specs.Versions.{line_at}
 use Rattle.activations.specs.Applied.{acts_asked, on_parts}
 use Rattle.instructions.specs.Acts.{named_in}
 use Rattle.activations.proofs.ConcludedOutcomes.{stays-outcome}
-use Rattle.instructions.proofs.Attempts.NamedAttempts.{awaits-told, begins-on, goes-on, linked-kept, same-setup, takes-there}
-use Rattle.instructions.proofs.Moves.Sounded.{caller-linked}
+use Rattle.prepared_code.proofs.Lines.KnownNames.{names-kept}
+use Rattle.instructions.proofs.Attempts.NamedAttempts.{awaits-told, begins-on, goes-on, same-setup, takes-there}
+use Rattle.instructions.proofs.Moves.Sounded.{caller-is-loaded}
 use Rattle.instructions.proofs.Initializing.Beneath.{top-there}
 use Rattle.instructions.proofs.attempting.attempt_name.Goals as goal
 
 pub attempt_named-requires-clause-caller : goal.attempt_named-requires-clause-caller
 attempt_named-requires-clause-caller c =
-    caller-linked (setup_in c.args.parts.now.runtime c.args.originals.now) c.args.initializing.now c.args.parts.now c.args.here c.requires.fit c.requires.sound c.requires.here c.requires.executing
+    caller-is-loaded (setup_in c.args.parts.now.runtime c.args.originals.now) c.args.initializing.now c.args.parts.now c.args.here c.requires.fit c.requires.sound c.requires.here c.requires.executing
 
 pub conclude-requires-clause-takes : goal.conclude-requires-clause-takes
 conclude-requires-clause-takes c =
@@ -45,9 +46,9 @@ returns-in_default-awaited-clause-answer c =
     c.requires.named c.requires.here c.requires.executing (outcome_in_frame c.in_ok-outcome.outcome c.args.parts.now.frames) c.attempt_named.new.runtime (c.in_ok-outcome.ensures.answer) (c.in_ok-outcome.ensures.runtime)
     c.in_ok-awaited.awaited c.in_ok-awaited.ensures.answer
 
-pub returns-in_default-awaited-clause-linked : goal.returns-in_default-awaited-clause-linked
-returns-in_default-awaited-clause-linked c =
-    linked-kept c.attempt_named.new.self c.attempt_named.new.runtime c.conclude.new.parts.runtime c.in_ok-awaited.ensures.world c.in_ok-awaited.ensures.same_loaded c.in_ok-outcome.ensures.linked
+pub returns-in_default-awaited-clause-known : goal.returns-in_default-awaited-clause-known
+returns-in_default-awaited-clause-known c =
+    names-kept c.attempt_named.new.self c.attempt_named.new.runtime c.conclude.new.parts.runtime c.in_ok-awaited.ensures.world c.in_ok-awaited.ensures.same_loaded c.in_ok-outcome.ensures.known
 
 pub returns-clause-state : goal.returns-clause-state
 returns-clause-state c =
@@ -65,10 +66,10 @@ returns-clause-answer c =
     c.requires.named c.requires.here c.requires.executing (outcome_in_frame c.in_ok-outcome.outcome c.args.parts.now.frames) c.attempt_named.new.runtime (c.in_ok-outcome.ensures.answer) (c.in_ok-outcome.ensures.runtime)
     c.in_ok-awaited.awaited c.in_ok-awaited.ensures.answer
 
-pub returns-clause-linked : goal.returns-clause-linked
-returns-clause-linked c =
-    linked-kept c.attempt_named.new.self c.attempt_named.new.runtime c.initialize.new.parts.runtime (c.in_ok-initialize.ensures.world ∙ c.in_ok-awaited.ensures.world)
-    (c.in_ok-initialize.ensures.same_loaded ∙ c.in_ok-awaited.ensures.same_loaded) c.in_ok-outcome.ensures.linked
+pub returns-clause-known : goal.returns-clause-known
+returns-clause-known c =
+    names-kept c.attempt_named.new.self c.attempt_named.new.runtime c.initialize.new.parts.runtime (c.in_ok-initialize.ensures.world ∙ c.in_ok-awaited.ensures.world)
+    (c.in_ok-initialize.ensures.same_loaded ∙ c.in_ok-awaited.ensures.same_loaded) c.in_ok-outcome.ensures.known
 
 -- a line stands there
 pub returns-in_default-clause-state : goal.returns-in_default-clause-state
@@ -81,8 +82,8 @@ returns-in_default-clause-answer c = absurd
     (false≢true (ap named_in (c.in_default.ensures.kept
     ∙ (ap (λ (v : Versions). line_at v c.args.here.version c.args.here.place) c.in_ok-outcome.ensures.kept ∙ c.requires.ready c.args.here.place)) ∙ c.requires.named))
 
-pub returns-in_default-clause-linked : goal.returns-in_default-clause-linked
-returns-in_default-clause-linked c = absurd
+pub returns-in_default-clause-known : goal.returns-in_default-clause-known
+returns-in_default-clause-known c = absurd
     (false≢true (ap named_in (c.in_default.ensures.kept
     ∙ (ap (λ (v : Versions). line_at v c.args.here.version c.args.here.place) c.in_ok-outcome.ensures.kept ∙ c.requires.ready c.args.here.place)) ∙ c.requires.named))
 

@@ -3,13 +3,13 @@ use Rattle.std.specs.Prelude.{OnOk}
 use Rattle.jvm_model.specs.Profiling.Targets.{begun_by}
 use Rattle.possible_callees.specs.Tables.{Adds}
 use Rattle.possible_callees.proofs.Numbers.Adding.{adds-nothing}
-use Rattle.call_revelation.proofs.References.Callers.{caller-there}
+use Rattle.call_revelation.proofs.References.Callers.{loaded-caller}
 use Rattle.call_revelation.proofs.reveal.Reveal.add_waiting.Goals as goal
 
 pub add_begun-requires-clause-caller : goal.add_begun-requires-clause-caller
 add_begun-requires-clause-caller c =
     let r = c.args.self.now in
-    caller-there c.args.linker.now.program c.args.linker.now.loaded r.book.codes r.book.waiting.items r.book.calls.items c.requires.kept.book c.requires.kept.fit
+    loaded-caller c.args.linker.now.program c.args.linker.now.loaded r.book.codes r.book.waiting.items r.book.calls.items c.requires.kept.book c.requires.kept.fit
     c.args.u c.in-Some.reference.now c.in-Some.ensures.reference
     (λ place e. c.requires.ahead.loaded place.class (c.requires.kept.callers c.args.u.caller c.in-Some.ensures.entered place e))
 

@@ -1,7 +1,7 @@
 use Rattle.std.proofs.Common.{sym, ap, ◌∙◌}
 use Rattle.std.proofs.lemmas.Result.{on_ok_weaker}
 use Rattle.jvm_model.specs.Basis.SharedState.{arguments_fit}
-use Rattle.prepared_code.specs.Linked.{setup_in}
+use Rattle.prepared_code.specs.Originals.{setup_in}
 use Rattle.interpreter.proofs.Loads.StartLoads.{begun-loads, begun-none}
 use Rattle.interpreter.proofs.startup.beginning.begin_start.Goals as goal
 

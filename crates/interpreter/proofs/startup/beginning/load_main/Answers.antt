@@ -2,8 +2,9 @@ use Rattle.std.proofs.Common.{ap, ◌∙◌}
 use Rattle.jvm_model.specs.Running.Run.{main_class}
 use Rattle.member_selection.specs.Answers.{found_view}
 use Rattle.prepared_code.specs.Initializations.{state_of}
-use Rattle.prepared_code.specs.Linked.{setup_in}
-use Rattle.instructions.proofs.Attempts.NamedAttempts.{linked-kept, on-either}
+use Rattle.prepared_code.specs.Originals.{setup_in}
+use Rattle.prepared_code.proofs.Lines.KnownNames.{names-kept}
+use Rattle.instructions.proofs.Attempts.NamedAttempts.{on-either}
 use Rattle.interpreter.proofs.Loads.Starts.{begins-all, fits-room, limit-before}
 use Rattle.interpreter.proofs.startup.beginning.load_main.Goals as goal
 
@@ -16,13 +17,13 @@ make_arguments-requires-clause-limit c = limit-before c.args.parts.now.runtime.w
 
 pub load_main-requires : goal.load_main-requires
 load_main-requires c = record {
-  linked = linked-kept c.args.originals.now c.args.parts.now.runtime c.make_arguments.new.self c.make_arguments.ensures.world c.make_arguments.ensures.same_loaded c.requires.linked;
+  known = names-kept c.args.originals.now c.args.parts.now.runtime c.make_arguments.new.self c.make_arguments.ensures.world c.make_arguments.ensures.same_loaded c.requires.known;
 }
 
-pub returns-clause-linked : goal.returns-clause-linked
-returns-clause-linked c =
+pub returns-clause-known : goal.returns-clause-known
+returns-clause-known c =
     on-either c.begin_class.result
-    (linked-kept c.args.originals.now c.load_main.new.runtime c.begin_class.new.parts.runtime c.begin_class.ensures.world c.begin_class.ensures.same_loaded c.in_ok-found.ensures.linked)
+    (names-kept c.args.originals.now c.load_main.new.runtime c.begin_class.new.parts.runtime c.begin_class.ensures.world c.begin_class.ensures.same_loaded c.in_ok-found.ensures.known)
 
 pub returns-clause-state : goal.returns-clause-state
 returns-clause-state c =

@@ -22,21 +22,19 @@ new-requires-2-clause-exceptions c = exceptions-before c.args.originals.now.prog
 pub new-requires-2-clause-objects : goal.new-requires-2-clause-objects
 new-requires-2-clause-objects c =
     objects-before c.args.originals.now.program c.requires.fit c.in_ok-linker.linker c.in_ok-beginning.beginning.heap c.in_ok-linker.ensures.program c.in_ok-linker.ensures.loaded
-    (c.in_ok-beginning.ensures.heap ∙ ap (λ (p : Program). (shared_before p).heap) c.program.ensures.program)
+    (c.in_ok-beginning.ensures.heap ∙ ap (λ (p : Program). (shared_before p).heap) c.in_ok-linker.ensures.program)
 
 pub returns-clause-state : goal.returns-clause-state
 returns-clause-state c =
     state-before (record { program = c.args.originals.now.program; input = c.args.input }) c.new.result.frames c.new-2.result.shared c.new-2.result.output (ap (λ (f : FramesView). f.frames) c.new.ensures)
     (c.new-2.ensures.shared
-    ∙ shared-before c.args.originals.now.program c.program.result.now c.in_ok-linker.linker.loaded c.in_ok-beginning.beginning c.program.ensures.program c.in_ok-linker.ensures.loaded
+    ∙ shared-before c.args.originals.now.program c.in_ok-linker.linker.program c.in_ok-linker.linker.loaded c.in_ok-beginning.beginning c.in_ok-linker.ensures.program c.in_ok-linker.ensures.loaded
     c.in_ok-beginning.ensures.phases c.in_ok-beginning.ensures.statics c.in_ok-beginning.ensures.heap c.in_ok-beginning.ensures.made)
     c.new-2.ensures.output
 
 pub returns-clause-world : goal.returns-clause-world
 returns-clause-world c = c.new-2.ensures.world ∙ ap (λ (p : Program). let w : World = record { program = p; input = c.args.input } in w) c.in_ok-linker.ensures.program
 
-pub returns-clause-linked : goal.returns-clause-linked
-returns-clause-linked c = record {
-  program = ap (λ (w : World). w.program) c.new-2.ensures.world ∙ c.in_ok-linker.ensures.program;
-  known = subst (AreKnown (linker_in c.new-2.result) c.args.originals.now.versions) (sym c.requires.rows) (nil-known (linker_in c.new-2.result) c.args.originals.now.versions);
-}
+pub returns-clause-known : goal.returns-clause-known
+returns-clause-known c =
+    subst (AreKnown (linker_in c.new-2.result) c.args.originals.now.versions) (sym c.requires.rows) (nil-known (linker_in c.new-2.result) c.args.originals.now.versions)

@@ -1,15 +1,15 @@
 use Rattle.std.proofs.Common.{sym, ◌∙◌}
 use Rattle.std.proofs.lemmas.Bool.{false≢true}
 use Rattle.prepared_code.specs.Initializations.{state_of}
-use Rattle.prepared_code.specs.Linked.{setup_in}
-use Rattle.instructions.proofs.Attempts.NamedAttempts.{linked-kept}
+use Rattle.prepared_code.specs.Originals.{setup_in}
+use Rattle.prepared_code.proofs.Lines.KnownNames.{names-kept}
 use Rattle.interpreter.proofs.Moves.HandLaws.{attempt-sound, hands-on, moves-sound, reaches-attempt, reaches-moves, start-sound}
 use Rattle.interpreter.proofs.turns.hands.go.Goals as goal
 
 -- by moves
-pub returns-then-hand-clause-linked : goal.returns-then-hand-clause-linked
-returns-then-hand-clause-linked c =
-    linked-kept c.args.originals.now c.args.parts.now.runtime c.go_by_moves.new.parts.runtime c.in_ok-due.ensures.world c.in_ok-due.ensures.same_loaded c.requires.linked
+pub returns-then-hand-clause-known : goal.returns-then-hand-clause-known
+returns-then-hand-clause-known c =
+    names-kept c.args.originals.now c.args.parts.now.runtime c.go_by_moves.new.parts.runtime c.in_ok-due.ensures.world c.in_ok-due.ensures.same_loaded c.requires.known
 
 pub returns-then-hand-clause-sound : goal.returns-then-hand-clause-sound
 returns-then-hand-clause-sound c = λ is.

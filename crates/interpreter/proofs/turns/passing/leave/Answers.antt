@@ -5,7 +5,7 @@ use Rattle.jvm_model.specs.Basis.Data.{Returns}
 use Rattle.jvm_model.specs.Instructions.LocalRules.{returns as gives}
 use Rattle.prepared_code.specs.Versions.{mark_of}
 use Rattle.interpreter.specs.Moves.Quickly.{GoesBack}
-use Rattle.prepared_code.specs.Linked.{setup_in}
+use Rattle.prepared_code.specs.Originals.{setup_in}
 use Rattle.interpreter.proofs.Silent.GoingOnward.{off-by}
 use Rattle.interpreter.proofs.Silent.ReturnLemmas.{gives-at_instruction, gives-passes, gives-tries}
 use Rattle.interpreter.proofs.Silent.SilentSteps.{passes_none}

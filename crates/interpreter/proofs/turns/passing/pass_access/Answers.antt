@@ -1,4 +1,4 @@
-use Rattle.prepared_code.specs.Linked.{setup_in}
+use Rattle.prepared_code.specs.Originals.{setup_in}
 use Rattle.interpreter.proofs.Silent.PassingSteps.{access-passes}
 use Rattle.interpreter.proofs.turns.passing.pass_access.Goals as goal
 

@@ -3,7 +3,7 @@ use Rattle.std.specs.Prelude.{IfSome}
 use Rattle.member_selection.specs.Answers.{done_on}
 use Rattle.member_selection.specs.Attempts.{attempts}
 use Rattle.symbolic_references.specs.Passing.{IsInvoked}
-use Rattle.prepared_code.specs.Linked.{setup_in}
+use Rattle.prepared_code.specs.Originals.{setup_in}
 use Rattle.interpreter.specs.Moves.Onward.{GoesOnward}
 use Rattle.interpreter.proofs.Silent.GoingOnward.{onward-if}
 use Rattle.interpreter.proofs.Silent.PassingCalls.{called-onward}

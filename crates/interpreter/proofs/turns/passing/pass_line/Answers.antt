@@ -10,7 +10,7 @@ use Rattle.prepared_code.specs.Tables.{Version, version_at}
 use Rattle.prepared_code.specs.Versions.{Setup, line_at}
 use Rattle.instructions.proofs.Attempts.ElementSteps.{stands-there}
 use Rattle.interpreter.specs.Moves.Onward.{GoesOnward}
-use Rattle.prepared_code.specs.Linked.{setup_in}
+use Rattle.prepared_code.specs.Originals.{setup_in}
 use Rattle.interpreter.proofs.Silent.GoingOnward.{onward-if}
 use Rattle.interpreter.proofs.Silent.SilentSteps.{passes_none}
 use Rattle.interpreter.proofs.turns.passing.pass_line.Goals as goal
@@ -51,8 +51,11 @@ pass_return-requires-clause-line c =
 pub returns-in_default : goal.returns-in_default
 returns-in_default c = passes_none (setup_in c.args.parts.now.runtime c.args.originals.now) c.args.initializing.now c.args.parts.now c.requires.at_instruction
 
-pub returns-in_default-action : goal.returns-in_default-action
-returns-in_default-action c = passes_none (setup_in c.args.parts.now.runtime c.args.originals.now) c.args.initializing.now c.args.parts.now c.requires.at_instruction
+pub returns-in-Basic : goal.returns-in-Basic
+returns-in-Basic c = passes_none (setup_in c.args.parts.now.runtime c.args.originals.now) c.args.initializing.now c.args.parts.now c.requires.at_instruction
+
+pub returns-in_default-operation : goal.returns-in_default-operation
+returns-in_default-operation c = passes_none (setup_in c.args.parts.now.runtime c.args.originals.now) c.args.initializing.now c.args.parts.now c.requires.at_instruction
 
 pub pass_throw-requires-clause-here : goal.pass_throw-requires-clause-here
 pass_throw-requires-clause-here c = sym c.where_now.ensures ∙ c.in-Some.is

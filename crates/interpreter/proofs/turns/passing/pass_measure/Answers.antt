@@ -1,4 +1,4 @@
-use Rattle.prepared_code.specs.Linked.{setup_in}
+use Rattle.prepared_code.specs.Originals.{setup_in}
 use Rattle.interpreter.proofs.Silent.PassingLengths.{length-passes}
 use Rattle.interpreter.proofs.turns.passing.pass_measure.Goals as goal
 

@@ -3,7 +3,7 @@ use Rattle.member_selection.specs.Known.{IsKnown}
 use Rattle.symbolic_references.specs.Runtimes.{linker_in}
 use Rattle.prepared_code.specs.Versions.{line_at}
 use Rattle.interpreter.specs.Moves.Onward.{GoesOnward}
-use Rattle.prepared_code.specs.Linked.{setup_in}
+use Rattle.prepared_code.specs.Originals.{setup_in}
 use Rattle.interpreter.proofs.Silent.GoingOnward.{onward-if}
 use Rattle.interpreter.proofs.Silent.PassingSteps.{held-there}
 use Rattle.interpreter.proofs.Silent.SilentSteps.{passes_none}
@@ -13,13 +13,13 @@ pub pass_call-requires-clause-known : goal.pass_call-requires-clause-known
 pass_call-requires-clause-known c =
     held-there (line_at c.args.originals.now.versions c.args.here.version c.args.here.place) c.args.line.now c.args.reference.now c.requires.line c.requires.named
     (λ n next. IsKnown (linker_in c.args.parts.now.runtime) n c.in-Some.known.now)
-    (c.requires.linked.known.each c.args.here.version c.args.here.place c.in-Some.known.now (sym c.in-Some.ensures))
+    (c.requires.known.each c.args.here.version c.args.here.place c.in-Some.known.now (sym c.in-Some.ensures))
 
 pub pass_access-requires-clause-known : goal.pass_access-requires-clause-known
 pass_access-requires-clause-known c =
     held-there (line_at c.args.originals.now.versions c.args.here.version c.args.here.place) c.args.line.now c.args.reference.now c.requires.line c.requires.named
     (λ n next. IsKnown (linker_in c.args.parts.now.runtime) n c.in-Some.known.now)
-    (c.requires.linked.known.each c.args.here.version c.args.here.place c.in-Some.known.now (sym c.in-Some.ensures))
+    (c.requires.known.each c.args.here.version c.args.here.place c.in-Some.known.now (sym c.in-Some.ensures))
 
 pub returns-in_default : goal.returns-in_default
 returns-in_default c = passes_none (setup_in c.args.parts.now.runtime c.args.originals.now) c.args.initializing.now c.args.parts.now c.requires.at_instruction

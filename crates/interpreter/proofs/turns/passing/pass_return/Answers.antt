@@ -8,7 +8,7 @@ use Rattle.jvm_model.specs.Rewriting.Images.{is_off}
 use Rattle.prepared_code.specs.Versions.{mark_of}
 use Rattle.interpreter.specs.Moves.Onward.{GoesOnward}
 use Rattle.interpreter.specs.Moves.Trying.{returns_by}
-use Rattle.prepared_code.specs.Linked.{setup_in}
+use Rattle.prepared_code.specs.Originals.{setup_in}
 use Rattle.interpreter.proofs.Moves.QuickSteps.{stops-quickly}
 use Rattle.interpreter.proofs.Silent.GoingOnward.{onward-if}
 use Rattle.interpreter.proofs.turns.passing.pass_return.Goals as goal

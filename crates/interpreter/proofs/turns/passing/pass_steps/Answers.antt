@@ -1,6 +1,6 @@
 use Rattle.std.proofs.Common.{subst, ◌∙◌}
 use Rattle.interpreter.specs.Moves.Onward.{ComesIf}
-use Rattle.prepared_code.specs.Linked.{setup_in}
+use Rattle.prepared_code.specs.Originals.{setup_in}
 use Rattle.interpreter.proofs.Silent.GoingOnward.{stops-onward}
 use Rattle.interpreter.proofs.turns.passing.pass_steps.Goals as goal
 

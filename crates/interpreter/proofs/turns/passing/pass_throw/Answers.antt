@@ -5,13 +5,10 @@ use Rattle.jvm_model.specs.Basis.Data.{Throws}
 use Rattle.jvm_model.specs.Instructions.ObjectRules.{throws}
 use Rattle.jvm_model.specs.Basis.Values.{ref_of}
 use Rattle.activations.specs.Catching.{CatchesBelow}
-use Rattle.prepared_code.specs.Linked.{setup_in}
+use Rattle.prepared_code.specs.Originals.{setup_in}
 use Rattle.interpreter.proofs.Silent.PassingThrows.{caught-passes}
 use Rattle.interpreter.proofs.Silent.SilentSteps.{passes_none}
 use Rattle.interpreter.proofs.turns.passing.pass_throw.Goals as goal
-
-pub thrown_object-requires : goal.thrown_object-requires
-thrown_object-requires c = c.requires.run.fit
 
 pub returns-in_default : goal.returns-in_default
 returns-in_default c = passes_none (setup_in c.args.parts.now.runtime c.args.originals.now) c.args.initializing.now c.args.parts.now c.requires.at_instruction
@@ -29,5 +26,5 @@ returns c =
     caught-passes w c.requires.run c.args.initializing.now c.args.here c.args.line.now p c.requires.here c.requires.line c.requires.throws c.requires.at_instruction
     r c.in-Some-caught_below.target c.catch_below.result c.catch_below.new.frames
     (subst (λ class. CatchesBelow w c.args.initializing.now c.args.here p.frames.frames class c.in-Some-caught_below.target)
-    c.class_of-class.ensures found)
+    c.class_of-class.ensures.class found)
     thrown c.catch_below.ensures.fits c.catch_below.ensures.frames

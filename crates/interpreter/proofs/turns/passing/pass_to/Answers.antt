@@ -9,9 +9,10 @@ use Rattle.prepared_code.specs.Versions.{Setup}
 use Rattle.prepared_code.specs.Initializations.{state_of}
 use Rattle.interpreter.specs.Moves.Passing.{Passes}
 use Rattle.interpreter.specs.Moves.Onward.{GoesOnward}
-use Rattle.prepared_code.specs.Linked.{Linked, setup_in}
+use Rattle.prepared_code.specs.Originals.{OriginalsView, setup_in}
 use Rattle.interpreter.proofs.Moves.Behind.{leads-sound}
-use Rattle.instructions.proofs.Attempts.NamedAttempts.{linked-kept, same-setup}
+use Rattle.prepared_code.proofs.Lines.KnownNames.{names-kept}
+use Rattle.instructions.proofs.Attempts.NamedAttempts.{same-setup}
 use Rattle.interpreter.proofs.Silent.GoingOnward.{passes-still, silent-onward, told-onward}
 use Rattle.interpreter.proofs.Silent.SilentSteps.{passes-alone, passes-on, passes_none}
 use Rattle.interpreter.proofs.turns.passing.pass_to.Goals as goal
@@ -24,7 +25,7 @@ plainly : (w : Setup) (ms : List Initialization) (old mid new : Parts) (n m : �
 plainly w ms old mid new n m first plain = passes-on w ms old mid new n m first (passes-alone w ms mid new m plain first.at_instruction)
 
 -- the same is run there
-same-run : (o : Linked) (ms : List Initialization) (old new : Parts) (n : ℕ) → Passes (setup_in old.runtime o) ms old n new → setup_in new.runtime o ≡ setup_in old.runtime o
+same-run : (o : OriginalsView) (ms : List Initialization) (old new : Parts) (n : ℕ) → Passes (setup_in old.runtime o) ms old n new → setup_in new.runtime o ≡ setup_in old.runtime o
 same-run o ms old new n passes = same-setup old.runtime new.runtime o o passes.world refl
 
 -- what is said of the line where it has stopped
@@ -38,11 +39,11 @@ pass_line-requires-clause-run c =
     c.loop-made.invariant.1 (c.plain_to-stop.ensures.made (setup_in c.args.parts.now.runtime c.args.originals.now) c.requires.run c.in-Some.ensures.runs))))
     c.requires.run
 
-pub pass_line-requires-clause-linked : goal.pass_line-requires-clause-linked
-pass_line-requires-clause-linked c =
+pub pass_line-requires-clause-known : goal.pass_line-requires-clause-known
+pass_line-requires-clause-known c =
     let made = (plainly (setup_in c.args.parts.now.runtime c.args.originals.now) c.args.initializing.now c.args.parts.now c.loop-made.parts c.plain_to-stop.new.parts c.loop-made.made c.plain_to-stop.new.count
     c.loop-made.invariant.1 (c.plain_to-stop.ensures.made (setup_in c.args.parts.now.runtime c.args.originals.now) c.requires.run c.in-Some.ensures.runs)) in
-    linked-kept c.args.originals.now c.args.parts.now.runtime c.plain_to-stop.new.parts.runtime made.world made.loaded c.requires.linked
+    names-kept c.args.originals.now c.args.parts.now.runtime c.plain_to-stop.new.parts.runtime made.world made.loaded c.requires.known
 
 pub pass_line-requires-clause-sound : goal.pass_line-requires-clause-sound
 pass_line-requires-clause-sound c =

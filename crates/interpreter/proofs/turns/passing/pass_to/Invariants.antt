@@ -1,6 +1,6 @@
 -- so many steps lead to the parts and tell nothing
 use Rattle.std.proofs.Common.{◌≤◌, ◌-◌}
-use Rattle.prepared_code.specs.Linked.{setup_in}
+use Rattle.prepared_code.specs.Originals.{setup_in}
 use Rattle.interpreter.specs.Moves.Passing.{Passes}
 use Rattle.interpreter.proofs.turns.passing.pass_to.Given as goal
 

@@ -1,7 +1,7 @@
 use Rattle.std.proofs.Common.{sym, ◌∙◌}
 use Rattle.prepared_code.specs.Initializations.{state_of}
 use Rattle.prepared_code.specs.Versions.{listing_of}
-use Rattle.prepared_code.specs.Linked.{setup_in}
+use Rattle.prepared_code.specs.Originals.{setup_in}
 use Rattle.instructions.proofs.Moves.LineSteps.{rest-moves}
 use Rattle.interpreter.proofs.Moves.OneMove.{rest-pauses}
 use Rattle.interpreter.proofs.turns.pausing.pause.Goals as goal

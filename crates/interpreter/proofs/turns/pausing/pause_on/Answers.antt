@@ -4,7 +4,7 @@ use Rattle.jvm_model.specs.declared.event.EventKind.TheVariants.{Unwind}
 use Rattle.activations.specs.declared.turning.Moved.TheVariants as moved
 use Rattle.prepared_code.specs.Initializations.{state_of}
 use Rattle.activations.specs.Turning.{pause_at, paused_in}
-use Rattle.prepared_code.specs.Linked.{setup_in}
+use Rattle.prepared_code.specs.Originals.{setup_in}
 use Rattle.interpreter.proofs.Moves.OneMove.{moves-as}
 use Rattle.interpreter.proofs.turns.pausing.pause_on.Goals as goal
 

@@ -2,7 +2,7 @@
 use Rattle.std.proofs.Common.{◌≡◌}
 use Rattle.jvm_model.specs.Running.Moves.{moves_left}
 use Rattle.prepared_code.specs.Initializations.{state_of}
-use Rattle.prepared_code.specs.Linked.{setup_in}
+use Rattle.prepared_code.specs.Originals.{setup_in}
 use Rattle.activations.specs.Turning.{paused_in}
 use Rattle.interpreter.proofs.turns.pausing.pause_on.Given as goal
 

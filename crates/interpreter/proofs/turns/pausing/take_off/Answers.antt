@@ -1,11 +1,13 @@
 use Rattle.std.proofs.Common.{sym, ap, ◌∙◌}
-use Rattle.prepared_code.specs.Initializations.{initialization_on}
-use Rattle.activations.proofs.CatchLemmas.{not-some}
+use Rattle.jvm_model.specs.Turns.InHand.{frame_popped}
+use Rattle.prepared_code.specs.Initializations.{state_of}
 use Rattle.activations.proofs.TurnsCarried.{popped-there}
 use Rattle.interpreter.proofs.turns.pausing.take_off.Goals as goal
 
-pub returns-clause-state : goal.returns-clause-state
-returns-clause-state c =
-    popped-there c.args.initializing.now c.args.parts.now c.leave.new.self _ (sym c.where_now.ensures ∙ c.in-Some.is)
-    (ap (λ n. initialization_on n c.args.initializing.now) (sym c.depth.ensures) ∙ (sym c.initialization_on.ensures ∙ not-some c.initialization_on.result (sym c.is_some.ensures ∙ c.if-is_some.false)))
-    c.leave.ensures.frames
+pub returns-in-Some-clause-state : goal.returns-in-Some-clause-state
+returns-in-Some-clause-state c = sym (ap frame_popped c.in-Some.ensures)
+
+pub returns-in-None-clause-state : goal.returns-in-None-clause-state
+returns-in-None-clause-state c =
+    ap (λ ms. state_of ms (record c.args.parts.now { frames = c.leave.new.self })) c.in-None.ensures.0
+    ∙ popped-there c.args.initializing.now c.args.parts.now c.leave.new.self c.in-None.ensures.1 c.leave.ensures.frames

@@ -2,7 +2,7 @@ use Rattle.std.proofs.Common.{true, sym, subst, ◌∙◌, arith}
 use Rattle.std.proofs.lemmas.Bool.{false≢true, not-false}
 use Rattle.jvm_model.specs.declared.due.Due.TheVariants.{Nothing}
 use Rattle.interpreter.specs.Moves.Quickly.{TriesIf, TriesQuickly}
-use Rattle.prepared_code.specs.Linked.{setup_in}
+use Rattle.prepared_code.specs.Originals.{setup_in}
 use Rattle.interpreter.proofs.Moves.QuickHands.{hands-quickly, quick-moves, quick-tries, sound-quickly, start-quickly}
 use Rattle.interpreter.proofs.turns.quickly.go_quickly.Goals as goal
 

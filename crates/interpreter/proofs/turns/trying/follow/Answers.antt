@@ -2,7 +2,7 @@ use Rattle.std.proofs.Common.{◌≡◌, sym, subst, ◌∙◌}
 use Rattle.std.specs.Prelude.{IfOk}
 use Rattle.prepared_code.specs.Initializations.{state_of}
 use Rattle.activations.specs.Turning.{pause_at}
-use Rattle.prepared_code.specs.Linked.{setup_in}
+use Rattle.prepared_code.specs.Originals.{setup_in}
 use Rattle.interpreter.proofs.Moves.Followed.{follows-on, follows-told}
 use Rattle.interpreter.proofs.turns.trying.follow.Goals as goal
 

@@ -3,7 +3,7 @@ use Rattle.std.specs.Prelude.{IfOk}
 use Rattle.std.specs.Option.{IfSome}
 use Rattle.prepared_code.specs.Initializations.{state_of}
 use Rattle.activations.specs.Turning.{pause_at}
-use Rattle.prepared_code.specs.Linked.{setup_in}
+use Rattle.prepared_code.specs.Originals.{setup_in}
 use Rattle.interpreter.proofs.Moves.TriedSteps.{leaves-loads, leaves-pause, stopped-loads, stopped-pause, tries-silently}
 use Rattle.interpreter.proofs.turns.trying.go_by_attempt.Goals as goal
 

@@ -1,7 +1,8 @@
 use Rattle.instructions.specs.Acts.{attempts_on}
 use Rattle.prepared_code.specs.Initializations.{state_of}
-use Rattle.prepared_code.specs.Linked.{setup_in}
-use Rattle.instructions.proofs.Attempts.NamedAttempts.{linked-kept, same-setup, on-either}
+use Rattle.prepared_code.specs.Originals.{setup_in}
+use Rattle.prepared_code.proofs.Lines.KnownNames.{names-kept}
+use Rattle.instructions.proofs.Attempts.NamedAttempts.{same-setup, on-either}
 use Rattle.interpreter.proofs.Moves.Followed.{follows-in}
 use Rattle.interpreter.proofs.turns.trying.try_again.Goals as goal
 
@@ -14,7 +15,7 @@ returns-clause-reaches c =
     (same-setup c.args.parts.now.runtime c.attempt.new.parts.runtime c.args.originals.now c.attempt.new.originals c.in_ok-attempt.ensures.world c.in_ok-attempt.ensures.versions)
     c.in_ok-attempt.ensures.state c.follow.ensures.reaches
 
-pub returns-clause-linked : goal.returns-clause-linked
-returns-clause-linked c =
+pub returns-clause-known : goal.returns-clause-known
+returns-clause-known c =
     on-either c.follow.result
-    (linked-kept c.attempt.new.originals c.attempt.new.parts.runtime c.follow.new.parts.runtime c.follow.ensures.world c.follow.ensures.same_loaded c.in_ok-attempt.ensures.linked)
+    (names-kept c.attempt.new.originals c.attempt.new.parts.runtime c.follow.new.parts.runtime c.follow.ensures.world c.follow.ensures.same_loaded c.in_ok-attempt.ensures.known)

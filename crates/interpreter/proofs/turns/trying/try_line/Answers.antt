@@ -2,9 +2,10 @@ use Rattle.std.proofs.Common.{sym, subst, ◌∙◌}
 use Rattle.prepared_code.specs.Initializations.{state_of}
 use Rattle.prepared_code.specs.Ready.{CanRun}
 use Rattle.activations.specs.Turning.{pause_at}
-use Rattle.prepared_code.specs.Linked.{setup_in}
+use Rattle.prepared_code.specs.Originals.{setup_in}
 use Rattle.interpreter.proofs.Moves.Behind.{none-there}
-use Rattle.instructions.proofs.Attempts.NamedAttempts.{linked-kept, same-setup}
+use Rattle.prepared_code.proofs.Lines.KnownNames.{names-kept}
+use Rattle.instructions.proofs.Attempts.NamedAttempts.{same-setup}
 use Rattle.interpreter.proofs.Moves.TriedSteps.{line-no-more, line-once, line-sound, line-twice, line-executing}
 use Rattle.interpreter.proofs.turns.trying.try_line.Goals as goal
 
@@ -30,10 +31,10 @@ returns-then-not-tries_again-clause-reaches c =
     c.in-Some-awaited.class c.in-Some-awaited.is
     (sym c.if-not-tries_again.ensures)
 
-pub try_again-requires-clause-linked : goal.try_again-requires-clause-linked
-try_again-requires-clause-linked c =
-    linked-kept c.attempt_loaded.new.originals c.attempt_loaded.new.parts.runtime c.follow.new.parts.runtime c.in_ok-due.ensures.world c.in_ok-due.ensures.same_loaded
-    c.in_ok-awaited.ensures.linked
+pub try_again-requires-clause-known : goal.try_again-requires-clause-known
+try_again-requires-clause-known c =
+    names-kept c.attempt_loaded.new.originals c.attempt_loaded.new.parts.runtime c.follow.new.parts.runtime c.in_ok-due.ensures.world c.in_ok-due.ensures.same_loaded
+    c.in_ok-awaited.ensures.known
 
 pub try_again-requires-clause-fit : goal.try_again-requires-clause-fit
 try_again-requires-clause-fit c =
@@ -79,12 +80,12 @@ returns-clause-reaches c =
     (sym c.if-not-tries_again.ensures)
     (pause_at (state_of c.try_again.new.initializing c.try_again.new.parts) c.try_again.new.passed c.in_ok-due-2.due) c.in_ok-due-2.ensures.reaches
 
-pub returns-in_default-awaited-clause-linked : goal.returns-in_default-awaited-clause-linked
-returns-in_default-awaited-clause-linked c =
-    linked-kept c.attempt_loaded.new.originals c.attempt_loaded.new.parts.runtime c.follow.new.parts.runtime c.in_ok-due.ensures.world c.in_ok-due.ensures.same_loaded
-    c.in_ok-awaited.ensures.linked
+pub returns-in_default-awaited-clause-known : goal.returns-in_default-awaited-clause-known
+returns-in_default-awaited-clause-known c =
+    names-kept c.attempt_loaded.new.originals c.attempt_loaded.new.parts.runtime c.follow.new.parts.runtime c.in_ok-due.ensures.world c.in_ok-due.ensures.same_loaded
+    c.in_ok-awaited.ensures.known
 
-pub returns-then-not-tries_again-clause-linked : goal.returns-then-not-tries_again-clause-linked
-returns-then-not-tries_again-clause-linked c =
-    linked-kept c.attempt_loaded.new.originals c.attempt_loaded.new.parts.runtime c.follow.new.parts.runtime c.in_ok-due.ensures.world c.in_ok-due.ensures.same_loaded
-    c.in_ok-awaited.ensures.linked
+pub returns-then-not-tries_again-clause-known : goal.returns-then-not-tries_again-clause-known
+returns-then-not-tries_again-clause-known c =
+    names-kept c.attempt_loaded.new.originals c.attempt_loaded.new.parts.runtime c.follow.new.parts.runtime c.in_ok-due.ensures.world c.in_ok-due.ensures.same_loaded
+    c.in_ok-awaited.ensures.known

@@ -1,4 +1,4 @@
-use Rattle.std.proofs.Common.{◌≡◌, true, false, drop, length, sym, ap, ap₂, subst, ◌∙◌}
+use Rattle.std.proofs.Common.{◌≡◌, true, false, drop, length, refl, sym, ap, ap₂, subst, ◌∙◌}
 use Rattle.class_linker.specs.Linkers.{LinkerView}
 use Rattle.jvm_model.specs.declared.state.State.{State}
 use Rattle.prepared_code.specs.Initializations.{state_of}
@@ -6,8 +6,8 @@ use Rattle.activations.specs.Turning.{loads_in}
 use Rattle.prepared_code.specs.Versions.{Setup}
 use Rattle.prepared_code.specs.Tables.{Releases, Versions}
 use Rattle.prepared_code.proofs.Tables.StandingSteps.{parts-pinned}
-use Rattle.prepared_code.specs.Linked.{setup_in}
-use Rattle.jvm_machine.proofs.States.LinkedParts.{same-setup}
+use Rattle.prepared_code.specs.Originals.{setup_in}
+use Rattle.jvm_machine.proofs.States.KeptOn.{same-program, same-setup}
 use Rattle.jvm_machine.specs.declared.advancing.Telling.TheVariants as telling
 use Rattle.jvm_machine.specs.Advances.{Stops, TellsClasses}
 use Rattle.jvm_machine.specs.Machine.{IsMachine, state_seen}
@@ -21,8 +21,8 @@ use Rattle.jvm_machine.proofs.machine.Vm.advance.Goals as goal
 pub take_up-requires-clause-at_start : goal.take_up-requires-clause-at_start
 take_up-requires-clause-at_start c = λ before_the_run resting. (c.self.invariant.machine.whole (ap (λ (v : View). v.broken) (seen-is c.self.invariant c.self.view_is) ∙ c.requires.whole)).first before_the_run
 
-pub take_up-requires-clause-linked : goal.take_up-requires-clause-linked
-take_up-requires-clause-linked c = c.self.invariant.linked (ap (λ (v : View). v.broken) (seen-is c.self.invariant c.self.view_is) ∙ c.requires.whole)
+pub take_up-requires-clause-known : goal.take_up-requires-clause-known
+take_up-requires-clause-known c = c.self.invariant.known (ap (λ (v : View). v.broken) (seen-is c.self.invariant c.self.view_is) ∙ c.requires.whole)
 
 pub take_up-requires-clause-fit : goal.take_up-requires-clause-fit
 take_up-requires-clause-fit c = c.self.invariant.machine.has.fit
@@ -32,7 +32,8 @@ invariant_of-self c = record {
   machine = broken-machine (setup_in c.self.inside.parts.runtime c.self.inside.originals) c.self.inside.hand c.self.inside.started c.self.inside.broken c.self.inside.clock (state_of c.self.inside.initializing c.self.inside.parts)
       (ap (λ (v : View). v.broken) (seen-is c.self.invariant c.self.view_is) ∙ c.requires.whole) c.self.invariant.machine c.args.self.now (seen-is c.self.invariant c.self.view_is) c.is_resting-resting.result c.is_resting-resting.ensures
       c.clock_in-self-inside.result c.clock_in-self-inside.ensures (setup_in c.take_up.new.parts.runtime c.take_up.new.originals) (same-setup c.self.inside.parts.runtime c.take_up.new.parts.runtime c.self.inside.originals c.take_up.new.originals c.take_up.ensures.world c.take_up.ensures.versions) c.self.inside.hand (state_of c.take_up.new.initializing c.take_up.new.parts);
-  linked = λ whole. absurd (let e : true ≡ false = whole in cc);
+  program = same-program c.self.inside.parts.runtime c.take_up.new.parts.runtime c.self.inside.originals c.take_up.new.originals c.take_up.ensures.world c.take_up.ensures.program c.self.invariant.program;
+  known = λ whole. absurd (let e : true ≡ false = whole in cc);
   tidy = λ whole. absurd (let e : true ≡ false = whole in cc);
 }
 
@@ -50,7 +51,8 @@ invariant_of-self-then-not-is_empty c = record {
       c.clock_in-self-inside.result c.clock_in-self-inside.ensures
       (setup_in c.take_up.new.parts.runtime c.take_up.new.originals) (same-setup c.self.inside.parts.runtime c.take_up.new.parts.runtime c.self.inside.originals c.take_up.new.originals c.take_up.ensures.world c.take_up.ensures.versions) c.in_ok-taken.taken.loads c.in_ok-taken.ensures.loads c.in_ok-taken.taken.hand c.in_ok-taken.ensures.hand
       (state_of c.take_up.new.initializing c.take_up.new.parts) c.in_ok-taken.ensures.state (sym c.if-not-is_empty.ensures)).1;
-  linked = λ whole. c.in_ok-taken.ensures.linked;
+  program = same-program c.self.inside.parts.runtime c.take_up.new.parts.runtime c.self.inside.originals c.take_up.new.originals c.take_up.ensures.world c.take_up.ensures.program c.self.invariant.program;
+  known = λ whole. c.in_ok-taken.ensures.known;
   tidy = λ whole. tidy-taken (setup_in c.self.inside.parts.runtime c.self.inside.originals) (setup_in c.take_up.new.parts.runtime c.take_up.new.originals) c.is_resting-resting.result c.self.inside.started
       (state_of c.self.inside.initializing c.self.inside.parts) (state_of c.take_up.new.initializing c.take_up.new.parts) (same-setup c.self.inside.parts.runtime c.take_up.new.parts.runtime c.self.inside.originals c.take_up.new.originals c.take_up.ensures.world c.take_up.ensures.versions) c.in_ok-taken.ensures.state
       (λ before_the_run. ap (λ (z : State). z.stack) ((c.self.invariant.machine.whole (ap (λ (v : View). v.broken) c.self.view_is ∙ c.requires.whole)).first before_the_run).before) (c.self.invariant.tidy (ap (λ (v : View). v.broken) c.self.view_is ∙ c.requires.whole));
@@ -88,7 +90,9 @@ invariant_of-self-in_err-gone c = record {
   machine = broken-machine (setup_in c.self.inside.parts.runtime c.self.inside.originals) c.self.inside.hand c.self.inside.started c.self.inside.broken c.self.inside.clock (state_of c.self.inside.initializing c.self.inside.parts)
       (ap (λ (v : View). v.broken) (seen-is c.self.invariant c.self.view_is) ∙ c.requires.whole) c.self.invariant.machine c.args.self.now (seen-is c.self.invariant c.self.view_is) c.is_resting-resting.result c.is_resting-resting.ensures
       c.clock_in-self-inside.result c.clock_in-self-inside.ensures (setup_in c.go.new.parts.runtime c.go.new.originals) ((same-setup c.take_up.new.parts.runtime c.go.new.parts.runtime c.take_up.new.originals c.go.new.originals c.go.ensures.world c.go.ensures.versions) ∙ (same-setup c.self.inside.parts.runtime c.take_up.new.parts.runtime c.self.inside.originals c.take_up.new.originals c.take_up.ensures.world c.take_up.ensures.versions)) c.in_ok-taken.taken.hand (state_of c.go.new.initializing c.go.new.parts);
-  linked = λ whole. absurd (let e : true ≡ false = whole in cc);
+  program = same-program c.take_up.new.parts.runtime c.go.new.parts.runtime c.take_up.new.originals c.go.new.originals c.go.ensures.world c.go.ensures.program
+      (same-program c.self.inside.parts.runtime c.take_up.new.parts.runtime c.self.inside.originals c.take_up.new.originals c.take_up.ensures.world c.take_up.ensures.program c.self.invariant.program);
+  known = λ whole. absurd (let e : true ≡ false = whole in cc);
   tidy = λ whole. absurd (let e : true ≡ false = whole in cc);
 }
 
@@ -104,7 +108,9 @@ invariant_of-self-in_err-classes c = record {
   machine = broken-machine (setup_in c.self.inside.parts.runtime c.self.inside.originals) c.self.inside.hand c.self.inside.started c.self.inside.broken c.self.inside.clock (state_of c.self.inside.initializing c.self.inside.parts)
       (ap (λ (v : View). v.broken) (seen-is c.self.invariant c.self.view_is) ∙ c.requires.whole) c.self.invariant.machine c.args.self.now (seen-is c.self.invariant c.self.view_is) c.is_resting-resting.result c.is_resting-resting.ensures
       c.clock_in-self-inside.result c.clock_in-self-inside.ensures (setup_in c.go.new.parts.runtime c.go.new.originals) ((same-setup c.take_up.new.parts.runtime c.go.new.parts.runtime c.take_up.new.originals c.go.new.originals c.go.ensures.world c.go.ensures.versions) ∙ (same-setup c.self.inside.parts.runtime c.take_up.new.parts.runtime c.self.inside.originals c.take_up.new.originals c.take_up.ensures.world c.take_up.ensures.versions)) c.in_ok-taken.taken.hand (state_of c.go.new.initializing c.go.new.parts);
-  linked = λ whole. absurd (let e : true ≡ false = whole in cc);
+  program = same-program c.take_up.new.parts.runtime c.go.new.parts.runtime c.take_up.new.originals c.go.new.originals c.go.ensures.world c.go.ensures.program
+      (same-program c.self.inside.parts.runtime c.take_up.new.parts.runtime c.self.inside.originals c.take_up.new.originals c.take_up.ensures.world c.take_up.ensures.program c.self.invariant.program);
+  known = λ whole. absurd (let e : true ≡ false = whole in cc);
   tidy = λ whole. absurd (let e : true ≡ false = whole in cc);
 }
 
@@ -126,7 +132,9 @@ invariant_of-self-in_default c = record {
       (setup_in c.take_up.new.parts.runtime c.take_up.new.originals) (same-setup c.self.inside.parts.runtime c.take_up.new.parts.runtime c.self.inside.originals c.take_up.new.originals c.take_up.ensures.world c.take_up.ensures.versions) c.in_ok-taken.taken.loads c.in_ok-taken.ensures.loads c.in_ok-taken.taken.hand c.in_ok-taken.ensures.hand
       (state_of c.take_up.new.initializing c.take_up.new.parts) c.in_ok-taken.ensures.state
       c.in_ok-gone.gone c.in_default.not-Some c.in_ok-gone.ensures.some (state_of c.go.new.initializing c.go.new.parts) c.in_ok-gone.ensures.loads c.in_ok-gone.ensures.sound).1;
-  linked = λ whole. c.in_ok-gone.ensures.linked;
+  program = same-program c.take_up.new.parts.runtime c.go.new.parts.runtime c.take_up.new.originals c.go.new.originals c.go.ensures.world c.go.ensures.program
+      (same-program c.self.inside.parts.runtime c.take_up.new.parts.runtime c.self.inside.originals c.take_up.new.originals c.take_up.ensures.world c.take_up.ensures.program c.self.invariant.program);
+  known = λ whole. c.in_ok-gone.ensures.known;
   tidy = λ whole. tidy-loaded (setup_in c.take_up.new.parts.runtime c.take_up.new.originals) (setup_in c.go.new.parts.runtime c.go.new.originals) (loads_in (setup_in c.take_up.new.parts.runtime c.take_up.new.originals) (state_of c.take_up.new.initializing c.take_up.new.parts)) (state_of c.take_up.new.initializing c.take_up.new.parts) (state_of c.go.new.initializing c.go.new.parts) (same-setup c.take_up.new.parts.runtime c.go.new.parts.runtime c.take_up.new.originals c.go.new.originals c.go.ensures.world c.go.ensures.versions)
       (unless-some c.in_ok-gone.gone c.in_default.not-Some _ c.in_ok-gone.ensures.loads)
       (tidy-taken (setup_in c.self.inside.parts.runtime c.self.inside.originals) (setup_in c.take_up.new.parts.runtime c.take_up.new.originals) c.is_resting-resting.result c.self.inside.started
@@ -166,7 +174,10 @@ invariant_of-self-2 c = record {
       c.in_ok-gone.ensures.left c.in_ok-gone.ensures.sound c.in_ok-gone.ensures.starts c.in_ok-gone.ensures.hands
       c.go.new.parts.frames.frames (parts-pinned c.go.new.initializing c.go.new.parts) (setup_in c.go.new.parts.runtime c.release.new.self) c.go.ensures.world
       (subst (λ (x : Versions). Releases c.go.new.parts.frames.frames x c.release.new.self.versions) c.go.ensures.versions c.release.ensures.released) c.hand_left-self-inside.result c.hand_left-self-inside.ensures).1;
-  linked = λ whole. c.release.ensures.linked c.go.new.parts.runtime c.in_ok-gone.ensures.linked;
+  program = same-program c.go.new.parts.runtime c.go.new.parts.runtime c.go.new.originals c.release.new.self refl c.release.ensures.program
+      (same-program c.take_up.new.parts.runtime c.go.new.parts.runtime c.take_up.new.originals c.go.new.originals c.go.ensures.world c.go.ensures.program
+      (same-program c.self.inside.parts.runtime c.take_up.new.parts.runtime c.self.inside.originals c.take_up.new.originals c.take_up.ensures.world c.take_up.ensures.program c.self.invariant.program));
+  known = λ whole. c.release.ensures.known c.go.new.parts.runtime c.in_ok-gone.ensures.known;
   tidy = λ whole. tidy-released c.go.new.initializing c.go.new.parts c.go.new.originals.versions c.release.new.self.versions c.release.ensures.released;
 }
 

@@ -6,10 +6,10 @@ use Rattle.prepared_code.specs.Initializations.{state_of}
 use Rattle.prepared_code.specs.Ready.{IsSoundIn}
 use Rattle.interpreter.specs.Moves.Quickly.{GoesQuickly}
 use Rattle.prepared_code.proofs.Tables.StandingSteps.{set-up-runs}
-use Rattle.prepared_code.specs.Linked.{setup_in}
+use Rattle.prepared_code.specs.Originals.{setup_in}
 use Rattle.symbolic_references.specs.Runtimes.{RuntimeView}
 use Rattle.jvm_model.specs.declared.state.State.{State}
-use Rattle.jvm_machine.proofs.States.LinkedParts.{keeps-on}
+use Rattle.jvm_machine.proofs.States.KeptOn.{keeps-on}
 use Rattle.jvm_machine.specs.Advances.{Stops}
 use Rattle.jvm_machine.specs.declared.advancing.Telling.TheVariants as telling
 use Rattle.jvm_machine.specs.Machine.{Keeps, state_viewed}
@@ -49,7 +49,7 @@ returns-in_default-clause-none c =
 -- it has gone on
 pub invariant_of-self-2 : goal.invariant_of-self-2
 invariant_of-self-2 c =
-    keeps-on c.self.inside.originals c.self.inside.parts.runtime c.go_quickly-gone.new.parts.runtime (ap (λ (r : RuntimeView). r.world) c.go_quickly-gone.ensures.runtime) (ap (λ (r : RuntimeView). r.shared.loaded) c.go_quickly-gone.ensures.runtime) c.self.invariant.linked
+    keeps-on c.self.inside.originals c.self.inside.parts.runtime c.go_quickly-gone.new.parts.runtime (ap (λ (r : RuntimeView). r.world) c.go_quickly-gone.ensures.runtime) (ap (λ (r : RuntimeView). r.shared.loaded) c.go_quickly-gone.ensures.runtime) c.self.invariant.program c.self.invariant.known
     (quick-machine (setup_in c.self.inside.parts.runtime c.self.inside.originals) c.self.inside.hand c.self.inside.started c.self.inside.broken c.self.inside.clock
     c.self.inside.initializing c.self.inside.parts c.self.invariant.machine c.args.self.now (seen-is c.self.invariant c.self.view_is) c.if-not-self.false c.if-self.false
     c.is_resting-resting.result c.is_resting-resting.ensures

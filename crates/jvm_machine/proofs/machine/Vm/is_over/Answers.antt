@@ -1,6 +1,6 @@
 use Rattle.std.proofs.Common.{sym, ◌∙◌}
 use Rattle.prepared_code.specs.Initializations.{state_of}
-use Rattle.prepared_code.specs.Linked.{setup_in}
+use Rattle.prepared_code.specs.Originals.{setup_in}
 use Rattle.jvm_machine.proofs.States.Shown.{over-is}
 use Rattle.jvm_machine.proofs.Versions.HeldVersions.{seen-is}
 use Rattle.jvm_machine.proofs.machine.Vm.is_over.Goals as goal

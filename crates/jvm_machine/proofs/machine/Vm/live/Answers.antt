@@ -1,7 +1,7 @@
 use Rattle.std.proofs.Common.{length, sym, ap, ◌∙◌}
 use Rattle.prepared_code.specs.Initializations.{state_of}
 use Rattle.prepared_code.specs.Versions.{mark_of}
-use Rattle.prepared_code.specs.Linked.{setup_in}
+use Rattle.prepared_code.specs.Originals.{setup_in}
 use Rattle.jvm_machine.specs.View.{View}
 use Rattle.jvm_machine.proofs.States.Shown.{rest-live}
 use Rattle.jvm_machine.proofs.Probes.ToldFrames.{live-frames}

@@ -6,7 +6,7 @@ use Rattle.jvm_model.specs.Running.Run.{before}
 use Rattle.jvm_model.specs.Soundness.Sound.{IsFit}
 use Rattle.prepared_code.specs.Entries.{original_versions}
 use Rattle.prepared_code.specs.Initializations.{state_of}
-use Rattle.prepared_code.specs.Linked.{setup_in}
+use Rattle.prepared_code.specs.Originals.{setup_in}
 use Rattle.prepared_code.specs.Prepared.{FitsOriginals}
 use Rattle.prepared_code.specs.Tables.{AreAllCurrent}
 use Rattle.prepared_code.proofs.Initializing.InitializingParts.{plain-state}
@@ -33,7 +33,8 @@ invariant_of-result c = record {
         before = plain-state c.new-4.result c.in_ok-parts.parts c.new-4.ensures ∙ (c.in_ok-parts.ensures.state ∙ ap before (sym c.in_ok-parts.ensures.world));
         room = subst (λ (w : World). 1024 ≤ w.program.heap) (sym c.in_ok-parts.ensures.world) (subst (λ (p : Program). 1024 ≤ p.heap) (sym (c.in_ok-originals.ensures.program ∙ (c.in_ok-shared.ensures.ok ∙ c.in_ok-index.ensures))) c.requires.starts.room);
       });
-  linked = λ whole. c.in_ok-parts.ensures.linked;
+  program = ap (λ (w : World). w.program) c.in_ok-parts.ensures.world;
+  known = λ whole. c.in_ok-parts.ensures.known;
   tidy = λ whole. tidy-current c.in_ok-originals.originals.versions (state_of c.new-4.result c.in_ok-parts.parts).stack
       (subst AreAllCurrent (sym (c.in_ok-originals.ensures.versions ∙ ap original_versions (c.in_ok-shared.ensures.ok ∙ c.in_ok-index.ensures))) (original-current c.args.program));
 }

@@ -1,6 +1,6 @@
 use Rattle.std.proofs.Common.{◌∙◌}
 use Rattle.prepared_code.specs.Initializations.{state_of}
-use Rattle.prepared_code.specs.Linked.{setup_in}
+use Rattle.prepared_code.specs.Originals.{setup_in}
 use Rattle.jvm_machine.proofs.States.Shown.{rest-shows}
 use Rattle.jvm_machine.proofs.Versions.HeldVersions.{seen-is}
 use Rattle.jvm_machine.proofs.machine.Vm.output.Goals as goal

@@ -9,13 +9,13 @@ use Rattle.prepared_code.specs.Initializations.{state_of}
 use Rattle.prepared_code.specs.Ready.{IsSoundIn}
 use Rattle.prepared_code.specs.Runs.{IsAtInstruction}
 use Rattle.prepared_code.proofs.Tables.StandingSteps.{set-up-runs}
-use Rattle.prepared_code.specs.Linked.{setup_in}
+use Rattle.prepared_code.specs.Originals.{setup_in}
 use Rattle.symbolic_references.specs.Runtimes.{RuntimeView}
 use Rattle.jvm_model.specs.declared.state.State.{State}
 use Rattle.jvm_machine.specs.Machine.{Keeps, state_viewed}
 use Rattle.jvm_machine.specs.View.{View}
 use Rattle.jvm_machine.proofs.Steps.Exits.{GoesOnFrom}
-use Rattle.jvm_machine.proofs.Steps.InHand.{ends-none, ends-some, linked-behind, run-behind, sound-behind}
+use Rattle.jvm_machine.proofs.Steps.InHand.{ends-none, ends-some, known-behind, run-behind, sound-behind}
 use Rattle.jvm_machine.proofs.machine.Vm.pass_behind.Goals as goal
 
 pub go_quickly-gone-requires-clause-fit : goal.go_quickly-gone-requires-clause-fit
@@ -51,9 +51,9 @@ pass_steps-behind-requires-clause-run c =
     (subst (λ o. IfSome o (λ (gone : Gone). gone.due ≡ Nothing)) c.in-Some.is c.go_quickly-gone.ensures.done)
     (subst (λ o. IfSome o (λ (gone : Gone). IsAtInstruction (length c.go_quickly-gone.new.parts.frames.frames) c.self.inside.initializing c.go_quickly-gone.new.parts)) c.in-Some.is c.go_quickly-gone.ensures.at_instruction)
 
-pub pass_steps-behind-requires-clause-linked : goal.pass_steps-behind-requires-clause-linked
-pass_steps-behind-requires-clause-linked c =
-    linked-behind c.self.inside.originals c.self.inside.hand c.self.inside.started c.self.inside.broken c.self.inside.clock c.self.inside.initializing c.self.inside.parts
+pub pass_steps-behind-requires-clause-known : goal.pass_steps-behind-requires-clause-known
+pass_steps-behind-requires-clause-known c =
+    known-behind c.self.inside.originals c.self.inside.hand c.self.inside.started c.self.inside.broken c.self.inside.clock c.self.inside.initializing c.self.inside.parts
     c.args.self.now c.self.invariant c.self.view_is c.if-not-self.false c.if-self.false c.requires.in_hand c.go_quickly-gone.new.parts c.in-Some.gone
     (subst (λ o. IfSome o (λ gone. GoesQuickly (setup_in c.self.inside.parts.runtime c.self.inside.originals) c.self.inside.initializing c.self.inside.hand c.self.inside.parts gone c.go_quickly-gone.new.parts)) c.in-Some.is c.go_quickly-gone.ensures.goes)
     (subst (λ o. IfSome o (λ gone. GoesOnFrom (setup_in c.self.inside.parts.runtime c.self.inside.originals) c.self.inside.hand (state_of c.self.inside.initializing c.self.inside.parts) gone (state_of c.self.inside.initializing c.go_quickly-gone.new.parts))) c.in-Some.is c.go_quickly-gone.ensures.hands)

@@ -2,7 +2,7 @@ use Rattle.std.proofs.Common.{◌+◌, ◌<◌, ap, sym, subst, ◌∙◌, refl,
 use Rattle.std.specs.Option.{IfSome}
 use Rattle.interpreter.specs.declared.turns.hands.Gone.{Gone}
 use Rattle.prepared_code.proofs.Tables.StandingSteps.{set-up-runs}
-use Rattle.prepared_code.specs.Linked.{setup_in}
+use Rattle.prepared_code.specs.Originals.{setup_in}
 use Rattle.jvm_machine.specs.Several.{none}
 use Rattle.jvm_machine.specs.View.{View, is_resting}
 use Rattle.jvm_machine.proofs.Versions.HeldVersions.{seen-is}
@@ -15,8 +15,8 @@ returns-then-self-clause-passes c = record { between = c.args.self.now; passes =
 pub pass_steps-passed-requires-clause-run : goal.pass_steps-passed-requires-clause-run
 pass_steps-passed-requires-clause-run c = set-up-runs (setup_in c.self.inside.parts.runtime c.self.inside.originals) c.self.invariant.machine.homes c.self.invariant.machine.has
 
-pub pass_steps-passed-requires-clause-linked : goal.pass_steps-passed-requires-clause-linked
-pass_steps-passed-requires-clause-linked c = c.self.invariant.linked c.if-self.false
+pub pass_steps-passed-requires-clause-known : goal.pass_steps-passed-requires-clause-known
+pass_steps-passed-requires-clause-known c = c.self.invariant.known c.if-self.false
 
 pub pass_steps-passed-requires-clause-sound : goal.pass_steps-passed-requires-clause-sound
 pass_steps-passed-requires-clause-sound c =

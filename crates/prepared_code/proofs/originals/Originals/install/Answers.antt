@@ -7,7 +7,7 @@ use Rattle.std.proofs.Common.{ℕ}
 use Rattle.symbolic_references.specs.Runtimes.{linker_in}
 use Rattle.prepared_code.specs.ClassVersions.{class_versions}
 use Rattle.prepared_code.specs.Kept.{AreKnown}
-use Rattle.prepared_code.specs.Linked.{Linked}
+use Rattle.prepared_code.specs.Originals.{OriginalsView}
 use Rattle.prepared_code.specs.Making.{AreBare, with_lines}
 use Rattle.prepared_code.specs.Prepared.{IsPrepared}
 use Rattle.prepared_code.specs.Standing.{AreMethodImages, IsPinned, IsRunOf, IsSetUp}
@@ -64,16 +64,14 @@ returns-clause-ok c =
     let fs = c.args.frames.now.frames in
     let have = subst (λ xs. AllByRecursion (λ (x : Version). x.prepared.has_lines ≡ true) xs) (sym made) (versions-have p c.args.class c.args.image.now c.args.homes.now) in
     on_ok_weaker c.add_all.result
-    (λ adds. subst (λ (o : Linked). Adds fs (class_versions o.program c.args.class c.args.image.now c.args.homes.now) o.versions (with_lines p new)) c.self.view_is
+    (λ adds. subst (λ (o : OriginalsView). Adds fs (class_versions o.program c.args.class c.args.image.now c.args.homes.now) o.versions (with_lines p new)) c.self.view_is
     (subst (λ xs. Adds fs xs (with_lines p old) (with_lines p new)) made (adds-made p fs c.in_ok-more.more old new have adds)))
     c.add_all.ensures.ok
 
-pub returns-clause-linked : goal.returns-clause-linked
-returns-clause-linked c r is = record {
-  program = is.program ∙ sym (ap (λ (o : Linked). o.program) c.self.view_is);
-  known = subst (AreKnown (linker_in r) (with_lines c.self.inside.index.value c.add_all.new.self)) (sym c.new-none.ensures)
-      (nil-known (linker_in r) (with_lines c.self.inside.index.value c.add_all.new.self));
-}
+pub returns-clause-known : goal.returns-clause-known
+returns-clause-known c r known =
+    let v = with_lines c.self.inside.index.value c.add_all.new.self in
+    subst (AreKnown (linker_in r) v) (sym c.new-none.ensures) (nil-known (linker_in r) v)
 
 pub returns-clause-set_up : goal.returns-clause-set_up
 returns-clause-set_up c world same =
@@ -84,11 +82,11 @@ returns-clause-set_up c world same =
     let old = c.self.inside.versions in
     let new = c.add_all.new.self in
     let have = subst (λ xs. AllByRecursion (λ (x : Version). x.prepared.has_lines ≡ true) xs) (sym made) (versions-have p c.args.class c.args.image.now c.args.homes.now) in
-    let here : world.program ≡ p = same ∙ sym (ap (λ (o : Linked). o.program) c.self.view_is) in
+    let here : world.program ≡ p = same ∙ sym (ap (λ (o : OriginalsView). o.program) c.self.view_is) in
     let before : Setup = record { world = world; versions = with_lines p old } in
     let after : Setup = record { world = world; versions = with_lines p new } in
     on_ok_weaker c.add_all.result
-    (λ adds. subst (λ (o : Linked). let w : Setup = record { world = world; versions = o.versions } in AreMethodImages world.program c.args.class c.args.image.now c.args.homes.now → IsSetUp w → IsSetUp after) c.self.view_is
+    (λ adds. subst (λ (o : OriginalsView). let w : Setup = record { world = world; versions = o.versions } in AreMethodImages world.program c.args.class c.args.image.now c.args.homes.now → IsSetUp w → IsSetUp after) c.self.view_is
     (λ are set. installed-set_up before c.args.class c.args.image.now c.args.homes.now are fs after refl
     (subst (λ (q : Program). Adds fs (class_versions q c.args.class c.args.image.now c.args.homes.now) before.versions after.versions) (sym here)
     (subst (λ xs. Adds fs xs before.versions after.versions) made (adds-made p fs c.in_ok-more.more old new have adds))) set))
@@ -103,11 +101,11 @@ returns-clause-stands c world same =
     let old = c.self.inside.versions in
     let new = c.add_all.new.self in
     let have = subst (λ xs. AllByRecursion (λ (x : Version). x.prepared.has_lines ≡ true) xs) (sym made) (versions-have p c.args.class c.args.image.now c.args.homes.now) in
-    let here : world.program ≡ p = same ∙ sym (ap (λ (o : Linked). o.program) c.self.view_is) in
+    let here : world.program ≡ p = same ∙ sym (ap (λ (o : OriginalsView). o.program) c.self.view_is) in
     let before : Setup = record { world = world; versions = with_lines p old } in
     let after : Setup = record { world = world; versions = with_lines p new } in
     on_ok_weaker c.add_all.result
-    (λ adds. subst (λ (o : Linked). let w : Setup = record { world = world; versions = o.versions } in AreMethodImages world.program c.args.class c.args.image.now c.args.homes.now → (clock : ℕ) (s : State) → IsPinned fs s.stack → IsRunOf w clock s → IsRunOf after clock s) c.self.view_is
+    (λ adds. subst (λ (o : OriginalsView). let w : Setup = record { world = world; versions = o.versions } in AreMethodImages world.program c.args.class c.args.image.now c.args.homes.now → (clock : ℕ) (s : State) → IsPinned fs s.stack → IsRunOf w clock s → IsRunOf after clock s) c.self.view_is
     (λ are clock s pinned is. installed-stands before c.args.class c.args.image.now c.args.homes.now are fs after refl
     (subst (λ (q : Program). Adds fs (class_versions q c.args.class c.args.image.now c.args.homes.now) before.versions after.versions) (sym here)
     (subst (λ xs. Adds fs xs before.versions after.versions) made (adds-made p fs c.in_ok-more.more old new have adds))) clock s pinned is))

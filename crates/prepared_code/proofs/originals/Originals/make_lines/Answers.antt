@@ -4,7 +4,7 @@ use Rattle.jvm_model.specs.declared.program.Program.{Program}
 use Rattle.symbolic_references.specs.Runtimes.{linker_in}
 use Rattle.prepared_code.specs.Entries.{original_version}
 use Rattle.prepared_code.specs.Kept.{AreKnown}
-use Rattle.prepared_code.specs.Linked.{Linked}
+use Rattle.prepared_code.specs.Originals.{AreNamesKnown, OriginalsView}
 use Rattle.prepared_code.specs.Making.{with_lines}
 use Rattle.prepared_code.specs.Prepared.{IsPrepared}
 use Rattle.prepared_code.specs.Tables.{Version, Versions, version_at}
@@ -43,10 +43,10 @@ returns-clause-versions c =
     let y = c.in_ok-made.made in
     let there : version_at old c.args.version ≡ Some x = sym c.version_at.ensures ∙ ap option_copied c.in-Some.is in
     let is : y ≡ original_version p x.method = c.in_ok-made.ensures ∙ ap (λ (q : Program). original_version q x.method) (c.program.ensures.all ∙ c.as_ref.ensures) in
-    replaced-same p c.args.version x y old new there c.if-held.false is c.replace.ensures ∙ ap (λ (o : Linked). o.versions) c.self.view_is
+    replaced-same p c.args.version x y old new there c.if-held.false is c.replace.ensures ∙ ap (λ (o : OriginalsView). o.versions) c.self.view_is
 
-pub returns-clause-linked : goal.returns-clause-linked
-returns-clause-linked c r is =
+pub returns-clause-known : goal.returns-clause-known
+returns-clause-known c r known =
     let p : Program = c.self.inside.index.value in
     let x : Version = c.in-Some.held.now in
     let old = c.self.inside.versions in
@@ -54,8 +54,5 @@ returns-clause-linked c r is =
     let y = c.in_ok-made.made in
     let there : version_at old c.args.version ≡ Some x = sym c.version_at.ensures ∙ ap option_copied c.in-Some.is in
     let made : y ≡ original_version p x.method = c.in_ok-made.ensures ∙ ap (λ (q : Program). original_version q x.method) (c.program.ensures.all ∙ c.as_ref.ensures) in
-    record {
-      program = is.program ∙ sym (ap (λ (o : Linked). o.program) c.self.view_is);
-      known = subst (λ (v : Versions). AreKnown (linker_in r) v c.self.inside.cells) (sym (replaced-same p c.args.version x y old new there c.if-held.false made c.replace.ensures))
-          (subst (λ (o : Linked). AreKnown (linker_in r) o.versions o.rows) (sym c.self.view_is) is.known);
-    }
+    subst (λ (v : Versions). AreKnown (linker_in r) v c.self.inside.cells) (sym (replaced-same p c.args.version x y old new there c.if-held.false made c.replace.ensures))
+    (subst (λ (o : OriginalsView). AreNamesKnown o r) (sym c.self.view_is) known)

@@ -6,10 +6,8 @@ use Rattle.jvm_model.specs.Instructions.FieldRules.{gets_of}
 use Rattle.jvm_model.specs.Instructions.SymbolicReference.{unless_refused}
 use Rattle.jvm_model.specs.declared.instruction.SymbolicReference.TheVariants.{Getfield}
 use Rattle.jvm_model.specs.Basis.Values.{ref_of}
-use Rattle.member_selection.specs.Answers.{answer_in, done_on, frames_in}
+use Rattle.member_selection.specs.Answers.{done_on, frames_after, goes_on}
 use Rattle.member_selection.specs.Known.{IsField, IsFoundAs}
-use Rattle.member_selection.specs.Outcomes.{outcome_in_frame}
-use Rattle.symbolic_references.specs.Passing.{IfPassed}
 use Rattle.member_selection.specs.Resolved.{gets_instance}
 use Rattle.symbolic_references.proofs.PassingLemmas.{passed-by}
 use Rattle.symbolic_references.proofs.Quiet.{keeps, shared_getfield, writes_getfield}
@@ -28,8 +26,7 @@ returns c =
     let there : IsField p c.args.kind r c.in-Field.field c.in-Field.slot c.in-Field.last = subst (λ x. IsFoundAs x p c.args.kind (Getfield r)) c.in-Field.is c.requires.found in
     let same = ap (λ found. unless_refused s found (λ m. gets_of p r m (ref_of o) s l o)) (sym there.named) in
     let told = c.read_known-outcome.ensures.answer ∙ ap (λ (d : Done). d.outcome) same in
-    subst (λ b. IfPassed b d c.args.next f v c.pass_by.new.frames v) (sym c.pass_by.ensures.answer)
-    (passed-by d f c.pass_by.new.frames c.args.next v v (answer_in (outcome_in_frame c.read_known-outcome.result f) f.frames)
-    (ap (λ q. answer_in q f.frames) told)
-    (c.pass_by.ensures.frames ∙ ap (λ q. with_frames (frames_in q c.args.next f.frames) f) told)
-    (keeps v d (shared_getfield p c.args.kind r s l o v.output) (writes_getfield p c.args.kind r s l o v.output)) refl)
+    passed-by d f c.pass_by.new.frames c.args.next v v c.pass_by.result
+    (c.pass_by.ensures.answer ∙ ap (λ q. goes_on q f.frames) told)
+    (c.pass_by.ensures.frames ∙ ap (λ q. with_frames (frames_after q c.args.next f.frames) f) told)
+    (keeps v d (shared_getfield p c.args.kind r s l o v.output) (writes_getfield p c.args.kind r s l o v.output)) refl

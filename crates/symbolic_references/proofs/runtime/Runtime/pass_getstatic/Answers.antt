@@ -10,11 +10,9 @@ use Rattle.jvm_model.specs.declared.instruction.SymbolicReference.TheVariants.{G
 use Rattle.jvm_model.specs.Instructions.ObjectRules.{done}
 use Rattle.jvm_model.specs.Basis.SharedState.{phase_of, static_at}
 use Rattle.jvm_model.specs.Basis.Values.{as_value}
-use Rattle.member_selection.specs.Answers.{answer_in, done_on, frames_in}
-use Rattle.member_selection.specs.Outcomes.{outcome_in_frame}
+use Rattle.member_selection.specs.Answers.{done_on, frames_after, goes_on}
 use Rattle.member_selection.specs.Known.{IsFoundAs}
 use Rattle.member_selection.specs.Members.{at_place}
-use Rattle.symbolic_references.specs.Passing.{IfPassed}
 use Rattle.member_selection.specs.Resolved.{gets_static}
 use Rattle.symbolic_references.proofs.PassingLemmas.{passed-by, when-usable}
 use Rattle.symbolic_references.proofs.Quiet.{keeps, shared_getstatic, writes_getstatic}
@@ -37,8 +35,7 @@ returns c =
     when-usable p (phase_of s m.class) m.class s pushed (sym c.is_usable.ensures ∙ c.if-not-is_usable.false)
     ∙ ap (λ found. unless_refused s found (λ m. pushes_static p m s l o)) (sym there) in
     let told = c.push_static_field-outcome.ensures.answer ∙ ap (λ (d : Done). d.outcome) same in
-    subst (λ b. IfPassed b d c.args.next f v c.pass_by.new.frames v) (sym c.pass_by.ensures.answer)
-    (passed-by d f c.pass_by.new.frames c.args.next v v (answer_in (outcome_in_frame c.push_static_field-outcome.result f) f.frames)
-    (ap (λ q. answer_in q f.frames) told)
-    (c.pass_by.ensures.frames ∙ ap (λ q. with_frames (frames_in q c.args.next f.frames) f) told)
-    (keeps v d (shared_getstatic p c.args.kind r s l o v.output) (writes_getstatic p c.args.kind r s l o v.output)) refl)
+    passed-by d f c.pass_by.new.frames c.args.next v v c.pass_by.result
+    (c.pass_by.ensures.answer ∙ ap (λ q. goes_on q f.frames) told)
+    (c.pass_by.ensures.frames ∙ ap (λ q. with_frames (frames_after q c.args.next f.frames) f) told)
+    (keeps v d (shared_getstatic p c.args.kind r s l o v.output) (writes_getstatic p c.args.kind r s l o v.output)) refl

@@ -7,19 +7,19 @@ use Rattle.jvm_model.specs.Basis.Data.{GoesOn, Next}
 use Rattle.jvm_model.specs.Instructions.FieldRules.{kind_by, putting_of}
 use Rattle.jvm_model.specs.Classes.Layouts.{held_by}
 use Rattle.jvm_model.specs.declared.instruction.SymbolicReference.TheVariants.{Putfield}
-use Rattle.member_selection.specs.Answers.{answer_in, done_on}
+use Rattle.member_selection.specs.Answers.{done_on}
 use Rattle.symbolic_references.specs.Fields.{putting_view, writes}
 use Rattle.member_selection.specs.Known.{IsField, IsFoundAs}
 use Rattle.member_selection.specs.Members.{at_place}
 use Rattle.symbolic_references.specs.Passing.{IfPassed}
 use Rattle.member_selection.specs.Resolved.{puts_instance}
-use Rattle.symbolic_references.proofs.PassingLemmas.{next-is, not-moved, passed-on, puts-written}
+use Rattle.symbolic_references.proofs.PassingLemmas.{not-moved, passed-on, puts-written}
 use Rattle.symbolic_references.proofs.runtime.Runtime.pass_putfield.Goals as goal
 
 pub returns-then-not-pass_by-clause-passed : goal.returns-then-not-pass_by-clause-passed
 returns-then-not-pass_by-clause-passed c =
     let q = GoesOn (top_locals c.args.frames.now.frames) (drop 2 (top_operands c.args.frames.now.frames)) Next in (
-      not-moved (answer_in q c.args.frames.now.frames) q c.args.next c.args.frames.now c.pass_by.new.frames refl
+      not-moved q c.args.next c.args.frames.now c.pass_by.new.frames
           (sym c.pass_by.ensures.answer ∙ c.if-not-pass_by.true) c.pass_by.ensures.frames,
       refl,
     )
@@ -43,6 +43,6 @@ returns-clause-passed c =
     given c.in-Ok.ensures.owner there.stands there.named in
     subst (λ d. IfPassed true d c.args.next f v c.pass_by.new.frames left) same
     (passed-on set f c.pass_by.new.frames c.args.next v left
-    (next-is (answer_in set.outcome f.frames) (sym c.pass_by.ensures.answer ∙ c.if-not-pass_by.false))
+    (sym c.pass_by.ensures.answer ∙ c.if-not-pass_by.false)
     c.pass_by.ensures.frames
     (c.put_at.ensures.runtime ∙ set-after v set (sym (append-nil v.output))))

@@ -10,18 +10,18 @@ use Rattle.jvm_model.specs.Instructions.SymbolicReference.{unless_refused}
 use Rattle.jvm_model.specs.declared.instruction.SymbolicReference.TheVariants.{Putstatic}
 use Rattle.jvm_model.specs.Instructions.Rules.{class_initialized}
 use Rattle.jvm_model.specs.Basis.SharedState.{phase_of}
-use Rattle.member_selection.specs.Answers.{answer_in, done_on}
+use Rattle.member_selection.specs.Answers.{done_on}
 use Rattle.member_selection.specs.Known.{IsFoundAs}
 use Rattle.member_selection.specs.Members.{at_place}
 use Rattle.symbolic_references.specs.Passing.{IfPassed}
 use Rattle.member_selection.specs.Resolved.{puts_static}
-use Rattle.symbolic_references.proofs.PassingLemmas.{next-is, not-moved, passed-on, when-usable}
+use Rattle.symbolic_references.proofs.PassingLemmas.{not-moved, passed-on, when-usable}
 use Rattle.symbolic_references.proofs.runtime.Runtime.pass_putstatic.Goals as goal
 
 pub returns-then-not-pass_by-clause-passed : goal.returns-then-not-pass_by-clause-passed
 returns-then-not-pass_by-clause-passed c =
     let q = GoesOn (top_locals c.args.frames.now.frames) (drop 1 (top_operands c.args.frames.now.frames)) Next in (
-      not-moved (answer_in q c.args.frames.now.frames) q c.args.next c.args.frames.now c.pass_by.new.frames refl
+      not-moved q c.args.next c.args.frames.now c.pass_by.new.frames
           (sym c.pass_by.ensures.answer ∙ c.if-not-pass_by.true) c.pass_by.ensures.frames,
       refl,
     )
@@ -47,6 +47,6 @@ returns-clause-passed c =
     ∙ ap (λ found. unless_refused s found (λ m. class_initialized p m.class s (sets_static m (held_of (kind_by r) o) s l o))) (sym there)) in
     subst (λ d. IfPassed true d c.args.next f v c.pass_by.new.frames left) same
     (passed-on set f c.pass_by.new.frames c.args.next v left
-    (next-is (answer_in set.outcome f.frames) (sym c.pass_by.ensures.answer ∙ c.if-not-pass_by.false))
+    (sym c.pass_by.ensures.answer ∙ c.if-not-pass_by.false)
     c.pass_by.ensures.frames
     (c.put_static_at.ensures.runtime ∙ set-after v set (sym (append-nil v.output))))

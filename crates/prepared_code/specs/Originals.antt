@@ -9,25 +9,24 @@ use Rattle.prepared_code.specs.Tables.{Versions}
 use Rattle.prepared_code.specs.Versions.{Setup, line_at}
 use Rattle.symbolic_references.specs.Runtimes.{RuntimeView, linker_in}
 
-pub record Linked : Type 0 where
+pub record OriginalsView : Type 0 where
   pub program : Program
   pub versions : Versions
   pub kept : Versions
   pub rows : Rows
 
 -- in this world
-abbrev pub setup_of : World → Linked → Setup
+abbrev pub setup_of : World → OriginalsView → Setup
 setup_of w o = record { world = w; versions = o.versions }
 
 -- what a runtime runs by it
-abbrev pub setup_in : RuntimeView → Linked → Setup
+abbrev pub setup_in : RuntimeView → OriginalsView → Setup
 setup_in r o = setup_of r.world o
 
--- a runtime is of its program, and what is kept of names is what they come to by what the runtime has loaded
-pub record IsLinked (o : Linked) (r : RuntimeView) : Type 0 where
-  pub program : r.world.program ≡ o.program
-  pub known : AreKnown (linker_in r) o.versions o.rows
+-- what is kept of names is what they come to by what a runtime has loaded
+abbrev pub AreNamesKnown : OriginalsView → RuntimeView → Type 0
+AreNamesKnown o r = AreKnown (linker_in r) o.versions o.rows
 
 -- what is kept of a version has each of its lines
-abbrev pub IsReady : Linked → ℕ → Type 0
+abbrev pub IsReady : OriginalsView → ℕ → Type 0
 IsReady o version = (place : ℕ) → line_at o.kept version place ≡ line_at o.versions version place

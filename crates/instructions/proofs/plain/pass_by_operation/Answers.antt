@@ -1,13 +1,14 @@
-use Rattle.std.proofs.Common.{ap}
+use Rattle.std.proofs.Common.{ap, ◌∙◌}
 use Rattle.frame_stack.specs.FrameLists.{FramesView}
+use Rattle.jvm_model.specs.declared.instruction.Operation.TheVariants.{Within}
 use Rattle.prepared_code.specs.declared.parts.Parts.{Parts}
 use Rattle.instructions.proofs.Silent.PassedLines.{passed-alone, passed-load, passed-store}
-use Rattle.instructions.proofs.plain.pass_by_action.Goals as goal
+use Rattle.instructions.proofs.plain.pass_by_operation.Goals as goal
 
-pub returns-in-Local-clause-gone : goal.returns-in-Local-clause-gone
-returns-in-Local-clause-gone c = λ gone.
+pub returns-in-Basic-clause-gone : goal.returns-in-Basic-clause-gone
+returns-in-Basic-clause-gone c = λ gone.
     let old : Parts = c.args.parts.now in
-    passed-alone c.args.line.now old (record old { frames = c.pass_alone.new.frames }) c.in-Local.is (c.pass_alone.ensures.gone gone)
+    passed-alone c.args.line.now old (record old { frames = c.pass_alone.new.frames }) (c.in-Within.is ∙ ap Within c.in-Basic.is) (c.pass_alone.ensures.gone gone)
     (ap (λ (s : FramesView). record old { frames = s }) c.pass_alone.ensures.frames)
 
 pub returns-in-LoadElement-clause-gone : goal.returns-in-LoadElement-clause-gone

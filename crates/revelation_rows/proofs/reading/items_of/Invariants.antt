@@ -1,0 +1,10 @@
+-- what is found for the words that are left is put behind what was found
+use Rattle.std.proofs.Common.{◌≡◌, ◌++◌, drop, map}
+use Rattle.std.specs.Option.{option_map}
+use Rattle.revelation_rows.specs.Reading.{all_found, word_item}
+use Rattle.revelation_rows.proofs.reading.items_of.Given as goal
+
+abbrev pub invariant-loop-word : goal.invariant-loop-word
+invariant-loop-word l =
+    option_map (λ more. l.items ++ more) (all_found (word_item l.program) (map (λ w. w.now) (drop l.word-index l.words)))
+    ≡ all_found (word_item l.program) (map (λ w. w.now) l.words)

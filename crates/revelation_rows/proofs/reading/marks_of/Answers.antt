@@ -1,0 +1,23 @@
+use Rattle.std.proofs.Common.{◌+◌, None, ap, drop, map, sym, ◌∙◌}
+use Rattle.std.specs.Prelude.{if◌then◌else◌}
+use Rattle.revelation_rows.specs.Reading.{marks_with}
+use Rattle.revelation_rows.proofs.MarkLemmas.{marked}
+use Rattle.revelation_rows.proofs.reading.marks_of.Goals as goal
+
+pub returns-then-not-mark_one : goal.returns-then-not-mark_one
+returns-then-not-mark_one c =
+    let next = marks_with c.args.program.now c.mark_one.new.marks.items
+    (map (λ w. w.now) (drop (c.loop-word.word-index + 1) c.args.words.now)) in
+    ap (λ is. if is then next else None) (sym c.if-not-mark_one.true)
+    ∙ (sym (marked c.args.program.now c.loop-word.marks.items c.args.words.now c.loop-word.word-index _ c.loop-word-test.true
+    c.mark_one.new.marks.items c.mark_one.result c.mark_one.ensures)
+    ∙ c.loop-word.invariant)
+
+pub loop-word-preserved : goal.loop-word-preserved
+loop-word-preserved c =
+    let next = marks_with c.args.program.now c.mark_one.new.marks.items
+    (map (λ w. w.now) (drop (c.loop-word.word-index + 1) c.args.words.now)) in
+    ap (λ is. if is then next else None) (sym c.if-not-mark_one.false)
+    ∙ (sym (marked c.args.program.now c.loop-word.marks.items c.args.words.now c.loop-word.word-index _ c.loop-word-test.true
+    c.mark_one.new.marks.items c.mark_one.result c.mark_one.ensures)
+    ∙ c.loop-word.invariant)
