@@ -1,9 +1,10 @@
 -- The built-in classes follow the rules of admission: computed over their class files.
-use Rattle.std.proofs.Common.{◌≡◌, ℕ, Bool, true, false, List, [], ◌∷◌, map, Option, Some, None, refl, codes}
+use Rattle.std.proofs.Common.{◌≡◌, ℕ, Bool, true, List, [], ◌∷◌, map, Option, Some, None, refl, codes}
 use Rattle.std.specs.Prelude.{not, ◌&&◌}
 use Rattle.std.specs.Bool.{beq}
 use Rattle.std.specs.List.{AllByRecursion, list_all, list_any}
 use Rattle.std.specs.Option.{is_none}
+use Rattle.std.specs.Cmp.{booleans_Decides}
 use Rattle.std.proofs.lemmas.Bool.{and_parts, not-true}
 use Rattle.const_pool.specs.declared.class.ClassFile.{ClassFile}
 use Rattle.op_table.specs.Opcodes.{row_of, groups}
@@ -54,12 +55,6 @@ rewritten k = refl
 
 -- ---- what they say
 
-same : (a b : Bool) → beq a b ≡ true → a ≡ b
-same true true e = refl
-same true false e = absurd cc
-same false true e = absurd cc
-same false false e = refl
-
 is-none : {A : Type 0} (o : Option A) → is_none o ≡ true → o ≡ None
 is-none None e = refl
 is-none (Some x) e = absurd cc
@@ -74,7 +69,7 @@ follows c shape code rewrite =
     let f = and_parts (not (list_any has_wrong_code_count c.methods)) (not (list_any (has_wrong_constant c.pool) c.fields)) e.1 in
     record {
       name = not-true (has_wrong_name c) a.0;
-      superclass = same (has_wrong_super c) (has_name (codes "java/lang/Object") c) b.0;
+      superclass = (booleans_Decides (has_wrong_super c) (has_name (codes "java/lang/Object") c)).0 b.0;
       descriptors = not-true (has_wrong_descriptor c) d.0;
       members = not-true (has_member_twice c) e.0;
       bodies = not-true (list_any has_wrong_code_count c.methods) f.0;

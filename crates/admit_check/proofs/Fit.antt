@@ -7,6 +7,8 @@ use Rattle.std.proofs.Math.Nat.{add-zero}
 use Rattle.std.proofs.lemmas.Bool.{and_parts, eq-eqb, ltb-true, or_cases}
 use Rattle.std.proofs.lemmas.List.{length-append}
 use Rattle.std.proofs.lemmas.Option.{same_Some, none-some, option_and_then_some}
+use Rattle.jf_bytes.proofs.Lists.{each_at}
+use Rattle.jf_bytes.proofs.Options.{map_or_parts}
 use Rattle.const_pool.specs.declared.class.ClassFile.{ClassFile}
 use Rattle.const_pool.specs.BuiltIn.{built_in_names}
 use Rattle.const_pool.specs.References.{named_class}
@@ -26,7 +28,6 @@ use Rattle.jvm_model.specs.Soundness.SoundPrograms.{declared_main, main_in, main
 use Rattle.admit_check.proofs.BuiltInNames.{files-built_in}
 use Rattle.admit_check.proofs.FitNames.{IsOwnClass, own-classes, own-place}
 use Rattle.admit_check.proofs.FitPlaces.{files-ordered, is_before}
-use Rattle.code_admission.proofs.Readable.{nth}
 use Rattle.admit_check.proofs.FitFiles
 
 -- ---- lists
@@ -199,12 +200,12 @@ module _ (classes : List ClassFile) (name : List ℕ) (p : Program) (fine : clas
   plain-at : (class : ℕ) → class_named p name ≡ Some class → class < n → HasPlainName p class
   plain-at class named less =
       let found = FitFiles.position-there (has_name name) (classes ++ built_in_files) class (sym (ap (position (has_name name)) are) ∙ named) in
-      let own_name = FitFiles.passed (same_text name) (name_of found.0) found.2 in
+      let own_name = map_or_parts (same_text name) (name_of found.0) found.2 in
       let here : slice_get classes class ≡ Some found.0 = sym (append-front classes built_in_files class less) ∙ found.1 in
       record {
         name = own_name.0;
         named = ap (option_and_then name_of) (ap (λ cs. slice_get cs class) are ∙ found.1) ∙ own_name.1;
-        plain = (nth IsOwnClass classes class found.0 own here).plain own_name.0 own_name.1;
+        plain = (each_at IsOwnClass classes class found.0 own here).plain own_name.0 own_name.1;
       }
 
   main-found : (class : ℕ) → class_named p name ≡ Some class → cond (nat_lt class n) (main_of_class p class) None ≡ Some p.main → HasPlainName p (main_class p)

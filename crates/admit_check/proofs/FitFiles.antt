@@ -8,6 +8,8 @@ use Rattle.std.proofs.lemmas.Bool.{ltb-true, and_parts, not-true}
 use Rattle.std.proofs.lemmas.List.Quantifiers.{position-Some}
 use Rattle.std.proofs.lemmas.Option.{same_Some, none-some, slice_get-get_or}
 use Rattle.std.proofs.lemmas.Slice.Eq.{bytes_eq-Decides}
+use Rattle.jf_bytes.proofs.Options.{map_or_parts}
+use Rattle.jf_bytes.proofs.Lists.{slice_get-after}
 use Rattle.const_pool.specs.declared.class.ClassFile.{ClassFile}
 use Rattle.const_pool.specs.BuiltIn.{built_in_names}
 use Rattle.jvm_model.specs.declared.program.Program.{Program}
@@ -21,10 +23,6 @@ use Rattle.admit_check.proofs.FitPlaces.{AreOrdered, is_as_needed, is_before, is
 use Rattle.code_admission.proofs.Positions.{position-behind}
 
 -- ---- tests
-
-pub passed : {A : Type 0} (p : A → Bool) (o : Option A) → option_map_or p o false ≡ true → (x : A) × (o ≡ Some x) × (p x ≡ true)
-passed p None e = absurd cc
-passed p (Some x) e = (x, refl, e)
 
 pub position-there : (test : ClassFile → Bool) (cs : List ClassFile) (k : ℕ) → position test cs ≡ Some k → (c : ClassFile) × (slice_get cs k ≡ Some c) × (test c ≡ true)
 position-there test cs k e =
@@ -45,9 +43,9 @@ read-standing : (files : List ClassFile) (at : ℕ) (c : ClassFile) → stands_a
 read-standing files at c e =
     let parts = and_parts (is_named_at files at c) (list_all (is_before files at) (class_needs c)) e in
     let names = and_parts (has_built_in_name c) (option_map_or (λ name. is_first_at files at name && not (is_array_name name)) (name_of c) false) parts.0 in
-    let found = passed (λ name. is_first_at files at name && not (is_array_name name)) (name_of c) names.1 in
+    let found = map_or_parts (λ name. is_first_at files at name && not (is_array_name name)) (name_of c) names.1 in
     let tests = and_parts (is_first_at files at found.0) (not (is_array_name found.0)) found.2 in
-    let place = passed (λ k. k == at) (position (has_name found.0) files) tests.0 in
+    let place = map_or_parts (λ k. k == at) (position (has_name found.0) files) tests.0 in
     record {
       name = found.0;
       named = found.1;
@@ -92,9 +90,9 @@ pub record IsNeeded (files : List ClassFile) (at : ℕ) (n : Need) : Type 0 wher
 pub read-needed : (files : List ClassFile) (at : ℕ) (n : Need) → is_before files at n ≡ true → IsNeeded files at n
 read-needed files at n e =
     let parts = and_parts (not (is_array_name n.name)) (option_map_or (λ k. nat_lt k at && option_map_or (is_as_needed n) (slice_get files k) false) (position (has_name n.name) files) false) e in
-    let found = passed (λ k. nat_lt k at && option_map_or (is_as_needed n) (slice_get files k) false) (position (has_name n.name) files) parts.1 in
+    let found = map_or_parts (λ k. nat_lt k at && option_map_or (is_as_needed n) (slice_get files k) false) (position (has_name n.name) files) parts.1 in
     let tests = and_parts (nat_lt found.0 at) (option_map_or (is_as_needed n) (slice_get files found.0) false) found.2 in
-    let class = passed (is_as_needed n) (slice_get files found.0) tests.1 in
+    let class = map_or_parts (is_as_needed n) (slice_get files found.0) tests.1 in
     record {
       k = found.0;
       class = class.0;
@@ -104,12 +102,6 @@ read-needed files at n e =
       needed = class.2;
       plain = not-true (is_array_name n.name) parts.0;
     }
-
--- ---- lists
-
-pub nth-past : {A : Type 0} (xs ys : List A) (k : ℕ) → slice_get (xs ++ ys) (length xs + k) ≡ slice_get ys k
-nth-past [] ys k = ap (slice_get ys) (zero-add k)
-nth-past (x ∷ xs) ys k = let n : suc (length xs) + k ≡ suc (length xs + k) = omega arith in ap (slice_get (x ∷ xs ++ ys)) n ∙ nth-past xs ys k
 
 -- ---- the classes in front
 
@@ -148,7 +140,7 @@ module _ (p : Program) (classes files : List ClassFile) (are : p.classes ≡ cla
   n = length classes
 
   pub class-past : (k : ℕ) → class_at p (n + k) ≡ slice_get files k
-  class-past k = ap (λ cs. slice_get cs (n + k)) are ∙ nth-past classes files k
+  class-past k = ap (λ cs. slice_get cs (n + k)) are ∙ slice_get-after classes files k
 
   pub named-past : (name : List ℕ) (k : ℕ) → position (has_name name) files ≡ Some k → class_named p name ≡ Some (n + k)
   named-past name k e = ap (position (has_name name)) are ∙ position-past classes files name k own (name-taken files ordered name k e) e

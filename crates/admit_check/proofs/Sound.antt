@@ -1,9 +1,10 @@
 -- What is admitted is a sound program.
-use Rattle.std.proofs.Common.{◌≡◌, ℕ, suc, ◌+◌, ◌<◌, ◌≤◌, Bool, true, false, cond, List, [], ◌∷◌, ◌++◌, length, Option, Some, None, Result, Ok, Err, refl, subst, arith}
+use Rattle.std.proofs.Common.{◌≡◌, ℕ, suc, ◌+◌, ◌<◌, ◌≤◌, Bool, true, false, cond, List, [], ◌∷◌, length, Option, Some, None, Result, Ok, Err, refl, subst, arith}
 use Rattle.std.specs.Prelude.{nat_lt, unwrap_or, IfOk, IfSome}
 use Rattle.std.specs.Option.{option_and_then, option_map}
 use Rattle.std.specs.List.{AllByRecursion}
 use Rattle.std.proofs.lemmas.Option.{same_Some, none-some, option_and_then_some}
+use Rattle.jf_bytes.proofs.Lists.{each_append, each_at}
 use Rattle.const_pool.specs.declared.class.ClassFile.{ClassFile}
 use Rattle.const_pool.specs.References.{name_type_of}
 use Rattle.const_pool.specs.ClassFile.{IsClassFile}
@@ -27,7 +28,6 @@ use Rattle.admit_check.proofs.BuiltInRules.{built-in-follow}
 use Rattle.admit_check.proofs.ClassCodes.{IsFineClass, fine-built-in, fine-classes}
 use Rattle.admit_check.proofs.Fit.{fit}
 use Rattle.admit_check.proofs.FitNames.{IsOwnClass, own-classes}
-use Rattle.code_admission.proofs.Readable.{nth}
 use Rattle.admit_check.proofs.Admitted.{admitted}
 
 -- ---- numbers of methods
@@ -95,16 +95,12 @@ acts_below p at (a ∷ rest) acts e =
 
 module _ (p : Program) (fine : AllByRecursion IsFineClass p.classes) where
   sound-codes : HasSoundCodes p
-  sound-codes method place c code stands is at = (nth IsFineClass p.classes place.class c fine is).codes place.position code at
+  sound-codes method place c code stands is at = (each_at IsFineClass p.classes place.class c fine is).codes place.position code at
 
   known-codes : HasOperations p
-  known-codes method place c code stands is at = (nth IsFineClass p.classes place.class c fine is).operations place.position code at
+  known-codes method place c code stands is at = (each_at IsFineClass p.classes place.class c fine is).operations place.position code at
 
 -- ---- the program
-
-both : {A : Type 0} (P : A → Type 0) (xs ys : List A) → AllByRecursion P xs → AllByRecursion P ys → AllByRecursion P (xs ++ ys)
-both P [] ys a b = b
-both P (x ∷ xs) ys a b = (a.0, both P xs ys a.1 b)
 
 each-so : {A : Type 0} (P Q : A → Type 0) → ((x : A) → P x → Q x) → (xs : List A) → AllByRecursion P xs → AllByRecursion Q xs
 each-so P Q so [] each = tt
@@ -120,12 +116,12 @@ sound classes name plan p formed few heap e =
     let is = admitted classes built_in_files name plan p e in
     let whole = is.completion in
     let q : Program = record (program_with classes built_in_files plan) { main = whole.main; acts = whole.acts } in
-    let each : AllByRecursion IsFineClass q.classes = both IsFineClass classes built_in_files (fine-classes [] classes formed is.fine) fine-built-in in
+    let each : AllByRecursion IsFineClass q.classes = each_append IsFineClass classes built_in_files (fine-classes [] classes formed is.fine) fine-built-in in
     subst (IsAdmittedProgram classes name) whole.is (record {
       sound = record {
         few_classes = few;
         classes_are = refl;
-        formed = both IsClassFile classes built_in_files formed (all_formed built_in_files refl);
+        formed = each_append IsClassFile classes built_in_files formed (all_formed built_in_files refl);
         free = each-so IsOwnClass (λ c. has_built_in_name c ≡ false) (λ c own. own.free) classes (own-classes [] classes is.fine);
         methods = refl;
         few = whole.few;

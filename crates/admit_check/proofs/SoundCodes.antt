@@ -7,6 +7,7 @@ use Rattle.std.specs.Result.{result_ok}
 use Rattle.std.proofs.lemmas.Bool.{and_parts}
 use Rattle.std.proofs.lemmas.List.Elements.{All-contains_itself, All-from_recursion, Contains-append_right}
 use Rattle.std.proofs.lemmas.Option.{same_Some, none-some}
+use Rattle.jf_bytes.proofs.Lists.{each_at}
 use Rattle.const_pool.specs.declared.pool.Const.{Const}
 use Rattle.const_pool.specs.declared.pool.Const.TheVariants.{Utf8}
 use Rattle.const_pool.specs.declared.pool.PoolError.TheVariants.{BadIndex}
@@ -48,7 +49,7 @@ use Rattle.admit_check.specs.Shapes.{shape_fault}
 use Rattle.code_admission.specs.Uses.{is_start}
 use Rattle.code_admission.proofs.Decoded.{reading_is_read}
 use Rattle.stackmap_shift.proofs.FramesRead.{frames_of-writable}
-use Rattle.code_admission.proofs.Readable.{code-formed, nth}
+use Rattle.jvm_model.proofs.Running.Starts.{code-among}
 
 -- ---- starts
 
@@ -167,12 +168,12 @@ method-sound : (k at : ℕ) (pool : List Const) (s : Setting) (m : Member) (code
 method-sound k at pool s m code tailed formed readable coded none =
     let fine : code_fault pool (result_of pool m) code ≡ None =
     told-none k at (code_fault pool (result_of pool m) code) (subst (λ (o : Option CodeAttribute). option_map (told_in k at) (option_and_then (code_fault pool (result_of pool m)) o) ≡ None) coded none) in
-    code-sound pool s (result_of pool m) code tailed (code-formed pool m.attributes code formed.attributes coded) (subst (λ (o : Option CodeAttribute). IfSome o IsReadableBody) coded readable) fine
+    code-sound pool s (result_of pool m) code tailed (code-among pool m.attributes code formed.attributes coded) (subst (λ (o : Option CodeAttribute). IfSome o IsReadableBody) coded readable) fine
 
 pub tables-sound : (k : ℕ) (c : ClassFile) → IsClassFile c → IsReadableClass c → codes_fault k c ≡ None → HaveSoundTables c
 tables-sound k c formed readable none = λ n m code at coded.
     let fine = each-none k c.pool 0 c.methods n m none at in
-    method-sound k fine.0 c.pool (setting_of c) m code refl (nth (IsMember IsMethodAttribute c.pool) c.methods n m formed.methods at) (readable.bodies n m at) coded fine.1
+    method-sound k fine.0 c.pool (setting_of c) m code refl (each_at (IsMember IsMethodAttribute c.pool) c.methods n m formed.methods at) (readable.bodies n m at) coded fine.1
 
 -- ---- a class without a fault
 

@@ -2,11 +2,7 @@
 use Rattle.std.proofs.Common.{◌≡◌, ℕ, zero, suc, ◌+◌, ◌-◌, ◌<◌, List, [], ◌∷◌, ◌++◌, length, Some, None, slice_get, get_or, drop, add-one, sym, ap, ◌∙◌, arith}
 use Rattle.std.specs.List.{flat_map}
 use Rattle.std.proofs.Math.Seq.{drop-cons}
-
-pub slice_get-front : {A : Type 0} (xs ys : List A) (i : ℕ) (x : A) → slice_get xs i ≡ Some x → slice_get (xs ++ ys) i ≡ Some x
-slice_get-front [] ys i x h = absurd cc
-slice_get-front (y ∷ xs) ys zero x h = h
-slice_get-front (y ∷ xs) ys (suc i) x h = slice_get-front xs ys i x h
+use Rattle.jf_bytes.proofs.Lists.{slice_get-front}
 
 pub slice_get-behind : {A : Type 0} (xs ys : List A) (i : ℕ) → slice_get xs i ≡ None → slice_get (xs ++ ys) i ≡ slice_get ys (i - length xs)
 slice_get-behind [] ys i h = ap (slice_get ys) (omega arith)

@@ -3,10 +3,11 @@ use Rattle.std.proofs.Common.{◌≡◌, ℕ, zero, suc, ◌+◌, ◌-◌, ◌<�
 use Rattle.std.specs.Prelude.{nat_lt, ◌&&◌}
 use Rattle.std.specs.List.{flat_map, position_from}
 use Rattle.std.proofs.lemmas.Bool.{and_parts, ltb-true}
+use Rattle.jf_bytes.proofs.Lists.{slice_get-front, slice_get-after}
 use Rattle.const_pool.specs.References.{Reference}
 use Rattle.base_classes.specs.Declarations.{MemberDeclaration, ClassDeclaration}
 use Rattle.base_classes.specs.Natives.{is_native, method_named, natives_of, starts_from}
-use Rattle.base_classes.proofs.Groups.{slice_get-front, slice_get-behind}
+use Rattle.base_classes.proofs.Groups.{slice_get-behind}
 
 -- ---- the first place that passes
 
@@ -71,10 +72,6 @@ has_start n [] p d h = absurd cc
 has_start n (e ∷ ds) zero d h = ap (λ (k : ℕ). Some k) (omega arith)
 has_start n (e ∷ ds) (suc p) d h = has_start (n + length (natives_of e)) ds p d h ∙ ap (λ (k : ℕ). Some k) (omega arith)
 
-offset : {A : Type 0} (xs ys : List A) (k : ℕ) → slice_get (xs ++ ys) (length xs + k) ≡ slice_get ys k
-offset [] ys k = ap (slice_get ys) (omega arith)
-offset (x ∷ xs) ys k = ap (slice_get (x ∷ (xs ++ ys))) (let e : length (x ∷ xs) + k ≡ suc (length xs + k) = omega arith in e) ∙ offset xs ys k
-
 pub number_at : (ds : List ClassDeclaration) (p : ℕ) (d : ClassDeclaration) (k : ℕ) (r : Reference) → slice_get ds p ≡ Some d → slice_get (natives_of d) k ≡ Some r
     → slice_get (flat_map natives_of ds) (start ds p + k) ≡ Some r
 number_at [] p d k r h at = absurd cc
@@ -84,7 +81,7 @@ number_at (e ∷ ds) zero d k r h at =
     ap (slice_get (natives_of e ++ flat_map natives_of ds)) (let z : 0 + k ≡ k = omega arith in z) ∙ slice_get-front (natives_of e) (flat_map natives_of ds) k r here
 number_at (e ∷ ds) (suc p) d k r h at =
     ap (slice_get (natives_of e ++ flat_map natives_of ds)) (let z : (length (natives_of e) + start ds p) + k ≡ length (natives_of e) + (start ds p + k) = omega arith in z)
-    ∙ offset (natives_of e) (flat_map natives_of ds) (start ds p + k) ∙ number_at ds p d k r h at
+    ∙ slice_get-after (natives_of e) (flat_map natives_of ds) (start ds p + k) ∙ number_at ds p d k r h at
 
 pub record Stands (ds : List ClassDeclaration) (r : Reference) : Type 0 where
   pub place : ℕ

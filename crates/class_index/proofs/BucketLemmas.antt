@@ -5,7 +5,8 @@ use Rattle.std.specs.List.{position_from}
 use Rattle.std.specs.Option.{option_map, option_map_or}
 use Rattle.std.proofs.lemmas.Iterator.Adapters.{position_from-zero}
 use Rattle.std.proofs.lemmas.List.{append_assoc, append-nil, length-replicate, length-set}
-use Rattle.std.proofs.lemmas.Bool.{and_parts, false≢true}
+use Rattle.std.proofs.lemmas.Bool.{and_parts, false≢true, eqb-true}
+use Rattle.jf_bytes.proofs.Tests.{equals_itself}
 use Rattle.const_pool.specs.declared.class.ClassFile.{ClassFile}
 use Rattle.const_pool.specs.declared.class.Member.{Member}
 use Rattle.const_pool.specs.declared.pool.Const.{Const}
@@ -14,11 +15,7 @@ use Rattle.jvm_model.specs.Basis.Methods.{is_member, method_from, method_named, 
 use Rattle.jvm_model.specs.Basis.SharedState.{field_named}
 use Rattle.class_index.specs.declared.table.Table.{Table}
 use Rattle.class_index.specs.Buckets.{bucket_at, buckets_of, filled_from, is_at, member_number, member_sought, number_of, table_of, with_position}
-use Rattle.class_index.proofs.OrderLemmas.{equal}
 use Rattle.class_index.proofs.MemberTexts.{text_is}
-
-equals_itself : (n : ℕ) → (n == n) ≡ true
-equals_itself n = grind (arith)
 
 -- ---- one bucket
 
@@ -59,7 +56,7 @@ filled size pool h at (m ∷ ms) buckets within =
         → bucket_at (with_position buckets (member_number pool m % size) at) h ++ own size pool h (at + 1) ms
         ≡ bucket_at buckets h ++ (if b then at ∷ own size pool h (at + 1) ms else own size pool h (at + 1) ms)
     by true same =
-        let e = equal (member_number pool m % size) h same in
+        let e = eqb-true (member_number pool m % size) h same in
         ap (λ k. bucket_at (with_position buckets k at) h ++ own size pool h (at + 1) ms) e
         ∙ (ap (λ l. l ++ own size pool h (at + 1) ms) (bucket-set_same buckets h (bucket_at buckets h ++ at ∷ []) within)
         ∙ append_assoc (bucket_at buckets h) (at ∷ []) (own size pool h (at + 1) ms))

@@ -1,15 +1,12 @@
 -- Each class once is searched as all of them are.
-use Rattle.std.proofs.Common.{◌≡◌, ℕ, Bool, true, false, List, [], ◌∷◌, ◌++◌, ap, sym, refl, ◌∙◌, arith}
+use Rattle.std.proofs.Common.{◌≡◌, ℕ, Bool, true, false, List, [], ◌∷◌, ◌++◌, ap, sym, refl, ◌∙◌}
 use Rattle.std.specs.Prelude.{Option, Some, None, ◌==◌, ◌||◌, if◌then◌else◌}
 use Rattle.std.specs.Option.{option_map_or, option_or}
 use Rattle.std.proofs.lemmas.List.{append_assoc, append-nil}
-use Rattle.std.proofs.lemmas.Bool.{false≢true}
+use Rattle.std.proofs.lemmas.Bool.{false≢true, eqb-true}
 use Rattle.jvm_model.specs.Classes.Load.{is_among}
 use Rattle.jvm_model.specs.Classes.Lookup.{MemberPlace, first_in, place_in}
 use Rattle.class_index.specs.Orders.{IsSearchedAs, with_class, with_classes}
-
-pub equal : (a b : ℕ) → (a == b) ≡ true → a ≡ b
-equal a b e = grind (arith)
 
 -- what is found in a class, or behind it
 found : ℕ → Option ℕ → Option MemberPlace → Option MemberPlace
@@ -50,7 +47,7 @@ module _ (at : ℕ → Option ℕ) where
 
       by : (b : Bool) → (c == x) ≡ b → (b || is_among c xs) ≡ true → (is_among c xs ≡ true → first_in at (xs ++ c ∷ []) ≡ first_in at xs)
           → first_in at (x ∷ xs ++ c ∷ []) ≡ first_in at (x ∷ xs)
-      by true same t rest = behind (at x) refl (λ none. past xs c (ap at (equal c x same) ∙ none))
+      by true same t rest = behind (at x) refl (λ none. past xs c (ap at (eqb-true c x same) ∙ none))
       by false other t rest = behind (at x) refl (λ none. rest t)
 
 -- ---- a class more, if it is none of them

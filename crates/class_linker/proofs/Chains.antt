@@ -1,31 +1,24 @@
 -- The superclasses of a loaded class are each below those behind it.
-use Rattle.std.proofs.Common.{◌≡◌, ℕ, zero, suc, true, false, List, ◌++◌, ap, sym, subst, refl, ◌∙◌, arith, inl, inr}
+use Rattle.std.proofs.Common.{◌≡◌, ℕ, zero, suc, true, false, ◌++◌, ap, sym, subst, refl, ◌∙◌, inl, inr}
 use Rattle.std.specs.Prelude.{Option, Some, None, flat_map, ◌⊎◌, ◌==◌, ◌||◌}
 use Rattle.std.specs.Option.{option_to_list}
 use Rattle.std.proofs.lemmas.List.{append-nil}
-use Rattle.std.proofs.lemmas.Bool.{false≢true, or_cases}
+use Rattle.std.proofs.lemmas.Bool.{false≢true, or_cases, eqb-true}
+use Rattle.std.proofs.Math.Bool.{or-true}
+use Rattle.jf_bytes.proofs.Tests.{equals_itself}
 use Rattle.jvm_model.specs.declared.program.Program.{Program}
 use Rattle.jvm_model.specs.Basis.Programs.{super_of}
 use Rattle.jvm_model.specs.Classes.Load.{is_among}
 use Rattle.jvm_model.specs.Classes.Lookup.{interfaces_of, is_subtype, superclass_of, superclasses_within}
-use Rattle.class_index.proofs.OrderLemmas.{equal}
+use Rattle.jvm_model.proofs.Loading.Among.{among-behind}
 use Rattle.class_linker.specs.Passing.{IsChain}
 use Rattle.class_linker.specs.LoadedClasses.{AreLoadedClasses, LoadedClasses, holds_class}
-use Rattle.class_linker.proofs.LoadLemmas.{among-append}
-use Rattle.class_linker.proofs.OverridingLaws.{or_true}
 use Rattle.class_linker.proofs.Subtypes.{IsIn, above_direct, among_flat, direct_has, itself}
-
-equals_itself : (n : ℕ) → (n == n) ≡ true
-equals_itself n = grind (arith)
-
--- what stands in the second of two lists
-among_second : (x : ℕ) (xs ys : List ℕ) → is_among x ys ≡ true → is_among x (xs ++ ys) ≡ true
-among_second x xs ys h = among-append x xs ys ∙ (ap (λ b. is_among x xs || b) h ∙ or_true (is_among x xs))
 
 module _ (p : Program) (rows : LoadedClasses) (are : AreLoadedClasses p rows) where
   -- a superclass is a direct supertype
   direct : (c s : ℕ) → is_among s (superclass_of p c) ≡ true → is_among s (interfaces_of p c ++ superclass_of p c) ≡ true
-  direct c s there = among_second s (interfaces_of p c) (superclass_of p c) there
+  direct c s there = among-behind s (interfaces_of p c) (superclass_of p c) there
 
   -- each superclass is a supertype
   supers_above : (n c d : ℕ) → holds_class rows c ≡ true → is_among d (superclasses_within p n c) ≡ true → is_subtype p c d ≡ true
@@ -41,7 +34,7 @@ module _ (p : Program) (rows : LoadedClasses) (are : AreLoadedClasses p rows) wh
 
       by : ((d == c) ≡ true) ⊎ (is_among d (flat_map (superclasses_within p n) (superclass_of p c)) ≡ true)
           → ((s x : ℕ) → holds_class rows s ≡ true → is_among x (superclasses_within p n s) ≡ true → is_subtype p s x ≡ true) → is_subtype p c d ≡ true
-      by (inl same) rest = ap (is_subtype p c) (equal d c same) ∙ itself p rows are c has
+      by (inl same) rest = ap (is_subtype p c) (eqb-true d c same) ∙ itself p rows are c has
       by (inr k) rest = behind (among_flat (superclasses_within p n) (superclass_of p c) d k) rest
 
   -- the direct superclass has a row
@@ -51,7 +44,7 @@ module _ (p : Program) (rows : LoadedClasses) (are : AreLoadedClasses p rows) wh
 
   pub chain : (n c : ℕ) → holds_class rows c ≡ true → IsChain p (superclasses_within p n c)
   chain zero c has = tt
-  chain (suc n) c has = (λ d there. supers_above (suc n) c d has (ap (λ b. (d == c) || b) there ∙ or_true (d == c)), by (super_of p c) refl (chain n))
+  chain (suc n) c has = (λ d there. supers_above (suc n) c d has (ap (λ b. (d == c) || b) there ∙ or-true (d == c)), by (super_of p c) refl (chain n))
     where
       by : (o : Option ℕ) → super_of p c ≡ o → ((s : ℕ) → holds_class rows s ≡ true → IsChain p (superclasses_within p n s))
           → IsChain p (flat_map (superclasses_within p n) (option_to_list o))

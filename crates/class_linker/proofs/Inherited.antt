@@ -4,9 +4,9 @@ use Rattle.std.specs.Prelude.{Option, Some, flat_map, ◌==◌, ◌||◌, ◌&&�
 use Rattle.std.specs.List.{list_all}
 use Rattle.std.specs.Option.{option_to_list}
 use Rattle.std.proofs.lemmas.List.{append-nil}
+use Rattle.std.proofs.lemmas.Bool.{eqb-true}
 use Rattle.const_pool.specs.declared.descriptor.Kind.{Kind}
 use Rattle.jvm_model.specs.Classes.Load.{is_among}
-use Rattle.class_index.proofs.OrderLemmas.{equal}
 use Rattle.class_linker.specs.LoadedClasses.{LoadedClasses, holds_all, holds_class}
 
 pub layout_one : (f : ℕ → List Kind) (o : Option ℕ) (above : ℕ) → o ≡ Some above → length (flat_map f (option_to_list o)) ≡ length (f above)
@@ -18,7 +18,7 @@ among_all test (first ∷ xs) x all is = by (x == first) refl (test first) refl 
   where
     by : (b : Bool) → (x == first) ≡ b → (a : Bool) → test first ≡ a → (a && list_all test xs) ≡ true → (b || is_among x xs) ≡ true
         → (list_all test xs ≡ true → is_among x xs ≡ true → test x ≡ true) → test x ≡ true
-    by true same true is_first all is rest = ap test (equal x first same) ∙ is_first
+    by true same true is_first all is rest = ap test (eqb-true x first same) ∙ is_first
     by false same true is_first all is rest = rest all is
     by b same false is_first all is rest = absurd (let no : false ≡ true → ⊥ = λ e. cc in no all)
 

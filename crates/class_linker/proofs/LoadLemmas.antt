@@ -1,18 +1,18 @@
 -- What loading needs and leaves.
-use Rattle.std.proofs.Common.{◌≡◌, ℕ, Bool, true, false, List, [], ◌∷◌, ◌++◌, length, map, ap, ap₂, sym, refl, ◌∙◌, arith}
+use Rattle.std.proofs.Common.{◌≡◌, ℕ, Bool, true, false, List, [], ◌∷◌, ◌++◌, length, map, ap, ap₂, sym, refl, ◌∙◌}
 use Rattle.std.specs.Prelude.{Option, Some, None, filter_map, flat_map, take, ◌==◌, ◌||◌}
 use Rattle.std.proofs.Math.Seq.{take-append_seam, take-length}
 use Rattle.std.specs.List.{cons_option}
 use Rattle.std.specs.Option.{option_to_list}
-use Rattle.std.proofs.lemmas.Bool.{false≢true}
+use Rattle.std.proofs.lemmas.Bool.{false≢true, eqb-true}
 use Rattle.const_pool.specs.declared.class.ClassFile.{ClassFile}
 use Rattle.const_pool.specs.References.{named_class}
 use Rattle.jvm_model.specs.Classes.Load as load
 use Rattle.jvm_model.specs.declared.program.Program.{Program}
+use Rattle.jvm_model.proofs.Loading.Among.{among-append}
 use Rattle.class_linker.specs.declared.loading.State.{State}
 use Rattle.class_linker.specs.LoadedClasses.{AreKept, AreLoadedClasses, LoadedClasses, holds_class}
 use Rattle.class_linker.specs.States.{IsLater, IsState, needs_at, needs_in}
-use Rattle.class_index.proofs.OrderLemmas.{equal}
 
 each_need : (f : ℕ → Option (List ℕ)) (xs : List ℕ)
     → flat_map (λ x. map (load.need true) (option_to_list (f x))) xs ≡ map (load.need true) (filter_map f xs)
@@ -27,30 +27,6 @@ each_need f (x ∷ xs) = by (f x) (each_need f xs)
 
 pub needs_are : (c : ClassFile) → needs_in c ≡ load.class_needs c
 needs_are c = ap (λ l. needs_at c false c.super_class ++ l) (each_need (named_class c.pool) c.interfaces)
-
--- ---- what is among classes
-
-pub among-append : (class : ℕ) (xs ys : List ℕ) → load.is_among class (xs ++ ys) ≡ (load.is_among class xs || load.is_among class ys)
-among-append class [] ys = refl
-among-append class (x ∷ xs) ys = by (class == x) (among-append class xs ys)
-  where
-    by : (b : Bool) → load.is_among class (xs ++ ys) ≡ (load.is_among class xs || load.is_among class ys)
-        → (b || load.is_among class (xs ++ ys)) ≡ ((b || load.is_among class xs) || load.is_among class ys)
-    by true rest = refl
-    by false rest = rest
-
-equals_itself : (n : ℕ) → (n == n) ≡ true
-equals_itself n = grind (arith)
-
-pub among-last : (class : ℕ) (xs : List ℕ) → load.is_among class (xs ++ class ∷ []) ≡ true
-among-last class xs = among-append class xs (class ∷ []) ∙ (ap (λ b. load.is_among class xs || (b || false)) (equals_itself class) ∙ by (load.is_among class xs))
-  where
-    by : (b : Bool) → (b || true) ≡ true
-    by true = refl
-    by false = refl
-
-pub among-front : (class : ℕ) (xs ys : List ℕ) → load.is_among class xs ≡ true → load.is_among class (xs ++ ys) ≡ true
-among-front class xs ys is = among-append class xs ys ∙ ap (λ b. b || load.is_among class ys) is
 
 -- ---- a state after a row was made
 
@@ -71,7 +47,7 @@ module _ (p : Program) (s : State) (rows : LoadedClasses) (is : IsState p s) (ar
       by : (c : ℕ) (before last : Bool) → load.is_among c s.loaded ≡ before → (c == class) ≡ last
           → (load.is_among c s.loaded || ((c == class) || false)) ≡ true → holds_class rows c ≡ true
       by c true last was is_last among = kept c (is.loaded c was)
-      by c false true was is_last among = ap (holds_class rows) (equal c class is_last) ∙ has
+      by c false true was is_last among = ap (holds_class rows) (eqb-true c class is_last) ∙ has
       by c false false was is_last among =
           absurd (false≢true (sym (ap₂ (λ a b. a || (b || false)) was is_last) ∙ among))
 

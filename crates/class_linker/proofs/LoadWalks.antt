@@ -4,7 +4,8 @@ use Rattle.std.specs.Prelude.{Option, Some, None, filter_map, not, unwrap_or, �
 use Rattle.std.specs.Bool.{beq}
 use Rattle.std.specs.List.{cons_option, list_all}
 use Rattle.std.specs.Option.{option_and_then, option_map_or, option_to_list}
-use Rattle.std.proofs.lemmas.Bool.{false≢true}
+use Rattle.std.proofs.lemmas.Bool.{false≢true, and_parts}
+use Rattle.std.proofs.lemmas.Option.{none-some}
 use Rattle.const_pool.specs.declared.class.ClassFile.{ClassFile}
 use Rattle.const_pool.specs.References.{named_class}
 use Rattle.jvm_model.specs.Classes.Kinds.{Named, array_from, array_of, is_array_name}
@@ -13,11 +14,11 @@ use Rattle.jvm_model.specs.Classes.Lookup.{interface_names, interfaces_of, is_in
 use Rattle.jvm_model.specs.Basis.Programs.{class_at, class_named}
 use Rattle.jvm_model.specs.declared.program.Program.{Program}
 use Rattle.jvm_model.proofs.Loading.LoadOrder.{named_kept, needs_kept}
+use Rattle.jvm_model.proofs.Loading.Among.{among-last, among-front}
 use Rattle.class_linker.specs.declared.loading.Fault as code
 use Rattle.class_linker.specs.declared.loading.Standing.{Standing}
 use Rattle.class_linker.specs.declared.loading.Standing.TheVariants.{Ended, Fresh}
 use Rattle.class_linker.specs.States.{loading_view, named_loading, standing_loading}
-use Rattle.class_linker.proofs.LoadLemmas.{among-front, among-last}
 
 -- ---- what is loaded stays
 
@@ -74,11 +75,8 @@ stops_behind p load n rest loaded after e not_met =
 
 -- ---- what is loaded where there is no fault
 
-some_none : (f : Fault) → Some f ≡ None → ⊥
-some_none f e = cc
-
 failed_done : (loaded after : List ℕ) (fault : Fault) → loading_failed loaded fault ≡ loading_done after → ⊥
-failed_done loaded after fault e = some_none fault (ap (λ (l : Loading). l.fault) e)
+failed_done loaded after fault e = none-some fault (sym (ap (λ (l : Loading). l.fault) e))
 
 done_done : (loaded after : List ℕ) → loading_done loaded ≡ loading_done after → loaded ≡ after
 done_done loaded after e = ap (λ (l : Loading). l.loaded) e
@@ -118,14 +116,6 @@ module _ (p : Program) (class : ℕ) (after : List ℕ) where
 
 -- ---- the classes of needs
 
-first_of_and : (a b : Bool) → (a && b) ≡ true → a ≡ true
-first_of_and true b h = refl
-first_of_and false b h = absurd (false≢true h)
-
-second_of_and : (a b : Bool) → (a && b) ≡ true → b ≡ true
-second_of_and true b h = h
-second_of_and false b h = absurd (false≢true h)
-
 -- the class of a need passes the test
 abbrev pub passes : Program → (ℕ → Bool) → Need → Bool
 passes p test n = option_map_or test (class_named p n.name) false
@@ -133,7 +123,7 @@ passes p test n = option_map_or test (class_named p n.name) false
 module _ (p : Program) (depth : ℕ) (path after : List ℕ) where
   met_done : (n : Need) (rest : List Need) (loaded now : List ℕ) → load_named p depth path n.name loaded ≡ loading_done now
       → load_needs p (load_named p depth path) rest now ≡ loading_done after → is_met p n ≡ true → passes p (λ c. is_among c after) n ≡ true
-  met_done n rest loaded now one others met = by (class_named p n.name) refl (second_of_and (not (is_array_name n.name)) _ met)
+  met_done n rest loaded now one others met = by (class_named p n.name) refl (and_parts (not (is_array_name n.name)) _ met).1
     where
       plain : (b : Bool) → not b ≡ true → b ≡ false
       plain false h = refl
@@ -144,7 +134,7 @@ module _ (p : Program) (depth : ℕ) (path after : List ℕ) where
       by None is h = absurd (false≢true h)
       by (Some class) is h =
           let there = named_done p class now depth path n.name loaded
-          (plain (is_array_name n.name) (first_of_and (not (is_array_name n.name)) _ met)) is one in
+          (plain (is_array_name n.name) (and_parts (not (is_array_name n.name)) _ met).0) is one in
           ap (is_among class) (sym (ap (λ (l : Loading). l.loaded) others)) ∙ needs_stay p class depth path rest now there
 
   pub needs_done : (needs : List Need) (loaded : List ℕ) → load_needs p (load_named p depth path) needs loaded ≡ loading_done after
@@ -179,8 +169,8 @@ module _ (p : Program) (test : ℕ → Bool) where
       → list_all test (filter_map (class_named p) names) ≡ true
   names_pass b [] h = refl
   names_pass b (name ∷ names) h =
-      by (class_named p name) (first_of_and (passes p test (need b name)) (list_all (passes p test) (map (need b) names)) h)
-      (names_pass b names (second_of_and (passes p test (need b name)) (list_all (passes p test) (map (need b) names)) h))
+      by (class_named p name) (and_parts (passes p test (need b name)) (list_all (passes p test) (map (need b) names)) h).0
+      (names_pass b names (and_parts (passes p test (need b name)) (list_all (passes p test) (map (need b) names)) h).1)
     where
       by : (o : Option ℕ) → option_map_or test o false ≡ true → list_all test (filter_map (class_named p) names) ≡ true
           → list_all test (cons_option o (filter_map (class_named p) names)) ≡ true
@@ -191,8 +181,8 @@ module _ (p : Program) (test : ℕ → Bool) where
       → (list_all (passes p test) xs ≡ true) × (list_all (passes p test) ys ≡ true)
   split [] ys h = (refl, h)
   split (x ∷ xs) ys h =
-      let both = split xs ys (second_of_and (passes p test x) (list_all (passes p test) (xs ++ ys)) h) in
-      (ap₂ (λ a b. a && b) (first_of_and (passes p test x) (list_all (passes p test) (xs ++ ys)) h) both.0, both.1)
+      let both = split xs ys (and_parts (passes p test x) (list_all (passes p test) (xs ++ ys)) h).1 in
+      (ap₂ (λ a b. a && b) (and_parts (passes p test x) (list_all (passes p test) (xs ++ ys)) h).0 both.0, both.1)
 
   one_name : (o : Option (List ℕ)) → filter_map (class_named p) (option_to_list o) ≡ option_to_list (option_and_then (class_named p) o)
   one_name None = refl
@@ -221,4 +211,4 @@ module _ (p : Program) (test : ℕ → Bool) where
 pub all_have : (f g : ℕ → Bool) → ((c : ℕ) → f c ≡ true → g c ≡ true) → (xs : List ℕ) → list_all f xs ≡ true → list_all g xs ≡ true
 all_have f g h [] all = refl
 all_have f g h (x ∷ xs) all =
-    ap₂ (λ a b. a && b) (h x (first_of_and (f x) (list_all f xs) all)) (all_have f g h xs (second_of_and (f x) (list_all f xs) all))
+    ap₂ (λ a b. a && b) (h x (and_parts (f x) (list_all f xs) all).0) (all_have f g h xs (and_parts (f x) (list_all f xs) all).1)

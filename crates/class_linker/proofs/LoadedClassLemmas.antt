@@ -5,7 +5,7 @@ use Rattle.std.specs.List.{list_all}
 use Rattle.std.specs.Option.{option_map_or}
 use Rattle.std.proofs.lemmas.List.{append_assoc, append-nil, length-set}
 use Rattle.std.proofs.lemmas.List.Sums.{sum_by-cons}
-use Rattle.std.proofs.lemmas.Bool.{false≢true}
+use Rattle.std.proofs.lemmas.Bool.{false≢true, eqb-true, and_parts}
 use Rattle.jvm_model.specs.declared.program.Program.{Program}
 use Rattle.jvm_model.specs.Classes.Layouts.{layout_within, own_kinds}
 use Rattle.jvm_model.specs.Classes.Lookup.{interfaces_of, is_interface, superclass_of, superclasses_within, superinterfaces_within, supertypes_within}
@@ -14,7 +14,7 @@ use Rattle.class_linker.specs.declared.loaded_classes.LoadedClass.{LoadedClass}
 use Rattle.class_index.specs.Orders.{IsSearchedAs, with_class, with_classes}
 use Rattle.jvm_model.specs.Classes.Load.{is_among}
 use Rattle.class_linker.specs.LoadedClasses.{AreKept, AreLoadedClasses, IsClosed, IsLoadedClass, LoadedClasses, holds_all, holds_class, layout_in, loaded_class_at, held_count, loaded_class_made, superclasses_in, superinterfaces_in, superinterfaces_made, supertypes_in, supertypes_made, with_interfaces, with_supertypes}
-use Rattle.class_index.proofs.OrderLemmas.{both, equal, equal_as, more, same, then_as}
+use Rattle.class_index.proofs.OrderLemmas.{both, equal_as, more, same, then_as}
 
 -- ---- what is added is what stands behind
 
@@ -43,26 +43,18 @@ interfaces_more rows xs (y ∷ ys) =
 
 -- ---- a list of classes that all pass a test
 
-first_of_and : (a b : Bool) → (a && b) ≡ true → a ≡ true
-first_of_and true b h = refl
-first_of_and false b h = absurd (false≢true h)
-
-second_of_and : (a b : Bool) → (a && b) ≡ true → b ≡ true
-second_of_and true b h = h
-second_of_and false b h = absurd (false≢true h)
-
 each_searched : (test : ℕ → Bool) (f g : ℕ → List ℕ) → ((c : ℕ) → test c ≡ true → IsSearchedAs (f c) (g c))
     → (xs : List ℕ) → list_all test xs ≡ true → IsSearchedAs (flat_map f xs) (flat_map g xs)
 each_searched test f g h [] all = same []
 each_searched test f g h (x ∷ xs) all =
-    both (f x) (g x) (flat_map f xs) (flat_map g xs) (h x (first_of_and (test x) (list_all test xs) all))
-    (each_searched test f g h xs (second_of_and (test x) (list_all test xs) all))
+    both (f x) (g x) (flat_map f xs) (flat_map g xs) (h x (and_parts (test x) (list_all test xs) all).0)
+    (each_searched test f g h xs (and_parts (test x) (list_all test xs) all).1)
 
 each_equal : {A : Type 0} (test : ℕ → Bool) (f g : ℕ → List A) → ((c : ℕ) → test c ≡ true → f c ≡ g c)
     → (xs : List ℕ) → list_all test xs ≡ true → flat_map f xs ≡ flat_map g xs
 each_equal test f g h [] all = refl
 each_equal test f g h (x ∷ xs) all =
-    ap₂ (λ a b. a ++ b) (h x (first_of_and (test x) (list_all test xs) all)) (each_equal test f g h xs (second_of_and (test x) (list_all test xs) all))
+    ap₂ (λ a b. a ++ b) (h x (and_parts (test x) (list_all test xs) all).0) (each_equal test f g h xs (and_parts (test x) (list_all test xs) all).1)
 
 -- ---- a class that has a row
 
@@ -181,7 +173,7 @@ held_count-set (o ∷ rows) (suc class) r none within =
 all_append : (f : ℕ → Bool) (xs ys : List ℕ) → list_all f xs ≡ true → list_all f ys ≡ true → list_all f (xs ++ ys) ≡ true
 all_append f [] ys h k = k
 all_append f (x ∷ xs) ys h k =
-    ap₂ (λ a b. a && b) (first_of_and (f x) (list_all f xs) h) (all_append f xs ys (second_of_and (f x) (list_all f xs) h) k)
+    ap₂ (λ a b. a && b) (and_parts (f x) (list_all f xs) h).0 (all_append f xs ys (and_parts (f x) (list_all f xs) h).1 k)
 
 all_with_class : (f : ℕ → Bool) (xs : List ℕ) (c : ℕ) → list_all f xs ≡ true → f c ≡ true → list_all f (with_class xs c) ≡ true
 all_with_class f xs c h k = by (is_among c xs)
@@ -193,28 +185,28 @@ all_with_class f xs c h k = by (is_among c xs)
 all_with_classes : (f : ℕ → Bool) (xs ys : List ℕ) → list_all f xs ≡ true → list_all f ys ≡ true → list_all f (with_classes xs ys) ≡ true
 all_with_classes f xs [] h k = h
 all_with_classes f xs (y ∷ ys) h k =
-    all_with_classes f (with_class xs y) ys (all_with_class f xs y h (first_of_and (f y) (list_all f ys) k)) (second_of_and (f y) (list_all f ys) k)
+    all_with_classes f (with_class xs y) ys (all_with_class f xs y h (and_parts (f y) (list_all f ys) k).0) (and_parts (f y) (list_all f ys) k).1
 
 all_with_supertypes : (f : ℕ → Bool) (rows : LoadedClasses) → ((d : ℕ) → holds_class rows d ≡ true → list_all f (supertypes_in rows d) ≡ true)
     → (xs ys : List ℕ) → list_all f xs ≡ true → holds_all rows ys ≡ true → list_all f (with_supertypes rows xs ys) ≡ true
 all_with_supertypes f rows g xs [] h k = h
 all_with_supertypes f rows g xs (y ∷ ys) h k =
     all_with_supertypes f rows g (with_classes xs (supertypes_in rows y)) ys
-    (all_with_classes f xs (supertypes_in rows y) h (g y (first_of_and (holds_class rows y) (holds_all rows ys) k)))
-    (second_of_and (holds_class rows y) (holds_all rows ys) k)
+    (all_with_classes f xs (supertypes_in rows y) h (g y (and_parts (holds_class rows y) (holds_all rows ys) k).0))
+    (and_parts (holds_class rows y) (holds_all rows ys) k).1
 
 all_flat : (f : ℕ → Bool) (rows : LoadedClasses) (g : ℕ → List ℕ) → ((d : ℕ) → holds_class rows d ≡ true → list_all f (g d) ≡ true)
     → (xs : List ℕ) → holds_all rows xs ≡ true → list_all f (flat_map g xs) ≡ true
 all_flat f rows g h [] k = refl
 all_flat f rows g h (x ∷ xs) k =
-    all_append f (g x) (flat_map g xs) (h x (first_of_and (holds_class rows x) (holds_all rows xs) k))
-    (all_flat f rows g h xs (second_of_and (holds_class rows x) (holds_all rows xs) k))
+    all_append f (g x) (flat_map g xs) (h x (and_parts (holds_class rows x) (holds_all rows xs) k).0)
+    (all_flat f rows g h xs (and_parts (holds_class rows x) (holds_all rows xs) k).1)
 
 all_kept : (before after : LoadedClasses) → AreKept before after → (xs : List ℕ) → holds_all before xs ≡ true → holds_all after xs ≡ true
 all_kept before after kept [] h = refl
 all_kept before after kept (x ∷ xs) h =
-    ap₂ (λ a b. a && b) (kept x (first_of_and (holds_class before x) (holds_all before xs) h))
-    (all_kept before after kept xs (second_of_and (holds_class before x) (holds_all before xs) h))
+    ap₂ (λ a b. a && b) (kept x (and_parts (holds_class before x) (holds_all before xs) h).0)
+    (all_kept before after kept xs (and_parts (holds_class before x) (holds_all before xs) h).1)
 
 module _ (p : Program) (rows : LoadedClasses) (are : AreLoadedClasses p rows) (after : LoadedClasses) (kept : AreKept rows after) where
   pub superclasses_have : (d : ℕ) → holds_class rows d ≡ true → holds_all after (superclasses_in rows d) ≡ true
@@ -264,7 +256,7 @@ module _ (p : Program) (rows : LoadedClasses) (class : ℕ) (are : AreLoadedClas
 
   each_after : (b : Bool) (c bound : ℕ) (r : LoadedClass) → (c == class) ≡ b → loaded_class_at after c ≡ Some r → held_count rows + 1 ≤ bound → IsLoadedClass p bound c r
   each_after true c bound r is found most =
-      let e = equal c class is in
+      let e = eqb-true c class is in
       let at_own : loaded_class_at after class ≡ Some r = ap (loaded_class_at after) (sym e) ∙ found in
       let made : loaded_class_made p rows class ≡ r = the_same (loaded_class_made p rows class) r (sym (loaded_class_at-set_same rows class (loaded_class_made p rows class) within) ∙ at_own) in
       subst (λ k. IsLoadedClass p bound k r) (sym e) (subst (IsLoadedClass p bound class) made (own_loaded_class bound most))
@@ -275,7 +267,7 @@ module _ (p : Program) (rows : LoadedClasses) (class : ℕ) (are : AreLoadedClas
       apart h e = grind (arith)
 
   kept_at : (b : Bool) (c : ℕ) → (c == class) ≡ b → holds_class rows c ≡ true → holds_class after c ≡ true
-  kept_at true c is has = ap (λ k. holds_class after k) (equal c class is) ∙ ap is_some (loaded_class_at-set_same rows class (loaded_class_made p rows class) within)
+  kept_at true c is has = ap (λ k. holds_class after k) (eqb-true c class is) ∙ ap is_some (loaded_class_at-set_same rows class (loaded_class_made p rows class) within)
   kept_at false c is has = ap is_some (loaded_class_at-set_other rows class c (Some (loaded_class_made p rows class)) (apart is)) ∙ has
     where
       apart : (c == class) ≡ false → c ≢ class
@@ -289,7 +281,7 @@ module _ (p : Program) (rows : LoadedClasses) (class : ℕ) (are : AreLoadedClas
 
   closed_after : (b : Bool) (c : ℕ) (r : LoadedClass) → (c == class) ≡ b → loaded_class_at after c ≡ Some r → IsClosed after r
   closed_after true c r is found =
-      let at_own : loaded_class_at after class ≡ Some r = ap (loaded_class_at after) (sym (equal c class is)) ∙ found in
+      let at_own : loaded_class_at after class ≡ Some r = ap (loaded_class_at after) (sym (eqb-true c class is)) ∙ found in
       subst (IsClosed after) (the_same (loaded_class_made p rows class) r (sym (loaded_class_at-set_same rows class (loaded_class_made p rows class) within) ∙ at_own))
       (closed_made p rows are after added-kept class added-there interfaces above)
   closed_after false c r is found =
@@ -317,7 +309,7 @@ module _ (p : Program) (rows : LoadedClasses) (class : ℕ) (are : AreLoadedClas
   ends_after : (b : Bool) (c bound : ℕ) → (c == class) ≡ b → holds_class after c ≡ true → held_count rows + 1 ≤ bound
       → supertypes_within p bound c ≡ supertypes_within p (held_count rows + 1) c
   ends_after true c bound is has most =
-      subst (λ k. supertypes_within p bound k ≡ supertypes_within p (held_count rows + 1) k) (sym (equal c class is)) (own_end bound most)
+      subst (λ k. supertypes_within p bound k ≡ supertypes_within p (held_count rows + 1) k) (sym (eqb-true c class is)) (own_end bound most)
   ends_after false c bound is has most =
       let before : holds_class rows c ≡ true = ap is_some (sym (loaded_class_at-set_other rows class c (Some (loaded_class_made p rows class)) (apart is))) ∙ has in
       are.ends c bound before (omega arith) ∙ sym (are.ends c (held_count rows + 1) before (omega arith))

@@ -1,8 +1,8 @@
 -- The test of overriding is the relation, among loaded classes.
 use Rattle.std.proofs.Common.{◌≡◌, ℕ, suc, ◌+◌, Bool, true, false, List, [], ◌∷◌, ap, ap₂, sym, refl, ◌∙◌, arith}
-use Rattle.std.specs.Prelude.{Option, Some, None, not, slice_get, ◌==◌, ◌||◌, ◌&&◌, if◌then◌else◌}
+use Rattle.std.specs.Prelude.{Option, Some, None, not, slice_get, ◌==◌, ◌&&◌, if◌then◌else◌}
 use Rattle.std.specs.Option.{option_and_then, option_map, option_map_or}
-use Rattle.std.proofs.lemmas.Bool.{and_parts, false≢true}
+use Rattle.std.proofs.lemmas.Bool.{and_parts, false≢true, eqb-true}
 use Rattle.std.proofs.lemmas.Option.{none-some, same_Some}
 use Rattle.const_pool.specs.declared.class.ClassFile.{ClassFile}
 use Rattle.const_pool.specs.declared.class.Member.{Member}
@@ -14,15 +14,7 @@ use Rattle.jvm_model.specs.Basis.Methods.{is_member, method_from, same_text_at}
 use Rattle.jvm_model.specs.Basis.Programs.{class_at}
 use Rattle.jvm_model.specs.Classes.Selection.{signature_of, stands_below, texts_of}
 use Rattle.class_index.specs.Members.{is_declared_as}
-use Rattle.class_index.proofs.OrderLemmas.{equal}
 use Rattle.class_index.proofs.MemberTexts.{text_is}
-
-equals_itself : (n : ℕ) → (n == n) ≡ true
-equals_itself n = grind (arith)
-
-pub or_true : (b : Bool) → (b || true) ≡ true
-or_true true = refl
-or_true false = refl
 
 -- ---- the name and descriptor of a method that was found by them
 
@@ -95,7 +87,7 @@ declared p m1 m2 h = by (signature_of p m2) refl h
     at : (w : NameAndType) (o : Option ℕ) → method_at p w m1.class ≡ o → option_map_or (λ at. at == m1.position) o false ≡ true
         → method_at p w m1.class ≡ Some m1.position
     at w None is k = absurd (false≢true k)
-    at w (Some n) is k = is ∙ ap Some (equal n m1.position k)
+    at w (Some n) is k = is ∙ ap Some (eqb-true n m1.position k)
 
     by : (o : Option NameAndType) → signature_of p m2 ≡ o
         → option_map_or (λ w. option_map_or (λ at. at == m1.position) (method_at p w m1.class) false) o false ≡ true → IsDeclared p m1 m2

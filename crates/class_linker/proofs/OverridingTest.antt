@@ -1,10 +1,12 @@
 -- The test of overriding is the relation, among loaded classes.
-use Rattle.std.proofs.Common.{◌≡◌, ℕ, Bool, true, false, List, [], ◌∷◌, ap, sym, refl, ◌∙◌, arith, inl, inr}
+use Rattle.std.proofs.Common.{◌≡◌, ℕ, Bool, true, false, List, [], ◌∷◌, ap, sym, refl, ◌∙◌, inl, inr}
 use Rattle.std.specs.Prelude.{Option, Some, None, not, ◌⊎◌, ◌==◌, ◌||◌, ◌&&◌}
 use Rattle.std.specs.List.{list_any}
 use Rattle.std.specs.Option.{option_map_or}
 use Rattle.std.proofs.lemmas.Slice.Eq.{bytes_eq-Decides}
-use Rattle.std.proofs.lemmas.Bool.{and_from, and_parts, false≢true, not-true, or_cases}
+use Rattle.std.proofs.lemmas.Bool.{and_from, and_parts, false≢true, not-true, or_cases, eqb-true, not_from_false}
+use Rattle.std.proofs.Math.Bool.{or-true}
+use Rattle.jf_bytes.proofs.Tests.{equals_itself}
 use Rattle.const_pool.specs.References.{NameAndType}
 use Rattle.jvm_model.specs.declared.program.Program.{Program}
 use Rattle.jvm_model.specs.Classes.Load.{is_among}
@@ -12,12 +14,8 @@ use Rattle.jvm_model.specs.Classes.Lookup.{MemberPlace, is_subtype, method_at, p
 use Rattle.jvm_model.specs.Classes.Selection.{Overrides, directly, through, is_open, is_private, is_reached, overrides, package_at, passed_at, passes_on, same_package, signature_of, stands_below}
 use Rattle.class_index.specs.Members.{is_declared_as}
 use Rattle.class_linker.specs.LoadedClasses.{AreLoadedClasses, LoadedClasses, holds_class}
-use Rattle.class_index.proofs.OrderLemmas.{equal}
-use Rattle.class_linker.proofs.OverridingLaws.{IsBelow, below, declared, joined, or_true, same_signature}
+use Rattle.class_linker.proofs.OverridingLaws.{IsBelow, below, declared, joined, same_signature}
 use Rattle.class_linker.proofs.Subtypes.{above_has, apart, goes_on}
-
-not_false : (b : Bool) → b ≡ false → not b ≡ true
-not_false b h = ap not h
 
 five : (a b c d e : Bool) → (a && b && c && d && e) ≡ true → (a ≡ true) × (b ≡ true) × (c ≡ true) × (d ≡ true) × (e ≡ true)
 five true true true true e h = (refl, refl, refl, refl, h)
@@ -36,9 +34,6 @@ pub record IsOne (test : ℕ → Bool) (xs : List ℕ) : Type 0 where
   pub there : is_among class xs ≡ true
   pub passes : test class ≡ true
 
-equals_itself : (n : ℕ) → (n == n) ≡ true
-equals_itself n = grind (arith)
-
 one_of : (test : ℕ → Bool) (xs : List ℕ) → list_any test xs ≡ true → IsOne test xs
 one_of test [] h = absurd (false≢true h)
 one_of test (x ∷ xs) h = by (or_cases (test x) (list_any test xs) h) (one_of test xs)
@@ -47,15 +42,15 @@ one_of test (x ∷ xs) h = by (or_cases (test x) (list_any test xs) h) (one_of t
     by (inl k) rest = record { class = x; there = ap (λ b. b || is_among x xs) (equals_itself x); passes = k }
     by (inr k) rest =
         let one = rest k in
-        record { class = one.class; there = ap (λ b. (one.class == x) || b) one.there ∙ or_true (one.class == x); passes = one.passes }
+        record { class = one.class; there = ap (λ b. (one.class == x) || b) one.there ∙ or-true (one.class == x); passes = one.passes }
 
 any_of : (test : ℕ → Bool) (xs : List ℕ) (c : ℕ) → is_among c xs ≡ true → test c ≡ true → list_any test xs ≡ true
 any_of test [] c there h = absurd (false≢true there)
 any_of test (x ∷ xs) c there h = by (or_cases (c == x) (is_among c xs) there) (λ k. any_of test xs c k h)
   where
     by : ((c == x) ≡ true) ⊎ (is_among c xs ≡ true) → (is_among c xs ≡ true → list_any test xs ≡ true) → (test x || list_any test xs) ≡ true
-    by (inl same) rest = ap (λ b. b || list_any test xs) (ap test (sym (equal c x same)) ∙ h)
-    by (inr k) rest = ap (λ b. test x || b) (rest k) ∙ or_true (test x)
+    by (inl same) rest = ap (λ b. b || list_any test xs) (ap test (sym (eqb-true c x same)) ∙ h)
+    by (inr k) rest = ap (λ b. test x || b) (rest k) ∙ or-true (test x)
 
 module _ (p : Program) where
   pub stands : (m1 m2 : MemberPlace) → IsBelow p m1 m2 → stands_below p m1 m2 ≡ true
@@ -65,10 +60,10 @@ module _ (p : Program) where
 
   reached : (class : ℕ) (m : MemberPlace) → is_private p m ≡ false → (is_open p m ≡ true) ⊎ (same_package p class m.class ≡ true) → is_reached p class m ≡ true
   reached class m own (inl free) =
-      and_from (not (is_private p m)) (is_open p m || same_package p class m.class) (not_false (is_private p m) own) (ap (λ b. b || same_package p class m.class) free)
+      and_from (not (is_private p m)) (is_open p m || same_package p class m.class) (not_from_false (is_private p m) own) (ap (λ b. b || same_package p class m.class) free)
   reached class m own (inr near) =
-      and_from (not (is_private p m)) (is_open p m || same_package p class m.class) (not_false (is_private p m) own)
-      (ap (λ b. is_open p m || b) near ∙ or_true (is_open p m))
+      and_from (not (is_private p m)) (is_open p m || same_package p class m.class) (not_from_false (is_private p m) own)
+      (ap (λ b. is_open p m || b) near ∙ or-true (is_open p m))
 
   not_private : (class : ℕ) (m : MemberPlace) → is_reached p class m ≡ true → is_private p m ≡ false
   not_private class m h = not-true (is_private p m) (and_parts (not (is_private p m)) (is_open p m || same_package p class m.class) h).0
@@ -107,7 +102,7 @@ module _ (p : Program) where
   if_passes : (m1 m2 : MemberPlace) (i : IsPassed m1 m2) → passes_on p m1 m2 i.m3 ≡ true
   if_passes m1 m2 i =
       all_five (stands_below p m1 i.m3) (stands_below p i.m3 m2) (not (is_private p i.m3)) (is_open p i.m3) (is_reached p i.m3.class m2)
-      (stands m1 i.m3 i.lower) (stands i.m3 m2 i.upper) (not_false (is_private p i.m3) i.own) i.free i.reaches
+      (stands m1 i.m3 i.lower) (stands i.m3 m2 i.upper) (not_from_false (is_private p i.m3) i.own) i.free i.reaches
 
   pub passed_if : (m1 m2 : MemberPlace) → list_any (passed_at p m1 m2) (supertypes p m1.class) ≡ true → IsPassed m1 m2
   passed_if m1 m2 h =
@@ -151,7 +146,7 @@ module _ (p : Program) where
     where
       by : (is_reached p m1.class m2 ≡ true) ⊎ IsPassed m1 m2 → (is_reached p m1.class m2 || list_any (passed_at p m1 m2) (supertypes p m1.class)) ≡ true
       by (inl k) = ap (λ b. b || list_any (passed_at p m1 m2) (supertypes p m1.class)) k
-      by (inr i) = ap (λ b. is_reached p m1.class m2 || b) (if_passed m1 m2 i) ∙ or_true (is_reached p m1.class m2)
+      by (inr i) = ap (λ b. is_reached p m1.class m2 || b) (if_passed m1 m2 i) ∙ or-true (is_reached p m1.class m2)
 
   -- what passes the test is in the relation
   pub tested : (m1 m2 : MemberPlace) → overrides p m1 m2 ≡ true → Overrides p m1 m2

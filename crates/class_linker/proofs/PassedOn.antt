@@ -3,12 +3,11 @@ use Rattle.std.proofs.Common.{◌≡◌, ℕ, Bool, true, false, ap, sym, refl, 
 use Rattle.std.specs.Prelude.{◌==◌, ◌&&◌, ◌||◌}
 use Rattle.std.specs.List.{list_any}
 use Rattle.std.specs.Option.{option_map_or}
-use Rattle.std.proofs.lemmas.Bool.{false≢true}
+use Rattle.std.proofs.lemmas.Bool.{false≢true, eqb-true}
 use Rattle.jvm_model.specs.declared.program.Program.{Program}
 use Rattle.jvm_model.specs.Classes.Lookup.{MemberPlace, is_subtype, method_at, supertypes}
 use Rattle.class_index.specs.Members.{is_declared_as}
 use Rattle.jvm_model.specs.Classes.Selection.{is_reached, overrides, passed_at, stands_below}
-use Rattle.class_index.proofs.OrderLemmas.{equal}
 use Rattle.class_linker.specs.Passing.{IsBetween, IsUnpassed}
 use Rattle.class_linker.specs.LoadedClasses.{AreLoadedClasses, LoadedClasses, holds_class}
 use Rattle.class_linker.proofs.OverridingLaws.{IsBelow, below, same_signature}
@@ -69,7 +68,7 @@ module _ (p : Program) where
   })
     where
       by : (b : Bool) → (class == above) ≡ b → (class == i.third.class) ≡ false
-      by true same = ap (λ c. c == i.third.class) (equal class above same) ∙ i.other
+      by true same = ap (λ c. c == i.third.class) (eqb-true class above same) ∙ i.other
       by false another = apart p rows are class above i.third.class has sub another i.above i.other
 
   neither : (a b c : Bool) → b ≡ false → c ≡ false → (a && (b || c)) ≡ false

@@ -1,18 +1,16 @@
 -- A search upwards: what is known of the classes that are left.
-use Rattle.std.proofs.Common.{◌≡◌, ℕ, ◌+◌, ◌<◌, true, List, ◌∷◌, length, drop, get_or, add-one, ap, sym, subst, ◌∙◌, arith}
-use Rattle.std.specs.Prelude.{Option, Some, None, ◌==◌, ◌||◌}
+use Rattle.std.proofs.Common.{◌≡◌, ℕ, ◌+◌, ◌<◌, true, List, ◌∷◌, length, drop, get_or, add-one, ap, sym, subst, ◌∙◌}
+use Rattle.std.specs.Prelude.{Option, Some, None, ◌||◌}
 use Rattle.std.specs.Option.{option_map_or}
 use Rattle.std.proofs.Math.Seq.{drop-cons}
 use Rattle.std.proofs.lemmas.Bool.{and_parts}
+use Rattle.jf_bytes.proofs.Tests.{equals_itself}
 use Rattle.jvm_model.specs.declared.program.Program.{Program}
 use Rattle.jvm_model.specs.Classes.Load.{is_among}
 use Rattle.jvm_model.specs.Classes.Lookup.{MemberPlace, first_in, place_in}
 use Rattle.class_linker.specs.Passing.{AreUnpassed, IsChain, IsUnpassed}
 use Rattle.class_linker.specs.LoadedClasses.{AreLoadedClasses, LoadedClasses, holds_all, holds_class}
 use Rattle.class_linker.proofs.PassedOn.{unpassed_above}
-
-equals_itself : (n : ℕ) → (n == n) ≡ true
-equals_itself n = grind (arith)
 
 -- those that are left
 pub left : (xs : List ℕ) (i : ℕ) → i < length xs → drop i xs ≡ get_or xs i 0 ∷ drop (i + 1) xs

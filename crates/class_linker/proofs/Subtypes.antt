@@ -2,13 +2,14 @@
 use Rattle.std.proofs.Common.{◌≡◌, ℕ, zero, suc, ◌<◌, ◌≤◌, Bool, true, false, List, [], ◌∷◌, ◌++◌, length, ap, sym, subst, refl, ◌∙◌, arith, length-append, inl, inr}
 use Rattle.std.specs.Prelude.{flat_map, ◌⊎◌, ◌==◌, ◌||◌, ◌&&◌}
 use Rattle.std.proofs.lemmas.List.Concat.{flat_map-append}
-use Rattle.std.proofs.lemmas.Bool.{false≢true, or_cases}
+use Rattle.std.proofs.lemmas.Bool.{false≢true, or_cases, eqb-true}
+use Rattle.std.proofs.Math.Bool.{or-true}
+use Rattle.jf_bytes.proofs.Tests.{equals_itself}
 use Rattle.jvm_model.specs.declared.program.Program.{Program}
 use Rattle.jvm_model.specs.Classes.Load.{is_among}
 use Rattle.jvm_model.specs.Classes.Lookup.{interfaces_of, is_subtype, superclass_of, supertypes, supertypes_within}
+use Rattle.jvm_model.proofs.Loading.Among.{among-append, among-front}
 use Rattle.class_linker.specs.LoadedClasses.{AreLoadedClasses, LoadedClasses, holds_all, holds_class, supertypes_in}
-use Rattle.class_linker.proofs.LoadLemmas.{among-append, among-front}
-use Rattle.class_index.proofs.OrderLemmas.{equal}
 use Rattle.class_linker.proofs.Walked.{bound, searched_among, supertypes_rows, supertypes_walked}
 
 -- ---- lists of lists
@@ -19,19 +20,12 @@ pub record IsIn (f : ℕ → List ℕ) (ds : List ℕ) (x : ℕ) : Type 0 where
   pub there : is_among class ds ≡ true
   pub within : is_among x (f class) ≡ true
 
-equals_itself : (n : ℕ) → (n == n) ≡ true
-equals_itself n = grind (arith)
-
 found_in_first : (f : ℕ → List ℕ) (d : ℕ) (ds : List ℕ) (x : ℕ) → is_among x (f d) ≡ true → IsIn f (d ∷ ds) x
 found_in_first f d ds x h = record { class = d; there = ap (λ b. b || is_among d ds) (equals_itself d); within = h }
 
-or_true : (b : Bool) → (b || true) ≡ true
-or_true true = refl
-or_true false = refl
-
 found_behind : (f : ℕ → List ℕ) (d : ℕ) (ds : List ℕ) (x : ℕ) → IsIn f ds x → IsIn f (d ∷ ds) x
 found_behind f d ds x i =
-    record { class = i.class; there = ap (λ b. (i.class == d) || b) i.there ∙ or_true (i.class == d); within = i.within }
+    record { class = i.class; there = ap (λ b. (i.class == d) || b) i.there ∙ or-true (i.class == d); within = i.within }
 
 pub among_flat : (f : ℕ → List ℕ) (ds : List ℕ) (x : ℕ) → is_among x (flat_map f ds) ≡ true → IsIn f ds x
 among_flat f [] x h = absurd (false≢true h)
@@ -48,9 +42,9 @@ flat_among f (e ∷ ds) d x there h = by (d == e) refl there (λ k. flat_among f
   where
     by : (b : Bool) → (d == e) ≡ b → (b || is_among d ds) ≡ true → (is_among d ds ≡ true → is_among x (flat_map f ds) ≡ true)
         → is_among x (f e ++ flat_map f ds) ≡ true
-    by true same k rest = among-front x (f e) (flat_map f ds) (ap (λ c. is_among x (f c)) (sym (equal d e same)) ∙ h)
+    by true same k rest = among-front x (f e) (flat_map f ds) (ap (λ c. is_among x (f c)) (sym (eqb-true d e same)) ∙ h)
     by false other k rest =
-        among-append x (f e) (flat_map f ds) ∙ (ap (λ b. is_among x (f e) || b) (rest k) ∙ or_true (is_among x (f e)))
+        among-append x (f e) (flat_map f ds) ∙ (ap (λ b. is_among x (f e) || b) (rest k) ∙ or-true (is_among x (f e)))
 
 flat_length : (f : ℕ → List ℕ) (ds : List ℕ) (d : ℕ) → is_among d ds ≡ true → length (f d) ≤ length (flat_map f ds)
 flat_length f [] d there = absurd (false≢true there)
@@ -58,7 +52,7 @@ flat_length f (e ∷ ds) d there = by (d == e) refl there (flat_length f ds d)
   where
     by : (b : Bool) → (d == e) ≡ b → (b || is_among d ds) ≡ true → (is_among d ds ≡ true → length (f d) ≤ length (flat_map f ds))
         → length (f d) ≤ length (f e ++ flat_map f ds)
-    by true same k rest = subst (λ c. length (f d) ≤ length (f c ++ flat_map f ds)) (equal d e same) (omega (arith, length-append (f d) (flat_map f ds)))
+    by true same k rest = subst (λ c. length (f d) ≤ length (f c ++ flat_map f ds)) (eqb-true d e same) (omega (arith, length-append (f d) (flat_map f ds)))
     by false other k rest = omega (arith, length-append (f e) (flat_map f ds), rest k)
 
 all_at : (rows : LoadedClasses) (xs : List ℕ) (d : ℕ) → holds_all rows xs ≡ true → is_among d xs ≡ true → holds_class rows d ≡ true
@@ -77,7 +71,7 @@ all_at rows (x ∷ xs) d all there = by (d == x) refl there (λ k. all_at rows x
         behind false h = absurd (false≢true h)
 
     by : (b : Bool) → (d == x) ≡ b → (b || is_among d xs) ≡ true → (is_among d xs ≡ true → holds_class rows d ≡ true) → holds_class rows d ≡ true
-    by true same k rest = ap (holds_class rows) (equal d x same) ∙ first (holds_class rows x) (holds_all rows xs) all
+    by true same k rest = ap (holds_class rows) (eqb-true d x same) ∙ first (holds_class rows x) (holds_all rows xs) all
     by false other k rest = rest k
 
 -- ---- above a class that has a row
@@ -127,7 +121,7 @@ module _ (p : Program) (rows : LoadedClasses) (are : AreLoadedClasses p rows) wh
       → is_among x (supertypes p d) ≡ true → is_among x (supertypes p c) ≡ true
   above_direct c d x has there h =
       ap (is_among x) (stepped c has)
-      ∙ (ap (λ b. (x == c) || b) (flat_among (supertypes p) (interfaces_of p c ++ superclass_of p c) d x there h) ∙ or_true (x == c))
+      ∙ (ap (λ b. (x == c) || b) (flat_among (supertypes p) (interfaces_of p c ++ superclass_of p c) d x there h) ∙ or-true (x == c))
 
   pub direct_has : (c d : ℕ) → holds_class rows c ≡ true → is_among d (interfaces_of p c ++ superclass_of p c) ≡ true → holds_class rows d ≡ true
   direct_has c d has there =
@@ -162,7 +156,7 @@ module _ (p : Program) (rows : LoadedClasses) (are : AreLoadedClasses p rows) wh
 
       by : ((x == c) ≡ true) ⊎ (is_among x (flat_map (supertypes_within p n) (interfaces_of p c ++ superclass_of p c)) ≡ true)
           → ((d y : ℕ) → holds_class rows d ≡ true → is_among y (supertypes_within p n d) ≡ true → (y ≡ d) ⊎ IsBelow d y) → (x ≡ c) ⊎ IsBelow c x
-      by (inl same) rest = inl (equal x c same)
+      by (inl same) rest = inl (eqb-true x c same)
       by (inr k) rest = inr (behind (among_flat (supertypes_within p n) (interfaces_of p c ++ superclass_of p c) x k) rest)
 
   climbs : (c x : ℕ) → holds_class rows c ≡ true → is_subtype p c x ≡ true → (x ≡ c) ⊎ IsBelow c x
@@ -194,4 +188,4 @@ module _ (p : Program) (rows : LoadedClasses) (are : AreLoadedClasses p rows) wh
       by true e =
           let more = fewer_above c x has sub other in
           let less = fewer_above x y (above_has c x has sub) then another in
-          absurd (omega (arith, more, less, ap (λ k. length (supertypes p k)) (equal c y e)))
+          absurd (omega (arith, more, less, ap (λ k. length (supertypes p k)) (eqb-true c y e)))

@@ -4,8 +4,9 @@ use Rattle.std.specs.Prelude.{MatchBool}
 use Rattle.std.specs.List.{AllByRecursion}
 use Rattle.std.specs.Option.{ok_or, option_and_then, option_map_or}
 use Rattle.std.specs.Result.{result_ok}
-use Rattle.std.proofs.lemmas.Bool.{false≢true}
 use Rattle.std.proofs.lemmas.List.{length-map}
+use Rattle.jf_bytes.proofs.Options.{is_some_parts}
+use Rattle.jf_bytes.proofs.Lists.{slice_get-front}
 use Rattle.const_pool.specs.declared.class.ClassFile.{ClassFile}
 use Rattle.const_pool.specs.declared.class.Member.{Member}
 use Rattle.const_pool.specs.declared.class.Attribute.{Attribute}
@@ -20,16 +21,12 @@ use Rattle.code_model.specs.declared.laying.Homes.{Homes}
 use Rattle.jvm_model.specs.declared.event.Mark.{Mark}
 use Rattle.jvm_model.specs.declared.event.Mark.TheVariants.{Off, Plain, Root}
 use Rattle.jvm_model.specs.Rewriting.Images.{all_off, next_number, IsMemberImage, AreMemberImages, IsOriginal, IsRewritten}
-use Rattle.jvm_model.proofs.Images.ImagePools.{slice_get-more, named_text-more, named_class-more}
+use Rattle.jvm_model.proofs.Images.ImagePools.{named_text-more, named_class-more}
 use Rattle.jvm_model.proofs.Soundness.PoolTexts.{have-texts, named-there}
 use Rattle.class_shape.specs.ClassShapes.{Heading, HasSameShape, heading_of, shape_in}
 use Rattle.class_shape.specs.Swaps.{IsSomeImage}
 
 -- ---- what the pool names, with more entries behind
-
-some-of : {A : Type 0} (o : Option A) → is_some o ≡ true → (x : A) × (o ≡ Some x)
-some-of None h = absurd (false≢true h)
-some-of (Some x) h = (x, refl)
 
 text-found : (o : Option Const) → option_map_or is_utf8 o false ≡ true → is_some (result_ok (ok_or (option_and_then entry_of o) BadIndex >>= text_entry)) ≡ true
 text-found (Some (const.Utf8 t)) h = refl
@@ -38,7 +35,7 @@ text-found None h = absurd cc
 
 text-same : (pool more : List Const) (i : ℕ) → Names is_utf8 pool i → named_text pool i ≡ named_text (pool ++ more) i
 text-same pool more i named =
-    let text = some-of (named_text pool i) (text-found (slice_get pool i) named) in
+    let text = is_some_parts (named_text pool i) (text-found (slice_get pool i) named) in
     text.1 ∙ sym (named_text-more pool more i text.0 text.1)
 
 gap-named : (pool : List Const) (i : ℕ) → slice_get pool i ≡ Some const.Gap → named_class pool i ≡ None
@@ -46,14 +43,14 @@ gap-named pool i e = ap (λ o. result_ok (ok_or (option_and_then entry_of o) Bad
 
 named-same : (pool more : List Const) (i : ℕ) → IsPool pool → Names is_class pool i → named_class pool i ≡ named_class (pool ++ more) i
 named-same pool more i formed named =
-    let name = some-of (named_class pool i) (named-there pool (have-texts pool formed) i named) in
+    let name = is_some_parts (named_class pool i) (named-there pool (have-texts pool formed) i named) in
     name.1 ∙ sym (named_class-more pool more i name.0 name.1)
 
 -- 0 names nothing
 class-same : (pool more : List Const) (i : ℕ) → IsPool pool → (i ≡ 0) ⊎ Names is_class pool i → named_class pool i ≡ named_class (pool ++ more) i
 class-same pool more i formed (inl none) =
     let gap : slice_get pool i ≡ Some const.Gap = ap (slice_get pool) none ∙ formed.first in
-    gap-named pool i gap ∙ sym (gap-named (pool ++ more) i (slice_get-more pool more i const.Gap gap))
+    gap-named pool i gap ∙ sym (gap-named (pool ++ more) i (slice_get-front pool more i const.Gap gap))
 class-same pool more i formed (inr named) = named-same pool more i formed named
 
 classes-same : (pool more : List Const) (is : List ℕ) → IsPool pool → AllByRecursion (λ i. IsU2 i × Names is_class pool i) is

@@ -1,8 +1,8 @@
 -- The stages of a field descriptor are right: reading ends with a kind exactly where the grammar has the text with it.
 use Rattle.std.proofs.Common.{◌≡◌, ◌≢◌, ℕ, zero, suc, ◌+◌, ◌<◌, ◌≤◌, Bool, true, false, ltb, eqb, cond, List, [], ◌∷◌, ◌++◌, Option, Some, None, Result, Ok, Err, IfOk, codes, refl, sym, ap, subst, ◌∙◌, append_assoc, arith}
-use Rattle.std.specs.Option.{option_map}
 use Rattle.std.specs.List.{AllByRecursion}
 use Rattle.std.proofs.lemmas.Bool.{eqb-true, eqb-false, ne_eqb, ltb-true, lt-ltb}
+use Rattle.jf_bytes.proofs.Options.{map_parts}
 use Rattle.const_pool.specs.declared.descriptor.Kind.{Kind}
 use Rattle.const_pool.specs.declared.descriptor.Kind.TheVariants.{Int, Long, Ref, Byte, Bool as boolean, Char, Short, Float, Double}
 use Rattle.const_pool.specs.declared.descriptor.DescriptorError.{DescriptorError}
@@ -30,11 +30,6 @@ passed false x y e = absurd cc
 pub not_failed : {A : Type 0} (b : Bool) (o : Option A) (y : A) → cond b None o ≡ some y → (b ≡ false) × (o ≡ some y)
 not_failed true o y e = absurd cc
 not_failed false o y e = (refl, e)
-
--- a value that a map made
-pub mapped : {A B : Type 0} (f : A → B) (o : Option A) (y : B) → option_map f o ≡ Some y → (x : A) × (o ≡ Some x) × (f x ≡ y)
-mapped f (Some x) y e = (x, refl, cc)
-mapped f None y e = absurd cc
 
 abbrev pub field_behind : FieldStage → List ℕ → Option FieldStage
 field_behind stage units = behind field_step field_end stage units
@@ -132,7 +127,7 @@ dimensions_grow n text unit stage h e =
     let grown : IsFrontText Class (text ++ unit ∷ []) = (n, h.0, rw (h.1, unit_is) refl) in
     subst (λ (s : FieldStage). IsStageText s (text ++ unit ∷ [])) (some_is (Within Class) stage is) grown)
     (λ not e.
-    let m = mapped (λ (kind : Kind). Whole (array_kind n kind)) (letter_kind unit) stage e in
+    let m = map_parts (λ (kind : Kind). Whole (array_kind n kind)) (letter_kind unit) stage e in
     let field : IsField (text ++ unit ∷ []) (array_kind n m.0) = record {
       dimensions = n;
       most = h.0;

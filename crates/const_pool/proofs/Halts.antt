@@ -3,6 +3,7 @@ use Rattle.std.proofs.Common.{◌≡◌, ℕ, ◌+◌, ◌<◌, ◌^◌, List, [
 use Rattle.std.specs.Option.{option_and_then, ok_or}
 use Rattle.std.specs.List.{AllByRecursion}
 use Rattle.std.proofs.lemmas.List.{length-append, take_at, append-nil}
+use Rattle.jf_bytes.proofs.Options.{and_then_parts}
 use Rattle.const_pool.specs.declared.descriptor.DescriptorError.TheVariants.{BadDescriptor, NoMemory}
 use Rattle.const_pool.specs.Stages.{fault_told}
 use Rattle.const_pool.specs.Fronts.{IsFront, IsStuckAt, after_step, answer_from}
@@ -12,10 +13,6 @@ some x = Some x
 
 pub some_is : {A : Type 0} (x y : A) → some x ≡ some y → x ≡ y
 some_is x y e = cc
-
-pub and_then_some : {X Y : Type 0} (f : X → Option Y) (o : Option X) (y : Y) → option_and_then f o ≡ Some y → (x : X) × (o ≡ Some x) × (f x ≡ Some y)
-and_then_some f (Some x) y e = (x, refl, e)
-and_then_some f None y e = absurd cc
 
 and_then_from : {X Y : Type 0} (f : X → Option Y) (o : Option X) (x : X) (r : Option Y) → o ≡ Some x → f x ≡ r → option_and_then f o ≡ r
 and_then_from f o x r is e = rw is e
@@ -56,7 +53,7 @@ module _ {S A : Type 0} (step : S → ℕ → Option S) (ending : S → Option A
   pub behind-append : (stage : S) (front rest : List ℕ) (t : S) → behind stage front ≡ Some t → behind stage (front ++ rest) ≡ behind t rest
   behind-append stage [] rest t e = ap (λ (s : S). behind s rest) (some_is stage t e)
   behind-append stage (unit ∷ front) rest t e =
-      let next = and_then_some (λ s. behind s front) (step stage unit) t e in
+      let next = and_then_parts (λ s. behind s front) (step stage unit) t e in
       rw next.1 (behind-append next.0 front rest t next.2)
 
   -- what holds of a stage and the text before it, and is kept by each step
@@ -64,13 +61,13 @@ module _ {S A : Type 0} (step : S → ℕ → Option S) (ending : S → Option A
       → (stage last : S) (text units : List ℕ) → Of stage text → behind stage units ≡ Some last → Of last (text ++ units)
   behind_keeps Of keeps stage last text [] h e = subst (λ (t : List ℕ). Of last t) (sym (append-nil text)) (subst (λ (s : S). Of s text) (some_is stage last e) h)
   behind_keeps Of keeps stage last text (unit ∷ units) h e =
-      let next = and_then_some (λ s. behind s units) (step stage unit) last e in
+      let next = and_then_parts (λ s. behind s units) (step stage unit) last e in
       subst (Of last) (append_assoc text (unit ∷ []) units) (behind_keeps Of keeps next.0 last (text ++ unit ∷ []) units (keeps stage next.0 text unit h next.1) next.2)
 
   behind-answer : (stage : S) (at : ℕ) (units : List ℕ) (t : S) (answer : A) → behind stage units ≡ Some t → ending t ≡ Some answer → answer_from step ending stage at units ≡ Ok answer
   behind-answer stage at [] t answer e ends = rw (some_is stage t e, ends) refl
   behind-answer stage at (unit ∷ units) t answer e ends =
-      let next = and_then_some (λ s. behind s units) (step stage unit) t e in
+      let next = and_then_parts (λ s. behind s units) (step stage unit) t e in
       rw next.1 (behind-answer next.0 (at + 1) units t answer next.2 ends)
 
   -- the stage that an answer comes from

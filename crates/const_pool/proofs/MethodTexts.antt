@@ -4,6 +4,7 @@ use Rattle.std.specs.List.{AllByRecursion}
 use Rattle.std.proofs.lemmas.Bool.{eqb-true, ne_eqb, le-ltb, ltb-false}
 use Rattle.std.proofs.lemmas.List.{append-nil}
 use Rattle.std.proofs.lemmas.List.Sums.{sum_by-append, sum_by-cons}
+use Rattle.jf_bytes.proofs.Options.{map_parts, and_then_parts}
 use Rattle.const_pool.specs.declared.descriptor.Kind.{Kind}
 use Rattle.const_pool.specs.declared.descriptor.Kind.TheVariants.{Int, Ref}
 use Rattle.const_pool.specs.declared.descriptor.Shape.{Shape}
@@ -19,8 +20,8 @@ use Rattle.const_pool.specs.declared.stages.Step.{Step}
 use Rattle.const_pool.specs.Descriptors.{IsField, AreFields, IsResult, IsMethod, IsMethodText, IsReadAs, slots, slot_count}
 use Rattle.const_pool.specs.Fronts.{IsStuckAt}
 use Rattle.const_pool.specs.Stages.{Reading, front_step, first_slots, to_stage, within_param, within_result, method_step, with_step, reading_step, reading_end, stage_end, array_kind, method_answer, Answers}
-use Rattle.const_pool.proofs.Halts.{EndsWith, CanEnd, behind, behind_keeps, and_then_some, some_is, answer_found, answer_only, answer_stuck}
-use Rattle.const_pool.proofs.FieldTexts.{chosen, passed, not_failed, mapped, field_behind, field_read, IsFrontText, IsStageText, front_grows, no_text}
+use Rattle.const_pool.proofs.Halts.{EndsWith, CanEnd, behind, behind_keeps, some_is, answer_found, answer_only, answer_stuck}
+use Rattle.const_pool.proofs.FieldTexts.{chosen, passed, not_failed, field_behind, field_read, IsFrontText, IsStageText, front_grows, no_text}
 use Rattle.const_pool.proofs.ParamSlots.{IsInside, HasSlots, first_unit, next_unit, slots_read}
 
 abbrev pub reading_at : Stage → List Kind → Reading
@@ -35,7 +36,7 @@ param_rest : (room : ℕ) (params : List Kind) (stage : FieldStage) (text rest :
     → method_behind (with_step params (within_param room stage)) (text ++ rest) ≡ method_behind (reading_at (stages.Params room) (params ++ kind ∷ [])) rest
 param_rest room params (Within front) [] rest kind e = absurd cc
 param_rest room params (Within front) (unit ∷ text) rest kind e =
-    let next = and_then_some (λ s. field_behind s text) (front_step front unit) (Whole kind) e in
+    let next = and_then_parts (λ s. field_behind s text) (front_step front unit) (Whole kind) e in
     rw (append-nil params, next.1) (param_rest room params next.0 text rest kind next.2)
 param_rest room params (Whole found) [] rest kind e = let same : found ≡ kind = cc in ap (λ (k : Kind). method_behind (reading_at (stages.Params room) (params ++ k ∷ [])) rest) same
 param_rest room params (Whole found) (unit ∷ text) rest kind e = absurd cc
@@ -50,7 +51,7 @@ param_read : (room : ℕ) (params : List Kind) (text rest : List ℕ) (kind : Ki
     → method_behind (reading_at (stages.Params room) params) (text ++ rest) ≡ method_behind (reading_at (stages.Params (room - slots kind)) (params ++ kind ∷ [])) rest
 param_read room params [] rest kind e fits = absurd cc
 param_read room params (unit ∷ text) rest kind e fits =
-    let next = and_then_some (λ s. field_behind s text) (front_step (Dimensions 0) unit) (Whole kind) e in
+    let next = and_then_parts (λ s. field_behind s text) (front_step (Dimensions 0) unit) (Whole kind) e in
     let count : slots kind ≡ first_slots unit = slots_read (first_slots unit) next.0 text kind (first_unit unit next.0 next.1) next.2 in
     let room_is : ltb room (first_slots unit) ≡ false = le-ltb room (first_slots unit) (subst (λ (n : ℕ). n ≤ room) count fits) in
     let others = param_rest (room - first_slots unit) params next.0 text rest kind next.2 in
@@ -75,7 +76,7 @@ result_rest : (params : List Kind) (stage : FieldStage) (text : List ℕ) (kind 
     → method_behind (with_step params (within_result stage)) text ≡ Some (reading_at (stages.Whole (Some kind)) params)
 result_rest params (Within front) [] kind e = absurd cc
 result_rest params (Within front) (unit ∷ text) kind e =
-    let next = and_then_some (λ s. field_behind s text) (front_step front unit) (Whole kind) e in
+    let next = and_then_parts (λ s. field_behind s text) (front_step front unit) (Whole kind) e in
     rw (append-nil params, next.1) (result_rest params next.0 text kind next.2)
 result_rest params (Whole found) [] kind e = let same : found ≡ kind = cc in rw (append-nil params, same) refl
 result_rest params (Whole found) (unit ∷ text) kind e = absurd cc
@@ -84,7 +85,7 @@ field_result_read : (params : List Kind) (text : List ℕ) (kind : Kind) → fie
     → method_behind (reading_at stages.Result params) text ≡ Some (reading_at (stages.Whole (Some kind)) params)
 field_result_read params [] kind e = absurd cc
 field_result_read params (unit ∷ text) kind e =
-    let next = and_then_some (λ s. field_behind s text) (front_step (Dimensions 0) unit) (Whole kind) e in
+    let next = and_then_parts (λ s. field_behind s text) (front_step (Dimensions 0) unit) (Whole kind) e in
     rw (not_void unit next.0 next.1, next.1) (result_rest params next.0 text kind next.2)
 
 result_read : (params : List Kind) (text : List ℕ) (result : Option Kind) → IsResult text result → method_behind (reading_at stages.Result params) text ≡ Some (reading_at (stages.Whole result) params)
@@ -178,7 +179,7 @@ params_lead room params text unit step h e =
     subst (λ (s : Step). Leads params s (text ++ unit ∷ [])) (some_is _ step is) next)
     (λ not e.
     let fits = not_failed _ _ _ e in
-    let m = mapped (within_param (room - first_slots unit)) (front_step (Dimensions 0) unit) step fits.1 in
+    let m = map_parts (within_param (room - first_slots unit)) (front_step (Dimensions 0) unit) step fits.1 in
     let grown = front_grows (Dimensions 0) [] unit m.0 no_text m.1 in
     let room_is : first_slots unit ≤ room = ltb-false room (first_slots unit) fits.0 in
     let count : slot_count params + first_slots unit + (room - first_slots unit) ≡ 255 = omega (arith, h.2, room_is) in
@@ -187,7 +188,7 @@ params_lead room params text unit step h e =
 
 param_lead : (room : ℕ) (front : Front) → NextLeads (stages.Param room front)
 param_lead room front params text unit step h e =
-    let m = mapped (within_param room) (front_step front unit) step e in
+    let m = map_parts (within_param room) (front_step front unit) step e in
     let grown = front_grows front h.1 unit m.0 h.4 m.1 in
     let next = param_leads 1 room params m.0 h.0 (h.1 ++ unit ∷ []) h.2 h.3 grown (next_unit front unit m.0 h.5 m.1) in
     subst (λ (s : Step). Leads params s (text ++ unit ∷ [])) m.2 (subst (Leads params (within_param room m.0)) (sym (regroup text h.0 h.1 unit h.6)) next)
@@ -208,14 +209,14 @@ result_lead params text unit step h e =
     } in
     subst (λ (s : Step). Leads params s (text ++ unit ∷ [])) (some_is _ step is) next)
     (λ not e.
-    let m = mapped within_result (front_step (Dimensions 0) unit) step e in
+    let m = map_parts within_result (front_step (Dimensions 0) unit) step e in
     let grown = front_grows (Dimensions 0) [] unit m.0 no_text m.1 in
     let next = result_leads params m.0 h.0 (unit ∷ []) h.1 h.2 grown in
     subst (λ (s : Step). Leads params s (text ++ unit ∷ [])) m.2 (subst (Leads params (within_result m.0)) (sym more) next))
 
 returned_leads : (front : Front) → NextLeads (stages.Returned front)
 returned_leads front params text unit step h e =
-    let m = mapped within_result (front_step front unit) step e in
+    let m = map_parts within_result (front_step front unit) step e in
     let grown = front_grows front h.1 unit m.0 h.4 m.1 in
     let next = result_leads params m.0 h.0 (h.1 ++ unit ∷ []) h.2 h.3 grown in
     subst (λ (s : Step). Leads params s (text ++ unit ∷ [])) m.2 (subst (Leads params (within_result m.0)) (sym (regroup text h.0 (codes ")" ++ h.1) unit h.5)) next)
@@ -230,7 +231,7 @@ stage_leads (stages.Whole result) params text unit step h e = absurd cc
 
 reading_grows : (reading next : Reading) (text : List ℕ) (unit : ℕ) → IsReadingText reading text → reading_step reading unit ≡ Some next → IsReadingText next (text ++ unit ∷ [])
 reading_grows reading next text unit h e =
-    let m = mapped (with_step reading.params) (method_step reading.stage unit) next e in
+    let m = map_parts (with_step reading.params) (method_step reading.stage unit) next e in
     subst (λ (r : Reading). IsReadingText r (text ++ unit ∷ [])) m.2 (stage_leads reading.stage reading.params text unit m.0 h m.1)
 
 stage_ended : (s : Stage) (params : List Kind) (text : List ℕ) (shape : Shape) → IsMethodStage s params text → stage_end s params ≡ Some shape → IsMethod text shape

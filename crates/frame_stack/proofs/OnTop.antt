@@ -1,6 +1,7 @@
 -- What is on top, where there may be no frame.
 use Rattle.std.proofs.Common.{◌≡◌, ℕ, ◌+◌, ◌-◌, ◌≤◌, ◌<◌, true, false, List, length, take, drop, refl, sym, ap, ◌∙◌, arith}
 use Rattle.std.specs.Prelude.{reverse, slice_get, Option, Some, None}
+use Rattle.std.proofs.lemmas.Option.{none-some}
 use Rattle.heap_objects.specs.declared.Value.{Value}
 use Rattle.heap_objects.specs.declared.Value.TheVariants.{Int, Long, Ref, Addr}
 use Rattle.frame_stack.specs.declared.entry.Entry.{Entry}
@@ -18,9 +19,6 @@ some-width (Int n) = omega arith
 some-width (Long n) = omega arith
 some-width (Ref n) = omega arith
 some-width (Addr n) = omega arith
-
-none-some : {A : Type 0} (v : A) → Some v ≡ None → ⊥
-none-some v e = cc
 
 -- ---- one more
 
@@ -45,7 +43,7 @@ pub is-popped : (top : Option Entry) (below : List Entry) (below_capacity : ℕ)
     → Some v ≡ slice_get (operands_of (reverse (drop (top_floor top) slots))) 0 → n ≡ length slots - width v
     → IsPopped top below below_capacity slots capacity spare n
 is-popped None below below_capacity slots capacity spare v n h top at =
-    absurd (none-some v (top ∙ ap (λ (xs : List (Option Value)). slice_get (operands_of (reverse (drop 0 xs))) 0) h.frames))
+    absurd (none-some v (sym (top ∙ ap (λ (xs : List (Option Value)). slice_get (operands_of (reverse (drop 0 xs))) 0) h.frames)))
 is-popped (Some e) below below_capacity slots capacity spare v n h top at =
     let own = operand_slots e (drop e.base slots) in
     let here : Some v ≡ slice_get (operands_of own) 0 = top ∙ ap (λ xs. slice_get (operands_of xs) 0) (sym (operand-slots-is e slots)) in

@@ -1,8 +1,8 @@
 -- What is answered for the generated classes: their program, unless an action names no method.
 use Rattle.std.proofs.Common.{◌≡◌, ℕ, ◌+◌, ◌≤◌, List, [], ◌∷◌, ◌++◌, length, map, None, Some, Ok, Err, refl, subst, length-append, arith}
 use Rattle.std.specs.Prelude.{Option, Result, IfErr}
-use Rattle.std.specs.List.{AllByRecursion}
 use Rattle.std.proofs.lemmas.Bool.{le-ltb}
+use Rattle.jf_bytes.proofs.Lists.{each_append}
 use Rattle.base_classes.specs.BuiltInFiles.{built_in_files}
 use Rattle.plan_text.specs.declared.plan.Action.{Action}
 use Rattle.plan_text.specs.declared.plan.Plan.{Plan}
@@ -22,14 +22,10 @@ use Rattle.generated_programs.proofs.FewMethods.{HasFewMethods, built_in-count, 
 use Rattle.generated_programs.proofs.GeneratedFine.{generated-few, generated-fine, rows-fine}
 use Rattle.generated_programs.proofs.GeneratedMain.{main-found}
 
-each-append : {A : Type 0} (P : A → Type 0) (xs ys : List A) → AllByRecursion P xs → AllByRecursion P ys → AllByRecursion P (xs ++ ys)
-each-append P [] ys first second = second
-each-append P (x ∷ xs) ys first second = (first.0, each-append P xs ys first.1 second)
-
 few-numbered : (seed size : ℕ) → 1 ≤ size → size ≤ 200 → length (methods_numbered (classes_generated seed size ++ built_in_files)) ≤ 32768
 few-numbered seed size some most =
     let own = generated-few (program_rows seed size) (rows-fine seed size some most) in
-    let few = numbered-few 0 (classes_generated seed size ++ built_in_files) (each-append HasFewMethods (classes_generated seed size) built_in_files own built_in-few) in
+    let few = numbered-few 0 (classes_generated seed size ++ built_in_files) (each_append HasFewMethods (classes_generated seed size) built_in_files own built_in-few) in
     omega (arith, few, length-append (classes_generated seed size) built_in_files, generated-count seed size, built_in-count)
 
 count-fine : (seed size : ℕ) (plan : Plan) → 1 ≤ size → size ≤ 200 → count_fault (generated_program seed size plan) ≡ None

@@ -2,6 +2,7 @@
 use Rattle.std.proofs.Common.{◌≡◌, ℕ, zero, suc, ◌+◌, ◌*◌, ◌<◌, ◌≤◌, ◌^◌, false, List, [], ◌∷◌, ◌++◌, length, map, None, Some, refl, arith, lit≤}
 use Rattle.std.specs.Prelude.{◌≢◌}
 use Rattle.std.specs.List.{AllByRecursion, AllZip}
+use Rattle.jf_bytes.proofs.Lists.{each_push}
 use Rattle.const_pool.specs.declared.class.ClassFile.{ClassFile}
 use Rattle.const_pool.specs.declared.class.Member.{Member}
 use Rattle.const_pool.specs.declared.descriptor.Kind.TheVariants as kind
@@ -18,7 +19,6 @@ use Rattle.program_gen.specs.Programs.{constructor, run_method, entry_method, ma
 use Rattle.program_gen.proofs.DistinctNames.{own-names}
 use Rattle.program_gen.proofs.GeneratedFacts.{rows-fit}
 use Rattle.program_gen.proofs.MadeClasses.{IsWell, class-holds}
-use Rattle.program_gen.proofs.Pools.{each-push}
 use Rattle.admit_check.specs.Admission.{class_fault, classes_fault}
 use Rattle.admit_check.specs.Shapes.{has_twins}
 use Rattle.generated_programs.proofs.FewMethods.{HasFewMethods}
@@ -101,7 +101,7 @@ below-fine seed size zero fits = tt
 below-fine seed size (suc n) fits =
     let row = numbered_row n (choices_of seed size n) in
     let parts = split (rows_below seed size n) row fits in
-    each-push IsFineRowClass (rows_below seed size n) row (below-fine seed size n parts.0)
+    each_push IsFineRowClass (rows_below seed size n) row (below-fine seed size n parts.0)
     (numbered-class n (choices_of seed size n) (draw-short seed (5 * n + 1)) (draw-short seed (5 * n + 2)) parts.1)
   where
     split : (rows : List ClassRow) (row : ClassRow) → AllByRecursion FitsClass (rows ++ row ∷ []) → AllByRecursion FitsClass rows × FitsClass row
@@ -126,7 +126,7 @@ AreUnlike others names = AllByRecursion (λ name. AllByRecursion (λ other. othe
 unlike-push : (others : List (List ℕ)) (first : List ℕ) (names : List (List ℕ)) → AreUnlike others names → AllByRecursion (λ other. first ≢ other) names → AreUnlike (others ++ first ∷ []) names
 unlike-push others first [] each differ = tt
 unlike-push others first (name ∷ names) each differ =
-    (each-push (λ other. other ≢ name) others first each.0 differ.0, unlike-push others first names each.1 differ.1)
+    (each_push (λ other. other ≢ name) others first each.0 differ.0, unlike-push others first names each.1 differ.1)
 
 zip-push : (names : List (List ℕ)) (earlier : List ClassFile) (name : List ℕ) (c : ClassFile) → AllZip HasOwnName names earlier → HasOwnName name c
     → AllZip HasOwnName (names ++ name ∷ []) (earlier ++ c ∷ [])

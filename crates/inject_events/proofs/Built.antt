@@ -1,8 +1,9 @@
 -- The codes of a small class can be read, and each of its methods has one.
-use Rattle.std.proofs.Common.{◌≡◌, ℕ, zero, suc, true, List, [], ◌∷◌, Some, refl, sym, ap, subst, arith}
+use Rattle.std.proofs.Common.{◌≡◌, ℕ, suc, true, List, [], ◌∷◌, Some, refl, sym, ap, subst, arith}
 use Rattle.std.specs.Prelude.{slice_get, is_some, IfSome}
 use Rattle.std.specs.List.{AllByRecursion}
 use Rattle.std.proofs.lemmas.Option.{same_Some, none-some}
+use Rattle.jf_bytes.proofs.Lists.{each_at}
 use Rattle.const_pool.specs.declared.pool.Const.{Const}
 use Rattle.const_pool.specs.declared.class.ClassFile.{ClassFile}
 use Rattle.const_pool.specs.declared.class.CodeAttribute.{CodeAttribute}
@@ -15,11 +16,6 @@ use Rattle.jvm_model.specs.Basis.Methods.{code_among, code_of}
 use Rattle.jvm_model.specs.Rewriting.StandsFor.{IsBuilt}
 use Rattle.inject_events.specs.Answers.{IsReadableBody, IsReadableClass, MarkedHaveCode}
 
-holds_at : {A : Type 0} (P : A → Type 0) (xs : List A) (k : ℕ) (x : A) → AllByRecursion P xs → slice_get xs k ≡ Some x → P x
-holds_at P [] k x all at = absurd (none-some x at)
-holds_at P (y ∷ ys) zero x all at = subst P (same_Some y x at) all.0
-holds_at P (y ∷ ys) (suc k) x all at = holds_at P ys k x all.1 at
-
 -- the code of a method of a class file is formed
 pub IsCode-among : (pool : List Const) (attributes : List Attribute) (code : CodeAttribute) → AllByRecursion (IsMethodAttribute pool) attributes → code_among attributes ≡ Some code → IsCode pool code
 IsCode-among pool [] code formed coded = absurd (none-some code coded)
@@ -30,7 +26,7 @@ IsCode-among pool (Code name old ∷ rest) code formed coded = subst (IsCode poo
 body-built : (c : ClassFile) (k : ℕ) (m : Member) → IsBuilt c → slice_get c.methods k ≡ Some m → IfSome (code_of m) IsReadableBody
 body-built c k m built at =
     let method = built.small.methods k m at in
-    let formed = holds_at (IsMember IsMethodAttribute c.pool) c.methods k m built.formed.methods at in
+    let formed = each_at (IsMember IsMethodAttribute c.pool) c.methods k m built.formed.methods at in
     let code = IsCode-among c.pool m.attributes method.code formed.attributes method.coded in
     subst (λ o. IfSome o IsReadableBody) (sym method.coded) (record {
       readable = record { some = code.some; short = omega (arith, code.short); reading = method.small.reading; reads = method.small.reads };

@@ -6,6 +6,7 @@ use Rattle.std.specs.Option.{option_map_or, option_and_then, ok_or}
 use Rattle.std.specs.Result.{result_ok}
 use Rattle.std.proofs.lemmas.Bool.{eqb-false, ltb-false}
 use Rattle.std.proofs.lemmas.List.{length-append, length-map}
+use Rattle.jf_bytes.proofs.Lists.{each_weaker}
 use Rattle.const_pool.specs.declared.class.ClassFile.{ClassFile}
 use Rattle.const_pool.specs.declared.class.Member.{Member}
 use Rattle.const_pool.specs.declared.class.CodeAttribute.{CodeAttribute}
@@ -38,7 +39,6 @@ use Rattle.stackmap_shift.specs.declared.error.FrameError.{FrameError}
 use Rattle.stackmap_shift.specs.declared.frames.Frame.{Frame}
 use Rattle.stackmap_shift.specs.Frames.{frames_of}
 use Rattle.stackmap_shift.specs.Spelling.{table_bytes}
-use Rattle.inject_events.specs.declared.error.Cause.{Cause}
 use Rattle.inject_events.specs.declared.error.Cause.TheVariants as cause
 use Rattle.inject_events.specs.declared.error.InjectError.{InjectError}
 use Rattle.inject_events.specs.declared.image.Image.{Image}
@@ -49,7 +49,7 @@ use Rattle.inject_events.specs.declared.settings.Table.{Table}
 use Rattle.inject_events.specs.declared.settings.Table.TheVariants as table
 use Rattle.inject_events.specs.Answers.{IsReadableCode, IsReadableBody, HasReadableBody, HaveReadableBodies, IsReadableClass, IsImageAnswer}
 use Rattle.inject_events.specs.Probing.{first_marked}
-use Rattle.inject_events.specs.Rewriting.{Refused, instrs_in, laid_version_of, version_of, version_cause, far_cause, cause_of_coded, cause_of_method, image_of_coded, image_of_method, images_from, refused_here, refused_from, is_full_pool, refused_of_marked, refused_of, original_of, image_of_marked, image_of}
+use Rattle.inject_events.specs.Rewriting.{instrs_in, laid_version_of, version_of, version_cause, far_cause, cause_of_coded, cause_of_method, image_of_coded, image_of_method, images_from, refused_from, is_full_pool, refused_of_marked, refused_of, original_of, image_of_marked, image_of}
 use Rattle.inject_events.specs.Settings.{setting_of, probes_in, entry_in}
 use Rattle.jvm_model.specs.Rewriting.ImageTables.{last_frame, is_writable}
 use Rattle.inject_events.specs.Tables.{table_of, version_frames, framed_or_kept, moved_table, moved_raw, lacks_frames, added_table, added_tables}
@@ -59,12 +59,9 @@ use Rattle.inject_events.proofs.LaidBytes.{AreBytes, both, probe, laid, home-le,
 use Rattle.inject_events.proofs.Rooms.{IsMadeWhole-none, none_of}
 use Rattle.inject_events.proofs.Tabling.{length-code_bytes}
 use Rattle.inject_events.proofs.TailPools.{names-more, names-tail, IsPool-with_tail}
+use Rattle.inject_events.proofs.Refusals.{here-none}
 
 -- ---- parts of a class file, with more entries in the pool
-
-each-weaker : {A : Type 0} (P Q : A → Type 0) (xs : List A) → ((x : A) → P x → Q x) → AllByRecursion P xs → AllByRecursion Q xs
-each-weaker P Q [] weaker all = tt
-each-weaker P Q (x ∷ xs) weaker all = (weaker x all.0, each-weaker P Q xs weaker all.1)
 
 -- an index that names a text has one
 text-named : (o : Option Const) → option_map_or is_utf8 o false ≡ true → (t : List ℕ) × (result_ok (ok_or (option_and_then entry_of o) BadIndex >>= text_entry) ≡ Some t)
@@ -105,9 +102,9 @@ code-more pool more c is = record {
   short = is.short;
   code = is.code;
   handler_count = is.handler_count;
-  handlers = each-weaker (IsHandler pool) (IsHandler (pool ++ more)) c.handlers (handler-more pool more) is.handlers;
+  handlers = each_weaker (IsHandler pool) (IsHandler (pool ++ more)) c.handlers (handler-more pool more) is.handlers;
   attribute_count = is.attribute_count;
-  attributes = each-weaker (IsRaw pool) (IsRaw (pool ++ more)) c.attributes (raw-more pool more) is.attributes;
+  attributes = each_weaker (IsRaw pool) (IsRaw (pool ++ more)) c.attributes (raw-more pool more) is.attributes;
   whole = is.whole;
 }
 
@@ -135,7 +132,7 @@ member-more IsAttribute pool more m weaker is = record {
   descriptor = is.descriptor;
   described = names-more is_utf8 pool more m.descriptor is.described;
   count = is.count;
-  attributes = each-weaker (IsAttribute pool) (IsAttribute (pool ++ more)) m.attributes weaker is.attributes;
+  attributes = each_weaker (IsAttribute pool) (IsAttribute (pool ++ more)) m.attributes weaker is.attributes;
 }
 
 -- ---- the tables of a version
@@ -260,7 +257,7 @@ with-version : (pool more : List Const) (new : CodeAttribute) (attributes : List
 with-version pool more new [] is are = tt
 with-version pool more new (ConstantValue name index ∷ rest) is are = absurd are.0
 with-version pool more new (Code name old ∷ rest) is are =
-    ((are.0.0, named_text-more pool more name code_name are.0.1, is), each-weaker (IsMethodAttribute pool) (IsMethodAttribute (pool ++ more)) rest (method-more pool more) are.1)
+    ((are.0.0, named_text-more pool more name code_name are.0.1, is), each_weaker (IsMethodAttribute pool) (IsMethodAttribute (pool ++ more)) rest (method-more pool more) are.1)
 with-version pool more new (Other raw ∷ rest) is are = (method-more pool more (Other raw) are.0, with-version pool more new rest is are.1)
 
 -- as many attributes as before
@@ -300,10 +297,6 @@ method-formed c number Root m room is body none = coded-formed c number Root m (
 
 -- ---- all methods
 
-here-none : (position : ℕ) (why : Option Cause) (later : Option Refused) → refused_here position why later ≡ None → (why ≡ None) × (later ≡ None)
-here-none position None later none = (refl, none)
-here-none position (Some why) later none = absurd cc
-
 abbrev members_of : List MethodImage → List Member
 members_of images = map (λ (i : MethodImage). i.member) images
 
@@ -339,13 +332,13 @@ marked-formed c first marks is readable room none =
       super_index = is.super_index;
       super_class = none-more is_class pool more c.super_class is.super_class;
       interface_count = is.interface_count;
-      interfaces = each-weaker (λ i. IsU2 i × Names is_class pool i) (λ i. IsU2 i × Names is_class (pool ++ more) i) c.interfaces (index-more pool more) is.interfaces;
+      interfaces = each_weaker (λ i. IsU2 i × Names is_class pool i) (λ i. IsU2 i × Names is_class (pool ++ more) i) c.interfaces (index-more pool more) is.interfaces;
       field_count = is.field_count;
-      fields = each-weaker (IsMember IsFieldAttribute pool) (IsMember IsFieldAttribute (pool ++ more)) c.fields (λ m. member-more IsFieldAttribute pool more m (field-more pool more)) is.fields;
+      fields = each_weaker (IsMember IsFieldAttribute pool) (IsMember IsFieldAttribute (pool ++ more)) c.fields (λ m. member-more IsFieldAttribute pool more m (field-more pool more)) is.fields;
       method_count = omega (arith, few, is.method_count);
       methods = methods-formed c first 0 marks c.methods room is.methods readable.bodies none;
       attribute_count = is.attribute_count;
-      attributes = each-weaker (IsClassAttribute pool) (IsClassAttribute (pool ++ more)) c.attributes (class-more pool more) is.attributes;
+      attributes = each_weaker (IsClassAttribute pool) (IsClassAttribute (pool ++ more)) c.attributes (class-more pool more) is.attributes;
     }
 
 pub IsClassFile-image : (c : ClassFile) (first : ℕ) (marks : List Mark) → IsClassFile c → IsReadableClass c → refused_of c first marks ≡ None → IsClassFile (image_of c first marks).class

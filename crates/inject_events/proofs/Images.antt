@@ -26,7 +26,6 @@ use Rattle.jvm_model.specs.Rewriting.Images.{is_off, all_off, IsMarkedMember, Is
 use Rattle.jvm_model.specs.Rewriting.ImageTables.{moved_lines, moved_variables, moved_frames_of, is_stack_map_table, image_attribute, added_stack_map_table, image_attributes}
 use Rattle.jvm_model.specs.Rewriting.Versions.{IsVersion, entry_probe, leave_probe, unwind_code, group_of, laid_version, code_with}
 use Rattle.jvm_model.proofs.Images.ImageSizes.{image-le}
-use Rattle.inject_events.specs.declared.error.Cause.{Cause}
 use Rattle.inject_events.specs.declared.error.Cause.TheVariants as cause
 use Rattle.inject_events.specs.declared.error.InjectError.{InjectError}
 use Rattle.inject_events.specs.declared.image.Image.{Image}
@@ -38,10 +37,11 @@ use Rattle.inject_events.specs.declared.settings.Table.TheVariants as table
 use Rattle.inject_events.specs.Answers.{IsReadableBody, HasReadableBody, HaveReadableBodies, IsReadableClass, MarkedHaveCode, IsImageAnswer}
 use Rattle.inject_events.specs.Settings.{tail_of, setting_of, probes_in}
 use Rattle.inject_events.specs.Probing.{laid_with, first_marked}
-use Rattle.inject_events.specs.Rewriting.{Refused, instrs_in, version_of, far_cause, version_cause, cause_of_coded, cause_of_method, image_of_coded, image_of_method, images_from, original_of, image_of_marked, image_of, refused_here, refused_from, is_full_pool, refused_of_marked, refused_of}
+use Rattle.inject_events.specs.Rewriting.{instrs_in, version_of, far_cause, version_cause, cause_of_coded, cause_of_method, image_of_coded, image_of_method, images_from, original_of, image_of_marked, image_of, refused_from, is_full_pool, refused_of_marked, refused_of}
 use Rattle.inject_events.specs.Tables.{is_named, moved_table, moved_raw, is_frame_table, has_frames, added_tables, version_tables}
 use Rattle.inject_events.proofs.InstrsIn.{instrs_in-is}
 use Rattle.inject_events.proofs.Rooms.{IsMadeWhole-none, none_of}
+use Rattle.inject_events.proofs.Refusals.{here-none}
 
 -- ---- the tables of a Code
 
@@ -174,10 +174,6 @@ member-image c number Plain m body has none = marked-coded c number Plain m (cod
 member-image c number Root m body has none = marked-coded c number Root m (code_of m) refl body (has refl) none refl
 
 -- ---- all methods
-
-here-none : (position : ℕ) (why : Option Cause) (later : Option Refused) → refused_here position why later ≡ None → (why ≡ None) × (later ≡ None)
-here-none position None later none = (refl, none)
-here-none position (Some why) later none = absurd cc
 
 member-images : (c : ClassFile) (number position : ℕ) (marks : List Mark) (methods : List Member) → length marks ≡ length methods → HaveReadableBodies methods → MarkedHaveCode marks methods
     → refused_from (setting_of c) number position marks methods ≡ None

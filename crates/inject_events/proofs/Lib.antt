@@ -17,3 +17,4 @@ pub mod WorkedTables
 mod WorkedLimits
 pub mod SmallTables
 pub mod SmallCodes
+pub mod Refusals

@@ -34,6 +34,7 @@ use Rattle.inject_events.specs.Rewriting.{Refused, instrs_in, code_around, versi
 use Rattle.inject_events.specs.Settings.{setting_of, probes_in, entry_in}
 use Rattle.inject_events.proofs.Rooms.{none_of}
 use Rattle.inject_events.proofs.Tabling.{length-code_bytes}
+use Rattle.inject_events.proofs.Refusals.{here-none}
 
 -- ---- layouts with probes of the same lengths
 
@@ -170,10 +171,6 @@ method-same s n m Plain method none = tried-coded s n m Plain method (code_of me
 method-same s n m Root method none = tried-coded s n m Root method (code_of method) refl none
 
 -- ---- the class
-
-here-none : (position : ℕ) (why : Option Cause) (later : Option Refused) → refused_here position why later ≡ None → (why ≡ None) × (later ≡ None)
-here-none position None later none = (refl, none)
-here-none position (Some why) later none = absurd cc
 
 none-here : (position : ℕ) (why : Option Cause) (later : Option Refused) → why ≡ None → later ≡ None → refused_here position why later ≡ None
 none-here position None later none rest = rest

@@ -7,6 +7,7 @@ use Rattle.std.specs.Option.{option_or, option_map_or}
 use Rattle.std.proofs.lemmas.Bool.{and_parts, ltb-true, leb-true, le-ltb, ne_eqb}
 use Rattle.std.proofs.lemmas.Int.{ints}
 use Rattle.std.proofs.lemmas.List.{length-append, length-map}
+use Rattle.std.proofs.Math.Bool.{or-true}
 use Rattle.const_pool.specs.declared.class.ClassFile.{ClassFile}
 use Rattle.const_pool.specs.declared.class.CodeAttribute.{CodeAttribute}
 use Rattle.const_pool.specs.declared.class.Handler.{Handler}
@@ -50,10 +51,6 @@ near a b le le' = by_sign (pos a -ℤ pos b) refl
     by_sign : (z : ℤ) → pos a -ℤ pos b ≡ z → is_near z ≡ true
     by_sign (pos n) e = let bound : n ≤ 32767 = omega (arith, ints) in grind (arith, ints)
     by_sign (negsuc n) e = let bound : n ≤ 32767 = omega (arith, ints) in grind (arith, ints)
-
-or-true : (b : Bool) → (b || true) ≡ true
-or-true true = refl
-or-true false = refl
 
 fits-near : (home : ℕ → ℕ) (place : ℕ) (w : Width) (operand : Arg) → ((t : ℕ) → home t ≤ 32767) → place ≤ 32767 → fits_branch home place w operand ≡ true
 fits-near home place w (Target t) homes within =

@@ -1,10 +1,11 @@
 -- How many bytes the tables of a version have, and that tables of few bytes are not full.
 use Rattle.std.proofs.Common.{◌≡◌, ℕ, ◌+◌, ◌*◌, ◌≤◌, Bool, true, false, cond, eqb, List, [], ◌∷◌, ◌++◌, length, Option, Some, None, refl, ap, ◌∙◌, arith}
-use Rattle.std.specs.Prelude.{Result, Ok, Err, map, nat_le, ◌&&◌, ◌||◌}
+use Rattle.std.specs.Prelude.{Result, Ok, Err, map, nat_le, ◌&&◌}
 use Rattle.std.specs.List.{flat_map}
-use Rattle.std.proofs.lemmas.Bool.{ne_eqb}
+use Rattle.std.proofs.lemmas.Bool.{ne_eqb, or_from}
 use Rattle.std.proofs.lemmas.Grind.{flat_map-append}
 use Rattle.std.proofs.lemmas.List.{length-append, length-map}
+use Rattle.std.proofs.Math.Bool.{and-false}
 use Rattle.const_pool.specs.declared.class.Raw.{Raw}
 use Rattle.const_pool.specs.ClassFile.{raw_bytes}
 use Rattle.code_model.specs.declared.laying.Homes.{Homes}
@@ -118,14 +119,6 @@ counted-le : (bytes : List ℕ) (r : Result (List Frame) FrameError) → frames_
 counted-le bytes (Ok frames) read = read-le bytes frames read
 counted-le bytes (Err fault) read = omega arith
 
-and-false : (b : Bool) → (b && false) ≡ false
-and-false true = refl
-and-false false = refl
-
-neither : (a b : Bool) → a ≡ false → b ≡ false → (a || b) ≡ false
-neither false b a-is b-is = b-is
-neither true b a-is b-is = absurd cc
-
 table-room : (s : Setting) (raw : Raw) → length raw.bytes ≤ 16384 → is_full_table s raw ≡ false
 table-room s raw few =
     let most = counted-le raw.bytes (frames_of raw.bytes) refl in
@@ -136,7 +129,7 @@ tables-room : (s : Setting) (raws : List Raw) → length (all_raws raws) ≤ 163
 tables-room s [] few = refl
 tables-room s (raw ∷ rest) few =
     let whole = length-append (raw_bytes raw) (all_raws rest) in
-    neither (is_full_table s raw) (has_full_table s rest) (table-room s raw (omega arith)) (tables-room s rest (omega arith))
+    or_from (is_full_table s raw) (has_full_table s rest) (table-room s raw (omega arith)) (tables-room s rest (omega arith))
 
 count-le : (raws : List Raw) → length raws ≤ length (all_raws raws)
 count-le [] = omega arith
@@ -150,5 +143,5 @@ pub frames-room : (s : Setting) (raws : List Raw) → length (flat_map raw_bytes
 frames-room s raws few =
     let some = count-le raws in
     let less : eqb (length raws) 65535 ≡ false = ne_eqb (length raws) 65535 (λ is. omega arith) in
-    neither (has_full_table s raws) (lacks_frames s raws && eqb (length raws) 65535) (tables-room s raws few)
+    or_from (has_full_table s raws) (lacks_frames s raws && eqb (length raws) 65535) (tables-room s raws few)
     (ap (λ (b : Bool). lacks_frames s raws && b) less ∙ and-false (lacks_frames s raws))

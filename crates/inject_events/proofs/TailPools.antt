@@ -7,11 +7,12 @@ use Rattle.std.proofs.lemmas.Bool.{and_parts, ltb-true}
 use Rattle.std.proofs.lemmas.Option.{none-some, same_Some}
 use Rattle.std.proofs.Math.Nat.{add-zero}
 use Rattle.std.proofs.lemmas.List.{length-append}
+use Rattle.jf_bytes.proofs.Lists.{slice_get-front}
 use Rattle.const_pool.specs.declared.pool.Const.{Const}
 use Rattle.const_pool.specs.declared.pool.Const.TheVariants.{Gap, Utf8, Integer, Float, Long, Double, Class, Text, Field, Method, InterfaceMethod, NameType}
 use Rattle.const_pool.specs.Pool.{Names, IsEntry, AreEntries, IsPool, is_utf8, is_class, is_name_type}
 use Rattle.const_pool.specs.Tail.{tail_entries, with_tail}
-use Rattle.jvm_model.proofs.Images.ImagePools.{slice_get-more, tail-entry}
+use Rattle.jvm_model.proofs.Images.ImagePools.{tail-entry}
 
 -- ---- with more entries behind them
 
@@ -133,7 +134,7 @@ tail-entries pool few =
 pub IsPool-with_tail : (pool : List Const) → IsPool pool → length pool + 18 ≤ 65535 → IsPool (with_tail pool)
 IsPool-with_tail pool is few = record {
   count = let longer = length-append pool (tail_entries (length pool)) in omega arith;
-  first = slice_get-more pool (tail_entries (length pool)) 0 Gap is.first;
+  first = slice_get-front pool (tail_entries (length pool)) 0 Gap is.first;
   entries = λ rest same. by_first pool rest refl same;
 }
   where

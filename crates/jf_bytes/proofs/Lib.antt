@@ -7,3 +7,6 @@ pub mod SpellingLemmas
 pub mod FrontLemmas
 pub mod UnicodeLemmas
 pub mod TextRow
+pub mod Lists
+pub mod Options
+pub mod Tests

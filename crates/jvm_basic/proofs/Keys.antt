@@ -6,11 +6,8 @@ use Rattle.std.proofs.Math.Seq.{drop-cons}
 use Rattle.std.proofs.lemmas.Bool.{lt-ltb, ltb-true}
 use Rattle.std.proofs.lemmas.Bool.Decides.{Decides-int_eq}
 use Rattle.std.proofs.lemmas.Int.{to_z-of_z}
-use Rattle.std.proofs.lemmas.Option.{slice_get_within, get_or_from_slice_get}
+use Rattle.std.proofs.lemmas.Option.{slice_get_within, get_or_from_slice_get, none-some}
 use Rattle.jvm_model.specs.Instructions.LocalRules.{target_at, target_of}
-
-none : {A : Type 0} (x : A) → Some x ≡ None → ⊥
-none x e = cc
 
 pub drop-at : {A : Type 0} (xs : List A) (i : ℕ) (x : A) → Some x ≡ slice_get xs i → drop i xs ≡ x ∷ drop (i + 1) xs
 drop-at xs i x e =
@@ -21,7 +18,7 @@ drop-at xs i x e =
 pub drop-past : {A : Type 0} (i : ℕ) (xs : List A) → None ≡ slice_get xs i → drop i xs ≡ []
 drop-past zero [] e = refl
 drop-past (suc i) [] e = refl
-drop-past zero (x ∷ xs) e = absurd (none x (sym e))
+drop-past zero (x ∷ xs) e = absurd (none-some x e)
 drop-past (suc i) (x ∷ xs) e = drop-past i xs e
 
 -- ---- what is left of the keys, from the target of the first of them on
@@ -54,7 +51,7 @@ pub ruleset keys = (found, passed, past, to_z-of_z)
 
 none-past : (targets : List ℕ) (k : ℕ) → None ≡ slice_get targets k → length targets ≤ k
 none-past [] k e = omega arith
-none-past (t ∷ targets) zero e = absurd (none t (sym e))
+none-past (t ∷ targets) zero e = absurd (none-some t e)
 none-past (t ∷ targets) (suc k) e = let rest = none-past targets k e in omega (arith, rest)
 
 pub at-there : (default : ℕ) (targets : List ℕ) (k target : ℕ) → Some target ≡ slice_get targets k

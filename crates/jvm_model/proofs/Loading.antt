@@ -2,3 +2,4 @@ pub mod LoadsAgain
 pub mod LoadedMoves
 pub mod Library
 pub mod LoadOrder
+pub mod Among

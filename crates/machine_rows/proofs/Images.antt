@@ -1,8 +1,7 @@
 -- The image of a class of an admitted program, from its bytes.
-use Rattle.std.proofs.Common.{◌≡◌, ℕ, zero, suc, ◌<◌, ◌≤◌, List, [], ◌∷◌, length, Option, Some, subst, sym}
-use Rattle.std.specs.Prelude.{slice_get}
-use Rattle.std.specs.List.{AllByRecursion}
-use Rattle.std.proofs.lemmas.Option.{same_Some, slice_get_within}
+use Rattle.std.proofs.Common.{◌≡◌, ℕ, ◌<◌, ◌≤◌, List, length, Option, Some, subst, sym}
+use Rattle.std.proofs.lemmas.Option.{slice_get_within}
+use Rattle.jf_bytes.proofs.Lists.{each_at}
 use Rattle.const_pool.specs.declared.class.ClassFile.{ClassFile}
 use Rattle.const_pool.specs.ClassFile.{IsClassFile, Spells}
 use Rattle.code_model.specs.declared.laying.Homes.{Homes}
@@ -18,23 +17,18 @@ use Rattle.jvm_machine.specs.Installs.{IsImageOf}
 use Rattle.program_fit.specs.Runnable.{IsAdmitted}
 use Rattle.machine_rows.specs.Ready.{IsImageFile, IsUnfit}
 
-at : {X : Type 0} (P : X → Type 0) (xs : List X) (i : ℕ) (x : X) → AllByRecursion P xs → slice_get xs i ≡ Some x → P x
-at P [] i x all e = absurd cc
-at P (y ∷ ys) zero x all e = subst P (same_Some y x e) all.0
-at P (y ∷ ys) (suc i) x all e = at P ys i x all.1 e
-
 pub few-methods : (p : Program) → IsAdmitted p → length p.methods ≤ 32768
 few-methods p a = a.is.sound.few
 
 pub readable : (p : Program) (class : ℕ) (c : ClassFile) → IsAdmitted p → class_at p class ≡ Some c → IsReadableClass c
-readable p class c a there = at IsReadableClass p.classes class c a.is.readable there
+readable p class c a there = each_at IsReadableClass p.classes class c a.is.readable there
 
 -- what `instrument` makes of the class
 pub image-file : (p : Program) (class : ℕ) (marks : List Mark) (c image : ClassFile) (homes : List (Option Homes)) → IsAdmitted p → class_at p class ≡ Some c → length marks ≡ length c.methods → MarkedHaveCode marks c.methods
     → (MarkedHaveCode marks c.methods → IsImage c (first_number p class) marks image homes) → (IsClassFile c → IsClassFile image) → IsImageFile p class marks image homes
 image-file p class marks c image homes a there counted have made formed = record {
   made = record { file = c; there = there; counted = counted; imaged = made have };
-  formed = formed (at IsClassFile p.classes class c a.is.sound.formed there);
+  formed = formed (each_at IsClassFile p.classes class c a.is.sound.formed there);
 }
 
 -- its bytes spell nothing else

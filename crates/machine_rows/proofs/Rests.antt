@@ -1,6 +1,7 @@
 -- Behind a turn that says so no step is in hand.
 use Rattle.std.proofs.Common.{◌≡◌, Bool, true, false, refl, sym, ap, ◌∙◌, subst}
 use Rattle.std.specs.Prelude.{◌&&◌, if◌then◌else◌}
+use Rattle.std.proofs.lemmas.Bool.{and_parts}
 use Rattle.jvm_machine.specs.declared.turn.Turn.{Turn}
 use Rattle.jvm_machine.specs.declared.turn.Turn.TheVariants as turn
 use Rattle.jvm_machine.specs.Turns.{Turns}
@@ -11,12 +12,8 @@ use Rattle.machine_rows.specs.Played.{IsPlayed}
 use Rattle.machine_rows.specs.Ready.{IsFresh, IsReady}
 use Rattle.machine_rows.specs.Resting.{rests_at, rests_behind}
 
-first : (a b : Bool) → (a && b) ≡ true → a ≡ true
-first true b e = refl
-first false b e = e
-
 last : (old : View) (b : Bool) → (is_resting old && has_ended old) ≡ b → is_resting (if b then old else step_rested (step_begun old)) ≡ true
-last old true e = first (is_resting old) (has_ended old) e
+last old true e = (and_parts (is_resting old) (has_ended old) e).0
 last old false e = refl
 
 turn-rests : (t : Turn) (old new : View) → Turns old t new → rests_at t ≡ true → is_resting new ≡ true

@@ -1,7 +1,8 @@
 -- A frame that goes on, unless its operands were too deep, and operands that are taken off.
 use Rattle.std.proofs.Common.{◌≡◌, ℕ, zero, suc, ◌+◌, ◌≤◌, Bool, true, false, List, [], ◌∷◌, length, drop, refl, ap, ◌∙◌, arith}
-use Rattle.std.specs.Prelude.{Some, nat_le, if◌then◌else◌}
+use Rattle.std.specs.Prelude.{Some, if◌then◌else◌}
 use Rattle.std.proofs.lemmas.List.{drop-drop}
+use Rattle.std.proofs.lemmas.Bool.{le-leb}
 use Rattle.heap_objects.specs.declared.Value.{Value}
 use Rattle.heap_objects.specs.declared.Value.TheVariants.{Int, Long, Ref, Addr}
 use Rattle.frame_stack.specs.FrameLists.{AreSound, FramesView, PlacedFrame, top_operands, with_frames, without_arguments, without_operand}
@@ -34,9 +35,6 @@ height-dropped zero o = omega arith
 height-dropped (suc n) [] = omega arith
 height-dropped (suc n) (v ∷ below) = let rest : height_of (drop n below) ≤ height_of below = height-dropped n below in omega arith
 
-pub within-limit : (a b : ℕ) → a ≤ b → nat_le a b ≡ true
-within-limit a b h = grind (arith)
-
 pub least-width : (v : Value) → 1 ≤ width v
 least-width (Int n) = omega arith
 least-width (Long n) = omega arith
@@ -63,7 +61,7 @@ pub fits-in-two : (v : Value) (n : ℕ) (fs : List PlacedFrame) → AreSound fs 
     → can_hold (v ∷ drop n (top_operands fs)) fs ≡ true
 fits-in-two v n [] sound least most = absurd (let no : 2 ≤ n → n ≤ 0 → ⊥ = λ a b. omega arith in no least most)
 fits-in-two v n (f ∷ fs) sound least most =
-    within-limit (height_of (v ∷ drop n f.operands)) f.max_stack
+    le-leb (height_of (v ∷ drop n f.operands)) f.max_stack
     (let lower : height_of (v ∷ drop n f.operands) ≤ height_of f.operands = lower-with v n f.operands least most in
     let all : height_of f.operands ≤ f.max_stack = sound.0.operands in omega arith)
 

@@ -1,7 +1,8 @@
 -- A load without a fault (JVM Specification 5.3): the name stands for a kind, whose class is loaded then.
-use Rattle.std.proofs.Common.{◌≡◌, ℕ, zero, suc, ◌+◌, ◌*◌, ◌≤◌, Bool, true, false, List, [], ◌∷◌, ◌++◌, ap, subst, refl, arith}
-use Rattle.std.specs.Prelude.{◌/◌, length, Option, Some, None, ◌==◌, ◌||◌, if◌then◌else◌}
+use Rattle.std.proofs.Common.{◌≡◌, ℕ, zero, suc, ◌+◌, ◌*◌, ◌≤◌, Bool, true, false, List, [], ◌∷◌, ◌++◌, ap, subst, refl, sym}
+use Rattle.std.specs.Prelude.{◌/◌, length, Option, Some, None, if◌then◌else◌}
 use Rattle.std.specs.Option.{option_map}
+use Rattle.std.proofs.lemmas.Option.{none-some}
 use Rattle.jvm_model.specs.declared.program.Program.{Program}
 use Rattle.jvm_model.specs.Basis.KindNumbers.{base_of_class, kind_number, user_count}
 use Rattle.jvm_model.specs.Classes.Kinds.{Element, Primitive, Named, kind_named, meaning_of, parts_named}
@@ -9,35 +10,22 @@ use Rattle.jvm_model.specs.Classes.Load.{Fault, NoClass, Circular, Loading, Ther
 use Rattle.jvm_model.specs.Basis.Programs.{class_named}
 use Rattle.member_selection.specs.Objects.{IsUsable}
 use Rattle.jvm_model.proofs.Soundness.SoundKinds.{name-usable}
+use Rattle.jvm_model.proofs.Loading.Among.{among-last}
 use Rattle.member_selection.proofs.KindLemmas.{of-sound}
-
-some-none : {A : Type 0} (x : A) → Some x ≡ None → ⊥
-some-none x e = cc
-
-equals_itself : (n : ℕ) → (n == n) ≡ true
-equals_itself n = grind (arith)
-
-among-last : (class : ℕ) (xs : List ℕ) → is_among class (xs ++ class ∷ []) ≡ true
-among-last class [] = ap (λ b. b || false) (equals_itself class)
-among-last class (x ∷ xs) = by (class == x) (among-last class xs)
-  where
-    by : (b : Bool) → is_among class (xs ++ class ∷ []) ≡ true → (b || is_among class (xs ++ class ∷ [])) ≡ true
-    by true rest = refl
-    by false rest = rest
 
 -- ---- the class of a name
 
 behind-there : (class : ℕ) (o : Option Fault) (loaded : List ℕ) → (unless o loaded (λ after. loading_done (after ++ class ∷ []))).fault ≡ None
     → is_among class (unless o loaded (λ after. loading_done (after ++ class ∷ []))).loaded ≡ true
 behind-there class None loaded none = among-last class loaded
-behind-there class (Some fault) loaded none = absurd (some-none fault none)
+behind-there class (Some fault) loaded none = absurd (none-some fault (sym none))
 
 module _ (path name loaded : List ℕ) (load : ℕ → Loading) where
   standing-there : (class : ℕ) (a b : Bool) → is_among class loaded ≡ a
       → (by_standing (if a then There else if b then Begun else Fresh class) name loaded (λ c. behind_needs c (load c))).fault ≡ None
       → is_among class (by_standing (if a then There else if b then Begun else Fresh class) name loaded (λ c. behind_needs c (load c))).loaded ≡ true
   standing-there class true b is none = is
-  standing-there class false true is none = absurd (some-none Circular none)
+  standing-there class false true is none = absurd (none-some Circular (sym none))
   standing-there class false false is none = behind-there class (load class).fault (load class).loaded none
 
   -- there is one, and it is loaded
@@ -47,7 +35,7 @@ module _ (path name loaded : List ℕ) (load : ℕ → Loading) where
     pub there : is_among class (by_standing (standing_of path loaded o) name loaded (λ c. behind_needs c (load c))).loaded ≡ true
 
   stands : (o : Option ℕ) → (by_standing (standing_of path loaded o) name loaded (λ c. behind_needs c (load c))).fault ≡ None → Stands o
-  stands None none = absurd (some-none (NoClass name) none)
+  stands None none = absurd (none-some (NoClass name) (sym none))
   stands (Some class) none =
       record { class = class; found = refl; there = standing-there class (is_among class loaded) (is_among class path) refl none }
 
@@ -86,7 +74,7 @@ by-element p n path loaded (Named own) none =
 
 by-depth : (p : Program) (depth : ℕ) (path name loaded : List ℕ) → (load_named p depth path name loaded).fault ≡ None
     → Loads p (meaning_of name).element (load_named p depth path name loaded)
-by-depth p zero path name loaded none = absurd (some-none Circular none)
+by-depth p zero path name loaded none = absurd (none-some Circular (sym none))
 by-depth p (suc n) path name loaded none = by-element p n path loaded (meaning_of name).element none
 
 pub loads : (p : Program) (name loaded : List ℕ) → (load_of p loaded name).fault ≡ None → Loads p (meaning_of name).element (load_of p loaded name)

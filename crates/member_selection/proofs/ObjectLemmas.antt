@@ -1,6 +1,6 @@
 -- The classes of a heap's objects stay loaded, and those of new objects are.
 use Rattle.std.proofs.Common.{◌≡◌, ℕ, zero, suc, ◌-◌, Bool, true, false, List, [], ◌∷◌, ◌++◌, sym, subst, refl}
-use Rattle.std.specs.Prelude.{Some, None, is_some, slice_get, ◌==◌, ◌||◌, if◌then◌else◌}
+use Rattle.std.specs.Prelude.{Some, None, is_some, slice_get, ◌==◌, if◌then◌else◌}
 use Rattle.std.specs.List.{AllByRecursion}
 use Rattle.std.specs.Option.{option_map}
 use Rattle.heap_objects.specs.declared.datum.Datum.{Datum}
@@ -11,22 +11,14 @@ use Rattle.heap_objects.specs.Heaps.{HeapView, kind_at, next_number, with_intern
 use Rattle.heap_objects.specs.Interning.{number_of, with_number}
 use Rattle.heap_objects.specs.Objects.{changed_at, kind_of, with_slot}
 use Rattle.jvm_model.specs.Basis.KindNumbers.{user_count}
-use Rattle.jvm_model.specs.Classes.Load.{is_among}
 use Rattle.jvm_model.specs.Basis.SharedState.{class_of_kind}
+use Rattle.jvm_model.proofs.Loading.Among.{among-front}
 use Rattle.class_linker.specs.Linkers.{IsLoaded, LinkerView}
 use Rattle.member_selection.specs.Attempts.{with_more}
 use Rattle.member_selection.specs.Objects.{IsUsable}
 use Rattle.member_selection.specs.Objects.{AreLoaded, IsOfLoaded}
 
 -- ---- with more classes loaded
-
-pub among-front : (class : ℕ) (xs ys : List ℕ) → is_among class xs ≡ true → is_among class (xs ++ ys) ≡ true
-among-front class [] ys is = absurd (let no : false ≡ true → ⊥ = λ e. cc in no is)
-among-front class (x ∷ xs) ys is = by (class == x) is (among-front class xs ys)
-  where
-    by : (b : Bool) → (b || is_among class xs) ≡ true → (is_among class xs ≡ true → is_among class (xs ++ ys) ≡ true) → (b || is_among class (xs ++ ys)) ≡ true
-    by true is rest = refl
-    by false is rest = rest is
 
 module _ (l : LinkerView) (more : List ℕ) where
   pub loaded_more : (class : ℕ) → IsLoaded l class → IsLoaded (with_more l more) class

@@ -13,9 +13,9 @@ use Rattle.jvm_model.specs.declared.instruction.SymbolicReference.TheVariants.{N
 use Rattle.jvm_model.proofs.Loading.LoadsAgain.{newly-loaded}
 use Rattle.member_selection.specs.Answers.{exception_numbered}
 use Rattle.jvm_model.specs.Instructions.Exceptions.{exception_name}
+use Rattle.jvm_model.proofs.Loading.Among.{among-front}
 use Rattle.member_selection.specs.Objects.{IsResolved, IsUsable}
 use Rattle.member_selection.proofs.Loads.{resolves}
-use Rattle.member_selection.proofs.ObjectLemmas.{among-front}
 
 -- a kind was found, and these classes were loaded for it
 pub record Finds (p : Program) (before name classes : List ℕ) (kind : ℕ) : Type 0 where

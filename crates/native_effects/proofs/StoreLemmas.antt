@@ -1,6 +1,7 @@
 -- Values that are put into slots one after the other.
-use Rattle.std.proofs.Common.{◌≡◌, ℕ, ◌+◌, ◌<◌, ◌≤◌, List, [], ◌∷◌, Bool, true, false, if◌then◌else◌, refl, sym, ap, ◌∙◌, arith, drop}
-use Rattle.std.specs.Prelude.{Some, slice_get, nat_lt}
+use Rattle.std.proofs.Common.{◌≡◌, ℕ, ◌+◌, ◌<◌, ◌≤◌, List, [], ◌∷◌, Bool, if◌then◌else◌, refl, sym, ap, ◌∙◌, drop}
+use Rattle.std.specs.Prelude.{Some, slice_get}
+use Rattle.std.proofs.lemmas.Bool.{le-ltb, lt-ltb}
 use Rattle.heap_objects.specs.declared.datum.Datum.{Datum}
 use Rattle.heap_objects.specs.Changes.{changed_if}
 use Rattle.heap_objects.specs.Heaps.{HeapView, has_slot_at, with_slot_at}
@@ -8,22 +9,16 @@ use Rattle.native_effects.specs.Inputs.Objects.{size_at}
 use Rattle.native_effects.specs.Effects.Making.{put_at, with_values}
 use Rattle.native_effects.proofs.ListLemmas.{drop_found}
 
-not_below : (n m : ℕ) → m ≤ n → nat_lt n m ≡ false
-not_below n m h = grind arith
-
-is_below : (n m : ℕ) → n < m → nat_lt n m ≡ true
-is_below n m h = grind arith
-
 -- there is no slot more
 pub stored_all : (object slot : ℕ) (values : List Datum) (h : HeapView) → size_at object h ≤ slot → with_values object slot values h ≡ h
 stored_all object slot [] h past = refl
 stored_all object slot (v ∷ values) h past =
-    ap (λ b. if b then with_values object (slot + 1) values (put_at object slot v h) else h) (not_below slot (size_at object h) past)
+    ap (λ b. if b then with_values object (slot + 1) values (put_at object slot v h) else h) (le-ltb slot (size_at object h) past)
 
 stores : (object slot : ℕ) (v : Datum) (values : List Datum) (h : HeapView) → slot < size_at object h
     → with_values object slot (v ∷ values) h ≡ with_values object (slot + 1) values (put_at object slot v h)
 stores object slot v values h within =
-    ap (λ b. if b then with_values object (slot + 1) values (put_at object slot v h) else h) (is_below slot (size_at object h) within)
+    ap (λ b. if b then with_values object (slot + 1) values (put_at object slot v h) else h) (lt-ltb slot (size_at object h) within)
 
 -- one value is put
 pub stored_one : (object slot place : ℕ) (values : List Datum) (v : Datum) (h new : HeapView) (done : Bool) → slot < size_at object h

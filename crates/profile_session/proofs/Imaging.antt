@@ -1,9 +1,10 @@
 -- What redefines a class: the image for the marks of now, and its bytes.
-use Rattle.std.proofs.Common.{◌≡◌, ℕ, zero, suc, ◌+◌, ◌≤◌, true, false, List, [], ◌∷◌, map, length, Option, Some, None, slice_get, refl, sym, ap, ap₂, subst, ◌∙◌, arith, zero-add}
+use Rattle.std.proofs.Common.{◌≡◌, ℕ, suc, ◌+◌, ◌≤◌, true, false, List, [], ◌∷◌, map, length, Option, Some, None, slice_get, refl, sym, ap, ap₂, subst, ◌∙◌, arith, zero-add}
 use Rattle.std.specs.Prelude.{is_some, unwrap_or}
-use Rattle.std.specs.List.{AllByRecursion, enumerate_from, range_with_len}
+use Rattle.std.specs.List.{enumerate_from, range_with_len}
 use Rattle.std.specs.Option.{option_map_or}
 use Rattle.std.proofs.lemmas.Option.{same_Some}
+use Rattle.jf_bytes.proofs.Lists.{each_at}
 use Rattle.const_pool.specs.declared.class.ClassFile.{ClassFile}
 use Rattle.const_pool.specs.declared.class.Member.{Member}
 use Rattle.const_pool.specs.ClassFile.{IsClassFile, Spells, class_bytes}
@@ -29,11 +30,6 @@ use Rattle.profile_session.specs.declared.swapping.Made.{Made}
 use Rattle.profile_session.specs.Images.{AreImageable, class_in, image_bytes-is, image_for, marks_for}
 use Rattle.profile_session.specs.Swapping.{IsImaged, IsMade, mark_at_position}
 use Rattle.profile_session.proofs.MethodPlaces.{number-coded}
-
-pub all-at : {A : Type 0} (P : A → Type 0) (xs : List A) (i : ℕ) (x : A) → AllByRecursion P xs → slice_get xs i ≡ Some x → P x
-all-at P [] i x all found = absurd (let no : None ≡ Some x = found in cc)
-all-at P (y ∷ xs) zero x all found = subst P (let one : Some y ≡ Some x → y ≡ x = λ e. cc in one found) all.0
-all-at P (y ∷ xs) (suc i) x all found = all-at P xs i x all.1 found
 
 -- ---- marks
 
@@ -78,7 +74,7 @@ pub few-methods : (p : Program) → AreImageable p → (class : ℕ) → length 
 few-methods p is class = by (slice_get p.classes class) refl where
   by : (o : Option ClassFile) → slice_get p.classes class ≡ o → length (unwrap_or o no_class).methods ≤ 65535
   by None e = omega arith
-  by (Some c) e = (all-at IsReadableClass p.classes class c is.readable e).few
+  by (Some c) e = (each_at IsReadableClass p.classes class c is.readable e).few
 
 pub imaged : (p : Program) (class : ℕ) (original : ClassFile) (first : ℕ) (marks : List Mark) (image : Image) → AreImageable p → slice_get p.classes class ≡ Some original
     → length marks ≡ length (class_in p class).methods → MarkedHaveCode marks (class_in p class).methods → first ≡ first_number p class
@@ -88,7 +84,7 @@ imaged p class original first marks image is there counted coded first_is image_
     let same : class_in p class ≡ original = ap (λ (o : Option ClassFile). unwrap_or o no_class) there in
     record {
       is = image_is ∙ ap₂ (λ (c : ClassFile) n. image_of c n marks) (sym same) first_is;
-      formed = formed (all-at IsClassFile p.classes class original is.formed there);
+      formed = formed (each_at IsClassFile p.classes class original is.formed there);
       made = record {
         file = original;
         there = there;
@@ -120,7 +116,7 @@ taken-as p r class m imageable is e refused =
     let spelled : Spells m.bytes.items is.image.class = record { spelled = bytes; formed = i.formed } in
     let one : i.made.file ≡ original = same_Some i.made.file original (sym i.made.there ∙ refused.is) in
     let imaged = subst (λ (c : ClassFile). IsImage c (first_number p class) (marks_for p r class) is.image.class is.image.homes) one i.made.imaged in
-    let formed = all-at IsClassFile p.classes class original imageable.formed refused.is in
+    let formed = each_at IsClassFile p.classes class original imageable.formed refused.is in
     let some : IsSomeImage original is.image.class = record { first = first_number p class; marks = marks_for p r class; homes = is.image.homes; made = imaged } in
     no-swap_fault original m.bytes.items is.image.class e (record { spelled = spelled; shape = image-shape original is.image.class formed some }) refused.fault
 

@@ -3,10 +3,9 @@ use Rattle.std.proofs.Common.{◌≡◌, ℕ, zero, suc, ◌+◌, Bool, true, fa
 use Rattle.std.specs.Prelude.{fold, filter}
 use Rattle.std.specs.List.{list_any, enumerate_from}
 use Rattle.std.proofs.lemmas.List.{append-nil}
+use Rattle.std.proofs.Math.Bool.{and-false}
 use Rattle.jvm_model.specs.declared.event.Act.{Act}
 use Rattle.jvm_model.specs.declared.event.Event.{Event}
-use Rattle.jvm_model.specs.declared.event.Mark.{Mark}
-use Rattle.jvm_model.specs.declared.event.Mark.TheVariants.{Off, Plain, Root}
 use Rattle.jvm_model.specs.declared.program.MethodPlace.{MethodPlace}
 use Rattle.jvm_model.specs.declared.program.Program.{Program}
 use Rattle.jvm_model.specs.Basis.Data.{World}
@@ -25,6 +24,7 @@ use Rattle.context_tree.specs.Seen.{Seen, first_seen, seen_act, seen_acts, seen_
 use Rattle.jvm_model.specs.Profiling.Swaps.{differs, same_mark}
 use Rattle.jvm_model.specs.Profiling.Targets.{operations_of}
 use Rattle.jvm_model.specs.Profiling.Revealed.{Revealed, changed_of, stand_of}
+use Rattle.call_revelation.proofs.Revelations.Shown.{same-itself}
 use Rattle.profile_session.specs.Keeping.{Kept, at_point, is_idle, kept_before, kept_end, marks_seen, methods_revealed, swapped_now}
 use Rattle.profile_session.specs.Standing.{AtRest}
 use Rattle.profile_session.proofs.Joins.{kept-seen}
@@ -32,20 +32,11 @@ use Rattle.profile_session.proofs.Steps.{begins, settles}
 
 -- ---- where nothing has changed no class is swapped
 
-mark-same : (m : Mark) → same_mark m m ≡ true
-mark-same Off = refl
-mark-same Plain = refl
-mark-same Root = refl
-
-and-false : (b : Bool) → (b && false) ≡ false
-and-false true = refl
-and-false false = refl
-
 no-difference : (p : Program) (code : ℕ → List (Operation Local)) (s : Standing) (class : ℕ) → differs p code s s class ≡ false
 no-difference p code s class = by (enumerate_from 0 p.methods) where
   by : (l : List (ℕ × MethodPlace)) → list_any (λ (e : ℕ × MethodPlace). e.1.class == class && not (same_mark (mark_in p code s e.0) (mark_in p code s e.0))) l ≡ false
   by [] = refl
-  by (e ∷ l) = ap₂ (λ a b. a || b) (ap (λ b. e.1.class == class && not b) (mark-same (mark_in p code s e.0)) ∙ and-false (e.1.class == class)) (by l)
+  by (e ∷ l) = ap₂ (λ a b. a || b) (ap (λ b. e.1.class == class && not b) (same-itself (mark_in p code s e.0)) ∙ and-false (e.1.class == class)) (by l)
 
 none-filtered : (test : ℕ → Bool) → ((n : ℕ) → test n ≡ false) → (l : List ℕ) → filter test l ≡ []
 none-filtered test never [] = refl

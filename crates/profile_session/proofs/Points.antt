@@ -1,6 +1,6 @@
 -- A point of a session's parts: this is revealed now, and the classes whose marks have changed were swapped.
-use Rattle.std.proofs.Common.{◌≡◌, ℕ, ◌≤◌, Bool, true, false, List, [], ◌∷◌, ◌++◌, length, refl, sym, ap, ap₂, subst, ◌∙◌, ◌<◌}
-use Rattle.std.specs.Prelude.{◌||◌, ◌==◌, Option, Some, None}
+use Rattle.std.proofs.Common.{◌≡◌, ℕ, ◌≤◌, true, false, List, [], ◌++◌, length, refl, sym, ap, ap₂, subst, ◌∙◌, ◌<◌}
+use Rattle.std.specs.Prelude.{Option, Some, None}
 use Rattle.std.specs.Option.{option_map_or}
 use Rattle.std.proofs.lemmas.List.{append-nil}
 use Rattle.std.proofs.lemmas.Option.{slice_get_within}
@@ -12,6 +12,7 @@ use Rattle.jvm_model.specs.Profiling.Points.{has_class}
 use Rattle.jvm_model.specs.Basis.Programs.{place_of_method}
 use Rattle.jvm_model.specs.Profiling.Revealed.{Revealed, changed_of, marks_of, with_loaded}
 use Rattle.jvm_model.specs.Soundness.Sound.{HasClass}
+use Rattle.jvm_model.proofs.Loading.Among.{among-front}
 use Rattle.class_linker.specs.Linkers.{LinkerView}
 use Rattle.possible_callees.specs.Tables.{IsPrefix}
 use Rattle.call_revelation.specs.declared.reveal.Reveal.{Reveal}
@@ -112,13 +113,6 @@ point-by x new r now shown stays is s = subst (λ (now : Revealed). IsPoint x no
 
 pub grown-same : (a b : Revealed) → b.loaded ≡ a.loaded → IsGrown a b
 grown-same a b e = λ class h. ap (is_among class) e ∙ h
-
-among-front : (class : ℕ) (xs ys : List ℕ) → is_among class xs ≡ true → is_among class (xs ++ ys) ≡ true
-among-front class [] ys h = absurd (let q : false ≡ true = h in cc)
-among-front class (x ∷ xs) ys h = by (class == x) h (among-front class xs ys) where
-  by : (b : Bool) → (b || is_among class xs) ≡ true → (is_among class xs ≡ true → is_among class (xs ++ ys) ≡ true) → (b || is_among class (xs ++ ys)) ≡ true
-  by true h rest = refl
-  by false h rest = rest h
 
 pub grown-front : (a b : Revealed) (loaded : List ℕ) → IsPrefix a.loaded loaded → b.loaded ≡ loaded → IsGrown a b
 grown-front a b loaded front e = λ class h. ap (is_among class) (e ∙ front.is) ∙ among-front class a.loaded front.rest h

@@ -1,5 +1,6 @@
 -- Steps that tell nothing, slices, and as many steps as are asked for.
 use Rattle.std.proofs.Common.{◌≡◌, ℕ, suc, ◌+◌, ◌-◌, ◌<◌, ◌≤◌, Bool, true, false, ◌&&◌, if◌then◌else◌, refl, sym, ap, subst, ◌∙◌, arith}
+use Rattle.std.proofs.Math.Bool.{and-false}
 use Rattle.jvm_model.specs.Profiling.Revealed.{marks_of}
 use Rattle.jvm_model.specs.Soundness.Whole.{IsWhole}
 use Rattle.jvm_machine.specs.declared.turn.Turn.{Turn}
@@ -20,10 +21,6 @@ use Rattle.profile_session.proofs.Turning.{begun-busy, begun-is, turn-went}
 
 pub busy-going : (x : Parts) → IsBusy x → IsGoingOn x.vm
 busy-going x busy = ap (λ b. b && has_ended x.vm) busy.busy
-
-and-false : (b : Bool) → (b && false) ≡ false
-and-false true = refl
-and-false false = refl
 
 pub rest-going : (x : Parts) → has_ended x.vm ≡ false → IsGoingOn x.vm
 rest-going x e = ap (λ b. is_resting x.vm && b) e ∙ and-false (is_resting x.vm)

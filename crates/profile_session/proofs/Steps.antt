@@ -43,9 +43,6 @@ use Rattle.profile_session.specs.Keeping.{Kept, at_point, kept_acts, kept_before
 use Rattle.profile_session.specs.Standing.{AtRest, InStep, next_step, told_before}
 use Rattle.profile_session.proofs.Joins.{event-seen, first-of, in-force, kept-seen, load-seen}
 
-pub zero-is : (n : ℕ) → (n == 0) ≡ true → n ≡ 0
-zero-is n e = grind (arith)
-
 events-behind : (marking : Marking) (w : World) (n : ℕ) → told_before marking w n ++ step_events marking w n ≡ events_of marking w n
 events-behind marking w zero = sym (events_of-zero marking w)
 events-behind marking w (suc n) = sym (events_of-suc marking w n)
@@ -259,7 +256,7 @@ module _ (w : World) (is : IsWhole w.program) (acts : List Act) (from : AreFrom 
       let resting = r.resting in
       let changes = (turn w n).changes in
       let parts = and_parts (v.passed == 0) (not v.delivered) resting in
-      let coming : to_come (clock_advanced v) ≡ changes = ap₂ (λ a b. drop a (turn b n).changes) (zero-is v.passed parts.0) r.same in
+      let coming : to_come (clock_advanced v) ≡ changes = ap₂ (λ a b. drop a (turn b n).changes) (eqb-true v.passed 0 parts.0) r.same in
       let no_loads : loads_of changes ≡ [] = first-of changes (run-ordered w (original w.program) n) ∙ (ap loads_first (sym coming) ∙ none_loaded) in
       sets-out es k (clock_advanced v) changes (record {
         same = r.same;
@@ -307,7 +304,7 @@ module _ (w : World) (is : IsWhole w.program) (acts : List Act) (from : AreFrom 
     changes = (turn w n).changes
 
     parts : (old.passed ≡ 0) × (old.delivered ≡ false)
-    parts = let ps = and_parts (old.passed == 0) (not old.delivered) is.first in (zero-is old.passed ps.0, not-true old.delivered ps.1)
+    parts = let ps = and_parts (old.passed == 0) (not old.delivered) is.first in (eqb-true old.passed 0 ps.0, not-true old.delivered ps.1)
 
     coming : to_come (clock_advanced old) ≡ changes
     coming = ap₂ (λ a b. drop a (turn b n).changes) parts.0 r.same

@@ -3,6 +3,7 @@ use Rattle.std.proofs.Common.{◌≡◌, ℕ, ◌+◌, Bool, true, false, not, �
 use Rattle.std.specs.Prelude.{filter, unwrap_or, Ok}
 use Rattle.std.specs.List.{AllByRecursion}
 use Rattle.std.proofs.lemmas.Bool.{and_parts, eqb-true}
+use Rattle.jf_bytes.proofs.Lists.{each_at}
 use Rattle.const_pool.specs.declared.class.ClassFile.{ClassFile}
 use Rattle.const_pool.specs.ClassFile.{IsClassFile, class_bytes}
 use Rattle.jvm_model.specs.declared.program.MethodPlace.{MethodPlace}
@@ -21,7 +22,7 @@ use Rattle.inject_events.proofs.Profilable.{refused_of-profilable}
 use Rattle.profile_session.specs.Images.{AreImageable, class_in, image_bytes, image_bytes-is, marks_for}
 use Rattle.profile_session.specs.Keeping.{swap_of}
 use Rattle.profile_session.specs.Sessions.{AreSwapsOf}
-use Rattle.profile_session.proofs.Imaging.{all-at, marks-coded, marks-count}
+use Rattle.profile_session.proofs.Imaging.{marks-coded, marks-count}
 use Rattle.profile_session.proofs.MethodPlaces.{class-of}
 use Rattle.profile_session.proofs.SwappedClasses.{pair-with}
 
@@ -39,13 +40,13 @@ module _ (p : Program) (is : AreImageable p) where
       let same : class_in p e.class ≡ c = ap (λ (o : Option ClassFile). unwrap_or o no_class) entry.found in
       let first = first_number p e.class in
       let marks = e.marks in
-      let readable = all-at IsReadableClass p.classes e.class c is.readable entry.found in
+      let readable = each_at IsReadableClass p.classes e.class c is.readable entry.found in
       let counted : length marks ≡ length c.methods =
       ap length entry.marks_are ∙ (marks-count p entry.now e.class ∙ ap (λ (c : ClassFile). length c.methods) same) in
       let coded : MarkedHaveCode marks c.methods =
       subst (λ marks. MarkedHaveCode marks c.methods) (sym entry.marks_are)
       (subst (λ (c : ClassFile). MarkedHaveCode (marks_for p entry.now e.class) c.methods) same (marks-coded p entry.now is.numbered_are e.class)) in
-      let none = refused_of-profilable c first marks counted coded (all-at IsProfilable p.classes e.class c is.profilable entry.found) in
+      let none = refused_of-profilable c first marks counted coded (each_at IsProfilable p.classes e.class c is.profilable entry.found) in
       let image : Image = image_of c first marks in
       let bytes : image_bytes p e.class marks ≡ class_bytes image.class =
       image_bytes-is p e.class marks ∙ ap (λ (c : ClassFile). class_bytes (image_of c first marks).class) same in
@@ -55,7 +56,7 @@ module _ (p : Program) (is : AreImageable p) where
         homes = image.homes;
         found = entry.found;
         imaged = IsImage-answer c first marks (Ok image) readable counted (none, refl) coded;
-        spelled = record { spelled = bytes; formed = IsClassFile-image c first marks (all-at IsClassFile p.classes e.class c is.formed entry.found) readable none };
+        spelled = record { spelled = bytes; formed = IsClassFile-image c first marks (each_at IsClassFile p.classes e.class c is.formed entry.found) readable none };
       }
 
   swaps-of-entries : (es : List Swapped) → AllByRecursion (IsEntry p) es → AreSwapsOf p es (map (swap_of p) es)

@@ -3,8 +3,7 @@ use Rattle.std.proofs.Common.{◌≡◌, ℕ, ◌+◌, Bool, true, false, not, L
 use Rattle.std.specs.Prelude.{◌||◌, ◌&&◌, ◌==◌, filter, if◌then◌else◌}
 use Rattle.std.specs.List.{list_any, enumerate_from}
 use Rattle.std.proofs.lemmas.List.{append-nil}
-use Rattle.jvm_model.specs.declared.event.Mark.{Mark}
-use Rattle.jvm_model.specs.declared.event.Mark.TheVariants.{Off, Plain, Root}
+use Rattle.std.proofs.Math.Bool.{and-false}
 use Rattle.jvm_model.specs.declared.program.MethodPlace.{MethodPlace}
 use Rattle.jvm_model.specs.declared.program.Program.{Program}
 use Rattle.jvm_model.specs.Classes.Load.{is_among}
@@ -12,20 +11,12 @@ use Rattle.jvm_model.specs.Profiling.Points.{mark_in}
 use Rattle.jvm_model.specs.Profiling.Revealed.{Revealed, changed_of, stand_of, with_method_entered}
 use Rattle.jvm_model.specs.Profiling.Swaps.{differs, same_mark}
 use Rattle.jvm_model.specs.Profiling.Targets.{operations_of}
+use Rattle.call_revelation.proofs.Revelations.Shown.{same-itself}
 use Rattle.profile_session.specs.declared.parts.Parts.{Parts}
 use Rattle.profile_session.specs.Keeping.{swapped_now}
 use Rattle.profile_session.specs.Parts.{AreFit, AreShown, IsPoint, Shows, revealed_in}
 use Rattle.profile_session.proofs.Points.{point-by}
 use Rattle.profile_session.proofs.SwappedClasses.{changed-shown}
-
-same-as-itself : (m : Mark) → same_mark m m ≡ true
-same-as-itself Off = refl
-same-as-itself Plain = refl
-same-as-itself Root = refl
-
-never-and : (b : Bool) → (b && false) ≡ false
-never-and true = refl
-never-and false = refl
 
 -- no mark differs from itself
 differs-nowhere : (p : Program) (r : Revealed) (class n : ℕ) (l : List MethodPlace)
@@ -33,7 +24,7 @@ differs-nowhere : (p : Program) (r : Revealed) (class n : ℕ) (l : List MethodP
 differs-nowhere p r class n [] = refl
 differs-nowhere p r class n (x ∷ l) =
     ap₂ (λ a b. a || b)
-    (ap (λ b. x.class == class && not b) (same-as-itself (mark_in p (operations_of p) (stand_of r) n)) ∙ never-and (x.class == class))
+    (ap (λ b. x.class == class && not b) (same-itself (mark_in p (operations_of p) (stand_of r) n)) ∙ and-false (x.class == class))
     (differs-nowhere p r class (n + 1) l)
 
 none-left : (f : ℕ → Bool) (l : List ℕ) → ((x : ℕ) → f x ≡ false) → filter f l ≡ []

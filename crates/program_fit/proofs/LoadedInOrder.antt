@@ -5,7 +5,7 @@ use Rattle.std.specs.Bool.{beq}
 use Rattle.std.specs.List.{AllByRecursion, list_all}
 use Rattle.std.specs.Option.{option_map_or}
 use Rattle.std.proofs.Math.Nat.{add-zero}
-use Rattle.std.proofs.lemmas.Bool.{eq-eqb, ltb-false, ltb-true, ne_eqb, and_parts}
+use Rattle.std.proofs.lemmas.Bool.{ltb-false, ltb-true, ne_eqb, and_parts}
 use Rattle.std.proofs.lemmas.List.{append-nil}
 use Rattle.const_pool.specs.declared.class.ClassFile.{ClassFile}
 use Rattle.jvm_model.specs.declared.program.Program.{Program}
@@ -14,6 +14,7 @@ use Rattle.jvm_model.specs.Classes.Lookup.{is_interface}
 use Rattle.jvm_model.specs.Basis.Methods.{has_flag}
 use Rattle.jvm_model.specs.Basis.Programs.{class_at, class_named, has_built_in_name, has_name, name_of}
 use Rattle.jvm_model.specs.Basis.SharedState.{built_in_from}
+use Rattle.jvm_model.proofs.Loading.Among.{among-last, among-front}
 use Rattle.prepared_code.specs.Prepared.{load_built_in, with_built_in}
 use Rattle.admit_check.proofs.FitNames.{IsOwnClass}
 use Rattle.admit_check.proofs.FitPlaces.{AreOrdered, is_before}
@@ -22,20 +23,6 @@ use Rattle.admit_check.proofs.FitFiles
 use Rattle.admit_check.proofs.FitFiles.{IsNeeded, built_in-past, read-needed, stands}
 
 -- ---- lists
-
-among-end-same : (k : ℕ) (xs : List ℕ) → is_among k (xs ++ k ∷ []) ≡ true
-among-end-same k [] = ap (λ b. b || false) (eq-eqb k k refl)
-among-end-same k (x ∷ xs) = by (k == x) (among-end-same k xs) where
-  by : (b : Bool) → is_among k (xs ++ k ∷ []) ≡ true → (b || is_among k (xs ++ k ∷ [])) ≡ true
-  by true e = refl
-  by false e = e
-
-among-front : (k : ℕ) (xs ys : List ℕ) → is_among k xs ≡ true → is_among k (xs ++ ys) ≡ true
-among-front k [] ys e = absurd cc
-among-front k (x ∷ xs) ys e = by (k == x) (among-front k xs ys) e where
-  by : (b : Bool) → (is_among k xs ≡ true → is_among k (xs ++ ys) ≡ true) → (b || is_among k xs) ≡ true → (b || is_among k (xs ++ ys)) ≡ true
-  by true rest e = refl
-  by false rest e = rest e
 
 among-end-other : (k j : ℕ) (xs : List ℕ) → k ≢ j → is_among k xs ≡ false → is_among k (xs ++ j ∷ []) ≡ false
 among-end-other k j [] ne e = ap (λ b. b || false) (ne_eqb k j ne)
@@ -113,7 +100,7 @@ module _ (p : Program) (classes files : List ClassFile) (are : p.classes ≡ cla
       by j less false e =
           let past : k ≤ j = ltb-false j k e in
           let same : j ≡ k = omega (arith, less, past) in
-          ap (λ j. is_among (n + j) (loaded ++ (n + k) ∷ [])) same ∙ among-end-same (n + k) loaded
+          ap (λ j. is_among (n + j) (loaded ++ (n + k) ∷ [])) same ∙ among-last (n + k) loaded
 
   load-from : (depth k : ℕ) (rest : List ClassFile) (loaded : List ℕ) → length p.classes ≡ suc depth → ((i : ℕ) (c : ClassFile) → slice_get rest i ≡ Some c → slice_get files (k + i) ≡ Some c)
       → AreLoadedTo loaded k → load_built_in p rest loaded ≡ loaded ++ built_in_from (n + k) rest

@@ -8,13 +8,13 @@ use Rattle.std.proofs.lemmas.Bool.{and_parts, eqb-true, cases_lt}
 use Rattle.std.proofs.lemmas.Fmt.{decimal_injective}
 use Rattle.std.proofs.lemmas.List.{map-append}
 use Rattle.std.proofs.lemmas.Slice.Eq.{bytes_eq-Decides}
+use Rattle.jf_bytes.proofs.Lists.{each_push}
 use Rattle.const_pool.specs.BuiltIn.{probe_class, built_in_names}
 use Rattle.program_gen.specs.declared.rows.ClassRow.{ClassRow}
 use Rattle.program_gen.specs.Draws.{choices_of}
 use Rattle.program_gen.specs.Generated.{AreDistinct, HaveOwnNames, IsOwnName, names_of}
 use Rattle.program_gen.specs.Names.{class_text}
 use Rattle.program_gen.specs.Programs.{numbered_row, rows_below, program_rows}
-use Rattle.program_gen.proofs.Pools.{each-push}
 
 abbrev gen : ℕ → List ℕ
 gen n = codes "Gen" ++ decimal n
@@ -39,11 +39,11 @@ gen-differs i k less few e =
 
 gens-differ : (n k : ℕ) → n ≤ k → k < 200 → AllByRecursion (λ other. other ≢ gen k) (gens n)
 gens-differ zero k le few = tt
-gens-differ (suc n) k le few = each-push (λ other. other ≢ gen k) (gens n) (gen n) (gens-differ n k (omega arith) few) (gen-differs n k (omega arith) few)
+gens-differ (suc n) k le few = each_push (λ other. other ≢ gen k) (gens n) (gen n) (gens-differ n k (omega arith) few) (gen-differs n k (omega arith) few)
 
 distinct-push : (names : List (List ℕ)) (name : List ℕ) → AreDistinct names → AllByRecursion (λ other. other ≢ name) names → AreDistinct (names ++ name ∷ [])
 distinct-push [] name d h = (tt, tt)
-distinct-push (x ∷ names) name d h = (each-push (λ other. x ≢ other) names name d.0 h.0, distinct-push names name d.1 h.1)
+distinct-push (x ∷ names) name d h = (each_push (λ other. x ≢ other) names name d.0 h.0, distinct-push names name d.1 h.1)
 
 gens-distinct : (n : ℕ) → n ≤ 200 → AreDistinct (gens n)
 gens-distinct zero few = tt
@@ -62,7 +62,7 @@ main-unlike : (n : ℕ) → n ≤ 200 → are_unlike n ≡ true → AllByRecursi
 main-unlike zero few h = tt
 main-unlike (suc n) few h =
     let parts = and_parts (not (bytes_eq (codes "Main") (decimal n))) (are_unlike n) h in
-    each-push (λ other. codes "GenMain" ≢ other) (gens n) (gen n) (main-unlike n (omega arith) parts.1) (λ e. differs parts.0 (ap (drop 3) e))
+    each_push (λ other. codes "GenMain" ≢ other) (gens n) (gen n) (main-unlike n (omega arith) parts.1) (λ e. differs parts.0 (ap (drop 3) e))
   where
     differs : not (bytes_eq (codes "Main") (decimal n)) ≡ true → codes "Main" ≡ decimal n → ⊥
     differs h e = let same = (bytes_eq-Decides (codes "Main") (decimal n)).1 e in cc
@@ -94,7 +94,7 @@ is-own name first (t ∷ taken) h =
 
 gens-own : (n : ℕ) → AllByRecursion IsOwnName (gens n)
 gens-own zero = tt
-gens-own (suc n) = each-push IsOwnName (gens n) (gen n) (gens-own n) (is-own (gen n) refl (probe_class ∷ built_in_names) all-begin)
+gens-own (suc n) = each_push IsOwnName (gens n) (gen n) (gens-own n) (is-own (gen n) refl (probe_class ∷ built_in_names) all-begin)
 
 pub own-names : (seed size : ℕ) → size ≤ 200 → HaveOwnNames (program_rows seed size)
 own-names seed size most = record {

@@ -5,6 +5,7 @@ use Rattle.std.specs.List.{AllByRecursion}
 use Rattle.std.proofs.lemmas.Nat.{mod_below}
 use Rattle.std.proofs.lemmas.List.{length-map}
 use Rattle.jf_bytes.specs.declared.error.NoMemory.{NoMemory}
+use Rattle.jf_bytes.proofs.Lists.{each_push}
 use Rattle.const_pool.specs.declared.class.ClassFile.{ClassFile}
 use Rattle.program_gen.specs.declared.rows.ClassName.{ClassName}
 use Rattle.program_gen.specs.declared.rows.ClassRow.{ClassRow}
@@ -15,7 +16,6 @@ use Rattle.program_gen.specs.Generated.{AreNamed, HasOwnPool, IsShortFile, class
 use Rattle.program_gen.specs.Making.{class_file_of}
 use Rattle.program_gen.specs.Members.{HaveCodes, HaveMembers}
 use Rattle.program_gen.specs.Programs.{constructor, run_method, main_row, numbered_row, rows_below, program_rows}
-use Rattle.program_gen.proofs.Pools.{each-push}
 use Rattle.program_gen.proofs.MadeClasses.{class-holds}
 
 -- ---- the rows fit
@@ -77,7 +77,7 @@ numbered-fits seed size i some most less =
 below-fit : (seed size n : ℕ) → 1 ≤ size → size ≤ 200 → n ≤ size → AllByRecursion FitsClass (rows_below seed size n)
 below-fit seed size zero some most le = tt
 below-fit seed size (suc n) some most le =
-    each-push FitsClass (rows_below seed size n) (numbered_row n (choices_of seed size n)) (below-fit seed size n some most (omega arith)) (numbered-fits seed size n some most (omega arith))
+    each_push FitsClass (rows_below seed size n) (numbered_row n (choices_of seed size n)) (below-fit seed size n some most (omega arith)) (numbered-fits seed size n some most (omega arith))
 
 pub rows-fit : (seed size : ℕ) → 1 ≤ size → size ≤ 200 → AllByRecursion FitsClass (program_rows seed size)
 rows-fit seed size some most = (main-fits, below-fit seed size size some most (omega arith))

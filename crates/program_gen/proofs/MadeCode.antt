@@ -4,6 +4,7 @@ use Rattle.std.specs.Int.{w16, to_be_bytes}
 use Rattle.std.specs.List.{AllByRecursion}
 use Rattle.std.proofs.lemmas.Nat.{mod_below}
 use Rattle.std.proofs.lemmas.List.{append-nil}
+use Rattle.jf_bytes.proofs.Lists.{each_append}
 use Rattle.const_pool.specs.declared.pool.Const.{Const}
 use Rattle.const_pool.specs.ClassFile.{IsByte}
 use Rattle.program_gen.specs.declared.rows.Instruction.{Instruction}
@@ -11,7 +12,7 @@ use Rattle.program_gen.specs.declared.rows.Instruction.TheVariants.{Plain, Byte,
 use Rattle.class_making.specs.Making.{CodeMade}
 use Rattle.program_gen.specs.Making.{class_shared, member_shared, instruction_added, code_from}
 use Rattle.program_gen.specs.Fits.{FitsInstruction}
-use Rattle.program_gen.proofs.Pools.{each-append, IsGood, good-wider}
+use Rattle.program_gen.proofs.Pools.{IsGood, good-wider}
 use Rattle.program_gen.proofs.SharedNames.{Grows, then-grows, class-added, member-added}
 
 pub grows-none : (n : ℕ) (pool : List Const) → IsGood n pool → Grows n 0 pool pool
@@ -37,7 +38,7 @@ bytes-grow n added pool bytes op operands after g few each fits operand few_byte
     let same = length-append bytes (op ∷ operands) in
     record {
       grows = grows-wider n added 6 pool after few g;
-      each = each-append IsByte bytes (op ∷ operands) each (fits, operand);
+      each = each_append IsByte bytes (op ∷ operands) each (fits, operand);
       longer = omega (arith, same);
       shorter = omega (arith, same, few_bytes);
     }

@@ -4,6 +4,7 @@ use Rattle.std.specs.Option.{option_and_then, option_map_or, ok_or}
 use Rattle.std.specs.Result.{result_ok}
 use Rattle.std.specs.List.{AllByRecursion, AllZip, flat_map}
 use Rattle.std.proofs.lemmas.Option.{same_Some}
+use Rattle.jf_bytes.proofs.Lists.{slice_get-front, each_push}
 use Rattle.const_pool.specs.declared.pool.Const.{Const}
 use Rattle.const_pool.specs.declared.pool.Const.TheVariants.{Gap, Utf8, Integer, Float, Long, Double, Class, Text, Field, Method, InterfaceMethod, NameType}
 use Rattle.const_pool.specs.declared.pool.PoolError.TheVariants.{BadIndex}
@@ -12,22 +13,9 @@ use Rattle.const_pool.specs.References.{◌>>=◌, named_text, text_entry}
 use Rattle.const_pool.specs.Pool.{entry_of, IsPool, IsEntry, AreEntries, Names, has_gaps, gaps_due, is_wide, entry_bytes, pool_bytes}
 use Rattle.program_gen.specs.Generated.{IsNoProbe}
 
-pub front : {A : Type 0} (xs ys : List A) (k : ℕ) (x : A) → slice_get xs k ≡ Some x → slice_get (xs ++ ys) k ≡ Some x
-front [] ys k x h = absurd cc
-front (y ∷ xs) ys zero x h = h
-front (y ∷ xs) ys (suc k) x h = front xs ys k x h
-
 pub seam : {A : Type 0} (xs : List A) (x : A) → slice_get (xs ++ x ∷ []) (length xs) ≡ Some x
 seam [] x = refl
 seam (y ∷ xs) x = seam xs x
-
-pub each-push : {A : Type 0} (P : A → Type 0) (xs : List A) (x : A) → AllByRecursion P xs → P x → AllByRecursion P (xs ++ x ∷ [])
-each-push P [] x h p = (p, tt)
-each-push P (y ∷ xs) x h p = (h.0, each-push P xs x h.1 p)
-
-pub each-append : {A : Type 0} (P : A → Type 0) (xs ys : List A) → AllByRecursion P xs → AllByRecursion P ys → AllByRecursion P (xs ++ ys)
-each-append P [] ys h p = p
-each-append P (y ∷ xs) ys h p = (h.0, each-append P xs ys h.1 p)
 
 pub each-by : {A : Type 0} (P Q : A → Type 0) → ((x : A) → P x → Q x) → (xs : List A) → AllByRecursion P xs → AllByRecursion Q xs
 each-by P Q f [] h = tt
@@ -60,7 +48,7 @@ names-more : (kind : Const → Bool) (pool more : List Const) (i : ℕ) → Name
 names-more kind pool more i h = by (slice_get pool i) refl
   where
     by : (o : Option Const) → slice_get pool i ≡ o → Names kind (pool ++ more) i
-    by (Some c) e = ap (λ (o : Option Const). option_map_or kind o false) (front pool more i c e) ∙ sym (ap (λ (o : Option Const). option_map_or kind o false) e) ∙ h
+    by (Some c) e = ap (λ (o : Option Const). option_map_or kind o false) (slice_get-front pool more i c e) ∙ sym (ap (λ (o : Option Const). option_map_or kind o false) e) ∙ h
     by None e = let no = sym (ap (λ (o : Option Const). option_map_or kind o false) e) ∙ h in absurd cc
 
 entry-more : (pool more : List Const) (c : Const) → IsEntry pool c → IsEntry (pool ++ more) c
@@ -96,7 +84,7 @@ other-more pool more (Integer n) h = tt
 other-more pool more (Float n) h = tt
 other-more pool more (Long n) h = tt
 other-more pool more (Double n) h = tt
-other-more pool more (Class i) h = record { text = h.text; at = front pool more i _ h.at; other = h.other }
+other-more pool more (Class i) h = record { text = h.text; at = slice_get-front pool more i _ h.at; other = h.other }
 other-more pool more (Text i) h = tt
 other-more pool more (Field c n) h = tt
 other-more pool more (Method c n) h = tt
@@ -124,7 +112,7 @@ good-push n pool c g h =
     record {
       entries = g.entries ++ c ∷ [];
       is = ap (λ (p : List Const). p ++ c ∷ []) g.is;
-      each = each-push (IsNarrow (pool ++ c ∷ [])) g.entries c
+      each = each_push (IsNarrow (pool ++ c ∷ [])) g.entries c
           (each-by (IsNarrow pool) (IsNarrow (pool ++ c ∷ [])) (narrow-more pool (c ∷ [])) g.entries g.each)
           (narrow-more pool (c ∷ []) c h);
       count = longer;

@@ -5,6 +5,7 @@ use Rattle.std.specs.Fmt.{decimal, digits}
 use Rattle.std.specs.List.{list_all, AllByRecursion}
 use Rattle.std.proofs.lemmas.Bool.{and_parts, ltb-true, ltb-false}
 use Rattle.jf_bytes.specs.ModifiedUtf8.{modified_utf8}
+use Rattle.jf_bytes.proofs.Lists.{slice_get-front}
 use Rattle.const_pool.specs.declared.pool.Const.{Const}
 use Rattle.const_pool.specs.declared.pool.Const.TheVariants.{Utf8, Class, Field, Method, NameType}
 use Rattle.const_pool.specs.BuiltIn.{probe_class}
@@ -17,7 +18,7 @@ use Rattle.program_gen.specs.Names.{class_text, member_text, member_descriptor}
 use Rattle.class_making.specs.Making.{EntryMade, member_entry}
 use Rattle.program_gen.specs.Making.{entry_shared, class_shared, name_type_shared, member_shared}
 use Rattle.program_gen.specs.Fits.{FitsName}
-use Rattle.program_gen.proofs.Pools.{front, names-at, IsNarrow, IsGood}
+use Rattle.program_gen.proofs.Pools.{names-at, IsNarrow, IsGood}
 use Rattle.program_gen.proofs.SharedEntries.{shared-holds}
 
 -- ---- texts
@@ -95,7 +96,7 @@ then-grows n a b p q r g h = record {
 }
 
 pub at-grown : (n a : ℕ) (p q : List Const) (i : ℕ) (c : Const) → Grows n a p q → slice_get p i ≡ Some c → slice_get q i ≡ Some c
-at-grown n a p q i c g h = ap (λ (x : List Const). slice_get x i) g.grown ∙ front p g.more i c h
+at-grown n a p q i c g h = ap (λ (x : List Const). slice_get x i) g.grown ∙ slice_get-front p g.more i c h
 
 -- the entry that the index names, behind what was added
 pub record HasAdded (n added : ℕ) (pool : List Const) (entry : Const) (s : EntryMade) : Type 0 where

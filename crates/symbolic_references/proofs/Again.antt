@@ -15,6 +15,7 @@ use Rattle.jvm_model.specs.Instructions.SymbolicReference.{kind_unless, newly_lo
 use Rattle.jvm_model.specs.declared.instruction.SymbolicReference.{SymbolicReference}
 use Rattle.jvm_model.specs.Instructions.ReferenceRules.{does_named}
 use Rattle.jvm_model.specs.Instructions.ObjectRules.{done as done_with}
+use Rattle.jvm_model.proofs.Loading.Among.{among-front}
 use Rattle.class_linker.specs.Linkers.{LinkerView}
 use Rattle.member_selection.specs.declared.known.Known.{Known}
 use Rattle.jvm_basic.specs.Outcomes.{top_locals}
@@ -26,7 +27,7 @@ use Rattle.member_selection.specs.Objects.{IsResolved}
 use Rattle.member_selection.specs.Resolved.{does_resolved, skips}
 use Rattle.symbolic_references.proofs.Attempted.{done_found, done_skipped}
 use Rattle.member_selection.proofs.Loads.{Loads, loads}
-use Rattle.member_selection.proofs.ObjectLemmas.{among-front, usable_more}
+use Rattle.member_selection.proofs.ObjectLemmas.{usable_more}
 use Rattle.member_selection.specs.Attempts.{with_more}
 
 nothing-by : (p : Program) (loaded : List ℕ) (n : SymbolicReference) (b : Bool) → load_of p loaded (resolved_name n) ≡ loading_done loaded

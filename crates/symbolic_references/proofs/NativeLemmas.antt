@@ -2,7 +2,7 @@
 use Rattle.std.proofs.Common.{◌≡◌, ◌≢◌, ℕ, suc, ◌+◌, ◌-◌, ◌<◌, ◌≤◌, Bool, true, false, List, [], ◌∷◌, ◌++◌, length, drop, Option, Some, None, refl, sym, ap, subst, ◌∙◌, lit<, append_assoc, arith}
 use Rattle.std.specs.Prelude.{◌*◌, Result, Ok, Err, IfOk, OnOk, nat_lt, unwrap_or, slice_get, map, if◌then◌else◌}
 use Rattle.std.specs.Option.{option_map_or}
-use Rattle.std.proofs.lemmas.Bool.{ne_eqb}
+use Rattle.std.proofs.lemmas.Bool.{ne_eqb, lt-ltb as below, le-ltb}
 use Rattle.std.proofs.lemmas.Option.{slice_get-get_or, slice_get_past}
 use Rattle.jf_bytes.specs.declared.error.NoMemory.{NoMemory}
 use Rattle.const_pool.specs.BuiltIn.{built_in_names}
@@ -39,17 +39,11 @@ use Rattle.member_selection.proofs.KindLemmas.{of-class, of-primitive}
 
 -- ---- the kinds that native methods make are usable
 
-below : (a b : ℕ) → a < b → nat_lt a b ≡ true
-below a b h = grind (arith)
-
-not-below : (a b : ℕ) → b ≤ a → nat_lt a b ≡ false
-not-below a b h = grind (arith)
-
 module _ (l : LinkerView) (has : HasBuiltIn l) (root : IsLoaded l (user_count l.program)) where
   base-behind : (place : ℕ) → place < 53 → class_of_base l.program (16 + place) ≡ Some (user_count l.program + place)
   base-behind place few =
       ap (λ b. if b then None else if nat_lt (16 + place) 256 then Some (user_count l.program + (16 + place - 16)) else Some (16 + place - 256))
-      (not-below (16 + place) 16 (omega arith))
+      (le-ltb (16 + place) 16 (omega arith))
       ∙ (ap (λ b. if b then Some (user_count l.program + (16 + place - 16)) else Some (16 + place - 256)) (below (16 + place) 256 (omega arith))
       ∙ ap (λ n. let o : Option ℕ = Some (user_count l.program + n) in o) (let e : 16 + place - 16 ≡ place = omega arith in e))
 

@@ -66,6 +66,7 @@ use Rattle.native_ops.specs.Methods.Rows.{rows}
 use Rattle.native_effects.specs.Effects.Worlds.{World}
 use Rattle.native_ops.specs.Methods.Calls.{method_effect, row_effect, effect_of}
 use Rattle.std.specs.Bool.{beq}
+use Rattle.std.specs.Cmp.{booleans_Decides}
 use Rattle.std.proofs.lemmas.Bool.{false≢true, and_parts}
 use Rattle.native_effects.specs.declared.effects.answer.Answer.{Answer}
 use Rattle.heap_objects.specs.Heaps.{growth_of, has_unit_at, units_at}
@@ -139,16 +140,10 @@ copy_there : copy_at 0 rows ≡ true
 unfolding rows
 copy_there = refl
 
-same-bool : (a b : Bool) → beq a b ≡ true → a ≡ b
-same-bool true true is = refl
-same-bool false false is = refl
-same-bool true false is = absurd (false≢true is)
-same-bool false true is = absurd (false≢true is)
-
 copying : (rs : List Row) (from number : ℕ) → copy_at from rs ≡ true → IfSome (slice_get rs number) (λ row. copies row.method ≡ (from + number == 79))
 copying [] from number all = tt
 copying (row ∷ rs) from zero all =
-    same-bool (copies row.method) (from == 79) (and_parts (beq (copies row.method) (from == 79)) (copy_at (from + 1) rs) all).0
+    (booleans_Decides (copies row.method) (from == 79)).0 (and_parts (beq (copies row.method) (from == 79)) (copy_at (from + 1) rs) all).0
     ∙ ap (λ n. n == 79) (let e : from ≡ from + zero = omega arith in e)
 copying (row ∷ rs) from (suc number) all =
     subst (λ n. IfSome (slice_get rs number) (λ row. copies row.method ≡ (n == 79))) (let e : from + 1 + number ≡ from + suc number = omega arith in e)

@@ -2,8 +2,9 @@
 use Rattle.std.proofs.Common.{◌≡◌, ◌≤◌, ◌<◌, ℕ, zero, suc, Bool, true, false, List, [], ◌∷◌, length, drop, Option, Some, None, inl, inr, refl, sym, ap, subst, ◌∙◌, arith}
 use Rattle.std.specs.Prelude.{◌==◌}
 use Rattle.std.specs.Option.{option_map}
-use Rattle.std.proofs.lemmas.Bool.{false≢true}
+use Rattle.std.proofs.lemmas.Bool.{false≢true, le-leb}
 use Rattle.std.proofs.lemmas.List.{append-nil}
+use Rattle.jf_bytes.proofs.Tests.{either}
 use Rattle.heap_objects.specs.Changes.{changed_if}
 use Rattle.heap_objects.specs.declared.datum.Datum.{Datum}
 use Rattle.heap_objects.specs.declared.datum.Datum.TheVariants as datum
@@ -21,7 +22,7 @@ use Rattle.jvm_model.specs.Basis.Data.{Locals, Operands, Outcome, Done, World}
 use Rattle.jvm_model.specs.Instructions.NativeRules.{kinds_in, runs_number, seen_by_natives}
 use Rattle.jvm_model.specs.Basis.Values.{as_value, with_value}
 use Rattle.symbolic_references.specs.Natives.{outcome_by}
-use Rattle.member_selection.proofs.Going.{height-dropped, least-width, within-limit}
+use Rattle.member_selection.proofs.Going.{height-dropped, least-width}
 use Rattle.symbolic_references.proofs.NativesKept.{IsNarrow, IsNarrowValue, call-keeps}
 use Rattle.frame_stack.specs.FrameLists.{with_frames}
 use Rattle.member_selection.specs.Answers.{frames_after, goes_on}
@@ -50,7 +51,7 @@ fits-value : (v : Option Datum) (n : ℕ) (fs : List PlacedFrame) → AreSound f
     → can_hold (with_value (option_map as_value v) (drop n (top_operands fs))) fs ≡ true
 fits-value v n [] sound is some within = absurd (let no : 0 < n → n ≤ 0 → ⊥ = λ a b. omega arith in no some within)
 fits-value v n (f ∷ fs) sound is some within =
-    within-limit (height_of (with_value (option_map as_value v) (drop n f.operands))) f.max_stack
+    le-leb (height_of (with_value (option_map as_value v) (drop n f.operands))) f.max_stack
     (let lower : height_of (with_value (option_map as_value v) (drop n f.operands)) ≤ height_of f.operands = lower-value v n f.operands is some within in
     let all : height_of f.operands ≤ f.max_stack = sound.0.operands in omega arith)
 
@@ -70,10 +71,6 @@ not-done (native.Throws class) l o fs is = absurd (false≢true (sym is))
 not-done (native.Exit status) l o fs is = absurd (false≢true (sym is))
 not-done native.Bad l o fs is = absurd (false≢true (sym is))
 not-done native.NoMemory l o fs is = refl
-
-either : {A : Type 0} (b : Bool) → (b ≡ true → A) → (b ≡ false → A) → A
-either true on off = on refl
-either false on off = off refl
 
 -- ---- a call
 

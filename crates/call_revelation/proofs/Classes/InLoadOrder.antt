@@ -5,10 +5,10 @@ use Rattle.std.specs.List.{AllByRecursion, AllPairs, Contains, cons_option, slic
 use Rattle.std.specs.List.Sorted.{IsStrictlyIncreasing}
 use Rattle.std.specs.Option.{option_map_or}
 use Rattle.std.proofs.lemmas.List.Kept.{AllPairs-from_increasing}
-use Rattle.std.proofs.lemmas.Bool.{false≢true, or_cases, or_left, or_parts, or_right}
+use Rattle.std.proofs.lemmas.Bool.{false≢true, or_cases, or_left, or_parts, or_right, eqb-true}
+use Rattle.jf_bytes.proofs.Tests.{equals_itself}
 use Rattle.jvm_model.specs.Classes.Load.{is_among}
 use Rattle.possible_callees.specs.Tables.{IsRising}
-use Rattle.possible_callees.proofs.Numbers.Adding.{equal, itself}
 
 -- ---- a list that was put in order
 
@@ -30,7 +30,7 @@ pub among-contains : (xs : List ℕ) (x : ℕ) → is_among x xs ≡ true → Co
 among-contains [] x h = absurd (false≢true h)
 among-contains (y ∷ ys) x h =
     elim (or_cases (x == y) (is_among x ys) h) [
-      | inl same ↦ (0, omega arith, sym (equal x y same))
+      | inl same ↦ (0, omega arith, sym (eqb-true x y same))
       | inr later ↦ let rest = among-contains ys x later in (suc rest.0, let within = rest.1 in omega (arith, within), rest.2)
     ]
 
@@ -39,7 +39,7 @@ contains-among xs x h = by xs h.0 h.1 h.2
   where
     by : (ys : List ℕ) (k : ℕ) → k < length ys → slice_index_or ys k x ≡ x → is_among x ys ≡ true
     by [] k within is = absurd (omega (arith, within))
-    by (y ∷ ys) zero within is = or_left (x == y) (is_among x ys) (ap (λ z. x == z) is ∙ itself x)
+    by (y ∷ ys) zero within is = or_left (x == y) (is_among x ys) (ap (λ z. x == z) is ∙ equals_itself x)
     by (y ∷ ys) (suc k) within is = or_right (x == y) (is_among x ys) (by ys k (omega (arith, within)) is)
 
 -- ---- what stands at places that rise
@@ -57,7 +57,7 @@ not-above : (n : ℕ) (rs : List ℕ) → AllByRecursion (λ m. suc n ≤ m) rs 
 not-above n [] all h = false≢true h
 not-above n (r ∷ rs) all h =
     elim (or_cases (n == r) (is_among n rs) h) [
-      | inl same ↦ let less = all.0 in let is = equal n r same in omega (arith, less, is)
+      | inl same ↦ let less = all.0 in let is = eqb-true n r same in omega (arith, less, is)
       | inr later ↦ not-above n rs all.1 later
     ]
 
@@ -67,7 +67,7 @@ no-hits test start (r ∷ rs) all hits =
     let low = all.0 in
     absurd (false≢true (sym (hits (r - start))
     ∙ or_left (start + (r - start) == r) (is_among (start + (r - start)) rs)
-    (ap (λ k. k == r) (let z : start + (r - start) ≡ r = omega (arith, low) in z) ∙ itself r)))
+    (ap (λ k. k == r) (let z : start + (r - start) ≡ r = omega (arith, low) in z) ∙ equals_itself r)))
 
 apart : (n r : ℕ) → n ≤ r → (n == r) ≡ false → suc n ≤ r
 apart n r low other = grind (arith)
@@ -97,9 +97,9 @@ picked test at (c ∷ cs) start ranks up low there hits =
     step true e (r ∷ rs) up low hits rest =
         elim (or_cases (start == r) (is_among start rs) (ap (λ k. is_among k (r ∷ rs)) here ∙ (hits 0 ∙ e))) [
           | inl same ↦
-              ap (λ o. cons_option o (filter_map at rs)) (ap at (sym (equal start r same) ∙ here) ∙ there 0)
+              ap (λ o. cons_option o (filter_map at rs)) (ap at (sym (eqb-true start r same) ∙ here) ∙ there 0)
               ∙ ap (λ l. c ∷ l) (rest rs up.1 (above start r rs low.0 up.0)
-              (λ i. sym (ap (λ b. b || is_among (suc start + i) rs) (let is = equal start r same in beyond (suc start + i) r (omega (arith, is))))
+              (λ i. sym (ap (λ b. b || is_among (suc start + i) rs) (let is = eqb-true start r same in beyond (suc start + i) r (omega (arith, is))))
               ∙ (ap (λ k. is_among k (r ∷ rs)) (let z : suc start + i ≡ start + suc i = omega arith in z) ∙ hits (suc i))))
           | inr later ↦ absurd (not-above start rs (above start r rs low.0 up.0) later)
         ]

@@ -1,30 +1,22 @@
 -- Classes that are loaded one after the other.
 use Rattle.std.proofs.Common.{◌≡◌, ℕ, ◌+◌, ◌<◌, false, List, [], ◌∷◌, ◌++◌, length, drop, get_or, ap, sym, subst, refl, ◌∙◌}
 use Rattle.std.specs.List.{AllByRecursion}
-use Rattle.std.proofs.lemmas.List.{drop_more}
+use Rattle.std.proofs.lemmas.List.{drop_more, append_assoc, append-nil}
 use Rattle.std.proofs.lemmas.Bool.{or_right}
 use Rattle.jvm_model.specs.declared.program.Program.{Program}
 use Rattle.jvm_model.specs.Classes.Load.{is_among}
 use Rattle.jvm_model.specs.Profiling.Revelation.{IsLoadOrder}
 use Rattle.jvm_model.specs.Soundness.Sound.{HasSupertypes}
 use Rattle.jvm_model.proofs.Loading.LoadOrder.{order-behind}
+use Rattle.jvm_model.proofs.Loading.Among.{among-append}
 use Rattle.class_linker.specs.Linkers.{IsLoaded, LinkerView}
 use Rattle.possible_callees.specs.Tables.{IsPrefix}
-use Rattle.possible_callees.proofs.Numbers.Adding.{among-append}
 use Rattle.possible_callees.proofs.Numbers.Fronts.{front-drop}
 use Rattle.possible_callees.proofs.References.TargetLemmas.{all-behind}
 use Rattle.call_revelation.specs.declared.reveal.Reveal.{Reveal}
 use Rattle.call_revelation.specs.Reveals.{AreLoading, IsAhead, IsGrown, IsRevelation}
 use Rattle.call_revelation.proofs.Revelations.Grown.{grown-self, grown-then}
 use Rattle.call_revelation.proofs.Revelations.Marking.{ahead-more}
-
-append-assoc : (xs ys zs : List ℕ) → (xs ++ ys) ++ zs ≡ xs ++ (ys ++ zs)
-append-assoc [] ys zs = refl
-append-assoc (x ∷ xs) ys zs = ap (λ l. x ∷ l) (append-assoc xs ys zs)
-
-append-nothing : (xs : List ℕ) → xs ++ [] ≡ xs
-append-nothing [] = refl
-append-nothing (x ∷ xs) = ap (λ l. x ∷ l) (append-nothing xs)
 
 ordered-above : (p : Program) (loaded rest : List ℕ) → IsLoadOrder p loaded rest → HasSupertypes p loaded
 ordered-above p loaded [] order = order
@@ -75,7 +67,7 @@ module _ (l : LinkerView) (first now : Reveal) (classes : List ℕ) (i : ℕ) (w
     ahead = ahead-more l now class next so.ahead next-linked loaded;
     loaded =
         ap (λ k. k ++ drop (i + 1) classes) loaded
-        ∙ (append-assoc now.lineage.loaded (class ∷ []) (drop (i + 1) classes)
+        ∙ (append_assoc now.lineage.loaded (class ∷ []) (drop (i + 1) classes)
         ∙ (ap (λ k. now.lineage.loaded ++ k) (sym behind) ∙ so.loaded));
     order = subst (λ k. IsLoadOrder l.program k (drop (i + 1) classes)) (sym loaded) in-order.2;
     linked = in-linker.1;
@@ -83,7 +75,7 @@ module _ (l : LinkerView) (first now : Reveal) (classes : List ℕ) (i : ℕ) (w
 
 pub all-loaded : (l : LinkerView) (first now : Reveal) (classes rest : List ℕ) → rest ≡ [] → AreLoading l first now classes rest
     → now.lineage.loaded ≡ first.lineage.loaded ++ classes
-all-loaded l first now classes rest none so = sym (append-nothing now.lineage.loaded) ∙ (ap (λ k. now.lineage.loaded ++ k) (sym none) ∙ so.loaded)
+all-loaded l first now classes rest none so = sym (append-nil now.lineage.loaded) ∙ (ap (λ k. now.lineage.loaded ++ k) (sym none) ∙ so.loaded)
 
 -- ---- what a linker has loaded behind a list
 

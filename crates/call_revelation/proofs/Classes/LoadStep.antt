@@ -3,8 +3,9 @@ use Rattle.std.proofs.Common.{◌≡◌, ℕ, zero, suc, Bool, true, false, List
 use Rattle.std.specs.Prelude.{flat_map, Option, Some, None, is_some, slice_get, ◌⊎◌, ◌==◌, ◌||◌, if◌then◌else◌}
 use Rattle.std.specs.List.{list_any}
 use Rattle.std.specs.Option.{option_and_then, option_map_or, option_to_list}
-use Rattle.std.proofs.lemmas.Bool.{false≢true, or_cases, or_left, or_right}
+use Rattle.std.proofs.lemmas.Bool.{false≢true, or_cases, or_left, or_right, eqb-true, and_parts}
 use Rattle.std.proofs.lemmas.Option.{none-some, same_Some}
+use Rattle.jf_bytes.proofs.Tests.{equals_itself}
 use Rattle.jvm_model.specs.declared.program.Program.{Program}
 use Rattle.jvm_model.specs.Classes.Load.{is_among}
 use Rattle.jvm_model.specs.Classes.Lookup.{is_subtype}
@@ -18,9 +19,10 @@ use Rattle.jvm_model.specs.Profiling.Targets.{begun_by, loaded_class_named, oper
 use Rattle.jvm_model.proofs.Revealing.Gained.{gained-targets}
 use Rattle.jvm_model.proofs.Revealing.Revealed.{is_gained, load-targets}
 use Rattle.jvm_model.specs.declared.instruction.SymbolicReference.{SymbolicReference}
+use Rattle.jvm_model.proofs.Loading.Among.{among-append}
 use Rattle.possible_callees.specs.Tables.{list_at}
-use Rattle.possible_callees.proofs.Truths.{alike, first-of, second-of}
-use Rattle.possible_callees.proofs.Numbers.Adding.{among-append, equal, from_flat, itself, to_flat}
+use Rattle.possible_callees.proofs.Truths.{alike}
+use Rattle.possible_callees.proofs.Numbers.Adding.{from_flat, to_flat}
 use Rattle.call_revelation.specs.declared.uses.Use.{Use}
 use Rattle.call_revelation.specs.Books.{Codes, IsBook, called_by, called_from, called_on, code_at, methods_gathered, is_use, symbolic_reference_at, of_entered}
 use Rattle.call_revelation.specs.CalledClasses.{HasUppers, called_class}
@@ -53,7 +55,7 @@ pub any-of : (f : ℕ → Bool) (xs : List ℕ) (x : ℕ) → is_among x xs ≡ 
 any-of f [] x there h = absurd (false≢true there)
 any-of f (y ∷ xs) x there h =
     elim (or_cases (x == y) (is_among x xs) there) [
-      | inl same ↦ or_left (f y) (list_any f xs) (ap f (sym (equal x y same)) ∙ h)
+      | inl same ↦ or_left (f y) (list_any f xs) (ap f (sym (eqb-true x y same)) ∙ h)
       | inr behind ↦ or_right (f y) (list_any f xs) (any-of f xs x behind h)
     ]
 
@@ -66,7 +68,7 @@ pub from-any : (f : ℕ → Bool) (xs : List ℕ) → list_any f xs ≡ true →
 from-any f [] h = absurd (false≢true h)
 from-any f (x ∷ xs) h =
     elim (or_cases (f x) (list_any f xs) h) [
-      | inl a ↦ record { item = x; there = or_left (x == x) (is_among x xs) (itself x); holds = a }
+      | inl a ↦ record { item = x; there = or_left (x == x) (is_among x xs) (equals_itself x); holds = a }
       | inr b ↦ let i = from-any f xs b in record { item = i.item; there = or_right (i.item == x) (is_among i.item xs) i.there; holds = i.holds }
     ]
 
@@ -111,8 +113,8 @@ module _ (p : Program) (codes : Codes) (waiting calls : List (List Use)) (book :
       → code_at codes caller ≡ Some ns → slice_get ns i ≡ Some n → is_among m (f n) ≡ true
       → (u : Use) → is_use caller i u ≡ true → is_among m (of_entered entered codes f u) ≡ true
   at-entered f caller i ns n m there c e h u is =
-      let same : u.caller ≡ caller = equal u.caller caller (first-of (u.caller == caller) (u.at == i) is) in
-      let place : u.at ≡ i = equal u.at i (second-of (u.caller == caller) (u.at == i) is) in
+      let same : u.caller ≡ caller = eqb-true u.caller caller (and_parts (u.caller == caller) (u.at == i) is).0 in
+      let place : u.at ≡ i = eqb-true u.at i (and_parts (u.caller == caller) (u.at == i) is).1 in
       ap (λ b. is_among m (if b then option_map_or (λ (n : SymbolicReference). f n) (symbolic_reference_at codes u) [] else [])) (ap (λ x. is_among x entered) same ∙ there)
       ∙ (ap (λ o. is_among m (option_map_or (λ (n : SymbolicReference). f n) o []))
       (ap (λ x. option_and_then (λ (ns : List SymbolicReference). slice_get ns u.at) (code_at codes x)) same
@@ -155,7 +157,7 @@ module _ (p : Program) (codes : Codes) (waiting calls : List (List Use)) (book :
             → option_and_then (λ (class : ℕ). if is_among class loaded then Some class else None) o ≡ Some class
         by None k = absurd (false≢true k)
         by (Some found) k =
-            let same : found ≡ class = equal found class k in
+            let same : found ≡ class = eqb-true found class k in
             ap (λ (x : ℕ). if is_among x loaded then Some x else None) same ∙ ap (λ b. if b then Some class else None) there
 
     called-there : (class : ℕ) (u : Use) → is_among class loaded ≡ true → IsEntered (called_by p new class) u m
@@ -231,10 +233,10 @@ module _ (p : Program) (codes : Codes) (waiting calls : List (List Use)) (book :
         by : (o : Option ℕ) → class_named p (resolved_name n) ≡ o → option_map_or (λ found. found == class) o false ≡ true
             → class_named p (resolved_name n) ≡ Some class
         by None o k = absurd (false≢true k)
-        by (Some found) o k = o ∙ ap (λ x. Some x) (equal found class k)
+        by (Some found) o k = o ∙ ap (λ x. Some x) (eqb-true found class k)
 
     is-named : (n : SymbolicReference) (class : ℕ) → class_named p (resolved_name n) ≡ Some class → is_named p class (resolved_name n) ≡ true
-    is-named n class e = ap (λ o. option_map_or (λ found. found == class) o false) e ∙ itself class
+    is-named n class e = ap (λ o. option_map_or (λ found. found == class) o false) e ∙ equals_itself class
 
     read-there : (caller i : ℕ) (ns : List SymbolicReference) (n : SymbolicReference) → code_at codes caller ≡ Some ns → slice_get ns i ≡ Some n
         → slice_get (symbolic_references_of (operations_of p caller)) i ≡ Some n
@@ -254,7 +256,7 @@ module _ (p : Program) (codes : Codes) (waiting calls : List (List Use)) (book :
         (whole caller it.class there
         (flat-at (called_class p) (symbolic_references_of (operations_of p caller)) i n it.class (read-there caller i ns n c e)
         (ap (λ b. is_among it.class (if b then option_to_list (class_named p (resolved_name n)) else [])) it.call
-        ∙ (ap (λ o. is_among it.class (option_to_list o)) k.named ∙ or_left (it.class == it.class) false (itself it.class))))
+        ∙ (ap (λ o. is_among it.class (option_to_list o)) k.named ∙ or_left (it.class == it.class) false (equals_itself it.class))))
         (is-above n it.class it.called))
         (ap (λ b. is_among m (if b then flat_map (of_entered entered codes (called_by p new it.class)) (list_at calls it.class) else [])) k.there
         ∙ any-flat (of_entered entered codes (called_by p new it.class)) (is_use caller i) (list_at calls it.class) m

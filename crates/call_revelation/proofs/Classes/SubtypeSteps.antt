@@ -4,7 +4,8 @@ use Rattle.std.specs.Prelude.{flat_map, filter_map, Option, Some, None, ◌==◌
 use Rattle.std.specs.List.{cons_option}
 use Rattle.std.specs.Option.{option_and_then, option_map_or, option_to_list}
 use Rattle.std.proofs.lemmas.Option.{slice_get_within, none-some}
-use Rattle.std.proofs.lemmas.Bool.{false≢true, or_cases, or_left, or_right}
+use Rattle.std.proofs.lemmas.Bool.{false≢true, or_cases, or_left, or_right, eqb-true}
+use Rattle.std.proofs.lemmas.List.{append_assoc}
 use Rattle.const_pool.specs.declared.class.ClassFile.{ClassFile}
 use Rattle.const_pool.specs.References.{named_class}
 use Rattle.jvm_model.specs.declared.program.Program.{Program}
@@ -13,17 +14,14 @@ use Rattle.jvm_model.specs.Classes.Lookup.{interface_names, interfaces_of, is_su
 use Rattle.jvm_model.specs.Basis.Programs.{class_at, class_named, has_name, super_of}
 use Rattle.jvm_model.proofs.Soundness.SoundKinds.{named-class}
 use Rattle.possible_callees.specs.Lineages.{direct, LeadTo}
-use Rattle.possible_callees.proofs.Numbers.Adding.{among-append, equal, from_flat, to_flat}
+use Rattle.possible_callees.proofs.Numbers.Adding.{from_flat, to_flat}
 use Rattle.jvm_model.specs.Soundness.Sound.{HasSupertypes}
+use Rattle.jvm_model.proofs.Loading.Among.{among-append}
 use Rattle.possible_callees.proofs.Classes.LineageLemmas.{loaded-before}
-
-append-assoc : (xs ys zs : List ℕ) → (xs ++ ys) ++ zs ≡ xs ++ (ys ++ zs)
-append-assoc [] ys zs = refl
-append-assoc (x ∷ xs) ys zs = ap (λ l. x ∷ l) (append-assoc xs ys zs)
 
 flat-append : (f : ℕ → List ℕ) (xs ys : List ℕ) → flat_map f (xs ++ ys) ≡ flat_map f xs ++ flat_map f ys
 flat-append f [] ys = refl
-flat-append f (x ∷ xs) ys = ap (λ l. f x ++ l) (flat-append f xs ys) ∙ sym (append-assoc (f x) (flat_map f xs) (flat_map f ys))
+flat-append f (x ∷ xs) ys = ap (λ l. f x ++ l) (flat-append f xs ys) ∙ sym (append_assoc (f x) (flat_map f xs) (flat_map f ys))
 
 module _ (p : Program) where
   abbrev W : ℕ → ℕ → List ℕ
@@ -61,11 +59,11 @@ module _ (p : Program) where
     where
       test : (d : ℕ) (b : Bool) → (d == c) ≡ b → is_among d (direct p c) ≡ true → is_among x (W n d) ≡ true → (is_among x (W n c) ≡ true → (c ≡ x) ⊎ IsStep c x)
           → (c ≡ x) ⊎ IsStep c x
-      test d true e there within again = again (ap (λ k. is_among x (W n k)) (sym (equal d c e)) ∙ within)
+      test d true e there within again = again (ap (λ k. is_among x (W n k)) (sym (eqb-true d c e)) ∙ within)
       test d false e there within again = inr (record { by = d; there = there; other = e; above = raised n (length p.classes) d x (omega (arith, le)) within })
 
       by : ((x == c) ≡ true) ⊎ (is_among x (flat_map (W n) (direct p c)) ≡ true) → (is_among x (W n c) ≡ true → (c ≡ x) ⊎ IsStep c x) → (c ≡ x) ⊎ IsStep c x
-      by (inl a) again = inl (sym (equal x c a))
+      by (inl a) again = inl (sym (eqb-true x c a))
       by (inr b) again = let i = from_flat (W n) (direct p c) x b in test i.item (i.item == c) refl i.there i.within again
 
   pub step : (class upper : ℕ) → is_subtype p class upper ≡ true → (class ≡ upper) ⊎ IsStep class upper
@@ -80,7 +78,7 @@ module _ (p : Program) where
   one-within None d each h = absurd (false≢true h)
   one-within (Some k) d each h =
       elim (or_cases (d == k) false h) [
-        | inl a ↦ subst (λ j. j < length p.classes) (sym (equal d k a)) (each k refl)
+        | inl a ↦ subst (λ j. j < length p.classes) (sym (eqb-true d k a)) (each k refl)
         | inr b ↦ absurd (false≢true b)
       ]
 

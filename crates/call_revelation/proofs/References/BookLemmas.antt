@@ -4,7 +4,9 @@ use Rattle.std.specs.Prelude.{Option, Some, None, ◌⊎◌, is_some, replicate,
 use Rattle.std.specs.List.{list_any}
 use Rattle.std.specs.Option.{option_flatten, option_map_or}
 use Rattle.std.proofs.lemmas.Option.{none-some, same_Some}
-use Rattle.std.proofs.lemmas.Bool.{and_from, or_left, or_right}
+use Rattle.std.proofs.lemmas.Bool.{and_from, or_left, or_right, eqb-true}
+use Rattle.jf_bytes.proofs.Tests.{equals_itself}
+use Rattle.jf_bytes.proofs.Lists.{slice_get-set_same}
 use Rattle.jvm_model.specs.declared.program.Program.{Program}
 use Rattle.jvm_model.specs.Instructions.SymbolicReference.{resolved_name}
 use Rattle.jvm_model.specs.Basis.Programs.{class_named, has_name}
@@ -14,9 +16,8 @@ use Rattle.jvm_model.proofs.Soundness.SoundKinds.{named-class}
 use Rattle.jvm_model.specs.declared.instruction.SymbolicReference.{SymbolicReference}
 use Rattle.possible_callees.specs.Tables.{list_at, with_item}
 use Rattle.possible_callees.proofs.Truths.{or-assoc}
-use Rattle.possible_callees.proofs.Numbers.Adding.{equal, itself}
 use Rattle.possible_callees.proofs.Classes.LineageLemmas.{below-or-past}
-use Rattle.possible_callees.proofs.Numbers.TableLemmas.{at-other, at-same, length-with, nothing_past, set-length, set-other, set-same}
+use Rattle.possible_callees.proofs.Numbers.TableLemmas.{at-other, at-same, length-with, nothing_past, set-length, set-other}
 use Rattle.call_revelation.specs.declared.uses.Use.{Use}
 use Rattle.call_revelation.specs.Books.{Codes, HasMore, IsBook, IsListed, code_at, has_use, is_noted, is_use, use_of, with_noted, with_use, with_uses}
 
@@ -38,7 +39,7 @@ use-kept caller at class n u lists h = by (class == n) refl
     there same (inr past) = sym (ap (λ l. has_use caller at (list_at l class)) (nothing_past u n lists past)) ∙ h
 
     by : (b : Bool) → (class == n) ≡ b → has_use caller at (list_at (with_item n u lists) class) ≡ true
-    by true e = there (equal class n e) (below-or-past n (length lists))
+    by true e = there (eqb-true class n e) (below-or-past n (length lists))
     by false e = ap (has_use caller at) (at-other u n class lists e) ∙ h
 
 use-there : (caller at n : ℕ) (lists : List (List Use)) → n < length lists → has_use caller at (list_at (with_item n (use_of caller at) lists) n) ≡ true
@@ -46,7 +47,7 @@ use-there caller at n lists within =
     ap (has_use caller at) (at-same (use_of caller at) n lists within)
     ∙ (any-append (is_use caller at) (list_at lists n) (use_of caller at ∷ [])
     ∙ or_right (has_use caller at (list_at lists n)) (has_use caller at (use_of caller at ∷ []))
-    (or_left (is_use caller at (use_of caller at)) false (and_from (caller == caller) (at == at) (itself caller) (itself at))))
+    (or_left (is_use caller at (use_of caller at)) false (and_from (caller == caller) (at == at) (equals_itself caller) (equals_itself at))))
 
 pub more-same : (lists : List (List Use)) → HasMore lists lists
 more-same lists = record { places = refl; kept = λ caller at class h. h }
@@ -134,14 +135,14 @@ module _ (p : Program) (codes : Codes) (waiting calls : List (List Use)) (book :
   calls_more = with_uses p true method 0 ns calls
 
   here : code_at more method ≡ Some ns
-  here = ap option_flatten (set-same codes method (Some ns) within)
+  here = ap option_flatten (slice_get-set_same codes method (Some ns) within)
 
   -- of the method itself, or of another
   which : (k : ℕ) (xs : List SymbolicReference) → code_at more k ≡ Some xs → ((k ≡ method) × (xs ≡ ns)) ⊎ (code_at codes k ≡ Some xs)
   which k xs e = by (k == method) refl
     where
       by : (b : Bool) → (k == method) ≡ b → ((k ≡ method) × (xs ≡ ns)) ⊎ (code_at codes k ≡ Some xs)
-      by true h = let same = equal k method h in inl (same, same_Some xs ns (sym e ∙ (ap (code_at more) same ∙ here)))
+      by true h = let same = eqb-true k method h in inl (same, same_Some xs ns (sym e ∙ (ap (code_at more) same ∙ here)))
       by false h = inr (sym (ap option_flatten (set-other codes method k (Some ns) h)) ∙ e)
 
   pub book-read : IsBook p more waiting_more calls_more
@@ -183,7 +184,7 @@ module _ (p : Program) (codes : Codes) (waiting calls : List (List Use)) (book :
   still-read k h = by (k == method) refl
     where
       by : (b : Bool) → (k == method) ≡ b → is_some (code_at more k) ≡ true
-      by true e = ap (λ j. is_some (code_at more j)) (equal k method e) ∙ has-read
+      by true e = ap (λ j. is_some (code_at more j)) (eqb-true k method e) ∙ has-read
       by false e = ap (λ o. is_some (option_flatten o)) (set-other codes method k (Some ns) e) ∙ h
 
 -- ---- at first

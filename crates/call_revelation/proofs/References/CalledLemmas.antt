@@ -2,7 +2,9 @@
 use Rattle.std.proofs.Common.{◌≡◌, ℕ, ◌<◌, Bool, true, false, List, [], ◌∷◌, ◌++◌, length, ap, sym, subst, refl, ◌∙◌, inl, inr}
 use Rattle.std.specs.Prelude.{flat_map, replicate, slice_set, unwrap_or, Option, ◌==◌, ◌||◌, ◌⊎◌, if◌then◌else◌}
 use Rattle.std.specs.Option.{option_to_list}
-use Rattle.std.proofs.lemmas.Bool.{false≢true, or_cases, or_left, or_right}
+use Rattle.std.proofs.lemmas.Bool.{false≢true, or_cases, or_left, or_right, eqb-true}
+use Rattle.jf_bytes.proofs.Tests.{equals_itself}
+use Rattle.jf_bytes.proofs.Lists.{slice_get-set_same}
 use Rattle.jvm_model.specs.declared.program.Program.{Program}
 use Rattle.jvm_model.specs.Classes.Load.{is_among}
 use Rattle.jvm_model.specs.Classes.Lookup.{is_subtype}
@@ -12,14 +14,15 @@ use Rattle.jvm_model.specs.Basis.Programs.{class_named}
 use Rattle.jvm_model.specs.Profiling.Revelation.{symbolic_references_of}
 use Rattle.jvm_model.specs.Soundness.Sound.{HasSupertypes}
 use Rattle.jvm_model.specs.Profiling.Targets.{operations_of}
+use Rattle.jvm_model.proofs.Loading.Among.{among-append}
 use Rattle.class_index.specs.Orders.{with_class}
 use Rattle.possible_callees.specs.declared.lineage.Lineage.{Lineage}
 use Rattle.possible_callees.specs.Lineages.{IsClosed, IsLineage, IsNoted, direct, class_noted}
 use Rattle.possible_callees.specs.Tables.{list_at}
 use Rattle.possible_callees.proofs.Truths.{or-false}
-use Rattle.possible_callees.proofs.Numbers.Adding.{among-append, among-with, equal, itself, to_flat}
+use Rattle.possible_callees.proofs.Numbers.Adding.{among-with, to_flat}
 use Rattle.possible_callees.proofs.Classes.LineageLemmas.{loaded-before, noted-there, nothing-noted}
-use Rattle.possible_callees.proofs.Numbers.TableLemmas.{set-length, set-other, set-same}
+use Rattle.possible_callees.proofs.Numbers.TableLemmas.{set-length, set-other}
 use Rattle.call_revelation.specs.declared.named.Named.{Named}
 use Rattle.call_revelation.specs.Books.{is_call}
 use Rattle.call_revelation.specs.CalledClasses.{AreHanded, HasCalled, HasUppers, called_class, classes_called, uppers_of}
@@ -72,7 +75,7 @@ handed-noted p v old new class lower lined own closed only noted_is added is = r
   whole = λ x upper within there sub among.
       elim (or_cases (is_among upper old.classes) (upper == class) (sym (among-with upper old.classes class) ∙ (sym (ap (is_among upper) added) ∙ among))) [
         | inl before ↦ only.more x upper (is.whole x upper within there sub before)
-        | inr same ↦ handed x upper (equal upper class same) within there sub
+        | inr same ↦ handed x upper (eqb-true upper class same) within there sub
       ];
 }
   where
@@ -88,7 +91,7 @@ handed-noted p v old new class lower lined own closed only noted_is added is = r
 -- ---- a class more
 
 list-same : (lists : List (List ℕ)) (n : ℕ) (list : List ℕ) → n < length lists → list_at (slice_set lists n list) n ≡ list
-list-same lists n list within = ap (λ (o : Option (List ℕ)). unwrap_or o []) (set-same lists n list within)
+list-same lists n list within = ap (λ (o : Option (List ℕ)). unwrap_or o []) (slice_get-set_same lists n list within)
 
 list-other : (lists : List (List ℕ)) (n k : ℕ) (list : List ℕ) → (k == n) ≡ false → list_at (slice_set lists n list) k ≡ list_at lists k
 list-other lists n k list other = ap (λ (o : Option (List ℕ)). unwrap_or o []) (set-other lists n k list other)
@@ -115,7 +118,7 @@ module _ (p : Program) (loaded : List ℕ) (old new : Named) (class : ℕ) (uppe
       by : (x upper : ℕ) → upper < length p.classes → is_among x loaded ≡ true → is_subtype p x upper ≡ true → is_among upper new.classes ≡ true
           → (b : Bool) → (x == class) ≡ b → is_among upper (list_at new.above.items x) ≡ true
       by x upper within there sub among false e = of-other x upper e within there sub among
-      by x upper within there sub among true e = absurd (false≢true (sym fresh ∙ (sym (ap (λ k. is_among k loaded) (equal x class e)) ∙ there)))
+      by x upper within there sub among true e = absurd (false≢true (sym fresh ∙ (sym (ap (λ k. is_among k loaded) (eqb-true x class e)) ∙ there)))
 
   module _ (all : (upper : ℕ) → upper < length p.classes → is_among upper old.classes ≡ true → is_subtype p class upper ≡ true → is_among upper uppers ≡ true) where
     of-class : (upper : ℕ) → upper < length p.classes → is_subtype p class upper ≡ true → is_among upper new.classes ≡ true
@@ -134,7 +137,7 @@ module _ (p : Program) (loaded : List ℕ) (old new : Named) (class : ℕ) (uppe
         by : (x upper : ℕ) → upper < length p.classes → is_among x (loaded ++ class ∷ []) ≡ true → is_subtype p x upper ≡ true → is_among upper new.classes ≡ true
             → (b : Bool) → (x == class) ≡ b → is_among upper (list_at new.above.items x) ≡ true
         by x upper within there sub among true e =
-            let same : x ≡ class = equal x class e in
+            let same : x ≡ class = eqb-true x class e in
             ap (λ k. is_among upper (list_at new.above.items k)) same ∙ of-class upper within (ap (λ k. is_subtype p k upper) (sym same) ∙ sub) among
         by x upper within there sub among false e =
             elim (or_cases (is_among x loaded) (is_among x (class ∷ [])) (sym (among-append x loaded (class ∷ [])) ∙ there)) [
@@ -157,7 +160,7 @@ all-uppers p loaded v class uppers is above are upper within among sub =
     by (inl same) =
         or_left (is_among upper own) (is_among upper (flat_map (list_at v.above.items) (direct p class)))
         (ap (λ b. is_among upper (if b then class ∷ [] else [])) (ap (λ k. is_among k v.classes) same ∙ among)
-        ∙ or_left (upper == class) false (ap (λ k. upper == k) same ∙ itself upper))
+        ∙ or_left (upper == class) false (ap (λ k. upper == k) same ∙ equals_itself upper))
     by (inr s) =
         or_right (is_among upper own) (is_among upper (flat_map (list_at v.above.items) (direct p class)))
         (to_flat (list_at v.above.items) (direct p class) s.by upper s.there
@@ -175,5 +178,5 @@ pub uppers-known : (p : Program) (loaded : List ℕ) (v : Named) (entered : List
     → ((m : ℕ) → is_among m entered ≡ true → HasCalled p v m) → HasUppers p entered class (list_at v.above.items class)
 uppers-known p loaded v entered class is called caller upper there names sub =
     is.whole class upper (called-within p caller upper names)
-    (among-append class loaded (class ∷ []) ∙ or_right (is_among class loaded) (is_among class (class ∷ [])) (or_left (class == class) false (itself class)))
+    (among-append class loaded (class ∷ []) ∙ or_right (is_among class loaded) (is_among class (class ∷ [])) (or_left (class == class) false (equals_itself class)))
     sub (called caller there upper names)

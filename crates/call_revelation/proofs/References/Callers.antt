@@ -2,6 +2,7 @@
 use Rattle.std.proofs.Common.{◌≡◌, ℕ, List, [], ◌++◌, ◌∷◌, ap, refl, subst, sym, ◌∙◌}
 use Rattle.std.specs.Prelude.{Some, flat_map, ◌||◌}
 use Rattle.std.specs.List.{AllByRecursion}
+use Rattle.jf_bytes.proofs.Lists.{each_at}
 use Rattle.jvm_model.specs.declared.program.Program.{Program}
 use Rattle.jvm_model.specs.Classes.Load.{is_among}
 use Rattle.jvm_model.specs.Profiling.Revelation.{symbolic_references_of}
@@ -13,13 +14,12 @@ use Rattle.possible_callees.proofs.Numbers.Adding.{adds-then}
 use Rattle.possible_callees.proofs.References.CallerLemmas.{callers-loaded}
 use Rattle.call_revelation.specs.declared.uses.Use.{Use}
 use Rattle.call_revelation.specs.Books.{Codes, IsBook, called_from, code_at, methods_gathered, symbolic_reference_at, of_entered}
-use Rattle.call_revelation.proofs.Revelations.First.{all-get}
 use Rattle.call_revelation.proofs.Classes.LoadStep.{read-at}
 
 module _ (p : Program) (loaded : List ℕ) (codes : Codes) (waiting calls : List (List Use)) (book : IsBook p codes waiting calls) (fit : IsFit p) where
   pub loaded-caller : (u : Use) (n : SymbolicReference) → symbolic_reference_at codes u ≡ Some n → HasClass p loaded u.caller → HasLoadedCaller p loaded n
   loaded-caller u n e has =
-      all-get (HasLoadedCaller p loaded) (symbolic_references_of (operations_of p u.caller)) u.at n (callers-loaded p loaded fit u.caller has)
+      each_at (HasLoadedCaller p loaded) (symbolic_references_of (operations_of p u.caller)) u.at n (callers-loaded p loaded fit u.caller has)
       (read-at p codes waiting calls book [] u (code_at codes u.caller) n refl e)
 
   pub callers-there : (method : ℕ) (ns : List SymbolicReference) → code_at codes method ≡ Some ns → HasClass p loaded method

@@ -17,7 +17,7 @@ use Rattle.jvm_model.specs.declared.instruction.SymbolicReference.{SymbolicRefer
 use Rattle.jvm_model.specs.declared.instruction.SymbolicReference.TheVariants.{New, Getfield, Putfield, Getstatic, Putstatic, Invokevirtual, Invokespecial, Invokestatic, Invokeinterface, Checkcast, Instanceof, Anewarray, Multianewarray, LdcClass}
 use Rattle.jvm_model.specs.Profiling.Revelation.{gained_by, gained_by_operation, gained_call, gained_in, gained_named, gained_on, is_named, symbolic_reference_in, symbolic_references_of}
 use Rattle.jvm_model.specs.Profiling.Targets.{begun_by, begun_by_operation, loaded_class_named, targets_in}
-use Rattle.possible_callees.proofs.Numbers.Adding.{among-append}
+use Rattle.jvm_model.proofs.Loading.Among.{among-append}
 use Rattle.call_revelation.specs.Books.{called_on, is_call}
 
 -- ---- an operation and what it names

@@ -1,10 +1,12 @@
 -- A revelation of which nothing is selected, entered or loaded.
-use Rattle.std.proofs.Common.{◌≡◌, ℕ, zero, suc, ◌+◌, ◌<◌, ◌≤◌, Bool, true, false, List, [], ◌∷◌, ◌++◌, length, ap, sym, subst, refl, ◌∙◌, arith}
+use Rattle.std.proofs.Common.{◌≡◌, ℕ, zero, suc, ◌+◌, ◌<◌, ◌≤◌, Bool, true, false, List, [], ◌∷◌, length, ap, sym, subst, refl, ◌∙◌, arith}
 use Rattle.std.specs.Prelude.{Option, Some, None, is_some, replicate, slice_get, ◌==◌, if◌then◌else◌}
 use Rattle.std.specs.List.{AllByRecursion}
 use Rattle.std.specs.Option.{option_map_or}
 use Rattle.std.proofs.lemmas.Bool.{false≢true, or_left, or_right}
 use Rattle.std.proofs.lemmas.Option.{none-some, same_Some}
+use Rattle.jf_bytes.proofs.Lists.{each_append, each_at}
+use Rattle.jf_bytes.proofs.Tests.{equals_itself}
 use Rattle.const_pool.specs.declared.class.ClassFile.{ClassFile}
 use Rattle.const_pool.specs.declared.class.Member.{Member}
 use Rattle.jvm_model.specs.declared.event.Mark.TheVariants.{Off}
@@ -17,11 +19,11 @@ use Rattle.jvm_model.specs.Basis.Programs.{coded_from, methods_numbered, numbere
 use Rattle.jvm_model.specs.Profiling.Revealed.{mark_of}
 use Rattle.jvm_model.specs.Soundness.Sound.{IsFit}
 use Rattle.jvm_model.specs.Profiling.Targets.{operations_of}
+use Rattle.jvm_model.proofs.Loading.Among.{among-append}
 use Rattle.member_selection.specs.Numbers.{AreNumbers}
 use Rattle.prepared_code.specs.Prepared.{HasShortCodes}
 use Rattle.possible_callees.specs.Lineages.{IsLineage}
 use Rattle.possible_callees.specs.Tables.{list_at, with_item}
-use Rattle.possible_callees.proofs.Numbers.Adding.{among-append, itself}
 use Rattle.possible_callees.proofs.Classes.LineageLemmas.{item-kept}
 use Rattle.possible_callees.proofs.Numbers.TableLemmas.{at-same, length-with}
 use Rattle.call_revelation.specs.declared.reveal.Reveal.{Reveal}
@@ -32,15 +34,6 @@ use Rattle.call_revelation.specs.Reveals.{AreOwned, IsRevelation, mark_at, mark_
 use Rattle.call_revelation.proofs.Revelations.FlagLemmas.{no-flag}
 
 -- ---- methods stand in classes of the program
-
-all-append : {A : Type 0} (P : A → Type 0) (xs ys : List A) → AllByRecursion P xs → AllByRecursion P ys → AllByRecursion P (xs ++ ys)
-all-append P [] ys first second = second
-all-append P (x ∷ xs) ys first second = (first.0, all-append P xs ys first.1 second)
-
-pub all-get : {A : Type 0} (P : A → Type 0) (xs : List A) (i : ℕ) (x : A) → AllByRecursion P xs → slice_get xs i ≡ Some x → P x
-all-get P [] i x all e = absurd (none-some x e)
-all-get P (y ∷ ys) zero x all e = subst P (same_Some y x e) all.0
-all-get P (y ∷ ys) (suc i) x all e = all-get P ys i x all.1 e
 
 abbrev IsWithin : ℕ → MethodPlace → Type 0
 IsWithin n place = place.class < n
@@ -57,12 +50,12 @@ coded-within n class at (m ∷ ms) within = by (is_some (code_of m)) (coded-with
 numbered-within : (n class : ℕ) (cs : List ClassFile) → class + length cs ≤ n → AllByRecursion (IsWithin n) (numbered_from class cs)
 numbered-within n class [] within = tt
 numbered-within n class (c ∷ cs) within =
-    all-append (IsWithin n) (coded_from class 0 c.methods) (numbered_from (class + 1) cs) (coded-within n class 0 c.methods (omega (arith, within)))
+    each_append (IsWithin n) (coded_from class 0 c.methods) (numbered_from (class + 1) cs) (coded-within n class 0 c.methods (omega (arith, within)))
     (numbered-within n (class + 1) cs (omega (arith, within)))
 
 pub place-within : (p : Program) → p.methods ≡ methods_numbered p.classes → (m : ℕ) (place : MethodPlace) → place_of_method p m ≡ Some place → place.class < length p.classes
 place-within p is m place e =
-    all-get (IsWithin (length p.classes)) p.methods m place
+    each_at (IsWithin (length p.classes)) p.methods m place
     (subst (AllByRecursion (IsWithin (length p.classes))) (sym is) (numbered-within (length p.classes) 0 p.classes (omega arith))) e
 
 -- ---- the methods of each class
@@ -82,7 +75,7 @@ owned-there n (x ∷ ms) lists zero m place e is within =
     (ap (λ c. is_among m (list_at (with_item c n lists) place.class)) same
     ∙ (ap (is_among m) (at-same n place.class lists within)
     ∙ (among-append m (list_at lists place.class) (n ∷ [])
-    ∙ or_right (is_among m (list_at lists place.class)) (is_among m (n ∷ [])) (or_left (m == n) false (ap (λ k. k == n) (let z : m ≡ n = omega (arith, is) in z) ∙ itself n)))))
+    ∙ or_right (is_among m (list_at lists place.class)) (is_among m (n ∷ [])) (or_left (m == n) false (ap (λ k. k == n) (let z : m ≡ n = omega (arith, is) in z) ∙ equals_itself n)))))
 owned-there n (x ∷ ms) lists (suc i) m place e is within =
     owned-there (n + 1) ms (with_item x.class n lists) i m place e (omega (arith, is)) (subst (λ k. place.class < k) (sym (length-with n x.class lists)) within)
 

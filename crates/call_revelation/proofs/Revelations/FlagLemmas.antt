@@ -1,11 +1,13 @@
 -- Flags of methods, where one is set and where room is made.
 use Rattle.std.proofs.Common.{◌≡◌, ℕ, zero, suc, ◌<◌, Bool, true, false, List, [], ◌∷◌, ◌++◌, length, ap, sym, refl, ◌∙◌}
 use Rattle.std.specs.Prelude.{Option, not, replicate, slice_set, unwrap_or, ◌==◌, ◌&&◌, ◌||◌, if◌then◌else◌}
+use Rattle.std.proofs.lemmas.Bool.{eqb-true}
+use Rattle.jf_bytes.proofs.Lists.{slice_get-set_same}
 use Rattle.jvm_model.specs.Classes.Load.{is_among}
 use Rattle.jvm_model.specs.Profiling.Revealed.{without_method}
 use Rattle.possible_callees.specs.Tables.{IsPadded}
-use Rattle.possible_callees.proofs.Numbers.Adding.{among-filter, equal}
-use Rattle.possible_callees.proofs.Numbers.TableLemmas.{set-other, set-same}
+use Rattle.possible_callees.proofs.Numbers.Adding.{among-filter}
+use Rattle.possible_callees.proofs.Numbers.TableLemmas.{set-other}
 use Rattle.call_revelation.specs.Flags.{AreFlagged, flag_at}
 
 -- ---- flags
@@ -38,7 +40,7 @@ pub flagged-more : (flags : List Bool) (methods : List ℕ) (method : ℕ) → A
 flagged-more flags methods method are within m = by (m == method) refl
   where
     by : (b : Bool) → (m == method) ≡ b → flag_at (slice_set flags method true) m ≡ (b || is_among m (without_method method methods))
-    by true e = ap (flag_at (slice_set flags method true)) (equal m method e) ∙ ap (λ (o : Option Bool). unwrap_or o false) (set-same flags method true within)
+    by true e = ap (flag_at (slice_set flags method true)) (eqb-true m method e) ∙ ap (λ (o : Option Bool). unwrap_or o false) (slice_get-set_same flags method true within)
     by false e =
         ap (λ (o : Option Bool). unwrap_or o false) (set-other flags method m true e)
         ∙ (are m ∙ sym (among-others method m methods ∙ ap (λ b. if b then false else is_among m methods) e))
@@ -54,7 +56,7 @@ flagged-less flags methods method are m = by (m == method) refl
 
     by : (b : Bool) → (m == method) ≡ b → flag_at (slice_set flags method false) m ≡ is_among m (without_method method methods)
     by true e =
-        ap (flag_at (slice_set flags method false)) (equal m method e)
+        ap (flag_at (slice_set flags method false)) (eqb-true m method e)
         ∙ (off flags method ∙ sym (among-others method m methods ∙ ap (λ b. if b then false else is_among m methods) e))
     by false e =
         ap (λ (o : Option Bool). unwrap_or o false) (set-other flags method m false e)

@@ -2,7 +2,8 @@
 use Rattle.std.proofs.Common.{◌≡◌, ℕ, ◌<◌, Bool, true, false, List, [], ◌∷◌, ◌++◌, length, ap, sym, subst, refl, ◌∙◌, inl, inr}
 use Rattle.std.specs.Prelude.{Option, Some, None, is_some, not, slice_set, unwrap_or, ◌==◌, ◌||◌, ◌&&◌}
 use Rattle.std.specs.Option.{option_map_or}
-use Rattle.std.proofs.lemmas.Bool.{false≢true, or_cases, or_left, or_parts}
+use Rattle.std.proofs.lemmas.Bool.{false≢true, or_cases, or_left, or_parts, eqb-true}
+use Rattle.jf_bytes.proofs.Lists.{slice_get-set_same}
 use Rattle.jvm_model.specs.declared.program.MethodPlace.{MethodPlace}
 use Rattle.jvm_model.specs.declared.program.Program.{Program}
 use Rattle.jvm_model.specs.Classes.Load.{is_among}
@@ -11,13 +12,14 @@ use Rattle.jvm_model.specs.Basis.Programs.{place_of_method}
 use Rattle.jvm_model.specs.Profiling.Revealed.{mark_of, without_method}
 use Rattle.jvm_model.specs.Soundness.Sound.{HasClass, HasSupertypes}
 use Rattle.jvm_model.specs.Profiling.Targets.{operations_of, targets_in}
+use Rattle.jvm_model.proofs.Loading.Among.{among-append}
 use Rattle.class_linker.specs.Linkers.{IsLoaded, LinkerView}
 use Rattle.possible_callees.specs.declared.lineage.Lineage.{Lineage}
 use Rattle.possible_callees.specs.Lineages.{IsLineage}
 use Rattle.possible_callees.specs.Tables.{Adds, IsPrefix, list_at}
 use Rattle.possible_callees.proofs.Truths.{or-false}
-use Rattle.possible_callees.proofs.Numbers.Adding.{among-append, among-filter, among-with, equal}
-use Rattle.possible_callees.proofs.Numbers.TableLemmas.{set-length, set-other, set-same}
+use Rattle.possible_callees.proofs.Numbers.Adding.{among-filter, among-with}
+use Rattle.possible_callees.proofs.Numbers.TableLemmas.{set-length, set-other}
 use Rattle.possible_callees.proofs.Numbers.Fronts.{front-among}
 use Rattle.call_revelation.specs.declared.book.Book.{Book}
 use Rattle.call_revelation.specs.declared.named.Named.{Named}
@@ -127,7 +129,7 @@ pub ahead-more : (l : LinkerView) (r : Reveal) (new : ℕ) (next : Reveal) → I
 ahead-more l r new next ahead there loaded = record {
   loaded = λ class h. elim (or_cases (is_among class r.lineage.loaded) (is_among class (new ∷ [])) (sym (among-append class r.lineage.loaded (new ∷ [])) ∙ (sym (ap (is_among class) loaded) ∙ h))) [
     | inl old ↦ ahead.loaded class old
-    | inr same ↦ ap (λ c. is_among c l.loaded) (equal class new (sym (or-false (class == new)) ∙ same)) ∙ there
+    | inr same ↦ ap (λ c. is_among c l.loaded) (eqb-true class new (sym (or-false (class == new)) ∙ same)) ∙ there
   ];
   root = ahead.root;
 }
@@ -141,7 +143,7 @@ other-class p own loaded new m owned none = by (place_of_method p m) refl
     test : (place : MethodPlace) (b : Bool) → place_of_method p m ≡ Some place → (place.class == new) ≡ b
         → is_among place.class (loaded ++ new ∷ []) ≡ is_among place.class loaded
     test place true e same =
-        absurd (false≢true (sym none ∙ (ap (λ c. is_among m (list_at own c)) (sym (equal place.class new same)) ∙ owned place e)))
+        absurd (false≢true (sym none ∙ (ap (λ c. is_among m (list_at own c)) (sym (eqb-true place.class new same)) ∙ owned place e)))
     test place false e other =
         among-append place.class loaded (new ∷ []) ∙ (ap (λ b. is_among place.class loaded || (b || false)) other ∙ or-false (is_among place.class loaded))
 
@@ -203,7 +205,7 @@ module _ (p : Program) (r : Reveal) (is : IsRevelation p r) (method : ℕ) (with
   if-entered : (P : ℕ → Type 0) (m : ℕ) → is_among m entered ≡ true → P method → (is_among m r.entered ≡ true → P m) → P m
   if-entered P m h first behind =
       elim (or_cases (m == method) (is_among m r.entered) h) [
-        | inl same ↦ subst P (sym (equal m method same)) first
+        | inl same ↦ subst P (sym (eqb-true m method same)) first
         | inr there ↦ behind there
       ]
 
@@ -212,8 +214,8 @@ module _ (p : Program) (r : Reveal) (is : IsRevelation p r) (method : ℕ) (with
     where
       by : (b : Bool) → (m == method) ≡ b → flag_at (slice_set r.flags method true) m ≡ (b || is_among m r.entered)
       by true e =
-          ap (λ k. flag_at (slice_set r.flags method true) k) (equal m method e)
-          ∙ ap (λ (o : Option Bool). unwrap_or o false) (set-same r.flags method true (subst (λ n. method < n) (sym is.kept.flagged) within))
+          ap (λ k. flag_at (slice_set r.flags method true) k) (eqb-true m method e)
+          ∙ ap (λ (o : Option Bool). unwrap_or o false) (slice_get-set_same r.flags method true (subst (λ n. method < n) (sym is.kept.flagged) within))
       by false e = ap (λ (o : Option Bool). unwrap_or o false) (set-other r.flags method m true e) ∙ is.kept.flags m
 
   target-too : (m : ℕ) → is_target p (operations_of p) r.lineage.loaded entered m ≡ (is_target p (operations_of p) r.lineage.loaded r.entered m || is_among m found)

@@ -3,8 +3,10 @@ use Rattle.std.proofs.Common.{◌≡◌, ℕ, zero, suc, ◌+◌, ◌<◌, ◌�
 use Rattle.std.specs.Prelude.{Option, Some, None, ◌⊎◌, filter_map, not, slice_get, slice_set, unwrap_or, ◌==◌, ◌&&◌, if◌then◌else◌}
 use Rattle.std.specs.List.{cons_option, enumerate_from, list_any}
 use Rattle.std.specs.Option.{option_and_then, option_map_or}
-use Rattle.std.proofs.lemmas.Bool.{and_from, false≢true, or_cases, or_left, or_right}
+use Rattle.std.proofs.lemmas.Bool.{and_from, false≢true, or_cases, or_left, or_right, eqb-true, and_parts}
 use Rattle.std.proofs.lemmas.Option.{none-some, same_Some}
+use Rattle.jf_bytes.proofs.Tests.{equals_itself}
+use Rattle.jf_bytes.proofs.Lists.{slice_get-set_same}
 use Rattle.jvm_model.specs.declared.event.Mark.{Mark}
 use Rattle.jvm_model.specs.declared.event.Mark.TheVariants.{Off, Plain, Root}
 use Rattle.jvm_model.specs.declared.program.MethodPlace.{MethodPlace}
@@ -16,17 +18,16 @@ use Rattle.jvm_model.specs.Profiling.Swaps.{differs, same_mark}
 use Rattle.jvm_model.specs.Profiling.Targets.{operations_of}
 use Rattle.possible_callees.specs.Tables.{IsRising}
 use Rattle.possible_callees.specs.Ranks.{AreDistinct, rank_of}
-use Rattle.possible_callees.proofs.Truths.{alike, first-of, second-of}
-use Rattle.possible_callees.proofs.Numbers.Adding.{equal, itself}
+use Rattle.possible_callees.proofs.Truths.{alike}
 use Rattle.possible_callees.proofs.Classes.RankLemmas.{rank-is, rank-there}
-use Rattle.possible_callees.proofs.Numbers.TableLemmas.{set-length, set-other, set-same}
+use Rattle.possible_callees.proofs.Numbers.TableLemmas.{set-length, set-other}
 use Rattle.possible_callees.proofs.Classes.LineageLemmas.{below-or-past}
 use Rattle.call_revelation.specs.declared.reveal.Reveal.{Reveal}
 use Rattle.call_revelation.specs.Reveals.{IsRevelation, class_changed, mark_at, mark_by, mark_kept, now_of, rank_changed, with_marks}
 use Rattle.call_revelation.proofs.Classes.InLoadOrder.{in-order}
 use Rattle.call_revelation.proofs.Revelations.Marking.{mark-is}
 
-same-itself : (a : Mark) → same_mark a a ≡ true
+pub same-itself : (a : Mark) → same_mark a a ≡ true
 same-itself Off = refl
 same-itself Plain = refl
 same-itself Root = refl
@@ -84,7 +85,7 @@ made-from f (x ∷ xs) y h = by (f x) refl h (made-from f xs y)
     by None e h rest = behind (rest h)
     by (Some z) e h rest =
         elim (or_cases (y == z) (is_among y (filter_map f xs)) h) [
-          | inl same ↦ record { item = x; there = or_left (x == x) (is_among x xs) (itself x); gives = e ∙ ap (λ w. Some w) (sym (equal y z same)) }
+          | inl same ↦ record { item = x; there = or_left (x == x) (is_among x xs) (equals_itself x); gives = e ∙ ap (λ w. Some w) (sym (eqb-true y z same)) }
           | inr later ↦ behind (rest later)
         ]
 
@@ -92,7 +93,7 @@ made-to : (f : ℕ → Option ℕ) (xs : List ℕ) (x y : ℕ) → is_among x xs
 made-to f [] x y there e = absurd (false≢true there)
 made-to f (z ∷ zs) x y there e =
     elim (or_cases (x == z) (is_among x zs) there) [
-      | inl same ↦ ap (λ o. is_among y (cons_option o (filter_map f zs))) (ap f (sym (equal x z same)) ∙ e) ∙ or_left (y == y) (is_among y (filter_map f zs)) (itself y)
+      | inl same ↦ ap (λ o. is_among y (cons_option o (filter_map f zs))) (ap f (sym (eqb-true x z same)) ∙ e) ∙ or_left (y == y) (is_among y (filter_map f zs)) (equals_itself y)
       | inr later ↦ pushed (f z) (made-to f zs x y later e)
     ]
   where
@@ -143,7 +144,7 @@ module _ (p : Program) (r : Reveal) (is : IsRevelation p r) (before : Revealed) 
       any-numbered test 0 p.methods made.item c.place here
       (ap (λ (j : ℕ). test (j, c.place)) (let z : 0 + made.item ≡ made.item = omega arith in z)
       ∙ and_from (c.place.class == class) (not (same_mark (mark_of p before made.item) (mark_of p (now_of r) made.item)))
-      (ap (λ k. k == class) c.is_class ∙ itself class)
+      (ap (λ k. k == class) c.is_class ∙ equals_itself class)
       (ap not (not-same made.item c.place here false c.other)))
 
   -- a method that is not stale was shown as it is
@@ -159,9 +160,9 @@ module _ (p : Program) (r : Reveal) (is : IsRevelation p r) (before : Revealed) 
   changed-from h =
       let i = numbered-any test 0 p.methods h in
       let holds : test (i.index, i.item) ≡ true = ap (λ (j : ℕ). test (j, i.item)) (let z : i.index ≡ 0 + i.index = omega arith in z) ∙ i.holds in
-      let of_class = equal i.item.class class (first-of (i.item.class == class) (not (same_mark (mark_of p before i.index) (mark_of p (now_of r) i.index))) holds) in
+      let of_class = eqb-true i.item.class class (and_parts (i.item.class == class) (not (same_mark (mark_of p before i.index) (mark_of p (now_of r) i.index))) holds).0 in
       let other = is-not (same_mark (mark_of p before i.index) (mark_of p (now_of r) i.index))
-      (second-of (i.item.class == class) (not (same_mark (mark_of p before i.index) (mark_of p (now_of r) i.index))) holds) in
+      (and_parts (i.item.class == class) (not (same_mark (mark_of p before i.index) (mark_of p (now_of r) i.index))) holds).1 in
       made-to (class_changed r) r.stale i.index class (is-stale i.index i.item i.there other)
       (ap (λ b. if b then None else option_map_or (λ (place : MethodPlace). Some place.class) (slice_get r.methods i.index) None)
       (ap₂ (λ x y. same_mark x y) (was-shown i.index i.item i.there) (mark-is p r is i.index) ∙ other)
@@ -231,9 +232,9 @@ mark-stays r (x ∷ rest) shown m within e =
   where
     by : (b : Bool) → (m == x) ≡ b → mark_at (slice_set shown x (mark_kept r x)) m ≡ mark_kept r m
     by true k =
-        let same = equal m x k in
+        let same = eqb-true m x k in
         ap (λ j. mark_at (slice_set shown x (mark_kept r x)) j) same
-        ∙ (ap (λ (o : Option Mark). unwrap_or o Off) (set-same shown x (mark_kept r x) (subst (λ j. j < length shown) same within)) ∙ ap (mark_kept r) (sym same))
+        ∙ (ap (λ (o : Option Mark). unwrap_or o Off) (slice_get-set_same shown x (mark_kept r x) (subst (λ j. j < length shown) same within)) ∙ ap (mark_kept r) (sym same))
     by false k = ap (λ (o : Option Mark). unwrap_or o Off) (set-other shown x m (mark_kept r x) k) ∙ e
 
 mark-set : (r : Reveal) (methods : List ℕ) (shown : List Mark) (m : ℕ) → m < length shown → is_among m methods ≡ true
@@ -243,10 +244,10 @@ mark-set r (x ∷ rest) shown m within h =
     let longer = subst (λ n. m < n) (sym (set-length shown x (mark_kept r x))) within in
     elim (or_cases (m == x) (is_among m rest) h) [
       | inl k ↦
-          let same = equal m x k in
+          let same = eqb-true m x k in
           mark-stays r rest (slice_set shown x (mark_kept r x)) m longer
           (ap (λ j. mark_at (slice_set shown x (mark_kept r x)) j) same
-          ∙ (ap (λ (o : Option Mark). unwrap_or o Off) (set-same shown x (mark_kept r x) (subst (λ j. j < length shown) same within)) ∙ ap (mark_kept r) (sym same)))
+          ∙ (ap (λ (o : Option Mark). unwrap_or o Off) (slice_get-set_same shown x (mark_kept r x) (subst (λ j. j < length shown) same within)) ∙ ap (mark_kept r) (sym same)))
       | inr later ↦ mark-set r rest (slice_set shown x (mark_kept r x)) m longer later
     ]
 

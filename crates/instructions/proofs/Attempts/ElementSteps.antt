@@ -4,6 +4,7 @@ use Rattle.std.specs.Prelude.{if◌then◌else◌, is_none, is_some, pos, ◌==�
 use Rattle.std.specs.Option.{option_map}
 use Rattle.std.proofs.lemmas.Bool.{false≢true, ne_eqb}
 use Rattle.std.proofs.lemmas.Option.{none-some}
+use Rattle.jf_bytes.proofs.Tests.{either}
 use Rattle.const_pool.specs.declared.descriptor.Kind.{Kind}
 use Rattle.heap_objects.specs.declared.datum.Datum.{Datum}
 use Rattle.heap_objects.specs.declared.datum.Datum.TheVariants as datum
@@ -291,10 +292,6 @@ module _ (w : Setup) (run : CanRun w) (line : Line) (k : Kind) (old new : Parts)
       (λ ms at_instruction. length-quiet w run line length_of old new is old.frames.frames ms is.at at_instruction stands)
 
 -- ---- a frame stays in its version
-
-either : {A : Type 0} (b : Bool) → (b ≡ true → A) → (b ≡ false → A) → A
-either true on off = on refl
-either false on off = off refl
 
 module _ (line : Line) (k : Kind) (old new : Parts) (b : Bool) (kept : b ≡ false → new ≡ old) where
   unmoved : b ≡ false → top_version new.frames.frames ≡ top_version old.frames.frames

@@ -1,5 +1,5 @@
 -- A sound state is what an attempt of an instruction that names something asks for, and an attempt leaves one.
-use Rattle.std.proofs.Common.{◌≡◌, ◌<◌, ℕ, refl, List, [], ◌∷◌, ◌++◌, length, map, false, Option, Some, None, sym, ap, subst, ◌∙◌}
+use Rattle.std.proofs.Common.{◌≡◌, ℕ, refl, List, [], ◌∷◌, ◌++◌, length, map, false, Option, Some, None, sym, ap, subst, ◌∙◌}
 use Rattle.std.specs.List.{AllByRecursion}
 use Rattle.std.specs.Option.{IfSome}
 use Rattle.std.proofs.lemmas.Option.{none-some, same_Some}
@@ -19,13 +19,13 @@ use Rattle.jvm_model.specs.Running.Run.{main_class}
 use Rattle.jvm_model.specs.Soundness.Sound as sound
 use Rattle.jvm_model.specs.Soundness.Sound.{CanAttempt, IsFit, IsLoaded, IsSoundOutcome}
 use Rattle.jvm_model.proofs.Soundness.SoundAttempts.{sound-does}
-use Rattle.jvm_model.proofs.Soundness.SoundClasses.{among-front}
 use Rattle.jvm_model.proofs.Soundness.SoundRuns.{loads-again}
 use Rattle.jvm_model.proofs.Soundness.SoundListingRuns.{sound-loaded}
 use Rattle.jvm_model.proofs.Soundness.SoundListingSteps.{entry-grows, sound-applied}
 use Rattle.prepared_code.specs.Ready.{CanRun, IsSoundEntryIn, IsSoundIn, IsTied, RunsIn}
 use Rattle.class_linker.specs.Linkers.{LinkerView}
 use Rattle.jvm_model.specs.Soundness.Sound.{IsPrimitiveArray}
+use Rattle.jvm_model.proofs.Loading.Among.{among-front}
 use Rattle.member_selection.specs.Objects.{HasLoadedCaller}
 use Rattle.prepared_lines.specs.declared.line.Line.{Line}
 use Rattle.prepared_code.specs.declared.initializations.Initialization.{Initialization}

@@ -1,6 +1,7 @@
 -- A line that was passed, whatever it is run as.
 use Rattle.std.proofs.Common.{◌≡◌, ℕ, Bool, true, false, List, [], ◌∷◌, refl, sym, ap, subst, ◌∙◌}
 use Rattle.std.proofs.lemmas.Bool.{false≢true}
+use Rattle.jf_bytes.proofs.Tests.{either}
 use Rattle.const_pool.specs.declared.descriptor.Kind.{Kind}
 use Rattle.code_model.specs.declared.instr.Arg.{Arg}
 use Rattle.frame_stack.specs.FrameLists.{FramesView, PlacedFrame}
@@ -122,10 +123,6 @@ by-actions (operation.Within local_action.Basic) plain local loads stores = loca
 by-actions (operation.LoadElement k) plain local loads stores = loads k refl
 by-actions (operation.StoreElement k) plain local loads stores = stores k refl
 by-actions _ plain local loads stores = absurd (false≢true plain)
-
-either : {A : Type 0} (b : Bool) → (b ≡ true → A) → (b ≡ false → A) → A
-either true on off = on refl
-either false on off = off refl
 
 plain-line : (w : Setup) (fs : List PlacedFrame) (line : Line) → StandsAt w fs line → line.operation ≡ operation.Within local_action.Basic → IsPlainLine w fs line
 plain-line w [] line stands local = absurd stands

@@ -2,6 +2,7 @@
 use Rattle.std.proofs.Common.{◌≡◌, ℕ, Bool, true, false, List, Option, Some, None, refl, sym, ap, subst, ◌∙◌}
 use Rattle.std.specs.Prelude.{is_some, IfNone}
 use Rattle.std.specs.Option.{IfSome}
+use Rattle.jf_bytes.proofs.Lists.{empty_from_length}
 use Rattle.jvm_model.specs.declared.due.Due.{Due}
 use Rattle.jvm_model.specs.declared.state.State.{State}
 use Rattle.jvm_model.specs.Basis.Data.{Turn}
@@ -23,7 +24,6 @@ use Rattle.interpreter.specs.Moves.Trying.{tried_in}
 use Rattle.prepared_code.specs.Versions.{Setup, current_of, listing_of}
 use Rattle.interpreter.proofs.Moves.PausesSound.{loaded-sound, moved-sound, tried-sound}
 use Rattle.interpreter.proofs.Loads.StartSound.{starts-sound}
-use Rattle.interpreter.proofs.Moves.TriedSteps.{no-classes}
 use Rattle.prepared_code.proofs.Tables.VersionsAgree.{versions-agree}
 
 -- ---- the rest of the same step is in hand
@@ -58,7 +58,7 @@ module _ (w : Setup) (run : CanRun w) (s new : State) where
   pub attempt-sound : (o : Option Due) (delivered : Bool) (n passed : ℕ) → is_some o ≡ loads_none w s
       → IfSome o (λ due. pause_at new passed due ≡ tried_in w delivered n s) → IfNone o (new ≡ with_loaded (loads_in w s) s) → IsSoundIn w s → IsSoundIn w new
   attempt-sound (Some due) delivered n passed some reaches loads is =
-      subst (IsSoundIn w) (ap (λ (p : Pause). p.state) (sym reaches)) (tried-sound w run n s is (no-classes (loads_in w s) (sym some)) delivered)
+      subst (IsSoundIn w) (ap (λ (p : Pause). p.state) (sym reaches)) (tried-sound w run n s is (empty_from_length (loads_in w s) (sym some)) delivered)
   attempt-sound None delivered n passed some reaches loads is = subst (IsSoundIn w) (sym loads) (loaded-sound w run s is)
 
 -- ---- where it has stopped

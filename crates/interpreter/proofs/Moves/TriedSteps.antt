@@ -1,10 +1,11 @@
 -- Where a step stops that begins with an attempt, by what attempts of the current frame's line have come to.
-use Rattle.std.proofs.Common.{◌≡◌, ℕ, suc, Bool, true, false, List, [], ◌∷◌, ◌++◌, length, map, Option, Some, None, if◌then◌else◌, refl, sym, subst, ap, ◌∙◌, arith}
+use Rattle.std.proofs.Common.{◌≡◌, ℕ, Bool, true, false, List, [], ◌∷◌, ◌++◌, length, map, Option, Some, None, if◌then◌else◌, refl, sym, subst, ap, ◌∙◌}
 use Rattle.std.specs.Option.{IfSome}
 use Rattle.std.specs.Prelude.{is_none, is_some, not, ◌&&◌, ◌==◌}
 use Rattle.std.proofs.lemmas.Bool.{false≢true, eqb-true, and_parts}
 use Rattle.std.proofs.lemmas.List.{append-nil}
 use Rattle.std.proofs.lemmas.Option.{none-some}
+use Rattle.jf_bytes.proofs.Lists.{empty_from_length}
 use Rattle.frame_stack.specs.FrameLists.{PlacedFrame, has_frame}
 use Rattle.jvm_model.specs.declared.due.Due.{Due}
 use Rattle.jvm_model.specs.declared.due.Due.TheVariants.{Nothing, Ends, Begins}
@@ -323,10 +324,6 @@ module _ (n c : ℕ) (q : Pause) (again : tries_again n c q ≡ true) where
 
 -- ---- over the parts of a machine
 
-pub no-classes : (classes : List ℕ) → (length classes == 0) ≡ true → classes ≡ []
-no-classes [] is = refl
-no-classes (c ∷ more) is = let same : suc (length more) ≡ 0 = eqb-true (suc (length more)) 0 is in absurd (omega arith)
-
 module _ (w : Setup) (run : CanRun w) (ms : List Initialization) (p : Parts) (goes : goes_on_in ms p ≡ true) (n live : ℕ)
     (is_live : live ≡ length p.frames.frames) (none : loads_none w (state_of ms p) ≡ true) (o : Option ℕ) (answer : o ≡ awaited_in w (state_of ms p))
     (mid : State) (instruction_attempted : mid ≡ attempts_on w (state_of ms p) (state_of ms p).stack) where
@@ -337,7 +334,7 @@ module _ (w : Setup) (run : CanRun w) (ms : List Initialization) (p : Parts) (go
   going = going-on ms p goes
 
   empty : loads_in w s ≡ []
-  empty = no-classes (loads_in w s) none
+  empty = empty_from_length (loads_in w s) none
 
   stands : pause_behind_attempt w live n mid ≡ pause_behind_attempt w (live_in s.stack) n (attempts_on w s s.stack)
   stands =

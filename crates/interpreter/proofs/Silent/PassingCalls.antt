@@ -5,6 +5,7 @@ use Rattle.std.specs.Option.{IfSome, option_map}
 use Rattle.std.proofs.lemmas.Bool.{and_parts, false≢true}
 use Rattle.std.proofs.lemmas.List.{append-nil}
 use Rattle.std.proofs.lemmas.Option.{none-some, same_Some}
+use Rattle.std.proofs.Math.Bool.{or-true}
 use Rattle.heap_objects.specs.declared.Value.{Value}
 use Rattle.frame_stack.specs.Widths.{height_of}
 use Rattle.frame_stack.specs.FrameLists.{FramesView, PlacedFrame, has_frame, top_of, top_operands, without_arguments}
@@ -71,10 +72,6 @@ use Rattle.interpreter.proofs.Silent.SilentSteps.{silent-one}
 is-top : (here : Here) (fs : List PlacedFrame) → here_of fs ≡ Some here → IsTop here.method fs
 is-top here [] is = absurd (none-some here is)
 is-top here (f ∷ fs) is = ap (λ (h : Here). h.method) (sym (same_Some _ here is))
-
-or-true : (b : Bool) → (b || true) ≡ true
-or-true true = refl
-or-true false = refl
 
 -- ---- the arguments fit
 

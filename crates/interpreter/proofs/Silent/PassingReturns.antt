@@ -1,9 +1,10 @@
 -- A return from a version that has no probes and is its method's current one is a step of the run of which nothing is told.
-use Rattle.std.proofs.Common.{◌≡◌, ℕ, ◌-◌, Bool, true, false, cond, List, [], ◌∷◌, ◌++◌, length, map, Option, Some, None, refl, sym, ap, ◌∙◌, arith, eqb-true}
+use Rattle.std.proofs.Common.{◌≡◌, ℕ, ◌-◌, true, false, cond, List, [], ◌∷◌, ◌++◌, length, map, Option, Some, None, refl, sym, ap, ◌∙◌, arith, eqb-true}
 use Rattle.std.specs.Prelude.{is_none, is_some, ◌==◌, ◌&&◌, ◌||◌}
 use Rattle.std.specs.Option.{option_map}
 use Rattle.std.proofs.lemmas.Bool.{false≢true}
 use Rattle.std.proofs.lemmas.Option.{none-some, same_Some}
+use Rattle.jf_bytes.proofs.Tests.{either}
 use Rattle.heap_objects.specs.declared.datum.Datum.{Datum}
 use Rattle.const_pool.specs.declared.descriptor.Kind.{Kind}
 use Rattle.frame_stack.specs.FrameLists.{FramesView, PlacedFrame, has_frame, top_operands}
@@ -48,10 +49,6 @@ use Rattle.activations.proofs.TurnsCarried.{top-frame}
 use Rattle.instructions.proofs.Silent.PlainSteps.{at-rest, framed, goes as goes-there}
 use Rattle.instructions.proofs.Silent.QuietLines.{goes-rests, step_by}
 use Rattle.interpreter.proofs.Silent.SilentSteps.{silent-one}
-
-either : {A : Type 0} (b : Bool) → (b ≡ true → A) → (b ≡ false → A) → A
-either true on off = on refl
-either false on off = off refl
 
 -- what the code has found: the result, and where its caller goes on
 pub record GivesBack (w : Setup) (ms : List Initialization) (here : Here) (k : Option Kind) (fs : List PlacedFrame) (d : Option Datum) (next : ℕ) : Type 0 where

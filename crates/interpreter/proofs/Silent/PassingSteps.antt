@@ -1,10 +1,11 @@
 -- A line that names something and raises nothing, where it loads nothing, is a step of the run.
-use Rattle.std.proofs.Common.{◌≡◌, ℕ, Bool, true, false, cond, List, [], ◌∷◌, ◌++◌, length, map, Option, Some, None, refl, sym, ap, subst, ◌∙◌, arith}
-use Rattle.std.specs.Prelude.{IfSome, is_none, is_some, nat_le, ◌==◌, ◌&&◌}
+use Rattle.std.proofs.Common.{◌≡◌, ℕ, Bool, true, false, cond, List, [], ◌∷◌, ◌++◌, length, map, Option, Some, None, refl, sym, ap, subst, ◌∙◌}
+use Rattle.std.specs.Prelude.{IfSome, is_none, is_some, nat_le, ◌&&◌}
 use Rattle.std.specs.Option.{option_map}
 use Rattle.std.proofs.lemmas.Bool.{false≢true}
 use Rattle.std.proofs.lemmas.List.{append-nil}
 use Rattle.std.proofs.lemmas.Option.{none-some, same_Some}
+use Rattle.jf_bytes.proofs.Lists.{empty_from_length}
 use Rattle.frame_stack.specs.Widths.{height_of}
 use Rattle.frame_stack.specs.FrameLists.{FramesView, PlacedFrame, has_frame, top_operands}
 use Rattle.jvm_basic.specs.Outcomes.{can_hold, top_locals, with_top}
@@ -238,20 +239,11 @@ module _ (w : Setup) (run : CanRun w) (ms : List Initialization) (here : Here) (
 
 -- ---- by what the code says of the line
 
-zero-is : (n : ℕ) → (n == 0) ≡ true → n ≡ 0
-zero-is n e = grind (arith)
-
-none-new : (xs : List ℕ) → (length xs == 0) ≡ true → xs ≡ []
-none-new xs is = by xs (zero-is (length xs) is) where
-  by : (xs : List ℕ) → length xs ≡ 0 → xs ≡ []
-  by [] e = refl
-  by (x ∷ xs) e = absurd (omega (arith, e))
-
 module _ (w : Setup) (run : CanRun w) (ms : List Initialization) (here : Here) (line : Line) (kept : SymbolicReference) (old : Parts) (stands : here_of old.frames.frames ≡ Some here)
     (found : line_at w.versions here.version here.place ≡ Some line) (named : line.operation ≡ operation.Named kept) (at_instruction : IsAtInstruction (length old.frames.frames) ms old)
     (silent : loads_nothing w.world.program old.runtime.shared.loaded kept (top_operands old.frames.frames) ≡ true) where
   pub nothing-new : newly_loaded w.world.program old.runtime.shared.loaded kept (top_operands old.frames.frames) ≡ []
-  nothing-new = none-new (newly_loaded w.world.program old.runtime.shared.loaded kept (top_operands old.frames.frames)) silent
+  nothing-new = empty_from_length (newly_loaded w.world.program old.runtime.shared.loaded kept (top_operands old.frames.frames)) silent
 
   same-loaded : (shared : Shared) → shared ≡ (done_on (attempts w.world kept old.runtime.shared old.frames) old.frames).shared → shared.loaded ≡ old.runtime.shared.loaded
   same-loaded shared is =

@@ -5,6 +5,7 @@ use Rattle.std.specs.Prelude.{is_none, is_some, nat_le, ◌==◌, ◌&&◌, ◌|
 use Rattle.std.specs.Option.{option_map}
 use Rattle.std.proofs.lemmas.Bool.{false≢true}
 use Rattle.std.proofs.lemmas.Option.{none-some, same_Some}
+use Rattle.jf_bytes.proofs.Tests.{either}
 use Rattle.heap_objects.specs.declared.Value.TheVariants.{Ref}
 use Rattle.frame_stack.specs.FrameLists.{FramesView, PlacedFrame, has_frame, top_operands}
 use Rattle.method_versions.specs.Tables.{is_superseded_in}
@@ -49,10 +50,6 @@ use Rattle.activations.proofs.TurnsCarried.{top-frame}
 use Rattle.instructions.proofs.Silent.PlainSteps.{framed, goes as goes-there}
 use Rattle.instructions.proofs.Silent.QuietLines.{step_by}
 use Rattle.interpreter.proofs.Silent.SilentSteps.{silent-one}
-
-either : {A : Type 0} (b : Bool) → (b ≡ true → A) → (b ≡ false → A) → A
-either true on off = on refl
-either false on off = off refl
 
 -- ---- the moves behind a throw
 

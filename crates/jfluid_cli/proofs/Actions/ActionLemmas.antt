@@ -6,24 +6,19 @@ use Rattle.std.proofs.lemmas.Bool.{cases_lt, eq-eqb, ne_eqb, lt-ltb, le-ltb, or_
 use Rattle.std.proofs.lemmas.List.{take-append-drop, take_more, drop_more}
 use Rattle.std.proofs.lemmas.List.Elements.{filter-append}
 use Rattle.std.proofs.lemmas.Option.{slice_get_within, slice_get-get_or, slice_get_past, same_Some}
+use Rattle.jf_bytes.proofs.Lists.{each_weaker, each_push}
 use Rattle.jvm_model.specs.declared.event.Act.{Act}
 use Rattle.jvm_model.specs.Soundness.Calls.{AreFrom}
 use Rattle.jvm_model.specs.Turns.Told.{Held}
 use Rattle.profile_session.specs.Sessions.{Profiling, CanActNow, with_act}
 use Rattle.jfluid_cli.specs.Actions.{IsAlong, IsDue, IsLater, IsToCome, Takes}
 use Rattle.jfluid_cli.specs.Runs.{IsFresh, IsPlanned, at_step, is_taken_by}
-use Rattle.jfluid_cli.proofs.Reports.Pairs.{all-push}
 
 -- ---- lists
 
 all-of : {A : Type 0} (P : A → Type 0) (xs : List A) → ((x : A) → P x) → AllByRecursion P xs
 all-of P [] each = tt
 all-of P (x ∷ xs) each = (each x, all-of P xs each)
-
-pub all-weaken : {A : Type 0} (P Q : A → Type 0) (xs : List A) → ((x : A) → P x → Q x) → AllByRecursion P xs
-    → AllByRecursion Q xs
-all-weaken P Q [] f all = tt
-all-weaken P Q (x ∷ xs) f all = (f x all.0, all-weaken P Q xs f all.1)
 
 all-both : {A : Type 0} (P Q R : A → Type 0) (xs : List A) → ((x : A) → P x → Q x → R x) → AllByRecursion P xs
     → AllByRecursion Q xs → AllByRecursion R xs
@@ -141,9 +136,9 @@ one-more now at act along due =
       acts = ap (λ (a : Act). now.acts ++ a ∷ []) is
           ∙ (ap (λ (list : List Act). list ++ act ∷ []) along.acts ∙ sym (take-at at acts act due.there));
       taken = subst (AllByRecursion (λ (a : Act). a.moment ≤ now.clock)) (sym (take-at at acts act due.there))
-          (all-push (λ (a : Act). a.moment ≤ now.clock) (take at acts) act along.taken
+          (each_push (λ (a : Act). a.moment ≤ now.clock) (take at acts) act along.taken
           (let e = due.now in omega (arith, e)));
-      to_come = all-weaken (IsToCome now) (IsToCome (with_act act.select act.method now)) (drop (at + 1) acts)
+      to_come = each_weaker (IsToCome now) (IsToCome (with_act act.select act.method now)) (drop (at + 1) acts)
           (λ a is. record { later = is.later; behind = is.behind }) first.1;
     }
 
@@ -216,14 +211,14 @@ moved-along old n next live along later order le moved before =
       along = record {
         within = along.within;
         acts = along.acts;
-        taken = all-weaken (λ (a : Act). a.moment ≤ old.clock) (λ (a : Act). a.moment ≤ n) (take next acts)
+        taken = each_weaker (λ (a : Act). a.moment ≤ old.clock) (λ (a : Act). a.moment ≤ n) (take next acts)
             (λ a below. omega (arith, below, le)) along.taken;
         to_come = all-both (IsFrom n) (IsFrom (old.clock + 1)) (IsToCome new) (drop next acts)
             (λ a at more. record { later = at; behind = λ started. omega (arith, more) }) from above;
       };
       planned = along.acts
           ∙ front-kept (is_taken_by n) next acts
-          (all-weaken (λ (a : Act). a.moment ≤ old.clock) (λ a. is_taken_by n a ≡ true) (take next acts)
+          (each_weaker (λ (a : Act). a.moment ≤ old.clock) (λ a. is_taken_by n a ≡ true) (take next acts)
           (λ a below. taken-by old.clock n a moved below) along.taken)
           (all-both (IsFrom n) (IsFrom (old.clock + 1)) (λ a. is_taken_by n a ≡ false) (drop next acts)
           (λ a at more. not-taken n a at (omega (arith, more))) from above);

@@ -5,6 +5,7 @@ use Rattle.std.specs.List.{AllByRecursion}
 use Rattle.std.proofs.lemmas.Bool.{cases_lt, eq-eqb, le-leb, lt-leb, ne_eqb}
 use Rattle.std.proofs.lemmas.List.{append-nil}
 use Rattle.std.proofs.lemmas.Option.{same_Some, none-some}
+use Rattle.jf_bytes.proofs.Lists.{each_weaker}
 use Rattle.jvm_model.specs.declared.event.Act.{Act}
 use Rattle.jvm_model.specs.Soundness.Calls.{AreFrom}
 use Rattle.jvm_model.specs.Basis.Data.{Change, Loads, Began, Left, Unwound, Listing, World}
@@ -14,7 +15,7 @@ use Rattle.jvm_model.specs.Profiling.Points.{Standing, acts_at, acts_behind, aft
 use Rattle.jvm_model.specs.Running.Run.{turn_in}
 use Rattle.profile_session.specs.Sessions.{Profiling, is_selected_in, standing_of, world_of}
 use Rattle.jfluid_cli.specs.Actions.{Alternate, CanBeTaken, IsAlong, IsDue, chosen_by}
-use Rattle.jfluid_cli.proofs.Actions.ActionLemmas.{IsFrom, keeps-all, keeps-none, rise, all-weaken}
+use Rattle.jfluid_cli.proofs.Actions.ActionLemmas.{IsFrom, keeps-all, keeps-none, rise}
 
 chosen-append : (selected : List ℕ) (xs ys : List Act) → chosen_by selected (xs ++ ys) ≡ chosen_by (chosen_by selected xs) ys
 chosen-append selected [] ys = refl
@@ -78,7 +79,7 @@ within-no k a more = lt-leb a.moment k more
 none-up-to : (k least : ℕ) (acts : List Act) → AreFrom least acts → k < least → filter (up-to k) acts ≡ []
 none-up-to k least acts order less =
     keeps-none (up-to k) acts
-    (all-weaken (IsFrom least) (λ a. up-to k a ≡ false) acts (λ a from. within-no k a (omega (arith, less, from)))
+    (each_weaker (IsFrom least) (λ a. up-to k a ≡ false) acts (λ a from. within-no k a (omega (arith, less, from)))
     (rise least least acts order (omega arith)))
 
 cons-cond : (b : Bool) (a : Act) (xs ys : List Act) → b ≡ true → cond b (a ∷ xs) ys ≡ a ∷ xs
@@ -150,7 +151,7 @@ standing-all acts w t k order no_later =
     standing-chosen acts w t (suc k)
     ∙ ap (λ (xs : List Act). chosen_by [] xs)
     (front-is k acts order
-    ∙ keeps-all (up-to k) acts (all-weaken (λ (a : Act). a.moment ≤ k) (λ a. up-to k a ≡ true) acts (λ a le. within-yes k a le) no_later))
+    ∙ keeps-all (up-to k) acts (each_weaker (λ (a : Act). a.moment ≤ k) (λ a. up-to k a ≡ true) acts (λ a le. within-yes k a le) no_later))
 
 -- before the start, where all are of moment 0
 pub standing-first : (acts : List Act) (w : World) (t : Listing) → AllByRecursion (λ (a : Act). a.moment ≤ 0) acts
@@ -159,7 +160,7 @@ standing-first acts w t no_later =
     standing-chosen acts w t 0
     ∙ ap (λ (xs : List Act). chosen_by [] xs)
     (at-zero acts
-    ∙ keeps-all (up-to 0) acts (all-weaken (λ (a : Act). a.moment ≤ 0) (λ a. up-to 0 a ≡ true) acts (λ a le. within-yes 0 a le) no_later))
+    ∙ keeps-all (up-to 0) acts (each_weaker (λ (a : Act). a.moment ≤ 0) (λ a. up-to 0 a ≡ true) acts (λ a le. within-yes 0 a le) no_later))
 
 -- what stands selected before a step of a session
 abbrev selected-before : Profiling → ℕ → List ℕ

@@ -6,6 +6,7 @@ use Rattle.std.proofs.lemmas.Bool.{and_from, and_parts, eqb-true}
 use Rattle.std.proofs.lemmas.Option.{same_Some, none-some, slice_get-get_or}
 use Rattle.std.proofs.lemmas.List.Quantifiers.{position-Some}
 use Rattle.std.proofs.lemmas.Slice.Eq.{bytes_eq-Decides}
+use Rattle.jf_bytes.proofs.Options.{and_then_parts}
 use Rattle.const_pool.specs.declared.class.ClassFile.{ClassFile}
 use Rattle.const_pool.specs.declared.class.Member.{Member}
 use Rattle.const_pool.specs.declared.pool.Const.{Const}
@@ -17,6 +18,7 @@ use Rattle.jvm_model.specs.declared.program.Program.{Program}
 use Rattle.jvm_model.specs.Basis.Descriptors.{same_text}
 use Rattle.jvm_model.specs.Basis.Methods.{is_member, method_from, method_named, same_text_at}
 use Rattle.jvm_model.specs.Basis.Programs.{class_at, class_named, declared_method, has_name, name_of, no_class, number_from, number_of_method, same_place}
+use Rattle.jvm_model.proofs.Soundness.SoundRules.{number-least}
 use Rattle.admit_check.specs.Admission.{root_in}
 
 -- ---- texts
@@ -82,14 +84,6 @@ record IsFoundPlace (class at : ℕ) (places : List MethodPlace) (i : ℕ) : Typ
   pub class_is : place.class ≡ class
   pub position_is : place.position ≡ at
 
-number-least : (n k class at : ℕ) (places : List MethodPlace) → number_from n class at places ≡ Some k → n ≤ k
-number-least n k class at [] e = absurd (none-some k e)
-number-least n k class at (x ∷ rest) e = of (same_place class at x) e (number-least (n + 1) k class at rest) where
-  of : (b : Bool) → cond b (Some n) (number_from (n + 1) class at rest) ≡ Some k
-      → (number_from (n + 1) class at rest ≡ Some k → n + 1 ≤ k) → n ≤ k
-  of true e later = (let same = same_Some n k e in omega (arith, same))
-  of false e later = (let more = later e in omega (arith, more))
-
 number-found : (n k class at : ℕ) (places : List MethodPlace) (i : ℕ) → number_from n class at places ≡ Some k → k ≡ n + i
     → IsFoundPlace class at places i
 number-found n k class at [] i e is = absurd (none-some k e)
@@ -132,19 +126,13 @@ record StandsAt (p : Program) (r : RootName) (method : ℕ) : Type 0 where
   pub place : IsFoundPlace class position p.methods method
   pub member : IsFoundMember file.pool (name_type_of r.name r.descriptor) file.methods position
 
--- a value that a look-up went through
-pub through : {A B : Type 0} (f : A → Option B) (o : Option A) (b : B) → option_and_then f o ≡ Some b
-    → (a : A) × (o ≡ Some a) × (f a ≡ Some b)
-through f None b e = absurd (none-some b e)
-through f (Some a) b e = (a, refl, e)
-
 stands-at : (p : Program) (r : RootName) (method : ℕ) → root_in p r ≡ Some method → StandsAt p r method
 stands-at p r method e =
     let wanted : NameAndType = name_type_of r.name r.descriptor in
-    let c = through (declared_method p wanted) (class_named p r.class) method e in
+    let c = and_then_parts (declared_method p wanted) (class_named p r.class) method e in
     let named = position-there (has_name r.class) p.classes c.0 c.1 in
-    let f = through (λ (k : ClassFile). option_and_then (number_of_method p c.0) (method_named k wanted)) (class_at p c.0) method c.2 in
-    let at = through (number_of_method p c.0) (method_named f.0 wanted) method f.2 in
+    let f = and_then_parts (λ (k : ClassFile). option_and_then (number_of_method p c.0) (method_named k wanted)) (class_at p c.0) method c.2 in
+    let at = and_then_parts (number_of_method p c.0) (method_named f.0 wanted) method f.2 in
     let one : named.0 ≡ f.0 = same_Some named.0 f.0 (sym named.1 ∙ f.1) in
     record {
       class = c.0;

@@ -1,8 +1,9 @@
 -- The turns of a step together are the step: each event that is told is the next one, none is left at the end, and the live activations are those after
 -- the step; with a marking that gives the versions' marks these are the events of the event list.
-use Rattle.std.proofs.Common.{◌≡◌, ℕ, zero, suc, List, [], ◌∷◌, drop, Bool, true, false, None, Some, refl, sym, ap, ap₂, ◌∙◌}
+use Rattle.std.proofs.Common.{◌≡◌, ℕ, zero, suc, List, [], ◌∷◌, drop, false, None, Some, refl, sym, ap, ap₂, ◌∙◌}
 use Rattle.std.specs.Prelude.{not, ◌==◌, ◌&&◌}
 use Rattle.std.specs.Option.{option_map_or}
+use Rattle.std.proofs.Math.Bool.{and-false}
 use Rattle.jvm_model.specs.declared.event.Event.{Event}
 use Rattle.jvm_model.specs.declared.event.Mark.{Mark}
 use Rattle.jvm_model.specs.Basis.Data.{Change, Loads, Began, Left, Unwound, World}
@@ -102,10 +103,6 @@ first-loads (Left ∷ rest) c more e marks n live = absurd (let h : [] ≡ c ∷
 first-loads (Unwound ∷ rest) c more e marks n live = absurd (let h : [] ≡ c ∷ more = e in cc)
 
 -- ---- a stop that tells is within the step
-
-and-false : (b : Bool) → (b && false) ≡ false
-and-false true = refl
-and-false false = refl
 
 pub stopped-busy : (v : View) (e : Event) → next_event v ≡ Some e → is_resting (step_stopped v) ≡ false
 stopped-busy v e delivered = by (next_stop v).due refl where

@@ -1,8 +1,9 @@
 -- What a turn tells comes from a probe of the current activation's version.
-use Rattle.std.proofs.Common.{◌≡◌, ◌<◌, ℕ, Bool, true, false, suc, List, [], ◌∷◌, length, Option, Some, None, refl, sym, ap, subst, ◌∙◌, inl, inr, ◌⊎◌, arith}
+use Rattle.std.proofs.Common.{◌≡◌, ◌<◌, ℕ, Bool, true, false, suc, List, [], ◌∷◌, length, Some, refl, sym, ap, subst, ◌∙◌, inl, inr, ◌⊎◌, arith}
 use Rattle.std.specs.Prelude.{slice_get, if◌then◌else◌}
-use Rattle.std.specs.Option.{option_and_then, option_map, option_map_or}
+use Rattle.std.specs.Option.{option_and_then, option_map_or}
 use Rattle.std.proofs.lemmas.Option.{none-some, same_Some}
+use Rattle.jf_bytes.proofs.Options.{and_then_parts, map_parts, map_or_parts}
 use Rattle.const_pool.specs.declared.class.ClassFile.{ClassFile}
 use Rattle.const_pool.specs.declared.class.CodeAttribute.{CodeAttribute}
 use Rattle.code_model.specs.declared.instr.Instr.{Instr}
@@ -83,18 +84,6 @@ module _ (marks : ℕ → Mark) where
 
 -- ---- the instruction that returns
 
-some-of : {A B : Type 0} (f : A → Option B) (o : Option A) (y : B) → option_and_then f o ≡ Some y → (x : A) × (o ≡ Some x) × (f x ≡ Some y)
-some-of f None y e = absurd (none-some y e)
-some-of f (Some x) y e = (x, refl, e)
-
-mapped-of : {A B : Type 0} (f : A → B) (o : Option A) (y : B) → option_map f o ≡ Some y → (x : A) × (o ≡ Some x) × (f x ≡ y)
-mapped-of f None y e = absurd (none-some y e)
-mapped-of f (Some x) y e = (x, refl, same_Some (f x) y e)
-
-true-of : {A : Type 0} (f : A → Bool) (o : Option A) → option_map_or f o false ≡ true → (x : A) × (o ≡ Some x) × (f x ≡ true)
-true-of f None e = absurd (let h : false ≡ true = e in cc)
-true-of f (Some x) e = (x, refl, e)
-
 -- it is read there, and its opcode returns
 pub record Returning (c : ClassFile) (code : List ℕ) (at : ℕ) : Type 0 where
   pub instr : Instr
@@ -110,8 +99,8 @@ some-instrs bytes at i (j ∷ is) reads here = omega arith
 module _ (p : Program) (method at : ℕ) (is : IsReturn p method at) (old : CodeAttribute) (coded : code_of_method p method ≡ Some old) where
   pub in-class : (place : MethodPlace) × (place_of_method p method ≡ Some place) × (c : ClassFile) × (class_at p place.class ≡ Some c) × (method_code c place.position ≡ Some old)
   in-class =
-      let place = some-of (λ (place : MethodPlace). option_and_then (λ c. method_code c place.position) (class_at p place.class)) (place_of_method p method) old coded in
-      let class = some-of (λ c. method_code c place.0.position) (class_at p place.0.class) old place.2 in
+      let place = and_then_parts (λ (place : MethodPlace). option_and_then (λ c. method_code c place.position) (class_at p place.class)) (place_of_method p method) old coded in
+      let class = and_then_parts (λ c. method_code c place.0.position) (class_at p place.0.class) old place.2 in
       (place.0, place.1, class.0, class.1, class.2)
 
   abbrev pub c : ClassFile
@@ -125,10 +114,10 @@ module _ (p : Program) (method at : ℕ) (is : IsReturn p method at) (old : Code
 
   pub returning : Returning c old.code at
   returning =
-      let found = true-of (λ (i : Instruction). is_return i.operation) (code_instruction c old.code at)
+      let found = map_or_parts (λ (i : Instruction). is_return i.operation) (code_instruction c old.code at)
       (ap (λ o. option_map_or (λ (i : Instruction). is_return i.operation) o false) (sym text-is) ∙ is.returns) in
-      let read = some-of (instruction_of c) (instruction_at old.code at) found.0 found.1 in
-      let done = mapped-of _ (operation_of c read.0) found.0 read.2 in
+      let read = and_then_parts (instruction_of c) (instruction_at old.code at) found.0 found.1 in
+      let done = map_parts _ (operation_of c read.0) found.0 read.2 in
       record {
         instr = read.0;
         here = read.1;

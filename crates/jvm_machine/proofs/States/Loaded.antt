@@ -3,6 +3,7 @@ use Rattle.std.proofs.Common.{◌≡◌, ℕ, Bool, true, false, List, [], ◌�
 use Rattle.std.specs.Prelude.{not, ◌==◌, ◌&&◌, if◌then◌else◌}
 use Rattle.std.specs.List.{AllByRecursion}
 use Rattle.std.proofs.lemmas.List.{append-nil}
+use Rattle.jf_bytes.proofs.Lists.{empty_from_length}
 use Rattle.jvm_model.specs.declared.ending.Ending.{Ending}
 use Rattle.jvm_model.specs.declared.state.Entry.{Entry}
 use Rattle.jvm_model.specs.declared.state.Entry.TheVariants.{Active, Initializing}
@@ -34,7 +35,6 @@ use Rattle.prepared_code.proofs.Tables.VersionsRun.{step-stands}
 use Rattle.jvm_machine.specs.Machine.{IsMachine, IsSoundOnce, Stands, state_seen}
 use Rattle.jvm_machine.specs.View.{View, is_resting, run_state}
 use Rattle.jvm_machine.proofs.Steps.Going.{in-hand-loads}
-use Rattle.jvm_machine.proofs.States.Machines.{none-front}
 use Rattle.jvm_machine.proofs.States.Shown.{rest-shows, stands-shows}
 
 -- ---- a step loads what it loads first, and no more
@@ -89,7 +89,7 @@ module _ (w : Setup) (homes : ℕ → ℕ → ℕ) (has : HasVersions w homes) (
   by-moves true e same =
       ap (λ (z : State). z.shared.loaded) (sym same) ∙ (settled-loaded w.world (original w.world.program) (still from_original) ∙ same-loaded)
   by-moves false e same =
-      let nothing : loads_in w s ≡ [] = none-front (loads_in w s) (in-hand-loads w homes has whole hand live s h e) in
+      let nothing : loads_in w s ≡ [] = empty_from_length (loads_in w s) (in-hand-loads w homes has whole hand live s h e) in
       ap (λ (z : State). z.shared.loaded) (sym same)
       ∙ (sym (stands-shows w homes versions_step (step w.world (original w.world.program) from_original).after step-there).loaded
       ∙ (step-loaded (RunsIn w.versions) w.world has.fit (listing_of w.versions) (set-up-runs w homes has).listing s (attempt-sound hand once e)

@@ -1,7 +1,8 @@
 -- What a machine keeps to, from turn to turn.
 use Rattle.std.proofs.Common.{◌≡◌, ℕ, ◌+◌, Bool, true, false, List, [], ◌∷◌, ◌++◌, drop, length, refl, sym, ap, ap₂, subst, ◌∙◌, inl, inr, arith}
 use Rattle.std.specs.Prelude.{not, ◌==◌, ◌&&◌, ◌||◌, if◌then◌else◌}
-use Rattle.std.proofs.lemmas.Bool.{and_parts, not-true}
+use Rattle.std.proofs.lemmas.Bool.{and_parts, not-true, eqb-true}
+use Rattle.jf_bytes.proofs.Lists.{empty_from_length}
 use Rattle.frame_stack.specs.FrameLists.{PlacedFrame}
 use Rattle.jvm_model.specs.declared.due.Due.{Due}
 use Rattle.jvm_model.specs.declared.due.Due.TheVariants.{Nothing, Ends, Begins}
@@ -33,16 +34,9 @@ pub some-front : (l : List ℕ) → (length l == 0) ≡ false → (c : ℕ) × (
 some-front [] e = absurd (let h : true ≡ false = e in cc)
 some-front (c ∷ more) e = (c, more, refl)
 
-pub none-front : (l : List ℕ) → (length l == 0) ≡ true → l ≡ []
-none-front [] e = refl
-none-front (c ∷ more) e = absurd (let h : length (c ∷ more) ≡ 0 = grind (arith) in omega arith)
-
 pub drop-front : (front more : List ℕ) → drop (length front) (front ++ more) ≡ more
 drop-front [] more = refl
 drop-front (c ∷ front) more = drop-front front more
-
-pub zero_is : (n : ℕ) → (n == 0) ≡ true → n ≡ 0
-zero_is n e = grind (arith)
 
 -- ---- superseded versions are dropped
 
@@ -113,7 +107,7 @@ module _ (w : Setup) (hand : Hand) (started : Bool) (clock : ℕ) (s : State) (i
   stands_now e f = subst (λ b. Stands w is.homes s (if b then run w.world clock else before w.world)) f (whole_now.stands e f)
 
   resting-parts : resting_now ≡ true → (hand.passed ≡ 0) × (hand.delivered ≡ false)
-  resting-parts e = let both = and_parts (hand.passed == 0) (not hand.delivered) e in (zero_is hand.passed both.0, not-true hand.delivered both.1)
+  resting-parts e = let both = and_parts (hand.passed == 0) (not hand.delivered) e in (eqb-true hand.passed 0 both.0, not-true hand.delivered both.1)
 
   -- it was started, or nothing is in hand
   pub started-if : (b : Bool) → started ≡ b → resting_now ≡ false → b ≡ true
@@ -175,7 +169,7 @@ module _ (w : Setup) (hand : Hand) (started : Bool) (clock : ℕ) (s : State) (i
   hand-by false b e f some = whole_now.in_hand e
   hand-by true false e f some = start-hand w is.homes is.has
   hand-by true true e f some =
-      let none : loads_in w s ≡ [] = none-front (loads_in w s) some in
+      let none : loads_in w s ≡ [] = empty_from_length (loads_in w s) some in
       subst (λ l. HasInHand w is.homes (turn w.world (clock + 1)) (record { moves = false; delivered = false; passed = behind_load l }) (helds (mark_of w.versions) (with_loaded l s).stack) (with_loaded l s)) none
       (step-hand w is.homes is.has clock s (stands_now e f))
 

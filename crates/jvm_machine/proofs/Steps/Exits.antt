@@ -2,6 +2,7 @@
 use Rattle.std.proofs.Common.{◌≡◌, ℕ, ◌+◌, Bool, true, false, List, ◌∷◌, drop, length, Option, Some, None, refl, sym, ap, ap₂, subst, ◌∙◌, inl, inr}
 use Rattle.std.specs.Prelude.{Result, Ok, Err, OnErr, IfNone, is_some, if◌then◌else◌, ◌==◌, ◌||◌}
 use Rattle.std.specs.Option.{IfSome}
+use Rattle.jf_bytes.proofs.Lists.{empty_from_length}
 use Rattle.frame_stack.specs.FrameLists.{PlacedFrame}
 use Rattle.jvm_model.specs.declared.state.State.{State}
 use Rattle.jvm_model.specs.Basis.Data.{Turn, World}
@@ -19,7 +20,7 @@ use Rattle.prepared_code.proofs.Tables.StandingSteps.{set-up-runs}
 use Rattle.jvm_machine.specs.Advances.{Stops, TellsClasses, broken_in, clock_in, left_in, taken_hand, taken_loads, taken_state}
 use Rattle.jvm_machine.specs.Machine.{IsMachine, IsSoundOnce, state_seen}
 use Rattle.jvm_machine.specs.View.{View, clock_advanced, is_resting}
-use Rattle.jvm_machine.proofs.States.Machines.{at_rest, clock-more, drop-front, goes-stops, gone-machine, loads-machine, loads-tell, none-front, released-machine, released-seen, same-state, some-front, start-machine, start-tells, started-if}
+use Rattle.jvm_machine.proofs.States.Machines.{at_rest, clock-more, drop-front, goes-stops, gone-machine, loads-machine, loads-tell, released-machine, released-seen, same-state, some-front, start-machine, start-tells, started-if}
 
 pub on-err : {A E : Type 0} (X : Type 0) (r : Result A E) → X → OnErr r X
 on-err X (Ok a) x = tt
@@ -183,7 +184,7 @@ module _ (w : Setup) (h : Hand) (started broken : Bool) (clock : ℕ) (s : State
 
     goes-by : GoesThere w (taken_loads w.world now started) (taken_hand w.world now started h) (taken_state w.world now started s) (clock_in now started clock) (state_seen w s started false clock h)
     goes-by none o gone is_gone some new left sound starts hands fs pinned w' world released h' handed' =
-        let nothing = none-front (taken_loads w.world now started) none in
+        let nothing = empty_from_length (taken_loads w.world now started) none in
         let enough = sym some ∙ ap is_some is_gone in
         let left_there : IsLeft gone = subst (λ o. IfSome o (λ gone. IsLeft gone)) is_gone left in
         let on : GoesOnFrom w (taken_hand w.world now started h) (taken_state w.world now started s) gone new =

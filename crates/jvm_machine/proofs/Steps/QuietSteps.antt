@@ -1,7 +1,7 @@
 -- Steps that tell nothing are settled in one turn each.
 use Rattle.std.proofs.Common.{◌≡◌, ℕ, zero, suc, ◌+◌, ◌<◌, Bool, true, false, List, [], drop, refl, sym, ap, ap₂, subst, ◌∙◌, arith}
 use Rattle.std.specs.Prelude.{is_some, not, ◌==◌, ◌&&◌, if◌then◌else◌}
-use Rattle.std.proofs.lemmas.Bool.{and_parts, not-true}
+use Rattle.std.proofs.lemmas.Bool.{and_parts, not-true, eqb-true}
 use Rattle.jvm_model.specs.declared.due.Due.TheVariants.{Nothing}
 use Rattle.jvm_model.specs.declared.event.Mark.{Mark}
 use Rattle.jvm_model.specs.declared.state.State.{State}
@@ -33,7 +33,6 @@ use Rattle.jvm_machine.proofs.Steps.Going.{marks-same}
 use Rattle.jvm_machine.specs.Several.{Passes, more, none}
 use Rattle.jvm_machine.specs.Turns.{Settles}
 use Rattle.jvm_machine.specs.View.{View, clock_advanced, step_begun, has_ended, is_resting, loads_next, next_stop, step_rested, world}
-use Rattle.jvm_machine.proofs.States.Machines.{zero_is}
 use Rattle.jvm_machine.proofs.States.Shown.{stands-shows}
 
 -- ---- what is told of a step that tells nothing
@@ -45,7 +44,7 @@ record TellsNothing (marks : ℕ → Mark) (live : List Held) (changes : List Ch
 
 module _ (v : View) (resting : is_resting v ≡ true) (nothing : TellsNothing (mark_at v.marks) v.live (turn (world v) (clock_advanced v).clock).changes) where
   parts : (v.passed ≡ 0) × (v.delivered ≡ false)
-  parts = let both = and_parts (v.passed == 0) (not v.delivered) resting in (zero_is v.passed both.0, not-true v.delivered both.1)
+  parts = let both = and_parts (v.passed == 0) (not v.delivered) resting in (eqb-true v.passed 0 both.0, not-true v.delivered both.1)
 
   abbrev changes : List Change
   changes = (turn (world v) (clock_advanced v).clock).changes

@@ -6,6 +6,7 @@ use Rattle.std.specs.Option.{option_map}
 use Rattle.std.proofs.lemmas.Bool.{eq-eqb, eqb-true, false≢true}
 use Rattle.std.proofs.lemmas.List.Sums.{sum_by-cons}
 use Rattle.std.proofs.lemmas.List.{length-set}
+use Rattle.jf_bytes.proofs.Tests.{either}
 use Rattle.frame_stack.specs.FrameLists.{PlacedFrame, pins_of}
 use Rattle.method_versions.proofs.Adding.{set-at, set-other}
 use Rattle.method_versions.specs.Tables.{current_in, held_besides, is_number, is_old, is_superseded_in}
@@ -85,10 +86,6 @@ more-pins k f fs pinned other =
     let here : cond (f.version == k) one 0 ≡ 0 = ap (λ b. cond b one 0) other in
     let same : pins_of k fs ≡ pins_of k (f ∷ fs) = omega (arith, all, here) in
     ap (λ n. n == 0) same ∙ pinned
-
-either : {A : Type 0} (b : Bool) → (b ≡ true → A) → (b ≡ false → A) → A
-either true on off = on refl
-either false on off = off refl
 
 -- what frames run, their activations run
 pub pinned-runs : (k : ℕ) (fs : List PlacedFrame) (ms : List Initialization) → (pins_of k fs == 0) ≡ false → runs k (stack_of (map active fs) ms) ≡ true

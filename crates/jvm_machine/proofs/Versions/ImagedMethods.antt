@@ -1,25 +1,25 @@
 -- The methods of an image are versions of the program's methods, as tables of versions ask for.
-use Rattle.std.proofs.Common.{◌≡◌, ◌<◌, ◌^◌, ℕ, zero, suc, Bool, true, false, List, [], ◌∷◌, ◌++◌, length, map, Option, Some, None, refl, sym, ap, ap₂, subst, ◌∙◌, inl, inr, ◌⊎◌, arith}
+use Rattle.std.proofs.Common.{◌≡◌, ◌<◌, ◌^◌, ℕ, Bool, true, false, List, [], ◌∷◌, ◌++◌, length, map, Option, Some, None, refl, sym, ap, ap₂, subst, ◌∙◌, inl, inr, ◌⊎◌, arith}
 use Rattle.std.specs.Prelude.{MatchBool, is_some, slice_get, unwrap_or}
 use Rattle.std.specs.List.{AllByRecursion}
 use Rattle.std.specs.List.Sorted.{IsStrictlyIncreasing}
-use Rattle.std.specs.Option.{IfSome, option_and_then, option_flatten}
+use Rattle.std.specs.Option.{IfSome, option_flatten}
 use Rattle.std.proofs.lemmas.Option.{none-some, same_Some}
-use Rattle.const_pool.specs.declared.class.Attribute.{Attribute}
-use Rattle.const_pool.specs.declared.class.Attribute.TheVariants.{Code, ConstantValue, Other}
+use Rattle.jf_bytes.proofs.Options.{and_then_parts}
+use Rattle.jf_bytes.proofs.Lists.{each_at}
 use Rattle.const_pool.specs.declared.class.ClassFile.{ClassFile}
 use Rattle.const_pool.specs.declared.class.CodeAttribute.{CodeAttribute}
 use Rattle.const_pool.specs.declared.class.Handler.{Handler}
 use Rattle.const_pool.specs.declared.class.Member.{Member}
 use Rattle.const_pool.specs.declared.pool.Const.{Const}
 use Rattle.const_pool.specs.declared.pool.Const.TheVariants.{Gap}
-use Rattle.const_pool.specs.ClassFile.{IsByte, IsClassFile, IsCode, IsHandler, IsMember, IsMethodAttribute}
+use Rattle.const_pool.specs.ClassFile.{IsClassFile, IsCode, IsHandler, IsMember, IsMethodAttribute}
 use Rattle.const_pool.specs.Pool.{Names, is_class}
 use Rattle.const_pool.specs.References.{named_class}
 use Rattle.code_model.specs.declared.instr.Instr.{Instr}
 use Rattle.code_model.specs.declared.laying.Group.{Group}
 use Rattle.code_model.specs.declared.laying.Homes.{Homes}
-use Rattle.code_model.specs.Groups.{IsBytes, instrs_of as group_instrs}
+use Rattle.code_model.specs.Groups.{instrs_of as group_instrs}
 use Rattle.code_model.specs.Instructions.{Reads}
 use Rattle.code_model.proofs.Layouts.{homes-increasing, starts-increasing}
 use Rattle.code_model.proofs.Readings.{Reads-some, Reads-unique}
@@ -31,7 +31,7 @@ use Rattle.jvm_model.specs.declared.instruction.Local.{Local}
 use Rattle.jvm_model.specs.declared.instruction.Operation.{Operation}
 use Rattle.jvm_model.specs.Rewriting.Images.{AreMemberImages, IsImage, IsMarkedMember, IsMemberImage, IsOriginal, IsRewritten, all_off, is_off, next_number, number_behind}
 use Rattle.jvm_model.specs.Codes.Lines.{operation_of}
-use Rattle.jvm_model.specs.Basis.Methods.{code_among, code_of, method_code}
+use Rattle.jvm_model.specs.Basis.Methods.{code_of, method_code}
 use Rattle.jvm_model.specs.Rewriting.StandsFor.{mark_at}
 use Rattle.jvm_model.specs.Profiling.Swaps.{first_number}
 use Rattle.jvm_model.specs.Rewriting.Versions.{IsVersion, entry_probe, groups_of, laid_version, leave_probe}
@@ -44,6 +44,7 @@ use Rattle.jvm_model.proofs.Soundness.MoreEntries.{operation-more}
 use Rattle.jvm_model.proofs.Images.NumbersOfMethods.{place-behind}
 use Rattle.jvm_model.proofs.Soundness.PoolTexts.{have-texts, named-there}
 use Rattle.jvm_model.specs.Codes.ProgramPlaces.{HasClosedCodes}
+use Rattle.jvm_model.proofs.Running.Starts.{code-among, bytes-each}
 use Rattle.prepared_code.specs.ClassVersions.{AreRising, FitsImage, class_version, homes_at, version_by}
 use Rattle.prepared_code.specs.LaidMethods.{NamesClass}
 use Rattle.prepared_code.specs.Prepared.{HasShortCode, HasShortCodes}
@@ -52,35 +53,19 @@ use Rattle.prepared_code.proofs.Images.MethodImages.{code-is}
 use Rattle.jvm_machine.specs.Installs.{IsFormed, IsImageOf}
 use Rattle.jvm_machine.proofs.Probes.EntryMarks.{rewritten-pool, version-mark}
 use Rattle.jvm_machine.proofs.States.Fresh.{original-plain}
-use Rattle.jvm_machine.proofs.Versions.Numbered.{each-of}
 
 -- ---- codes of class files
 
-code-formed : (pool : List Const) (attributes : List Attribute) (code : CodeAttribute) → AllByRecursion (IsMethodAttribute pool) attributes → code_among attributes ≡ Some code → IsCode pool code
-code-formed pool [] code formed coded = absurd (none-some code coded)
-code-formed pool (ConstantValue name index ∷ rest) code formed coded = code-formed pool rest code formed.1 coded
-code-formed pool (Other raw ∷ rest) code formed coded = code-formed pool rest code formed.1 coded
-code-formed pool (Code name old ∷ rest) code formed coded = subst (IsCode pool) (same_Some old code coded) formed.0.2
-
-some-of : {A B : Type 0} (f : A → Option B) (o : Option A) (y : B) → option_and_then f o ≡ Some y → (x : A) × (o ≡ Some x) × (f x ≡ Some y)
-some-of f None y e = absurd (none-some y e)
-some-of f (Some x) y e = (x, refl, e)
-
 method-formed : (c : ClassFile) → IsClassFile c → (at : ℕ) (code : CodeAttribute) → method_code c at ≡ Some code → IsCode c.pool code
 method-formed c formed at code coded =
-    let m = some-of code_of (slice_get c.methods at) code coded in
-    code-formed c.pool m.0.attributes code (each-of (IsMember IsMethodAttribute c.pool) c.methods at m.0 formed.methods m.1).attributes m.2
+    let m = and_then_parts code_of (slice_get c.methods at) code coded in
+    code-among c.pool m.0.attributes code (each_at (IsMember IsMethodAttribute c.pool) c.methods at m.0 formed.methods m.1).attributes m.2
 
 member-short : (pool : List Const) (m : Member) → IsMember IsMethodAttribute pool m → HasShortCode m
 member-short pool m is = by (code_of m) refl where
   by : (o : Option CodeAttribute) → code_of m ≡ o → IfSome o (λ code. length code.code < 2 ^ 16)
   by None e = tt
-  by (Some code) e = (code-formed pool m.attributes code is.attributes e).short
-
-bytes-each : (bytes : List ℕ) → AllByRecursion IsByte bytes → IsBytes bytes
-bytes-each [] all k = omega arith
-bytes-each (b ∷ bytes) all zero = all.0
-bytes-each (b ∷ bytes) all (suc k) = bytes-each bytes all.1 k
+  by (Some code) e = (code-among pool m.attributes code is.attributes e).short
 
 -- ---- the image fits
 
@@ -192,7 +177,7 @@ module _ (p : Program) (is_formed : IsFormed p) (closed : HasClosedCodes p) (cla
   c = is.file
 
   formed : IsClassFile c
-  formed = each-of IsClassFile p.classes class c is_formed.formed is.there
+  formed = each_at IsClassFile p.classes class c is_formed.formed is.there
 
   stays : StaysLike c image
   stays = image-stays c (first_number p class) marks image homes is.imaged

@@ -6,6 +6,7 @@ use Rattle.std.specs.Option.{option_and_then, option_map, option_map_or}
 use Rattle.std.proofs.lemmas.Bool.{eq-eqb, le-leb, leb-true, ne_eqb}
 use Rattle.std.proofs.lemmas.List.{length-set}
 use Rattle.std.proofs.lemmas.Option.{none-some, same_Some}
+use Rattle.jf_bytes.proofs.Lists.{slice_get-set_same}
 use Rattle.const_pool.specs.declared.class.ClassFile.{ClassFile}
 use Rattle.const_pool.specs.declared.class.CodeAttribute.{CodeAttribute}
 use Rattle.const_pool.specs.declared.class.Member.{Member}
@@ -33,11 +34,6 @@ use Rattle.jvm_machine.proofs.Versions.Numbered.{method-there, number-of}
 use Rattle.jvm_machine.proofs.Versions.Released.{in-list, map-same}
 
 -- ---- lists
-
-set-here : {A : Type 0} (xs : List A) (i : ℕ) (a : A) → i < length xs → slice_get (slice_set xs i a) i ≡ Some a
-set-here [] i a lt = absurd (omega arith)
-set-here (x ∷ xs) zero a lt = refl
-set-here (x ∷ xs) (suc i) a lt = set-here xs i a (omega arith)
 
 set-apart : {A : Type 0} (xs : List A) (i k : ℕ) (a : A) → (k ≡ i → ⊥) → slice_get (slice_set xs i a) k ≡ slice_get xs k
 set-apart [] i k a other = refl
@@ -187,7 +183,7 @@ module _ (p : Program) (methods : p.methods ≡ methods_numbered p.classes) (cla
       ∙ ap (option_map (class_version p image homes at code.0)) number in
       ap (λ o. slice_get (set_by o old) k) one
       ∙ (ap (λ i. slice_get (slice_set old i x.prepared.mark) k) (method-by p k image code.0 (homes_at homes at) (method_code image at))
-      ∙ (set-here old k x.prepared.mark lt ∙ ap (λ a. let o : Option Mark = Some a in o) (marked at k code.0 code.1)))
+      ∙ (slice_get-set_same old k x.prepared.mark lt ∙ ap (λ a. let o : Option Mark = Some a in o) (marked at k code.0 code.1)))
 
   -- and no other method's
   set-elsewhere : (at k : ℕ) (m : Member) (old : List Mark) → (place_of_method p k ≡ Some (place_at at) → ⊥)

@@ -5,6 +5,7 @@ use Rattle.std.specs.List.{AllByRecursion}
 use Rattle.std.specs.Option.{option_and_then}
 use Rattle.std.proofs.lemmas.Bool.{eq-eqb, ne_eqb}
 use Rattle.std.proofs.lemmas.Option.{none-some, same_Some}
+use Rattle.jf_bytes.proofs.Lists.{each_at, each_append, each_weaker}
 use Rattle.const_pool.specs.declared.class.ClassFile.{ClassFile}
 use Rattle.const_pool.specs.declared.class.CodeAttribute.{CodeAttribute}
 use Rattle.const_pool.specs.declared.class.Member.{Member}
@@ -12,20 +13,6 @@ use Rattle.jvm_model.specs.declared.program.MethodPlace.{MethodPlace}
 use Rattle.jvm_model.specs.declared.program.Program.{Program}
 use Rattle.jvm_model.specs.Basis.Methods.{code_of, method_code}
 use Rattle.jvm_model.specs.Basis.Programs.{class_at, coded_from, number_from, number_of_method, methods_numbered, numbered_from, place_of_method, same_place}
-
--- what holds of all holds of each
-pub each-of : {A : Type 0} (P : A → Type 0) (xs : List A) (k : ℕ) (x : A) → AllByRecursion P xs → slice_get xs k ≡ Some x → P x
-each-of P [] k x all at = absurd (none-some x at)
-each-of P (y ∷ ys) zero x all at = subst P (same_Some y x at) all.0
-each-of P (y ∷ ys) (suc k) x all at = each-of P ys k x all.1 at
-
-all-append : {A : Type 0} (P : A → Type 0) (xs ys : List A) → AllByRecursion P xs → AllByRecursion P ys → AllByRecursion P (xs ++ ys)
-all-append P [] ys front back = back
-all-append P (x ∷ xs) ys front back = (front.0, all-append P xs ys front.1 back)
-
-all-weaker : {A : Type 0} (P Q : A → Type 0) (xs : List A) → ((x : A) → P x → Q x) → AllByRecursion P xs → AllByRecursion Q xs
-all-weaker P Q [] weaker all = tt
-all-weaker P Q (x ∷ xs) weaker all = (weaker x all.0, all-weaker P Q xs weaker all.1)
 
 -- ---- places rise
 
@@ -51,14 +38,14 @@ number-rising n class at (x ∷ xs) zero rising found =
     let none : n ≡ n + 0 = omega arith in
     ap (λ b. if b then Some n else number_from (n + 1) class at xs) same ∙ ap (λ k. let o : Option ℕ = Some k in o) none
 number-rising n class at (x ∷ xs) (suc k) rising found =
-    let other : same_place class at x ≡ false = apart x class at (each-of (Before x) xs k (let q : MethodPlace = record { class = class; position = at } in q) rising.0 found) in
+    let other : same_place class at x ≡ false = apart x class at (each_at (Before x) xs k (let q : MethodPlace = record { class = class; position = at } in q) rising.0 found) in
     let more : n + 1 + k ≡ n + suc k = omega arith in
     ap (λ b. if b then Some n else number_from (n + 1) class at xs) other
     ∙ (number-rising (n + 1) class at xs k rising.1 found ∙ ap (λ k. let o : Option ℕ = Some k in o) more)
 
 rising-append : (xs ys : List MethodPlace) → AreRising xs → AreRising ys → AllByRecursion (λ x. AllByRecursion (Before x) ys) xs → AreRising (xs ++ ys)
 rising-append [] ys front back between = back
-rising-append (x ∷ xs) ys front back between = (all-append (Before x) xs ys front.0 between.0, rising-append xs ys front.1 back between.1)
+rising-append (x ∷ xs) ys front back between = (each_append (Before x) xs ys front.0 between.0, rising-append xs ys front.1 back between.1)
 
 -- ---- of a class
 
@@ -72,7 +59,7 @@ coded-from : (class at : ℕ) (ms : List Member) → AllByRecursion (IsFrom clas
 coded-from class at [] = tt
 coded-from class at (m ∷ rest) =
     by (is_some (code_of m))
-    (all-weaker (IsFrom class (at + 1)) (IsFrom class at) (coded_from class (at + 1) rest) (λ place is. let le : at + 1 ≤ place.position = is.1 in (is.0, omega (arith, le))) (coded-from class (at + 1) rest))
+    (each_weaker (IsFrom class (at + 1)) (IsFrom class at) (coded_from class (at + 1) rest) (λ place is. let le : at + 1 ≤ place.position = is.1 in (is.0, omega (arith, le))) (coded-from class (at + 1) rest))
   where
     by : (b : Bool) → AllByRecursion (IsFrom class at) (coded_from class (at + 1) rest)
         → AllByRecursion (IsFrom class at) (if b then record { class = class; position = at } ∷ coded_from class (at + 1) rest else coded_from class (at + 1) rest)
@@ -86,7 +73,7 @@ coded-rising class at (m ∷ rest) = by (is_some (code_of m)) (coded-rising clas
   here = record { class = class; position = at }
 
   in-front : AllByRecursion (Before here) (coded_from class (at + 1) rest)
-  in-front = all-weaker (IsFrom class (at + 1)) (Before here) (coded_from class (at + 1) rest) (λ place is. let le : at + 1 ≤ place.position = is.1 in inr (sym is.0, omega (arith, le))) (coded-from class (at + 1) rest)
+  in-front = each_weaker (IsFrom class (at + 1)) (Before here) (coded_from class (at + 1) rest) (λ place is. let le : at + 1 ≤ place.position = is.1 in inr (sym is.0, omega (arith, le))) (coded-from class (at + 1) rest)
 
   by : (b : Bool) → AreRising (coded_from class (at + 1) rest)
       → AreRising (if b then record { class = class; position = at } ∷ coded_from class (at + 1) rest else coded_from class (at + 1) rest)
@@ -98,9 +85,9 @@ coded-rising class at (m ∷ rest) = by (is_some (code_of m)) (coded-rising clas
 numbered-behind : (class : ℕ) (cs : List ClassFile) → AllByRecursion (IsBehind class) (numbered_from class cs)
 numbered-behind class [] = tt
 numbered-behind class (c ∷ rest) =
-    all-append (IsBehind class) (coded_from class 0 c.methods) (numbered_from (class + 1) rest)
-    (all-weaker (IsFrom class 0) (IsBehind class) (coded_from class 0 c.methods) (λ place is. behind place is) (coded-from class 0 c.methods))
-    (all-weaker (IsBehind (class + 1)) (IsBehind class) (numbered_from (class + 1) rest) (λ place is. further place is) (numbered-behind (class + 1) rest))
+    each_append (IsBehind class) (coded_from class 0 c.methods) (numbered_from (class + 1) rest)
+    (each_weaker (IsFrom class 0) (IsBehind class) (coded_from class 0 c.methods) (λ place is. behind place is) (coded-from class 0 c.methods))
+    (each_weaker (IsBehind (class + 1)) (IsBehind class) (numbered_from (class + 1) rest) (λ place is. further place is) (numbered-behind (class + 1) rest))
   where
     behind : (place : MethodPlace) → IsFrom class 0 place → IsBehind class place
     behind place is = let same : place.class ≡ class = is.0 in omega (arith, same)
@@ -112,13 +99,13 @@ numbered-rising : (class : ℕ) (cs : List ClassFile) → AreRising (numbered_fr
 numbered-rising class [] = tt
 numbered-rising class (c ∷ rest) =
     rising-append (coded_from class 0 c.methods) (numbered_from (class + 1) rest) (coded-rising class 0 c.methods) (numbered-rising (class + 1) rest)
-    (all-weaker (IsFrom class 0) (λ x. AllByRecursion (Before x) (numbered_from (class + 1) rest)) (coded_from class 0 c.methods) (λ x is. in-front x is) (coded-from class 0 c.methods))
+    (each_weaker (IsFrom class 0) (λ x. AllByRecursion (Before x) (numbered_from (class + 1) rest)) (coded_from class 0 c.methods) (λ x is. in-front x is) (coded-from class 0 c.methods))
   where
     less : (x place : MethodPlace) → IsFrom class 0 x → IsBehind (class + 1) place → Before x place
     less x place is behind = let same : x.class ≡ class = is.0 in let le : class + 1 ≤ place.class = behind in inl (omega (arith, same, le))
 
     in-front : (x : MethodPlace) → IsFrom class 0 x → AllByRecursion (Before x) (numbered_from (class + 1) rest)
-    in-front x is = all-weaker (IsBehind (class + 1)) (Before x) (numbered_from (class + 1) rest) (λ place behind. less x place is behind) (numbered-behind (class + 1) rest)
+    in-front x is = each_weaker (IsBehind (class + 1)) (Before x) (numbered_from (class + 1) rest) (λ place behind. less x place is behind) (numbered-behind (class + 1) rest)
 
 -- the number of a place
 pub number-of : (p : Program) → p.methods ≡ methods_numbered p.classes → (k class at : ℕ) → place_of_method p k ≡ Some (record { class = class; position = at }) → number_of_method p class at ≡ Some k
@@ -161,9 +148,9 @@ coded-there class at c (m ∷ rest) stand =
 all-there : (n : ℕ) (cs : List ClassFile) → AllByRecursion (HasMethod n cs) (numbered_from n cs)
 all-there n [] = tt
 all-there n (c ∷ rest) =
-    all-append (HasMethod n (c ∷ rest)) (coded_from n 0 c.methods) (numbered_from (n + 1) rest)
-    (all-weaker (IsCoded n c) (HasMethod n (c ∷ rest)) (coded_from n 0 c.methods) (λ place is. first place is) (coded-there n 0 c c.methods (λ k m found. let same : 0 + k ≡ k = omega arith in ap (slice_get c.methods) same ∙ found)))
-    (all-weaker (HasMethod (n + 1) rest) (HasMethod n (c ∷ rest)) (numbered_from (n + 1) rest) (λ place is. later place is) (all-there (n + 1) rest))
+    each_append (HasMethod n (c ∷ rest)) (coded_from n 0 c.methods) (numbered_from (n + 1) rest)
+    (each_weaker (IsCoded n c) (HasMethod n (c ∷ rest)) (coded_from n 0 c.methods) (λ place is. first place is) (coded-there n 0 c c.methods (λ k m found. let same : 0 + k ≡ k = omega arith in ap (slice_get c.methods) same ∙ found)))
+    (each_weaker (HasMethod (n + 1) rest) (HasMethod n (c ∷ rest)) (numbered_from (n + 1) rest) (λ place is. later place is) (all-there (n + 1) rest))
   where
     first : (place : MethodPlace) → IsCoded n c place → HasMethod n (c ∷ rest) place
     first place is = let same : place.class ≡ n = is.0 in record { index = 0; file = c; code = is.1.0; class_is = omega (arith, same); found = refl; coded = is.1.1 }
@@ -175,7 +162,7 @@ all-there n (c ∷ rest) =
 pub method-there : (p : Program) → p.methods ≡ methods_numbered p.classes → (k : ℕ) (place : MethodPlace) (c : ClassFile) → place_of_method p k ≡ Some place → class_at p place.class ≡ Some c
     → (code : CodeAttribute) × (method_code c place.position ≡ Some code)
 method-there p methods k place c found there =
-    let is = each-of (HasMethod 0 p.classes) (methods_numbered p.classes) k place (all-there 0 p.classes) (ap (λ (l : List MethodPlace). slice_get l k) (sym methods) ∙ found) in
+    let is = each_at (HasMethod 0 p.classes) (methods_numbered p.classes) k place (all-there 0 p.classes) (ap (λ (l : List MethodPlace). slice_get l k) (sym methods) ∙ found) in
     let zero_more : 0 + is.index ≡ is.index = omega arith in
     let same : is.file ≡ c = same_Some is.file c (sym is.found ∙ (ap (slice_get p.classes) (sym zero_more ∙ sym is.class_is) ∙ there)) in
     (is.code, ap (λ (x : ClassFile). method_code x place.position) (sym same) ∙ is.coded)

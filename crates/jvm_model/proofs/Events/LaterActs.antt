@@ -3,7 +3,7 @@ use Rattle.std.proofs.Common.{◌≡◌, ℕ, zero, suc, ◌<◌, ◌≤◌, Boo
 use Rattle.std.specs.Prelude.{fold, filter, nat_le, ◌-◌, ◌==◌}
 use Rattle.std.specs.List.{AllByRecursion}
 use Rattle.std.specs.Option.{option_map_or}
-use Rattle.std.proofs.lemmas.Bool.{ne_eqb, eq-eqb, false≢true}
+use Rattle.std.proofs.lemmas.Bool.{ne_eqb, eq-eqb, false≢true, lt-leb}
 use Rattle.std.proofs.lemmas.List.{append_assoc}
 use Rattle.jvm_model.specs.declared.event.Act.{Act}
 use Rattle.jvm_model.specs.declared.event.Event.{Event}
@@ -23,9 +23,6 @@ use Rattle.jvm_model.specs.Profiling.Points.{Standing, nothing, has_root, is_emp
 pub fold-push : (f : Bool → Act → Bool) (now : Bool) (acts : List Act) (x : Act) → fold f now (acts ++ x ∷ []) ≡ f (fold f now acts) x
 fold-push f now [] x = refl
 fold-push f now (a ∷ acts) x = fold-push f (f now a) acts x
-
-pub above-false : (a b : ℕ) → b < a → nat_le a b ≡ false
-above-false a b less = grind (arith)
 
 pub filter-push : (test : Act → Bool) (acts : List Act) (x : Act) → test x ≡ false → filter test (acts ++ x ∷ []) ≡ filter test acts
 filter-push test [] x e = ap (λ b. if b then x ∷ [] else []) e
@@ -97,7 +94,7 @@ module _ (acts : List Act) (x : Act) (behind : 1 ≤ x.moment) where
   more = acts ++ x ∷ []
 
   pub same-selected : (k method : ℕ) → k ≤ x.moment → is_selected more k method ≡ is_selected acts k method
-  same-selected k method le = fold-push (selection_acted k method) false acts x ∙ by (x.method == method) (nat_le x.moment (k - 1)) (above-false x.moment (k - 1) (omega arith))
+  same-selected k method le = fold-push (selection_acted k method) false acts x ∙ by (x.method == method) (nat_le x.moment (k - 1)) (lt-leb x.moment (k - 1) (omega arith))
     where
       by : (a b : Bool) → b ≡ false → (if a && b then x.select else is_selected acts k method) ≡ is_selected acts k method
       by true false e = refl

@@ -3,9 +3,10 @@ use Rattle.std.proofs.Common.{◌≡◌, ℕ, zero, suc, ◌<◌, ◌≤◌, Boo
 use Rattle.std.specs.Prelude.{fold, filter, map, nat_le, ◌-◌, ◌==◌}
 use Rattle.std.specs.List.{AllByRecursion, list_any}
 use Rattle.std.specs.Option.{option_map_or}
-use Rattle.std.proofs.lemmas.Bool.{cond-true, ne_eqb, eq-eqb, cases_eq, false≢true, or_right}
+use Rattle.std.proofs.lemmas.Bool.{cond-true, ne_eqb, eq-eqb, cases_eq, false≢true, or_right, lt-leb, le-leb, leb-true, leb-false as below}
 use Rattle.std.proofs.lemmas.List.{append-nil, append_assoc, length_push}
 use Rattle.std.proofs.lemmas.Option.{slice_get_within, same_Some}
+use Rattle.jf_bytes.proofs.Tests.{equals_itself}
 use Rattle.jvm_model.specs.declared.event.Act.{Act}
 use Rattle.jvm_model.specs.declared.event.Mark.{Mark}
 use Rattle.jvm_model.specs.declared.event.Mark.TheVariants.{Off, Plain, Root}
@@ -31,9 +32,6 @@ use Rattle.jvm_model.specs.Profiling.Targets.{targets_in}
 
 abbrev All : List ℕ → List ℕ → Type 0
 All entered path = AllByRecursion (λ m. is_among m entered ≡ true) path
-
-equals_itself : (n : ℕ) → (n == n) ≡ true
-equals_itself n = eq-eqb n n refl
 
 among-more : (x y : ℕ) (xs : List ℕ) → is_among x xs ≡ true → is_among x (y ∷ xs) ≡ true
 among-more x y xs e = or_right (x == y) (is_among x xs) e
@@ -131,18 +129,6 @@ upto-is most method now act e = by (act.method == method) (nat_le act.moment mos
     by false b e = refl
     by true false e = absurd (false≢true e)
 
-above-false : (a b : ℕ) → b < a → nat_le a b ≡ false
-above-false a b less = grind (arith)
-
-within-true : (a b : ℕ) → a ≤ b → nat_le a b ≡ true
-within-true a b le = grind (arith)
-
-at-most : (a b : ℕ) → nat_le a b ≡ true → a ≤ b
-at-most a b e = grind (arith)
-
-below : (a b : ℕ) → nat_le a b ≡ false → b < a
-below a b e = grind (arith)
-
 less-than : (a k : ℕ) → k ≤ a → (a ≡ k → ⊥) → k < a
 less-than a k le ne = elim (cases_eq a k) [ inl same ↦ absurd (ne same) | inr different ↦ omega arith ]
 
@@ -150,7 +136,7 @@ less-than a k le ne = elim (cases_eq a k) [ inl same ↦ absurd (ne same) | inr 
 none-upto : (most method least : ℕ) (acts : List Act) (now : Bool) → most < least → AreFrom least acts → fold (upto most method) now acts ≡ now
 none-upto most method least [] now less from = refl
 none-upto most method least (act ∷ more) now less from =
-    ap (λ b. fold (upto most method) b more) (upto-not most method now act (above-false act.moment most (let at : least ≤ act.moment = from.0 in omega arith)))
+    ap (λ b. fold (upto most method) b more) (upto-not most method now act (lt-leb act.moment most (let at : least ≤ act.moment = from.0 in omega arith)))
     ∙ none-upto most method act.moment more now (let at : least ≤ act.moment = from.0 in omega arith) from.1
 
 -- where no moment is below this one
@@ -167,12 +153,12 @@ at-upto k method least (act ∷ more) now le from =
         → fold (upto k method) (upto k method now act) more ≡ fold (set_by method) now (if b then act ∷ acts_at k more else acts_at k more)
     by true e rest =
         let same : act.moment ≡ k = eqb-true act.moment k e in
-        ap (λ b. fold (upto k method) b more) (upto-is k method now act (within-true act.moment k (omega arith)))
+        ap (λ b. fold (upto k method) b more) (upto-is k method now act (le-leb act.moment k (omega arith)))
         ∙ rest (set_by method now act)
     by false e rest =
         let other : act.moment ≡ k → ⊥ = λ same. false≢true (sym e ∙ eq-eqb act.moment k same) in
         let above : k < act.moment = less-than act.moment k (let r : k ≤ act.moment = omega arith in r) other in
-        ap (λ b. fold (upto k method) b more) (upto-not k method now act (above-false act.moment k above))
+        ap (λ b. fold (upto k method) b more) (upto-not k method now act (lt-leb act.moment k above))
         ∙ rest now
 
 -- one moment more
@@ -186,9 +172,9 @@ more-upto k method least (act ∷ more) now from = by (nat_le act.moment k) refl
         → fold (upto (suc k) method) (upto (suc k) method now act) more
         ≡ fold (set_by method) (fold (upto k method) (upto k method now act) more) (if act.moment == suc k then act ∷ acts_at (suc k) more else acts_at (suc k) more)
     by true e rest =
-        let le : act.moment ≤ k = at-most act.moment k e in
+        let le : act.moment ≤ k = leb-true act.moment k e in
         let other : (act.moment == suc k) ≡ false = ne_eqb act.moment (suc k) (λ same. omega arith) in
-        ap (λ b. fold (upto (suc k) method) b more) (upto-is (suc k) method now act (within-true act.moment (suc k) (omega arith)) ∙ sym (upto-is k method now act e))
+        ap (λ b. fold (upto (suc k) method) b more) (upto-is (suc k) method now act (le-leb act.moment (suc k) (omega arith)) ∙ sym (upto-is k method now act e))
         ∙ (rest (upto k method now act)
         ∙ ap (λ b. fold (set_by method) (fold (upto k method) (upto k method now act) more) (if b then act ∷ acts_at (suc k) more else acts_at (suc k) more)) (sym other))
     by false e rest =

@@ -1,10 +1,11 @@
 -- What holds of every trace: which activations are live, and that their methods are changed as told. Each change keeps it,
 -- so all changes of a step do, and the trace of a run has it.
-use Rattle.std.proofs.Common.{◌≡◌, ℕ, zero, suc, ◌<◌, List, [], ◌∷◌, ◌++◌, length, map, Some, None, slice_get, slice_set, refl, sym, ap, ap₂, subst, ◌∙◌, inl, inr, arith}
+use Rattle.std.proofs.Common.{◌≡◌, ℕ, zero, suc, List, [], ◌∷◌, ◌++◌, length, map, Some, None, slice_get, slice_set, refl, sym, ap, ap₂, subst, ◌∙◌, inl, inr}
 use Rattle.std.specs.Bool.{⊤}
 use Rattle.std.specs.Option.{option_map_or}
 use Rattle.std.proofs.lemmas.Bool.{cases_eq}
 use Rattle.std.proofs.lemmas.Option.{slice_get_within, same_Some}
+use Rattle.jf_bytes.proofs.Lists.{slice_get-set_same}
 use Rattle.jvm_model.specs.Basis.Data.{Listing, World, Change, Loads, Began, Left, Unwound, State}
 use Rattle.jvm_model.specs.Running.Run.{start, step, turn_in, turn_in-zero, turn_in-suc}
 use Rattle.jvm_model.specs.Running.Changes.{methods, without_first, after_change, after_changes}
@@ -65,11 +66,6 @@ ended_in step a = record a { «end» = Some step }
 
 pub ended_at-found : (step number : ℕ) (activations : List Activation) (a : Activation) → slice_get activations number ≡ Some a → ended_at step number activations ≡ slice_set activations number (ended_in step a)
 ended_at-found step number activations a found = ap (λ o. option_map_or (λ (b : Activation). slice_set activations number (ended_in step b)) o activations) found
-
-slice_get-set_same : {X : Type 0} (xs : List X) (i : ℕ) (y : X) → i < length xs → slice_get (slice_set xs i y) i ≡ Some y
-slice_get-set_same [] i y within = absurd (omega arith)
-slice_get-set_same (x ∷ xs) zero y within = refl
-slice_get-set_same (x ∷ xs) (suc i) y within = slice_get-set_same xs i y (omega arith)
 
 slice_get-set_other : {X : Type 0} (xs : List X) (i j : ℕ) (y : X) → (j ≡ i → ⊥) → slice_get (slice_set xs i y) j ≡ slice_get xs j
 slice_get-set_other [] i j y other = refl

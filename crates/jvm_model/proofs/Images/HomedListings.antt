@@ -1,10 +1,10 @@
 -- At each home of a version stands what stands at its offset in the original code, by homes.
-use Rattle.std.proofs.Common.{◌≡◌, ℕ, zero, suc, true, cond, List, [], ◌∷◌, map, length, Option, Some, None, is_some, refl, sym, ap, subst, ◌∙◌}
-use Rattle.std.proofs.lemmas.Bool.{false≢true, lt-ltb}
-use Rattle.std.proofs.lemmas.Option.{same_Some, none-some}
+use Rattle.std.proofs.Common.{◌≡◌, ℕ, zero, suc, true, cond, List, [], ◌∷◌, map, length, Some, None, sym, ap, ◌∙◌}
+use Rattle.std.proofs.lemmas.Bool.{lt-ltb}
+use Rattle.std.proofs.lemmas.Option.{none-some}
 use Rattle.std.specs.Prelude.{nat_lt, slice_get, unwrap_or}
-use Rattle.std.specs.List.{AllByRecursion}
 use Rattle.std.specs.Option.{option_and_then, option_map}
+use Rattle.jf_bytes.proofs.Lists.{each_at}
 use Rattle.const_pool.specs.declared.class.ClassFile.{ClassFile}
 use Rattle.code_model.specs.declared.instr.Instr.{Instr}
 use Rattle.code_model.specs.declared.laying.Laid.{Laid}
@@ -17,15 +17,6 @@ use Rattle.jvm_model.specs.Codes.Moved.{moved_instruction}
 use Rattle.jvm_model.specs.Rewriting.Versions.{group_of}
 use Rattle.jvm_model.specs.Codes.Homed.{IsHomed, homed_instruction, instruction_for, start_in, with_own}
 use Rattle.jvm_model.proofs.Images.HomedLines.{homed-line}
-
-some-of : {A : Type 0} (o : Option A) → is_some o ≡ true → (x : A) × (o ≡ Some x)
-some-of None h = absurd (false≢true h)
-some-of (Some x) h = (x, refl)
-
-pub nth-all : {A : Type 0} (P : A → Type 0) (xs : List A) (k : ℕ) (x : A) → AllByRecursion P xs → slice_get xs k ≡ Some x → P x
-nth-all P [] k x all e = absurd (none-some x e)
-nth-all P (y ∷ ys) zero x all e = subst P (same_Some y x e) all.0
-nth-all P (y ∷ ys) (suc k) x all e = nth-all P ys k x all.1 e
 
 pub nth-map : {A B : Type 0} (f : A → B) (xs : List A) (k : ℕ) (x : A) → slice_get xs k ≡ Some x → slice_get (map f xs) k ≡ Some (f x)
 nth-map f [] k x e = absurd (none-some x e)
@@ -40,10 +31,10 @@ module _ (c image : ClassFile) (leave old : List ℕ) (instrs : List Instr) (lai
   pub homed-at : (k : ℕ) (i : Instr) → slice_get instrs k ≡ Some i
       → homed_instruction image laid.code laid.homes (length old) (h i.at) ≡ option_map (moved_instruction h) (code_instruction c old i.at)
   homed-at k i nth =
-      let here : instruction_at old i.at ≡ Some i = nth-all (λ (j : Instr). instruction_at old j.at ≡ Some j) instrs k i (Reads-each old 0 instrs is.reads) nth in
-      let does = nth-all (λ (j : Instr). operation_of image j ≡ operation_of c j) instrs k i is.does nth in
+      let here : instruction_at old i.at ≡ Some i = each_at (λ (j : Instr). instruction_at old j.at ≡ Some j) instrs k i (Reads-each old 0 instrs is.reads) nth in
+      let does = each_at (λ (j : Instr). operation_of image j ≡ operation_of c j) instrs k i is.does nth in
       let g = group_of leave i in
-      let there : IsLaidIn laid g = nth-all (IsLaidIn laid) (map (group_of leave) instrs) k g is.laid_out (nth-map (group_of leave) instrs k i nth) in
+      let there : IsLaidIn laid g = each_at (IsLaidIn laid) (map (group_of leave) instrs) k g is.laid_out (nth-map (group_of leave) instrs k i nth) in
       let home : h i.at ≡ there.home = ap (λ o. unwrap_or o 0) there.homed in
       let short : nat_lt i.at (length old) ≡ true = lt-ltb i.at (length old) (instruction_at_within old i.at i here) in
       ap (λ n. option_and_then (instruction_for image laid.code laid.homes (length old)) (start_in laid.homes n)) home

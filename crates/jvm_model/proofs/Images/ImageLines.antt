@@ -1,11 +1,12 @@
 -- What stands at the places of an image's methods.
 use Rattle.std.proofs.Common.{◌≡◌, ℕ, ◌+◌, ◌<◌, ◌≤◌, ◌^◌, ◌⊎◌, inl, inr, Bool, true, false, List, [], ◌∷◌, ◌++◌, length, take, drop, slice_get, cond, Option, Some, None, refl, sym, ap, subst, ◌∙◌, eqb-true, arith}
 use Rattle.std.specs.Prelude.{map, unwrap_or, ◌==◌, ◌&&◌, not}
-use Rattle.std.specs.Option.{option_map, option_map_or, option_and_then}
+use Rattle.std.specs.Option.{option_map, option_and_then}
 use Rattle.std.proofs.Math.Nat.{add-zero}
 use Rattle.std.proofs.Math.Bool.{and-false, and-true}
 use Rattle.std.proofs.lemmas.List.{take-append-drop, length-take-le, length-take, length-drop}
 use Rattle.std.proofs.lemmas.Option.{same_Some, slice_get-map}
+use Rattle.jf_bytes.proofs.Options.{map_or_parts}
 use Rattle.const_pool.specs.declared.class.ClassFile.{ClassFile}
 use Rattle.const_pool.specs.declared.class.CodeAttribute.{CodeAttribute}
 use Rattle.const_pool.specs.References.{named_class, named_method}
@@ -102,13 +103,9 @@ pub record HasOwnName (image : ClassFile) : Type 0 where
   pub named : named_class image.pool image.this_class ≡ Some own
   pub free : is_free_name own ≡ true
 
-pub some-passed : {A : Type 0} (p : A → Bool) (o : Option A) → option_map_or p o false ≡ true → (x : A) × (o ≡ Some x) × (p x ≡ true)
-some-passed p None e = absurd cc
-some-passed p (Some x) e = (x, refl, e)
-
 pub HasOwnName-alike : (c image : ClassFile) → IsBuilt c → LooksAlike c image → HasOwnName image
 HasOwnName-alike c image built alike =
-    let own = some-passed is_free_name (named_class c.pool c.this_class) built.small.name in
+    let own = map_or_parts is_free_name (named_class c.pool c.this_class) built.small.name in
     record {
       own = own.0;
       named = ap (named_class image.pool) alike.this ∙ (ap (λ p. named_class p c.this_class) alike.pool ∙ named_class-more c.pool alike.more c.this_class own.0 own.1);

@@ -1,10 +1,11 @@
 -- Looking up in a pool with more entries behind it: what the pool names it names still; and what the tail names.
-use Rattle.std.proofs.Common.{◌≡◌, ℕ, zero, suc, ◌+◌, Bool, true, false, List, [], ◌∷◌, ◌++◌, length, slice_get, cond, Option, Some, None, refl, sym, ap, ◌∙◌, zero-add}
+use Rattle.std.proofs.Common.{◌≡◌, ℕ, ◌+◌, Bool, true, false, List, ◌++◌, length, slice_get, cond, Option, Some, None, refl, sym, ap, ◌∙◌}
 use Rattle.std.specs.Prelude.{codes, Result, Ok, Err}
 use Rattle.std.specs.Option.{ok_or, option_map_or, option_and_then}
 use Rattle.std.specs.Result.{result_ok}
-use Rattle.std.proofs.Math.Nat.{suc-add, add-zero}
+use Rattle.std.proofs.Math.Nat.{add-zero}
 use Rattle.std.proofs.lemmas.Option.{none-some, option_and_then_some}
+use Rattle.jf_bytes.proofs.Lists.{slice_get-front, slice_get-after}
 use Rattle.const_pool.specs.declared.pool.Const.{Const}
 use Rattle.const_pool.specs.declared.pool.Const.TheVariants.{Utf8, Class, Field, Method, InterfaceMethod, NameType}
 use Rattle.const_pool.specs.declared.pool.PoolError.{PoolError}
@@ -32,14 +33,9 @@ refl-keeps r x e = e
 
 -- ---- entries
 
-pub slice_get-more : {A : Type 0} (xs ys : List A) (i : ℕ) (x : A) → slice_get xs i ≡ Some x → slice_get (xs ++ ys) i ≡ Some x
-slice_get-more [] ys i x e = absurd (none-some x e)
-slice_get-more (y ∷ xs) ys zero x e = e
-slice_get-more (y ∷ xs) ys (suc i) x e = slice_get-more xs ys i x e
-
 entry-more : (pool more : List Const) (i : ℕ) (c : Const) → entry_at pool i ≡ Some c → entry_at (pool ++ more) i ≡ Some c
 entry-more pool more i c e =
-    option_and_then_some entry_of (slice_get pool i) c e (λ d is rest. ap (option_and_then entry_of) (slice_get-more pool more i d is) ∙ rest)
+    option_and_then_some entry_of (slice_get pool i) c e (λ d is rest. ap (option_and_then entry_of) (slice_get-front pool more i d is) ∙ rest)
 
 ok_or-keeps : (old new : Option Const) → ((c : Const) → old ≡ Some c → new ≡ Some c) → Keeps (ok_or old BadIndex) (ok_or new BadIndex)
 ok_or-keeps None new keeps x e = absurd (err-ok BadIndex x e)
@@ -134,12 +130,8 @@ named_interface_method-more pool more i r e =
 
 -- ---- the tail
 
-slice_get-behind : {A : Type 0} (xs ys : List A) (k : ℕ) → slice_get (xs ++ ys) (length xs + k) ≡ slice_get ys k
-slice_get-behind [] ys k = ap (slice_get ys) (zero-add k)
-slice_get-behind (x ∷ xs) ys k = ap (slice_get (x ∷ xs ++ ys)) (suc-add (length xs) k) ∙ slice_get-behind xs ys k
-
 pub tail-entry : (pool : List Const) (k : ℕ) → slice_get (with_tail pool) (length pool + k) ≡ slice_get (tail_entries (length pool)) k
-tail-entry pool k = slice_get-behind pool (tail_entries (length pool)) k
+tail-entry pool k = slice_get-after pool (tail_entries (length pool)) k
 
 text-at : (pool : List Const) (i : ℕ) (t : List ℕ) → slice_get pool i ≡ Some (Utf8 t) → text_walk pool i ≡ Ok t
 text-at pool i t e = ap (λ o. ok_or (option_and_then entry_of o) BadIndex >>= text_entry) e

@@ -5,10 +5,11 @@ use Rattle.std.specs.Prelude.{codes, ◌==◌, ◌&&◌, not}
 use Rattle.std.specs.Option.{option_map, option_and_then}
 use Rattle.std.specs.Int.{w16, cast_signed, cast_unsigned}
 use Rattle.std.proofs.lemmas.Int.{of_z-to_z}
-use Rattle.std.proofs.lemmas.Option.{none-some, same_Some}
+use Rattle.std.proofs.lemmas.Option.{none-some}
 use Rattle.const_pool.specs.declared.class.ClassFile.{ClassFile}
 use Rattle.std.proofs.lemmas.Slice.Eq.{bytes_eq-Decides}
-use Rattle.std.proofs.lemmas.Bool.{not-true}
+use Rattle.std.proofs.lemmas.Bool.{not-true, and_parts}
+use Rattle.jf_bytes.proofs.Options.{map_parts}
 use Rattle.const_pool.specs.BuiltIn.{probe_class}
 use Rattle.const_pool.specs.References.{Reference, named_class, named_method}
 use Rattle.code_model.specs.declared.instr.Arg.{Arg}
@@ -101,23 +102,15 @@ no_probe-invoked image code n none =
 
 -- ---- an original instruction invokes no probe
 
-and-first : (a b : Bool) → (a && b) ≡ true → a ≡ true
-and-first true b e = refl
-and-first false b e = e
-
-and-second : (a b : Bool) → (a && b) ≡ true → b ≡ true
-and-second true b e = e
-and-second false b e = absurd cc
-
 -- the class's own name is not the probe class's
 same_text-true : (xs ys : List ℕ) → same_text xs ys ≡ true → xs ≡ ys
 same_text-true xs ys e = (bytes_eq-Decides xs ys).0 e
 
 own-free : (own : List ℕ) → is_free_name own ≡ true → same_text own probe_class ≡ false
 own-free own free =
-    let first = and-second (not (length own == 0)) _ free in
-    let second = and-second (not (begins_with 91 own)) _ first in
-    not-true (same_text own probe_class) (and-first (not (same_text own probe_class)) _ second)
+    let first = (and_parts (not (length own == 0)) _ free).1 in
+    let second = (and_parts (not (begins_with 91 own)) _ first).1 in
+    not-true (same_text own probe_class) (and_parts (not (same_text own probe_class)) _ second).0
 
 -- a method of another class is no probe
 other-kind : (r : Reference) → same_text r.class probe_class ≡ false → probe_kind r ≡ None
@@ -136,10 +129,6 @@ called-own image r own k named e =
     chosen_true true x k e = refl
     chosen_true false x k e = absurd (none-some k e)
 
-in_map : {A B : Type 0} (f : A → B) (o : Option A) (y : B) → option_map f o ≡ Some y → (x : A) × (o ≡ Some x) × (f x ≡ y)
-in_map f None y e = absurd (none-some y e)
-in_map f (Some x) y e = (x, refl, same_Some (f x) y e)
-
 invokestatic-elsewhere : family_of 184 ≡ family.NotLocal
 unfolding family_of rows
 invokestatic-elsewhere = refl
@@ -155,10 +144,10 @@ invoked_by image own op (arg.Pool index) o q has_name free e resolves = by_opcod
         let called : option_and_then named_by (option_map Invokestatic (named_method image.pool index)) ≡ Some o =
         ap (operation_by image 184 (arg.Pool index)) (sym invokestatic-elsewhere) ∙ (ap (λ n. operation_by image n (arg.Pool index) (family_of n)) (sym op_is) ∙ e) in
         let names = named_by-is (option_map Invokestatic (named_method image.pool index)) o called in
-        let found = in_map Invokestatic (named_method image.pool index) names.reference names.is in
+        let found = map_parts Invokestatic (named_method image.pool index) names.reference names.is in
         let named : resolved_in image (Named (Invokestatic found.0)) ≡ Some q =
         ap (λ n. resolved_in image (Named n)) found.2 ∙ (ap (resolved_in image) names.named ∙ resolves) in
-        let own_found = in_map resolved.Invokestatic (own_method image found.0) q named in
+        let own_found = map_parts resolved.Invokestatic (own_method image found.0) q named in
         let same : found.0.class ≡ own = called-own image found.0 own own_found.0 has_name own_found.1 in
         let other : same_text found.0.class probe_class ≡ false = ap (λ t. same_text t probe_class) same ∙ own-free own free in
         ap (λ b. cond b (option_and_then probe_kind (named_method image.pool index)) None) is ∙ (ap (option_and_then probe_kind) found.1 ∙ other-kind found.0 other)

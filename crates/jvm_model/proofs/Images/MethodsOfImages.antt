@@ -3,6 +3,7 @@ use Rattle.std.proofs.Common.{◌≡◌, ℕ, zero, suc, ◌+◌, Bool, true, fa
 use Rattle.std.specs.Prelude.{map, MatchBool}
 use Rattle.std.specs.Option.{option_and_then}
 use Rattle.std.proofs.lemmas.Option.{same_Some, none-some}
+use Rattle.jf_bytes.proofs.Options.{and_then_parts}
 use Rattle.const_pool.specs.declared.class.ClassFile.{ClassFile}
 use Rattle.const_pool.specs.declared.class.CodeAttribute.{CodeAttribute}
 use Rattle.const_pool.specs.declared.class.Member.{Member}
@@ -162,14 +163,10 @@ pub record HasMarkedCode (c : ClassFile) (first : ℕ) (marks : List Mark) (imag
   pub marked : slice_get marks k ≡ Some mark
   pub has : HasCodeFor c (number_behind first c.methods k) mark image homes k old
 
-some-of : {A B : Type 0} (f : A → Option B) (o : Option A) (y : B) → option_and_then f o ≡ Some y → (x : A) × (o ≡ Some x) × (f x ≡ Some y)
-some-of f None y e = absurd (none-some y e)
-some-of f (Some x) y e = (x, refl, e)
-
 pub image-code : (c : ClassFile) (first : ℕ) (marks : List Mark) (image : ClassFile) (homes : List (Option Homes)) (k : ℕ) (old : CodeAttribute)
     → IsImage c first marks image homes → length marks ≡ length c.methods → method_code c k ≡ Some old → HasMarkedCode c first marks image homes k old
 image-code c first marks image homes k old is counted e =
-    let found = some-of code_of (slice_get c.methods k) old e in
+    let found = and_then_parts code_of (slice_get c.methods k) old e in
     let member = image-member c first marks image homes k found.0 is counted found.1 in
     record {
       mark = member.mark;

@@ -1,10 +1,11 @@
 -- The number of a method in its program: that of the first method with Code of its class, and then those of the class in front of it.
-use Rattle.std.proofs.Common.{◌≡◌, ℕ, zero, suc, ◌+◌, ◌<◌, ◌≤◌, Bool, true, false, cond, List, [], ◌∷◌, ◌++◌, length, slice_get, Option, Some, None, refl, sym, ap, subst, ◌∙◌, zero-add, arith}
+use Rattle.std.proofs.Common.{◌≡◌, ℕ, zero, suc, ◌+◌, ◌<◌, ◌≤◌, Bool, true, false, cond, List, [], ◌∷◌, ◌++◌, length, slice_get, Option, Some, refl, sym, ap, subst, ◌∙◌, zero-add, arith}
 use Rattle.std.specs.Prelude.{count_by, nat_lt, is_some}
-use Rattle.std.specs.Option.{option_and_then}
 use Rattle.std.proofs.lemmas.Bool.{lt-ltb, le-ltb}
 use Rattle.std.proofs.lemmas.List.Sums.{sum_by-cons, sum_by-append}
 use Rattle.std.proofs.lemmas.Option.{same_Some, none-some}
+use Rattle.jf_bytes.proofs.Lists.{slice_get-after}
+use Rattle.jf_bytes.proofs.Options.{and_then_parts}
 use Rattle.const_pool.specs.declared.class.ClassFile.{ClassFile}
 use Rattle.const_pool.specs.declared.class.CodeAttribute.{CodeAttribute}
 use Rattle.const_pool.specs.declared.class.Member.{Member}
@@ -16,10 +17,6 @@ use Rattle.jvm_model.specs.Basis.Programs.{class_at, coded_from, numbered_from, 
 use Rattle.jvm_model.specs.Profiling.Swaps.{first_number}
 
 -- ---- lists
-
-at-behind : {A : Type 0} (xs ys : List A) (i : ℕ) → slice_get (xs ++ ys) (length xs + i) ≡ slice_get ys i
-at-behind [] ys i = ap (slice_get ys) (let n : 0 + i ≡ i = omega arith in n)
-at-behind (x ∷ xs) ys i = ap (slice_get (x ∷ (xs ++ ys))) (let n : suc (length xs) + i ≡ suc (length xs + i) = omega arith in n) ∙ at-behind xs ys i
 
 abbrev place_at : ℕ → ℕ → MethodPlace
 place_at class at = record { class = class; position = at }
@@ -137,18 +134,14 @@ nth-numbered n (x ∷ cs) (suc k) c j m code at e coded =
     let sums : length front + count_below (n + 1 + k) behind + number_behind 0 c.methods j ≡ length front + (count_below (n + 1 + k) behind + number_behind 0 c.methods j) = omega arith in
     ap (λ i. slice_get (front ++ behind) (i + number_behind 0 c.methods j)) below
     ∙ (ap (slice_get (front ++ behind)) sums
-    ∙ (at-behind front behind (count_below (n + 1 + k) behind + number_behind 0 c.methods j)
+    ∙ (slice_get-after front behind (count_below (n + 1 + k) behind + number_behind 0 c.methods j)
     ∙ (nth-numbered (n + 1) cs k c j m code at e coded ∙ ap (λ i. let o : Option MethodPlace = Some (place_at i j) in o) class)))
-
-some-of : {A B : Type 0} (f : A → Option B) (o : Option A) (y : B) → option_and_then f o ≡ Some y → (x : A) × (o ≡ Some x) × (f x ≡ Some y)
-some-of f None y e = absurd (none-some y e)
-some-of f (Some x) y e = (x, refl, e)
 
 -- the method with Code at a position of a class stands in its program at the number that its version has
 pub place-behind : (p : Program) (k : ℕ) (c : ClassFile) (j : ℕ) (code : CodeAttribute) → p.methods ≡ methods_numbered p.classes → class_at p k ≡ Some c → method_code c j ≡ Some code
     → place_of_method p (number_behind (first_number p k) c.methods j) ≡ Some (record { class = k; position = j })
 place-behind p k c j code methods at coded =
-    let found = some-of code_of (slice_get c.methods j) code coded in
+    let found = and_then_parts code_of (slice_get c.methods j) code coded in
     let zero_more : 0 + k ≡ k = omega arith in
     let there = nth-numbered 0 p.classes k c j found.0 code at found.1 found.2 in
     let here : slice_get (methods_numbered p.classes) (count_below k (methods_numbered p.classes) + number_behind 0 c.methods j) ≡ Some (place_at k j) =

@@ -1,13 +1,14 @@
 -- The built-in classes stand each behind what it needs, and java/lang/Object has nothing above it and no method with Code: computed over their
 -- class files, and so of every program that has them behind its own.
 use Rattle.std.proofs.Common.{◌≡◌, ℕ, suc, ◌+◌, Bool, true, false, not, List, [], ◌∷◌, ◌++◌, length, map, Option, Some, None, slice_get, if◌then◌else◌, refl, sym, ap, subst, ◌∙◌, arith, length-append, inl, inr}
-use Rattle.std.proofs.lemmas.Bool.{and_parts, cases_eq, eq-eqb, ne_eqb, false≢true}
+use Rattle.std.proofs.lemmas.Bool.{and_parts, cases_eq, ne_eqb, false≢true}
 use Rattle.std.proofs.lemmas.List.{append_assoc}
 use Rattle.std.proofs.lemmas.Slice.Eq.{bytes_eq-Decides}
 use Rattle.std.specs.Prelude.{filter_map, is_some, unwrap_or, ◌==◌, ◌&&◌, ◌||◌, ◌⊎◌}
 use Rattle.std.specs.List.{AllByRecursion, list_all, list_any}
 use Rattle.std.specs.Option.{option_and_then, option_map_or, option_to_list}
 use Rattle.std.proofs.lemmas.Option.{same_Some}
+use Rattle.jf_bytes.proofs.Lists.{slice_get-after}
 use Rattle.const_pool.specs.BuiltIn.{built_in_names}
 use Rattle.const_pool.specs.References.{named_class}
 use Rattle.const_pool.specs.declared.class.ClassFile.{ClassFile}
@@ -32,6 +33,7 @@ use Rattle.jvm_model.specs.Soundness.Sound.{IsFit, IsLoaded}
 use Rattle.jvm_model.proofs.Soundness.Ranked.{AreInOrder}
 use Rattle.jvm_model.proofs.Soundness.SoundClasses.{HasLoaded}
 use Rattle.jvm_model.specs.Soundness.Climbing.{HasBareObject}
+use Rattle.jvm_model.proofs.Loading.Among.{among-front, among-last}
 
 -- ---- what is computed
 
@@ -72,29 +74,9 @@ files_counted = refl
 
 -- ---- lists
 
-get-behind : {A : Type 0} (xs ys : List A) (k : ℕ) → slice_get (xs ++ ys) (length xs + k) ≡ slice_get ys k
-get-behind [] ys k = ap (slice_get ys) (let e : 0 + k ≡ k = omega arith in e)
-get-behind (x ∷ xs) ys k = ap (slice_get (x ∷ (xs ++ ys))) (let e : suc (length xs) + k ≡ suc (length xs + k) = omega arith in e) ∙ get-behind xs ys k
-
 get-last : {A : Type 0} (xs ys : List A) (y : A) → slice_get (xs ++ y ∷ ys) (length xs) ≡ Some y
 get-last [] ys y = refl
 get-last (x ∷ xs) ys y = get-last xs ys y
-
-in-first : (x : ℕ) (xs ys : List ℕ) → is_among x xs ≡ true → is_among x (xs ++ ys) ≡ true
-in-first x [] ys e = absurd (false≢true e)
-in-first x (y ∷ xs) ys e = by (x == y) e (in-first x xs ys)
-  where
-    by : (b : Bool) → (b || is_among x xs) ≡ true → (is_among x xs ≡ true → is_among x (xs ++ ys) ≡ true) → (b || is_among x (xs ++ ys)) ≡ true
-    by true e rest = refl
-    by false e rest = rest e
-
-in-last : (x : ℕ) (xs : List ℕ) → is_among x (xs ++ x ∷ []) ≡ true
-in-last x [] = ap (λ b. b || false) (eq-eqb x x refl)
-in-last x (y ∷ xs) = by (x == y) (in-last x xs)
-  where
-    by : (b : Bool) → is_among x (xs ++ x ∷ []) ≡ true → (b || is_among x (xs ++ x ∷ [])) ≡ true
-    by true e = refl
-    by false e = e
 
 -- the positions from one on, as many as these
 abbrev places_from : ℕ → List ClassFile → List ℕ
@@ -139,10 +121,10 @@ module _ (p : Program) (fit : IsFit p) (own : List ClassFile) (classes_are : p.c
   seen-more seen done c class at named was name h other found = choose (either-seen name (own_text c) seen h)
     where
       choose : (is_seen seen name ≡ true) ⊎ (name ≡ own_text c) → IsLoaded (done ++ class ∷ []) other
-      choose (inl k) = in-first other done (class ∷ []) (was name k other found)
+      choose (inl k) = among-front other done (class ∷ []) (was name k other found)
       choose (inr same) =
           let is : class ≡ other = same_Some class other (sym (text-named c class at named) ∙ (ap (class_named p) (sym same) ∙ found)) in
-          subst (λ x. is_among x (done ++ class ∷ []) ≡ true) is (in-last class done)
+          subst (λ x. is_among x (done ++ class ∷ []) ≡ true) is (among-last class done)
 
   -- what a class needs is done
   needs-done : (seen : List (List ℕ)) (done : List ℕ) (interface : Bool) (names : List (List ℕ)) → Done seen done → list_all (is_seen seen) names ≡ true
@@ -184,7 +166,7 @@ module _ (p : Program) (fit : IsFit p) (own : List ClassFile) (classes_are : p.c
       let inner = and_parts (is_some (name_of c) && has_built_in_name c) (list_all (is_seen seen) (names_above c)) outer.0 in
       let named = (and_parts (is_some (name_of c)) (has_built_in_name c) inner.0).0 in
       let at : class_at p class ≡ Some c =
-      ap (λ cs. slice_get cs class) (classes_are ∙ ap (λ l. own ++ l) is) ∙ (get-behind own (front ++ c ∷ rest) (length front) ∙ get-last front rest c) in
+      ap (λ cs. slice_get cs class) (classes_are ∙ ap (λ l. own ++ l) is) ∙ (slice_get-after own (front ++ c ∷ rest) (length front) ∙ get-last front rest c) in
       let pushed : length (front ++ c ∷ []) ≡ length front + 1 = length-append front (c ∷ []) in
       let next : length own + length (front ++ c ∷ []) ≡ length own + length front + 1 = omega (arith, pushed) in (
         subst (λ o. AllByRecursion (HasLoaded p done) (option_map_or class_needs o [])) (sym at) (class-done seen done c was inner.1),

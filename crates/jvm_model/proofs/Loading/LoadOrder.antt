@@ -14,16 +14,8 @@ use Rattle.jvm_model.specs.Running.Run.{before}
 use Rattle.jvm_model.specs.Basis.SharedState.{built_in_from}
 use Rattle.jvm_model.specs.Soundness.Sound.{HasSupertypes}
 use Rattle.jvm_model.proofs.Soundness.Ranked.{AreInOrder}
-use Rattle.jvm_model.proofs.Soundness.SoundClasses.{AreLoads, HasLoaded, among-front, named-load, needs-load, one-more}
-
-among-append : (class : ℕ) (xs ys : List ℕ) → is_among class (xs ++ ys) ≡ (is_among class xs || is_among class ys)
-among-append class [] ys = refl
-among-append class (x ∷ xs) ys = by (class == x) (among-append class xs ys)
-  where
-    by : (b : Bool) → is_among class (xs ++ ys) ≡ (is_among class xs || is_among class ys)
-        → (b || is_among class (xs ++ ys)) ≡ ((b || is_among class xs) || is_among class ys)
-    by true h = refl
-    by false h = h
+use Rattle.jvm_model.proofs.Soundness.SoundClasses.{AreLoads, HasLoaded, named-load, needs-load, one-more}
+use Rattle.jvm_model.proofs.Loading.Among.{among-append, among-front}
 
 -- ---- what holds of the loaded classes and is kept by one more that is not on the path holds at the end
 

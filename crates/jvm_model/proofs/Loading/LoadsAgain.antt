@@ -3,7 +3,8 @@
 use Rattle.std.proofs.Common.{◌≡◌, ℕ, zero, suc, Bool, true, false, List, [], ◌∷◌, ◌++◌, ap, sym, refl, ◌∙◌, arith}
 use Rattle.std.proofs.Math.Seq.{drop-append_seam, drop-length}
 use Rattle.std.specs.Prelude.{length, drop, Option, Some, None, ◌==◌, ◌||◌, if◌then◌else◌}
-use Rattle.std.proofs.lemmas.Bool.{false≢true}
+use Rattle.std.proofs.lemmas.Bool.{false≢true, eqb-true}
+use Rattle.std.proofs.lemmas.Option.{none-some}
 use Rattle.jvm_model.specs.Basis.Data.{Operands}
 use Rattle.jvm_model.specs.Running.Growth.{Extends}
 use Rattle.jvm_model.specs.Classes.Kinds.{Element, Primitive, Named, kind_named, meaning_of}
@@ -12,33 +13,7 @@ use Rattle.jvm_model.specs.Instructions.SymbolicReference.{SymbolicReference, ki
 use Rattle.jvm_model.specs.Basis.Programs.{class_named}
 use Rattle.jvm_model.specs.declared.program.Program.{Program}
 use Rattle.jvm_model.proofs.Running.Growth.{Extends-appended, Extends-same, Extends-trans}
-
--- ---- what is among classes
-
-equals_itself : (n : ℕ) → (n == n) ≡ true
-equals_itself n = grind (arith)
-
-equal : (a b : ℕ) → (a == b) ≡ true → a ≡ b
-equal a b e = grind (arith)
-
-among-append : (class : ℕ) (xs ys : List ℕ) → is_among class (xs ++ ys) ≡ (is_among class xs || is_among class ys)
-among-append class [] ys = refl
-among-append class (x ∷ xs) ys = by (class == x) (among-append class xs ys)
-  where
-    by : (b : Bool) → is_among class (xs ++ ys) ≡ (is_among class xs || is_among class ys)
-        → (b || is_among class (xs ++ ys)) ≡ ((b || is_among class xs) || is_among class ys)
-    by true rest = refl
-    by false rest = rest
-
-among-front : (class : ℕ) (xs ys : List ℕ) → is_among class xs ≡ true → is_among class (xs ++ ys) ≡ true
-among-front class xs ys is = among-append class xs ys ∙ ap (λ b. b || is_among class ys) is
-
-among-last : (class : ℕ) (xs : List ℕ) → is_among class (xs ++ class ∷ []) ≡ true
-among-last class xs = among-append class xs (class ∷ []) ∙ (ap (λ b. is_among class xs || (b || false)) (equals_itself class) ∙ by (is_among class xs))
-  where
-    by : (b : Bool) → (b || true) ≡ true
-    by true = refl
-    by false = refl
+use Rattle.jvm_model.proofs.Loading.Among.{among-append, among-front, among-last}
 
 -- ---- what holds of the loaded classes, and of one class more that is not on the path, holds at the end
 
@@ -119,7 +94,7 @@ module _ (p : Program) (c : ℕ) where
   on-path path has class out = by (class == c) refl
     where
       by : (b : Bool) → (class == c) ≡ b → (b || false) ≡ false
-      by true e = absurd (false≢true (sym out ∙ (ap (λ k. is_among k path) (equal class c e) ∙ has)))
+      by true e = absurd (false≢true (sym out ∙ (ap (λ k. is_among k path) (eqb-true class c e) ∙ has)))
       by false e = refl
 
   not-loaded : (depth : ℕ) (path : List ℕ) (needs : List Need) (loaded : List ℕ) → is_among c path ≡ true → is_among c loaded ≡ false
@@ -130,11 +105,8 @@ module _ (p : Program) (c : ℕ) where
 
 -- ---- what was loaded without a fault loads nothing where it and more is loaded
 
-some-none : (f : Fault) → Some f ≡ None → ⊥
-some-none f e = cc
-
 failed-done : (loaded after : List ℕ) (fault : Fault) → loading_failed loaded fault ≡ loading_done after → ⊥
-failed-done loaded after fault e = some-none fault (ap (λ (l : Loading). l.fault) e)
+failed-done loaded after fault e = none-some fault (sym (ap (λ (l : Loading). l.fault) e))
 
 done-done : (loaded after : List ℕ) → loading_done loaded ≡ loading_done after → loaded ≡ after
 done-done loaded after e = ap (λ (l : Loading). l.loaded) e

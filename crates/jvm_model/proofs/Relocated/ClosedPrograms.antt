@@ -5,6 +5,7 @@ use Rattle.std.specs.List.{AllByRecursion}
 use Rattle.std.specs.Option.{IfSome, option_and_then, option_map, option_map_or}
 use Rattle.std.proofs.lemmas.Bool.{eq-eqb, false≢true, or_left, or_right}
 use Rattle.std.proofs.lemmas.Option.{same_Some, none-some}
+use Rattle.jf_bytes.proofs.Lists.{each_at}
 use Rattle.const_pool.specs.declared.class.ClassFile.{ClassFile}
 use Rattle.const_pool.specs.declared.class.CodeAttribute.{CodeAttribute}
 use Rattle.const_pool.specs.declared.class.Handler.{Handler}
@@ -23,7 +24,6 @@ use Rattle.jvm_model.specs.Codes.Places.{is_start_in}
 use Rattle.jvm_model.specs.Basis.Programs.{class_at, code_of_method, place_of_method}
 use Rattle.jvm_model.proofs.Relocated.ClosedCode.{closed-agrees}
 use Rattle.jvm_model.specs.Codes.ProgramPlaces.{HasClosedCodes, HasPlaces, IsClosedCode, is_place_in, is_place_of, reading_of}
-use Rattle.jvm_model.proofs.Images.HomedListings.{nth-all}
 
 -- ---- readings
 
@@ -65,7 +65,7 @@ module _ (c : ClassFile) (code : CodeAttribute) (closed : IsClosedCode code) whe
       same-there : Nth (reading_of code) at → (k : ℕ) × (slice_get (reading_of code) k ≡ Some j)
       same-there n =
           let own : instruction_at code.code n.instr.at ≡ Some n.instr =
-          nth-all (λ (x : Instr). instruction_at code.code x.at ≡ Some x) (reading_of code) n.nth n.instr (Reads-each code.code 0 (reading_of code) closed.reads) n.stands in
+          each_at (λ (x : Instr). instruction_at code.code x.at ≡ Some x) (reading_of code) n.nth n.instr (Reads-each code.code 0 (reading_of code) closed.reads) n.stands in
           let is : n.instr ≡ j = same_Some n.instr j (sym own ∙ (ap (instruction_at code.code) n.here ∙ there)) in
           (n.nth, n.stands ∙ ap Some is)
 
@@ -98,7 +98,7 @@ module _ (c : ClassFile) (code : CodeAttribute) (closed : IsClosedCode code) whe
           let is : record { operation = op; own = j.at; next = next_of op (end_of j); targets = targets_of j.arg } ≡ i = same_Some _ i e in (
             subst (λ (x : Instruction). IfSome x.next (λ n. is_place_of code n ≡ true)) is (next-place op found.0 j found.1),
             subst (λ (x : Instruction). AllByRecursion (λ n. is_place_of code n ≡ true) x.targets) is
-                (nth-all (λ (x : Instr). AllByRecursion (λ t. is_place_of code t ≡ true) (targets_of x.arg)) (reading_of code) found.0 j closed.targets found.1),
+                (each_at (λ (x : Instr). AllByRecursion (λ t. is_place_of code t ≡ true) (targets_of x.arg)) (reading_of code) found.0 j closed.targets found.1),
           )
 
 -- ---- in a program

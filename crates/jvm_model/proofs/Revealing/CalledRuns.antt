@@ -27,7 +27,7 @@ use Rattle.jvm_model.proofs.Running.Attempts.{again-by, loaded-after, with_loade
 use Rattle.jvm_model.proofs.Events.Order.{run-ordered, started-begins}
 use Rattle.jvm_model.proofs.Running.Settles.{settled-keeps}
 use Rattle.jvm_model.proofs.Soundness.SoundAttempts.{sound-does}
-use Rattle.jvm_model.proofs.Soundness.SoundClasses.{among-front, supertypes-loaded}
+use Rattle.jvm_model.proofs.Soundness.SoundClasses.{supertypes-loaded}
 use Rattle.jvm_model.proofs.Soundness.SoundLines.{can-attempt}
 use Rattle.jvm_model.proofs.Soundness.SoundObjects.{KeepsShared}
 use Rattle.jvm_model.proofs.Soundness.SoundRuns.{loads-again, with-loaded-is}
@@ -42,6 +42,7 @@ use Rattle.jvm_model.specs.Soundness.Calls.{AreCalled, loads_of, loaded_before, 
 use Rattle.jvm_model.specs.Soundness.Climbing.{Climbs, HasBareObject, Begins}
 use Rattle.jvm_model.specs.Profiling.Points.{has_class}
 use Rattle.jvm_model.specs.Profiling.Targets.{begun_by_operation, targets_in}
+use Rattle.jvm_model.proofs.Loading.Among.{among-front}
 
 if-both : {A : Type 0} (o : Option A) (P Q : A → Type 0) → IfSome o P → IfSome o Q → IfSome o (λ x. P x × Q x)
 if-both None P Q first second = tt

@@ -18,11 +18,12 @@ use Rattle.jvm_model.specs.Basis.SharedState.{class_of, phase_of}
 use Rattle.jvm_model.specs.Soundness.Sound.{IsLoaded}
 use Rattle.jvm_model.specs.Soundness.SoundListings.{IsSoundEntry, RunsOriginal}
 use Rattle.jvm_model.specs.Basis.Values.{as_value, with_value}
-use Rattle.jvm_model.proofs.Revealing.Callees.{among-first, among-second, due-above, initializer-place}
+use Rattle.jvm_model.proofs.Revealing.Callees.{due-above, initializer-place}
 use Rattle.jvm_model.proofs.Events.Methods.{Tells, applies-tells, moves-tell, then-tells}
 use Rattle.jvm_model.specs.Soundness.Calls.{IsCalled, loads_of}
 use Rattle.jvm_model.specs.Soundness.Climbing.{Climbs, IsDue, Begins}
 use Rattle.jvm_model.specs.Profiling.Targets.{begun_by_operation, targets_in}
+use Rattle.jvm_model.proofs.Loading.Among.{among-front, among-behind}
 
 -- ---- lists
 
@@ -34,9 +35,9 @@ pub record Has (operations : List (Operation Local)) (op : Operation Local) : Ty
 
 front-targets : (p : Program) (loaded : List ℕ) (front rest : List (Operation Local)) (op : Operation Local) (m : ℕ) → is_among m (begun_by_operation p loaded op) ≡ true
     → is_among m (targets_in p loaded (front ++ op ∷ rest)) ≡ true
-front-targets p loaded [] rest op m e = among-first m (begun_by_operation p loaded op) (targets_in p loaded rest) e
+front-targets p loaded [] rest op m e = among-front m (begun_by_operation p loaded op) (targets_in p loaded rest) e
 front-targets p loaded (o ∷ front) rest op m e =
-    among-second m (begun_by_operation p loaded o) (targets_in p loaded (front ++ op ∷ rest)) (front-targets p loaded front rest op m e)
+    among-behind m (begun_by_operation p loaded o) (targets_in p loaded (front ++ op ∷ rest)) (front-targets p loaded front rest op m e)
 
 pub has-targets : (p : Program) (loaded : List ℕ) (operations : List (Operation Local)) (op : Operation Local) → Has operations op → (m : ℕ) → is_among m (begun_by_operation p loaded op) ≡ true
     → is_among m (targets_in p loaded operations) ≡ true

@@ -1,6 +1,6 @@
 -- What an instruction asks to begin is among its targets (JVM Specification 2.11.8, 5.4.3, 5.4.5, 5.5, 6.5).
 use Rattle.std.proofs.Common.{◌≡◌, ℕ, zero, suc, ◌+◌, ◌*◌, ◌≤◌, ◌<◌, Bool, true, false, List, [], ◌∷◌, ◌++◌, length, ap, ap₂, sym, subst, refl, ◌∙◌, eqb-true, inl, inr, arith}
-use Rattle.std.proofs.lemmas.Bool.{eq-eqb, ne_eqb, false≢true, or_right}
+use Rattle.std.proofs.lemmas.Bool.{ne_eqb, false≢true, or_right, le-ltb, lt-ltb, ltb-true}
 use Rattle.std.proofs.lemmas.Nat.{div-mul-add, le-div, mod-mul-add}
 use Rattle.std.proofs.lemmas.List.{append-nil}
 use Rattle.std.specs.Prelude.{◌/◌, ◌%◌, codes, drop, filter, filter_map, flat_map, map, Option, Some, None, is_some, Result, Ok, Err, slice_get, nat_le, nat_lt, unwrap_or, ℤ, pos, negsuc, ◌==◌, ◌&&◌, ◌||◌, ◌⊎◌, if◌then◌else◌}
@@ -8,6 +8,7 @@ use Rattle.std.specs.Bool.{beq}
 use Rattle.std.specs.List.{list_any, cons_option}
 use Rattle.std.specs.Option.{option_and_then, option_map, option_map_or, option_to_list}
 use Rattle.std.proofs.lemmas.Option.{none-some, same_Some}
+use Rattle.jf_bytes.proofs.Tests.{equals_itself}
 use Rattle.const_pool.specs.declared.class.ClassFile.{ClassFile}
 use Rattle.const_pool.specs.References.{NameAndType, Reference}
 use Rattle.const_pool.specs.BuiltIn.{built_in_names}
@@ -55,6 +56,7 @@ use Rattle.jvm_model.proofs.Soundness.SoundObjects.{object-usable}
 use Rattle.jvm_model.proofs.Revealing.IdleRules.{element-sound, measures-sound, throws-sound, watches-sound, within-sound}
 use Rattle.jvm_model.specs.Soundness.Climbing.{Climbs, HasBareObject, IsDue, Begins}
 use Rattle.jvm_model.specs.Profiling.Targets.{loaded_class_named, is_array_type, found_where, coded_at, method_coded, initializers, selections, invoked_by, begun_on, begun_static, begun_field, where_loaded, begun_by, begun_by_operation}
+use Rattle.jvm_model.proofs.Loading.Among.{among-front, among-behind}
 
 ok-ok : {A : Type 0} (x y : A) → (let r : Result A Outcome = Ok x in r) ≡ Ok y → x ≡ y
 ok-ok x y e = cc
@@ -64,29 +66,14 @@ err-ok o x e = cc
 
 -- ---- lists
 
-equals_itself : (n : ℕ) → (n == n) ≡ true
-equals_itself n = eq-eqb n n refl
-
-pub among-first : (x : ℕ) (xs ys : List ℕ) → is_among x xs ≡ true → is_among x (xs ++ ys) ≡ true
-among-first x [] ys e = absurd (false≢true e)
-among-first x (y ∷ xs) ys e = by (x == y) e (among-first x xs ys)
-  where
-    by : (b : Bool) → (b || is_among x xs) ≡ true → (is_among x xs ≡ true → is_among x (xs ++ ys) ≡ true) → (b || is_among x (xs ++ ys)) ≡ true
-    by true e rest = refl
-    by false e rest = rest e
-
-pub among-second : (x : ℕ) (xs ys : List ℕ) → is_among x ys ≡ true → is_among x (xs ++ ys) ≡ true
-among-second x [] ys e = e
-among-second x (y ∷ xs) ys e = or_right (x == y) (is_among x (xs ++ ys)) (among-second x xs ys e)
-
 pub among-flat : {A : Type 0} (f : A → List ℕ) (x : ℕ) (y : A) (test : A → Bool) (ys : List A) → list_any test ys ≡ true → ((z : A) → test z ≡ true → is_among x (f z) ≡ true)
     → is_among x (flat_map f ys) ≡ true
 among-flat f x y test [] there is = absurd (false≢true there)
 among-flat f x y test (z ∷ ys) there is = by (test z) refl there (λ h. among-flat f x y test ys h is)
   where
     by : (b : Bool) → test z ≡ b → (b || list_any test ys) ≡ true → (list_any test ys ≡ true → is_among x (flat_map f ys) ≡ true) → is_among x (f z ++ flat_map f ys) ≡ true
-    by true same h rest = among-first x (f z) (flat_map f ys) (is z same)
-    by false other h rest = among-second x (f z) (flat_map f ys) (rest h)
+    by true same h rest = among-front x (f z) (flat_map f ys) (is z same)
+    by false other h rest = among-behind x (f z) (flat_map f ys) (rest h)
 
 among-filter : (test : ℕ → Bool) (x : ℕ) (xs : List ℕ) → is_among x xs ≡ true → test x ≡ true → is_among x (filter test xs) ≡ true
 among-filter test x [] there is = absurd (false≢true there)
@@ -167,18 +154,6 @@ means (unit ∷ rest) = by (unit == 91) refl
 
 -- ---- kinds by numbers
 
-not-below : (a b : ℕ) → b ≤ a → nat_lt a b ≡ false
-not-below a b le = grind (arith)
-
-below-is : (a b : ℕ) → a < b → nat_lt a b ≡ true
-below-is a b less = grind (arith)
-
-is-below : (a b : ℕ) → nat_lt a b ≡ true → a < b
-is-below a b e = grind (arith)
-
-is-not-below : (a b : ℕ) → nat_lt a b ≡ false → b ≤ a
-is-not-below a b e = grind (arith)
-
 no-dimensions : (kind : ℕ) → kind < 16777216 → kind / 16777216 ≡ 0
 no-dimensions kind small = ap (λ k. k / 16777216) (let e : kind ≡ 0 * 16777216 + kind = omega arith in e) ∙ div-mul-add 0 16777216 kind small
 
@@ -209,7 +184,7 @@ module _ (p : Program) (fit : IsFit p) where
           let back : class_of_base p kind ≡ Some class = ap (class_of_base p) is ∙ class-back p class within fit.few in
           let less : kind < 16777216 = subst (λ k. k < 16777216) (sym is) small in
           of_class class less back
-          (ap (λ b. if b then unwrap_or (class_of_base p kind) 0 else user_count p) (below-is kind 16777216 less) ∙ ap (λ o. unwrap_or o 0) back)
+          (ap (λ b. if b then unwrap_or (class_of_base p kind) 0 else user_count p) (lt-ltb kind 16777216 less) ∙ ap (λ o. unwrap_or o 0) back)
           (there class member_found)
           (ap (λ (m : Meaning). nat_lt 0 m.dimensions) plain)
           (ap (λ o. option_and_then (λ c. if is_among c loaded then Some c else None) o) member_found ∙ ap (λ b. let o : Option ℕ = if b then Some class else None in o) (there class member_found))
@@ -222,7 +197,7 @@ module _ (p : Program) (fit : IsFit p) where
       by (Some base) e =
           let is : (meaning_of name).dimensions * 16777216 + base ≡ kind = same_Some ((meaning_of name).dimensions * 16777216 + base) kind e in
           let big : 16777216 ≤ kind = omega (arith, is, deep) in
-          of_array big (ap (λ b. if b then unwrap_or (class_of_base p kind) 0 else user_count p) (not-below kind 16777216 big)) (below-is 0 (meaning_of name).dimensions (omega (arith, deep)))
+          of_array big (ap (λ b. if b then unwrap_or (class_of_base p kind) 0 else user_count p) (le-ltb kind 16777216 big)) (lt-ltb 0 (meaning_of name).dimensions (omega (arith, deep)))
 
   pub kind-names : (loaded name : List ℕ) (kind : ℕ) → (load_of p loaded name).loaded ≡ loaded → (load_of p loaded name).fault ≡ None → kind_named p name ≡ Some kind
       → Names loaded name kind
@@ -253,7 +228,7 @@ module _ (p : Program) (fit : IsFit p) where
       by : (b : Bool) → nat_lt lower 16777216 ≡ b → Receives loaded class (if b then unwrap_or (class_of_base p lower) 0 else user_count p)
       by false e = receives_array refl
       by true e =
-          let less : lower < 16777216 = is-below lower 16777216 e in
+          let less : lower < 16777216 = ltb-true lower 16777216 e in
           let flat : is_subkind p (kind_parts lower) (kind_parts upper) ≡ is_subbase_of p lower upper (class_of_base p lower) (class_of_base p upper) =
           ap₂ (λ a b. is_subkind p (record { dimensions = a; base = lower % 16777216 }) (record { dimensions = b; base = upper % 16777216 })) (no-dimensions lower less) (no-dimensions upper small)
           ∙ ap₂ (λ a b. is_subbase_of p a b (class_of_base p a) (class_of_base p b)) (own-base lower less) (own-base upper small) in
@@ -266,10 +241,10 @@ module _ (p : Program) (fit : IsFit p) where
       by : (b : Bool) → nat_lt lower 16777216 ≡ b → (if b then unwrap_or (class_of_base p lower) 0 else user_count p) ≡ user_count p
       by false e = refl
       by true e =
-          let less : lower < 16777216 = is-below lower 16777216 e in
+          let less : lower < 16777216 = ltb-true lower 16777216 e in
           let some : 1 ≤ upper / 16777216 = some-dimensions upper big in
           let other : (0 == upper / 16777216) ≡ false = ne_eqb 0 (upper / 16777216) (λ same. omega (arith, some)) in
-          let above : nat_lt (upper / 16777216) 0 ≡ false = not-below (upper / 16777216) 0 (omega arith) in
+          let above : nat_lt (upper / 16777216) 0 ≡ false = le-ltb (upper / 16777216) 0 (omega arith) in
           let flat : is_subkind p (kind_parts lower) (kind_parts upper) ≡ false =
           ap (λ a. is_subkind p (record { dimensions = a; base = lower % 16777216 }) (kind_parts upper)) (no-dimensions lower less)
           ∙ (ap (λ b. if b then is_subbase p (lower % 16777216) (upper % 16777216) else nat_lt (upper / 16777216) 0 && is_above_arrays (upper % 16777216)) other
@@ -420,14 +395,6 @@ module _ (p : Program) (loaded : List ℕ) (climbs : Climbs p loaded) where
   due-above ms class above there sub due d m d_there d_sub e = due d m d_there (climbs.further class above d there sub d_sub) e
 
 -- ---- a number is a method's
-
-number-least : (k n class at : ℕ) (places : List MethodPlace) → number_from k class at places ≡ Some n → k ≤ n
-number-least k n class at [] e = absurd (none-some n e)
-number-least k n class at (x ∷ rest) e = by (same_place class at x) e (number-least (k + 1) n class at rest)
-  where
-    by : (b : Bool) → (if b then Some k else number_from (k + 1) class at rest) ≡ Some n → (number_from (k + 1) class at rest ≡ Some n → k + 1 ≤ n) → k ≤ n
-    by true e rest = let same = same_Some k n e in omega arith
-    by false e rest = let later = rest e in omega arith
 
 number-there : (k n class at : ℕ) (places : List MethodPlace) (i : ℕ) → number_from k class at places ≡ Some n → n ≡ k + i → is_some (slice_get places i) ≡ true
 number-there k n class at [] i e is = absurd (none-some n e)
@@ -688,7 +655,7 @@ module _ (w : World) (fit : IsFit w.program) (s : Shared) (is : IsSoundShared w.
           (λ class same there.
           let is_found : resolved_method p class false r.member ≡ Found m = ap (λ c. resolved_method p c false r.member) (sym same) ∙ method.is_found in
           subst (λ o. IsDue p s.loaded (option_map_or (λ k. coded_at p k ++ initializers p s.loaded class) o []) m.class) (sym (found_is class m method same))
-          (λ d k d_there sub e. among-second k (coded_at p m) (initializers p s.loaded class)
+          (λ d k d_there sub e. among-behind k (coded_at p m) (initializers p s.loaded class)
           (due-above p s.loaded climbs (initializers p s.loaded class) class m.class there (method-above p s.loaded climbs class r.member m there is_found)
           (initializers-due p s.loaded climbs class) d k d_there sub e)))
           (λ same. method-object p bare r.member m (ap (λ c. resolved_method p c false r.member) (sym same) ∙ method.is_found))
@@ -698,7 +665,7 @@ module _ (w : World) (fit : IsFit w.program) (s : Shared) (is : IsSoundShared w.
       own m method (of_class class small base is_class there plain named) n e =
           ap (λ o. is_among n (option_map_or (λ c. begun_static p s.loaded c r) o [])) named
           ∙ (ap (λ o. is_among n (option_map_or (λ k. coded_at p k ++ initializers p s.loaded class) o [])) (found_is class m method is_class)
-          ∙ among-first n (coded_at p m) (initializers p s.loaded class) e)
+          ∙ among-front n (coded_at p m) (initializers p s.loaded class) e)
       own m method (of_array big is_class array_type) n e =
           let stands : m.class ≡ user_count p = method-object p bare r.member m (ap (λ c. resolved_method p c false r.member) (sym is_class) ∙ method.is_found) in
           let none : method_coded p (Some m) ≡ [] = object-coded p bare (Some m) (λ k same. ap (λ (q : MemberPlace). q.class) (sym (same_Some m k same)) ∙ stands) in

@@ -3,7 +3,7 @@ use Rattle.std.proofs.Common.{◌≡◌, ℕ, Bool, true, false, List, [], ◌�
 use Rattle.std.proofs.lemmas.List.{append-nil}
 use Rattle.std.specs.Prelude.{filter, filter_map, flat_map, Option, Some, None, ◌==◌, ◌||◌, ◌⊎◌, if◌then◌else◌}
 use Rattle.std.specs.Option.{option_and_then, option_map_or}
-use Rattle.std.proofs.lemmas.Bool.{false≢true, or_right}
+use Rattle.std.proofs.lemmas.Bool.{false≢true}
 use Rattle.const_pool.specs.References.{Reference}
 use Rattle.jvm_model.specs.Basis.Data.{Program, Local, Operation, Within, Named, Athrow, Monitor, Newarray, Arraylength, LoadElement, StoreElement, LdcString}
 use Rattle.jvm_model.specs.Instructions.SymbolicReference.{SymbolicReference, New, Getfield, Putfield, Getstatic, Putstatic, Invokevirtual, Invokespecial, Invokestatic, Invokeinterface, Checkcast, Instanceof, Anewarray, Multianewarray, LdcClass}
@@ -20,6 +20,7 @@ use Rattle.jvm_model.proofs.Revealing.CalledSteps.{all-at}
 use Rattle.jvm_model.proofs.Revealing.Growing.{filter-front, made-front}
 use Rattle.jvm_model.specs.Profiling.Revelation.{gained_by, gained_by_operation, gained_call, gained_in, gained_named, gained_on, is_named}
 use Rattle.jvm_model.specs.Profiling.Targets.{loaded_class_named, is_array_type, found_where, coded_at, method_coded, initializers, selections, invoked_by, begun_on, begun_static, begun_field, where_loaded, begun_by, begun_by_operation, targets_in}
+use Rattle.jvm_model.proofs.Loading.Among.{among-front, among-behind}
 
 -- ---- what is among lists
 
@@ -38,28 +39,16 @@ among-either m (x ∷ xs) ys h = by (m == x) h (among-either m xs ys)
 or-left : (m : ℕ) (xs ys zs : List ℕ) → is_among m (xs ++ ys) ≡ true → ((is_among m xs ≡ true) → is_among m zs ≡ true) → ((is_among m ys ≡ true) → is_among m zs ≡ true) → is_among m zs ≡ true
 or-left m xs ys zs h first second = elim (among-either m xs ys h) [ inl a ↦ first a | inr b ↦ second b ]
 
-among-first : (x : ℕ) (xs ys : List ℕ) → is_among x xs ≡ true → is_among x (xs ++ ys) ≡ true
-among-first x [] ys e = absurd (false≢true e)
-among-first x (y ∷ xs) ys e = by (x == y) e (among-first x xs ys)
-  where
-    by : (b : Bool) → (b || is_among x xs) ≡ true → (is_among x xs ≡ true → is_among x (xs ++ ys) ≡ true) → (b || is_among x (xs ++ ys)) ≡ true
-    by true e rest = refl
-    by false e rest = rest e
-
-among-second : (x : ℕ) (xs ys : List ℕ) → is_among x ys ≡ true → is_among x (xs ++ ys) ≡ true
-among-second x [] ys e = e
-among-second x (y ∷ xs) ys e = or_right (x == y) (is_among x (xs ++ ys)) (among-second x xs ys e)
-
 flat-either : (f : ℕ → List ℕ) (xs ys : List ℕ) (m : ℕ) → is_among m (flat_map f (xs ++ ys)) ≡ true → Or m (flat_map f xs) (flat_map f ys)
 flat-either f [] ys m h = inr h
 flat-either f (x ∷ xs) ys m h = by (among-either m (f x) (flat_map f (xs ++ ys)) h) (flat-either f xs ys m)
   where
     by : Or m (f x) (flat_map f (xs ++ ys)) → (is_among m (flat_map f (xs ++ ys)) ≡ true → Or m (flat_map f xs) (flat_map f ys)) → Or m (f x ++ flat_map f xs) (flat_map f ys)
-    by (inl a) rest = inl (among-first m (f x) (flat_map f xs) a)
+    by (inl a) rest = inl (among-front m (f x) (flat_map f xs) a)
     by (inr b) rest = later (rest b)
       where
         later : Or m (flat_map f xs) (flat_map f ys) → Or m (f x ++ flat_map f xs) (flat_map f ys)
-        later (inl a) = inl (among-second m (f x) (flat_map f xs) a)
+        later (inl a) = inl (among-behind m (f x) (flat_map f xs) a)
         later (inr b) = inr b
 
 module _ (p : Program) (loaded : List ℕ) (new : ℕ) (above : HasSupertypes p loaded) (fresh : is_among new loaded ≡ false) where
@@ -120,7 +109,7 @@ module _ (p : Program) (loaded : List ℕ) (new : ℕ) (above : HasSupertypes p 
         where
           choose : Or m (f class) (extra class) → Or m (f class) ((if (class == new) then begun_by p all n else []) ++ extra class)
           choose (inl a) = inl a
-          choose (inr b) = inr (among-second m (if (class == new) then begun_by p all n else []) (extra class) b)
+          choose (inr b) = inr (among-behind m (if (class == new) then begun_by p all n else []) (extra class) b)
       of class named false there true among h =
           let same : (class == new) ≡ true = last loaded among there in
           inr (ap (λ b. is_among m ((if b then begun_by p all n else []) ++ [])) same
@@ -248,13 +237,13 @@ module _ (p : Program) (loaded : List ℕ) (new : ℕ) (above : HasSupertypes p 
     where
       first : Or m (begun_by_operation p loaded op) (gained_by_operation p loaded new op)
           → Or m (begun_by_operation p loaded op ++ targets_in p loaded rest) (gained_by_operation p loaded new op ++ gained_in p loaded new rest)
-      first (inl a) = inl (among-first m (begun_by_operation p loaded op) (targets_in p loaded rest) a)
-      first (inr b) = inr (among-first m (gained_by_operation p loaded new op) (gained_in p loaded new rest) b)
+      first (inl a) = inl (among-front m (begun_by_operation p loaded op) (targets_in p loaded rest) a)
+      first (inr b) = inr (among-front m (gained_by_operation p loaded new op) (gained_in p loaded new rest) b)
 
       second : Or m (targets_in p loaded rest) (gained_in p loaded new rest)
           → Or m (begun_by_operation p loaded op ++ targets_in p loaded rest) (gained_by_operation p loaded new op ++ gained_in p loaded new rest)
-      second (inl a) = inl (among-second m (begun_by_operation p loaded op) (targets_in p loaded rest) a)
-      second (inr b) = inr (among-second m (gained_by_operation p loaded new op) (gained_in p loaded new rest) b)
+      second (inl a) = inl (among-behind m (begun_by_operation p loaded op) (targets_in p loaded rest) a)
+      second (inr b) = inr (among-behind m (gained_by_operation p loaded new op) (gained_in p loaded new rest) b)
 
       by : Or m (begun_by_operation p all op) (targets_in p all rest)
           → (is_among m (targets_in p all rest) ≡ true → Or m (targets_in p loaded rest) (gained_in p loaded new rest))
@@ -283,8 +272,8 @@ module _ (p : Program) (loaded : List ℕ) (new : ℕ) (above : HasSupertypes p 
           ∙ flat-last (filter (λ lower. is_subtype p lower class) loaded)))
         where
           flat-last : (xs : List ℕ) → is_among m (flat_map (λ receiver. method_coded p (selected_by p by k receiver)) (xs ++ new ∷ [])) ≡ true
-          flat-last [] = among-first m (method_coded p (selected_by p by k new)) [] h
-          flat-last (x ∷ xs) = among-second m (method_coded p (selected_by p by k x)) (flat_map (λ receiver. method_coded p (selected_by p by k receiver)) (xs ++ new ∷ [])) (flat-last xs)
+          flat-last [] = among-front m (method_coded p (selected_by p by k new)) [] h
+          flat-last (x ∷ xs) = among-behind m (method_coded p (selected_by p by k x)) (flat_map (λ receiver. method_coded p (selected_by p by k receiver)) (xs ++ new ∷ [])) (flat-last xs)
 
       mapped : (class : ℕ) (o : Option MemberPlace) (b : Bool) → is_subtype p new class ≡ b
           → is_among m (if b then option_map_or (λ k. method_coded p (selected_by p by k new)) o [] else []) ≡ true → is_among m (option_map_or (invoked_by p all class by) o []) ≡ true
@@ -297,7 +286,7 @@ module _ (p : Program) (loaded : List ℕ) (new : ℕ) (above : HasSupertypes p 
           → is_among m (option_map_or (λ c. begun_on p all c by r) (let o : Option ℕ = if is_among class all then Some class else None in o) []) ≡ true
       at class false there h = absurd (false≢true h)
       at class true there h =
-          ap (λ b. is_among m (option_map_or (λ c. begun_on p all c by r) (let o : Option ℕ = if b then Some class else None in o) [])) (among-first class loaded (new ∷ []) there)
+          ap (λ b. is_among m (option_map_or (λ c. begun_on p all c by r) (let o : Option ℕ = if b then Some class else None in o) [])) (among-front class loaded (new ∷ []) there)
           ∙ mapped class (found_where (is_static p) false (resolved_method p class (names_interface by) r.member)) (is_subtype p new class) refl h
 
       of : (o : Option ℕ) → is_among m (option_map_or (λ c. gained_on p new c by r) (option_and_then (λ class. if is_among class loaded then Some class else None) o) []) ≡ true
@@ -342,5 +331,5 @@ module _ (p : Program) (loaded : List ℕ) (new : ℕ) (above : HasSupertypes p 
     where
       by : Or m (gained_by_operation p loaded new op) (gained_in p loaded new rest) → (is_among m (gained_in p loaded new rest) ≡ true → is_among m (targets_in p all rest) ≡ true)
           → is_among m (begun_by_operation p all op ++ targets_in p all rest) ≡ true
-      by (inl a) behind = among-first m (begun_by_operation p all op) (targets_in p all rest) (operation-gains op m a)
-      by (inr b) behind = among-second m (begun_by_operation p all op) (targets_in p all rest) (behind b)
+      by (inl a) behind = among-front m (begun_by_operation p all op) (targets_in p all rest) (operation-gains op m a)
+      by (inr b) behind = among-behind m (begun_by_operation p all op) (targets_in p all rest) (behind b)

@@ -14,8 +14,8 @@ use Rattle.jvm_model.specs.Classes.Load.{is_among}
 use Rattle.jvm_model.specs.Classes.Lookup.{MemberPlace, is_subtype, resolved_field, resolved_method}
 use Rattle.jvm_model.specs.Basis.Programs.{class_named, initializer_of}
 use Rattle.jvm_model.specs.Classes.Selection.{is_static}
-use Rattle.jvm_model.proofs.Revealing.Callees.{among-first, among-second}
 use Rattle.jvm_model.specs.Profiling.Targets.{loaded_class_named, is_array_type, class_with_methods, found_where, coded_at, method_coded, initializers, selections, invoked_by, begun_on, begun_static, begun_field, where_loaded, begun_by, begun_by_operation, targets_in}
+use Rattle.jvm_model.proofs.Loading.Among.{among-front, among-behind}
 
 abbrev Among : List ℕ → List ℕ → Type 0
 Among xs ys = (m : ℕ) → is_among m xs ≡ true → is_among m ys ≡ true
@@ -27,7 +27,7 @@ none : (xs : List ℕ) → Among [] xs
 none xs m h = absurd (false≢true h)
 
 either : (xs ys cs bs : List ℕ) → Among xs cs → Among ys bs → Among (xs ++ ys) (cs ++ bs)
-either [] ys cs bs first second m h = among-second m cs bs (second m h)
+either [] ys cs bs first second m h = among-behind m cs bs (second m h)
 either (x ∷ xs) ys cs bs first second m h = by (m == x) refl h (either xs ys cs bs (λ k g. first k (later k g)) second m)
   where
     later : (k : ℕ) → is_among k xs ≡ true → is_among k (x ∷ xs) ≡ true
@@ -38,7 +38,7 @@ either (x ∷ xs) ys cs bs first second m h = by (m == x) refl h (either xs ys c
         or-later false b e = e
 
     by : (b : Bool) → (m == x) ≡ b → (b || is_among m (xs ++ ys)) ≡ true → (is_among m (xs ++ ys) ≡ true → is_among m (cs ++ bs) ≡ true) → is_among m (cs ++ bs) ≡ true
-    by true e h rest = among-first m cs bs (first m (ap (λ b. b || is_among m xs) e))
+    by true e h rest = among-front m cs bs (first m (ap (λ b. b || is_among m xs) e))
     by false e h rest = rest h
 
 pub filter-front : (test : ℕ → Bool) (xs ys : List ℕ) → filter test (xs ++ ys) ≡ filter test xs ++ filter test ys
@@ -70,7 +70,7 @@ module _ (p : Program) (loaded more : List ℕ) where
   initializers-grow class m h =
       ap (λ l. is_among m (filter_map (initializer_of p) l)) (filter-front (is_subtype p class) loaded more)
       ∙ (ap (is_among m) (made-front (initializer_of p) (filter (is_subtype p class) loaded) (filter (is_subtype p class) more))
-      ∙ among-first m (initializers p loaded class) (filter_map (initializer_of p) (filter (is_subtype p class) more)) h)
+      ∙ among-front m (initializers p loaded class) (filter_map (initializer_of p) (filter (is_subtype p class) more)) h)
 
   selections-grow : (class : ℕ) (by : Selecting) (m : MemberPlace) → Among (selections p loaded class by m) (selections p all class by m)
   selections-grow class by m k h =
@@ -108,7 +108,7 @@ module _ (p : Program) (loaded more : List ℕ) where
           → Among (option_map_or f (let o : Option ℕ = if b then Some class else None in o) []) (option_map_or g (let o : Option ℕ = if is_among class all then Some class else None in o) [])
       by false e = none (option_map_or g (let o : Option ℕ = if is_among class all then Some class else None in o) [])
       by true e = λ m h.
-          ap (λ b. is_among m (option_map_or g (let o : Option ℕ = if b then Some class else None in o) [])) (among-first class loaded more e) ∙ each class m h
+          ap (λ b. is_among m (option_map_or g (let o : Option ℕ = if b then Some class else None in o) [])) (among-front class loaded more e) ∙ each class m h
 
   where-grows : (name : List ℕ) (f g : ℕ → List ℕ) → ((class : ℕ) → Among (f class) (g class)) → Among (where_loaded p loaded name f) (where_loaded p all name g)
   where-grows name f g each = found-grows (class_named p name) f g each

@@ -2,7 +2,7 @@
 -- the calls on a class above it.
 use Rattle.std.proofs.Common.{◌≡◌, ℕ, Bool, true, false, List, [], ◌∷◌, ◌++◌, ap, ap₂, sym, refl, ◌∙◌}
 use Rattle.std.proofs.lemmas.List.{append-nil}
-use Rattle.std.specs.Prelude.{filter_map, flat_map, Option, Some, None, ◌==◌, ◌||◌, if◌then◌else◌}
+use Rattle.std.specs.Prelude.{filter_map, flat_map, Option, Some, None, ◌||◌, if◌then◌else◌}
 use Rattle.std.specs.List.{cons_option}
 use Rattle.std.specs.Option.{option_and_then, option_map, option_map_or}
 use Rattle.const_pool.specs.References.{Reference}
@@ -14,14 +14,7 @@ use Rattle.jvm_model.specs.Classes.Lookup.{MemberPlace, is_subtype, resolved_met
 use Rattle.jvm_model.specs.Classes.Selection.{is_static}
 use Rattle.jvm_model.specs.Profiling.Revelation.{Call, call_gain, call_in, call_on, calls_of, gained_by, gained_by_operation, gained_call, gained_from, gained_in, gained_named, gained_on, named_gain, symbolic_reference_in, symbolic_references_of}
 use Rattle.jvm_model.specs.Profiling.Targets.{method_coded, found_where, loaded_class_named}
-
-among-append : (m : ℕ) (xs ys : List ℕ) → is_among m (xs ++ ys) ≡ (is_among m xs || is_among m ys)
-among-append m [] ys = refl
-among-append m (x ∷ xs) ys = by (m == x) (among-append m xs ys)
-  where
-    by : (b : Bool) → is_among m (xs ++ ys) ≡ (is_among m xs || is_among m ys) → (b || is_among m (xs ++ ys)) ≡ ((b || is_among m xs) || is_among m ys)
-    by true e = refl
-    by false e = e
+use Rattle.jvm_model.proofs.Loading.Among.{among-append}
 
 module _ (p : Program) (loaded : List ℕ) (new : ℕ) where
   abbrev named_part : Operation Local → List ℕ

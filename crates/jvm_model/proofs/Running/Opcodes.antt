@@ -3,7 +3,7 @@ use Rattle.std.proofs.Common.{◌≡◌, ℕ, zero, suc, ◌+◌, ◌<◌, ◌�
 use Rattle.std.specs.Prelude.{ℤ, slice_get, ◌==◌, ◌||◌, ◌&&◌, not, length}
 use Rattle.std.specs.List.{AllByRecursion}
 use Rattle.std.specs.Option.{option_map, option_and_then}
-use Rattle.std.proofs.lemmas.Bool.{cases_lt}
+use Rattle.std.proofs.lemmas.Bool.{cases_lt, and_parts}
 use Rattle.std.proofs.lemmas.Option.{same_Some, none-some, option_and_then_some}
 use Rattle.code_model.specs.declared.instr.Arg.{Arg}
 use Rattle.code_model.specs.declared.instr.Arg.TheVariants as arg
@@ -46,20 +46,12 @@ abbrev pub all_below : (ℕ → Bool) → ℕ → Bool
 all_below p zero = true
 all_below p (suc n) = p n && all_below p n
 
-pub and-first : (a b : Bool) → (a && b) ≡ true → a ≡ true
-and-first true b e = refl
-and-first false b e = e
-
-pub and-second : (a b : Bool) → (a && b) ≡ true → b ≡ true
-and-second true b e = e
-and-second false b e = absurd cc
-
 pub all_below-each : (p : ℕ → Bool) (n k : ℕ) → all_below p n ≡ true → k < n → p k ≡ true
 all_below-each p zero k all lt = absurd (omega arith)
 all_below-each p (suc n) k all lt =
     elim (cases_lt k n) [
-      | inl below ↦ all_below-each p n k (and-second (p n) (all_below p n) all) below
-      | inr le ↦ (let last : n ≡ k = omega arith in subst (λ (m : ℕ). p m ≡ true) last (and-first (p n) (all_below p n) all))
+      | inl below ↦ all_below-each p n k (and_parts (p n) (all_below p n) all).1 below
+      | inr le ↦ (let last : n ≡ k = omega arith in subst (λ (m : ℕ). p m ≡ true) last (and_parts (p n) (all_below p n) all).0)
     ]
 
 -- ---- opcodes
@@ -304,8 +296,8 @@ within-returns : (op : ℕ) (f : Family) (i : Local) (q : Resolved) → agrees_b
 within-returns op f i q test fits e =
     let is = fits q e in
     let both = or-second (runs f) _ test is.0 in
-    let opcode : returns f ≡ is_return_opcode op = agree-same (returns f) (is_return_opcode op) (and-first _ (agree (returns f) (op == 172 || op == 177)) both) in
-    let listed : returns f ≡ (op == 172 || op == 177) = agree-same (returns f) (op == 172 || op == 177) (and-second (agree (returns f) (is_return_opcode op)) _ both) in
+    let opcode : returns f ≡ is_return_opcode op = agree-same (returns f) (is_return_opcode op) (and_parts _ (agree (returns f) (op == 172 || op == 177)) both).0 in
+    let listed : returns f ≡ (op == 172 || op == 177) = agree-same (returns f) (op == 172 || op == 177) (and_parts (agree (returns f) (is_return_opcode op)) _ both).1 in
     (is.1 ∙ opcode, sym listed ∙ opcode)
 
 -- an operation by a family: it stays within its frame, or has a name

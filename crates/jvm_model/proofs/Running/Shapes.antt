@@ -6,12 +6,13 @@ use Rattle.std.proofs.lemmas.Bool.{eqb-true, eqb-false, ne_eqb, leb-true, le-leb
 use Rattle.std.proofs.lemmas.List.{append-nil}
 use Rattle.std.proofs.lemmas.List.Sums.{sum_by-cons}
 use Rattle.std.proofs.lemmas.Slice.Eq.{bytes_eq-Decides}
+use Rattle.jf_bytes.proofs.Options.{map_parts, and_then_parts}
 use Rattle.const_pool.specs.declared.descriptor.Kind.{Kind}
 use Rattle.const_pool.specs.declared.descriptor.Kind.TheVariants.{Int, Long, Ref, Byte, Bool as boolean, Char, Short, Float, Double}
 use Rattle.const_pool.specs.declared.descriptor.Shape.{Shape}
 use Rattle.const_pool.specs.Descriptors.{IsName, IsBase, IsField, AreFields, IsResult, IsMethod, dimensions_text, held_kind, slots, slot_count}
 use Rattle.const_pool.specs.Stages.{letter_kind}
-use Rattle.const_pool.proofs.FieldTexts.{chosen, not_failed, mapped}
+use Rattle.const_pool.proofs.FieldTexts.{chosen, not_failed}
 use Rattle.jvm_model.specs.Basis.Descriptors.{same_text, Typed, type_parsed, array_of, name_rest, class_rest, base_front, type_front, first_type, Params, with_param, parameters_closed, params_by, params_front, only_type, result_by, result_of, shape_with, with_result, with_room, shape_of}
 
 same_of : {A : Type 0} (x y : A) → ◌≡◌ {A = Option A} (Some x) (Some y) → x ≡ y
@@ -110,10 +111,6 @@ tested : {A : Type 0} (b : Bool) (o : Option A) (y : A) → cond b o None ≡ So
 tested true o y e = (refl, e)
 tested false o y e = absurd cc
 
-chosen_of : {A B : Type 0} (f : A → Option B) (o : Option A) (y : B) → option_and_then f o ≡ Some y → (x : A) × (o ≡ Some x) × (f x ≡ Some y)
-chosen_of f (Some x) y e = (x, refl, e)
-chosen_of f None y e = absurd cc
-
 by_letter : (unit letter : ℕ) (found kind : Kind) → IsBase (letter ∷ []) found → eqb unit letter ≡ true → ◌≡◌ {A = Option Kind} (Some found) (Some kind) → IsBase (unit ∷ []) kind
 by_letter unit letter found kind h same is =
     subst (λ (k : Kind). IsBase (unit ∷ []) k) (same_of found kind is) (subst (λ (u : ℕ). IsBase (u ∷ []) found) (sym (eqb-true unit letter same)) h)
@@ -170,7 +167,7 @@ base_sound : (most unit : ℕ) (rest : List ℕ) (t : Typed) → base_front unit
 base_sound most unit rest t e =
     chosen _ _ _ _ e
     (λ same is.
-    let m = mapped (type_parsed Ref) (class_rest rest) t is in
+    let m = map_parts (type_parsed Ref) (class_rest rest) t is in
     let c = class_sound rest m.0 m.1 in
     let found : IsTyped most (unit ∷ rest) (type_parsed Ref m.0) = record {
       dimensions = 0;
@@ -183,7 +180,7 @@ base_sound most unit rest t e =
     } in
     subst (IsTyped most (unit ∷ rest)) m.2 found)
     (λ apart is.
-    let m = mapped (λ (kind : Kind). type_parsed kind rest) (letter_kind unit) t is in
+    let m = map_parts (λ (kind : Kind). type_parsed kind rest) (letter_kind unit) t is in
     let found : IsTyped most (unit ∷ rest) (type_parsed m.0 rest) = record {
       dimensions = 0;
       fits = omega arith;
@@ -215,7 +212,7 @@ type_sound (suc n) [] t e = absurd cc
 type_sound (suc n) (unit ∷ rest) t e =
     chosen _ _ _ _ e
     (λ same is.
-    let m = mapped array_of (type_front n rest) t is in
+    let m = map_parts array_of (type_front n rest) t is in
     array_sound n unit rest m.0 t (eqb-true unit 91 same) m.2 (type_sound n rest m.0 m.1))
     (λ apart is. base_sound (suc n) unit rest t is)
 
@@ -258,7 +255,7 @@ params_by_sound : (n : ℕ) (text : List ℕ) (p : Params) (o : Option Typed) �
     → ((x : List ℕ) (q : Params) → params_front n x ≡ Some q → AreBefore x q) → AreBefore text p
 params_by_sound n text p None is e others = closed_sound text p e
 params_by_sound n text p (Some t) is e others =
-    let m = mapped (with_param t.kind) (params_front n t.rest) p e in
+    let m = map_parts (with_param t.kind) (params_front n t.rest) p e in
     let f = field_sound text t is in
     subst (AreBefore text) m.2 (one_more text f.0 t.kind t.rest m.0 f.1 f.2 (others t.rest m.0 m.1))
 
@@ -292,10 +289,10 @@ behind_open rest p result h returned most = record {
 
 open_sound : (rest : List ℕ) (shape : Shape) → option_and_then with_room (option_and_then with_result (params_front 255 rest)) ≡ Some shape → IsMethod (40 ∷ rest) shape
 open_sound rest shape e =
-    let room = chosen_of with_room (option_and_then with_result (params_front 255 rest)) shape e in
+    let room = and_then_parts with_room (option_and_then with_result (params_front 255 rest)) shape e in
     let fits = tested (leb (slot_count room.0.params) 255) (Some room.0) shape room.2 in
-    let given = chosen_of with_result (params_front 255 rest) room.0 room.1 in
-    let made = mapped (shape_with given.0.kinds) (result_of given.0.rest) room.0 given.2 in
+    let given = and_then_parts with_result (params_front 255 rest) room.0 room.1 in
+    let made = map_parts (shape_with given.0.kinds) (result_of given.0.rest) room.0 given.2 in
     let kinds : given.0.kinds ≡ room.0.params = ap (λ (s : Shape). s.params) made.2 in
     let most : slot_count given.0.kinds ≤ 255 = leb-true (slot_count given.0.kinds) 255 (ap (λ (ks : List Kind). leb (slot_count ks) 255) kinds ∙ fits.0) in
     let found = behind_open rest given.0 made.0 (params_sound 255 rest given.0 given.1) (result_by_sound given.0.rest made.0 (first_type given.0.rest) refl made.1) most in

@@ -1,10 +1,12 @@
 -- What stands at the start of an instruction of a small class: a line, behind which the next instruction starts unless it
 -- returns, and which calls a method that can begin and stands earlier.
-use Rattle.std.proofs.Common.{◌≡◌, ℕ, zero, suc, ◌<◌, Bool, true, false, List, [], ◌∷◌, length, slice_get, Option, Some, None, refl, sym, ap, subst, ◌∙◌, arith}
-use Rattle.std.specs.Option.{option_map, option_map_or, option_and_then}
+use Rattle.std.proofs.Common.{◌≡◌, ℕ, zero, suc, ◌<◌, Bool, true, false, List, [], ◌∷◌, length, slice_get, Some, refl, sym, ap, subst, ◌∙◌, arith}
+use Rattle.std.specs.Option.{option_map, option_and_then}
 use Rattle.std.specs.List.{list_all, AllByRecursion}
-use Rattle.std.proofs.lemmas.Bool.{ltb-true}
+use Rattle.std.proofs.lemmas.Bool.{ltb-true, and_parts}
 use Rattle.std.proofs.lemmas.Option.{same_Some, none-some, option_and_then_some, slice_get_within}
+use Rattle.jf_bytes.proofs.Lists.{each_at}
+use Rattle.jf_bytes.proofs.Options.{map_or_parts}
 use Rattle.const_pool.specs.declared.pool.Const.{Const}
 use Rattle.const_pool.specs.declared.class.Attribute.{Attribute}
 use Rattle.const_pool.specs.declared.class.Attribute.TheVariants.{ConstantValue, Code, Other}
@@ -29,7 +31,7 @@ use Rattle.jvm_model.specs.Small.Resolved.{resolved_in, resolved_of, line_of}
 use Rattle.jvm_model.specs.Rewriting.StandsFor.{IsBuilt, code_line, line_at}
 use Rattle.jvm_model.specs.Rewriting.Versions.{is_return_opcode}
 use Rattle.jvm_model.specs.Basis.Methods.{code_among, code_of, method_code}
-use Rattle.jvm_model.proofs.Running.Opcodes.{and-first, and-second, returns-instr, ends-resolved, StaysAlike, StaysAlike-operation}
+use Rattle.jvm_model.proofs.Running.Opcodes.{returns-instr, ends-resolved, StaysAlike, StaysAlike-operation}
 use Rattle.jvm_model.specs.Small.SmallClass.{IsSmallClass, IsSmallCode, is_small_opcode, is_small_instr, fits_method, ends_in_return, is_return}
 
 -- ---- readings, by number
@@ -66,17 +68,12 @@ first-instr (h ∷ is) ends = (h, refl)
 
 pub nth-passes : {A : Type 0} (p : A → Bool) (xs : List A) (k : ℕ) (x : A) → list_all p xs ≡ true → slice_get xs k ≡ Some x → p x ≡ true
 nth-passes p [] k x all e = absurd (none-some x e)
-nth-passes p (y ∷ xs) zero x all e = ap p (sym (same_Some y x e)) ∙ and-first (p y) (list_all p xs) all
-nth-passes p (y ∷ xs) (suc k) x all e = nth-passes p xs k x (and-second (p y) (list_all p xs) all) e
+nth-passes p (y ∷ xs) zero x all e = ap p (sym (same_Some y x e)) ∙ (and_parts (p y) (list_all p xs) all).0
+nth-passes p (y ∷ xs) (suc k) x all e = nth-passes p xs k x (and_parts (p y) (list_all p xs) all).1 e
 
 -- ---- codes of a class file
 
-pub nth-each : {A : Type 0} (P : A → Type 0) (xs : List A) (k : ℕ) (x : A) → AllByRecursion P xs → slice_get xs k ≡ Some x → P x
-nth-each P [] k x all e = absurd (none-some x e)
-nth-each P (y ∷ xs) zero x all e = subst P (same_Some y x e) all.0
-nth-each P (y ∷ xs) (suc k) x all e = nth-each P xs k x all.1 e
-
-code-among : (pool : List Const) (attributes : List Attribute) (code : CodeAttribute) → AllByRecursion (IsMethodAttribute pool) attributes → code_among attributes ≡ Some code → IsCode pool code
+pub code-among : (pool : List Const) (attributes : List Attribute) (code : CodeAttribute) → AllByRecursion (IsMethodAttribute pool) attributes → code_among attributes ≡ Some code → IsCode pool code
 code-among pool [] code formed e = absurd (none-some code e)
 code-among pool (ConstantValue name index ∷ rest) code formed e = absurd formed.0
 code-among pool (Code name here ∷ rest) code formed e = subst (IsCode pool) (same_Some here code e) formed.0.2
@@ -94,7 +91,7 @@ HasCode-method_code c m code e = option_and_then_some code_of (slice_get c.metho
 pub IsCode-method_code : (c : ClassFile) (m : ℕ) (code : CodeAttribute) → IsClassFile c → method_code c m ≡ Some code → IsCode c.pool code
 IsCode-method_code c m code formed e =
     let has = HasCode-method_code c m code e in
-    let member = nth-each (IsMember IsMethodAttribute c.pool) c.methods m has.member formed.methods has.is in
+    let member = each_at (IsMember IsMethodAttribute c.pool) c.methods m has.member formed.methods has.is in
     code-among c.pool has.member.attributes code member.attributes has.coded
 
 -- ---- small codes
@@ -141,10 +138,6 @@ pub record HasLine (c : ClassFile) (m at : ℕ) (i : Instr) : Type 0 where
   pub callee : (k : ℕ) → resolved ≡ Invokestatic k → IsStart c k 0
   pub before : (k : ℕ) → resolved ≡ Invokestatic k → k < m
 
-some-of : {A : Type 0} (f : A → Bool) (o : Option A) → option_map_or f o false ≡ true → (x : A) × (o ≡ Some x) × (f x ≡ true)
-some-of f None e = absurd cc
-some-of f (Some x) e = (x, refl, e)
-
 -- a method that stands earlier begins at its first instruction
 pub IsStart-first : (c : ClassFile) (k : ℕ) (m : Member) → IsSmallClass c → slice_get c.methods k ≡ Some m → IsStart c k 0
 IsStart-first c k m small is =
@@ -177,7 +170,7 @@ HasLine-start c m at built start =
     let stands : instruction_at bytes i.at ≡ Some i = Reads-nth bytes 0 start.reading.instrs start.nth i start.reads.instrs start.stands in
     let here : instruction_at bytes at ≡ Some i = subst (λ (n : ℕ). instruction_at bytes n ≡ Some i) start.here stands in
     let small = nth-passes (is_small_instr c m start.code.max_locals code.shape) start.reading.instrs start.nth i code.small start.stands in
-    let fits = some-of (fits_method m start.code.max_locals code.shape) (resolved_of c i) (and-second (is_small_opcode i.op) _ small) in
+    let fits = map_or_parts (fits_method m start.code.max_locals code.shape) (resolved_of c i) (and_parts (is_small_opcode i.op) _ small).1 in
     let q = fits.0 in
     let byte = (known bytes at i here (bytes-each bytes (IsCode-method_code c m start.code built.formed start.coded).code)).op in
     let returns = returns-instr c i q byte fits.1 in

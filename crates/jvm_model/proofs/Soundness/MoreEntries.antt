@@ -1,6 +1,6 @@
 -- What a class's pool names, it names with more entries behind: so an instruction of the class does the same in a class with such a pool, and a
 -- handler catches the same.
-use Rattle.std.proofs.Common.{◌≡◌, ℕ, Bool, true, false, List, slice_get, cond, Option, Some, None, refl, sym, ap, subst, ◌∙◌, [], ◌∷◌, ◌++◌, is_some, inl, inr}
+use Rattle.std.proofs.Common.{◌≡◌, ℕ, Bool, true, false, List, slice_get, cond, Option, Some, None, refl, sym, ap, subst, ◌∙◌, [], ◌∷◌, ◌++◌, inl, inr}
 use Rattle.std.specs.Prelude.{◌==◌, ◌⊎◌}
 use Rattle.std.specs.Option.{option_map, option_and_then, ok_or}
 use Rattle.std.proofs.lemmas.Option.{none-some, option_and_then_some}
@@ -17,10 +17,11 @@ use Rattle.jvm_model.specs.Basis.Data.{Constant, SymbolicReference, New, Getfiel
 use Rattle.jvm_model.specs.Basis.Families.{family_of}
 use Rattle.jvm_model.specs.Codes.Lines.{number_of, named_interface_method, special_of, symbolic_reference_of, interface_reference, multi_of, array_reference, named_by, other_operation, pool_constant_operation, object_constant, operation_by, operation_of}
 use Rattle.jvm_model.specs.Basis.Programs.{name_of}
-use Rattle.jvm_model.proofs.Images.ImagePools.{slice_get-more, named_text-more, named_class-more, named_field-more, named_method-more, named_interface_method-more}
+use Rattle.jvm_model.proofs.Images.ImagePools.{named_text-more, named_class-more, named_field-more, named_method-more, named_interface_method-more}
 use Rattle.std.specs.List.{AllByRecursion}
 use Rattle.std.specs.Result.{result_ok}
-use Rattle.std.proofs.lemmas.Bool.{false≢true}
+use Rattle.jf_bytes.proofs.Lists.{slice_get-front}
+use Rattle.jf_bytes.proofs.Options.{is_some_parts}
 use Rattle.const_pool.specs.declared.class.Handler.{Handler}
 use Rattle.const_pool.specs.declared.pool.PoolError.TheVariants.{BadIndex}
 use Rattle.const_pool.specs.ClassFile.{IsClassFile, IsHandler}
@@ -135,7 +136,7 @@ given-kept c image (arg.Pool index) o has e = by (slice_get c.pool index) refl e
     by : (x : Option Const) → slice_get c.pool index ≡ x → given_by c.pool x ≡ Some o → given_by image.pool (slice_get image.pool index) ≡ Some o
     by None is e = absurd (none-some o e)
     by (Some entry) is e =
-        subst (λ x. given_by image.pool x ≡ Some o) (sym (ap (λ p. slice_get p index) has.pool ∙ slice_get-more c.pool has.more index entry is))
+        subst (λ x. given_by image.pool x ≡ Some o) (sym (ap (λ p. slice_get p index) has.pool ∙ slice_get-front c.pool has.more index entry is))
         (entry-kept c image entry o has e)
 given-kept c image _ o has e = absurd (none-some o e)
 
@@ -150,10 +151,6 @@ operation-more c image i o has e = operation_by-kept c image i.op i.arg (family_
 
 -- ---- of a class file
 
-some-of : {A : Type 0} (o : Option A) → is_some o ≡ true → (x : A) × (o ≡ Some x)
-some-of None h = absurd (false≢true h)
-some-of (Some x) h = (x, refl)
-
 gap-named : (pool : List Const) (i : ℕ) → slice_get pool i ≡ Some const.Gap → named_class pool i ≡ None
 gap-named pool i e = ap (λ o. result_ok (ok_or (option_and_then entry_of o) BadIndex >>= class_entry pool)) e
 
@@ -164,9 +161,9 @@ module _ (c image : ClassFile) (formed : IsClassFile c) (has : HasMore c image) 
   class-same : (i : ℕ) → (i ≡ 0) ⊎ Names is_class c.pool i → named_class image.pool i ≡ named_class c.pool i
   class-same i (inl is) =
       let gap : slice_get c.pool i ≡ Some const.Gap = ap (slice_get c.pool) is ∙ formed.pool.first in
-      gap-named image.pool i (ap (λ p. slice_get p i) has.pool ∙ slice_get-more c.pool has.more i const.Gap gap) ∙ sym (gap-named c.pool i gap)
+      gap-named image.pool i (ap (λ p. slice_get p i) has.pool ∙ slice_get-front c.pool has.more i const.Gap gap) ∙ sym (gap-named c.pool i gap)
   class-same i (inr named) =
-      let x = some-of (named_class c.pool i) (named-there c.pool texts i named) in
+      let x = is_some_parts (named_class c.pool i) (named-there c.pool texts i named) in
       ap (λ p. named_class p i) has.pool ∙ (named_class-more c.pool has.more i x.0 x.1 ∙ sym x.1)
 
   -- what a handler catches
@@ -180,5 +177,5 @@ module _ (c image : ClassFile) (formed : IsClassFile c) (has : HasMore c image) 
 pub operations-same : (c image : ClassFile) → HasMore c image → (is : List Instr) → HaveOperations c is → AllByRecursion (λ i. operation_of image i ≡ operation_of c i) is
 operations-same c image has [] have = tt
 operations-same c image has (i ∷ is) have =
-    let does = some-of (operation_of c i) have.0 in
+    let does = is_some_parts (operation_of c i) have.0 in
     (operation-more c image i does.0 has does.1 ∙ sym does.1, operations-same c image has is have.1)

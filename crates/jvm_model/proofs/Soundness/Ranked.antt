@@ -6,6 +6,7 @@ use Rattle.std.proofs.lemmas.Option.{slice_get_within, none-some}
 use Rattle.std.specs.Prelude.{drop, filter_map, flat_map, nat_lt, unwrap_or, Option, Some, None, ◌==◌, ◌||◌, ◌⊎◌, if◌then◌else◌}
 use Rattle.std.specs.List.{AllByRecursion, cons_option}
 use Rattle.std.specs.Option.{option_and_then, option_map_or, option_to_list}
+use Rattle.jf_bytes.proofs.Tests.{equals_itself}
 use Rattle.const_pool.specs.declared.class.ClassFile.{ClassFile}
 use Rattle.const_pool.specs.References.{named_class}
 use Rattle.jvm_model.specs.Basis.Data.{Ending, Program, Entry, Active, Initializing, Frame, Shared, State, Local, Operation, Operands, Instruction, Turn, World}
@@ -27,9 +28,6 @@ use Rattle.jvm_model.proofs.Soundness.SoundRuns.{with-loaded-is}
 use Rattle.jvm_model.proofs.Soundness.SoundListingRuns.{original-sound, at-goes}
 use Rattle.jvm_model.proofs.Soundness.SoundClasses.{HasLoaded, among-either, directs, named-load}
 use Rattle.jvm_model.specs.Soundness.Climbing.{Climbs}
-
-equals_itself : (n : ℕ) → (n == n) ≡ true
-equals_itself n = eq-eqb n n refl
 
 -- ---- lists
 

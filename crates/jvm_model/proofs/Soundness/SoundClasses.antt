@@ -1,11 +1,11 @@
 -- Loading keeps the supertypes of what is loaded loaded, and walks go from a loaded class to loaded ones (JVM Specification 5.3, 5.4.3).
-use Rattle.std.proofs.Common.{◌≡◌, ℕ, zero, suc, Bool, true, false, List, [], ◌∷◌, ◌++◌, map, ap, sym, subst, refl, ◌∙◌, arith}
+use Rattle.std.proofs.Common.{◌≡◌, ℕ, zero, suc, Bool, true, false, List, [], ◌∷◌, ◌++◌, map, ap, sym, subst, refl, ◌∙◌}
 use Rattle.std.specs.Prelude.{◌+◌, length, Option, Some, None, filter_map, flat_map, not, unwrap_or, ◌==◌, ◌||◌, ◌&&◌, if◌then◌else◌}
 use Rattle.std.specs.Bool.{beq}
 use Rattle.std.specs.List.{AllByRecursion, cons_option}
 use Rattle.std.specs.Option.{option_and_then, option_map_or, option_to_list}
-use Rattle.std.proofs.lemmas.Bool.{false≢true}
-use Rattle.std.proofs.lemmas.Option.{same_Some}
+use Rattle.std.proofs.lemmas.Bool.{false≢true, eqb-true}
+use Rattle.std.proofs.lemmas.Option.{same_Some, none-some}
 use Rattle.const_pool.specs.declared.class.ClassFile.{ClassFile}
 use Rattle.const_pool.specs.References.{named_class}
 use Rattle.jvm_model.specs.Classes.Kinds.{Element, Primitive, Named, array_from, array_of, is_array_name, meaning_of}
@@ -14,37 +14,16 @@ use Rattle.jvm_model.specs.Classes.Lookup.{interface_names, interfaces_of, is_in
 use Rattle.jvm_model.specs.Basis.Programs.{class_at, class_named}
 use Rattle.jvm_model.specs.Soundness.Sound.{HasSupertypes, IsLoaded}
 use Rattle.jvm_model.specs.declared.program.Program.{Program}
+use Rattle.jvm_model.proofs.Loading.Among.{among-front, among-last}
 
 -- ---- what is among classes
-
-equals_itself : (n : ℕ) → (n == n) ≡ true
-equals_itself n = grind (arith)
-
-equal : (a b : ℕ) → (a == b) ≡ true → a ≡ b
-equal a b e = grind (arith)
-
-pub among-front : (class : ℕ) (xs ys : List ℕ) → is_among class xs ≡ true → is_among class (xs ++ ys) ≡ true
-among-front class [] ys is = absurd (false≢true is)
-among-front class (x ∷ xs) ys is = by (class == x) is (among-front class xs ys)
-  where
-    by : (b : Bool) → (b || is_among class xs) ≡ true → (is_among class xs ≡ true → is_among class (xs ++ ys) ≡ true) → (b || is_among class (xs ++ ys)) ≡ true
-    by true is rest = refl
-    by false is rest = rest is
-
-among-last : (class : ℕ) (xs : List ℕ) → is_among class (xs ++ class ∷ []) ≡ true
-among-last class [] = ap (λ b. b || false) (equals_itself class)
-among-last class (x ∷ xs) = by (class == x) (among-last class xs)
-  where
-    by : (b : Bool) → is_among class (xs ++ class ∷ []) ≡ true → (b || is_among class (xs ++ class ∷ [])) ≡ true
-    by true rest = refl
-    by false rest = rest
 
 -- one of the first, or the last one
 pub among-either : (P : ℕ → Type 0) (last : ℕ) (xs : List ℕ) → ((c : ℕ) → is_among c xs ≡ true → P c) → P last → (c : ℕ) → is_among c (xs ++ last ∷ []) ≡ true → P c
 among-either P last [] first is c e = by (c == last) refl e
   where
     by : (b : Bool) → (c == last) ≡ b → (b || false) ≡ true → P c
-    by true same e = subst P (sym (equal c last same)) is
+    by true same e = subst P (sym (eqb-true c last same)) is
     by false same e = absurd (false≢true e)
 among-either P last (x ∷ xs) first is c e =
     by (c == x) refl e (among-either P last xs (λ d there. first d (behind d (d == x) there)) is c)
@@ -98,9 +77,6 @@ pub record AreLoads (p : Program) (P : List ℕ → Type 0) (needs : List Need) 
   pub grown : Grows loaded l.loaded
   pub there : l.fault ≡ None → AllByRecursion (HasLoaded p l.loaded) needs
 
-some-none : (f : Fault) → Some f ≡ None → ⊥
-some-none f e = cc
-
 no-named : (code : ℕ) (name : List ℕ) → Primitive code ≡ Named name → ⊥
 no-named code name e = cc
 
@@ -114,7 +90,7 @@ plain-element name plain =
 module _ (p : Program) (P : List ℕ → Type 0)
     (one_more : (loaded : List ℕ) (class : ℕ) → AllByRecursion (HasLoaded p loaded) (needs_of p class) → P loaded → P (loaded ++ class ∷ [])) where
   stopped : (e : Element) (loaded : List ℕ) (fault : Fault) → IsLoad p P e loaded (record { loaded = loaded; fault = Some fault })
-  stopped e loaded fault = record { kept = λ h. h; grown = λ c h. h; there = λ none. absurd (some-none fault none) }
+  stopped e loaded fault = record { kept = λ h. h; grown = λ c h. h; there = λ none. absurd (none-some fault (sym none)) }
 
   -- the class itself, behind what it needs
   behind-load : (own loaded : List ℕ) (class : ℕ) (l : Loading) → class_named p own ≡ Some class → AreLoads p P (needs_of p class) loaded l
@@ -129,7 +105,7 @@ module _ (p : Program) (P : List ℕ → Type 0)
   behind-load own loaded class l found needs (Some fault) is = record {
     kept = needs.kept;
     grown = needs.grown;
-    there = λ none. absurd (some-none fault none);
+    there = λ none. absurd (none-some fault (sym none));
   }
 
   module _ (path own loaded : List ℕ) (within : ℕ → Loading)
@@ -184,7 +160,7 @@ module _ (p : Program) (P : List ℕ → Type 0)
         by-met false met none others = record {
           kept = first.kept;
           grown = first.grown;
-          there = λ still. absurd (some-none Incompatible still);
+          there = λ still. absurd (none-some Incompatible (sym still));
         }
 
         by : (o : Option Fault) → (load n.name loaded).fault ≡ o
@@ -194,7 +170,7 @@ module _ (p : Program) (P : List ℕ → Type 0)
         by (Some fault) is others = record {
           kept = first.kept;
           grown = first.grown;
-          there = λ none. absurd (some-none fault none);
+          there = λ none. absurd (none-some fault (sym none));
         }
 
   pub named-load : (depth : ℕ) (path name loaded : List ℕ) → IsLoad p P (meaning_of name).element loaded (load_named p depth path name loaded)

@@ -7,6 +7,7 @@ use Rattle.std.specs.List.{AllByRecursion, list_any, position_or_len}
 use Rattle.std.specs.Option.{option_map}
 use Rattle.std.proofs.lemmas.Slice.Eq.{bytes_eq-Decides}
 use Rattle.std.proofs.lemmas.Option.{none-some, same_Some}
+use Rattle.std.proofs.lemmas.Bool.{lt-ltb, le-ltb}
 use Rattle.const_pool.specs.BuiltIn.{built_in_names}
 use Rattle.jvm_model.specs.declared.program.Program.{Program}
 use Rattle.jvm_model.specs.Basis.Descriptors.{same_text}
@@ -18,12 +19,6 @@ use Rattle.jvm_model.specs.Basis.SharedState.{class_of_kind, kind_for}
 use Rattle.jvm_model.specs.Soundness.Sound.{HasBuiltIn, IsBuiltIn, IsBuiltInName, IsFit, IsLoaded, IsUsable, IsPrimitiveArray}
 use Rattle.jvm_model.proofs.Soundness.SoundClasses.{load-there}
 
-below : (a b : ℕ) → a < b → nat_lt a b ≡ true
-below a b h = grind (arith)
-
-not-below : (a b : ℕ) → b ≤ a → nat_lt a b ≡ false
-not-below a b h = grind (arith)
-
 -- ---- bases
 
 abbrev base_by : Bool → ℕ → ℕ → ℕ
@@ -34,15 +29,15 @@ class_by users base = if nat_lt base 16 then None else if nat_lt base 256 then S
 
 own-back : (users class : ℕ) → class_by users (256 + class) ≡ Some class
 own-back users class =
-    ap (λ b. if b then None else if nat_lt (256 + class) 256 then Some (users + (256 + class - 16)) else Some (256 + class - 256)) (not-below (256 + class) 16 (omega arith))
-    ∙ (ap (λ b. if b then Some (users + (256 + class - 16)) else Some (256 + class - 256)) (not-below (256 + class) 256 (omega arith))
+    ap (λ b. if b then None else if nat_lt (256 + class) 256 then Some (users + (256 + class - 16)) else Some (256 + class - 256)) (le-ltb (256 + class) 16 (omega arith))
+    ∙ (ap (λ b. if b then Some (users + (256 + class - 16)) else Some (256 + class - 256)) (le-ltb (256 + class) 256 (omega arith))
     ∙ ap Some (omega arith))
 
 built-in-back : (users class : ℕ) → users ≤ class → class < users + 240 → class_by users (16 + (class - users)) ≡ Some class
 built-in-back users class above within =
     ap (λ b. if b then None else if nat_lt (16 + (class - users)) 256 then Some (users + (16 + (class - users) - 16)) else Some (16 + (class - users) - 256))
-    (not-below (16 + (class - users)) 16 (omega arith))
-    ∙ (ap (λ b. if b then Some (users + (16 + (class - users) - 16)) else Some (16 + (class - users) - 256)) (below (16 + (class - users)) 256 (omega arith))
+    (le-ltb (16 + (class - users)) 16 (omega arith))
+    ∙ (ap (λ b. if b then Some (users + (16 + (class - users) - 16)) else Some (16 + (class - users) - 256)) (lt-ltb (16 + (class - users)) 256 (omega arith))
     ∙ ap Some (omega arith))
 
 back-by : (users class : ℕ) (b : Bool) → nat_lt class users ≡ b → class < users + 240 → class_by users (base_by b users class) ≡ Some class
@@ -66,14 +61,14 @@ module _ (p : Program) (loaded : List ℕ) (root : IsLoaded loaded (user_count p
   -- an array's class is java/lang/Object
   array-class : (kind : ℕ) → 16777216 ≤ kind → IsLoaded loaded (class_of_kind p kind)
   array-class kind big =
-      subst (IsLoaded loaded) (sym (ap (λ b. if b then unwrap_or (class_of_base p kind) 0 else user_count p) (not-below kind 16777216 big))) root
+      subst (IsLoaded loaded) (sym (ap (λ b. if b then unwrap_or (class_of_base p kind) 0 else user_count p) (le-ltb kind 16777216 big))) root
 
   class-of : (dimensions base class : ℕ) → base < 16777216 → class_of_base p base ≡ Some class → IsLoaded loaded class
       → IsLoaded loaded (class_of_kind p (dimensions * 16777216 + base))
   class-of zero base class small is there =
       subst (λ k. IsLoaded loaded (class_of_kind p k)) (let e : base ≡ 0 * 16777216 + base = omega arith in e)
       (subst (IsLoaded loaded)
-      (sym (ap (λ b. if b then unwrap_or (class_of_base p base) 0 else user_count p) (below base 16777216 small)
+      (sym (ap (λ b. if b then unwrap_or (class_of_base p base) 0 else user_count p) (lt-ltb base 16777216 small)
       ∙ ap (λ o. unwrap_or o 0) is)) there)
   class-of (suc dimensions) base class small is there = array-class (suc dimensions * 16777216 + base) (omega arith)
 
@@ -88,7 +83,7 @@ module _ (p : Program) (loaded : List ℕ) (root : IsLoaded loaded (user_count p
   pub of-primitive : (dimensions base : ℕ) → 1 ≤ dimensions → base < 16 → IsUsable p loaded (dimensions * 16777216 + base)
   of-primitive dimensions base deep small = record {
     known = λ class e. absurd (none-some class
-        (sym (ap (λ b. if b then None else if nat_lt base 256 then Some (user_count p + (base - 16)) else Some (base - 256)) (below base 16 small))
+        (sym (ap (λ b. if b then None else if nat_lt base 256 then Some (user_count p + (base - 16)) else Some (base - 256)) (lt-ltb base 16 small))
         ∙ (ap (class_of_base p) (sym (mod-mul-add dimensions 16777216 base (omega arith))) ∙ e)));
     of_class = array-class (dimensions * 16777216 + base) (omega arith);
   }
@@ -299,8 +294,8 @@ module _ (p : Program) (fit : IsFit p) (loaded : List ℕ) (has : HasBuiltIn p l
 
   base-behind : (place : ℕ) → place < 53 → class_of_base p (16 + place) ≡ Some (user_count p + place)
   base-behind place few =
-      ap (λ b. if b then None else if nat_lt (16 + place) 256 then Some (user_count p + (16 + place - 16)) else Some (16 + place - 256)) (not-below (16 + place) 16 (omega arith))
-      ∙ (ap (λ b. if b then Some (user_count p + (16 + place - 16)) else Some (16 + place - 256)) (below (16 + place) 256 (omega arith))
+      ap (λ b. if b then None else if nat_lt (16 + place) 256 then Some (user_count p + (16 + place - 16)) else Some (16 + place - 256)) (le-ltb (16 + place) 16 (omega arith))
+      ∙ (ap (λ b. if b then Some (user_count p + (16 + place - 16)) else Some (16 + place - 256)) (lt-ltb (16 + place) 256 (omega arith))
       ∙ ap (λ n. let o : Option ℕ = Some (user_count p + n) in o) (let e : 16 + place - 16 ≡ place = omega arith in e))
 
   -- an object of the built-in class at this place

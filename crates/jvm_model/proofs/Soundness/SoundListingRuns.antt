@@ -16,15 +16,13 @@ use Rattle.jvm_model.specs.Soundness.SoundListings.{IsSound, IsSoundEntry, IsSou
 use Rattle.jvm_model.proofs.Running.Attempts.{again-by, loaded-after}
 use Rattle.jvm_model.proofs.Running.Settles.{settled-keeps, settled-stops}
 use Rattle.jvm_model.proofs.Soundness.SoundAttempts.{sound-does}
-use Rattle.jvm_model.proofs.Soundness.SoundClasses.{all-then, among-front}
+use Rattle.jvm_model.proofs.Soundness.SoundClasses.{all-then}
 use Rattle.jvm_model.proofs.Soundness.SoundLines.{can-attempt}
 use Rattle.jvm_model.proofs.Soundness.SoundObjects.{KeepsShared}
 use Rattle.jvm_model.proofs.Soundness.SoundRuns.{loads-again, loads-same, loads-supertypes, shared-more, with-loaded-is}
 use Rattle.jvm_model.proofs.Soundness.SoundStart.{IsRefused, begins-if}
 use Rattle.jvm_model.proofs.Soundness.SoundListingSteps.{GoesTo, applied-goes, entry-grows, moves-go, settled-goes}
-
-some-none : {A : Type 0} (x : A) → Some x ≡ None → ⊥
-some-none x e = cc
+use Rattle.jvm_model.proofs.Loading.Among.{among-front}
 
 -- `Runs` tells which versions a frame of a method can be in
 module _ (Runs : ℕ → ℕ → Type 0) where
@@ -148,16 +146,16 @@ module _ (Runs : ℕ → ℕ → Type 0) where
     refused-moves s object None (Some r) [] is empty on threw none = record {
       shared = is;
       stack = subst (λ st. AllByRecursion (IsSoundEntry Runs w.program s.shared.loaded) st) (sym empty) tt;
-      main = λ on. absurd (some-none (Uncaught (class_of w.program s.shared r)) on);
+      main = λ on. absurd (none-some (Uncaught (class_of w.program s.shared r)) (sym on));
     }
 
     refused-goes-on : (s : State) (object : ℕ) (ending : Option Ending) (thrown : Option ℕ) (stack : List Entry) → ending ≡ None → thrown ≡ Some object → stack ≡ []
         → moves w t s ending thrown stack ≡ None → ⊥
-    refused-goes-on s object (Some e) thrown stack on threw none stops = some-none e on
+    refused-goes-on s object (Some e) thrown stack on threw none stops = none-some e (sym on)
     refused-goes-on s object None None stack on threw none stops = none-some object threw
     refused-goes-on s object None (Some r) (e ∷ below) on threw none stops = let no : e ∷ below ≡ [] → ⊥ = λ e. cc in no none
     refused-goes-on s object None (Some r) [] on threw none stops =
-        some-none (still (record s { ending = Some (Uncaught (class_of w.program s.shared r)) })) stops
+        none-some (still (record s { ending = Some (Uncaught (class_of w.program s.shared r)) })) (sym stops)
 
     abbrev Either : Turn → Type 0
     Either a = IsSound Runs w.program a.after ⊎ IsRefused Runs w fit a.after

@@ -25,9 +25,6 @@ use Rattle.jvm_model.proofs.Running.Settles.{settled-keeps}
 use Rattle.jvm_model.proofs.Soundness.SoundObjects.{KeepsShared, constants-sound, exception-sound}
 use Rattle.jvm_model.proofs.Soundness.SoundRules.{number-class}
 
-some-none : {A : Type 0} (x : A) → Some x ≡ None → ⊥
-some-none x e = cc
-
 -- `Runs` tells which versions a frame of a method can be in
 module _ (Runs : ℕ → ℕ → Type 0) where
   -- a state that is sound, where these classes are loaded
@@ -87,7 +84,7 @@ module _ (Runs : ℕ → ℕ → Type 0) where
           moved w.program s after (subst (KeepsShared w.program s.shared) (sym same) (same-shared w.program s.shared is.shared)) stack (λ none. is.main (on none))
 
       ended : (after : State) (ending : Ending) → after.shared ≡ s.shared → Entries s after.stack → after.ending ≡ Some ending → GoesTo w.program s.shared.loaded after
-      ended after ending same stack is_ended = restacked after same stack (λ none. absurd (some-none ending (sym is_ended ∙ none)))
+      ended after ending same stack is_ended = restacked after same stack (λ none. absurd (none-some ending (sym (sym is_ended ∙ none))))
 
       module _ (f : Frame) (entry : IsSoundEntry Runs w.program s.shared.loaded (Active f)) where
         breaks-sound : (own : ℕ) → GoesTo w.program s.shared.loaded (breaks s f own)

@@ -8,7 +8,7 @@ use Rattle.std.specs.Prelude.{◌/◌, ◌%◌, not, codes, drop, map, Option, S
 use Rattle.std.specs.Bool.{beq}
 use Rattle.std.specs.List.{AllByRecursion, list_any}
 use Rattle.std.specs.Option.{option_and_then, option_map, option_map_or, option_to_list}
-use Rattle.std.proofs.lemmas.Bool.{false≢true}
+use Rattle.std.proofs.lemmas.Bool.{false≢true, eqb-true, leb-true, and_parts}
 use Rattle.std.proofs.lemmas.Option.{none-some, same_Some}
 use Rattle.heap_objects.specs.declared.datum.Datum.{Datum}
 use Rattle.heap_objects.specs.declared.datum.Datum.TheVariants as datum
@@ -56,19 +56,9 @@ use Rattle.jvm_model.proofs.Soundness.SoundClasses.{all-both, superclasses-loade
 use Rattle.jvm_model.proofs.Soundness.SoundKinds.{behind-usable, built-in-class, built-in-there, has-root, name-usable, of-primitive, over}
 use Rattle.jvm_model.proofs.Soundness.SoundObjects.{AreSound, object-usable, objects-array, objects-arrays, objects-instance, objects-slot, objects-text, static-sound, with-heap}
 
-equal : (a b : ℕ) → (a == b) ≡ true → a ≡ b
-equal a b e = grind (arith)
-
-at-most : (a b : ℕ) → nat_le a b ≡ true → a ≤ b
-at-most a b e = grind (arith)
-
-first_of_and : (a b : Bool) → (a && b) ≡ true → a ≡ true
-first_of_and true b h = refl
-first_of_and false b h = absurd (false≢true h)
-
 -- ---- the class of a method that has Code
 
-number-least : (k n class at : ℕ) (places : List MethodPlace) → number_from k class at places ≡ Some n → k ≤ n
+pub number-least : (k n class at : ℕ) (places : List MethodPlace) → number_from k class at places ≡ Some n → k ≤ n
 number-least k n class at [] e = absurd (none-some n e)
 number-least k n class at (x ∷ rest) e = by (same_place class at x) e (number-least (k + 1) n class at rest)
   where
@@ -87,7 +77,7 @@ number-place k n class at (x ∷ rest) i place e is member_found =
         → ((j : ℕ) → number_from (k + 1) class at rest ≡ Some n → n ≡ k + 1 + j → slice_get rest j ≡ Some place → place.class ≡ class)
         → place.class ≡ class
     by true same e zero is member_found behind =
-        ap (λ (q : MethodPlace). q.class) (sym (same_Some x place member_found)) ∙ equal x.class class (first_of_and (x.class == class) (x.position == at) same)
+        ap (λ (q : MethodPlace). q.class) (sym (same_Some x place member_found)) ∙ eqb-true x.class class (and_parts (x.class == class) (x.position == at) same).0
     by true same e (suc j) is member_found behind = let here = same_Some k n e in absurd (omega arith)
     by false same e zero is member_found behind = let later = number-least (k + 1) n class at rest e in absurd (omega arith)
     by false same e (suc j) is member_found behind = behind j e (omega arith) member_found
@@ -346,7 +336,7 @@ module _ (w : World) (fit : IsFit w.program) (s : Shared) (is : IsSoundShared w.
   multi-fine name dimensions l o whole most =
       unless-fine (Resolved name) (resolved_kind p s.loaded name) (λ kind. makes_by_counts kind dimensions (counts_of dimensions o) s l o) (kind-found name whole)
       (λ kind usable. counts-fine kind dimensions (counts_of dimensions o) l o usable.0
-      (deep-kind kind dimensions (meaning_of name).dimensions usable.1 (at-most dimensions (meaning_of name).dimensions most)) refl)
+      (deep-kind kind dimensions (meaning_of name).dimensions usable.1 (leb-true dimensions (meaning_of name).dimensions most)) refl)
 
   -- ---- checkcast, instanceof
 

@@ -1,7 +1,7 @@
 -- What an instruction loads keeps what is shared sound, and nothing is left to load then (JVM Specification 5.3).
 use Rattle.std.proofs.Common.{◌≡◌, ℕ, Bool, true, false, List, [], ◌∷◌, ◌++◌, ap, sym, subst, refl, ◌∙◌}
 use Rattle.std.proofs.lemmas.List.{append-nil}
-use Rattle.std.specs.Prelude.{drop, length, Some, None, if◌then◌else◌}
+use Rattle.std.specs.Prelude.{drop, length, if◌then◌else◌}
 use Rattle.jvm_model.specs.Basis.Data.{Operands, Shared, State, Local, Operation, Within, Named, Athrow, Monitor, Newarray, Arraylength, LoadElement, StoreElement, LdcString, Program, World}
 use Rattle.jvm_model.specs.Instructions.Does.{does, loads}
 use Rattle.jvm_model.specs.Classes.Load.{load_of}
@@ -9,11 +9,9 @@ use Rattle.jvm_model.specs.Instructions.SymbolicReference.{newly_loaded, resolve
 use Rattle.jvm_model.specs.Running.Run.{with_loaded}
 use Rattle.jvm_model.specs.Soundness.Sound.{HasSupertypes, IsSoundShared}
 use Rattle.jvm_model.proofs.Loading.LoadsAgain.{newly-again, newly-loaded}
-use Rattle.jvm_model.proofs.Soundness.SoundClasses.{among-front, load-supertypes}
+use Rattle.jvm_model.proofs.Soundness.SoundClasses.{load-supertypes}
 use Rattle.jvm_model.proofs.Soundness.SoundObjects.{objects-grow}
-
-some-none : {A : Type 0} (x : A) → Some x ≡ None → ⊥
-some-none x e = cc
+use Rattle.jvm_model.proofs.Loading.Among.{among-front}
 
 -- ---- classes are loaded
 

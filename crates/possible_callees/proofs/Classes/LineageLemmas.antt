@@ -2,18 +2,19 @@
 use Rattle.std.proofs.Common.{◌≡◌, ℕ, zero, suc, ◌<◌, ◌≤◌, Bool, true, false, List, [], ◌∷◌, ◌++◌, length, get_or, take, ◌+◌, ap, sym, subst, refl, ◌∙◌, arith, inl, inr}
 use Rattle.std.specs.List.{AllByRecursion}
 use Rattle.std.specs.Prelude.{◌⊎◌, replicate, Some, nat_lt, slice_get, ◌==◌, if◌then◌else◌}
-use Rattle.std.proofs.lemmas.Bool.{ltb-false, ltb-true, false≢true, or_cases, or_left, or_right}
+use Rattle.std.proofs.lemmas.Bool.{ltb-false, ltb-true, false≢true, or_cases, or_left, or_right, eqb-true}
 use Rattle.std.proofs.lemmas.Option.{none-some, same_Some}
+use Rattle.jf_bytes.proofs.Tests.{equals_itself}
 use Rattle.jvm_model.specs.declared.program.Program.{Program}
 use Rattle.jvm_model.specs.Classes.Load.{is_among}
 use Rattle.jvm_model.specs.Classes.Lookup.{interfaces_of, is_subtype, superclass_of}
 use Rattle.jvm_model.specs.Soundness.Sound.{HasSupertypes}
+use Rattle.jvm_model.proofs.Loading.Among.{among-append}
 use Rattle.class_index.specs.Orders.{with_class}
 use Rattle.possible_callees.specs.declared.lineage.Lineage.{Lineage}
 use Rattle.possible_callees.specs.Lineages.{AreFollowed, IsClosed, IsLed, IsLineage, IsNoted, LeadTo, direct, class_noted}
 use Rattle.possible_callees.specs.Tables.{Adds, IsPrefix, list_at, with_item}
 use Rattle.possible_callees.proofs.Truths.{or-false}
-use Rattle.possible_callees.proofs.Numbers.Adding.{among-append, equal, itself}
 use Rattle.possible_callees.proofs.Numbers.Fronts.{front-among}
 use Rattle.possible_callees.proofs.Numbers.TableLemmas.{at-other, at-same, length-with, nothing_past}
 
@@ -34,12 +35,12 @@ among-item item n k x lists h = by (k == n) refl
         elim (or_cases (is_among x (list_at lists n)) (is_among x (item ∷ []))
         (sym (among-append x (list_at lists n) (item ∷ [])) ∙ (sym (ap (is_among x) (at-same item n lists within)) ∙ (ap (λ j. is_among x (list_at (with_item n item lists) j)) (sym same) ∙ h)))) [
           | inl a ↦ inl (ap (λ j. is_among x (list_at lists j)) same ∙ a)
-          | inr b ↦ inr (equal x item (sym (or-false (x == item)) ∙ b), same)
+          | inr b ↦ inr (eqb-true x item (sym (or-false (x == item)) ∙ b), same)
         ]
     there same (inr past) = inl (ap (λ l. is_among x (list_at l k)) (nothing_past item n lists past) ∙ h)
 
     by : (b : Bool) → (k == n) ≡ b → (is_among x (list_at lists k) ≡ true) ⊎ ((x ≡ item) × (k ≡ n))
-    by true e = there (equal k n e) (below-or-past n (length lists))
+    by true e = there (eqb-true k n e) (below-or-past n (length lists))
     by false e = inl (sym (ap (is_among x) (at-other item n k lists e)) ∙ h)
 
 pub item-kept : (item n k x : ℕ) (lists : List (List ℕ)) → is_among x (list_at lists k) ≡ true → is_among x (list_at (with_item n item lists) k) ≡ true
@@ -53,7 +54,7 @@ item-kept item n k x lists h = by (k == n) refl
     there same (inr past) = sym (ap (λ l. is_among x (list_at l k)) (nothing_past item n lists past)) ∙ h
 
     by : (b : Bool) → (k == n) ≡ b → is_among x (list_at (with_item n item lists) k) ≡ true
-    by true e = there (equal k n e) (below-or-past n (length lists))
+    by true e = there (eqb-true k n e) (below-or-past n (length lists))
     by false e = ap (is_among x) (at-other item n k lists e) ∙ h
 
 pub noted-nothing : (lower : ℕ) (classes : List ℕ) (lists : List (List ℕ)) → IsNoted lower classes lists lists
@@ -73,12 +74,12 @@ noted-more lower classes before after class there is = record {
 -- an element of a list that is gone through
 pub among-at : (xs : List ℕ) (i x : ℕ) → slice_get xs i ≡ Some x → is_among x xs ≡ true
 among-at [] i x e = absurd (none-some x e)
-among-at (y ∷ xs) zero x e = or_left (x == y) (is_among x xs) (ap (λ z. x == z) (same_Some y x e) ∙ itself x)
+among-at (y ∷ xs) zero x e = or_left (x == y) (is_among x xs) (ap (λ z. x == z) (same_Some y x e) ∙ equals_itself x)
 among-at (y ∷ xs) (suc i) x e = or_right (x == y) (is_among x xs) (among-at xs i x e)
 
 pub among-get : (xs : List ℕ) (i : ℕ) → i < length xs → is_among (get_or xs i 0) xs ≡ true
 among-get [] i within = absurd (omega (arith, within))
-among-get (y ∷ xs) zero within = or_left (y == y) (is_among y xs) (itself y)
+among-get (y ∷ xs) zero within = or_left (y == y) (is_among y xs) (equals_itself y)
 among-get (y ∷ xs) (suc i) within = or_right (get_or xs i 0 == y) (is_among (get_or xs i 0) xs) (among-get xs i (omega (arith, within)))
 
 -- each of the lists has it
@@ -93,9 +94,9 @@ noted-there lower below (class ∷ rest) k within (inr h) =
     let longer = subst (λ n. k < n) (sym (length-with lower class below)) within in
     elim (or_cases (k == class) (is_among k rest) h) [
       | inl same ↦ noted-there lower (with_item class lower below) rest k longer
-          (inl (ap (is_among lower) (ap (λ j. list_at (with_item j lower below) k) (sym (equal k class same)) ∙ at-same lower k below within)
+          (inl (ap (is_among lower) (ap (λ j. list_at (with_item j lower below) k) (sym (eqb-true k class same)) ∙ at-same lower k below within)
           ∙ (among-append lower (list_at below k) (lower ∷ []) ∙ or_right (is_among lower (list_at below k)) (is_among lower (lower ∷ []))
-          (or_left (lower == lower) false (itself lower)))))
+          (or_left (lower == lower) false (equals_itself lower)))))
       | inr behind ↦ noted-there lower (with_item class lower below) rest k longer (inr behind)
     ]
 
@@ -107,7 +108,7 @@ among-with m a x h = by (is_among x a) h
     by false h =
         elim (or_cases (is_among m a) (is_among m (x ∷ [])) (sym (among-append m a (x ∷ [])) ∙ h)) [
           | inl k ↦ inl k
-          | inr k ↦ inr (equal m x (sym (or-false (m == x)) ∙ k))
+          | inr k ↦ inr (eqb-true m x (sym (or-false (m == x)) ∙ k))
         ]
 
 length-replicate : (n : ℕ) → length (replicate {A = List ℕ} n []) ≡ n
@@ -125,13 +126,13 @@ loaded-before p loaded class above d there other =
   where
     itself-loaded : is_among class (loaded ++ class ∷ []) ≡ true
     itself-loaded =
-        among-append class loaded (class ∷ []) ∙ or_right (is_among class loaded) (is_among class (class ∷ [])) (or_left (class == class) false (itself class))
+        among-append class loaded (class ∷ []) ∙ or_right (is_among class loaded) (is_among class (class ∷ [])) (or_left (class == class) false (equals_itself class))
 
     of-all : (xs : List ℕ) → AllByRecursion (λ x. is_among x (loaded ++ class ∷ []) ≡ true) xs → is_among d xs ≡ true → is_among d (loaded ++ class ∷ []) ≡ true
     of-all [] each h = absurd (false≢true h)
     of-all (x ∷ xs) each h =
         elim (or_cases (d == x) (is_among d xs) h) [
-          | inl same ↦ ap (λ y. is_among y (loaded ++ class ∷ [])) (equal d x same) ∙ each.0
+          | inl same ↦ ap (λ y. is_among y (loaded ++ class ∷ [])) (eqb-true d x same) ∙ each.0
           | inr behind ↦ of-all xs each.1 behind
         ]
 
@@ -209,7 +210,7 @@ take-next : (xs more : List ℕ) (at d class : ℕ) → at < length xs → is_am
 take-next [] more at d class within h = absurd (omega (arith, within))
 take-next (x ∷ xs) more zero d class within h =
     elim (or_cases (class == x) false h) [
-      | inl same ↦ inr (equal class x same)
+      | inl same ↦ inr (eqb-true class x same)
       | inr none ↦ absurd (false≢true none)
     ]
 take-next (x ∷ xs) more (suc at) d class within h =

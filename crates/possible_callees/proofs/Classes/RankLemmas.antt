@@ -2,13 +2,14 @@
 use Rattle.std.proofs.Common.{◌≡◌, ℕ, zero, suc, ◌<◌, Bool, true, false, List, [], ◌∷◌, ◌++◌, length, take, ap, sym, refl, ◌∙◌, inl, inr}
 use Rattle.std.specs.Prelude.{Option, Some, None, is_some, replicate, slice_get, slice_set, ◌==◌, ◌||◌, ◌⊎◌, if◌then◌else◌}
 use Rattle.std.specs.Option.{option_map}
-use Rattle.std.proofs.lemmas.Bool.{false≢true, or_left, or_right}
+use Rattle.std.proofs.lemmas.Bool.{false≢true, or_left, or_right, eqb-true}
 use Rattle.std.proofs.lemmas.Option.{none-some, same_Some}
+use Rattle.jf_bytes.proofs.Lists.{slice_get-front, slice_get-set_same}
+use Rattle.jf_bytes.proofs.Tests.{equals_itself}
 use Rattle.jvm_model.specs.Classes.Load.{is_among}
 use Rattle.possible_callees.specs.Ranks.{AreDistinct, IsRanked, rank_of}
 use Rattle.possible_callees.specs.Tables.{IsPadded}
-use Rattle.possible_callees.proofs.Numbers.Adding.{equal, itself}
-use Rattle.possible_callees.proofs.Numbers.TableLemmas.{set-other, set-same}
+use Rattle.possible_callees.proofs.Numbers.TableLemmas.{set-other}
 
 pub ranked-nothing : (ranks : List ℕ) → IsRanked ranks []
 ranked-nothing ranks rank class e = absurd (none-some class e)
@@ -28,7 +29,7 @@ rank-there class (first ∷ rest) rank e = by (class == first) refl e (rank-ther
 
     by : (b : Bool) → (class == first) ≡ b → (if b then Some 0 else option_map suc (rank_of class rest)) ≡ Some rank
         → ((k : ℕ) → rank_of class rest ≡ Some k → slice_get rest k ≡ Some class) → slice_get (first ∷ rest) rank ≡ Some class
-    by true same e there = ap (slice_get (first ∷ rest)) (sym (same_Some 0 rank e)) ∙ ap (λ c. Some c) (sym (equal class first same))
+    by true same e there = ap (slice_get (first ∷ rest)) (sym (same_Some 0 rank e)) ∙ ap (λ c. Some c) (sym (eqb-true class first same))
     by false other e there = later (rank_of class rest) refl there e
 
 -- what stands somewhere has a first place
@@ -43,7 +44,7 @@ rank-some class (first ∷ rest) k e = by (class == first) refl k e (rank-some c
     by : (b : Bool) → (class == first) ≡ b → (k : ℕ) → slice_get (first ∷ rest) k ≡ Some class
         → ((j : ℕ) → slice_get rest j ≡ Some class → is_some (rank_of class rest) ≡ true) → is_some (if b then Some 0 else option_map suc (rank_of class rest)) ≡ true
     by true same k e later = refl
-    by false other zero e later = absurd (false≢true (sym other ∙ (ap (λ c. class == c) (same_Some first class e) ∙ itself class)))
+    by false other zero e later = absurd (false≢true (sym other ∙ (ap (λ c. class == c) (same_Some first class e) ∙ equals_itself class)))
     by false other (suc k) e later = mapped (rank_of class rest) (later k e)
 
 -- of classes none of which stands there twice the first place is the one place
@@ -67,7 +68,7 @@ among-rank class (first ∷ rest) = by (class == first) (among-rank class rest)
     by false later = mapped (rank_of class rest) ∙ later
 
 pub not-that : (a b : ℕ) → (a == b) ≡ false → Some a ≡ Some b → ⊥
-not-that a b other e = false≢true (sym other ∙ (ap (λ k. k == b) (same_Some a b e) ∙ itself b))
+not-that a b other e = false≢true (sym other ∙ (ap (λ k. k == b) (same_Some a b e) ∙ equals_itself b))
 
 module _ (ranks classes : List ℕ) (is : IsRanked ranks classes) (class : ℕ) where
   -- a class without a place is none of them
@@ -92,14 +93,9 @@ module _ (ranks classes : List ℕ) (is : IsRanked ranks classes) (class : ℕ) 
   pub this-rank : (k : ℕ) → slice_get classes k ≡ Some class → rank_of class classes ≡ Some k
   this-rank k there = rank-is class classes k (distinct ranks classes is) there
 
-get-padded : {A : Type 0} (xs ys : List A) (k : ℕ) (x : A) → slice_get xs k ≡ Some x → slice_get (xs ++ ys) k ≡ Some x
-get-padded [] ys k x e = absurd (none-some x e)
-get-padded (y ∷ xs) ys zero x e = e
-get-padded (y ∷ xs) ys (suc k) x e = get-padded xs ys k x e
-
 pub ranked-padded : (before after classes : List ℕ) → IsPadded 0 before after → IsRanked before classes → IsRanked after classes
 ranked-padded before after classes padded is rank class e =
-    ap (λ l. slice_get l class) padded.is ∙ get-padded before (replicate padded.count 0) class rank (is rank class e)
+    ap (λ l. slice_get l class) padded.is ∙ slice_get-front before (replicate padded.count 0) class rank (is rank class e)
 
 -- what stands behind one more
 get-pushed : (xs : List ℕ) (x k y : ℕ) → slice_get (xs ++ x ∷ []) k ≡ Some y → (slice_get xs k ≡ Some y) ⊎ ((k ≡ length xs) × (y ≡ x))
@@ -114,7 +110,7 @@ get-pushed (z ∷ xs) x (suc k) y e =
 
 among-get : (xs : List ℕ) (k x : ℕ) → slice_get xs k ≡ Some x → is_among x xs ≡ true
 among-get [] k x e = absurd (none-some x e)
-among-get (y ∷ xs) zero x e = or_left (x == y) (is_among x xs) (ap (λ z. x == z) (same_Some y x e) ∙ itself x)
+among-get (y ∷ xs) zero x e = or_left (x == y) (is_among x xs) (ap (λ z. x == z) (same_Some y x e) ∙ equals_itself x)
 among-get (y ∷ xs) (suc k) x e = or_right (x == y) (is_among x xs) (among-get xs k x e)
 
 pub ranked-more : (ranks classes : List ℕ) (class : ℕ) → IsRanked ranks classes → is_among class classes ≡ false → class < length ranks
@@ -124,13 +120,13 @@ ranked-more ranks classes class is fresh within rank other e =
       | inl old ↦ set-other ranks class other (length classes) (differs old (other == class) refl) ∙ is rank other old
       | inr new ↦
           ap (slice_get (slice_set ranks class (length classes))) new.1
-          ∙ (set-same ranks class (length classes) within ∙ ap (λ n. Some n) (sym new.0))
+          ∙ (slice_get-set_same ranks class (length classes) within ∙ ap (λ n. Some n) (sym new.0))
     ]
   where
     differs : slice_get classes rank ≡ Some other → (b : Bool) → (other == class) ≡ b → (other == class) ≡ false
     differs old false h = h
     differs old true h =
-        absurd (false≢true (sym fresh ∙ (ap (λ c. is_among c classes) (sym (equal other class h)) ∙ among-get classes rank other old)))
+        absurd (false≢true (sym fresh ∙ (ap (λ c. is_among c classes) (sym (eqb-true other class h)) ∙ among-get classes rank other old)))
 
 get-taken : (n : ℕ) (xs : List ℕ) (k x : ℕ) → slice_get (take n xs) k ≡ Some x → slice_get xs k ≡ Some x
 get-taken zero xs k x e = absurd (none-some x e)

@@ -2,7 +2,7 @@
 use Rattle.std.proofs.Common.{◌≡◌, ℕ, Bool, true, false, List, [], ◌∷◌, ◌++◌, ap, ap₂, sym, refl, ◌∙◌}
 use Rattle.std.specs.Prelude.{filter, flat_map, Option, Some, None, ◌||◌, if◌then◌else◌}
 use Rattle.std.specs.Option.{option_and_then, option_map_or, option_to_list}
-use Rattle.std.proofs.lemmas.Bool.{and_from}
+use Rattle.std.proofs.lemmas.Bool.{and_from, and_parts}
 use Rattle.const_pool.specs.References.{Reference}
 use Rattle.jvm_model.specs.declared.program.Program.{Program}
 use Rattle.jvm_model.specs.declared.instruction.Local.{Local}
@@ -18,8 +18,9 @@ use Rattle.jvm_model.specs.declared.instruction.SymbolicReference.TheVariants.{N
 use Rattle.jvm_model.specs.Basis.Programs.{class_named, initializer_of}
 use Rattle.jvm_model.specs.Classes.Selection.{is_static}
 use Rattle.jvm_model.specs.Profiling.Targets.{begun_by, begun_by_operation, begun_field, begun_on, begun_static, class_with_methods, method_coded, coded_at, found_where, initializers, invoked_by, is_array_type, loaded_class_named, selections, targets_in, where_loaded}
-use Rattle.possible_callees.proofs.Truths.{alike, first-of, second-of}
-use Rattle.possible_callees.proofs.Numbers.Adding.{among-append, among-filter, from_flat, made-flat, to_flat}
+use Rattle.jvm_model.proofs.Loading.Among.{among-append}
+use Rattle.possible_callees.proofs.Truths.{alike}
+use Rattle.possible_callees.proofs.Numbers.Adding.{among-filter, from_flat, made-flat, to_flat}
 
 module _ (p : Program) where
   -- the same classes are loaded
@@ -42,7 +43,7 @@ module _ (p : Program) where
       let i = from_flat h (filter test a) m k in
       let there = sym (among-filter test a i.item) ∙ i.there in
       to_flat h (filter test b) i.item m
-      (among-filter test b i.item ∙ and_from (is_among i.item b) (test i.item) (sym (same i.item) ∙ first-of (is_among i.item a) (test i.item) there) (second-of (is_among i.item a) (test i.item) there))
+      (among-filter test b i.item ∙ and_from (is_among i.item b) (test i.item) (sym (same i.item) ∙ (and_parts (is_among i.item a) (test i.item) there).0) (and_parts (is_among i.item a) (test i.item) there).1)
       i.within
 
   made-same : (h : ℕ → List ℕ) (test : ℕ → Bool) (a b : List ℕ) (m : ℕ) → AreSame a b

@@ -1,25 +1,18 @@
 -- What is among numbers that were gathered.
-use Rattle.std.proofs.Common.{◌≡◌, ℕ, Bool, true, false, List, [], ◌∷◌, ◌++◌, ap, sym, refl, ◌∙◌, arith, inl, inr}
+use Rattle.std.proofs.Common.{◌≡◌, ℕ, Bool, true, false, List, [], ◌∷◌, ◌++◌, ap, sym, refl, ◌∙◌, inl, inr}
 use Rattle.std.specs.Prelude.{filter, filter_map, flat_map, Option, Some, None, ◌==◌, ◌||◌, ◌&&◌, if◌then◌else◌}
 use Rattle.std.specs.List.{cons_option}
 use Rattle.std.specs.Option.{option_to_list}
-use Rattle.std.proofs.lemmas.Bool.{false≢true, or_cases, or_left, or_right}
+use Rattle.std.proofs.lemmas.Bool.{false≢true, or_cases, or_left, or_right, eqb-true}
+use Rattle.std.proofs.Math.Bool.{or-true}
+use Rattle.jf_bytes.proofs.Tests.{equals_itself}
 use Rattle.jvm_model.specs.Classes.Load.{is_among}
+use Rattle.jvm_model.proofs.Loading.Among.{among-append}
 use Rattle.class_index.specs.Orders.{with_class, with_classes}
 use Rattle.possible_callees.specs.Tables.{Adds}
-use Rattle.possible_callees.proofs.Truths.{or-assoc, or-false, or-true}
-
-pub equal : (a b : ℕ) → (a == b) ≡ true → a ≡ b
-equal a b e = grind (arith)
-
-pub itself : (n : ℕ) → (n == n) ≡ true
-itself n = grind (arith)
+use Rattle.possible_callees.proofs.Truths.{or-assoc, or-false}
 
 -- ---- among lists
-
-pub among-append : (m : ℕ) (xs ys : List ℕ) → is_among m (xs ++ ys) ≡ (is_among m xs || is_among m ys)
-among-append m [] ys = refl
-among-append m (x ∷ xs) ys = ap (λ b. (m == x) || b) (among-append m xs ys) ∙ sym (or-assoc (m == x) (is_among m xs) (is_among m ys))
 
 -- a number, and a list that has it
 pub record IsIn (A : Type 0) (f : A → List ℕ) (Has : A → Type 0) (m : ℕ) : Type 0 where
@@ -31,7 +24,7 @@ pub from_flat : (f : ℕ → List ℕ) (xs : List ℕ) (m : ℕ) → is_among m 
 from_flat f [] m h = absurd (false≢true h)
 from_flat f (x ∷ xs) m h =
     elim (or_cases (is_among m (f x)) (is_among m (flat_map f xs)) (sym (among-append m (f x) (flat_map f xs)) ∙ h)) [
-      | inl a ↦ record { item = x; there = or_left (x == x) (is_among x xs) (itself x); within = a }
+      | inl a ↦ record { item = x; there = or_left (x == x) (is_among x xs) (equals_itself x); within = a }
       | inr b ↦ let i = from_flat f xs m b in record { item = i.item; there = or_right (i.item == x) (is_among i.item xs) i.there; within = i.within }
     ]
 
@@ -39,7 +32,7 @@ pub to_flat : (f : ℕ → List ℕ) (xs : List ℕ) (x m : ℕ) → is_among x 
 to_flat f [] x m there h = absurd (false≢true there)
 to_flat f (y ∷ xs) x m there h =
     among-append m (f y) (flat_map f xs) ∙ elim (or_cases (x == y) (is_among x xs) there) [
-      | inl same ↦ or_left (is_among m (f y)) (is_among m (flat_map f xs)) (ap (λ z. is_among m (f z)) (sym (equal x y same)) ∙ h)
+      | inl same ↦ or_left (is_among m (f y)) (is_among m (flat_map f xs)) (ap (λ z. is_among m (f z)) (sym (eqb-true x y same)) ∙ h)
       | inr behind ↦ or_right (is_among m (f y)) (is_among m (flat_map f xs)) (to_flat f xs x m behind h)
     ]
 
@@ -59,8 +52,8 @@ among-filter test (y ∷ xs) x = by (test y) refl (among-filter test xs x)
   where
     same : (b t : Bool) → (x == y) ≡ b → test y ≡ t → is_among x (filter test xs) ≡ (is_among x xs && test x)
         → is_among x (if t then y ∷ filter test xs else filter test xs) ≡ ((b || is_among x xs) && test x)
-    same true true e k rest = ap (λ c. c || is_among x (filter test xs)) e ∙ sym (ap test (equal x y e) ∙ k)
-    same true false e k rest = rest ∙ (by_false (is_among x xs) (test x) (ap test (equal x y e) ∙ k) ∙ sym (ap test (equal x y e) ∙ k))
+    same true true e k rest = ap (λ c. c || is_among x (filter test xs)) e ∙ sym (ap test (eqb-true x y e) ∙ k)
+    same true false e k rest = rest ∙ (by_false (is_among x xs) (test x) (ap test (eqb-true x y e) ∙ k) ∙ sym (ap test (eqb-true x y e) ∙ k))
       where
         by_false : (a t : Bool) → t ≡ false → (a && t) ≡ false
         by_false true t e = e
@@ -89,7 +82,7 @@ pub among-with : (m : ℕ) (a : List ℕ) (x : ℕ) → is_among m (with_class a
 among-with m a x = by (is_among x a) refl
   where
     there : (b : Bool) → (m == x) ≡ b → is_among x a ≡ true → is_among m a ≡ (is_among m a || b)
-    there true e k = ap (λ y. is_among y a) (equal m x e) ∙ (k ∙ sym (or-true (is_among m a)))
+    there true e k = ap (λ y. is_among y a) (eqb-true m x e) ∙ (k ∙ sym (or-true (is_among m a)))
     there false e k = sym (or-false (is_among m a))
 
     by : (b : Bool) → is_among x a ≡ b → is_among m (if b then a else a ++ x ∷ []) ≡ (is_among m a || (m == x))

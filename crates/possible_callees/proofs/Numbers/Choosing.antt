@@ -2,9 +2,9 @@
 use Rattle.std.proofs.Common.{◌≡◌, ℕ, Bool, true, false, List, ap, sym, refl, ◌∙◌}
 use Rattle.std.specs.Prelude.{filter, filter_map, flat_map, Option, None, if◌then◌else◌}
 use Rattle.std.specs.Option.{option_to_list}
-use Rattle.std.proofs.lemmas.Bool.{and_from, false≢true}
+use Rattle.std.proofs.lemmas.Bool.{and_from, false≢true, and_parts}
 use Rattle.jvm_model.specs.Classes.Load.{is_among}
-use Rattle.possible_callees.proofs.Truths.{alike, first-of, second-of}
+use Rattle.possible_callees.proofs.Truths.{alike}
 use Rattle.possible_callees.proofs.Numbers.Adding.{among-filter, from_flat, made-flat, to_flat}
 
 module _ (loaded given : List ℕ) (asked : ℕ → Bool) (f : ℕ → Option ℕ) (h : ℕ → List ℕ) where
@@ -39,8 +39,8 @@ module _ (loaded given : List ℕ) (asked : ℕ → Bool) (f : ℕ → Option �
     back m k =
         let i = from_flat h (filter asked loaded) m k in
         let in_both = sym (among-filter asked loaded i.item) ∙ i.there in
-        let known = first-of (is_among i.item loaded) (asked i.item) in_both in
-        to_flat listed given i.item m (whole i.item known (second-of (is_among i.item loaded) (asked i.item) in_both))
+        let known = (and_parts (is_among i.item loaded) (asked i.item) in_both).0 in
+        to_flat listed given i.item m (whole i.item known (and_parts (is_among i.item loaded) (asked i.item) in_both).1)
         (of-it i.item m known ∙ (ap (is_among m) (same i.item) ∙ i.within))
 
     pub chosen-alike : (m : ℕ) → is_among m (filter_map of_loaded given) ≡ is_among m (flat_map h (filter asked loaded))
@@ -82,8 +82,8 @@ module _ (loaded given : List ℕ) (asked : ℕ → Bool) (f : ℕ → Option �
     tested-back m k =
         let i = from_flat h (filter asked loaded) m k in
         let in_both = sym (among-filter asked loaded i.item) ∙ i.there in
-        let known = first-of (is_among i.item loaded) (asked i.item) in_both in
-        let wanted = second-of (is_among i.item loaded) (asked i.item) in_both in
+        let known = (and_parts (is_among i.item loaded) (asked i.item) in_both).0 in
+        let wanted = (and_parts (is_among i.item loaded) (asked i.item) in_both).1 in
         to_flat (λ x. option_to_list (of_tested x)) given i.item m (whole i.item known wanted)
         (to-tested i.item m known wanted (ap (is_among m) (same i.item) ∙ i.within))
 

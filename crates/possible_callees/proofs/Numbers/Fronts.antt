@@ -2,30 +2,23 @@
 use Rattle.std.proofs.Common.{◌≡◌, ℕ, Bool, true, false, List, [], ◌∷◌, ◌++◌, ◌≤◌, length, take, drop, ap, sym, subst, refl, ◌∙◌, arith}
 use Rattle.std.specs.Prelude.{if◌then◌else◌}
 use Rattle.std.proofs.lemmas.Bool.{or_left}
+use Rattle.std.proofs.lemmas.List.{append-nil, append_assoc}
 use Rattle.jvm_model.specs.Classes.Load.{is_among}
+use Rattle.jvm_model.proofs.Loading.Among.{among-append}
 use Rattle.class_index.specs.Orders.{with_class}
 use Rattle.possible_callees.specs.Tables.{IsPrefix}
-use Rattle.possible_callees.proofs.Numbers.Adding.{among-append}
-
-append-nothing : (xs : List ℕ) → xs ++ [] ≡ xs
-append-nothing [] = refl
-append-nothing (x ∷ xs) = ap (λ l. x ∷ l) (append-nothing xs)
-
-append-assoc : (xs ys zs : List ℕ) → (xs ++ ys) ++ zs ≡ xs ++ (ys ++ zs)
-append-assoc [] ys zs = refl
-append-assoc (x ∷ xs) ys zs = ap (λ l. x ∷ l) (append-assoc xs ys zs)
 
 take-front : (xs ys : List ℕ) → take (length xs) (xs ++ ys) ≡ xs
 take-front [] ys = refl
 take-front (x ∷ xs) ys = ap (λ l. x ∷ l) (take-front xs ys)
 
 pub front-self : (xs : List ℕ) → IsPrefix xs xs
-front-self xs = record { rest = []; is = sym (append-nothing xs) }
+front-self xs = record { rest = []; is = sym (append-nil xs) }
 
 pub front-then : (a b c : List ℕ) → IsPrefix a b → IsPrefix b c → IsPrefix a c
 front-then a b c first second = record {
   rest = first.rest ++ second.rest;
-  is = second.is ∙ (ap (λ l. l ++ second.rest) first.is ∙ append-assoc a first.rest second.rest);
+  is = second.is ∙ (ap (λ l. l ++ second.rest) first.is ∙ append_assoc a first.rest second.rest);
 }
 
 pub front-more : (a b more : List ℕ) → b ≡ a ++ more → IsPrefix a b

@@ -2,11 +2,12 @@
 use Rattle.std.proofs.Common.{◌≡◌, ℕ, zero, suc, ◌+◌, ◌<◌, ◌≤◌, Bool, true, false, List, [], ◌∷◌, ◌++◌, ap, sym, refl, ◌∙◌, arith}
 use Rattle.std.specs.Prelude.{filter, ◌==◌, ◌||◌, ◌&&◌, if◌then◌else◌}
 use Rattle.std.specs.List.{AllByRecursion, range_with_len}
-use Rattle.std.proofs.lemmas.Bool.{and_from}
+use Rattle.std.proofs.lemmas.Bool.{and_from, and_parts}
+use Rattle.std.proofs.lemmas.List.{append-nil}
 use Rattle.jvm_model.specs.Classes.Load.{is_among}
 use Rattle.jvm_model.proofs.Revealing.Growing.{filter-front}
 use Rattle.possible_callees.specs.Tables.{IsRising}
-use Rattle.possible_callees.proofs.Truths.{alike, second-of}
+use Rattle.possible_callees.proofs.Truths.{alike}
 use Rattle.possible_callees.proofs.Numbers.Adding.{among-filter}
 
 -- each number of a range is above what is below the first
@@ -46,7 +47,7 @@ pub among-range : (found : List ℕ) (bound : ℕ) → ((m : ℕ) → is_among m
 among-range found bound below m =
     among-filter (λ x. is_among x found) (range_with_len 0 bound) m
     ∙ alike (is_among m (range_with_len 0 bound) && is_among m found) (is_among m found)
-    (λ h. second-of (is_among m (range_with_len 0 bound)) (is_among m found) h)
+    (λ h. (and_parts (is_among m (range_with_len 0 bound)) (is_among m found) h).1)
     (λ h. let less : m < bound = below m h in and_from (is_among m (range_with_len 0 bound)) (is_among m found) (in-range 0 bound m (omega arith) (omega (arith, less))) h)
 
 last : (a n j : ℕ) → a + n ≡ j → range_with_len a (suc n) ≡ range_with_len a n ++ j ∷ []
@@ -55,10 +56,6 @@ last a (suc n) j e = ap (λ l. a ∷ l) (last (a + 1) n j (omega (arith, e)))
 
 counting_more : (a n j : ℕ) → a + n ≡ j → range_with_len a (n + 1) ≡ range_with_len a n ++ j ∷ []
 counting_more a n j e = ap (range_with_len a) (let z : n + 1 ≡ suc n = omega arith in z) ∙ last a n j e
-
-append-nothing : (xs : List ℕ) → xs ++ [] ≡ xs
-append-nothing [] = refl
-append-nothing (x ∷ xs) = ap (λ l. x ∷ l) (append-nothing xs)
 
 -- with one number more
 pub one-kept : (test : ℕ → Bool) (n : ℕ) (all : List ℕ) → all ≡ filter test (range_with_len 0 n) → test n ≡ true
@@ -71,6 +68,6 @@ one-kept test n all e there =
 pub one-left : (test : ℕ → Bool) (n : ℕ) (all : List ℕ) → all ≡ filter test (range_with_len 0 n) → test n ≡ false
     → all ≡ filter test (range_with_len 0 (n + 1))
 one-left test n all e none =
-    e ∙ (sym (append-nothing (filter test (range_with_len 0 n)))
+    e ∙ (sym (append-nil (filter test (range_with_len 0 n)))
     ∙ (ap (λ b. filter test (range_with_len 0 n) ++ (if b then n ∷ [] else [])) (sym none)
     ∙ (sym (filter-front test (range_with_len 0 n) (n ∷ [])) ∙ ap (filter test) (sym (counting_more 0 n n (omega arith))))))

@@ -1,6 +1,6 @@
 -- Lists that are kept by number.
 use Rattle.std.proofs.Common.{◌≡◌, ℕ, zero, suc, ◌<◌, ◌≤◌, false, List, [], ◌∷◌, ◌++◌, length, get_or, ap, sym, refl, arith}
-use Rattle.std.specs.Prelude.{Some, slice_get, slice_set, ◌==◌}
+use Rattle.std.specs.Prelude.{slice_get, slice_set, ◌==◌}
 use Rattle.std.proofs.lemmas.Bool.{false≢true}
 use Rattle.possible_callees.specs.Tables.{list_at, with_item}
 
@@ -37,11 +37,6 @@ at-other item (suc n) (suc k) (list ∷ lists) other = at-other item n k lists (
     less n k e = grind (arith)
 
 -- ---- an item that is written
-
-pub set-same : {A : Type 0} (codes : List A) (m : ℕ) (x : A) → m < length codes → slice_get (slice_set codes m x) m ≡ Some x
-set-same [] m x within = absurd (omega (arith, within))
-set-same (c ∷ codes) zero x within = refl
-set-same (c ∷ codes) (suc m) x within = set-same codes m x (omega (arith, within))
 
 pub set-other : {A : Type 0} (codes : List A) (m k : ℕ) (x : A) → (k == m) ≡ false → slice_get (slice_set codes m x) k ≡ slice_get codes k
 set-other [] m k x other = refl

@@ -1,8 +1,9 @@
 -- The instructions of a code one after the other.
-use Rattle.std.proofs.Common.{◌≡◌, ℕ, suc, List, [], ◌∷◌, ◌++◌, map, ap, sym, refl, ◌∙◌}
+use Rattle.std.proofs.Common.{◌≡◌, ℕ, suc, List, [], ◌∷◌, ◌++◌, ap, sym, refl, ◌∙◌}
 use Rattle.std.specs.Prelude.{filter_map, Option, Some, None}
 use Rattle.std.specs.List.{cons_option}
-use Rattle.std.specs.Option.{option_and_then, option_map, option_map_or, option_to_list}
+use Rattle.std.specs.Option.{option_and_then, option_map_or, option_to_list}
+use Rattle.std.proofs.lemmas.List.{append-nil}
 use Rattle.const_pool.specs.declared.class.ClassFile.{ClassFile}
 use Rattle.code_model.specs.declared.instr.Instr.{Instr}
 use Rattle.code_model.specs.Instructions.{end_of, instruction_at}
@@ -25,10 +26,6 @@ one-read : (c : ClassFile) (code : List ℕ) (at n : ℕ) (i : Instr) → instru
 one-read c code at n i e =
     ap (λ o. filter_map symbolic_reference_in (filter_map (operation_of c) (option_map_or (λ (i : Instr). i ∷ read_from n code (end_of i)) o []))) e
     ∙ one-operation (operation_of c i) (filter_map (operation_of c) (read_from n code (end_of i)))
-
-append-nothing : {A : Type 0} (xs : List A) → xs ++ [] ≡ xs
-append-nothing [] = refl
-append-nothing (x ∷ xs) = ap (λ l. x ∷ l) (append-nothing xs)
 
 append-one : {A : Type 0} (xs : List A) (x : A) (rest : List A) → (xs ++ x ∷ []) ++ rest ≡ xs ++ x ∷ rest
 append-one [] x rest = refl
@@ -53,5 +50,5 @@ module _ (c : ClassFile) (code : List ℕ) (ns : List SymbolicReference) (whole 
 
   pub one-more : (o : Option SymbolicReference) → o ≡ option_and_then symbolic_reference_in (operation_of c i)
       → (ns ++ option_to_list o) ++ symbolic_references_from c n code (end_of i) ≡ whole
-  one-more None e = ap (λ l. l ++ symbolic_references_from c n code (end_of i)) (append-nothing ns) ∙ one-passed e
+  one-more None e = ap (λ l. l ++ symbolic_references_from c n code (end_of i)) (append-nil ns) ∙ one-passed e
   one-more (Some x) e = one-pushed x e

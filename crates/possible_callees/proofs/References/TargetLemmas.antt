@@ -5,6 +5,7 @@ use Rattle.std.specs.Prelude.{flat_map, Option, Some, None, ◌==◌, ◌||◌}
 use Rattle.std.specs.List.{AllByRecursion, cons_option}
 use Rattle.std.specs.Option.{option_map_or}
 use Rattle.std.proofs.lemmas.Bool.{or_left, or_right}
+use Rattle.jf_bytes.proofs.Tests.{equals_itself}
 use Rattle.jvm_model.specs.declared.program.Program.{Program}
 use Rattle.jvm_model.specs.declared.instruction.Local.{Local}
 use Rattle.jvm_model.specs.declared.instruction.Operation.{Operation}
@@ -14,9 +15,9 @@ use Rattle.jvm_model.specs.declared.instruction.SymbolicReference.{SymbolicRefer
 use Rattle.jvm_model.specs.declared.instruction.SymbolicReference.TheVariants.{New, Getfield, Putfield, Getstatic, Putstatic, Invokevirtual, Invokespecial, Invokestatic, Invokeinterface, Checkcast, Instanceof, Anewarray, Multianewarray, LdcClass}
 use Rattle.jvm_model.specs.Profiling.Revelation.{symbolic_reference_in, symbolic_references_of}
 use Rattle.jvm_model.specs.Profiling.Targets.{begun_by, begun_by_operation, operations_of, targets, targets_in}
+use Rattle.jvm_model.proofs.Loading.Among.{among-append}
 use Rattle.possible_callees.specs.Tables.{Adds}
 use Rattle.possible_callees.proofs.Truths.{or-assoc, or-false}
-use Rattle.possible_callees.proofs.Numbers.Adding.{among-append, itself}
 use Rattle.possible_callees.proofs.Classes.SameLoaded.{targets-same}
 
 module _ (p : Program) (loaded : List ℕ) where
@@ -71,7 +72,7 @@ one-added f x rest before after m whole adds e =
 pub all-behind : (xs ys : List ℕ) → ((x : ℕ) → is_among x ys ≡ true → is_among x xs ≡ true) → AllByRecursion (λ x. is_among x xs ≡ true) ys
 all-behind xs [] each = tt
 all-behind xs (y ∷ ys) each =
-    (each y (or_left (y == y) (is_among y ys) (itself y)), all-behind xs ys (λ x h. each x (or_right (x == y) (is_among x ys) h)))
+    (each y (or_left (y == y) (is_among y ys) (equals_itself y)), all-behind xs ys (λ x h. each x (or_right (x == y) (is_among x ys) h)))
 
 pub all-among : (xs : List ℕ) → AllByRecursion (λ x. is_among x xs ≡ true) xs
 all-among xs = all-behind xs xs (λ x h. h)

@@ -5,6 +5,8 @@ use Rattle.std.proofs.lemmas.Option.{same_Some, none-some, slice_get-map}
 use Rattle.std.specs.Prelude.{slice_get, unwrap_or}
 use Rattle.std.specs.List.{AllByRecursion}
 use Rattle.std.specs.Option.{option_and_then, option_map}
+use Rattle.jf_bytes.proofs.Lists.{each_at}
+use Rattle.jf_bytes.proofs.Options.{map_parts}
 use Rattle.const_pool.specs.declared.class.ClassFile.{ClassFile}
 use Rattle.const_pool.specs.declared.class.CodeAttribute.{CodeAttribute}
 use Rattle.const_pool.specs.declared.class.Handler.{Handler}
@@ -28,16 +30,12 @@ use Rattle.jvm_model.proofs.Events.Chains.{slice_get_at}
 use Rattle.jvm_model.proofs.Images.ImageLines.{instrs-groups}
 use Rattle.jvm_model.specs.Codes.Homed.{IsHomed, homed_instruction, instruction_for, start_in, with_own}
 use Rattle.prepared_code.specs.VersionListings.{HasOperation}
-use Rattle.jvm_model.proofs.Images.HomedListings.{homed-at, nth-all, nth-map}
+use Rattle.jvm_model.proofs.Images.HomedListings.{homed-at, nth-map}
 use Rattle.jvm_model.proofs.Images.HomesRise.{home-rises}
 use Rattle.jvm_model.proofs.Images.LaidHomes.{is-homed}
 use Rattle.prepared_code.specs.LaidMethods.{NamesClass}
 use Rattle.jvm_model.specs.Codes.ProgramPlaces.{IsStartOrEnd}
 use Rattle.prepared_code.proofs.Images.RewrittenVersions.{IsRewritten}
-
-mapped-some : {A B : Type 0} (f : A → B) (o : Option A) (y : B) → option_map f o ≡ Some y → (x : A) × (o ≡ Some x) × (f x ≡ y)
-mapped-some f None y e = absurd (none-some y e)
-mapped-some f (Some x) y e = (x, refl, same_Some (f x) y e)
 
 module _ (p : Program) (norm : ℕ → ℕ → ℕ) (method : ℕ) (c image : ClassFile) (front leave tail : List ℕ) (old new : CodeAttribute) (instrs : List Instr)
     (reads : Reads old.code 0 instrs) (groups : AreGroups (map (group_of leave) instrs)) (near : first_far front (map (group_of leave) instrs) ≡ None)
@@ -67,7 +65,7 @@ module _ (p : Program) (norm : ℕ → ℕ → ℕ) (method : ℕ) (c image : Cl
       let s = spot-found_beside (λ (x : Spot). x.from) (λ (x : Spot). x.home) (all_spots front gs) t home e in
       elim (which_spot (length front) 0 gs s.front s.spot s.rest s.parts) [
         | inl g ↦ (let there : slice_get gs (length g.pre) ≡ Some g.group = ap (λ (xs : List Group). slice_get xs (length g.pre)) g.parts ∙ slice_get_at g.pre g.group g.post in
-            let found = mapped-some (group_of leave) (slice_get instrs (length g.pre)) g.group (sym (slice_get-map (group_of leave) instrs (length g.pre)) ∙ there) in
+            let found = map_parts (group_of leave) (slice_get instrs (length g.pre)) g.group (sym (slice_get-map (group_of leave) instrs (length g.pre)) ∙ there) in
             inl (length g.pre, found.0, found.1, ap (λ (x : Group). x.instr.at) found.2 ∙ (ap (λ (x : Spot). x.from) (sym g.is) ∙ s.number)))
         | inr end ↦ inr (sym s.number ∙ ap (λ (x : Spot). x.from) end ∙ source_end-reads old.code 0 0 gs group-reads refl)
       ]
@@ -78,7 +76,7 @@ module _ (p : Program) (norm : ℕ → ℕ → ℕ) (method : ℕ) (c image : Cl
       found_beside-back (λ (x : Spot). x.home) (λ (x : Spot). x.from) 0 (all_spots front gs) k t (starts_rise old.code (length front) 0 gs group-reads) e
 
   laid-at : (n : ℕ) (i : Instr) → slice_get instrs n ≡ Some i → IsLaidIn laid (group_of leave i)
-  laid-at n i nth = nth-all (IsLaidIn laid) gs n (group_of leave i) homed.laid_out (nth-map (group_of leave) instrs n i nth)
+  laid-at n i nth = each_at (IsLaidIn laid) gs n (group_of leave i) homed.laid_out (nth-map (group_of leave) instrs n i nth)
 
   has-home : (t : ℕ) → IsStartOrEnd instrs len t → (x : ℕ) × (home_in laid.homes t ≡ Some x)
   has-home t (inl start) =
@@ -113,7 +111,7 @@ module _ (p : Program) (norm : ℕ → ℕ → ℕ) (method : ℕ) (c image : Cl
   only-start k t i e found (inl start) =
       let own : h start.1.at ≡ k = ap h start.3 ∙ homed-home t k (home-of-start k t e) in
       let stands = sym (homed-at c image leave old.code instrs laid homed start.0 start.1 start.2) ∙ (ap (homed_instruction image laid.code laid.homes len) own ∙ found) in
-      let moved = mapped-some (moved_instruction h) (code_instruction c old.code start.1.at) i stands in
+      let moved = map_parts (moved_instruction h) (code_instruction c old.code start.1.at) i stands in
       record { place = start.1.at; instruction = moved.0; there = at start.1.at ∙ moved.1; does = ap (λ (x : Instruction). x.operation) moved.2 }
   only-start k t i e found (inr same) =
       absurd (none-some i (sym (ap (option_and_then (instruction_for image laid.code laid.homes len)) (e ∙ ap (λ n. let o : Option ℕ = Some n in o) same) ∙ end-none) ∙ found))

@@ -1,7 +1,7 @@
 -- The version that a method's rewritten code is has the method's original code by homes.
 use Rattle.std.proofs.Common.{◌≡◌, ◌≤◌, ◌<◌, ◌+◌, ◌-◌, ℕ, Bool, true, false, cond, List, [], ◌∷◌, ◌++◌, map, length, Option, Some, None, refl, sym, ap, subst, ◌∙◌, ⊎_elim, inl, inr, arith}
 use Rattle.std.proofs.lemmas.Bool.{cases_lt, le-ltb}
-use Rattle.std.proofs.lemmas.List.{length-append}
+use Rattle.std.proofs.lemmas.List.{length-append, map-append}
 use Rattle.std.specs.Prelude.{nat_lt, slice_get, take, ◌==◌}
 use Rattle.std.specs.List.{AllByRecursion}
 use Rattle.std.specs.Option.{option_and_then, option_flatten, option_map}
@@ -83,10 +83,6 @@ all-caught c image homes (h ∷ hs) named =
     ap (λ (x : Catcher). x ∷ map catcher_in (map (catching_of image) (map (moved_handler homes) hs))) (caught-same c image homes h named.0)
     ∙ ap (λ (xs : List Catcher). moved_catcher (home_of homes) (catcher_of c h) ∷ xs) (all-caught c image homes hs named.1)
 
-map-append : {A B : Type 0} (f : A → B) (xs : List A) (x : A) → map f (xs ++ x ∷ []) ≡ map f xs ++ f x ∷ []
-map-append f [] x = refl
-map-append f (y ∷ ys) x = ap (λ (zs : List _). f y ∷ zs) (map-append f ys x)
-
 -- ---- the version
 
 -- the original and the rewritten code of a method of the program
@@ -148,7 +144,7 @@ module _ (p : Program) (norm : ℕ → ℕ → ℕ) (method : ℕ) (c image : Cl
   handlers-are : map catcher_in (own_handlers (map (catching_of image) new.handlers)) ≡ map (moved_catcher h) ((original p).handlers method)
   handlers-are =
       ap (λ (hs : List Handler). map catcher_in (own_handlers (map (catching_of image) hs))) is.handlers
-      ∙ (ap (λ (cs : List Catching). map catcher_in (own_handlers cs)) (map-append (catching_of image) (map (moved_handler laid.homes) old.handlers) is.back)
+      ∙ (ap (λ (cs : List Catching). map catcher_in (own_handlers cs)) (map-append (catching_of image) (map (moved_handler laid.homes) old.handlers) (is.back ∷ []))
       ∙ (ap (map catcher_in) (all-but-last (map (catching_of image) (map (moved_handler laid.homes) old.handlers)) (catching_of image is.back))
       ∙ (all-caught c image laid.homes old.handlers is.named
       ∙ sym (ap (map (moved_catcher h)) is.handled))))

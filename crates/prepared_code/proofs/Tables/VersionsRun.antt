@@ -6,6 +6,7 @@ use Rattle.std.specs.Option.{IfSome, option_and_then, option_map, option_map_or}
 use Rattle.std.proofs.lemmas.Bool.{cases_lt, eq-eqb, eqb-true, ne_eqb}
 use Rattle.std.proofs.lemmas.List.{length-set}
 use Rattle.std.proofs.lemmas.Option.{none-some, same_Some, slice_get_past}
+use Rattle.std.proofs.Math.Bool.{and-false}
 use Rattle.jvm_model.specs.declared.program.Program.{Program}
 use Rattle.jvm_model.specs.declared.state.Entry.{Entry}
 use Rattle.jvm_model.specs.declared.state.Entry.TheVariants.{Active, Initializing}
@@ -33,10 +34,6 @@ has-number : (xs : List ℕ) (i n : ℕ) → i < length xs → slice_get xs i �
 has-number [] i n lt = absurd (omega arith)
 has-number (x ∷ xs) zero n lt = refl
 has-number (x ∷ xs) (suc i) n lt = has-number xs i n (omega arith)
-
-and-false : (b : Bool) → (b && false) ≡ false
-and-false true = refl
-and-false false = refl
 
 module _ (p : Program) (norm : ℕ → ℕ → ℕ) (homes : ℕ → ℕ → ℕ) (v : Versions) (are : AreVersions p norm homes v) where
   -- ---- they can be run

@@ -1,9 +1,10 @@
 use Rattle.std.proofs.Common.{List, ℕ, ◌+◌, take, sym, subst}
 use Rattle.std.specs.List.{AllByRecursion}
+use Rattle.jf_bytes.proofs.Lists.{each_push}
 use Rattle.const_pool.specs.ClassFile.{IsClassFile}
 use Rattle.jfluid_cli.specs.Contents.{SpellsAlone, SpellAlone}
 use Rattle.jfluid_cli.specs.Stages.{IsUnread}
-use Rattle.jfluid_cli.proofs.Reports.Pairs.{zip-more, all-push}
+use Rattle.jfluid_cli.proofs.Reports.Pairs.{zip-more}
 use Rattle.jfluid_cli.proofs.Files.Spelled.{unread-at}
 use Rattle.jfluid_cli.proofs.loading.read_all.Goals as goal
 
@@ -23,6 +24,6 @@ loop-at-preserved c = record {
       (subst (λ (bytes : List ℕ). SpellsAlone bytes c.in-Ok.class) c.as_slice.ensures
       c.in-Ok.ensures.found));
   formed = subst (AllByRecursion IsClassFile) (sym c.in-Ok-push.ensures.items)
-      (all-push IsClassFile c.loop-at.classes c.in-Ok.class c.loop-at.invariant.formed
+      (each_push IsClassFile c.loop-at.classes c.in-Ok.class c.loop-at.invariant.formed
       c.in-Ok.ensures.formed);
 }

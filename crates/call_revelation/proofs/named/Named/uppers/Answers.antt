@@ -1,8 +1,8 @@
 use Rattle.std.proofs.Common.{ap, sym, ◌∙◌}
 use Rattle.std.specs.Prelude.{flat_map, ◌||◌}
 use Rattle.jvm_model.specs.Classes.Load.{is_among}
+use Rattle.jvm_model.proofs.Loading.Among.{among-append}
 use Rattle.possible_callees.specs.Tables.{list_at}
-use Rattle.possible_callees.proofs.Numbers.Adding.{among-append}
 use Rattle.call_revelation.specs.CalledClasses.{own_of}
 use Rattle.call_revelation.proofs.named.Named.uppers.Goals as goal
 
