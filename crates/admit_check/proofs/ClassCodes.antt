@@ -12,7 +12,7 @@ use Rattle.const_pool.specs.ClassFile.{IsClassFile}
 use Rattle.code_model.specs.declared.error.CodeError.{CodeError}
 use Rattle.code_model.specs.declared.instr.Instr.{Instr}
 use Rattle.code_model.specs.Instructions.{instruction_at}
-use Rattle.code_model.proofs.Readings.{Reads-each}
+use Rattle.code_model.proofs.Reading.Readings.{Reads-each}
 use Rattle.jvm_model.specs.Basis.Methods.{code_of, method_code}
 use Rattle.inject_events.specs.Answers.{IsProfilable, IsReadableClass}
 use Rattle.code_admission.specs.declared.error.AdmitError.{AdmitError}

@@ -16,8 +16,8 @@ use Rattle.code_model.specs.declared.instr.Arg.TheVariants as arg
 use Rattle.code_model.specs.declared.instr.Instr.{Instr}
 use Rattle.code_model.specs.Groups as groups
 use Rattle.code_model.specs.Instructions.{Reads, end_of}
-use Rattle.code_model.proofs.Lengths.{size_at-some}
-use Rattle.code_model.proofs.Readings.{at-instruction_at, instruction_at-past, instruction_at_within}
+use Rattle.code_model.proofs.Reading.Lengths.{size_at-some}
+use Rattle.code_model.proofs.Reading.Readings.{at-instruction_at, instruction_at-past, instruction_at_within}
 use Rattle.jvm_model.specs.Codes.Lines.{targets_of}
 use Rattle.jvm_model.specs.Codes.Places.{is_start_in, read_from}
 use Rattle.code_admission.specs.Checks.{fault_if, first_in}

@@ -8,9 +8,9 @@ use Rattle.code_model.specs.declared.instr.Instr.{Instr}
 use Rattle.code_model.specs.declared.instr.Code.{Code}
 use Rattle.code_model.specs.Reading.{◌>>=◌, Gives, Read, read_instruction}
 use Rattle.code_model.specs.Instructions.{instruction_at, end_of, Reads, ReadsTo, ArePlaced, IsReading, IsFirstFault, IsToldFault}
-use Rattle.code_model.proofs.Readings.{read-instruction_at, rest-instruction_at, instruction_at_within, instruction_at-read, at-instruction_at, end_of-within}
-use Rattle.code_model.proofs.Lengths.{size_at-some}
-use Rattle.code_model.proofs.OperandLaws.{instruction_is_read}
+use Rattle.code_model.proofs.Reading.Readings.{read-instruction_at, rest-instruction_at, instruction_at_within, instruction_at-read, at-instruction_at, end_of-within}
+use Rattle.code_model.proofs.Reading.Lengths.{size_at-some}
+use Rattle.code_model.proofs.Reading.OperandLaws.{instruction_is_read}
 use Rattle.code_admission.specs.Codes.{instructions_from, instructions_of}
 use Rattle.code_admission.specs.Uses.{AreWithin}
 

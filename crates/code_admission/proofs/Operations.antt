@@ -20,8 +20,8 @@ use Rattle.code_model.specs.declared.instr.Arg.TheVariants as arg
 use Rattle.code_model.specs.declared.instr.Instr.{Instr}
 use Rattle.code_model.specs.Instructions.{instruction_at}
 use Rattle.code_model.specs.Operands.{form_of}
-use Rattle.code_model.proofs.Readings.{known_at}
-use Rattle.code_model.proofs.Spelled.{HasShape}
+use Rattle.code_model.proofs.Reading.Readings.{known_at}
+use Rattle.code_model.proofs.Reading.Spelled.{HasShape}
 use Rattle.jvm_model.specs.declared.family.Family.{Family}
 use Rattle.jvm_model.specs.declared.family.Family.TheVariants as family
 use Rattle.jvm_model.specs.declared.instruction.SymbolicReference.TheVariants.{Anewarray, Checkcast, Getfield, Getstatic, Instanceof, Invokeinterface, Invokestatic, Invokevirtual, Multianewarray, New, Putfield, Putstatic}

@@ -40,7 +40,7 @@ fn add_spot(homes: &mut Homes, from: u16, home: u16, place: u16) -> Result<(), N
 }
 
 /// Adds the spots of groups that follow one another from here on.
-#[tactic(auto, using(crate::proofs::Walks::walk_bounds))]
+#[tactic(auto, using(crate::proofs::CodeLayouts::Walks::walk_bounds))]
 fn add_spots(homes: &mut Homes, groups: &[Group], start: u32) -> Result<(), NoMemory>
     requires { end_from start groups.now ≤ 65535 }
     ensures { OnOk result (homes.new ≡ with_spots homes.old (spots_from start groups.now)) }
@@ -54,7 +54,7 @@ fn add_spots(homes: &mut Homes, groups: &[Group], start: u32) -> Result<(), NoMe
 }
 
 /// Where each original offset comes to stand behind a front. The groups end here.
-#[tactic(auto, using(crate::proofs::Walks::walk_bounds))]
+#[tactic(auto, using(crate::proofs::CodeLayouts::Walks::walk_bounds))]
 pub(crate) fn homes_of(
     alloc: Global,
     front: &[u8],

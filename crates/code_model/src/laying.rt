@@ -85,7 +85,7 @@ fn fits_branch(homes: &Homes, place: u16, instr: &Instr) -> bool
 }
 
 /// The original offset of the first branch of two bytes that does not fit.
-#[tactic(auto, using(crate::proofs::Walks::walk_bounds))]
+#[tactic(auto, using(crate::proofs::CodeLayouts::Walks::walk_bounds))]
 fn first_far(homes: &Homes, groups: &[Group], start: u32) -> Option<u16>
     requires homes { IsStrictlyIncreasing homes.now.from }
     requires short { end_from start groups.now ≤ 65535 }

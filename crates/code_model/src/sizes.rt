@@ -90,7 +90,7 @@ fn operand_len(size: NumberSize, arg: &Arg, place: u32) -> u32
 }
 
 /// How many bytes an instruction takes at this place.
-#[tactic(auto, using(crate::proofs::Lengths::sizes))]
+#[tactic(auto, using(crate::proofs::Reading::Lengths::sizes))]
 pub(crate) fn instr_len(instr: &Instr, place: u32) -> u32
     requires { size_at place instr.now < 2 ^ 31 }
     ensures { result ≡ size_at place instr.now }
@@ -117,7 +117,7 @@ pub(crate) fn group_end(group: &Group, at: u32) -> u32
 }
 
 /// Where groups end that follow one another from here on.
-#[tactic(auto, using(crate::proofs::Walks::walk_bounds))]
+#[tactic(auto, using(crate::proofs::CodeLayouts::Walks::walk_bounds))]
 pub(crate) fn end_of_groups(groups: &[Group], start: u32) -> u32
     requires { end_from start groups.now < 2 ^ 31 }
     ensures { result ≡ end_from start groups.now }

@@ -281,7 +281,7 @@ fn put_instr(
 }
 
 /// Adds the groups, each with what goes in front of its instruction, from this place on.
-#[tactic(auto, using(crate::proofs::Walks::walk_bounds))]
+#[tactic(auto, using(crate::proofs::CodeLayouts::Walks::walk_bounds))]
 fn put_groups(
     out: &mut Seq<u8>,
     homes: &Homes,
@@ -304,7 +304,7 @@ fn put_groups(
 }
 
 /// The front, the groups and the back, one behind the other, `len` bytes in all.
-#[tactic(auto, using(crate::proofs::Walks::walk_bounds))]
+#[tactic(auto, using(crate::proofs::CodeLayouts::Walks::walk_bounds))]
 pub(crate) fn code_of(
     alloc: Global,
     front: &[u8],

@@ -13,7 +13,7 @@ use Rattle.code_model.specs.declared.instr.Instr.{Instr}
 use Rattle.code_model.specs.Reading.{◌>>=◌, read_instruction}
 use Rattle.code_model.specs.Layout.{operand_width}
 use Rattle.code_model.specs.Instructions.{end_of}
-use Rattle.code_model.proofs.Lengths.{size_at-is}
+use Rattle.code_model.proofs.Reading.Lengths.{size_at-is}
 use Rattle.program_gen.specs.declared.rows.Instruction.{Instruction}
 use Rattle.program_gen.specs.declared.rows.Instruction.TheVariants.{Plain, Byte, Short, OfClass, OfMember}
 use Rattle.program_gen.specs.Names.{class_text}

@@ -9,8 +9,8 @@ use Rattle.code_model.specs.declared.instr.Arg.TheVariants as arg
 use Rattle.code_model.specs.Formats.{number}
 use Rattle.code_model.specs.Operands.{instr_with, operand, number_signed, target, target_reached, is_wide}
 use Rattle.code_model.specs.Reading.{read_instruction}
-use Rattle.code_model.proofs.Again.{instr_of_operand, made_of, number_again, short_again, back16}
-use Rattle.code_model.proofs.OperandLaws.{instruction_is_read}
+use Rattle.code_model.proofs.Reading.Again.{instr_of_operand, made_of, number_again, short_again, back16}
+use Rattle.code_model.proofs.Reading.OperandLaws.{instruction_is_read}
 
 -- an opcode of this form, with its operand
 read-form : (f : Form) (at op : ℕ) (text rest : List ℕ) (a : Arg) → (row_of op).form ≡ f → is_wide f ≡ false → (operand f false at).Spells text a

@@ -28,7 +28,7 @@ use Rattle.code_model.specs.declared.laying.Laid.{Laid}
 use Rattle.code_model.specs.Groups.{IsBytes}
 use Rattle.code_model.specs.Instructions.{Reads}
 use Rattle.code_model.specs.Layout.{home_of, first_far}
-use Rattle.code_model.proofs.Walks.{length-laid_of}
+use Rattle.code_model.proofs.CodeLayouts.Walks.{length-laid_of}
 use Rattle.jvm_model.specs.declared.event.Mark.{Mark}
 use Rattle.jvm_model.specs.declared.event.Mark.TheVariants.{Off, Plain, Root}
 use Rattle.jvm_model.specs.Rewriting.Images.{all_off, next_number, with_code_among}

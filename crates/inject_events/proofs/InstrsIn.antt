@@ -10,8 +10,8 @@ use Rattle.code_model.specs.declared.laying.Homes.{Homes}
 use Rattle.code_model.specs.Groups.{IsBytes, AreGroups}
 use Rattle.code_model.specs.Instructions.{end_of, Reads, IsReading}
 use Rattle.code_model.specs.Layout.{homes_of}
-use Rattle.code_model.proofs.Lengths.{size_at-some}
-use Rattle.code_model.proofs.Readings.{at-instruction_at, instruction_at_within, Reads-some}
+use Rattle.code_model.proofs.Reading.Lengths.{size_at-some}
+use Rattle.code_model.proofs.Reading.Readings.{at-instruction_at, instruction_at_within, Reads-some}
 use Rattle.jvm_model.specs.Rewriting.Versions.{group_of}
 use Rattle.inject_events.specs.Answers.{IsReadableCode}
 use Rattle.inject_events.specs.Rewriting.{instrs_from, instrs_in}

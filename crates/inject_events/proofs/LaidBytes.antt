@@ -14,8 +14,8 @@ use Rattle.code_model.specs.Groups.{IsBytes}
 use Rattle.code_model.specs.Instructions.{end_of, Reads}
 use Rattle.code_model.specs.Operands.{padding_len}
 use Rattle.code_model.specs.Layout.{Spot, u1, u2, u4, s4, number_bytes, signed_bytes, distance, padding, target_bytes, pair_bytes, operand_bytes, opcode_bytes, width_of, instr_bytes, place_of, group_end, spots_from, end_from, homes_of, found_beside, home_of, groups_bytes, laid_of}
-use Rattle.code_model.proofs.Ready.{known}
-use Rattle.code_model.proofs.Walks.{le-end_from}
+use Rattle.code_model.proofs.CodeLayouts.Ready.{known}
+use Rattle.code_model.proofs.CodeLayouts.Walks.{le-end_from}
 use Rattle.jvm_model.specs.Rewriting.Versions.{is_return_opcode, group_of, probe_bytes}
 use Rattle.stackmap_shift.specs.declared.error.FrameError.{FrameError}
 use Rattle.stackmap_shift.specs.declared.frames.Frame.{Frame}

@@ -13,7 +13,7 @@ use Rattle.std.specs.List.Sorted.{IsStrictlyIncreasing}
 use Rattle.code_model.specs.declared.laying.Homes.{Homes}
 use Rattle.code_model.specs.Layout.{homes_of}
 use Rattle.code_model.specs.Groups.{IsBytes}
-use Rattle.code_model.proofs.Layouts.{starts-increasing}
+use Rattle.code_model.proofs.CodeLayouts.Layouts.{starts-increasing}
 use Rattle.jvm_model.specs.Rewriting.Versions.{is_return_opcode, group_of}
 
 -- ---- a code that has a reading has no fault

@@ -15,7 +15,7 @@ use Rattle.code_model.specs.declared.laying.Group.{Group}
 use Rattle.code_model.specs.declared.laying.Homes.{Homes}
 use Rattle.code_model.specs.declared.laying.Laid.{Laid}
 use Rattle.code_model.specs.Layout.{Spot, place_of, group_end, spots_from, end_from, source_end, size_at, home_of, width_of, fits_branch, first_far_from, first_far}
-use Rattle.code_model.proofs.Walks.{length-laid_of}
+use Rattle.code_model.proofs.CodeLayouts.Walks.{length-laid_of}
 use Rattle.jvm_model.specs.declared.event.Mark.{Mark}
 use Rattle.jvm_model.specs.declared.event.Mark.TheVariants.{Off, Plain, Root}
 use Rattle.jvm_model.specs.Basis.Methods.{code_of}

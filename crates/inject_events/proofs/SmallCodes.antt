@@ -21,7 +21,7 @@ use Rattle.code_model.specs.declared.laying.Group.{Group}
 use Rattle.code_model.specs.declared.laying.Homes.{Homes}
 use Rattle.code_model.specs.declared.laying.Laid.{Laid}
 use Rattle.code_model.specs.Layout.{width_of, place_of, group_end, end_from, homes_of, home_of, laid_of, is_near, fits_branch, first_far_from, first_far}
-use Rattle.code_model.proofs.Walks.{le-end_from, length-laid_of}
+use Rattle.code_model.proofs.CodeLayouts.Walks.{le-end_from, length-laid_of}
 use Rattle.jvm_model.specs.declared.event.Mark.{Mark}
 use Rattle.jvm_model.specs.declared.event.Mark.TheVariants.{Off, Plain}
 use Rattle.jvm_model.specs.Basis.Methods.{code_of}

@@ -11,9 +11,9 @@ use Rattle.code_model.specs.declared.laying.Group.{Group}
 use Rattle.code_model.specs.declared.laying.Homes.{Homes}
 use Rattle.code_model.specs.Instructions.{end_of, Reads}
 use Rattle.code_model.specs.Layout.{Spot, group_end, spots_from, all_spots, source_end, end_from, homes_of}
-use Rattle.code_model.proofs.Among.{source_end-reads}
-use Rattle.code_model.proofs.Layouts.{homes-increasing}
-use Rattle.code_model.proofs.Readings.{at-instruction_at, instruction_at_within}
+use Rattle.code_model.proofs.CodeLayouts.Among.{source_end-reads}
+use Rattle.code_model.proofs.CodeLayouts.Layouts.{homes-increasing}
+use Rattle.code_model.proofs.Reading.Readings.{at-instruction_at, instruction_at_within}
 use Rattle.jvm_model.specs.Rewriting.Versions.{group_of}
 use Rattle.stackmap_shift.specs.declared.error.FrameError.{FrameError}
 use Rattle.stackmap_shift.specs.declared.frames.Frame.{Frame}

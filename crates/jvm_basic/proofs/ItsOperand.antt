@@ -9,8 +9,8 @@ use Rattle.op_table.specs.Opcodes.{groups, row_of, wide_groups, wide_row_of}
 use Rattle.code_model.specs.declared.instr.Arg.{Arg}
 use Rattle.code_model.specs.declared.instr.Instr.{Instr}
 use Rattle.code_model.specs.Operands.{form_of}
-use Rattle.code_model.proofs.Spelled.{HasShape, instruction_spelled}
-use Rattle.code_model.proofs.Readings.{stands_from}
+use Rattle.code_model.proofs.Reading.Spelled.{HasShape, instruction_spelled}
+use Rattle.code_model.proofs.Reading.Readings.{stands_from}
 use Rattle.jvm_model.specs.Basis.Families.{rows, family_of}
 use Rattle.jvm_model.specs.Codes.Lines.{value_in, slot_in, increment_in, target_in, keys_in}
 use Rattle.jvm_basic.specs.Laws.{Need, Nothing, Number, Slot, Increment, BranchTarget, Choice, need_of, has_operand, HasItsOperand}

@@ -4,7 +4,7 @@ use Rattle.std.specs.List.{flat_map, enumerate_from, filter_map, cons_option}
 use Rattle.std.proofs.lemmas.List.{length_push}
 use Rattle.jvm_model.specs.Profiling.Paths.{Context, same_path, is_outside}
 use Rattle.context_tree.specs.Profiles.{is_child, last_method, numbered_child, parent_path}
-use Rattle.context_tree.proofs.SamePaths.{path-split, same_path-is}
+use Rattle.context_tree.proofs.Paths.SamePaths.{path-split, same_path-is}
 
 -- the numbers, where the first context has the number `at`
 abbrev pub numbers_from : List ℕ → ℕ → List Context → List ℕ

@@ -19,7 +19,7 @@ pub fn is_opening(kind: EventKind, depth: u64) -> bool
 }
 
 /// How many paths are open behind an event.
-#[tactic(auto, using(crate::proofs::OpenPaths::parent_length))]
+#[tactic(auto, using(crate::proofs::Sessions::OpenPaths::parent_length))]
 pub fn depth_after(kind: EventKind, depth: u64) -> u64
     requires { depth ≤ 2 ^ 63 }
     ensures path { (path : List ℕ) (e : TheEvent) → depth ≡ length path → e.kind ≡ kind

@@ -4,10 +4,10 @@ use Rattle.std.proofs.lemmas.List.{length-map}
 use Rattle.code_model.specs.declared.laying.Group.{Group}
 use Rattle.code_model.specs.Layout.{Spot, all_spots, homes_of}
 use Rattle.code_model.specs.Groups.{AreGroups}
-use Rattle.code_model.proofs.Lookups.{Rises-increasing}
-use Rattle.code_model.proofs.Among.{homes_rise}
-use Rattle.code_model.proofs.Layouts.{starts-increasing}
-use Rattle.code_model.proofs.Ready.{groups_read}
+use Rattle.code_model.proofs.Offsets.Lookups.{Rises-increasing}
+use Rattle.code_model.proofs.CodeLayouts.Among.{homes_rise}
+use Rattle.code_model.proofs.CodeLayouts.Layouts.{starts-increasing}
+use Rattle.code_model.proofs.CodeLayouts.Ready.{groups_read}
 use Rattle.stackmap_shift.specs.Conditions.{AreHomes}
 
 pub homes_of-AreHomes : (front : List ℕ) (groups : List Group) → AreGroups groups → AreHomes (homes_of front groups)

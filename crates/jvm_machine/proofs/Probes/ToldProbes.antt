@@ -11,7 +11,7 @@ use Rattle.code_model.specs.declared.laying.Homes.{Homes}
 use Rattle.code_model.specs.Groups.{IsBytes}
 use Rattle.code_model.specs.Instructions.{Reads, instruction_at}
 use Rattle.code_model.specs.Layout.{home_of}
-use Rattle.code_model.proofs.Ready.{known}
+use Rattle.code_model.proofs.CodeLayouts.Ready.{known}
 use Rattle.jvm_model.specs.declared.due.Due.{Due}
 use Rattle.jvm_model.specs.declared.due.Due.TheVariants.{Begins, Ends, Nothing}
 use Rattle.jvm_model.specs.declared.event.Event.{Event}
@@ -38,7 +38,7 @@ use Rattle.jvm_model.specs.Rewriting.StandsFor.{mark_at}
 use Rattle.jvm_model.specs.Rewriting.Versions.{is_return_opcode}
 use Rattle.jvm_model.proofs.Relocated.PlacesOf.{places-of}
 use Rattle.jvm_model.proofs.Running.Starts.{Reads-nth}
-use Rattle.code_model.proofs.Readings.{instruction_at_within}
+use Rattle.code_model.proofs.Reading.Readings.{instruction_at_within}
 use Rattle.jvm_machine.specs.declared.advancing.Telling.TheVariants as telling
 use Rattle.jvm_machine.specs.Advances.{Stops, told_in}
 use Rattle.jvm_machine.specs.Probes.{ComesFromProbe, HasBytes, IfLeaves, IsReturn, HasReturn, probe_index, probe_place}

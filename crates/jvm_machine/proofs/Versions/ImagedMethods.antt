@@ -21,8 +21,8 @@ use Rattle.code_model.specs.declared.laying.Group.{Group}
 use Rattle.code_model.specs.declared.laying.Homes.{Homes}
 use Rattle.code_model.specs.Groups.{instrs_of as group_instrs}
 use Rattle.code_model.specs.Instructions.{Reads}
-use Rattle.code_model.proofs.Layouts.{homes-increasing, starts-increasing}
-use Rattle.code_model.proofs.Readings.{Reads-some, Reads-unique}
+use Rattle.code_model.proofs.CodeLayouts.Layouts.{homes-increasing, starts-increasing}
+use Rattle.code_model.proofs.Reading.Readings.{Reads-some, Reads-unique}
 use Rattle.jvm_model.specs.declared.event.Mark.{Mark}
 use Rattle.jvm_model.specs.declared.event.Mark.TheVariants.{Off, Plain, Root}
 use Rattle.jvm_model.specs.declared.program.MethodPlace.{MethodPlace}

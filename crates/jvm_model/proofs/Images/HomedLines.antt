@@ -14,7 +14,7 @@ use Rattle.code_model.specs.Groups.{IsLaidIn}
 use Rattle.code_model.specs.Instructions.{end_of}
 use Rattle.code_model.specs.Operands.{padding_len}
 use Rattle.code_model.specs.Layout.{home_of, instr_moved, moved_arg, opcode_bytes, operand_len, place_of, size_at, width_of}
-use Rattle.code_model.proofs.Lengths.{size_at-is}
+use Rattle.code_model.proofs.Reading.Lengths.{size_at-is}
 use Rattle.jvm_model.specs.Basis.Data.{Instruction, Local, Operation}
 use Rattle.jvm_model.specs.Codes.Lines.{code_instruction, ends, instruction_of, next_of, operation_of, targets_of}
 use Rattle.jvm_model.specs.Codes.Moved.{moved_instruction}

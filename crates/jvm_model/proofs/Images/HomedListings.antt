@@ -11,7 +11,7 @@ use Rattle.code_model.specs.declared.laying.Laid.{Laid}
 use Rattle.code_model.specs.Groups.{IsLaidIn}
 use Rattle.code_model.specs.Instructions.{instruction_at}
 use Rattle.code_model.specs.Layout.{home_of, place_in}
-use Rattle.code_model.proofs.Readings.{Reads-each, instruction_at_within}
+use Rattle.code_model.proofs.Reading.Readings.{Reads-each, instruction_at_within}
 use Rattle.jvm_model.specs.Codes.Lines.{code_instruction, instruction_of, operation_of}
 use Rattle.jvm_model.specs.Codes.Moved.{moved_instruction}
 use Rattle.jvm_model.specs.Rewriting.Versions.{group_of}

@@ -7,8 +7,8 @@ use Rattle.code_model.specs.declared.laying.Group.{Group}
 use Rattle.code_model.specs.Groups.{instrs_of}
 use Rattle.code_model.specs.Instructions.{Reads}
 use Rattle.code_model.specs.Layout.{Spot, all_spots, found_beside, home_in, home_of, homes_of}
-use Rattle.code_model.proofs.Among.{homes_rise, starts_rise}
-use Rattle.code_model.proofs.Lookups.{Rises}
+use Rattle.code_model.proofs.CodeLayouts.Among.{homes_rise, starts_rise}
+use Rattle.code_model.proofs.Offsets.Lookups.{Rises}
 
 -- what is found stands among the numbers, and what stands beside it among theirs
 found-low : (fs ks : List ℕ) (low a x : ℕ) → Rises low fs → found_beside fs ks a ≡ Some x → low ≤ a

@@ -19,8 +19,8 @@ use Rattle.code_model.specs.declared.laying.Homes.{Homes}
 use Rattle.code_model.specs.Groups.{instrs_of}
 use Rattle.code_model.specs.Instructions.{instruction_at, end_of, Reads, IsReading}
 use Rattle.code_model.specs.Layout.{u2, width_of, place_of, home_in, home_of, homes_of, groups_bytes, end_from, home_by}
-use Rattle.code_model.proofs.Layouts.{Stands, groups_stand}
-use Rattle.code_model.proofs.Readings.{IsReading-unique}
+use Rattle.code_model.proofs.CodeLayouts.Layouts.{Stands, groups_stand}
+use Rattle.code_model.proofs.Reading.Readings.{IsReading-unique}
 use Rattle.jvm_model.specs.declared.event.EventKind.TheVariants as kind
 use Rattle.jvm_model.specs.declared.event.Mark.{Mark}
 use Rattle.jvm_model.specs.declared.event.Mark.TheVariants.{Off, Plain, Root}

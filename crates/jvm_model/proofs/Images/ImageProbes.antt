@@ -20,8 +20,8 @@ use Rattle.code_model.specs.Formats.{number}
 use Rattle.code_model.specs.Operands.{number_signed, instr_with}
 use Rattle.code_model.specs.Instructions.{instruction_at}
 use Rattle.code_model.specs.Layout.{u2}
-use Rattle.code_model.proofs.Again.{made_of, number_again, back16, short_again, instr_of_operand}
-use Rattle.code_model.proofs.Readings.{stands_to}
+use Rattle.code_model.proofs.Reading.Again.{made_of, number_again, back16, short_again, instr_of_operand}
+use Rattle.code_model.proofs.Reading.Readings.{stands_to}
 use Rattle.jvm_model.specs.declared.event.EventKind.{EventKind}
 use Rattle.jvm_model.specs.Rewriting.StandsFor.{ProbeCall, probe_kind, invoked_kind, invoked_probe, pushed_number, probe_in}
 use Rattle.jvm_model.specs.Rewriting.Versions.{probe_bytes}

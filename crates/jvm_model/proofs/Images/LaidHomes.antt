@@ -7,9 +7,9 @@ use Rattle.code_model.specs.declared.laying.Group.{Group}
 use Rattle.code_model.specs.Groups.{AreGroups}
 use Rattle.code_model.specs.Instructions.{Reads}
 use Rattle.code_model.specs.Layout.{Spot, all_spots, first_far, home_in, homes_of, laid_of}
-use Rattle.code_model.proofs.Among.{homes_rise}
-use Rattle.code_model.proofs.LaidReads.{all_laid}
-use Rattle.code_model.proofs.Lookups.{found_beside-back}
+use Rattle.code_model.proofs.CodeLayouts.Among.{homes_rise}
+use Rattle.code_model.proofs.CodeLayouts.LaidReads.{all_laid}
+use Rattle.code_model.proofs.Offsets.Lookups.{found_beside-back}
 use Rattle.jvm_model.specs.Codes.Lines.{operation_of}
 use Rattle.jvm_model.specs.Rewriting.Versions.{group_of}
 use Rattle.jvm_model.specs.Codes.Homed.{IsHomed, start_in}

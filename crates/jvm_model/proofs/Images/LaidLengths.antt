@@ -12,9 +12,9 @@ use Rattle.code_model.specs.declared.laying.Group.{Group}
 use Rattle.code_model.specs.declared.laying.Homes.{Homes}
 use Rattle.code_model.specs.Instructions.{end_of, Reads, IsReading}
 use Rattle.code_model.specs.Layout.{place_of, group_end, end_from, laid_of}
-use Rattle.code_model.proofs.Readings.{at-instruction_at}
-use Rattle.code_model.proofs.Lengths.{size_at-some, size_at-near}
-use Rattle.code_model.proofs.Walks.{length-laid_of}
+use Rattle.code_model.proofs.Reading.Readings.{at-instruction_at}
+use Rattle.code_model.proofs.Reading.Lengths.{size_at-some, size_at-near}
+use Rattle.code_model.proofs.CodeLayouts.Walks.{length-laid_of}
 use Rattle.jvm_model.specs.declared.event.Mark.{Mark}
 use Rattle.jvm_model.specs.declared.event.Mark.TheVariants.{Off, Plain, Root}
 use Rattle.jvm_model.specs.Rewriting.Images.{IsMarkedMember, IsMemberImage, next_number, AreMemberImages, IsOriginal, IsRewritten}

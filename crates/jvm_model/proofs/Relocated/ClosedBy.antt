@@ -11,7 +11,7 @@ use Rattle.const_pool.specs.declared.class.CodeAttribute.{CodeAttribute}
 use Rattle.const_pool.specs.declared.class.Handler.{Handler}
 use Rattle.code_model.specs.declared.instr.Instr.{Instr}
 use Rattle.code_model.specs.Instructions.{Reads, end_of, instruction_at}
-use Rattle.code_model.proofs.Readings.{at-instruction_at, instruction_at-past}
+use Rattle.code_model.proofs.Reading.Readings.{at-instruction_at, instruction_at-past}
 use Rattle.jvm_model.specs.Basis.Data.{MethodPlace, Program, Catcher, Instruction, Local, Operation}
 use Rattle.jvm_model.specs.Codes.Closed.{IsClosed}
 use Rattle.jvm_model.specs.Codes.Lines.{code_instruction, ends, instruction_of, method_instruction, next_of, operation_of, targets_of}

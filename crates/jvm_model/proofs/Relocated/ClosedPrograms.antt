@@ -11,7 +11,7 @@ use Rattle.const_pool.specs.declared.class.CodeAttribute.{CodeAttribute}
 use Rattle.const_pool.specs.declared.class.Handler.{Handler}
 use Rattle.code_model.specs.declared.instr.Instr.{Instr}
 use Rattle.code_model.specs.Instructions.{Reads, end_of, instruction_at}
-use Rattle.code_model.proofs.Readings.{Reads-each, at-instruction_at, instruction_at-past}
+use Rattle.code_model.proofs.Reading.Readings.{Reads-each, at-instruction_at, instruction_at-past}
 use Rattle.jvm_model.specs.declared.program.MethodPlace.{MethodPlace}
 use Rattle.jvm_model.specs.declared.program.Program.{Program}
 use Rattle.jvm_model.specs.Codes.Closed.{IsClosed, IsWithin, norm_of}

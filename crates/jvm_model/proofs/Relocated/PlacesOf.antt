@@ -5,7 +5,7 @@ use Rattle.std.specs.Option.{option_map_or}
 use Rattle.const_pool.specs.declared.class.CodeAttribute.{CodeAttribute}
 use Rattle.code_model.specs.declared.instr.Instr.{Instr}
 use Rattle.code_model.specs.Instructions.{Reads}
-use Rattle.code_model.proofs.Readings.{Reads-unique, at-instruction_at}
+use Rattle.code_model.proofs.Reading.Readings.{Reads-unique, at-instruction_at}
 use Rattle.jvm_model.specs.declared.program.Program.{Program}
 use Rattle.jvm_model.specs.Codes.Closed.{norm_of}
 use Rattle.jvm_model.specs.Codes.Moved.{IsPlace}

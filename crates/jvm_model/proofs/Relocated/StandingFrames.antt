@@ -9,7 +9,7 @@ use Rattle.const_pool.specs.declared.class.ClassFile.{ClassFile}
 use Rattle.const_pool.specs.declared.class.CodeAttribute.{CodeAttribute}
 use Rattle.code_model.specs.declared.instr.Instr.{Instr}
 use Rattle.code_model.specs.Instructions.{instruction_at, end_of}
-use Rattle.code_model.proofs.Readings.{at-instruction_at, instruction_at-past}
+use Rattle.code_model.proofs.Reading.Readings.{at-instruction_at, instruction_at-past}
 use Rattle.jvm_model.specs.Basis.Data.{MethodPlace, Entry, Active, Initializing, Frame, Local, Operation, Instruction, World}
 use Rattle.jvm_model.specs.Codes.Lines.{code_instruction, instruction_of, method_instruction, next_of, operation_of, targets_of}
 use Rattle.jvm_model.specs.Basis.Methods.{method_code}

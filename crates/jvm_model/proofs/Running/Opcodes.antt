@@ -16,9 +16,9 @@ use Rattle.code_model.specs.Operands.{form_of}
 use Rattle.code_model.specs.Instructions.{instruction_at}
 use Rattle.code_model.specs.Layout.{operand_width, operand_len, opcode_bytes, size_at, moved_arg}
 use Rattle.code_model.specs.Groups.{CanBranch, targets_of}
-use Rattle.code_model.proofs.Spelled.{HasShape}
-use Rattle.code_model.proofs.Lengths.{size_at-is}
-use Rattle.code_model.proofs.Readings.{known_at}
+use Rattle.code_model.proofs.Reading.Spelled.{HasShape}
+use Rattle.code_model.proofs.Reading.Lengths.{size_at-is}
+use Rattle.code_model.proofs.Reading.Readings.{known_at}
 use Rattle.const_pool.specs.declared.class.ClassFile.{ClassFile}
 use Rattle.const_pool.specs.declared.pool.Const.{Const}
 use Rattle.const_pool.specs.declared.pool.Const.TheVariants as const

@@ -19,8 +19,8 @@ use Rattle.code_model.specs.declared.instr.Instr.{Instr}
 use Rattle.code_model.specs.declared.instr.Code.{Code as Reading}
 use Rattle.code_model.specs.Instructions.{instruction_at, end_of, Reads, IsReading}
 use Rattle.code_model.specs.Groups.{IsBytes}
-use Rattle.code_model.proofs.Ready.{known}
-use Rattle.code_model.proofs.Readings.{at-instruction_at, IsReading-unique}
+use Rattle.code_model.proofs.CodeLayouts.Ready.{known}
+use Rattle.code_model.proofs.Reading.Readings.{at-instruction_at, IsReading-unique}
 use Rattle.jvm_model.specs.declared.operation.Line.{Line}
 use Rattle.jvm_model.specs.declared.operation.Resolved.{Resolved}
 use Rattle.jvm_model.specs.declared.operation.Resolved.TheVariants.{Invokestatic}

@@ -16,10 +16,10 @@ use Rattle.code_model.specs.declared.laying.Laid.{Laid}
 use Rattle.code_model.specs.Groups.{AreGroups, IsLaidIn, instrs_of}
 use Rattle.code_model.specs.Instructions.{Reads}
 use Rattle.code_model.specs.Layout.{Spot, all_spots, end_from, first_far, home_in, home_of, laid_of, place_in, place_of}
-use Rattle.code_model.proofs.Among.{starts_rise, which_spot, source_end-reads}
-use Rattle.code_model.proofs.Layouts.{home_in-end}
-use Rattle.code_model.proofs.Lookups.{found_beside-back, spot-found_beside}
-use Rattle.code_model.proofs.Readings.{instruction_at-past, instruction_at_within}
+use Rattle.code_model.proofs.CodeLayouts.Among.{starts_rise, which_spot, source_end-reads}
+use Rattle.code_model.proofs.CodeLayouts.Layouts.{home_in-end}
+use Rattle.code_model.proofs.Offsets.Lookups.{found_beside-back, spot-found_beside}
+use Rattle.code_model.proofs.Reading.Readings.{instruction_at-past, instruction_at_within}
 use Rattle.jvm_model.specs.declared.program.Program.{Program}
 use Rattle.jvm_model.specs.Basis.Data.{Instruction}
 use Rattle.jvm_model.specs.Codes.Lines.{code_instruction, instruction_of, operation_of}

@@ -1,6 +1,6 @@
 use Rattle.std.proofs.Common.{arith}
-use Rattle.code_model.proofs.Readings.{Reads-some, Reads-each, IsReading-unique, less-instruction_at, stands_from, stands_to}
-use Rattle.code_model.proofs.Fronts.{goes_on, is_whole, refused, no_code, one_fault, refused_as, decoded_as}
+use Rattle.code_model.proofs.Reading.Readings.{Reads-some, Reads-each, IsReading-unique, less-instruction_at, stands_from, stands_to}
+use Rattle.code_model.proofs.Reading.Fronts.{goes_on, is_whole, refused, no_code, one_fault, refused_as, decoded_as}
 use Rattle.code_model.proofs.decoding.decode.Goals as goal
 
 pub returns-in-Err-clause-only : goal.returns-in-Err-clause-only

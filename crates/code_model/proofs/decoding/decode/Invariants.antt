@@ -1,5 +1,5 @@
 use Rattle.std.proofs.Common.{◌-◌}
-use Rattle.code_model.proofs.Fronts.{IsFront}
+use Rattle.code_model.proofs.Reading.Fronts.{IsFront}
 use Rattle.code_model.proofs.decoding.decode.Given as goal
 
 abbrev pub invariant-loop-at : goal.invariant-loop-at

@@ -1,5 +1,5 @@
 use Rattle.std.proofs.Common.{sym, arith}
-use Rattle.code_model.proofs.Readings.{instruction_at-past, instruction_at-read, instruction_at-fault}
+use Rattle.code_model.proofs.Reading.Readings.{instruction_at-past, instruction_at-read, instruction_at-fault}
 use Rattle.code_model.proofs.decoding.instr_at.Goals as goal
 
 pub returns-then-bytes-at : goal.returns-then-bytes-at

@@ -3,7 +3,7 @@ use Rattle.std.specs.Prelude.{All}
 use Rattle.code_model.specs.Layout.{code_bytes}
 use Rattle.code_model.specs.Instructions.{IsReading}
 use Rattle.code_model.specs.Groups.{FitsInstr, IsUnmovedAt}
-use Rattle.code_model.proofs.Ready.{instrs_fit, instrs_stay, encoded_reads}
+use Rattle.code_model.proofs.CodeLayouts.Ready.{instrs_fit, instrs_stay, encoded_reads}
 use Rattle.code_model.proofs.encoding.encode.Goals as goal
 
 pub put_instrs-requires-clause-fits : goal.put_instrs-requires-clause-fits

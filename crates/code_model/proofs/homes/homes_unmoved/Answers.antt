@@ -1,4 +1,4 @@
-use Rattle.code_model.proofs.Carried.{made_rise, made_stay}
+use Rattle.code_model.proofs.Offsets.Carried.{made_rise, made_stay}
 use Rattle.code_model.proofs.homes.homes_unmoved.Goals as goal
 
 pub returns-clause-same : goal.returns-clause-same

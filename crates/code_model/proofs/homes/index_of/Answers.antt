@@ -1,7 +1,7 @@
 -- what the search found, or that there is nothing
 use Rattle.std.proofs.Common.{Ok, Err}
 use Rattle.std.proofs.lemmas.List.Sorted.{searched}
-use Rattle.code_model.proofs.Searches.{rise-le, found-in_order, found-between}
+use Rattle.code_model.proofs.Offsets.Searches.{rise-le, found-in_order, found-between}
 use Rattle.code_model.proofs.homes.index_of.Goals as goal
 
 pub returns-in-Ok : goal.returns-in-Ok

@@ -1,4 +1,4 @@
-use Rattle.code_model.proofs.Carried.{own_homes_made}
+use Rattle.code_model.proofs.Offsets.Carried.{own_homes_made}
 use Rattle.code_model.proofs.homes.own_homes.Goals as goal
 
 pub returns : goal.returns

@@ -6,11 +6,11 @@ use Rattle.code_model.specs.Layout.{home_of, homes_of, groups_bytes, first_far_f
 use Rattle.code_model.specs.declared.laying.Group.{Group}
 use Rattle.code_model.specs.Groups.{AreGroups, AreLaidIn}
 use Rattle.code_model.specs.Offsets.{AreRising}
-use Rattle.code_model.proofs.Carried.{laid_rise}
-use Rattle.code_model.proofs.Ready.{groups_fit, groups_within, groups_end, groups_read}
-use Rattle.code_model.proofs.Layouts.{starts-increasing}
-use Rattle.code_model.proofs.Walks.{length-laid_of}
-use Rattle.code_model.proofs.LaidReads.{all_laid}
+use Rattle.code_model.proofs.Offsets.Carried.{laid_rise}
+use Rattle.code_model.proofs.CodeLayouts.Ready.{groups_fit, groups_within, groups_end, groups_read}
+use Rattle.code_model.proofs.CodeLayouts.Layouts.{starts-increasing}
+use Rattle.code_model.proofs.CodeLayouts.Walks.{length-laid_of}
+use Rattle.code_model.proofs.CodeLayouts.LaidReads.{all_laid}
 use Rattle.code_model.proofs.laying.lay_out.Goals as goal
 
 pub end_of_groups-end-requires : goal.end_of_groups-end-requires

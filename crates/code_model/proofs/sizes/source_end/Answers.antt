@@ -1,5 +1,5 @@
 use Rattle.std.proofs.Common.{sym, ◌∙◌}
-use Rattle.code_model.proofs.Walks.{source_end_last}
+use Rattle.code_model.proofs.CodeLayouts.Walks.{source_end_last}
 use Rattle.code_model.proofs.sizes.source_end.Goals as goal
 
 pub returns-in-Some : goal.returns-in-Some

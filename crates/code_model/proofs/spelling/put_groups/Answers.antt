@@ -1,6 +1,6 @@
 use Rattle.std.proofs.Common.{◌++◌, ap, subst, sym, ◌∙◌, ◌≡◌, ◌≤◌, ◌+◌, drop, None}
 use Rattle.code_model.specs.Layout.{home_of, instr_bytes, groups_bytes, first_far_from, end_from}
-use Rattle.code_model.proofs.Steps.{put_group, near-next, short-next}
+use Rattle.code_model.proofs.CodeLayouts.Steps.{put_group, near-next, short-next}
 use Rattle.code_model.proofs.spelling.put_groups.Goals as goal
 
 pub loop-group-preserved : goal.loop-group-preserved

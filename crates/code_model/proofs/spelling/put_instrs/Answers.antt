@@ -1,6 +1,6 @@
 use Rattle.std.proofs.Common.{◌++◌}
 use Rattle.code_model.specs.Layout.{instr_bytes, code_bytes}
-use Rattle.code_model.proofs.Steps.{put_item}
+use Rattle.code_model.proofs.CodeLayouts.Steps.{put_item}
 use Rattle.code_model.proofs.spelling.put_instrs.Goals as goal
 
 pub loop-instr-preserved : goal.loop-instr-preserved

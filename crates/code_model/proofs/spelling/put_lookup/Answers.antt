@@ -5,7 +5,7 @@ use Rattle.std.specs.List.{flat_map}
 use Rattle.std.specs.Option.{option_copied}
 use Rattle.std.proofs.lemmas.Int.{to_z_pos}
 use Rattle.code_model.specs.Layout.{padding, target_bytes, pair_bytes, u4, s4, home_by}
-use Rattle.code_model.proofs.Steps.{put_four}
+use Rattle.code_model.proofs.CodeLayouts.Steps.{put_four}
 use Rattle.code_model.proofs.spelling.put_lookup.Goals as goal
 
 pub returns : goal.returns

@@ -1,7 +1,7 @@
 use Rattle.std.proofs.Common.{ap, ◌++◌, ◌∙◌, arith}
 use Rattle.std.specs.Prelude.{replicate}
 use Rattle.code_model.specs.Layout.{padding}
-use Rattle.code_model.proofs.Steps.{take-zeros}
+use Rattle.code_model.proofs.CodeLayouts.Steps.{take-zeros}
 use Rattle.code_model.proofs.spelling.put_padding.Goals as goal
 
 pub returns : goal.returns

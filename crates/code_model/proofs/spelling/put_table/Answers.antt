@@ -4,7 +4,7 @@ use Rattle.std.specs.List.{flat_map}
 use Rattle.std.specs.Option.{option_copied}
 use Rattle.std.proofs.lemmas.Int.{to_z-of_z}
 use Rattle.code_model.specs.Layout.{padding, target_bytes, s4, home_by}
-use Rattle.code_model.proofs.Steps.{put_five}
+use Rattle.code_model.proofs.CodeLayouts.Steps.{put_five}
 use Rattle.code_model.proofs.spelling.put_table.Goals as goal
 
 pub returns : goal.returns

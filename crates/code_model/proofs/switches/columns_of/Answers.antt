@@ -4,7 +4,7 @@ use Rattle.std.proofs.lemmas.Result.{err_from_is_err_and}
 use Rattle.byte_formats.proofs.Many.{goes_on, ends}
 use Rattle.code_model.specs.declared.error.CodeError.TheVariants.{NoMemory}
 use Rattle.code_model.specs.Reading.{pair_at, columns_at}
-use Rattle.code_model.proofs.Many.{columns_done, in_columns, one_row_more, in_columns-cons, in_columns-fails}
+use Rattle.code_model.proofs.Reading.Many.{columns_done, in_columns, one_row_more, in_columns-cons, in_columns-fails}
 use Rattle.code_model.proofs.switches.columns_of.Goals as goal
 
 pub returns-in_err-pair : goal.returns-in_err-pair

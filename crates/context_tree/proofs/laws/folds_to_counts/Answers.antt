@@ -1,4 +1,4 @@
-use Rattle.context_tree.proofs.Folded as folded
+use Rattle.context_tree.proofs.Events.Folded as folded
 use Rattle.context_tree.proofs.laws.folds_to_counts.Goals as goal
 
 pub returns : goal.returns

@@ -1,4 +1,4 @@
-use Rattle.context_tree.proofs.Headline as headline
+use Rattle.context_tree.proofs.Projection.Headline as headline
 use Rattle.context_tree.proofs.laws.session_sees.Goals as goal
 
 pub returns : goal.returns

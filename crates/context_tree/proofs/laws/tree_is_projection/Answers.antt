@@ -1,4 +1,4 @@
-use Rattle.context_tree.proofs.Headline as headline
+use Rattle.context_tree.proofs.Projection.Headline as headline
 use Rattle.context_tree.proofs.laws.tree_is_projection.Goals as goal
 
 pub returns : goal.returns

@@ -2,7 +2,7 @@ use Rattle.std.proofs.Common.{◌≡◌, Some, None, slice_get, sym, ◌∙◌, 
 use Rattle.std.proofs.lemmas.Option.{slice_get_within}
 use Rattle.context_tree.specs.declared.node.Node.{Node}
 use Rattle.context_tree.specs.NodeTables.{node_stepped}
-use Rattle.context_tree.proofs.Changes.{changed_at-found, changed_at-past, sum_by-found}
+use Rattle.context_tree.proofs.Nodes.Changes.{changed_at-found, changed_at-past, sum_by-found}
 use Rattle.context_tree.proofs.table.add_steps.Goals as goal
 
 pub returns-in_default : goal.returns-in_default

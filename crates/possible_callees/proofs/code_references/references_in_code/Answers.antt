@@ -1,6 +1,6 @@
 use Rattle.std.proofs.Common.{◌-◌, ◌++◌, map, sym, ap, ◌∙◌, arith}
 use Rattle.std.specs.Option.{option_to_list}
-use Rattle.code_model.proofs.Readings.{end_of-within}
+use Rattle.code_model.proofs.Reading.Readings.{end_of-within}
 use Rattle.possible_callees.specs.CodeReferences.{references_in_code, symbolic_references_from}
 use Rattle.possible_callees.proofs.References.ReferenceSteps.{one-more}
 use Rattle.possible_callees.proofs.code_references.references_in_code.Goals as goal

@@ -1,6 +1,6 @@
 -- the instruction ends in the code, which is short
 use Rattle.std.proofs.Common.{sym, ◌∙◌, arith}
-use Rattle.code_model.proofs.Readings.{end_of-within}
+use Rattle.code_model.proofs.Reading.Readings.{end_of-within}
 use Rattle.prepared_code.proofs.preparing.code_line.Goals as goal
 
 pub line_of-requires : goal.line_of-requires

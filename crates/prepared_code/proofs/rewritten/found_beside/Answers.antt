@@ -2,7 +2,7 @@
 use Rattle.std.proofs.Common.{Ok, Err, subst, nat_cmp, sym, ◌∙◌}
 use Rattle.std.specs.List.Sorted.{IsBinarySearchResult}
 use Rattle.std.proofs.lemmas.List.Sorted.{searched}
-use Rattle.code_model.proofs.Searches.{found-between, found-in_order, rise-le}
+use Rattle.code_model.proofs.Offsets.Searches.{found-between, found-in_order, rise-le}
 use Rattle.prepared_code.proofs.rewritten.found_beside.Goals as goal
 
 pub returns-in-Ok : goal.returns-in-Ok

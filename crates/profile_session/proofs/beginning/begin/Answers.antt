@@ -2,7 +2,7 @@ use Rattle.std.proofs.Common.{◌≡◌, refl, sym, ap, ap₂, subst, ◌∙◌}
 use Rattle.jvm_machine.specs.View.{View, machine_made}
 use Rattle.profile_session.specs.Beginning.{CanBeProfiled, IsFirst}
 use Rattle.profile_session.specs.Sessions.{Profiling, profiling_of}
-use Rattle.profile_session.proofs.FirstParts.{begun-stands}
+use Rattle.profile_session.proofs.Sessions.FirstParts.{begun-stands}
 use Rattle.profile_session.proofs.beginning.begin.Goals as goal
 
 pub reveal_first-requires-clause-whole : goal.reveal_first-requires-clause-whole

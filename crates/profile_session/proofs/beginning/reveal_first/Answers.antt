@@ -5,8 +5,8 @@ use Rattle.jvm_model.specs.Soundness.Sound.{IsFit}
 use Rattle.prepared_code.specs.Prepared.{HasShortCodes}
 use Rattle.call_revelation.specs.Reveals.{IsRevelation}
 use Rattle.jvm_model.specs.declared.program.Program.{Program}
-use Rattle.profile_session.proofs.FirstParts.{ahead-first, first-of, front-first, order-first}
-use Rattle.profile_session.proofs.Points.{linked}
+use Rattle.profile_session.proofs.Sessions.FirstParts.{ahead-first, first-of, front-first, order-first}
+use Rattle.profile_session.proofs.Points.Points.{linked}
 use Rattle.profile_session.proofs.beginning.reveal_first.Goals as goal
 
 pub new-requires-clause-numbered : goal.new-requires-clause-numbered

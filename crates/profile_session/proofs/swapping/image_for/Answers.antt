@@ -1,5 +1,5 @@
 use Rattle.std.proofs.Common.{sym}
-use Rattle.profile_session.proofs.Imaging.{imaged}
+use Rattle.profile_session.proofs.Swaps.Imaging.{imaged}
 use Rattle.profile_session.proofs.swapping.image_for.Goals as goal
 
 pub returns-in-Ok : goal.returns-in-Ok

@@ -3,7 +3,7 @@ use Rattle.inject_events.specs.Answers.{MarkedHaveCode}
 use Rattle.call_revelation.specs.Reveals.{now_of}
 use Rattle.profile_session.specs.Images.{class_in}
 use Rattle.profile_session.specs.Swapping.{IsImaged}
-use Rattle.profile_session.proofs.Imaging.{few-methods, made-by, marks-are, marks-coded, marks-count}
+use Rattle.profile_session.proofs.Swaps.Imaging.{few-methods, made-by, marks-are, marks-coded, marks-count}
 use Rattle.profile_session.proofs.swapping.make.Goals as goal
 
 pub marks_of-requires-clause-few : goal.marks_of-requires-clause-few

@@ -2,7 +2,7 @@ use Rattle.std.proofs.Common.{sym, subst, refl}
 use Rattle.jvm_model.specs.declared.program.Program.{Program}
 use Rattle.call_revelation.specs.Reveals.{IsRevelation, now_of}
 use Rattle.profile_session.specs.Images.{AreImageable}
-use Rattle.profile_session.proofs.SwappedClasses.{known-at, swapping-done, swapping-first, swapping-next}
+use Rattle.profile_session.proofs.Swaps.SwappedClasses.{known-at, swapping-done, swapping-first, swapping-next}
 use Rattle.profile_session.proofs.swapping.swap_all.Goals as goal
 
 pub loop-class-init : goal.loop-class-init

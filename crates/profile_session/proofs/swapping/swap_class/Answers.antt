@@ -6,7 +6,7 @@ use Rattle.jvm_machine.specs.Installs.{with_class}
 use Rattle.hotswap.specs.Redefining.{IsRefused, SpellsImage}
 use Rattle.profile_session.specs.Swapping.{IsMade}
 use Rattle.profile_session.specs.Images.{AreImageable}
-use Rattle.profile_session.proofs.Imaging.{redefined, taken-as}
+use Rattle.profile_session.proofs.Swaps.Imaging.{redefined, taken-as}
 use Rattle.profile_session.proofs.swapping.swap_class.Goals as goal
 
 pub make-requires-clause-revelation : goal.make-requires-clause-revelation

@@ -1,6 +1,6 @@
 use Rattle.std.proofs.Common.{Ok, Err, ◌∙◌, arith}
 use Rattle.std.proofs.lemmas.List.Sorted.{searched}
-use Rattle.code_model.proofs.Searches.{rise-le, rise-lt}
+use Rattle.code_model.proofs.Offsets.Searches.{rise-le, rise-lt}
 use Rattle.stackmap_shift.proofs.Starts.{start_for-at}
 use Rattle.stackmap_shift.proofs.debug.start_for.Goals as goal
 

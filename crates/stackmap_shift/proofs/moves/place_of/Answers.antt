@@ -3,7 +3,7 @@ use Rattle.std.proofs.Common.{Ok, Err, ap, subst, nat_cmp, ◌∙◌}
 use Rattle.std.specs.List.Sorted.{IsBinarySearchResult}
 use Rattle.std.specs.Prelude.{unwrap_or}
 use Rattle.std.proofs.lemmas.List.Sorted.{searched}
-use Rattle.code_model.proofs.Searches.{rise-le, home_of-at, home_of-none}
+use Rattle.code_model.proofs.Offsets.Searches.{rise-le, home_of-at, home_of-none}
 use Rattle.stackmap_shift.proofs.moves.place_of.Goals as goal
 
 pub returns-in-Ok : goal.returns-in-Ok

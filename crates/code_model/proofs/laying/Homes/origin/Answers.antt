@@ -1,5 +1,5 @@
 use Rattle.std.proofs.Common.{◌∙◌}
-use Rattle.code_model.proofs.Carried.{found-of, origin-only}
+use Rattle.code_model.proofs.Offsets.Carried.{found-of, origin-only}
 use Rattle.code_model.proofs.laying.Homes.origin.Goals as goal
 
 pub returns-clause-found : goal.returns-clause-found

@@ -4,7 +4,7 @@ use Rattle.std.specs.Prelude.{◌==◌}
 use Rattle.std.specs.List.{list_any, list_all}
 use Rattle.code_model.specs.declared.instr.Instr.{Instr}
 use Rattle.code_model.specs.Groups.{targets_of}
-use Rattle.code_model.proofs.Starting.{targeted}
+use Rattle.code_model.proofs.CodeLayouts.Starting.{targeted}
 use Rattle.code_tests.proofs.of_code_model.coding.code_encoded.Goals as goal
 
 pub encode-requires : goal.encode-requires

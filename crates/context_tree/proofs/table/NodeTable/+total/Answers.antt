@@ -1,7 +1,7 @@
 use Rattle.std.proofs.Common.{◌≡◌, ◌+◌, Some, None, slice_get, ap, ◌∙◌, arith}
 use Rattle.context_tree.specs.NodeTables.{entries_of, numbers_in}
-use Rattle.context_tree.proofs.Totals.{is_child_number}
-use Rattle.context_tree.proofs.TotalLoop.{sum_more, sum_fits, place_within, sum_whole}
+use Rattle.context_tree.proofs.Sums.Totals.{is_child_number}
+use Rattle.context_tree.proofs.Sums.TotalLoop.{sum_more, sum_fits, place_within, sum_whole}
 use Rattle.context_tree.proofs.table.NodeTable.+total.Goals as goal
 
 pub total-sum-requires : goal.total-sum-requires

@@ -1,7 +1,7 @@
 use Rattle.std.proofs.Common.{◌≡◌, ℕ, ◌+◌, ◌-◌, ◌<◌, ◌≤◌, map, length, sym, ap, subst, ◌∙◌, arith}
 use Rattle.std.proofs.lemmas.Option.{IfSome_then}
 use Rattle.context_tree.specs.declared.node.Node.{Node}
-use Rattle.context_tree.proofs.PassedTotals.{ArePassed, passed_none, passed_gathered, gathers_within, gathers_fit, parent-read, passed_all}
+use Rattle.context_tree.proofs.Sums.PassedTotals.{ArePassed, passed_none, passed_gathered, gathers_within, gathers_fit, parent-read, passed_all}
 use Rattle.context_tree.proofs.table.NodeTable.totals.Goals as goal
 
 pub loop-number-init : goal.loop-number-init

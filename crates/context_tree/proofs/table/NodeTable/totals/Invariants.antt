@@ -1,4 +1,4 @@
-use Rattle.context_tree.proofs.PassedTotals.{ArePassed}
+use Rattle.context_tree.proofs.Sums.PassedTotals.{ArePassed}
 use Rattle.context_tree.proofs.table.NodeTable.totals.Given as goal
 
 abbrev pub invariant-loop-number : goal.invariant-loop-number

@@ -1,6 +1,6 @@
 use Rattle.std.proofs.Common.{◌<◌, length, slice_get, IfSome, sym, ap, subst, ◌∙◌}
 use Rattle.context_tree.specs.Profiles.{Profile, children_of, path_of_node}
-use Rattle.context_tree.proofs.TreeCalls.{child_is, child_within, child_behind}
+use Rattle.context_tree.proofs.Nodes.TreeCalls.{child_is, child_within, child_behind}
 use Rattle.context_tree.proofs.tree.Tree.child.Goals as goal
 
 pub returns-clause-child : goal.returns-clause-child

@@ -1,9 +1,9 @@
 use Rattle.std.proofs.Common.{◌≤◌, sym, ap, subst, ◌∙◌, arith}
 use Rattle.context_tree.specs.Profiles.{Profile, steps_credited, calls_of, event_taken}
 use Rattle.context_tree.specs.TreeViews.{profile_in, IsTree}
-use Rattle.context_tree.proofs.TreeSteps.{tree-given, profile-given}
-use Rattle.context_tree.proofs.TreeCalls.{calls_of-given}
-use Rattle.context_tree.proofs.Credits.{credits-add, credit-unseen}
+use Rattle.context_tree.proofs.Nodes.TreeSteps.{tree-given, profile-given}
+use Rattle.context_tree.proofs.Nodes.TreeCalls.{calls_of-given}
+use Rattle.context_tree.proofs.Events.Credits.{credits-add, credit-unseen}
 use Rattle.context_tree.proofs.tree.Tree.credit.Goals as goal
 
 pub invariant_of-self : goal.invariant_of-self

@@ -1,6 +1,6 @@
 use Rattle.std.proofs.Common.{length, sym, ap, ◌∙◌}
 use Rattle.context_tree.specs.Profiles.{Profile, nodes_of}
-use Rattle.context_tree.proofs.TreeCalls.{nodes_is, length-contexts}
+use Rattle.context_tree.proofs.Nodes.TreeCalls.{nodes_is, length-contexts}
 use Rattle.context_tree.proofs.tree.Tree.nodes.Goals as goal
 
 pub returns-clause-nodes : goal.returns-clause-nodes

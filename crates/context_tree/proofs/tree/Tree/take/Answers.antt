@@ -3,8 +3,8 @@ use Rattle.context_tree.specs.Profiles.{Profile, event_taken, calls_of}
 use Rattle.context_tree.specs.declared.table.NodeTable.{NodeTable}
 use Rattle.context_tree.specs.NodeTables.{own_in, steps_given}
 use Rattle.context_tree.specs.TreeViews.{profile_in, IsTree}
-use Rattle.context_tree.proofs.TreeSteps.{follows_told, Taken, taken_is}
-use Rattle.context_tree.proofs.TreeCalls.{calls_is, calls_of-taken_in}
+use Rattle.context_tree.proofs.Nodes.TreeSteps.{follows_told, Taken, taken_is}
+use Rattle.context_tree.proofs.Nodes.TreeCalls.{calls_is, calls_of-taken_in}
 use Rattle.context_tree.proofs.tree.Tree.take.Goals as goal
 
 pub tell-requires-clause-countable : goal.tell-requires-clause-countable

@@ -1,7 +1,7 @@
 use Rattle.std.proofs.Common.{length, Some, sym, ap, ◌∙◌, arith}
 use Rattle.context_tree.specs.Profiles.{Profile, path_of_node, total_of}
 use Rattle.context_tree.specs.TreeViews.{contexts_in}
-use Rattle.context_tree.proofs.TreeCalls.{length-contexts, path_of_node-contexts}
+use Rattle.context_tree.proofs.Nodes.TreeCalls.{length-contexts, path_of_node-contexts}
 use Rattle.context_tree.proofs.tree.Tree.total.Goals as goal
 
 pub total-requires-clause-within : goal.total-requires-clause-within

@@ -1,8 +1,8 @@
 use Rattle.context_tree.specs.Seen.{seen_act}
 use Rattle.profile_session.specs.Keeping.{methods_revealed}
 use Rattle.profile_session.specs.Parts.{kept_in}
-use Rattle.profile_session.proofs.Acts.{acted-by, acted-reveals}
-use Rattle.profile_session.proofs.Points.{fit-of, point-of, showable-of}
+use Rattle.profile_session.proofs.Points.Acts.{acted-by, acted-reveals}
+use Rattle.profile_session.proofs.Points.Points.{fit-of, point-of, showable-of}
 use Rattle.profile_session.proofs.parts.Parts.act.Goals as goal
 
 pub show-requires-clause-fit : goal.show-requires-clause-fit

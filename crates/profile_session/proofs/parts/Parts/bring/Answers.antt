@@ -1,6 +1,6 @@
 use Rattle.std.proofs.Common.{◌≤◌, sym, subst, ap, ◌∙◌}
 use Rattle.context_tree.specs.Profiles.{steps_credited}
-use Rattle.profile_session.proofs.Acts.{brought, credit-later}
+use Rattle.profile_session.proofs.Points.Acts.{brought, credit-later}
 use Rattle.profile_session.proofs.parts.Parts.bring.Goals as goal
 
 pub credit-requires : goal.credit-requires

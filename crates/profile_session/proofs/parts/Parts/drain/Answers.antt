@@ -1,5 +1,5 @@
 use Rattle.std.proofs.Common.{sym}
-use Rattle.profile_session.proofs.Telling.{drained, draining-first, taken-countable, taken-later, taken-next}
+use Rattle.profile_session.proofs.Turns.Telling.{drained, draining-first, taken-countable, taken-later, taken-next}
 use Rattle.profile_session.proofs.parts.Parts.drain.Goals as goal
 
 pub loop-event-init : goal.loop-event-init

@@ -1,5 +1,5 @@
 use Rattle.std.proofs.Common.{length}
-use Rattle.profile_session.proofs.Telling.{IsDraining}
+use Rattle.profile_session.proofs.Turns.Telling.{IsDraining}
 use Rattle.profile_session.proofs.parts.Parts.drain.Given as goal
 
 abbrev pub invariant-loop-event : goal.invariant-loop-event

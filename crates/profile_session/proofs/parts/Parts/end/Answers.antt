@@ -1,5 +1,5 @@
 use Rattle.std.proofs.Common.{sym, ◌∙◌}
-use Rattle.profile_session.proofs.Hearing.{hears-quiet, hears-still}
+use Rattle.profile_session.proofs.Turns.Hearing.{hears-quiet, hears-still}
 use Rattle.profile_session.proofs.parts.Parts.end.Goals as goal
 
 pub returns-then-not-is_idle : goal.returns-then-not-is_idle

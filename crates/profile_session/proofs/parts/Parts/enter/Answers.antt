@@ -4,8 +4,8 @@ use Rattle.jvm_model.specs.Soundness.Sound.{HasClass}
 use Rattle.class_linker.specs.Linkers.{LinkerView}
 use Rattle.call_revelation.specs.Reveals.{IsRevelation}
 use Rattle.profile_session.specs.Parts.{loaded_in, revealed_in}
-use Rattle.profile_session.proofs.Points.{ahead-of, class-loaded, fit-of, front-same, linked, method-within, point-of, reveals-linked, showable-of}
-use Rattle.profile_session.proofs.Unchanged.{point-itself}
+use Rattle.profile_session.proofs.Points.Points.{ahead-of, class-loaded, fit-of, front-same, linked, method-within, point-of, reveals-linked, showable-of}
+use Rattle.profile_session.proofs.Points.Unchanged.{point-itself}
 use Rattle.profile_session.proofs.parts.Parts.enter.Goals as goal
 
 pub entered-requires-clause-revelation : goal.entered-requires-clause-revelation

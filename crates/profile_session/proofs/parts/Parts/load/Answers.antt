@@ -5,7 +5,7 @@ use Rattle.class_linker.specs.Linkers.{LinkerView}
 use Rattle.possible_callees.specs.Tables.{IsPrefix}
 use Rattle.call_revelation.specs.Reveals.{IsRevelation}
 use Rattle.profile_session.specs.Parts.{loaded_in, revealed_in}
-use Rattle.profile_session.proofs.Points.{ahead-of, fit-of, linked, point-of, reveals-loads, showable-of}
+use Rattle.profile_session.proofs.Points.Points.{ahead-of, fit-of, linked, point-of, reveals-loads, showable-of}
 use Rattle.profile_session.proofs.parts.Parts.load.Goals as goal
 
 pub loaded-requires-clause-revelation : goal.loaded-requires-clause-revelation

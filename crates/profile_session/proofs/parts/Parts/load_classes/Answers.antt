@@ -1,4 +1,4 @@
-use Rattle.profile_session.proofs.Hearing.{can-load, hears-load}
+use Rattle.profile_session.proofs.Turns.Hearing.{can-load, hears-load}
 use Rattle.profile_session.proofs.parts.Parts.load_classes.Goals as goal
 
 pub load-requires-clause-loadable : goal.load-requires-clause-loadable

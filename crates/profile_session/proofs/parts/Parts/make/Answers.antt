@@ -1,6 +1,6 @@
 use Rattle.std.proofs.Common.{sym, ap, subst, ◌+◌, ◌-◌}
 use Rattle.profile_session.specs.Advances.{Sliced}
-use Rattle.profile_session.proofs.Slices.{Making, making-below, making-done, making-ends, making-first, making-next}
+use Rattle.profile_session.proofs.Turns.Slices.{Making, making-below, making-done, making-ends, making-first, making-next}
 use Rattle.profile_session.proofs.parts.Parts.make.Goals as goal
 
 pub loop-next-init : goal.loop-next-init

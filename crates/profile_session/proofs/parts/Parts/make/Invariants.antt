@@ -1,5 +1,5 @@
 use Rattle.std.proofs.Common.{◌-◌, ◌+◌}
-use Rattle.profile_session.proofs.Slices.{Making}
+use Rattle.profile_session.proofs.Turns.Slices.{Making}
 use Rattle.profile_session.proofs.parts.Parts.make.Given as goal
 
 abbrev pub invariant-loop-next : goal.invariant-loop-next

@@ -2,7 +2,7 @@ use Rattle.std.proofs.Common.{arith, sym, subst}
 use Rattle.std.specs.Result.{MatchResult}
 use Rattle.event_buffer.specs.Buffers.{Held}
 use Rattle.profile_session.specs.Parts.{AreFit, IsSameRun, Pushes}
-use Rattle.profile_session.proofs.Telling.{pushed-first}
+use Rattle.profile_session.proofs.Turns.Telling.{pushed-first}
 use Rattle.profile_session.proofs.parts.Parts.push.Goals as goal
 
 pub push-requires : goal.push-requires

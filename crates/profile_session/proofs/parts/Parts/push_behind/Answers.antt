@@ -1,6 +1,6 @@
 use Rattle.std.proofs.Common.{arith, ap}
 use Rattle.profile_session.specs.declared.parts.Parts.{Parts}
-use Rattle.profile_session.proofs.Telling.{pushed-behind}
+use Rattle.profile_session.proofs.Turns.Telling.{pushed-behind}
 use Rattle.profile_session.proofs.parts.Parts.push_behind.Goals as goal
 
 pub push-requires : goal.push-requires

@@ -1,7 +1,7 @@
 use Rattle.std.proofs.Common.{refl}
 use Rattle.jvm_model.specs.Profiling.Revealed.{with_none_entered}
 use Rattle.profile_session.specs.Parts.{revealed_in}
-use Rattle.profile_session.proofs.Points.{fit-of, point-of, reveals-same, showable-of}
+use Rattle.profile_session.proofs.Points.Points.{fit-of, point-of, reveals-same, showable-of}
 use Rattle.profile_session.proofs.parts.Parts.quiet.Goals as goal
 
 pub show-requires-clause-fit : goal.show-requires-clause-fit

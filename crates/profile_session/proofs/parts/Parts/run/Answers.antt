@@ -1,6 +1,6 @@
 use Rattle.std.proofs.Common.{sym, ◌∙◌}
-use Rattle.profile_session.proofs.Slicing.{ready-hearable, ready-ran}
-use Rattle.profile_session.proofs.Worlds.{run-world}
+use Rattle.profile_session.proofs.Turns.Slicing.{ready-hearable, ready-ran}
+use Rattle.profile_session.proofs.Turns.Worlds.{run-world}
 use Rattle.profile_session.proofs.parts.Parts.run.Goals as goal
 
 pub returns-then-not-is_telling : goal.returns-then-not-is_telling

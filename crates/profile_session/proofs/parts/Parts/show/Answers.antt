@@ -1,8 +1,8 @@
 use Rattle.std.proofs.Common.{sym, subst, ◌∙◌}
 use Rattle.profile_session.specs.Parts.{revealed_in}
 use Rattle.profile_session.specs.Swapping.{AreKnown}
-use Rattle.profile_session.proofs.Points.{shown-by}
-use Rattle.profile_session.proofs.SwappedClasses.{changed-known, changed-shown}
+use Rattle.profile_session.proofs.Points.Points.{shown-by}
+use Rattle.profile_session.proofs.Swaps.SwappedClasses.{changed-known, changed-shown}
 use Rattle.profile_session.proofs.parts.Parts.show.Goals as goal
 
 pub swap_all-requires-clause-known : goal.swap_all-requires-clause-known

@@ -1,6 +1,6 @@
 use Rattle.std.proofs.Common.{sym, subst, ◌∙◌, arith}
 use Rattle.profile_session.specs.Advances.{TurnedTo}
-use Rattle.profile_session.proofs.Slicing.{along-done, err-matches, onward-busily, slicing-below, slicing-done, slicing-down, slicing-first, slicing-next, slicing-on, slicing-ready, slicing-some, slicing-world}
+use Rattle.profile_session.proofs.Turns.Slicing.{along-done, err-matches, onward-busily, slicing-below, slicing-done, slicing-down, slicing-first, slicing-next, slicing-on, slicing-ready, slicing-some, slicing-world}
 use Rattle.profile_session.proofs.parts.Parts.slice.Goals as goal
 
 pub loop-turn-init : goal.loop-turn-init

@@ -1,5 +1,5 @@
 use Rattle.jvm_machine.specs.View.{is_resting}
-use Rattle.profile_session.proofs.Slicing.{Slicing, left_by}
+use Rattle.profile_session.proofs.Turns.Slicing.{Slicing, left_by}
 use Rattle.profile_session.proofs.parts.Parts.slice.Given as goal
 
 abbrev pub invariant-loop-turn : goal.invariant-loop-turn

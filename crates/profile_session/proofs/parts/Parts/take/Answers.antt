@@ -1,6 +1,6 @@
 use Rattle.std.proofs.Common.{refl}
 use Rattle.profile_session.specs.Parts.{profile_in}
-use Rattle.profile_session.proofs.Telling.{takes-by}
+use Rattle.profile_session.proofs.Turns.Telling.{takes-by}
 use Rattle.profile_session.proofs.parts.Parts.take.Goals as goal
 
 pub returns-clause-takes : goal.returns-clause-takes

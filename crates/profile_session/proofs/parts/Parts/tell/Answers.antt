@@ -1,5 +1,5 @@
 use Rattle.std.proofs.Common.{sym, ◌∙◌}
-use Rattle.profile_session.proofs.Hearing.{hears-open, hears-shut}
+use Rattle.profile_session.proofs.Turns.Hearing.{hears-open, hears-shut}
 use Rattle.profile_session.proofs.parts.Parts.tell.Goals as goal
 
 pub returns-then-not-branch : goal.returns-then-not-branch

@@ -1,6 +1,6 @@
 use Rattle.std.proofs.Common.{sym, ◌∙◌}
-use Rattle.profile_session.proofs.Slices.{turn-after, turn-hearable}
-use Rattle.profile_session.proofs.Worlds.{turn-world}
+use Rattle.profile_session.proofs.Turns.Slices.{turn-after, turn-hearable}
+use Rattle.profile_session.proofs.Turns.Worlds.{turn-world}
 use Rattle.profile_session.proofs.parts.Parts.turn.Goals as goal
 
 pub returns-then-not-is_telling : goal.returns-then-not-is_telling

@@ -1,5 +1,5 @@
 use Rattle.std.proofs.Common.{sym, ◌∙◌}
-use Rattle.profile_session.proofs.Slicing.{turning-busily, turning-first}
+use Rattle.profile_session.proofs.Turns.Slicing.{turning-busily, turning-first}
 use Rattle.profile_session.proofs.parts.Parts.turn_if_idle.Goals as goal
 
 pub is_idle-requires : goal.is_idle-requires

@@ -1,6 +1,6 @@
 use Rattle.std.proofs.Common.{sym, ◌∙◌, arith}
-use Rattle.profile_session.proofs.Slices.{busy-clock}
-use Rattle.profile_session.proofs.Slicing.{turning-busily, turning-done, turning-fewer, turning-first, turning-next}
+use Rattle.profile_session.proofs.Turns.Slices.{busy-clock}
+use Rattle.profile_session.proofs.Turns.Slicing.{turning-busily, turning-done, turning-fewer, turning-first, turning-next}
 use Rattle.profile_session.proofs.parts.Parts.turn_while_idle.Goals as goal
 
 pub loop-self-init : goal.loop-self-init

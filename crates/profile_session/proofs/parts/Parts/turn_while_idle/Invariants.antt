@@ -1,6 +1,6 @@
 use Rattle.std.proofs.Common.{length}
 use Rattle.jvm_machine.specs.View.{events_left}
-use Rattle.profile_session.proofs.Slicing.{Turning}
+use Rattle.profile_session.proofs.Turns.Slicing.{Turning}
 use Rattle.profile_session.proofs.parts.Parts.turn_while_idle.Given as goal
 
 abbrev pub invariant-loop-self : goal.invariant-loop-self

@@ -1,7 +1,7 @@
 use Rattle.std.proofs.Common.{◌≡◌, ◌≤◌, refl, sym, ap, subst, ◌∙◌, false}
 use Rattle.jvm_model.specs.declared.event.Act.{Act}
 use Rattle.profile_session.specs.Sessions.{Profiling, profiling_in}
-use Rattle.profile_session.proofs.Sessions.{accepts, act-world, acted-stands, breaks-off, refused, ungathered}
+use Rattle.profile_session.proofs.Sessions.Sessions.{accepts, act-world, acted-stands, breaks-off, refused, ungathered}
 use Rattle.profile_session.proofs.session.Session.act.Goals as goal
 
 pub returns-then-is_over-clause-err : goal.returns-then-is_over-clause-err

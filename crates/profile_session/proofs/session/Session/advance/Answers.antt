@@ -1,7 +1,7 @@
 use Rattle.std.proofs.Common.{◌≡◌, refl, sym, ap, subst, ◌∙◌, true, false}
 use Rattle.profile_session.specs.Answers.{Advances}
 use Rattle.profile_session.specs.Sessions.{Profiling, is_over, profiling_in}
-use Rattle.profile_session.proofs.Sessions.{breaks-off, made-by, made-stands, make-world, over-in, ungathered}
+use Rattle.profile_session.proofs.Sessions.Sessions.{breaks-off, made-by, made-stands, make-world, over-in, ungathered}
 use Rattle.profile_session.proofs.session.Session.advance.Goals as goal
 
 pub returns-then-is_over-clause-advances : goal.returns-then-is_over-clause-advances

@@ -1,7 +1,7 @@
 use Rattle.std.proofs.Common.{ap, ◌∙◌}
 use Rattle.jvm_model.specs.declared.state.State.{State}
 use Rattle.profile_session.specs.Sessions.{Profiling, ending_in}
-use Rattle.profile_session.proofs.Sessions.{run-in}
+use Rattle.profile_session.proofs.Sessions.Sessions.{run-in}
 use Rattle.profile_session.proofs.session.Session.ending.Goals as goal
 
 pub returns : goal.returns

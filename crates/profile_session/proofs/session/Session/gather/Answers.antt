@@ -1,7 +1,7 @@
 use Rattle.std.proofs.Common.{subst, true, false}
 use Rattle.profile_session.specs.Answers.{Gathers}
 use Rattle.profile_session.specs.Sessions.{profiling_in}
-use Rattle.profile_session.proofs.Sessions.{gathered-holds, gathers}
+use Rattle.profile_session.proofs.Sessions.Sessions.{gathered-holds, gathers}
 use Rattle.profile_session.proofs.session.Session.gather.Goals as goal
 
 pub bring-requires : goal.bring-requires

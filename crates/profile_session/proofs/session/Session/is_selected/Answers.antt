@@ -1,6 +1,6 @@
 use Rattle.std.proofs.Common.{ap, ◌∙◌}
 use Rattle.profile_session.specs.Sessions.{Profiling, is_selected_in}
-use Rattle.profile_session.proofs.Sessions.{selected-is}
+use Rattle.profile_session.proofs.Sessions.Sessions.{selected-is}
 use Rattle.profile_session.proofs.session.Session.is_selected.Goals as goal
 
 pub returns : goal.returns

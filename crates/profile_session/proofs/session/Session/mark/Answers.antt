@@ -1,7 +1,7 @@
 use Rattle.std.proofs.Common.{ap, ◌∙◌}
 use Rattle.jvm_model.specs.Profiling.Targets.{operations_of}
 use Rattle.profile_session.specs.Sessions.{Profiling, mark_in_session, standing_of}
-use Rattle.profile_session.proofs.Sessions.{mark-is, quiet-mark}
+use Rattle.profile_session.proofs.Sessions.Sessions.{mark-is, quiet-mark}
 use Rattle.profile_session.proofs.session.Session.mark.Goals as goal
 
 pub returns-clause-last : goal.returns-clause-last

@@ -1,4 +1,4 @@
-use Rattle.profile_session.proofs.Sessions.{ungathered}
+use Rattle.profile_session.proofs.Sessions.Sessions.{ungathered}
 use Rattle.profile_session.proofs.session.Session.new.Goals as goal
 
 pub begin-requires : goal.begin-requires

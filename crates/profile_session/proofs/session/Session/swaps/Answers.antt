@@ -1,6 +1,6 @@
 use Rattle.std.proofs.Common.{sym, ap, subst, ◌∙◌}
 use Rattle.profile_session.specs.Sessions.{AreSwapsOf, Profiling, entries_of, swaps_of}
-use Rattle.profile_session.proofs.Sessions.{swaps-entries, swaps-of}
+use Rattle.profile_session.proofs.Sessions.Sessions.{swaps-entries, swaps-of}
 use Rattle.profile_session.proofs.session.Session.swaps.Goals as goal
 
 pub returns-clause-list : goal.returns-clause-list

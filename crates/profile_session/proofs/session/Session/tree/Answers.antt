@@ -1,6 +1,6 @@
 use Rattle.std.proofs.Common.{ap, subst, ◌∙◌, true}
 use Rattle.profile_session.specs.Sessions.{IsTreeOf, Profiling}
-use Rattle.profile_session.proofs.Sessions.{lends-none, shown-before}
+use Rattle.profile_session.proofs.Sessions.Sessions.{lends-none, shown-before}
 use Rattle.profile_session.proofs.session.Session.tree.Goals as goal
 
 pub shown-requires-clause-whole : goal.shown-requires-clause-whole

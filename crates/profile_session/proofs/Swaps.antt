@@ -1,0 +1,5 @@
+pub mod SwapLists
+pub mod MethodPlaces
+pub mod SwappedClasses
+pub mod Imaging
+pub mod SwapImages

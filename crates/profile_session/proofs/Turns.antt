@@ -1,0 +1,10 @@
+pub mod Steps
+pub mod Passing
+pub mod Worlds
+pub mod Turning
+pub mod Hearing
+pub mod Telling
+pub mod Advancing
+pub mod Slices
+pub mod Busy
+pub mod Slicing
