@@ -1,3 +1,4 @@
+pub mod CalleePlaces
 pub mod Callees
 pub mod IdleRules
 pub mod Growing

@@ -33,7 +33,8 @@ use Rattle.jvm_model.proofs.Soundness.SoundObjects.{KeepsShared}
 use Rattle.jvm_model.proofs.Soundness.SoundRuns.{loads-again, with-loaded-is}
 use Rattle.jvm_model.proofs.Soundness.SoundListingRuns.{original-sound, at-goes, sound-loaded, sound-start, sound-step}
 use Rattle.jvm_model.proofs.Soundness.SoundListingSteps.{GoesTo, applied-goes, entry-grows, moves-go}
-use Rattle.jvm_model.proofs.Revealing.Callees.{does-due, initializer-place}
+use Rattle.jvm_model.proofs.Revealing.CalleePlaces.{initializer-place}
+use Rattle.jvm_model.proofs.Revealing.Callees.{does-due}
 use Rattle.jvm_model.proofs.Loading.LoadedMoves.{made-loaded, settled-loaded}
 use Rattle.jvm_model.proofs.Revealing.Growing.{targets-grow}
 use Rattle.jvm_model.proofs.Revealing.CalledSteps.{Has, has-targets, all-at, begins-more, Targeted, Placed, placed-append, loads-append, DueOn, AreDue, CallsOn, then-calls, applies-calls, moves-call}

@@ -18,7 +18,7 @@ use Rattle.jvm_model.specs.Basis.SharedState.{class_of, phase_of}
 use Rattle.jvm_model.specs.Soundness.Sound.{IsLoaded}
 use Rattle.jvm_model.specs.Soundness.SoundListings.{IsSoundEntry, RunsOriginal}
 use Rattle.jvm_model.specs.Basis.Values.{as_value, with_value}
-use Rattle.jvm_model.proofs.Revealing.Callees.{due-above, initializer-place}
+use Rattle.jvm_model.proofs.Revealing.CalleePlaces.{due-above, initializer-place}
 use Rattle.jvm_model.proofs.Events.Methods.{Tells, applies-tells, moves-tell, then-tells}
 use Rattle.jvm_model.specs.Soundness.Calls.{IsCalled, loads_of}
 use Rattle.jvm_model.specs.Soundness.Climbing.{Climbs, IsDue, Begins}
