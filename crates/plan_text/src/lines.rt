@@ -6,7 +6,7 @@ ghost use Rattle.plan_text.specs.declared.plan.PlanError.{PlanError as TheError}
 ghost use Rattle.std.specs.Option.{option_map};
 ghost use Rattle.std.specs.List.{slice_split, list_any};
 ghost use Rattle.plan_text.specs.Lines.{UpToMemory, IsPlanRead, IsRead, IsLine, IsSaid, IsWorded};
-ghost use Rattle.plan_text.specs.Lines.{IsTimed, IsOrdered, IsActed, silent_plan, lines_in, is_feed};
+ghost use Rattle.plan_text.specs.Lines.{IsTimed, IsActed, silent_plan, lines_in, is_feed};
 ghost use Rattle.plan_text.specs.Lines.{is_silent as is_silent_line, halves as halves_of};
 ghost use Rattle.plan_text.specs.Lines.{word_of as word_said, order_of as order_said};
 ghost use Rattle.plan_text.specs.Lines.{without_return as less_return, line_before as line_at};

@@ -1,8 +1,8 @@
 //! The instructions of original code that can begin methods, with the names that they give.
 
-ghost use Rattle.std.specs.Prelude.{◌≡◌, ◌<◌, ◌^◌, ◌++◌, length, map, IfOk, OnOk};
+ghost use Rattle.std.specs.Prelude.{◌≡◌, ◌<◌, ◌^◌, length, IfOk};
 ghost use Rattle.std.specs.List.{AllByRecursion};
-ghost use Rattle.std.specs.Option.{option_and_then, option_map, option_to_list};
+ghost use Rattle.std.specs.Option.{option_and_then};
 ghost use Rattle.code_model.specs.Instructions.{end_of};
 ghost use Rattle.jvm_model.specs.Codes.Lines.{operation_of};
 ghost use Rattle.prepared_code.specs.Prepared.{HasShortCode, HasShortCodes};

@@ -1,6 +1,6 @@
 //! The targets of a method.
 
-ghost use Rattle.std.specs.Prelude.{◌≡◌, ◌<◌, ◌+◌, ◌^◌, ℕ, [], filter, flat_map, length, map, true, IfOk, OnOk};
+ghost use Rattle.std.specs.Prelude.{◌≡◌, ◌<◌, ◌+◌, ◌^◌, ℕ, [], filter, flat_map, true, IfOk, OnOk};
 ghost use Rattle.std.specs.List.{AllByRecursion, range_with_len};
 ghost use Rattle.jvm_model.specs.Basis.KindNumbers.{user_count};
 ghost use Rattle.jvm_model.specs.Classes.Load.{is_among};

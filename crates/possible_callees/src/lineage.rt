@@ -1,6 +1,6 @@
 //! The loaded classes, and which of them are at or below a class.
 
-ghost use Rattle.std.specs.Prelude.{◌≡◌, [], if◌then◌else◌, is_ok, replicate, true, IfOk, OnOk, ℕ};
+ghost use Rattle.std.specs.Prelude.{◌≡◌, [], if◌then◌else◌, is_ok, replicate, true, IfOk, OnOk};
 ghost use Rattle.jvm_model.specs.declared.program.Program.{Program};
 ghost use Rattle.jvm_model.specs.Classes.Load.{is_among};
 ghost use Rattle.class_index.specs.Orders.{with_class};

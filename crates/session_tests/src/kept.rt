@@ -1,7 +1,5 @@
 //! Sessions on a class, which the top call has begun.
 
-ghost use Rattle.std.specs.Prelude.{◌≡◌, ◌≤◌, false, IfOk};
-
 use jf_bytes::{MemFiles, MemSink, MemSource, Seq};
 use jfluid_cli::{Devices, Kept, jfluid};
 use profile_session::{Run, Session};

@@ -1,6 +1,6 @@
 //! Debug tables: LineNumberTable, LocalVariableTable and LocalVariableTypeTable (JVM Specification 4.7.8, 4.7.9, 4.7.10).
 
-ghost use Rattle.std.specs.Prelude.{◌≡◌, ◌<◌, ◌≤◌, ◌+◌, ◌++◌, ℕ, is_ok, length, map, All, OnOk, IfOk};
+ghost use Rattle.std.specs.Prelude.{◌≡◌, ◌<◌, ◌≤◌, ◌+◌, ◌++◌, ℕ, is_ok, length, map, OnOk, IfOk};
 ghost use Rattle.std.specs.List.{flat_map};
 ghost use Rattle.std.specs.List.Sorted.{IsStrictlyIncreasing};
 ghost use Rattle.stackmap_shift.specs.Tables.{Gives, nothing_left};

@@ -1,6 +1,6 @@
 //! Reads the frames of a StackMapTable (JVM Specification 4.7.4).
 
-ghost use Rattle.std.specs.Prelude.{◌≡◌, ◌≤◌, None, IfOk};
+ghost use Rattle.std.specs.Prelude.{◌≤◌, None, IfOk};
 ghost use Rattle.stackmap_shift.specs.Tables.{Gives, with_rest};
 ghost use Rattle.stackmap_shift.specs.Frames.{one_item_at, append_at, full_at, kind_at, frame_at, frames_at, table_at, frames_of};
 ghost use Rattle.stackmap_shift.specs.Conditions.{FitsForm, FitsKind, FitsFrame, IsBehind, AreWritable};

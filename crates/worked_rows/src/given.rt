@@ -1,6 +1,6 @@
 //! What a row gives to the top call.
 
-ghost use Rattle.std.specs.Prelude.{◌≡◌, ◌<◌, ◌∷◌, Some, map, codes, IfOk, IfSome};
+ghost use Rattle.std.specs.Prelude.{◌≡◌, ◌<◌, ◌∷◌, Some, codes, IfOk, IfSome};
 ghost use Rattle.std.specs.String.{string_bytes};
 ghost use Rattle.worked_rows.specs.Lines.{lines_in};
 ghost use Rattle.worked_rows.specs.Rows.{HasWords, part_at};

@@ -1,7 +1,6 @@
 //! Texts of bytes by their lines.
 
 ghost use Rattle.std.specs.Prelude.{◌≡◌, map, IfOk};
-ghost use Rattle.std.specs.List.{slice_split};
 ghost use Rattle.worked_rows.specs.Lines.{parts_of, without_last_feed, lines_in};
 
 use std::alloc::{AllocError, Global};

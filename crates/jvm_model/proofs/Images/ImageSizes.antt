@@ -1,6 +1,6 @@
 -- How many bytes an image has: at most seven times as many as its class, and the tail. A return gets six bytes in front of it, which is the
 -- most that one byte comes to.
-use Rattle.std.proofs.Common.{◌≡◌, ℕ, ◌+◌, ◌*◌, ◌<◌, ◌≤◌, Bool, true, false, cond, List, [], ◌∷◌, ◌++◌, length, Option, Some, None, refl, sym, ap, subst, ◌∙◌, arith}
+use Rattle.std.proofs.Common.{◌≡◌, ℕ, ◌+◌, ◌*◌, ◌≤◌, Bool, true, false, cond, List, [], ◌∷◌, ◌++◌, length, Option, Some, refl, sym, ap, arith}
 use Rattle.std.specs.Prelude.{map, MatchBool, Result, Ok, Err}
 use Rattle.std.specs.List.{flat_map}
 use Rattle.std.proofs.lemmas.Grind.{flat_map-append}
@@ -15,7 +15,7 @@ use Rattle.const_pool.specs.declared.class.Attribute.TheVariants.{ConstantValue,
 use Rattle.const_pool.specs.declared.class.Raw.{Raw}
 use Rattle.const_pool.specs.declared.pool.Const.{Const}
 use Rattle.const_pool.specs.ClassFile.{items_counted, raw_bytes, handler_bytes, code_bytes, attribute_bytes, member_bytes, class_bytes}
-use Rattle.const_pool.specs.Pool.{u2, u4, entry_bytes, pool_bytes}
+use Rattle.const_pool.specs.Pool.{u2, entry_bytes, pool_bytes}
 use Rattle.const_pool.specs.Tail.{tail_entries, with_tail, throwable_index}
 use Rattle.code_model.specs.declared.laying.Homes.{Homes}
 use Rattle.code_model.specs.Layout.{home_of}
@@ -29,7 +29,7 @@ use Rattle.jvm_model.specs.declared.event.Mark.{Mark}
 use Rattle.jvm_model.specs.declared.event.Mark.TheVariants.{Off, Plain, Root}
 use Rattle.jvm_model.specs.Rewriting.ImageTables.{moved_or_kept, moved_lines, moved_variables, last_frame, is_writable, frames_with_last, framed_by, moved_frames_of, is_line_table, is_variable_table, is_stack_map_table, image_table, image_attribute, lacks_stack_map_table, added_stack_map_table, image_attributes}
 use Rattle.jvm_model.specs.Rewriting.Images.{all_off, with_code_among, IsMarkedMember, IsMemberImage, next_number, AreMemberImages, IsOriginal, IsRewritten, IsImage}
-use Rattle.jvm_model.specs.Basis.Methods.{code_among, code_of}
+use Rattle.jvm_model.specs.Basis.Methods.{code_among}
 use Rattle.jvm_model.specs.Rewriting.Versions.{entry_probe, leave_probe, unwind_code, moved_handler, catch_all, IsVersion}
 use Rattle.jvm_model.proofs.Images.LaidLengths.{length-laid_of-le}
 

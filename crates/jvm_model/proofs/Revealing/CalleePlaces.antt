@@ -16,7 +16,7 @@ use Rattle.jvm_model.specs.Basis.KindNumbers.{base_of_class, class_of_base, kind
 use Rattle.jvm_model.specs.Classes.Kinds.{Element, Named, Meaning, array_from, array_of, base_of_element, element_of, is_above_arrays, is_subbase, is_subbase_of, is_subkind, kind_named, meaning_of, parts_named}
 use Rattle.jvm_model.specs.Classes.Load.{is_among, load_of}
 use Rattle.jvm_model.specs.Classes.Lookup.{MemberPlace, Found, Fails, first_in, field_at, found_or, incompatible_change, is_interface, is_subtype, method_at, resolved_field, resolved_method, superclasses, superclasses_within, superinterfaces, superinterfaces_within, supertypes, supertypes_within, superclass_of}
-use Rattle.jvm_model.specs.Instructions.SymbolicReference.{member_found, receiver}
+use Rattle.jvm_model.specs.Instructions.SymbolicReference.{member_found}
 use Rattle.jvm_model.specs.Basis.Methods.{method_named}
 use Rattle.jvm_model.specs.Basis.Programs.{class_at, class_named, has_name, initializer_name, initializer_of, number_from, number_of_method, place_of_method, same_place}
 use Rattle.jvm_model.specs.Classes.Selection.{candidate, is_abstract, nearest, method_selected}

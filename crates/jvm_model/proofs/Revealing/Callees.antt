@@ -42,7 +42,7 @@ use Rattle.jvm_model.specs.Instructions.ReferenceRules.{does_named}
 use Rattle.jvm_model.specs.Instructions.ObjectRules.{Access, ToNull, ToAnother, Outside, Inside, Storing, access_to, done, fits_array, makes, place_of, stores_at, stores_element, storing_of}
 use Rattle.jvm_model.specs.Basis.Programs.{number_of_method, place_of_method}
 use Rattle.jvm_model.specs.Instructions.Rules.{class_initialized, when_ready}
-use Rattle.jvm_model.specs.Classes.Selection.{is_abstract, is_static, nearest, method_selected}
+use Rattle.jvm_model.specs.Classes.Selection.{is_abstract, is_static, method_selected}
 use Rattle.jvm_model.specs.Basis.SharedState.{array_store, class_of, class_of_kind, kind_for, string, null_pointer, phase_of, static_at}
 use Rattle.jvm_model.specs.Soundness.Sound.{IsFit, IsLoaded, IsSoundShared}
 use Rattle.jvm_model.proofs.Loading.LoadsAgain.{newly-loaded}

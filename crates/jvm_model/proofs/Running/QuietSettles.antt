@@ -2,7 +2,7 @@
 use Rattle.std.proofs.Common.{◌≡◌, ℕ, zero, suc, None, refl, ap}
 use Rattle.std.specs.Option.{option_map_or}
 use Rattle.jvm_model.specs.Basis.Data.{Turn, Listing, World}
-use Rattle.jvm_model.specs.Running.Moves.{moves, move, then_turn, settles}
+use Rattle.jvm_model.specs.Running.Moves.{move, then_turn, settles}
 
 pub stops : (w : World) (t : Listing) (n : ℕ) (a : Turn) → move w t a.after ≡ None → settles w t n a ≡ a
 stops w t zero a none = refl

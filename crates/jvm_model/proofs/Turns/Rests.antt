@@ -1,7 +1,7 @@
 -- What is left of a step: behind its load, and behind some of its moves.
 use Rattle.std.proofs.Common.{append-nil, append_assoc, ◌≡◌, ℕ, zero, suc, List, [], ◌∷◌, ◌++◌, Option, Some, None, refl, sym, ap, ◌∙◌}
 use Rattle.std.specs.Option.{option_map_or}
-use Rattle.jvm_model.specs.Basis.Data.{Operands, Frame, Entry, Active, Initializing, Ending, Shared, State, Change, Loads, Turn, Local, Operation, Within, Named, Athrow, Monitor, Newarray, Arraylength, LoadElement, StoreElement, LdcString, Instruction, Listing, World}
+use Rattle.jvm_model.specs.Basis.Data.{Operands, Frame, Entry, Active, Initializing, Ending, State, Change, Turn, Local, Operation, Within, Named, Athrow, Monitor, Newarray, Arraylength, LoadElement, StoreElement, LdcString, Instruction, Listing, World}
 use Rattle.jvm_model.specs.Instructions.Does.{does, loads}
 use Rattle.jvm_model.specs.Instructions.SymbolicReference.{newly_loaded}
 use Rattle.jvm_model.specs.Running.Applies.{still}

@@ -1,7 +1,5 @@
 -- What a machine's state is made of, what an instruction is, and what it asks for (JVM Specification 2.5, 2.6, 2.10, 5.5).
 use Rattle.std.specs.Prelude.{ℕ, Bool, List, Option, ℤ}
-use Rattle.const_pool.specs.declared.descriptor.Kind.{Kind}
-use Rattle.const_pool.specs.References.{Reference}
 pub use Rattle.heap_objects.specs.declared.datum.Datum.{Datum}
 pub use Rattle.heap_objects.specs.declared.Value.{Value}
 pub use Rattle.jvm_model.specs.declared.ending.Ending.{Ending}

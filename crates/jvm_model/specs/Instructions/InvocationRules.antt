@@ -1,7 +1,7 @@
 -- invokestatic, invokespecial, invokevirtual and invokeinterface (JVM Specification 2.11.8, 5.4.3.3, 5.4.3.4, 6.5). In order: the
 -- method is resolved, its class is initialized where it is static, the operands are looked at, then null, then the class of the receiver,
 -- and then what is selected.
-use Rattle.std.specs.Prelude.{ℕ, Bool, true, false, List, [], ◌∷◌, length, drop, Option, Some, None, Result, nat_lt, codes, if◌then◌else◌}
+use Rattle.std.specs.Prelude.{ℕ, Bool, true, false, List, ◌∷◌, length, drop, Option, Some, None, Result, nat_lt, codes, if◌then◌else◌}
 use Rattle.std.specs.Bool.{beq}
 use Rattle.std.specs.Option.{option_and_then, option_map}
 use Rattle.heap_objects.specs.declared.datum.Datum.TheVariants as datum

@@ -1,6 +1,6 @@
 -- Instructions that see objects: arrays, monitors and athrow (JVM Specification 2.10, 2.11.5, 2.11.10, 6.5). Null is asked first, then
 -- the class of the object, then what the instruction asks besides.
-use Rattle.std.specs.Prelude.{ℕ, ◌+◌, ◌-◌, Bool, true, false, List, [], ◌∷◌, drop, nat_le, Option, Some, None, ℤ, pos, negsuc, ◌==◌, ◌||◌, if◌then◌else◌}
+use Rattle.std.specs.Prelude.{ℕ, ◌+◌, ◌-◌, Bool, true, false, [], ◌∷◌, drop, nat_le, Option, Some, None, ℤ, pos, negsuc, ◌==◌, ◌||◌, if◌then◌else◌}
 use Rattle.std.specs.Option.{option_and_then, option_map, option_map_or}
 use Rattle.std.specs.Fmt.{signed_decimal}
 use Rattle.heap_objects.specs.declared.datum.Datum.TheVariants as datum
@@ -17,7 +17,7 @@ use Rattle.jvm_model.specs.Classes.Kinds.{is_subkind}
 use Rattle.jvm_model.specs.Instructions.LocalRules.{replaces}
 use Rattle.jvm_model.specs.Classes.Lookup.{is_below}
 use Rattle.jvm_model.specs.Basis.SharedState.{class_of, throwable, null_pointer, index_outside, negative_array_size, array_store}
-use Rattle.jvm_model.specs.Basis.Values.{as_value, datum_of, int_of, ref_of}
+use Rattle.jvm_model.specs.Basis.Values.{as_value, datum_of}
 
 -- nothing that is shared is changed
 abbrev pub done : Shared → Outcome → Done

@@ -5,7 +5,7 @@ use Rattle.jvm_model.specs.declared.state.Entry.{Entry}
 use Rattle.jvm_model.specs.declared.state.Entry.TheVariants.{Active, Initializing}
 use Rattle.jvm_model.specs.declared.state.State.{State}
 use Rattle.jvm_model.specs.declared.due.Due.TheVariants.{Begins}
-use Rattle.jvm_model.specs.Basis.Data.{Change, Began, Left, Turn, Listing, World}
+use Rattle.jvm_model.specs.Basis.Data.{Change, Began, Left, Listing, World}
 use Rattle.jvm_model.specs.Running.Applies.{live_in}
 use Rattle.jvm_model.specs.Turns.Told.{mark_now}
 use Rattle.jvm_model.specs.Turns.Pauses.{Pause, changes_due, passed_by, step_paused}

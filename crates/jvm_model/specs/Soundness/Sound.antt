@@ -1,10 +1,10 @@
 -- What is there is of classes that are loaded (JVM Specification 5.3, 5.4, 5.5): an instruction that names something is attempted in such states alone.
-use Rattle.std.specs.Prelude.{◌≡◌, ◌≤◌, ◌<◌, ◌%◌, ℕ, true, false, List, length, Some, None}
+use Rattle.std.specs.Prelude.{◌≡◌, ◌≤◌, ◌<◌, ◌%◌, ℕ, true, false, List, length, Some}
 use Rattle.std.specs.List.{AllByRecursion, list_any}
 use Rattle.const_pool.specs.BuiltIn.{built_in_names}
 use Rattle.heap_objects.specs.declared.object.Object.{Object}
 use Rattle.heap_objects.specs.Objects.{kind_of}
-use Rattle.jvm_model.specs.Basis.Data.{Entry, Active, Initializing, MethodPlace, SymbolicReference, Invokespecial, Local, Operation, Named, Newarray, Outcome, Invokes, Raises, Initializes, Done, Program, Shared, State}
+use Rattle.jvm_model.specs.Basis.Data.{MethodPlace, SymbolicReference, Invokespecial, Local, Operation, Named, Newarray, Outcome, Invokes, Raises, Initializes, Done, Program, Shared}
 use Rattle.jvm_model.specs.Basis.Descriptors.{same_text}
 use Rattle.jvm_model.specs.Basis.KindNumbers.{class_of_base, user_count}
 use Rattle.jvm_model.specs.Classes.Kinds.{is_array_name}

@@ -1,6 +1,6 @@
 //! The objects that are made at most once.
 
-ghost use Rattle.std.specs.Prelude.{◌≡◌, ◌<◌, ◌++◌, ◌∷◌, [], None, IfOk, is_ok, drop};
+ghost use Rattle.std.specs.Prelude.{◌≡◌, ◌<◌, ◌++◌, ◌∷◌, [], None, IfOk, is_ok};
 ghost use Rattle.std.specs.Vec.{vec_len, vec_capacity};
 ghost use Rattle.heap_objects.specs.Changes.{changed_if};
 ghost use Rattle.native_effects.specs.Inputs.MadeViews.{object_of_class, class_of_object, object_of_box};

@@ -1,9 +1,9 @@
 //! What is made of the heap.
 
-ghost use Rattle.std.specs.Prelude.{◌≡◌, IfOk, Some, None, is_ok, is_some, length, slice_get};
+ghost use Rattle.std.specs.Prelude.{◌≡◌, IfOk, Some, None, is_ok, is_some, slice_get};
 ghost use Rattle.heap_objects.specs.Changes.{changed_if};
 ghost use Rattle.native_effects.specs.Effects.Making.{answer_of_text, heap_with_text, answer_of_instance, heap_with_instance};
-ghost use Rattle.native_effects.specs.Effects.Making.{put_at, with_values, with_fields, answer_of_array, heap_with_array};
+ghost use Rattle.native_effects.specs.Effects.Making.{with_values, with_fields, answer_of_array, heap_with_array};
 ghost use Rattle.native_effects.specs.Effects.Making.{answer_of_append, heap_with_append, answer_of_replace, heap_with_replace};
 ghost use Rattle.native_effects.specs.Effects.Making.{answer_of_unit, heap_with_unit, units_resized, answer_of_resize, heap_with_resize, answer_of_intern, heap_with_interned};
 ghost use Rattle.native_effects.specs.Effects.Making.{object_answer, change_answer};

@@ -1,7 +1,7 @@
 //! The classes of a run, as native methods see them.
 
-ghost use Rattle.std.specs.Prelude.{◌≡◌, ℕ, ◌-◌, Bool, Some, None};
-ghost use Rattle.std.specs.Option.{option_map, option_map_or};
+ghost use Rattle.std.specs.Prelude.{◌≡◌, ◌-◌, Some, None};
+ghost use Rattle.std.specs.Option.{option_map};
 ghost use Rattle.native_effects.specs.Inputs.KindsViews.{KindsView, is_among, extends, is_instance};
 
 use crate::inputs::numbers::FIRST_ARRAY_KIND;

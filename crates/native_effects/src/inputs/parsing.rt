@@ -1,7 +1,6 @@
 //! Numbers read from texts.
 
-ghost use Rattle.std.specs.Prelude.{◌≡◌, ◌≤◌, ◌<◌, ◌^◌, IfOk, map, codes};
-ghost use Rattle.std.specs.Str.{bytes_eq};
+ghost use Rattle.std.specs.Prelude.{◌≡◌, ◌<◌, IfOk, map};
 ghost use Rattle.native_effects.specs.Inputs.Parsing.{is_digit, read_digits, up_to, magnitude, number_parsed, lower_case, is_true};
 
 use crate::inputs::texts::{same_units, units_of};

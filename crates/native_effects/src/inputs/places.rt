@@ -1,8 +1,8 @@
 //! Places in a text or an array.
 
-ghost use Rattle.std.specs.Prelude.{◌≡◌, ◌==◌, ◌<◌, ◌^◌, IfOk, IfSome, length, drop};
+ghost use Rattle.std.specs.Prelude.{◌≡◌, ◌==◌, ◌<◌};
 ghost use Rattle.std.specs.List.{position_from};
-ghost use Rattle.native_effects.specs.Inputs.Places.{place_in, range_in, range_from, counted_range, between, pair_from, place_of_character};
+ghost use Rattle.native_effects.specs.Inputs.Places.{place_in, range_in, range_from, counted_range, pair_from, place_of_character};
 
 /// The place, where it is one of so many.
 pub fn place_in(place: i32, size: usize) -> Option<usize>

@@ -1,11 +1,11 @@
 //! java/lang/Character, java/lang/Boolean and java/lang/Math.
 
-ghost use Rattle.std.specs.Prelude.{◌≡◌, ◌∷◌, [], IfOk, pos};
+ghost use Rattle.std.specs.Prelude.{◌≡◌, IfOk, pos};
 ghost use Rattle.heap_objects.specs.declared.datum.Datum.TheVariants.{Int};
 ghost use Rattle.native_effects.specs.declared.effects.effect.Effect.TheVariants.{GivesBox};
 ghost use Rattle.native_effects.specs.Inputs.Numbers.{boolean_kind};
 ghost use Rattle.native_ops.specs.Classes.Characters.{is_letter, is_whitespace, char_value, same_boxes, character_effect};
-ghost use Rattle.native_ops.specs.Classes.Characters.{bit_of, hash_of_boolean, boolean_value, parse_boolean, boolean_effect};
+ghost use Rattle.native_ops.specs.Classes.Characters.{bit_of, hash_of_boolean, boolean_value, boolean_effect};
 ghost use Rattle.native_ops.specs.Classes.Characters.{absolute_int, absolute_long, math_effect};
 
 use crate::classes::boxes::{box_of, char_place};

@@ -1,5 +1,5 @@
 -- The class in which an invokespecial stands is loaded where that of its method is.
-use Rattle.std.proofs.Common.{◌≡◌, ℕ, zero, suc, List, [], ◌∷◌, map, ap, sym, subst, refl, ◌∙◌}
+use Rattle.std.proofs.Common.{◌≡◌, ℕ, zero, suc, List, [], ◌∷◌, ap, refl, ◌∙◌}
 use Rattle.std.specs.Prelude.{filter_map, length, Option, Some, None, unwrap_or}
 use Rattle.std.specs.List.{AllByRecursion, cons_option}
 use Rattle.std.specs.Option.{IfSome, option_and_then, option_map, option_map_or}

@@ -1,5 +1,5 @@
 -- what is left is noted in what there is
-use Rattle.std.proofs.Common.{◌≡◌, drop, map}
+use Rattle.std.proofs.Common.{◌≡◌, drop}
 use Rattle.call_revelation.specs.Books.{HasMore, with_uses}
 use Rattle.call_revelation.proofs.book.note_uses.Given as goal
 

@@ -1,5 +1,5 @@
 use Rattle.std.proofs.Common.{◌≡◌, false, rules, sym, subst}
-use Rattle.command_line.specs.Words.{IsSound, Read, is_refused, read_in, read_of}
+use Rattle.command_line.specs.Words.{IsSound, is_refused, read_in, read_of}
 use Rattle.command_line.specs.Reading.{given_in}
 use Rattle.command_line.specs.declared.words.Words.{Words}
 use Rattle.command_line.proofs.Sound.{sound}

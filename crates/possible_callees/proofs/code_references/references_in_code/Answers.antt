@@ -1,4 +1,4 @@
-use Rattle.std.proofs.Common.{◌-◌, ◌++◌, map, sym, ap, ◌∙◌, arith}
+use Rattle.std.proofs.Common.{◌-◌, ◌++◌, sym, ap, ◌∙◌, arith}
 use Rattle.std.specs.Option.{option_to_list}
 use Rattle.code_model.proofs.Reading.Readings.{end_of-within}
 use Rattle.possible_callees.specs.CodeReferences.{references_in_code, symbolic_references_from}

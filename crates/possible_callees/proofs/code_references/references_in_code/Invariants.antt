@@ -1,5 +1,5 @@
 -- what was read, and what the instructions from here on name
-use Rattle.std.proofs.Common.{◌≡◌, ◌++◌, map}
+use Rattle.std.proofs.Common.{◌≡◌, ◌++◌}
 use Rattle.possible_callees.specs.CodeReferences.{references_in_code, symbolic_references_from}
 use Rattle.possible_callees.proofs.code_references.references_in_code.Given as goal
 

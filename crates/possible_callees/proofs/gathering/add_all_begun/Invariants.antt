@@ -1,5 +1,5 @@
 -- what is left is added to what is there
-use Rattle.std.proofs.Common.{◌≡◌, ℕ, map, drop}
+use Rattle.std.proofs.Common.{◌≡◌, ℕ, drop}
 use Rattle.std.specs.Prelude.{flat_map, ◌||◌}
 use Rattle.std.specs.List.{AllByRecursion}
 use Rattle.jvm_model.specs.Classes.Load.{is_among}

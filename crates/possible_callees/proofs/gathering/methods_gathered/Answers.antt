@@ -1,4 +1,4 @@
-use Rattle.std.proofs.Common.{◌∙◌, [], map, subst, sym, ap}
+use Rattle.std.proofs.Common.{◌∙◌, [], subst, sym, ap}
 use Rattle.std.specs.Prelude.{flat_map}
 use Rattle.std.specs.List.{AllByRecursion}
 use Rattle.jvm_model.specs.Classes.Load.{is_among}

@@ -1,4 +1,4 @@
-use Rattle.std.proofs.Common.{◌<◌, ◌∙◌, false, length, map, subst, sym, ap, ap₂, arith, true}
+use Rattle.std.proofs.Common.{◌<◌, ◌∙◌, false, length, subst, sym, ap, ap₂, arith, true}
 use Rattle.std.specs.Prelude.{is_some}
 use Rattle.std.specs.Vec.{with_items}
 use Rattle.std.proofs.lemmas.List.{with_items_is}

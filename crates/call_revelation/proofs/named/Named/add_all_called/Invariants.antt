@@ -1,5 +1,5 @@
 -- what is left is added to what is there
-use Rattle.std.proofs.Common.{◌≡◌, ℕ, map, drop, true}
+use Rattle.std.proofs.Common.{◌≡◌, ℕ, drop, true}
 use Rattle.std.specs.Prelude.{flat_map, ◌||◌}
 use Rattle.jvm_model.specs.declared.program.Program.{Program}
 use Rattle.jvm_model.specs.Classes.Load.{is_among}

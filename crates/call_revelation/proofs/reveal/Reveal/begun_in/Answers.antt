@@ -1,4 +1,4 @@
-use Rattle.std.proofs.Common.{◌∙◌, map, subst, sym, ap, refl}
+use Rattle.std.proofs.Common.{◌∙◌, subst, sym, refl}
 use Rattle.std.specs.Prelude.{flat_map}
 use Rattle.std.specs.List.{AllByRecursion}
 use Rattle.jvm_model.specs.Soundness.Sound.{HasLoadedCaller}
