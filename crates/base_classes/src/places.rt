@@ -1,5 +1,5 @@
-//! The places of built-in classes that rules speak of, in the order of the table, and the numbers of
-//! native methods.
+//! The places of built-in classes that rules speak of, in the order of the table, where the kinds of
+//! arrays begin, and the numbers of native methods.
 
 /// How many built-in classes there are.
 pub const BUILT_IN_CLASSES: u16 = 53;
@@ -51,6 +51,9 @@ pub const NO_SUCH_FIELD_ERROR: u16 = 49;
 pub const NO_SUCH_METHOD_ERROR: u16 = 50;
 
 pub const OUT_OF_MEMORY_ERROR: u16 = 51;
+
+/// The number from which on kinds are arrays': one dimension in a kind.
+pub const FIRST_ARRAY: u32 = 16_777_216;
 
 /// How many native methods there are.
 pub const NATIVE_METHODS: u16 = 265;

@@ -17,7 +17,7 @@ pub use fields::{field_kind, held_by};
 pub use index::Index;
 pub use meaning::{Element, Meaning, is_array_name, meaning_of};
 pub use members::{field_at, first_field, first_method, method_at};
-pub use numbering::{FIRST_ARRAY, base_of_class, class_of_base, class_of_kind, user_count};
+pub use numbering::{base_of_class, class_of_base, class_of_kind, user_count};
 pub use order::Order;
 pub use package::in_same_package;
 pub use wanted::Wanted;

@@ -8,12 +8,9 @@ ghost use Rattle.jvm_model.specs.Basis.Programs.{name_at};
 ghost use Rattle.jvm_model.specs.Basis.SharedState.{class_of_kind};
 
 use crate::index::Index;
-use base_classes::BUILT_IN_CLASSES;
+use base_classes::{BUILT_IN_CLASSES, FIRST_ARRAY};
 use jf_bytes::Text16;
 use jvm_model::Program;
-
-/// The number from which on kinds are arrays': one dimension in a kind.
-pub const FIRST_ARRAY: u32 = 16_777_216;
 
 /// How many classes of a program stand before the built-in ones.
 pub fn user_count(program: &Program) -> u32

@@ -11,7 +11,8 @@ ghost use Rattle.class_linker.specs.LoadedClasses.{AreLoadedClasses, holds_class
 
 use crate::loaded_classes::LoadedClass;
 use crate::walks::is_subtype;
-use class_index::{Element, FIRST_ARRAY, Index, meaning_of};
+use base_classes::FIRST_ARRAY;
+use class_index::{Element, Index, meaning_of};
 
 /// The base of what is no array.
 fn base_of_element(index: &Index, element: Element<'_>) -> Option<u32>

@@ -7,7 +7,7 @@ ghost use Rattle.member_selection.specs.Answers.{asking_in_frame};
 ghost use Rattle.member_selection.specs.Outcomes.{HaveOperands, outcome_in_frame};
 ghost use Rattle.instructions.specs.Elements.{IsMeasured};
 
-use class_index::FIRST_ARRAY;
+use base_classes::FIRST_ARRAY;
 use frame_stack::Frames;
 use heap_objects::{Heap, Value};
 use jf_bytes::NoMemory;

@@ -4,7 +4,7 @@ ghost use Rattle.std.specs.Prelude.{◌≡◌, ◌<◌, IfSome, length, true};
 ghost use Rattle.class_linker.specs.Linkers.{IsKnown};
 ghost use Rattle.jvm_model.specs.Instructions.NativeRules.{is_known, loaded_class};
 
-use class_index::FIRST_ARRAY;
+use base_classes::FIRST_ARRAY;
 use class_linker::Linker;
 use jf_bytes::Text16;
 use native_effects::Kinds;

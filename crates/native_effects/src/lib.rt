@@ -14,7 +14,7 @@ pub use effects::made::Made;
 pub use inputs::arguments::{boolean_in, char_in, char_of, int_in, long_in, reference_in};
 pub use inputs::kinds::{Kinds, is_instance};
 pub use inputs::numbers::{
-    BOOLEAN_KIND, CHARACTER_KIND, CHARS_KIND, CLONEABLE_KIND, ENUM_KIND, FIRST_ARRAY_KIND,
+    BOOLEAN_KIND, CHARACTER_KIND, CHARS_KIND, CLONEABLE_KIND, ENUM_KIND,
     FIRST_REFERENCE_ARRAY_KIND, INTEGER_KIND, LONG_KIND, STRING_KIND, THROWABLE_KIND,
 };
 pub use inputs::parsing::{is_digit, is_true, parsed_int, parsed_long};

@@ -6,7 +6,7 @@ ghost use Rattle.heap_objects.specs.Heaps.{kind_at};
 ghost use Rattle.jvm_model.specs.Instructions.ObjectRules.{fits_array, is_element};
 ghost use Rattle.member_selection.specs.Objects.{AreLoaded};
 
-use class_index::FIRST_ARRAY;
+use base_classes::FIRST_ARRAY;
 use class_linker::Linker;
 use heap_objects::{Datum, Heap};
 use member_selection::is_instance;

@@ -20,7 +20,7 @@ use crate::symbolic_reference::{
     array_reference, class_operation, interface_reference, named_operation, symbolic_reference_of,
     text_in,
 };
-use class_index::FIRST_ARRAY;
+use base_classes::FIRST_ARRAY;
 use code_model::{Arg, Instr};
 use const_pool::{ClassFile, Const, Kind, Pool};
 use heap_objects::{Datum, Value};

@@ -6,7 +6,7 @@ ghost use Rattle.class_linker.specs.Linkers.{IsKnown};
 use super::classes::{
     CLASS, INTERFACE, OBJECT, Shape, class_named, is_loaded, is_named, linker_of, text,
 };
-use class_index::FIRST_ARRAY;
+use base_classes::FIRST_ARRAY;
 use class_linker::{Linker, Loaded};
 use std::alloc::Global;
 use std::test::Fail;

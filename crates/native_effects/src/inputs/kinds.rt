@@ -4,7 +4,7 @@ ghost use Rattle.std.specs.Prelude.{◌≡◌, ◌-◌, Some, None};
 ghost use Rattle.std.specs.Option.{option_map};
 ghost use Rattle.native_effects.specs.Inputs.KindsViews.{KindsView, is_among, extends, is_instance};
 
-use crate::inputs::numbers::FIRST_ARRAY_KIND;
+use base_classes::FIRST_ARRAY;
 use heap_objects::Heap;
 use jf_bytes::Text16;
 
@@ -49,7 +49,7 @@ fn is_among<K: Kinds>(kinds: &K, lower: u32, upper: u32) -> bool
 pub fn extends<K: Kinds>(kinds: &K, lower: u32, upper: u32) -> bool
     ensures { result ≡ extends (K.seen kinds.now) lower upper }
 {
-    lower < FIRST_ARRAY_KIND && is_among(kinds, lower, upper)
+    lower < FIRST_ARRAY && is_among(kinds, lower, upper)
 }
 
 /// Whether an object's class is this class or extends it.

@@ -1,6 +1,8 @@
 //! The kinds of the built-in classes that rules speak of.
 
-use base_classes::{BOOLEAN, CHARACTER, CLASS, CLONEABLE, ENUM, INTEGER, LONG, STRING, THROWABLE};
+use base_classes::{
+    BOOLEAN, CHARACTER, CLASS, CLONEABLE, ENUM, FIRST_ARRAY, INTEGER, LONG, STRING, THROWABLE,
+};
 
 /// The kinds of the built-in classes are counted from here on, in the order of their places.
 const FIRST_CLASS_KIND: u32 = 16;
@@ -11,7 +13,7 @@ pub const CLASS_KIND: u32 = FIRST_CLASS_KIND + CLASS as u32;
 
 pub const STRING_KIND: u32 = FIRST_CLASS_KIND + STRING as u32;
 /// One dimension of char, which is primitive kind 5.
-pub const CHARS_KIND: u32 = FIRST_ARRAY_KIND + 5;
+pub const CHARS_KIND: u32 = FIRST_ARRAY + 5;
 
 pub const INTEGER_KIND: u32 = FIRST_CLASS_KIND + INTEGER as u32;
 
@@ -25,7 +27,5 @@ pub const ENUM_KIND: u32 = FIRST_CLASS_KIND + ENUM as u32;
 
 pub const THROWABLE_KIND: u32 = FIRST_CLASS_KIND + THROWABLE as u32;
 
-/// The kinds from here on are arrays'.
-pub const FIRST_ARRAY_KIND: u32 = 16777216;
 /// Arrays of references have the kinds from here on.
-pub const FIRST_REFERENCE_ARRAY_KIND: u32 = FIRST_ARRAY_KIND + FIRST_CLASS_KIND;
+pub const FIRST_REFERENCE_ARRAY_KIND: u32 = FIRST_ARRAY + FIRST_CLASS_KIND;

@@ -8,13 +8,13 @@ ghost use Rattle.native_ops.specs.Classes.Copying.{sort_of_array, can_copy, may_
 
 use crate::methods::method::SystemMethod;
 use base_classes::{
-    ARRAY_INDEX_OUT_OF_BOUNDS_EXCEPTION, ARRAY_STORE_EXCEPTION, NULL_POINTER_EXCEPTION,
+    ARRAY_INDEX_OUT_OF_BOUNDS_EXCEPTION, ARRAY_STORE_EXCEPTION, FIRST_ARRAY, NULL_POINTER_EXCEPTION,
 };
 use heap_objects::{Datum, Heap};
 use jf_bytes::{NoMemory, Seq};
 use native_effects::{
-    Answer, Effect, FIRST_ARRAY_KIND, FIRST_REFERENCE_ARRAY_KIND, Kinds, counted_range, gives_int,
-    int_in, kind_or_none, number_as_int, reference_in, size_at, throws, values_between,
+    Answer, Effect, FIRST_REFERENCE_ARRAY_KIND, Kinds, counted_range, gives_int, int_in,
+    kind_or_none, number_as_int, reference_in, size_at, throws, values_between,
 };
 use std::alloc::Global;
 
@@ -33,7 +33,7 @@ fn sort_of_array(kind: u32) -> u32
 fn can_copy(from: u32, to: u32) -> bool
     ensures { result ≡ can_copy from to }
 {
-    FIRST_ARRAY_KIND <= from && FIRST_ARRAY_KIND <= to && sort_of_array(from) == sort_of_array(to)
+    FIRST_ARRAY <= from && FIRST_ARRAY <= to && sort_of_array(from) == sort_of_array(to)
 }
 
 /// Whether a reference is null or of a subtype of the elements' class of an array of references.
@@ -45,7 +45,7 @@ fn may_refer<K: Kinds>(kinds: &K, kind: u32, heap: &Heap, reference: u32) -> boo
     if reference == 0 {
         return true;
     }
-    kinds.subtype(kind_or_none(reference, heap), kind - FIRST_ARRAY_KIND)
+    kinds.subtype(kind_or_none(reference, heap), kind - FIRST_ARRAY)
 }
 
 /// Whether a value may stand in an array of a kind.

@@ -7,12 +7,12 @@ ghost use Rattle.native_ops.specs.Classes.Roots.{with_dot, class_name, letter_of
 ghost use Rattle.native_ops.specs.Classes.Roots.{object_text, clone, object_effect, class_effect};
 
 use crate::methods::method::{ClassMethod, ObjectMethod};
-use base_classes::CLONE_NOT_SUPPORTED_EXCEPTION;
+use base_classes::{CLONE_NOT_SUPPORTED_EXCEPTION, FIRST_ARRAY};
 use heap_objects::{Datum, Heap};
 use jf_bytes::{NoMemory, Seq};
 use native_effects::{
-    CLONEABLE_KIND, Effect, FIRST_ARRAY_KIND, Kinds, Made, gives_boolean, gives_int, gives_nothing,
-    kind_or_none, number_as_int, reference_in, throws, units_of, values_at,
+    CLONEABLE_KIND, Effect, Kinds, Made, gives_boolean, gives_int, gives_nothing, kind_or_none,
+    number_as_int, reference_in, throws, units_of, values_at,
 };
 use std::alloc::Global;
 
@@ -109,15 +109,10 @@ fn array_name<K: Kinds>(
 fn name_of_kind<K: Kinds>(alloc: Global, kinds: &K, kind: u32) -> Result<Seq<u16>, NoMemory>
     ensures { IfOk result (λ units. units ≡ name_of_kind (K.seen kinds.now) kind) }
 {
-    if kind < FIRST_ARRAY_KIND {
+    if kind < FIRST_ARRAY {
         class_name(alloc, kinds, kind)
     } else {
-        array_name(
-            alloc,
-            kinds,
-            kind / FIRST_ARRAY_KIND,
-            kind % FIRST_ARRAY_KIND,
-        )
+        array_name(alloc, kinds, kind / FIRST_ARRAY, kind % FIRST_ARRAY)
     }
 }
 
@@ -155,7 +150,7 @@ fn clone<K: Kinds>(
 ) -> Result<Effect, NoMemory>
     ensures { IfOk result (λ e. e ≡ clone (K.seen kinds.now) kind object heap.now) }
 {
-    if kind >= FIRST_ARRAY_KIND {
+    if kind >= FIRST_ARRAY {
         return Ok(Effect::MakesArray(kind, values_at(alloc, object, heap)?));
     }
     if !kinds.subtype(kind, CLONEABLE_KIND) {

@@ -9,7 +9,7 @@ ghost use Rattle.member_selection.specs.Objects.{AreLoaded, IsUsable};
 ghost use Rattle.symbolic_references.specs.Runtimes.{with_heap};
 
 use crate::runtime::Runtime;
-use class_index::FIRST_ARRAY;
+use base_classes::FIRST_ARRAY;
 use heap_objects::{Datum, Heap, HeapError};
 use jf_bytes::{NoMemory, Text16};
 

@@ -12,7 +12,7 @@ ghost use Rattle.symbolic_references.specs.Runtimes.{linker_in};
 
 use crate::runtime::Runtime;
 use crate::runtime::creation::RESERVED;
-use class_index::FIRST_ARRAY;
+use base_classes::FIRST_ARRAY;
 use frame_stack::Frames;
 use heap_objects::{Datum, HeapError, Value};
 use jf_bytes::NoMemory;

@@ -18,7 +18,7 @@ ghost use Rattle.member_selection.specs.Arrays.{AreUsable};
 use crate::runtime::Runtime;
 use crate::runtime::creation::RESERVED;
 use crate::runtime::fields::put_slot;
-use class_index::FIRST_ARRAY;
+use base_classes::FIRST_ARRAY;
 use frame_stack::Frames;
 use heap_objects::{Datum, Heap, HeapError, Value};
 use jf_bytes::{NoMemory, Seq};
