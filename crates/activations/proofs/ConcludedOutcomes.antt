@@ -15,7 +15,7 @@ use Rattle.jvm_model.specs.Running.Run.{starts}
 use Rattle.member_selection.specs.declared.outcome.Outcome.{Outcome as CodeOutcome}
 use Rattle.member_selection.specs.declared.outcome.Outcome.TheVariants as code_outcome
 use Rattle.member_selection.specs.declared.outcome.AbruptCompletion.TheVariants as abrupt
-use Rattle.member_selection.specs.Going.{gone, holds, left_with}
+use Rattle.member_selection.specs.Going.{frames_gone, holds, left_with}
 use Rattle.member_selection.specs.Outcomes.{outcome_view}
 use Rattle.prepared_lines.specs.declared.line.Line.{Line}
 use Rattle.prepared_code.specs.declared.parts.Parts.{Parts}
@@ -57,7 +57,7 @@ module _ (w : Setup) (line : Line) (method : ℕ) (p : Parts) where
 
   -- as the code goes on, or ends the run
   pub gone-is : (count : ℕ) (value : Option Value) (done : Bool) (frames : FramesView) → IsTop method p.frames.frames → done ≡ holds count value p.frames
-      → frames ≡ gone count value line.next p.frames → done ≡ true
+      → frames ≡ frames_gone count value line.next p.frames → done ≡ true
       → state_with frames.frames p ≡ applied (GoesOn (top_locals p.frames.frames) (left_with count value p.frames.frames) Next) p.frames.frames
   gone-is count value done frames top answer went is =
       ap (λ (x : FramesView). state_with x.frames p) went
@@ -71,7 +71,7 @@ module _ (w : Setup) (line : Line) (method : ℕ) (p : Parts) where
       by false is = absurd (false≢true is)
 
   pub ended-is : (count : ℕ) (value : Option Value) (done : Bool) (frames : FramesView) → IsTop method p.frames.frames → done ≡ holds count value p.frames
-      → frames ≡ gone count value line.next p.frames → done ≡ false
+      → frames ≡ frames_gone count value line.next p.frames → done ≡ false
       → state_with frames.frames (run_ended method line.instr.at p) ≡ applied (GoesOn (top_locals p.frames.frames) (left_with count value p.frames.frames) Next) p.frames.frames
   ended-is count value done frames top answer went is =
       ap (λ (x : FramesView). state_with x.frames (run_ended method line.instr.at p)) went

@@ -8,7 +8,7 @@ use Rattle.const_pool.specs.declared.pool.Const.{Const}
 use Rattle.const_pool.specs.declared.pool.Const.TheVariants.{Gap, Utf8}
 use Rattle.const_pool.specs.Pool.{IsEntry, AreEntries}
 use Rattle.const_pool.specs.ClassFile.{IsCode, IsRaw, IsMember, IsFieldAttribute, IsMethodAttribute, IsClassFile}
-use Rattle.format_tests.specs.WorkedClass.{worked_pool, worked_raw, worked_code, worked_field, worked_method, worked}
+use Rattle.format_tests.specs.WorkedClass.{worked_pool, worked_raw, worked_code, worked_field, worked_method, worked_class}
 
 all_below : (n : ℕ) (xs : List ℕ) → list_all (λ x. nat_lt x n) xs ≡ true → AllByRecursion (λ x. x < n) xs
 all_below n [] e = tt
@@ -69,7 +69,7 @@ formed_method = record {
   attributes = ((omega arith, refl, formed_code), tt);
 }
 
-pub worked_formed : IsClassFile worked
+pub worked_formed : IsClassFile worked_class
 worked_formed = record {
   version = record { fits = omega arith; least = omega arith; most = omega arith };
   pool = record { count = omega arith; first = refl; entries = entries_behind };

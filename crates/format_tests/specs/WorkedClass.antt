@@ -25,8 +25,8 @@ worked_code = record { max_stack = 2; max_locals = 4; code = 177 ∷ []; handler
 abbrev pub worked_method : Member
 worked_method = record { access = 9; name = 1; descriptor = 8; attributes = Code 3 worked_code ∷ [] }
 
-abbrev pub worked : ClassFile
-worked = record {
+abbrev pub worked_class : ClassFile
+worked_class = record {
   minor = 3;
   major = 45;
   pool = worked_pool;

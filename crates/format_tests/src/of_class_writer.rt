@@ -4,7 +4,7 @@
 ghost use Rattle.std.specs.Prelude.{◌≡◌, take, drop, IfOk};
 ghost use Rattle.const_pool.specs.ClassFile.{IsClassFile};
 ghost use Rattle.const_pool.specs.declared.pool.Const.TheVariants.{Utf8};
-ghost use Rattle.format_tests.specs.WorkedClass.{worked, worked_pool, worked_field, worked_method};
+ghost use Rattle.format_tests.specs.WorkedClass.{worked_class, worked_pool, worked_field, worked_method};
 
 use class_writer::write_class;
 use const_pool::{Attribute, ClassFile, CodeAttribute, Const, Handler, Member, Pool, Raw};
@@ -117,7 +117,7 @@ fn method(alloc: Global) -> Result<Member, NoMemory>
 }
 
 fn make_worked(alloc: Global) -> Result<ClassFile, NoMemory>
-    ensures { IfOk result (λ class. class ≡ worked) }
+    ensures { IfOk result (λ class. class ≡ worked_class) }
 {
     let mut interfaces = Seq::new(alloc);
     interfaces.push(2)?;

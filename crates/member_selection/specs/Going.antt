@@ -20,6 +20,6 @@ left_with count value fs = with_value value (drop count (top_operands fs))
 abbrev pub holds : ℕ → Option Value → FramesView → Bool
 holds count value f = can_hold (left_with count value f.frames) f.frames
 
-abbrev pub gone : ℕ → Option Value → ℕ → FramesView → FramesView
-gone count value next f =
+abbrev pub frames_gone : ℕ → Option Value → ℕ → FramesView → FramesView
+frames_gone count value next f =
     with_frames (if holds count value f then with_top (top_locals f.frames) (left_with count value f.frames) next f.frames else f.frames) f

@@ -2,7 +2,7 @@
 
 ghost use Rattle.std.specs.Prelude.{◌≡◌, true, None, Some};
 ghost use Rattle.frame_stack.specs.FrameLists.{top_operands, with_frames};
-ghost use Rattle.member_selection.specs.Going.{gone, has_gone, holds};
+ghost use Rattle.member_selection.specs.Going.{frames_gone, has_gone, holds};
 ghost use Rattle.member_selection.specs.Answers.{frames_after, goes_on};
 ghost use Rattle.member_selection.specs.Outcomes.{HasOperands, outcome_in_frame};
 ghost use Rattle.member_selection.specs.declared.outcome.Outcome.TheVariants.{Goes};
@@ -28,7 +28,7 @@ fn has_gone(effect: Effect) -> bool
 #[tactic(auto, using(crate::proofs::Going::gone_if))]
 fn put(frames: &mut Frames, value: Value, next: u16) -> bool
     ensures answer { result ≡ holds 0 (Some value) frames.old }
-    ensures frames { frames.new ≡ gone 0 (Some value) next frames.old }
+    ensures frames { frames.new ≡ frames_gone 0 (Some value) next frames.old }
 {
     has_gone(jvm_basic::put(frames, value, next))
 }
@@ -37,7 +37,7 @@ fn put(frames: &mut Frames, value: Value, next: u16) -> bool
 #[tactic(auto, using(crate::proofs::Going::gone_if))]
 fn replace(frames: &mut Frames, value: Value, next: u16) -> bool
     ensures answer { result ≡ holds 1 (Some value) frames.old }
-    ensures frames { frames.new ≡ gone 1 (Some value) next frames.old }
+    ensures frames { frames.new ≡ frames_gone 1 (Some value) next frames.old }
 {
     recall(frames);
     has_gone(jvm_basic::replace(frames, value, next))
@@ -47,7 +47,7 @@ fn replace(frames: &mut Frames, value: Value, next: u16) -> bool
 fn replace_many(frames: &mut Frames, value: Value, count: u16, next: u16) -> bool
     requires { holds count (Some value) frames.old ≡ true }
     ensures answer { result ≡ holds count (Some value) frames.old }
-    ensures frames { frames.new ≡ gone count (Some value) next frames.old }
+    ensures frames { frames.new ≡ frames_gone count (Some value) next frames.old }
 {
     for _ in 0..count {
         frames.pop();
@@ -59,7 +59,7 @@ fn replace_many(frames: &mut Frames, value: Value, count: u16, next: u16) -> boo
 fn replace_operands(frames: &mut Frames, value: Value, count: u16, next: u16) -> bool
     requires { HasOperands (Goes count (Some value)) (top_operands frames.old.frames) }
     ensures answer { result ≡ holds count (Some value) frames.old }
-    ensures frames { frames.new ≡ gone count (Some value) next frames.old }
+    ensures frames { frames.new ≡ frames_gone count (Some value) next frames.old }
 {
     if count == 0 {
         return put(frames, value, next);
@@ -75,7 +75,7 @@ fn replace_operands(frames: &mut Frames, value: Value, count: u16, next: u16) ->
 #[tactic(auto, using(crate::proofs::Going::gone_if))]
 fn drop_operands(frames: &mut Frames, count: u16, next: u16) -> bool
     ensures answer { result ≡ holds count None frames.old }
-    ensures frames { frames.new ≡ gone count None next frames.old }
+    ensures frames { frames.new ≡ frames_gone count None next frames.old }
 {
     recall(frames);
     for _ in 0..count {
@@ -91,7 +91,7 @@ fn drop_operands(frames: &mut Frames, count: u16, next: u16) -> bool
 pub fn apply(frames: &mut Frames, count: u16, value: Option<Value>, next: u16) -> bool
     requires { HasOperands (Goes count value) (top_operands frames.old.frames) }
     ensures answer { result ≡ holds count value frames.old }
-    ensures frames { frames.new ≡ gone count value next frames.old }
+    ensures frames { frames.new ≡ frames_gone count value next frames.old }
 {
     match value {
         Some(value) => replace_operands(frames, value, count, next),

@@ -207,8 +207,8 @@ pub record IsGoing (s : State) : Type 0 where
   pub stack : s.stack ≡ Active frame ∷ rest
 
 module _ (w : Setup) (run : CanRun w) (s : State) (going : IsGoing s) where
-  abbrev text : Listing
-  text = listing_of w.versions
+  abbrev listing : Listing
+  listing = listing_of w.versions
 
   -- without the frame
   abbrev pub under : State
@@ -218,8 +218,8 @@ module _ (w : Setup) (run : CanRun w) (s : State) (going : IsGoing s) where
   abbrev line_here : Option Line
   line_here = line_at w.versions going.frame.version going.frame.place
 
-  step-at : (step w.world text s).after ≡ (steps_at w.world text under going.frame (text.at going.frame.version going.frame.place)).after
-  step-at = ap (λ e. (steps_on w.world text s e s.stack).after) going.ending ∙ ap (λ es. (steps_on w.world text s None es).after) going.stack
+  step-at : (step w.world listing s).after ≡ (steps_at w.world listing under going.frame (listing.at going.frame.version going.frame.place)).after
+  step-at = ap (λ e. (steps_on w.world listing s e s.stack).after) going.ending ∙ ap (λ es. (steps_on w.world listing s None es).after) going.stack
 
   awaited-here : (o : Option ℕ) → awaited_in w s ≡ o → awaited_by w under going.frame line_here ≡ o
   awaited-here o is = sym (ap (awaited_on w s) going.stack) ∙ is
@@ -228,16 +228,16 @@ module _ (w : Setup) (run : CanRun w) (s : State) (going : IsGoing s) where
   attempted-here = ap (attempts_on w s) going.stack
 
   -- where no class is awaited
-  pub step-attempts : awaited_in w s ≡ None → (mid after : State) → mid ≡ attempts_on w s s.stack → after ≡ behind w mid → after ≡ (step w.world text s).after
+  pub step-attempts : awaited_in w s ≡ None → (mid after : State) → mid ≡ attempts_on w s s.stack → after ≡ behind w mid → after ≡ (step w.world listing s).after
   step-attempts none mid after attempted settles =
       settles ∙ (ap (behind w) (attempted ∙ attempted-here)
       ∙ sym (step-at
-      ∙ line-steps w under going.frame line_here (text.at going.frame.version going.frame.place) (awaited-here None none) (tied-there w run going.frame.version going.frame.place)))
+      ∙ line-steps w under going.frame line_here (listing.at going.frame.version going.frame.place) (awaited-here None none) (tied-there w run going.frame.version going.frame.place)))
 
   module _ (c : ℕ) (is : awaited_in w s ≡ Some c) where
-    here : IsAwaiting w under going.frame c line_here (text.at going.frame.version going.frame.place)
+    here : IsAwaiting w under going.frame c line_here (listing.at going.frame.version going.frame.place)
     here =
-        is-awaiting w under going.frame c line_here (text.at going.frame.version going.frame.place)
+        is-awaiting w under going.frame c line_here (listing.at going.frame.version going.frame.place)
         (awaited-here (Some c) is) (tied-there w run going.frame.version going.frame.place)
 
     abbrev reached : State
@@ -254,7 +254,7 @@ module _ (w : Setup) (run : CanRun w) (s : State) (going : IsGoing s) where
         ready-there : is_ready (phase_of reached.shared c) ≡ true
         ready-there = sym (ap (λ (x : State). is_ready (phase_of x.shared c)) comes-there) ∙ ready
 
-        back : IsReadyAgain w text c going.frame going.rest (turn w under going.frame here.line here.named c here.tied here.awaits)
+        back : IsReadyAgain w listing c going.frame going.rest (turn w under going.frame here.line here.named c here.tied here.awaits)
         back = restored w under going.frame here.line here.named c here.tied here.awaits going.ending ready-there
 
         -- the frame is on top again

@@ -106,8 +106,8 @@ module _ (p : Program) (method at : ℕ) (is : IsReturn p method at) (old : Code
   abbrev pub c : ClassFile
   c = in-class.2
 
-  text-is : (original p).at method at ≡ code_instruction c old.code at
-  text-is =
+  listing-is : (original p).at method at ≡ code_instruction c old.code at
+  listing-is =
       ap (option_and_then (λ (place : MethodPlace). option_and_then (λ x. method_instruction x place.position at) (class_at p place.class))) in-class.1
       ∙ (ap (option_and_then (λ (x : ClassFile). method_instruction x in-class.0.position at)) in-class.3
       ∙ ap (option_and_then (λ (k : CodeAttribute). code_instruction c k.code at)) in-class.4)
@@ -115,7 +115,7 @@ module _ (p : Program) (method at : ℕ) (is : IsReturn p method at) (old : Code
   pub returning : Returning c old.code at
   returning =
       let found = map_or_parts (λ (i : Instruction). is_return i.operation) (code_instruction c old.code at)
-      (ap (λ o. option_map_or (λ (i : Instruction). is_return i.operation) o false) (sym text-is) ∙ is.returns) in
+      (ap (λ o. option_map_or (λ (i : Instruction). is_return i.operation) o false) (sym listing-is) ∙ is.returns) in
       let read = and_then_parts (instruction_of c) (instruction_at old.code at) found.0 found.1 in
       let done = map_parts _ (operation_of c read.0) found.0 read.2 in
       record {

@@ -39,7 +39,7 @@ use Rattle.jvm_machine.proofs.States.Shown.{rest-shows, stands-shows}
 
 -- ---- a step loads what it loads first, and no more
 
-module _ (Runs : ℕ → ℕ → Type 0) (w : World) (fit : IsFit w.program) (t : Listing) (text : IsSoundListing Runs w.program t) where
+module _ (Runs : ℕ → ℕ → Type 0) (w : World) (fit : IsFit w.program) (t : Listing) (is_sound : IsSoundListing Runs w.program t) where
   at-loaded : (s : State) (f : Frame) (o : Option Instruction) → IsSound Runs w.program s → IsSoundEntry Runs w.program s.shared.loaded (Active f) → t.at f.version f.place ≡ o
       → (steps_at w t s f o).after.shared.loaded ≡ s.shared.loaded ++ loads_at w s f o
   at-loaded s f None is entry e = with-loaded-is [] s
@@ -47,7 +47,7 @@ module _ (Runs : ℕ → ℕ → Type 0) (w : World) (fit : IsFit w.program) (t 
       let classes : List ℕ = loads w i.operation s.shared f.operands in
       let ready : State = with_loaded classes s in
       let a : Turn = steps_by w t i ready f (does w i.operation ready.shared f.locals f.operands) in
-      ap (λ (z : State). z.shared.loaded) (loaded-after classes a) ∙ ((at-goes Runs w fit t text s f i is entry e).same ∙ with-loaded-is classes s)
+      ap (λ (z : State). z.shared.loaded) (loaded-after classes a) ∙ ((at-goes Runs w fit t is_sound s f i is entry e).same ∙ with-loaded-is classes s)
 
   on-loaded : (s : State) (ending : Option Ending) (stack : List Entry) → IsSound Runs w.program s → s.ending ≡ ending → s.stack ≡ stack
       → (steps_on w t s ending stack).after.shared.loaded ≡ s.shared.loaded ++ loads_on w t s ending stack

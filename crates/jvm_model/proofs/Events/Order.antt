@@ -202,7 +202,7 @@ on-ordered w t u s None [] open' stop = tt
 on-ordered w t u s None (Initializing c part ∷ below) open' stop = tt
 on-ordered w t u s (Some e) stack open' stop = tt
 
--- from a normal state; the text may be another one than the one before
+-- from a normal state; the listing may be another one than the one before
 pub step-ordered : (w : World) (t u : Listing) (s : State) → move w t s ≡ None → AreOrdered (step w u s).changes
 step-ordered w t u s stop = on-ordered w t u s s.ending s.stack refl stop
 

@@ -180,7 +180,7 @@ all_changed-methods step t [] is = refl
 all_changed-methods step t (c ∷ more) is =
     all_changed-methods step (trace_changed step t c) more (changed-keeps step t c is) ∙ ap (λ ms. after_changes ms more) (changed-methods step t c is)
 
--- That frames are changed as told, at the start and in each step over a text.
+-- That frames are changed as told, at the start and in each step over a listing.
 pub record FramesFollow (w : World) (t : Listing) : Type 0 where
   pub starts : methods (start w t).after.stack ≡ after_changes [] (start w t).changes
   pub steps : (s : State) → methods (step w t s).after.stack ≡ after_changes (methods s.stack) (step w t s).changes

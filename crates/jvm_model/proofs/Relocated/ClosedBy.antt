@@ -126,7 +126,7 @@ module _ (code : CodeAttribute) (sound : HasSoundCode code) (at : ℕ) (i : Inst
       each [] all = tt
       each (k ∷ ks) all = (place-of code k (or_left (is_start_in (instrs_of code) k) (length code.code == k) all.0), each ks all.1)
 
--- ---- the text
+-- ---- the listing
 
 module _ (p : Program) (sound : HasSoundCodes p) where
   -- of a method of a class: its place, its class, its code
@@ -153,7 +153,7 @@ module _ (p : Program) (sound : HasSoundCodes p) where
       by None = refl
       by (Some place) = class (class_at p place.class) place
 
-  -- what follows from an instruction at a place of its code holds in the text
+  -- what follows from an instruction at a place of its code holds in the listing
   by-code : (P : (ℕ → Bool) → Instruction → Type 0)
       → ((code : CodeAttribute) → HasSoundCode code → (at : ℕ) (i : Instruction) → IsOf code at i
       → ((at == 0 || is_start_in (instrs_of code) at) || (length code.code == at)) ≡ true

@@ -56,7 +56,7 @@ module _ (is_place : ℕ → ℕ → Bool) where
   bounds-fixed v [] all = tt
   bounds-fixed v (h ∷ hs) all = (place-fixed v h.start all.0.0, place-fixed v h.finish all.0.1, bounds-fixed v hs all.1)
 
-  -- ---- the text
+  -- ---- the listing
 
   closed-place : (t : Listing) → IsClosed is_place t → (v at : ℕ) → IsPlace (norm_of is_place) v at → is_place v at ≡ true
   closed-place t closed v at is = fixed-place v at (is_place v at) (closed.start v) refl is

@@ -1,4 +1,4 @@
--- Every state of a run over a sound text is sound: the start gives one, and a step of one gives one (JVM Specification 5.2, 5.3, 5.5).
+-- Every state of a run over a sound listing is sound: the start gives one, and a step of one gives one (JVM Specification 5.2, 5.3, 5.5).
 use Rattle.std.proofs.Common.{◌≡◌, ℕ, false, List, [], ◌∷◌, ◌++◌, sym, subst, refl, ◌∙◌, ◌⊎◌, inl, inr}
 use Rattle.std.proofs.lemmas.Option.{IfSome_then, none-some}
 use Rattle.std.specs.Prelude.{Option, Some, None}
@@ -41,7 +41,7 @@ module _ (Runs : ℕ → ℕ → Type 0) where
 
   -- ---- a step
 
-  module _ (w : World) (fit : IsFit w.program) (t : Listing) (text : IsSoundListing Runs w.program t) where
+  module _ (w : World) (fit : IsFit w.program) (t : Listing) (is_sound : IsSoundListing Runs w.program t) where
     on-with : (loaded now : List ℕ) (s : State) → now ≡ loaded → GoesTo Runs w.program now s → GoesTo Runs w.program loaded s
     on-with loaded now s e goes = subst (λ l. GoesTo Runs w.program l s) e goes
 
@@ -62,9 +62,9 @@ module _ (Runs : ℕ → ℕ → Type 0) where
         → GoesTo Runs w.program s.shared.loaded (tries w t i s f d).after
     tries-goes i s f d entry goes outcome =
         let after : State = record s { shared = d.shared; output = s.output ++ d.wrote } in
-        settled-goes Runs w fit t text s.shared.loaded (applies w t i d.outcome after f)
+        settled-goes Runs w fit t is_sound s.shared.loaded (applies w t i d.outcome after f)
         (on-with s.shared.loaded d.shared.loaded (applies w t i d.outcome after f).after goes.same
-        (applied-goes Runs w fit t text i d.outcome after f goes.sound
+        (applied-goes Runs w fit t is_sound i d.outcome after f goes.sound
         (subst (λ loaded. IsSoundEntry Runs w.program loaded (Active f)) (sym goes.same) entry)
         (subst (λ loaded. IsSoundOutcome w.program loaded d.outcome) (sym goes.same) outcome)))
 
@@ -110,12 +110,12 @@ module _ (Runs : ℕ → ℕ → Type 0) where
         subst (λ loaded. IsSoundEntry Runs w.program loaded (Active f)) (sym (with-loaded-is classes s))
         (entry-grows Runs w.program s.shared.loaded (s.shared.loaded ++ classes) (λ class h. among-front class s.shared.loaded classes h) (Active f) entry) in
         let can : CanAttempt w.program ready.shared.loaded i.operation =
-        text.attempts ready.shared.loaded f.version f.method f.place i there.1 there.0 e in
+        is_sound.attempts ready.shared.loaded f.version f.method f.place i there.1 there.0 e in
         by-goes i ready f (sound-loaded w i.operation f.operands s is) there can (loads-again w i.operation s f.operands)
 
     at-sound : (s : State) (f : Frame) (found : Option Instruction) → IsSound Runs w.program s → IsSoundEntry Runs w.program s.shared.loaded (Active f) → s.ending ≡ None
         → t.at f.version f.place ≡ found → IsSound Runs w.program (steps_at w t s f found).after
-    at-sound s f None is entry on e = (applied-goes Runs w fit t text (record { operation = Athrow; own = 0; next = None; targets = [] }) (Breaks false) s f is entry tt).sound
+    at-sound s f None is entry on e = (applied-goes Runs w fit t is_sound (record { operation = Athrow; own = 0; next = None; targets = [] }) (Breaks false) s f is entry tt).sound
     at-sound s f (Some i) is entry on e =
         let classes = loads w i.operation s.shared f.operands in
         let ready : State = with_loaded classes s in
@@ -163,7 +163,7 @@ module _ (Runs : ℕ → ℕ → Type 0) where
     either-moves : (b : Turn) → Either b → IfSome (move w t b.after) (λ next. Either (then_turn b next))
     either-moves b (inl is) =
         IfSome_then (move w t b.after) {P = λ next. GoesTo Runs w.program b.after.shared.loaded next.after} {Q = λ next. Either (then_turn b next)}
-        (moves-go Runs w fit t text b.after is b.after.ending b.after.thrown b.after.stack refl is.stack) (λ next goes. inl goes.sound)
+        (moves-go Runs w fit t is_sound b.after is b.after.ending b.after.thrown b.after.stack refl is.stack) (λ next goes. inl goes.sound)
     either-moves b (inr is) =
         IfSome_then (move w t b.after) {P = λ next. IsSound Runs w.program next.after} {Q = λ next. Either (then_turn b next)}
         (refused-moves b.after is.object b.after.ending b.after.thrown b.after.stack is.shared is.stack is.ending is.thrown is.stack) (λ next sound. inl sound)
@@ -180,7 +180,7 @@ module _ (Runs : ℕ → ℕ → Type 0) where
         (settled-keeps w t Either either-moves first (begins-if Runs w fit (arguments_fit w.program)))
         (settled-stops w t first))
 
--- original code is such a text
+-- original code is such a listing
 pub original-sound : (p : Program) → IsFit p → IsSoundListing RunsOriginal p (original p)
 original-sound p fit = record {
   begins = λ method. refl;

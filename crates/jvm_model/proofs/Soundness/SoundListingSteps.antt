@@ -1,4 +1,4 @@
--- What an instruction asks for, and the moves behind it, keep a state sound, over any text of versions (JVM Specification 2.6, 2.10, 5.5).
+-- What an instruction asks for, and the moves behind it, keep a state sound, over any listing of versions (JVM Specification 2.6, 2.10, 5.5).
 use Rattle.std.proofs.Common.{◌≡◌, ℕ, suc, Bool, true, false, List, [], ◌∷◌, ap, sym, subst, refl, ◌∙◌}
 use Rattle.std.specs.Prelude.{Option, Some, None, slice_get, nat_le, nat_lt, if◌then◌else◌}
 use Rattle.std.specs.List.{AllByRecursion}
@@ -73,7 +73,7 @@ module _ (Runs : ℕ → ℕ → Type 0) where
 
   -- ---- what an instruction asks for
 
-  module _ (w : World) (fit : IsFit w.program) (t : Listing) (text : IsSoundListing Runs w.program t) where
+  module _ (w : World) (fit : IsFit w.program) (t : Listing) (is_sound : IsSoundListing Runs w.program t) where
     abbrev Entries : State → List Entry → Type 0
     Entries s stack = AllByRecursion (IsSoundEntry Runs w.program s.shared.loaded) stack
 
@@ -112,7 +112,7 @@ module _ (Runs : ℕ → ℕ → Type 0) where
             chosen-turn w.program s.shared.loaded (has_room w m args) (begins_beside w t s f m args below (suc (live_in s.stack))) (still (breaks s f i.own))
             (chosen-turn w.program s.shared.loaded (nat_lt (suc (live_in s.stack)) most_live) (begins w t s f m args below)
             (still (throws_at s f (exception_raised w s.shared stack_overflow None)))
-            (restacked (begins w t s f m args below).after refl ((has, text.begins m), (entry, is.stack)) (λ on. on))
+            (restacked (begins w t s f m args below).after refl ((has, is_sound.begins m), (entry, is.stack)) (λ on. on))
             (raises-sound stack_overflow None refl))
             (breaks-sound i.own)
 
@@ -223,7 +223,7 @@ module _ (Runs : ℕ → ℕ → Type 0) where
           (record { after = with_frame (at_part (record s { stack = below }) c Finish) (new_frame w t m []); changes = Began m ∷ [] })
           (still (raises w (at_part (record s { stack = below }) c Finish) stack_overflow None))
           (restacked s is (with_frame (at_part (record s { stack = below }) c Finish) (new_frame w t m [])) refl
-          ((initializer-class s.shared.loaded c m there e, text.begins m), (there, each)) (λ on. on))
+          ((initializer-class s.shared.loaded c m there e, is_sound.begins m), (there, each)) (λ on. on))
           (part-raises below c Finish stack_overflow None each there refl)
 
       initializes-goes : (below : List Entry) (c : ℕ) (part : Part) → Entries s below → IsLoaded s.shared.loaded c
@@ -244,7 +244,7 @@ module _ (Runs : ℕ → ℕ → Type 0) where
           (record { after = record s { begun = true; stack = Active (new_frame w t w.program.main argument_array) ∷ [] }; changes = Began w.program.main ∷ [] })
           (still (record s { ending = Some (Unverifiable w.program.main 0) }))
           (restacked s is (record s { begun = true; stack = Active (new_frame w t w.program.main argument_array) ∷ [] }) refl
-          ((main-has s.shared.loaded (is.main on), text.begins w.program.main), tt) (λ on. on))
+          ((main-has s.shared.loaded (is.main on), is_sound.begins w.program.main), tt) (λ on. on))
           (ended s is (record s { ending = Some (Unverifiable w.program.main 0) }) (Unverifiable w.program.main 0) refl is.stack refl)
 
       pub moves-go : (ending : Option Ending) (thrown : Option ℕ) (stack : List Entry) → s.ending ≡ ending → Entries s stack

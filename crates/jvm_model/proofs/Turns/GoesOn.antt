@@ -1,4 +1,4 @@
--- How a step in hand goes on over the text of versions that is in force: it stops where the step's next change is told, and what is in hand then is
+-- How a step in hand goes on over the listing of versions that is in force: it stops where the step's next change is told, and what is in hand then is
 -- the rest of the same step; at its end the machine stands for the state after it.
 use Rattle.std.proofs.Common.{◌≡◌, ℕ, zero, suc, Bool, true, false, List, [], ◌∷◌, ◌++◌, drop, Option, Some, None, refl, sym, ap, ap₂, subst, ◌∙◌}
 use Rattle.std.specs.Option.{option_map}
@@ -160,7 +160,7 @@ module _ (w : World) (t : Listing) (x : Versioned) (own : Agrees x.norm (self x.
           ∙ (ap (λ (a : Turn). a.after) (original-rest todo b inhand.placed)
           ∙ (ap (original_of x) is.same ∙ ap (λ (a : Turn). original_of x a.after) (is.ends nothing)))
 
--- ---- over the text in force
+-- ---- over the listing in force
 
 module _ (w : World) (t : Listing) (x : Versioned) (own : Agrees x.norm (self x.norm) t t) (current : ℕ → ℕ) (u : Listing) (is : IsOfVersions x.norm x.method_of current x.homes t u)
     (only : EndsByReturn w) (turn : Turn) (passed : ℕ) (told : Bool) (live : List Held) where

@@ -51,7 +51,7 @@ item_of r = record {
 abbrev pub class_file : Sketch → ClassFile
 class_file s = file_of (with_methods (map item_of s.routines ++ s.shape.methods) s.shape)
 
--- ---- the program, and its text
+-- ---- the program, and its listing
 
 abbrev pub class_files : Sketches → List ClassFile
 class_files s = map class_file s.classes ++ library_files

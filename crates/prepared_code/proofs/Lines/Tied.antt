@@ -1,4 +1,4 @@
--- What stands at an offset of the prepared code is what the text of original code has there.
+-- What stands at an offset of the prepared code is what the listing of original code has there.
 use Rattle.std.proofs.Common.{◌≡◌, ℕ, Bool, true, false, cond, List, [], ◌∷◌, Option, Some, None, refl, sym, ap, subst, ◌∙◌}
 use Rattle.std.proofs.lemmas.Bool.{false≢true}
 use Rattle.std.specs.Prelude.{slice_get, unwrap_or, ◌==◌, ◌&&◌}

@@ -73,6 +73,6 @@ pub original-own : (p : Program) (k at : ℕ) → IfSome (line_at (original_vers
 original-own p k at =
     subst (λ (o : Option Line). IfSome o IsOwnLine) (sym (original-line p k at)) (own-tie (originals.line_at p k at) ((original p).at k at) (tied-at p k at))
 
--- as a text they are original code
+-- as a listing they are original code
 pub original-at : (p : Program) (k at : ℕ) → (listing_of (original_versions p)).at k at ≡ (original p).at k at
 original-at p k at = shown (line_at (original_versions p) k at) ((original p).at k at) (subst (λ (o : Option Line). Tie o ((original p).at k at)) (sym (original-line p k at)) (tied-at p k at))

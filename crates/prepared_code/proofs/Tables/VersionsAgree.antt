@@ -1,4 +1,4 @@
--- A table of versions is a text of versions of the original code.
+-- A table of versions is a listing of versions of the original code.
 use Rattle.std.proofs.Common.{◌≡◌, ◌≤◌, ◌<◌, ◌+◌, ◌-◌, ℕ, [], length, map, Option, Some, None, refl, sym, ap, subst, ◌∙◌, ⊎_elim, arith}
 use Rattle.std.specs.Prelude.{max, unwrap_or}
 use Rattle.std.specs.Option.{option_and_then, option_map, option_map_or}
