@@ -11,6 +11,7 @@ mod Quiet
 mod Carried
 mod Attempted
 mod ArraysMade
+mod ArrayRoom
 pub mod Again
 mod CalleeLemmas
 pub mod PassingLemmas

@@ -140,6 +140,7 @@ pub struct Made {
 /// after want of memory.
 #[tactic(auto, using(member_selection::proofs::ObjectLemmas::objects_with))]
 fn make_one(heap: &mut Heap, kind: u32, count: u32) -> Result<Made, NoMemory>
+    requires room { heap.old.used + (1 + count) ≤ heap.old.limit }
     ensures array { IfOk result (λ m. m.array ≡ next_number heap.old) }
     ensures next { IfOk result (λ m. m.next ≡ next_number heap.new) }
     ensures heap { OnOk result (heap.new ≡ with_array kind (Int (pos 0)) count heap.old) }
@@ -148,7 +149,8 @@ fn make_one(heap: &mut Heap, kind: u32, count: u32) -> Result<Made, NoMemory>
 {
     let array = match heap.array(kind, Datum::Int(0), count) {
         Ok(number) => number,
-        Err(HeapError::HeapFull) => return Err(NoMemory),
+        // There is room.
+        Err(HeapError::HeapFull) => unreachable!(),
         Err(HeapError::NoMemory) => return Err(NoMemory),
     };
     match array.checked_add(1) {
@@ -157,8 +159,11 @@ fn make_one(heap: &mut Heap, kind: u32, count: u32) -> Result<Made, NoMemory>
     }
 }
 
-/// An array of this kind, and then its parts, each with all below it: depth first.
+/// An array of this kind, and then its parts, each with all below it: depth first. There is room
+/// for them all, and at least one length.
 fn make_all(heap: &mut Heap, kind: u32, lengths: &[u32]) -> Result<Made, NoMemory>
+    requires least { 1 ≤ length lengths.now }
+    requires room { heap.old.used + slots_of_arrays lengths.now ≤ heap.old.limit }
     ensures array { IfOk result (λ m. m.array ≡ next_number heap.old) }
     ensures next { IfOk result (λ m. m.next ≡ next_number heap.new) }
     ensures heap { OnOk result (heap.new ≡ with_arrays kind lengths.now heap.old) }
@@ -166,7 +171,7 @@ fn make_all(heap: &mut Heap, kind: u32, lengths: &[u32]) -> Result<Made, NoMemor
         → AreLoaded l heap.new }
 {
     let Some((first, rest)) = lengths.split_first() else {
-        return Err(NoMemory);
+        unreachable!()
     };
     let count = *first;
     let made = make_one(heap, kind, count)?;
@@ -196,6 +201,7 @@ impl Runtime {
         dimensions: u8,
     ) -> Result<Outcome, NoMemory>
         requires usable { IsUsable (linker_in self.old) kind }
+        requires least { 1 ≤ length lengths.now }
         requires most { length lengths.now ≤ kind / 16777216 }
         requires enough { dimensions ≤ length (top_operands frames.now.frames) }
         ensures answer { Asks result (allocates (slots_of_arrays lengths.now)
@@ -222,6 +228,7 @@ impl Runtime {
         dimensions: u8,
     ) -> Result<Outcome, NoMemory>
         requires usable { IsUsable (linker_in self.old) kind }
+        requires least { 1 ≤ length counts.now }
         requires most { length counts.now ≤ kind / 16777216 }
         requires enough { dimensions ≤ length (top_operands frames.now.frames) }
         ensures answer { Asks result

@@ -14,3 +14,9 @@ pub make_counts-requires-clause-enough : goal.make_counts-requires-clause-enough
 make_counts-requires-clause-enough c =
     let is : counts_of c.args.dimensions (top_operands c.args.frames.now.frames) ≡ Some c.in-Some.counts = sym c.in_ok-counts.ensures ∙ c.in-Some.is in
     enough_below c.args.dimensions (top_operands c.args.frames.now.frames) c.in-Some.counts is
+
+pub make_counts-requires-clause-least : goal.make_counts-requires-clause-least
+make_counts-requires-clause-least c =
+    let is : counts_of c.args.dimensions (top_operands c.args.frames.now.frames) ≡ Some c.in-Some.counts = sym c.in_ok-counts.ensures ∙ c.in-Some.is in
+    subst (λ n. 1 ≤ n)
+    (sym (ap length c.as_slice-counts.ensures ∙ counts_count c.args.dimensions (top_operands c.args.frames.now.frames) c.in-Some.counts is)) c.requires.least

@@ -4,6 +4,7 @@ use Rattle.heap_objects.specs.Heaps.{with_slot_at}
 use Rattle.jvm_model.specs.Instructions.CreationRules.{with_arrays, with_parts}
 use Rattle.member_selection.specs.Arrays.{AreUsable}
 use Rattle.member_selection.specs.Objects.{AreLoaded}
+use Rattle.symbolic_references.proofs.ArrayRoom.{room_behind}
 use Rattle.symbolic_references.proofs.ArraysMade.{down-first, down-rest, parts_step}
 use Rattle.member_selection.proofs.ObjectLemmas.{objects_slot}
 use Rattle.symbolic_references.proofs.runtime.multi_arrays.+make_all.Goals as goal
@@ -22,6 +23,8 @@ loop-at-preserved t c =
       λ k down are. c.make_all.ensures.loaded k (subst (λ kind. AreUsable k kind c.in-Some.rest.now) (sym c.saturating_sub.ensures) down)
           (subst (AreLoaded k) (sym c.put_slot.ensures)
           (objects_slot k c.loop-at.heap c.in_ok-made.made.array c.loop-at.at (Ref c.loop-at.next) (c.loop-at.invariant.2 k down are))),
+      room_behind c.saturating_sub.result c.in-Some.first.now c.loop-at.at c.in_ok-made.made.array (Ref c.loop-at.next) c.in-Some.rest.now
+          c.loop-at.heap c.put_slot.new.heap c.make_all.new.heap more c.put_slot.ensures c.in_ok-part.ensures.heap c.loop-at.invariant.3,
     )
 
 pub returns-in_err-part-clause-loaded : goal.returns-in_err-part-clause-loaded
