@@ -22,9 +22,8 @@ fn image_for(alloc: Global, vm: &Vm, class: u32, bytes: &[u8]) -> Result<ClassFi
     ensures first_fault { (refusal : Refusal) → IsRefused vm.now.program class bytes.now refusal
         → IsUnless result (Err refusal) SwapError.NoMemory }
 {
-    // (there is one, as is asked)
     let Some(original) = vm.program().classes.get(class as usize) else {
-        return Err(SwapError::NoMemory);
+        unreachable!()
     };
     match read_swap(alloc, original, bytes) {
         Ok(image) => Ok(image),

@@ -5,7 +5,7 @@ ghost use Rattle.heap_objects.specs.Heaps.{with_instance};
 ghost use Rattle.jvm_model.specs.Basis.SharedState.{heap_before};
 
 use class_linker::Linker;
-use heap_objects::{Datum, Heap};
+use heap_objects::{Datum, Heap, HeapError};
 use jf_bytes::NoMemory;
 use std::alloc::Global;
 use symbolic_references::kind_for;
@@ -17,7 +17,9 @@ fn make(heap: &mut Heap, kind: u32, fields: &[Datum]) -> Result<(), NoMemory>
 {
     match heap.instance(kind, fields) {
         Ok(_) => Ok(()),
-        Err(_) => Err(NoMemory),
+        // There is room.
+        Err(HeapError::HeapFull) => unreachable!(),
+        Err(HeapError::NoMemory) => Err(NoMemory),
     }
 }
 
