@@ -263,7 +263,7 @@ fn load_generated(
     ensures without_fault { IfErr result (λ e. status_of e ≢ 7) }
 {
     let Some(command) = command_of(words, plan) else {
-        return Err(Refusal::Words);
+        unreachable!()
     };
     match admit_generated(alloc, generation.seed, generation.size, plan) {
         Ok(made) => Ok(Found {

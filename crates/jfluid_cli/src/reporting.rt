@@ -11,7 +11,7 @@ use crate::refusal::{Refusal, put_bytes};
 use jf_bytes::{NoMemory, Sink};
 use jvm_model::Ending;
 use profile_report::{Facts, report};
-use profile_session::Session;
+use profile_session::{ActError, Session};
 use std::alloc::Global;
 
 /// The exit status of a run that ended so, or did not.
@@ -48,12 +48,17 @@ fn text_of(alloc: Global, session: &Session, summary: bool) -> Result<Vec<u8>, N
 
 /// Brings the tree of a session to its clock.
 pub fn gather(session: &mut Session) -> Result<(), NoMemory>
+    requires whole { session.old.broken ≡ false }
     ensures ok { OnOk result (Gathers session.old session.new) }
     ensures same { SameProgram session.old session.new }
 {
     match session.gather() {
         Ok(()) => Ok(()),
-        Err(_) => Err(NoMemory),
+        Err(ActError::NoMemory) => Err(NoMemory),
+        Err(ActError::AlreadySelected) => unreachable!(),
+        Err(ActError::NotSelected) => unreachable!(),
+        Err(ActError::Ended) => unreachable!(),
+        Err(ActError::Broken) => unreachable!(),
     }
 }
 

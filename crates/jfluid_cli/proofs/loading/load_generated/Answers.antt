@@ -1,5 +1,6 @@
-use Rattle.std.proofs.Common.{refl, sym, subst, ◌∙◌}
-use Rattle.std.specs.Prelude.{◌≢◌}
+use Rattle.std.proofs.Common.{◌≡◌, ℕ, List, Option, true, false, refl, sym, ap, subst, ◌∙◌}
+use Rattle.std.specs.Prelude.{◌≢◌, ◌&&◌, is_none}
+use Rattle.std.proofs.lemmas.Bool.{false≢true}
 use Rattle.program_gen.specs.Generated.{classes_generated}
 use Rattle.generated_programs.specs.Admitted.{main_name}
 use Rattle.generated_programs.proofs.GeneratedAdmitted.{generated-admitted}
@@ -11,7 +12,7 @@ use Rattle.jfluid_cli.specs.Stages.{IsBeforeTheRun}
 use Rattle.jfluid_cli.specs.Words.{Command, command_with}
 use Rattle.jfluid_cli.proofs.Runs.Admitted.{acts-in-order}
 use Rattle.jfluid_cli.proofs.Actions.Alternating.{acts-alternating}
-use Rattle.jfluid_cli.proofs.Runs.BeforeTheRun.{admission-without_fault, due-mainless, made-command}
+use Rattle.jfluid_cli.proofs.Runs.BeforeTheRun.{admission-without_fault, made-command}
 use Rattle.jfluid_cli.proofs.Files.Generating.{due-generated, generation-fits, loaded-generated, made-generated}
 use Rattle.jfluid_cli.proofs.loading.load_generated.Goals as goal
 
@@ -26,9 +27,13 @@ admit_generated-requires-clause-most c =
 pub admit_generated-requires-clause-heap : goal.admit_generated-requires-clause-heap
 admit_generated-requires-clause-heap c = c.requires.within.heap
 
-pub returns-in_default-clause-before_the_run : goal.returns-in_default-clause-before_the_run
-returns-in_default-clause-before_the_run c = λ given with_plan.
-    due-mainless given (read_in c.args.words.now) c.args.plan.now with_plan c.in_default.ensures.chosen
+-- its words have a main class
+pub unreachable-requires : goal.unreachable-requires
+unreachable-requires c =
+    let fits = generation-fits (read_in c.args.words.now) c.args.generation c.requires.sound c.requires.own in
+    let named : false ≡ true = sym (c.in_default.ensures.none
+    ∙ ap (λ (main : Option (List ℕ)). is_none main && is_none c.args.plan.now.main) fits.main) in
+    false≢true named
 
 -- ---- what runs
 
