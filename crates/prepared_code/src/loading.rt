@@ -4,10 +4,11 @@
 ghost use Rattle.std.specs.Prelude.{◌≡◌, ◌<◌, ◌^◌, [], false, length, unwrap_or, IfOk, OnOk};
 ghost use Rattle.std.specs.Option.{option_map_or};
 ghost use Rattle.class_linker.specs.Linkers.{IsAnswer, load_answer, loaded_by};
-ghost use Rattle.jvm_model.specs.Basis.Programs.{class_at, has_built_in_name, name_at, name_of};
+ghost use Rattle.jvm_model.specs.Basis.Programs.{class_at, has_built_in_name, name_at};
 ghost use Rattle.prepared_code.specs.Prepared.{built_in_then, load_built_in, main_name};
 
 use base_classes::is_built_in;
+use class_index::Index;
 use class_linker::{Linker, Loaded};
 use const_pool::ClassFile;
 use jf_bytes::{NoMemory, Text16};
@@ -25,31 +26,21 @@ pub fn has_built_in_name(class: &ClassFile) -> bool
     }
 }
 
-/// A copy of a class's name; the empty text where it has none.
-fn name_of(alloc: Global, class: &ClassFile) -> Result<Text16, NoMemory>
-    ensures { IfOk result (λ name. name ≡ unwrap_or (name_of class.now) []) }
-{
-    match class.pool.class_name(class.this_class) {
-        Ok(name) => copy_of(alloc, name),
-        Err(_) => Ok(Text16::new(Vec::new(alloc))),
-    }
-}
-
 /// A copy of the name of the class at a position; the empty text where there is none.
-fn name_at(alloc: Global, program: &Program, class: u32) -> Result<Text16, NoMemory>
-    ensures { IfOk result (λ name. name ≡ unwrap_or (name_at program.now class) []) }
+fn name_at(alloc: Global, index: &Index, class: u32) -> Result<Text16, NoMemory>
+    ensures { IfOk result (λ name. name ≡ unwrap_or (name_at index.now class) []) }
 {
-    match program.classes.get(class as usize) {
-        Some(class) => name_of(alloc, class),
+    match index.name_at(class) {
+        Some(name) => copy_of(alloc, name),
         None => Ok(Text16::new(Vec::new(alloc))),
     }
 }
 
 /// A copy of the name of the main class; the empty text where there is none.
-pub fn main_name(alloc: Global, program: &Program) -> Result<Text16, NoMemory>
-    ensures { IfOk result (λ name. name ≡ main_name program.now) }
+pub fn main_name(alloc: Global, index: &Index) -> Result<Text16, NoMemory>
+    ensures { IfOk result (λ name. name ≡ main_name index.now) }
 {
-    name_at(alloc, program, main_class(program))
+    name_at(alloc, index, main_class(index.program()))
 }
 
 /// Loads the class at a position by its name, with what it needs.
@@ -60,7 +51,7 @@ fn load_class(alloc: Global, linker: &mut Linker, class: u32) -> Result<Loaded, 
         IfOk result (λ a. linker.new ≡ loaded_by a name linker.old) }
     ensures program { linker.new.program ≡ linker.old.program }
 {
-    let name = name_at(alloc, linker.program(), class)?;
+    let name = name_at(alloc, linker.index(), class)?;
     Ok(linker.load(&name))
 }
 

@@ -54,7 +54,7 @@ impl Originals {
         ensures known { OnOk result (AreNamesKnown self.now runtime.new) }
         ensures world { runtime.new.world ≡ runtime.old.world }
     {
-        let name = main_name(alloc, runtime.program())?;
+        let name = main_name(alloc, runtime.linker().index())?;
         runtime.resolve(&name)
     }
 }

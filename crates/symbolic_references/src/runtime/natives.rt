@@ -5,6 +5,7 @@ ghost use Rattle.std.specs.Prelude.{◌≡◌, ◌≤◌, ◌<◌, ◌==◌, len
 ghost use Rattle.std.specs.Prelude.{IfOk, IsSome, OnOk};
 ghost use Rattle.std.specs.Option.{option_map};
 ghost use Rattle.base_classes.specs.Natives.{native_methods};
+ghost use Rattle.base_classes.specs.declared.places.TheConstants.{ARRAYCOPY};
 ghost use Rattle.frame_stack.specs.FrameLists.{top_operands};
 ghost use Rattle.jvm_basic.specs.Outcomes.{top_locals};
 ghost use Rattle.jvm_model.specs.Instructions.InvocationRules.{reference_to};
@@ -178,7 +179,7 @@ impl Runtime {
         requires stands { IsSome (slice_get native_methods native.number) }
         requires within { native.count ≤ length (top_operands frames.old.frames) }
         requires some { 0 < native.count }
-        requires other { (native.number == 79) ≡ false }
+        requires other { (native.number == ARRAYCOPY) ≡ false }
         requires args { args.now ≡ data_in native.count (top_operands frames.old.frames) }
         ensures passed { let fs = frames.old.frames in
             let d = runs_native_call self.old.world native self.old.shared fs in
