@@ -2,7 +2,7 @@
 use Rattle.std.specs.Prelude.{◌≡◌, ◌≢◌, ℕ, ◌⊎◌, Bool, true, false, List, Option, Some, None, Result, slice_get, IfSome, IsErr, IsSome, IsSomeAnd}
 use Rattle.jf_bytes.specs.declared.error.NoMemory.{NoMemory}
 use Rattle.std.specs.Io.KnownBytes.{IsAtEnd}
-use Rattle.jf_bytes.specs.Streams.{Told, PutsAll, PutsPrefix, Rose}
+use Rattle.jf_bytes.specs.Streams.{PutsAll, PutsPrefix, Rose}
 use Rattle.command_line.specs.Input.{TakesAtMost, TakesOneMore, most_input, most_taken}
 use Rattle.jvm_model.specs.declared.program.Program.{Program}
 use Rattle.jvm_model.specs.Running.Run.{ending_of}
@@ -16,34 +16,25 @@ use Rattle.jfluid_cli.specs.Images.{IsImaged, IsUnimaged, images_of}
 use Rattle.jfluid_cli.specs.Origins.{HasOrigin, IsOnlyProgram}
 use Rattle.jfluid_cli.specs.Refusals.{status_of, refusal_line}
 use Rattle.jfluid_cli.specs.Runs.{IsCarriedOut, PutsAtMost, ending_at, world_on}
-use Rattle.jfluid_cli.specs.Sinks.{DevicesView, SinkView, SourceView, FilesView, Streams, FailsOnce, IsUntold, PutsOrRose, streams_of}
+use Rattle.jfluid_cli.specs.Sinks.{DevicesView, SinkView, FailsOnce, IsUntold, PutsOrRose}
 use Rattle.jfluid_cli.specs.Top.{IsWithoutFault, is_run, is_refused, is_unadmitted, is_status, report_of, status_of_ending}
 use Rattle.jfluid_cli.specs.Words.{words_accepted, asks_images, budget_of, file_words, is_generated, plan_word, words_in}
 
 -- ---- a call
 
--- A call: the words as bytes, or the want of memory that came in their place, what the files tell,
--- files, source of input and streams before and after, and what is kept.
+-- A call: the words as bytes, or the want of memory that came in their place, the devices before and
+-- behind it, and what is kept.
 pub record Call : Type 0 where
   pub words : Result (List (List ℕ)) NoMemory
-  pub told : Option Told
-  pub files : FilesView
-  pub files_after : FilesView
-  pub input : SourceView
-  pub input_after : SourceView
-  pub streams : Streams
+  pub old : DevicesView
+  pub new : DevicesView
   pub kept : Option Kept
 
--- a call on devices that are seen so before and behind it
 abbrev pub call_of : Result (List (List ℕ)) NoMemory → DevicesView → DevicesView → Option Kept → Call
 call_of words old new kept = record {
   words = words;
-  told = old.told;
-  files = old.files;
-  files_after = new.files;
-  input = old.input;
-  input_after = new.input;
-  streams = streams_of old new;
+  old = old;
+  new = new;
   kept = kept;
 }
 
@@ -51,32 +42,31 @@ abbrev pub words_of : Call → List (List ℕ)
 words_of c = words_in c.words
 
 abbrev pub given_of : Call → CallInputs
-given_of c = record { words = words_of c; told = c.told; left = c.input.left }
+given_of c = record { words = words_of c; told = c.old.told; left = c.old.input.left }
 
 -- ---- with every status
 
 -- what was put to images is a front of those that are asked for
-abbrev pub PutsImages : Bool → Profiling → Streams → Type 0
-PutsImages asked v s = PutsPrefix s.images.taken s.images_after.taken (images_of asked v)
+abbrev pub PutsImages : Bool → Profiling → DevicesView → DevicesView → Type 0
+PutsImages asked v old new = PutsPrefix old.images.taken new.images.taken (images_of asked v)
 
 pub record IsTrueOf (c : Call) : Type 0 where
   -- what is kept came from words, files and input, and is all that the files spell
   pub origin : IfSome c.kept (HasOrigin (given_of c))
   pub only : IfSome c.kept IsOnlyProgram
   -- the input was taken to its end
-  pub ended : IsSome c.kept → IsAtEnd c.input_after.left
+  pub ended : IsSome c.kept → IsAtEnd c.new.input.left
   -- with any status the source gave bytes from its front alone, at most one more than the limit
-  pub rest : TakesAtMost most_taken c.input.left c.input_after.left
+  pub rest : TakesAtMost most_taken c.old.input.left c.new.input.left
   -- a front of the output at the budget was put, and nothing where nothing was made
   pub prefix :
-      let s = c.streams in
       IfSome c.kept
-      (λ k. PutsAtMost k.session.value (budget_of (words_of c) k.plan) s.out.taken s.out_after.taken)
-  pub nothing : c.kept ≡ None → IsUntold c.streams.out c.streams.out_after
+      (λ k. PutsAtMost k.session.value (budget_of (words_of c) k.plan) c.old.out.taken c.new.out.taken)
+  pub nothing : c.kept ≡ None → IsUntold c.old.out c.new.out
   -- a front of the images that are asked for was put, and nothing where none are or nothing was made
-  pub images : IfSome c.kept (λ k. PutsImages (asks_images (words_of c)) k.session.value c.streams)
-  pub unasked : asks_images (words_of c) ≡ false → IsUntold c.streams.images c.streams.images_after
-  pub unimaged : c.kept ≡ None → IsUntold c.streams.images c.streams.images_after
+  pub images : IfSome c.kept (λ k. PutsImages (asks_images (words_of c)) k.session.value c.old c.new)
+  pub unasked : asks_images (words_of c) ≡ false → IsUntold c.old.images c.new.images
+  pub unimaged : c.kept ≡ None → IsUntold c.old.images c.new.images
   -- no version is held but those in which methods begin and those that live activations run
   pub held : IfSome c.kept (λ k. k.session.value.stale ≡ false)
 
@@ -100,21 +90,22 @@ IsShown summary asked v images images_after report report_after status =
     ⊎ ((status ≡ 8) × IsUnimaged asked v images images_after × IsUntold report report_after)
 
 -- The run of what is kept was carried out up to its end or the budget; what was put is its output.
-pub record IsRun (summary asked : Bool) (budget : ℕ) (s : Streams) (status : ℕ) (k : Kept) : Type 0 where
-  pub output : IsCarriedOut k.session.value budget s.out.taken s.out_after.taken
-  pub without_fault : s.out_after.faults ≡ s.out.faults
-  pub shown : IsShown summary asked k.session.value s.images s.images_after s.report s.report_after status
+pub record IsRun (summary asked : Bool) (budget : ℕ) (old new : DevicesView) (status : ℕ) (k : Kept)
+    : Type 0 where
+  pub output : IsCarriedOut k.session.value budget old.out.taken new.out.taken
+  pub without_fault : new.out.faults ≡ old.out.faults
+  pub shown : IsShown summary asked k.session.value old.images new.images old.report new.report status
 
 -- the run that the words ask for with the plan that is kept; of a generated program sums are reported
-abbrev pub IsRunAsked : List (List ℕ) → Streams → ℕ → Kept → Type 0
-IsRunAsked words s status k =
-    IsRun (is_generated words) (asks_images words) (budget_of words k.plan) s status k
+abbrev pub IsRunAsked : List (List ℕ) → DevicesView → DevicesView → ℕ → Kept → Type 0
+IsRunAsked words old new status k =
+    IsRun (is_generated words) (asks_images words) (budget_of words k.plan) old new status k
 
 -- The run of the words, with nothing else failed.
 pub record IsRunOf (c : Call) (status : ℕ) : Type 0 where
-  pub made : IsSomeAnd c.kept (IsRunAsked (words_of c) c.streams status)
-  pub without_fault : c.files_after ≡ c.files
-  pub input_without_fault : c.input_after.faults ≡ c.input.faults
+  pub made : IsSomeAnd c.kept (IsRunAsked (words_of c) c.old c.new status)
+  pub without_fault : c.new.files ≡ c.old.files
+  pub input_without_fault : c.new.input.faults ≡ c.old.input.faults
 
 -- ---- a refusal
 
@@ -125,50 +116,50 @@ pub record IsRefused (c : Call) (r : Refusal) : Type 0 where
   pub refused : is_refused (status_of r) ≡ true → c.kept ≡ None
   pub made : status_of r ≡ 6 → IsSome c.kept
   -- no input was taken where the program was not admitted
-  pub untaken : is_unadmitted (status_of r) ≡ true → c.input_after ≡ c.input
+  pub untaken : is_unadmitted (status_of r) ≡ true → c.new.input ≡ c.old.input
   -- one byte more than the limit was taken of an input that is too long
-  pub one_more : status_of r ≡ 11 → TakesOneMore c.input.left c.input_after.left
+  pub one_more : status_of r ≡ 11 → TakesOneMore c.old.input.left c.new.input.left
   -- no more than the limit was taken before a take that failed
-  pub taken : status_of r ≡ 5 → TakesAtMost most_input c.input.left c.input_after.left
+  pub taken : status_of r ≡ 5 → TakesAtMost most_input c.old.input.left c.new.input.left
   -- a fault's count rose, and the last failed name is that of the plan's or of the class's file;
   -- with any other status but 9 no fetch failed, so that the last failed name is as before, and no
   -- take; with 9 too the last failed name is as before, or that of such a file
   pub fetches :
-      FailsOnce (plan_word (words_of c)) (file_words (words_of c)) c.files c.files_after
-  pub not_taken : status_of r ≡ 5 → Rose c.input.faults c.input_after.faults
-  pub stopped : status_of r ≡ 6 → Rose c.streams.out.faults c.streams.out_after.faults
+      FailsOnce (plan_word (words_of c)) (file_words (words_of c)) c.old.files c.new.files
+  pub not_taken : status_of r ≡ 5 → Rose c.old.input.faults c.new.input.faults
+  pub stopped : status_of r ≡ 6 → Rose c.old.out.faults c.new.out.faults
   -- no image is put behind an output that failed
-  pub unshown : status_of r ≡ 6 → IsUntold c.streams.images c.streams.images_after
-  pub not_fetched : status_of r ≡ 7 → Rose c.files.faults c.files_after.faults
-  pub plan_name : r ≡ PlanNotFetched → plan_word (words_of c) ≡ Some c.files_after.last_failed
+  pub unshown : status_of r ≡ 6 → IsUntold c.old.images c.new.images
+  pub not_fetched : status_of r ≡ 7 → Rose c.old.files.faults c.new.files.faults
+  pub plan_name : r ≡ PlanNotFetched → plan_word (words_of c) ≡ Some c.new.files.last_failed
   pub name :
       (at : ℕ) → r ≡ NotFetched at →
-      slice_get (file_words (words_of c)) at ≡ Some c.files_after.last_failed
-  pub without_fault : status_of r ≢ 7 → status_of r ≢ 9 → c.files_after ≡ c.files
-  pub input_without_fault : status_of r ≢ 5 → status_of r ≢ 9 → c.input_after.faults ≡ c.input.faults
+      slice_get (file_words (words_of c)) at ≡ Some c.new.files.last_failed
+  pub without_fault : status_of r ≢ 7 → status_of r ≢ 9 → c.new.files ≡ c.old.files
+  pub input_without_fault : status_of r ≢ 5 → status_of r ≢ 9 → c.new.input.faults ≡ c.old.input.faults
 
 -- its line was put, or a front of it where the report's count of faults rose
 abbrev pub PutsLine : Call → Refusal → Type 0
 PutsLine c r =
     let line = refusal_line r (plan_word (words_of c)) (file_words (words_of c)) in
-    PutsOrRose c.streams.report c.streams.report_after line
+    PutsOrRose c.old.report c.new.report line
 
 -- ---- the answer
 
 -- the count is as before, and can still rise: no fetch failed, no take
 abbrev pub FilesWithoutFault : Call → Type 0
-FilesWithoutFault c = IsWithoutFault c.files.faults c.files_after.faults
+FilesWithoutFault c = IsWithoutFault c.old.files.faults c.new.files.faults
 
 abbrev pub InputWithoutFault : Call → Type 0
-InputWithoutFault c = IsWithoutFault c.input.faults c.input_after.faults
+InputWithoutFault c = IsWithoutFault c.old.input.faults c.new.input.faults
 
 -- no count rose, and each still can
 pub record AllWithoutFault (c : Call) : Type 0 where
   pub files : FilesWithoutFault c
   pub input : InputWithoutFault c
-  pub out : IsWithoutFault c.streams.out.faults c.streams.out_after.faults
-  pub report : IsWithoutFault c.streams.report.faults c.streams.report_after.faults
-  pub images : IsWithoutFault c.streams.images.faults c.streams.images_after.faults
+  pub out : IsWithoutFault c.old.out.faults c.new.out.faults
+  pub report : IsWithoutFault c.old.report.faults c.new.report.faults
+  pub images : IsWithoutFault c.old.images.faults c.new.images.faults
 
 -- The status is that of the ending at the budget of the session that was made, unless memory ran out.
 abbrev pub IsEndingOf : Call → ℕ → Kept → Type 0
@@ -201,7 +192,7 @@ pub record IsAnswered (c : Call) (status : ℕ) : Type 0 where
   pub rootless : is_generated (words_of c) ≡ true → status ≡ 3 → HasNoRoot (given_of c)
   -- and wherever one does
   pub rootless_only :
-      HasNoRoot (given_of c) → IsSome c.told → FilesWithoutFault c → (status ≡ 3) ⊎ (status ≡ 9)
+      HasNoRoot (given_of c) → IsSome c.old.told → FilesWithoutFault c → (status ≡ 3) ⊎ (status ≡ 9)
   -- 11 wherever a program is told, and more input than the limit
   pub input_only :
       HasLongInput (given_of c) → FilesWithoutFault c → InputWithoutFault c → (status ≡ 11) ⊎ (status ≡ 9)

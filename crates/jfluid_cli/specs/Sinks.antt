@@ -22,15 +22,6 @@ pub record PutsOrRose (old new : SinkView) (bytes : List ℕ) : Type 0 where
   pub prefix : PutsPrefix old.taken new.taken bytes
   pub whole : PutsAll old.taken new.taken bytes ⊎ Rose old.faults new.faults
 
--- out, report and images, before and after
-pub record Streams : Type 0 where
-  pub out : SinkView
-  pub out_after : SinkView
-  pub report : SinkView
-  pub report_after : SinkView
-  pub images : SinkView
-  pub images_after : SinkView
-
 -- ---- the source of input
 
 -- what a source has left, where it tells it, and its count of faults
@@ -76,17 +67,6 @@ pub record DevicesView : Type 0 where
   pub out : SinkView
   pub report : SinkView
   pub images : SinkView
-
--- the sinks of devices before and after
-abbrev pub streams_of : DevicesView → DevicesView → Streams
-streams_of old new = record {
-  out = old.out;
-  out_after = new.out;
-  report = old.report;
-  report_after = new.report;
-  images = old.images;
-  images_after = new.images;
-}
 
 -- devices with other sinks
 abbrev pub with_sinks : DevicesView → DevicesView → DevicesView

@@ -21,7 +21,7 @@ use Rattle.jfluid_cli.specs.Causes.{CallInputs, Accepts, AreContentsOf, IsLong, 
 use Rattle.jfluid_cli.specs.Contents.{AreFetched, IsFaultAt, SpellAlone, classes_for}
 use Rattle.jfluid_cli.specs.Refusals.{status_of, refusal_of}
 use Rattle.jfluid_cli.specs.Runs.{SameProgram}
-use Rattle.jfluid_cli.specs.Sinks.{FilesView, SourceView, Streams, IsUntold}
+use Rattle.jfluid_cli.specs.Sinks.{DevicesView, FilesView, SourceView, IsUntold}
 use Rattle.jfluid_cli.specs.Top.{IsProgram, is_among}
 use Rattle.jfluid_cli.specs.Words.{Command, words_accepted, AreClaps, AreRefused}
 
@@ -153,14 +153,14 @@ pub record IsSameRun (made k : Kept) : Type 0 where
   pub input : k.input ≡ made.input
 
 -- A run stopped before its end and its budget, for its output or for want of memory.
-pub record IsStopped (s : Streams) (r : Refusal) : Type 0 where
-  pub why : ((r ≡ OutFailed) × Rose s.out.faults s.out_after.faults) ⊎ (r ≡ NoMemory)
-  pub untold : IsUntold s.report s.report_after
-  pub unshown : r ≡ OutFailed → IsUntold s.images s.images_after
+pub record IsStopped (old new : DevicesView) (r : Refusal) : Type 0 where
+  pub why : ((r ≡ OutFailed) × Rose old.out.faults new.out.faults) ⊎ (r ≡ NoMemory)
+  pub untold : IsUntold old.report new.report
+  pub unshown : r ≡ OutFailed → IsUntold old.images new.images
 
 -- A call before the line of a refusal is put.
 pub record IsCarried (c : Call) (result : Result ℕ Refusal) : Type 0 where
   pub always : IsTrueOf c
   pub ran : IfOk result (IsRunOf c)
   pub refused : IfErr result (IsRefused c)
-  pub untold : IfErr result (λ r. IsUntold c.streams.report c.streams.report_after)
+  pub untold : IfErr result (λ r. IsUntold c.old.report c.new.report)

@@ -11,7 +11,7 @@ ghost use Rattle.jfluid_cli.specs.Calls.{IsRun, IsShown, IsAnswered, call_of};
 ghost use Rattle.jfluid_cli.specs.Images.{images_of};
 ghost use Rattle.jfluid_cli.specs.Stages.{IsStopped, IsSameRun, IsCarried};
 ghost use Rattle.jfluid_cli.specs.Runs.{IsFresh, IsGoing, IsPlanned, PutsAtMost, SameProgram};
-ghost use Rattle.jfluid_cli.specs.Sinks.{IsUntold, sink_view, streams_of, with_sinks};
+ghost use Rattle.jfluid_cli.specs.Sinks.{IsUntold, sink_view, with_sinks};
 ghost use Rattle.jfluid_cli.specs.Words.{words_accepted};
 
 use crate::devices::Devices;
@@ -83,10 +83,10 @@ fn run_made<F: Files, I: Source, O: Sink, P: Sink, G: Sink>(
     requires acts { CanBeTaken made_of.session.value.program.acts }
     requires small { budget ≤ greatest_steps }
     ensures same { IsSomeAnd kept.new (IsSameRun made_of) }
-    ensures run { let s = streams_of devices.old devices.new in
+    ensures run { let old = devices.old in let new = devices.new in
         MatchResult result
-        (λ status. IsSomeAnd kept.new (IsRun summary asked budget s status))
-        (IsStopped s) }
+        (λ status. IsSomeAnd kept.new (IsRun summary asked budget old new status))
+        (IsStopped old new) }
     ensures images { IsSomeAnd kept.new (λ k. let bytes = images_of asked k.session.value in
         PutsPrefix devices.old.images.taken devices.new.images.taken bytes) }
     ensures unasked { asked ≡ false → IsUntold devices.old.images devices.new.images }

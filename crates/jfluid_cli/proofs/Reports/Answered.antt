@@ -12,7 +12,7 @@ use Rattle.jfluid_cli.specs.declared.running.Stop.{Stop}
 use Rattle.jfluid_cli.specs.declared.running.Stop.TheVariants as stop
 use Rattle.jfluid_cli.specs.Calls.{IsRun, IsShown}
 use Rattle.jfluid_cli.specs.Runs.{IsCarriedOut, StopCause}
-use Rattle.jfluid_cli.specs.Sinks.{Streams, IsUntold}
+use Rattle.jfluid_cli.specs.Sinks.{DevicesView, IsUntold}
 use Rattle.jfluid_cli.specs.Stages.{IsStopped}
 
 -- a session whose tree was gathered has come as far
@@ -32,27 +32,27 @@ gathered-out old new budget o n gathers out =
     })
 
 -- what was run and reported, or stopped
-pub run-answer : {A : Type 0} (r : Result ℕ Refusal) (outcome : Result A Stop) (s : Streams)
+pub run-answer : {A : Type 0} (r : Result ℕ Refusal) (outcome : Result A Stop) (old new : DevicesView)
     (summary asked : Bool) (budget : ℕ) (ran : Profiling) (k : Kept)
     → IfOk r (λ _. IsOk outcome) → OnOk r (Gathers ran k.session.value)
-    → MatchResult r (IsShown summary asked k.session.value s.images s.images_after s.report s.report_after)
-    (λ e. IsUntold s.report s.report_after)
+    → MatchResult r (IsShown summary asked k.session.value old.images new.images old.report new.report)
+    (λ e. IsUntold old.report new.report)
     → IfErr r (λ e. ((e ≡ OutFailed) × (outcome ≡ Err stop.OutFailed)) ⊎ (e ≡ NoMemory))
-    → IfErr r (λ e. e ≡ OutFailed → IsUntold s.images s.images_after)
-    → OnOk outcome (IsCarriedOut ran budget s.out.taken s.out_after.taken)
-    → StopCause s.out.faults s.out_after.faults outcome
-    → MatchResult r (λ status. IsRun summary asked budget s status k) (IsStopped s)
-run-answer (Ok status) (Ok x) s summary asked budget ran k ok gathers shown why unshown carried without_fault = record {
-  output = gathered-out ran k.session.value budget s.out.taken s.out_after.taken gathers carried;
+    → IfErr r (λ e. e ≡ OutFailed → IsUntold old.images new.images)
+    → OnOk outcome (IsCarriedOut ran budget old.out.taken new.out.taken)
+    → StopCause old.out.faults new.out.faults outcome
+    → MatchResult r (λ status. IsRun summary asked budget old new status k) (IsStopped old new)
+run-answer (Ok status) (Ok x) old new summary asked budget ran k ok gathers shown why unshown carried without_fault = record {
+  output = gathered-out ran k.session.value budget old.out.taken new.out.taken gathers carried;
   without_fault = without_fault;
   shown = shown;
 }
-run-answer (Ok status) (Err e) s summary asked budget ran k ok gathers shown why unshown carried without_fault = absurd (false≢true ok)
-run-answer (Err r) outcome s summary asked budget ran k ok gathers untold why unshown carried cause =
+run-answer (Ok status) (Err e) old new summary asked budget ran k ok gathers shown why unshown carried without_fault = absurd (false≢true ok)
+run-answer (Err r) outcome old new summary asked budget ran k ok gathers untold why unshown carried cause =
     record { why = by_cause why; untold = untold; unshown = unshown }
   where
     by_cause : ((r ≡ OutFailed) × (outcome ≡ Err stop.OutFailed)) ⊎ (r ≡ NoMemory)
-        → ((r ≡ OutFailed) × Rose s.out.faults s.out_after.faults) ⊎ (r ≡ NoMemory)
+        → ((r ≡ OutFailed) × Rose old.out.faults new.out.faults) ⊎ (r ≡ NoMemory)
     by_cause (inl (failed, stopped)) =
-        inl (failed, (subst (StopCause s.out.faults s.out_after.faults) stopped cause).1)
+        inl (failed, (subst (StopCause old.out.faults new.out.faults) stopped cause).1)
     by_cause (inr memory) = inr memory

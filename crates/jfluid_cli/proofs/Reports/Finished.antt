@@ -5,7 +5,7 @@ use Rattle.std.specs.Option.{option_map_or}
 use Rattle.std.proofs.lemmas.Bool.{cases_eq, false≢true}
 use Rattle.std.proofs.lemmas.Option.{none-some}
 use Rattle.jf_bytes.specs.declared.error.NoMemory.{NoMemory as OutOfMemory}
-use Rattle.jf_bytes.specs.Streams.{Told, PutsAll, PutsPrefix, Rose}
+use Rattle.jf_bytes.specs.Streams.{PutsAll, PutsPrefix, Rose}
 use Rattle.const_pool.specs.declared.class.ClassFile.{ClassFile}
 use Rattle.plan_text.specs.declared.plan.Plan.{Plan}
 use Rattle.jvm_model.specs.declared.program.Program.{Program}
@@ -15,11 +15,11 @@ use Rattle.profile_session.specs.Sessions.{Profiling}
 use Rattle.jfluid_cli.specs.declared.kept.Kept.{Kept}
 use Rattle.jfluid_cli.specs.declared.refusal.Refusal.{Refusal}
 use Rattle.jfluid_cli.specs.declared.refusal.Refusal.TheVariants.{Clap, Words, Plan as BadPlan, NotRead, NotAdmitted, InputFailed, OutFailed, PlanNotFetched, NotFetched, NoMemory, InputTooLong}
-use Rattle.jfluid_cli.specs.Calls.{Call, given_of, words_of, IsReported, IsRunAsked, IsShown, IsTrueOf, IsRefused, IsAnswered, IsEndingOf, PutsLine, FilesWithoutFault, InputWithoutFault, AllWithoutFault}
+use Rattle.jfluid_cli.specs.Calls.{Call, call_of, given_of, words_of, IsReported, IsRunAsked, IsShown, IsTrueOf, IsRefused, IsAnswered, IsEndingOf, PutsLine, FilesWithoutFault, InputWithoutFault, AllWithoutFault}
 use Rattle.jfluid_cli.specs.Asking.{asked_by, HasBadRoot}
 use Rattle.jfluid_cli.specs.Causes.{HasBadPlan, HasLongInput, IsAccepted, IsUnfit, OfWords}
 use Rattle.jfluid_cli.specs.Contents.{classes_for}
-use Rattle.jfluid_cli.specs.Sinks.{SinkView, SourceView, FilesView, IsUntold, PutsOrRose}
+use Rattle.jfluid_cli.specs.Sinks.{DevicesView, SinkView, IsUntold, PutsOrRose}
 use Rattle.jfluid_cli.specs.Stages.{IsCarried, IsWordsRefusal}
 use Rattle.jfluid_cli.specs.Origins.{HasOrigin, IsOnlyProgram}
 use Rattle.jfluid_cli.specs.Refusals.{status_of, refusal_line, IsNameless}
@@ -46,7 +46,7 @@ kept-budget c k o =
 kept-command : (c : Call) (k : Kept) (p : Program) (o : HasOrigin (given_of c) k) (a : IsAccepted (given_of c) p)
     → o.command ≡ a.admitted.command
 kept-command c k p o a =
-    one-command (given_of c) o.command a.admitted.command (tells c.told a.admitted.files a.admitted.telling)
+    one-command (given_of c) o.command a.admitted.command (tells c.old.told a.admitted.files a.admitted.telling)
     o.accepts a.admitted.accepts
 
 kept-ends : (c : Call) (k : Kept) (p : Program) (budget : ℕ) → HasOrigin (given_of c) k → IsOnlyProgram k
@@ -55,7 +55,7 @@ kept-ends c k p budget o alone a =
     let d = a.admitted in
     let same : o.command ≡ d.command = kept-command c k p o a in
     let one : k.classes ≡ d.contents =
-    same-contents c.told o.command d.command d.files k.classes d.contents same d.telling o.told_as d.told_as in
+    same-contents c.old.told o.command d.command d.files k.classes d.contents same d.telling o.told_as d.told_as in
     let own : List ClassFile = classes_for k.classes k.session.value.program in
     let is : IsProgram (asked_by d.command) k.classes p =
     subst (λ (xs : List (List ℕ)). IsProgram (asked_by d.command) xs p) (sym one) d.program_is in
@@ -80,29 +80,29 @@ held-and (Some k) P Q R some p q = (k, p, q, some)
 
 -- ---- a run
 
-reported-reached : (c : Call) (status : ℕ) (k : Kept) → IsRunAsked (words_of c) c.streams status k → AllWithoutFault c
-    → IsReported (is_generated (words_of c)) k.session.value c.streams.report c.streams.report_after status
+reported-reached : (c : Call) (status : ℕ) (k : Kept) → IsRunAsked (words_of c) c.old c.new status k → AllWithoutFault c
+    → IsReported (is_generated (words_of c)) k.session.value c.old.report c.new.report status
     → status ≡ status_of_ending (ending_at k.session.value (budget_of (words_of c) k.plan))
 reported-reached c status k ran without_fault reported = elim (cases_eq status 8) [
-  | inl eight ↦ absurd (without_fault_not_rose c.streams.report.faults c.streams.report_after.faults
+  | inl eight ↦ absurd (without_fault_not_rose c.old.report.faults c.new.report.faults
       without_fault.report (reported.not_reported eight))
   | inr other ↦ reported.ending other
       ∙ ap status_of_ending
-      (ends_as k.session.value (budget_of (words_of c) k.plan) c.streams.out.taken c.streams.out_after.taken
+      (ends_as k.session.value (budget_of (words_of c) k.plan) c.old.out.taken c.new.out.taken
       ran.output)
 ]
 
 -- its status is that of the ending at the budget
-run-reached : (c : Call) (status : ℕ) (k : Kept) → IsRunAsked (words_of c) c.streams status k → AllWithoutFault c
+run-reached : (c : Call) (status : ℕ) (k : Kept) → IsRunAsked (words_of c) c.old c.new status k → AllWithoutFault c
     → status ≡ status_of_ending (ending_at k.session.value (budget_of (words_of c) k.plan))
 run-reached c status k ran without_fault = elim ran.shown [
   | inl (imaged, reported) ↦ reported-reached c status k ran without_fault reported
-  | inr (eight, unimaged, untold) ↦ absurd (without_fault_not_rose c.streams.images.faults c.streams.images_after.faults
+  | inr (eight, unimaged, untold) ↦ absurd (without_fault_not_rose c.old.images.faults c.new.images.faults
       without_fault.images unimaged.failed)
 ]
 
 run-complete : (c : Call) (status : ℕ) (k : Kept) (p : Program)
-    → HasOrigin (given_of c) k → IsOnlyProgram k → IsRunAsked (words_of c) c.streams status k
+    → HasOrigin (given_of c) k → IsOnlyProgram k → IsRunAsked (words_of c) c.old c.new status k
     → (a : IsAccepted (given_of c) p) → AllWithoutFault c
     → status ≡ status_of_ending (ending_of (world_on p a.input) a.admitted.command.budget)
 run-complete c status k p o alone ran a without_fault =
@@ -136,17 +136,17 @@ shown-run summary asked v i j r q status (inr (eight, unimaged, untold)) = ap is
 pub answered-run : (c : Call) (status : ℕ) → (IsErr c.words → ⊥) → IsCarried c (Ok status) → IsAnswered c status
 answered-run c status heard carried =
     let g = given_of c in
-    let k = held-and c.kept (HasOrigin g) IsOnlyProgram (IsRunAsked (words_of c) c.streams status)
+    let k = held-and c.kept (HasOrigin g) IsOnlyProgram (IsRunAsked (words_of c) c.old c.new status)
     carried.ran.made carried.always.origin carried.always.only in
     let o : HasOrigin g k.0 = k.1 in
-    let s = c.streams in
     let summary = is_generated (words_of c) in
     let asked = asks_images (words_of c) in
     let run : is_run status ≡ true =
-    shown-run summary asked k.0.session.value s.images s.images_after s.report s.report_after status k.3.shown in
+    shown-run summary asked k.0.session.value c.old.images c.new.images c.old.report c.new.report status k.3.shown in
     record {
       always = carried.always;
-      known = shown-known summary asked k.0.session.value s.images s.images_after s.report s.report_after status k.3.shown;
+      known = shown-known summary asked k.0.session.value c.old.images c.new.images c.old.report c.new.report status
+          k.3.shown;
       ran = λ _. carried.ran;
       refused = λ not_run. absurd (false≢true (sym not_run ∙ run));
       unheard = λ none. absurd (heard none);
@@ -159,7 +159,7 @@ answered-run c status heard carried =
       rootless_only = λ none some without_fault. absurd
           (not-unfit g (kept-program g k.0 o) (rootless-unfit g none some));
       input_only = λ long without_fault input_without_fault. absurd (kept-short g k.0 o long);
-      made = λ without_fault. each-kept c.kept (IsRunAsked (words_of c) c.streams status) (IsEndingOf c status)
+      made = λ without_fault. each-kept c.kept (IsRunAsked (words_of c) c.old c.new status) (IsEndingOf c status)
           carried.ran.made (λ kept ran. inl (run-reached c status kept ran without_fault));
       complete = λ p a without_fault. inl (run-complete c status k.0 p o k.2 k.3 a without_fault);
     }
@@ -185,7 +185,7 @@ root-only c r refused bad = elim (accepted-or (given_of c) r refused.cause) [
 
 without_fault-fetch : (c : Call) (r : Refusal) → IsRefused c r → FilesWithoutFault c → status_of r ≡ 7 → ⊥
 without_fault-fetch c r refused without_fault seven =
-    without_fault_not_rose c.files.faults c.files_after.faults without_fault (refused.not_fetched seven)
+    without_fault_not_rose c.old.files.faults c.new.files.faults without_fault (refused.not_fetched seven)
 
 plan-only : (c : Call) (r : Refusal) → IsRefused c r → HasBadPlan (given_of c) → FilesWithoutFault c
     → (status_of r ≡ 2) ⊎ (status_of r ≡ 9)
@@ -203,7 +203,7 @@ file-only : (c : Call) (r : Refusal) → IsRefused c r → IsUnfit (given_of c) 
 file-only c r refused unfit without_fault =
     let g = given_of c in
     by-status r ((status_of r ≡ 3) ⊎ (status_of r ≡ 9))
-    (λ two. absurd (two-refused g r unfit.command (tells c.told unfit.files unfit.telling) refused.cause two
+    (λ two. absurd (two-refused g r unfit.command (tells c.old.told unfit.files unfit.telling) refused.cause two
     unfit.accepts))
     (λ three. inl three)
     (λ five. absurd (not-unfit g (program-told g r refused.cause (subst is_late (sym five) refl)) unfit))
@@ -221,9 +221,9 @@ input-only c r always refused long without_fault input_without_fault =
     let g = given_of c in
     let d = long.admitted in
     by-status r ((status_of r ≡ 11) ⊎ (status_of r ≡ 9))
-    (λ two. absurd (two-refused g r d.command (tells c.told d.files d.telling) refused.cause two d.accepts))
+    (λ two. absurd (two-refused g r d.command (tells c.old.told d.files d.telling) refused.cause two d.accepts))
     (λ three. absurd (three-refused g r long.program refused.cause three d))
-    (λ five. absurd (without_fault_not_rose c.input.faults c.input_after.faults input_without_fault (refused.not_taken five)))
+    (λ five. absurd (without_fault_not_rose c.old.input.faults c.new.input.faults input_without_fault (refused.not_taken five)))
     (λ six. let k = held c.kept (HasOrigin g) IsOnlyProgram (refused.made six) always.origin always.only in
     absurd (kept-short g k.0 k.1 long))
     (λ seven. absurd (without_fault-fetch c r refused without_fault seven))
@@ -236,10 +236,10 @@ refused-complete c r p refused a without_fault =
     let g = given_of c in
     let d = a.admitted in
     by-status r (status_of r ≡ 9)
-    (λ two. absurd (two-refused g r d.command (tells c.told d.files d.telling) refused.cause two d.accepts))
+    (λ two. absurd (two-refused g r d.command (tells c.old.told d.files d.telling) refused.cause two d.accepts))
     (λ three. absurd (three-refused g r p refused.cause three d))
-    (λ five. absurd (without_fault_not_rose c.input.faults c.input_after.faults without_fault.input (refused.not_taken five)))
-    (λ six. absurd (without_fault_not_rose c.streams.out.faults c.streams.out_after.faults without_fault.out
+    (λ five. absurd (without_fault_not_rose c.old.input.faults c.new.input.faults without_fault.input (refused.not_taken five)))
+    (λ six. absurd (without_fault_not_rose c.old.out.faults c.new.out.faults without_fault.out
     (refused.stopped six)))
     (λ seven. absurd (without_fault-fetch c r refused without_fault.files seven))
     (λ nine. nine)
@@ -253,7 +253,7 @@ refused-reached c r status is refused without_fault =
     (λ two. unkept (refused.refused (ap is_refused two)))
     (λ three. unkept (refused.refused (ap is_refused three)))
     (λ five. unkept (refused.refused (ap is_refused five)))
-    (λ six. absurd (without_fault_not_rose c.streams.out.faults c.streams.out_after.faults without_fault.out
+    (λ six. absurd (without_fault_not_rose c.old.out.faults c.new.out.faults without_fault.out
     (refused.stopped six)))
     (λ seven. unkept (refused.refused (ap is_refused seven)))
     (λ nine. every-kept c.kept (IsEndingOf c status) (λ k. inr (is ∙ nine)))
@@ -305,7 +305,7 @@ answered-refusal c r status unheard is always refused line = record {
 
 -- the call once the line was put
 abbrev pub told-after : Call → SinkView → Call
-told-after c after = record c { streams = record c.streams { report_after = after } }
+told-after c after = record c { new = record c.new { report = after } }
 
 put-line : (old mid new : SinkView) (said wanted : List ℕ) → IsUntold old mid → said ≡ wanted
     → PutsOrRose mid new said → PutsOrRose old new wanted
@@ -323,7 +323,7 @@ pub answered-told : (c : Call) (after : SinkView) (r told : Refusal) (status : �
     → (IsErr c.words → status ≡ 9) → IsCarried c (Err r) → (told ≡ r) ⊎ (told ≡ NoMemory)
     → status ≡ status_of told
     → said ≡ refusal_line told (plan_word (words_of c)) (file_words (words_of c))
-    → PutsOrRose c.streams.report_after after said → IsAnswered (told-after c after) status
+    → PutsOrRose c.new.report after said → IsAnswered (told-after c after) status
 answered-told c after r told status said unheard carried was is named puts =
     let d : Call = told-after c after in
     let first : IsRefused d r = record {
@@ -360,7 +360,7 @@ answered-told c after r told status said unheard carried was is named puts =
       | inl same ↦ subst (IsRefused d) (sym same) first
       | inr memory ↦ subst (IsRefused d) (sym memory) (memory-refused d carried.refused.fetches)
     ])
-    (put-line c.streams.report c.streams.report_after after said
+    (put-line c.old.report c.new.report after said
     (refusal_line told (plan_word (words_of c)) (file_words (words_of c))) carried.untold named puts)
 
 -- a line that calls nothing by its word
@@ -369,27 +369,6 @@ nameless-told r told nameless (inl same) = subst IsNameless (sym same) nameless
 nameless-told r told nameless (inr memory) = subst IsNameless (sym memory) (λ a b xs ys. refl)
 
 -- ---- the words
-
--- a call that was refused for its words
-abbrev pub call_before : Result (List (List ℕ)) OutOfMemory → Option Told → FilesView → SourceView → SinkView
-    → SinkView → SinkView → Option Kept → Call
-call_before words files_told files input out report images kept = record {
-  words = words;
-  told = files_told;
-  files = files;
-  files_after = files;
-  input = input;
-  input_after = input;
-  streams = record {
-    out = out;
-    out_after = out;
-    report = report;
-    report_after = report;
-    images = images;
-    images_after = images;
-  };
-  kept = kept;
-}
 
 -- no fetch is refused so
 not-seven : (words : List (List ℕ)) (r : Refusal) → IsWordsRefusal words r → status_of r ≡ 7 → ⊥
@@ -405,18 +384,20 @@ not-seven words OutFailed is seven = absurd cc
 not-seven words NoMemory is seven = absurd cc
 not-seven words InputTooLong is seven = absurd cc
 
-pub answered-words : (words : Result (List (List ℕ)) OutOfMemory) (files_told : Option Told) (files : FilesView)
-    (input : SourceView) (out report images after : SinkView) (kept : Option Kept) (r told : Refusal) (status : ℕ)
+-- a call that was refused for its words
+pub answered-words : (words : Result (List (List ℕ)) OutOfMemory) (devices : DevicesView) (after : SinkView)
+    (kept : Option Kept) (r told : Refusal) (status : ℕ)
     → kept ≡ None → IsWordsRefusal (words_in words) r → IsNameless r → (IsErr words → told ≡ NoMemory)
-    → (told ≡ r) ⊎ (told ≡ NoMemory) → status ≡ status_of told → PutsOrRose report after (refusal_line told None [])
-    → IsAnswered (told-after (call_before words files_told files input out report images kept) after) status
-answered-words words files_told files input out report images after kept r told status none why nameless unheard was is puts =
-    let c : Call = call_before words files_told files input out report images kept in
+    → (told ≡ r) ⊎ (told ≡ NoMemory) → status ≡ status_of told
+    → PutsOrRose devices.report after (refusal_line told None [])
+    → IsAnswered (told-after (call_of words devices devices kept) after) status
+answered-words words devices after kept r told status none why nameless unheard was is puts =
+    let c : Call = call_of words devices devices kept in
     answered-told c after r told status (refusal_line told None []) (λ e. is ∙ ap status_of (unheard e))
     (carried-before_the_run c r none (record { taken = refl; faults = refl }) (record { taken = refl; faults = refl })
     (record { taken = refl; faults = refl }) refl
     (due-words (given_of c) r why)
-    (no-fault (plan_word (words_in words)) (file_words (words_in words)) files files r r refl refl
+    (no-fault (plan_word (words_in words)) (file_words (words_in words)) devices.files devices.files r r refl refl
     (not-seven (words_in words) r why)))
     was is (nameless-told r told nameless was None (plan_word (words_in words)) [] (file_words (words_in words))) puts
 

@@ -17,7 +17,7 @@ use Rattle.jfluid_cli.specs.declared.refusal.Refusal.TheVariants.{Clap, Words, P
 use Rattle.jfluid_cli.specs.Calls.{Call, given_of, words_of, IsRun, IsRunAsked, IsTrueOf, IsRefused, PutsImages}
 use Rattle.jfluid_cli.specs.Asking.{asked_by}
 use Rattle.jfluid_cli.specs.Causes.{CallInputs, AreContentsOf, OfProgram}
-use Rattle.jfluid_cli.specs.Sinks.{FilesView, SourceView, Streams, FailsOnce, IsUntold}
+use Rattle.jfluid_cli.specs.Sinks.{DevicesView, FilesView, SourceView, FailsOnce, IsUntold}
 use Rattle.jfluid_cli.specs.Contents.{SpellAlone, classes_for}
 use Rattle.jfluid_cli.specs.Stages.{IsBeforeTheRun, IsInputRefusal, IsPrepared, HasFetchCause, is_before_the_run, IsStopped, IsSameRun, IsCarried}
 use Rattle.jfluid_cli.specs.Origins.{HasOrigin, IsOnlyProgram}
@@ -31,19 +31,19 @@ use Rattle.jfluid_cli.proofs.Commands.OneCommand.{commanded}
 -- ---- where nothing is made
 
 -- nothing is kept, so nothing has to be said of it
-pub nothing-made : (c : Call) → c.kept ≡ None → IsUntold c.streams.out c.streams.out_after
-    → IsUntold c.streams.images c.streams.images_after → TakesAtMost most_taken c.input.left c.input_after.left
+pub nothing-made : (c : Call) → c.kept ≡ None → IsUntold c.old.out c.new.out
+    → IsUntold c.old.images c.new.images → TakesAtMost most_taken c.old.input.left c.new.input.left
     → IsTrueOf c
 nothing-made c none out images rest = record {
   origin = subst (λ (o : Option Kept). IfSome o (HasOrigin (given_of c))) (sym none) tt;
   only = subst (λ (o : Option Kept). IfSome o IsOnlyProgram) (sym none) tt;
   prefix = subst (λ (o : Option Kept). IfSome o
-      (λ k. PutsAtMost k.session.value (budget_of (words_of c) k.plan) c.streams.out.taken c.streams.out_after.taken))
+      (λ k. PutsAtMost k.session.value (budget_of (words_of c) k.plan) c.old.out.taken c.new.out.taken))
       (sym none) tt;
   rest = rest;
   ended = λ some. absurd (false≢true (subst (λ (o : Option Kept). IsSome o) none some));
   nothing = λ _. out;
-  images = subst (λ (o : Option Kept). IfSome o (λ k. PutsImages (asks_images (words_of c)) k.session.value c.streams))
+  images = subst (λ (o : Option Kept). IfSome o (λ k. PutsImages (asks_images (words_of c)) k.session.value c.old c.new))
       (sym none) tt;
   unasked = λ _. images;
   unimaged = λ _. images;
@@ -72,8 +72,8 @@ fetches-of named files old new OutFailed cause = inl (cause.without_fault (λ se
 fetches-of named files old new NoMemory cause = inl (cause.without_fault (λ seven. absurd cc))
 fetches-of named files old new InputTooLong cause = inl (cause.without_fault (λ seven. absurd cc))
 
-pub refused-before_the_run : (c : Call) (r : Refusal) → c.kept ≡ None → c.input_after ≡ c.input → IsBeforeTheRun (given_of c) r
-    → HasFetchCause (plan_word (words_of c)) (file_words (words_of c)) c.files c.files_after r
+pub refused-before_the_run : (c : Call) (r : Refusal) → c.kept ≡ None → c.new.input ≡ c.old.input → IsBeforeTheRun (given_of c) r
+    → HasFetchCause (plan_word (words_of c)) (file_words (words_of c)) c.old.files c.new.files r
     → IsRefused c r
 refused-before_the_run c r none input before_the_run fetch = record {
   cause = before_the_run.cause;
@@ -82,7 +82,7 @@ refused-before_the_run c r none input before_the_run fetch = record {
   untaken = λ _. input;
   one_more = λ eleven. absurd (other-before_the_run (status_of r) 11 refl before_the_run.before_the_run eleven);
   taken = λ five. absurd (other-before_the_run (status_of r) 5 refl before_the_run.before_the_run five);
-  fetches = fetches-of (plan_word (words_of c)) (file_words (words_of c)) c.files c.files_after r fetch;
+  fetches = fetches-of (plan_word (words_of c)) (file_words (words_of c)) c.old.files c.new.files r fetch;
   not_taken = λ five. absurd (other-before_the_run (status_of r) 5 refl before_the_run.before_the_run five);
   stopped = λ six. absurd (other-before_the_run (status_of r) 6 refl before_the_run.before_the_run six);
   unshown = λ six. absurd (other-before_the_run (status_of r) 6 refl before_the_run.before_the_run six);
@@ -94,13 +94,13 @@ refused-before_the_run c r none input before_the_run fetch = record {
 }
 
 pub carried-before_the_run : (c : Call) (r : Refusal) → c.kept ≡ None
-    → IsUntold c.streams.out c.streams.out_after → IsUntold c.streams.report c.streams.report_after
-    → IsUntold c.streams.images c.streams.images_after → c.input_after ≡ c.input → IsBeforeTheRun (given_of c) r
-    → HasFetchCause (plan_word (words_of c)) (file_words (words_of c)) c.files c.files_after r
+    → IsUntold c.old.out c.new.out → IsUntold c.old.report c.new.report
+    → IsUntold c.old.images c.new.images → c.new.input ≡ c.old.input → IsBeforeTheRun (given_of c) r
+    → HasFetchCause (plan_word (words_of c)) (file_words (words_of c)) c.old.files c.new.files r
     → IsCarried c (Err r)
 carried-before_the_run c r none out report images input before_the_run fetch = record {
-  always = nothing-made c none out images (subst (λ (s : SourceView). TakesAtMost most_taken c.input.left s.left) (sym input)
-      (rest-untaken most_taken c.input.left));
+  always = nothing-made c none out images (subst (λ (s : SourceView). TakesAtMost most_taken c.old.input.left s.left) (sym input)
+      (rest-untaken most_taken c.old.input.left));
   ran = tt;
   refused = refused-before_the_run c r none input before_the_run fetch;
   untold = report;
@@ -115,20 +115,20 @@ plan-said words r e = sym (ap (option_and_then (λ (x : Read). x.plan)) e)
 
 -- refused behind accepted words
 pub carried-refused : (c : Call) (words : Read) (r : Refusal) → words_accepted (words_of c) ≡ Some words
-    → c.kept ≡ None → IsUntold c.streams.out c.streams.out_after
-    → IsUntold c.streams.report c.streams.report_after → IsUntold c.streams.images c.streams.images_after
-    → c.input_after ≡ c.input → IsBeforeTheRun (given_of c) r → HasFetchCause words.plan words.files c.files c.files_after r
+    → c.kept ≡ None → IsUntold c.old.out c.new.out
+    → IsUntold c.old.report c.new.report → IsUntold c.old.images c.new.images
+    → c.new.input ≡ c.old.input → IsBeforeTheRun (given_of c) r → HasFetchCause words.plan words.files c.old.files c.new.files r
     → IsCarried c (Err r)
 carried-refused c words r read none out report images input before_the_run fetch =
     carried-before_the_run c r none out report images input before_the_run
-    (subst (λ (named : Option (List ℕ)). HasFetchCause named (file_words (words_of c)) c.files c.files_after r)
+    (subst (λ (named : Option (List ℕ)). HasFetchCause named (file_words (words_of c)) c.old.files c.new.files r)
     (plan-said (words_of c) words read)
-    (subst (λ (names : List (List ℕ)). HasFetchCause words.plan names c.files c.files_after r)
+    (subst (λ (names : List (List ℕ)). HasFetchCause words.plan names c.old.files c.new.files r)
     (files-said (words_of c) words read) fetch))
 
 -- ---- want of memory
 
-pub memory-refused : (c : Call) → FailsOnce (plan_word (words_of c)) (file_words (words_of c)) c.files c.files_after
+pub memory-refused : (c : Call) → FailsOnce (plan_word (words_of c)) (file_words (words_of c)) c.old.files c.new.files
     → IsRefused c NoMemory
 memory-refused c fetches = record {
   cause = tt;
@@ -148,9 +148,9 @@ memory-refused c fetches = record {
   input_without_fault = λ five other. absurd (other refl);
 }
 
-pub carried-memory : (c : Call) → c.kept ≡ None → IsUntold c.streams.out c.streams.out_after
-    → IsUntold c.streams.report c.streams.report_after → IsUntold c.streams.images c.streams.images_after
-    → c.files_after ≡ c.files → TakesAtMost most_taken c.input.left c.input_after.left → IsCarried c (Err NoMemory)
+pub carried-memory : (c : Call) → c.kept ≡ None → IsUntold c.old.out c.new.out
+    → IsUntold c.old.report c.new.report → IsUntold c.old.images c.new.images
+    → c.new.files ≡ c.old.files → TakesAtMost most_taken c.old.input.left c.new.input.left → IsCarried c (Err NoMemory)
 carried-memory c none out report images without_fault rest = record {
   always = nothing-made c none out images rest;
   ran = tt;
@@ -184,8 +184,8 @@ input-rest old new r (inl (failed, rose, takes)) = rest-within old.left new.left
 input-rest old new r (inr (inl (failed, long, more, same))) = rest-of-long old.left new.left more
 input-rest old new r (inr (inr (memory, same, takes))) = takes
 
-refused-input : (c : Call) (r : Refusal) → c.kept ≡ None → c.files_after ≡ c.files
-    → OfProgram (given_of c) → IsInputRefusal c.input c.input_after r → IsRefused c r
+refused-input : (c : Call) (r : Refusal) → c.kept ≡ None → c.new.files ≡ c.old.files
+    → OfProgram (given_of c) → IsInputRefusal c.old.input c.new.input r → IsRefused c r
 refused-input c r none without_fault of (inl (failed, rose, takes)) = subst (IsRefused c) (sym failed) (record {
   cause = of;
   refused = λ _. none;
@@ -224,12 +224,12 @@ refused-input c r none without_fault of (inr (inr (memory, same, takes))) =
     subst (IsRefused c) (sym memory) (memory-refused c (inl without_fault))
 
 pub carried-input : (c : Call) (r : Refusal) → c.kept ≡ None
-    → IsUntold c.streams.out c.streams.out_after → IsUntold c.streams.report c.streams.report_after
-    → IsUntold c.streams.images c.streams.images_after
-    → c.files_after ≡ c.files → OfProgram (given_of c)
-    → IsInputRefusal c.input c.input_after r → IsCarried c (Err r)
+    → IsUntold c.old.out c.new.out → IsUntold c.old.report c.new.report
+    → IsUntold c.old.images c.new.images
+    → c.new.files ≡ c.old.files → OfProgram (given_of c)
+    → IsInputRefusal c.old.input c.new.input r → IsCarried c (Err r)
 carried-input c r none out report images without_fault of why = record {
-  always = nothing-made c none out images (input-rest c.input c.input_after r why);
+  always = nothing-made c none out images (input-rest c.old.input c.new.input r why);
   ran = tt;
   refused = refused-input c r none without_fault of why;
   untold = report;
@@ -254,8 +254,8 @@ pub record IsMade (c : Call) (budget : ℕ) (made : Kept) : Type 0 where
   pub runs : RunsProgram program made.input made.session.value
   pub input : IfSome (given_of c).left (λ all. made.input ≡ all)
   pub short : length made.input ≤ most_input
-  pub rest : TakesAtMost most_taken c.input.left c.input_after.left
-  pub ended : IsAtEnd c.input_after.left
+  pub rest : TakesAtMost most_taken c.old.input.left c.new.input.left
+  pub ended : IsAtEnd c.new.input.left
 
 -- the plan that is kept is the command's
 plan-is : (c : Call) (budget : ℕ) (made k : Kept) (is : IsMade c budget made)
@@ -285,13 +285,13 @@ made-origin c budget made k is same =
       command = command;
       accepts = is.prepared.accepts;
       plan = plan-is c budget made k is same;
-      told_as = subst (AreContentsOf c.told command) (sym same.classes) is.prepared.loaded.told_as;
+      told_as = subst (AreContentsOf c.old.told command) (sym same.classes) is.prepared.loaded.told_as;
       program =
           subst (λ (xs : List (List ℕ)). IsProgram (asked_by command) xs k.session.value.program)
           (sym same.classes)
           (subst (λ (p : Program). IsProgram (asked_by command) made.classes p) program_is
           is.prepared.loaded.program_is);
-      input = subst (λ (bytes : List ℕ). IfSome c.input.left (λ all. bytes ≡ all)) (sym same.input) is.input;
+      input = subst (λ (bytes : List ℕ). IfSome c.old.input.left (λ all. bytes ≡ all)) (sym same.input) is.input;
       short = subst (λ (bytes : List ℕ). length bytes ≤ most_input) (sym same.input) is.short;
       session_input = same.program.input ∙ (is.runs.input_is ∙ sym same.input);
     }
@@ -305,9 +305,9 @@ made-only c budget made k is same =
 
 made-true : (c : Call) (budget : ℕ) (made k : Kept)
     → IsMade c budget made → c.kept ≡ Some k → IsSameRun made k
-    → PutsAtMost made.session.value budget c.streams.out.taken c.streams.out_after.taken
-    → PutsImages (asks_images (words_of c)) k.session.value c.streams
-    → (asks_images (words_of c) ≡ false → IsUntold c.streams.images c.streams.images_after)
+    → PutsAtMost made.session.value budget c.old.out.taken c.new.out.taken
+    → PutsImages (asks_images (words_of c)) k.session.value c.old c.new
+    → (asks_images (words_of c) ≡ false → IsUntold c.old.images c.new.images)
     → IsTrueOf c
 made-true c budget made k is kept same front images unasked = record {
   origin = subst (λ (o : Option Kept). IfSome o (HasOrigin (given_of c))) (sym kept)
@@ -315,16 +315,16 @@ made-true c budget made k is kept same front images unasked = record {
   only = subst (λ (o : Option Kept). IfSome o IsOnlyProgram) (sym kept)
       (made-only c budget made k is same);
   prefix = subst (λ (o : Option Kept). IfSome o
-      (λ x. PutsAtMost x.session.value (budget_of (words_of c) x.plan) c.streams.out.taken c.streams.out_after.taken))
+      (λ x. PutsAtMost x.session.value (budget_of (words_of c) x.plan) c.old.out.taken c.new.out.taken))
       (sym kept)
-      (subst (PutsPrefix c.streams.out.taken c.streams.out_after.taken)
+      (subst (PutsPrefix c.old.out.taken c.new.out.taken)
       (outputs-same made.session.value k.session.value budget (budget_of (words_of c) k.plan) same.program
       (budget-is c budget made k is same)) front);
   rest = is.rest;
   ended = λ _. is.ended;
   nothing = λ none. absurd
       (let e : (let o : Option Kept = Some k in o ≡ None) = sym kept ∙ none in cc);
-  images = subst (λ (o : Option Kept). IfSome o (λ x. PutsImages (asks_images (words_of c)) x.session.value c.streams))
+  images = subst (λ (o : Option Kept). IfSome o (λ x. PutsImages (asks_images (words_of c)) x.session.value c.old c.new))
       (sym kept) images;
   unasked = unasked;
   unimaged = λ none. absurd
@@ -335,11 +335,11 @@ made-true c budget made k is kept same front images unasked = record {
 
 made-run : (c : Call) (budget : ℕ) (made k : Kept) (status : ℕ)
     → IsMade c budget made → IsSameRun made k
-    → IsRun (is_generated (words_of c)) (asks_images (words_of c)) budget c.streams status k
-    → IsRunAsked (words_of c) c.streams status k
+    → IsRun (is_generated (words_of c)) (asks_images (words_of c)) budget c.old c.new status k
+    → IsRunAsked (words_of c) c.old c.new status k
 made-run c budget made k status is same ran =
     record {
-      output = subst (λ (n : ℕ). IsCarriedOut k.session.value n c.streams.out.taken c.streams.out_after.taken)
+      output = subst (λ (n : ℕ). IsCarriedOut k.session.value n c.old.out.taken c.new.out.taken)
           (budget-is c budget made k is same) ran.output;
       without_fault = ran.without_fault;
       shown = ran.shown;
@@ -347,8 +347,8 @@ made-run c budget made k status is same ran =
 
 -- a run that stopped
 stopped-refused : (c : Call) (k : Kept) (r : Refusal) → OfProgram (given_of c) → c.kept ≡ Some k
-    → c.files_after ≡ c.files → c.input_after.faults ≡ c.input.faults
-    → IsStopped c.streams r → IsRefused c r
+    → c.new.files ≡ c.old.files → c.new.input.faults ≡ c.old.input.faults
+    → IsStopped c.old c.new r → IsRefused c r
 stopped-refused c k r of kept without_fault input_without_fault stopped = elim stopped.why [
   | inl (failed, rose) ↦ subst (IsRefused c) (sym failed) (record {
     cause = of;
@@ -371,30 +371,31 @@ stopped-refused c k r of kept without_fault input_without_fault stopped = elim s
 ]
 
 -- the images of what is kept were put as far as they were
-kept-images : (o : Option Kept) (k : Kept) (asked : Bool) (s : Streams) → o ≡ Some k
-    → IsSomeAnd o (λ x. PutsImages asked x.session.value s) → PutsImages asked k.session.value s
-kept-images o k asked s is = subst (λ (x : Option Kept). IsSomeAnd x (λ y. PutsImages asked y.session.value s)) is
+kept-images : (o : Option Kept) (k : Kept) (asked : Bool) (old new : DevicesView) → o ≡ Some k
+    → IsSomeAnd o (λ x. PutsImages asked x.session.value old new) → PutsImages asked k.session.value old new
+kept-images o k asked old new is =
+    subst (λ (x : Option Kept). IsSomeAnd x (λ y. PutsImages asked y.session.value old new)) is
 
 -- with the images that the words ask for
 run-asked : (c : Call) (budget : ℕ) (made : Kept)
     (r : Result ℕ Refusal) → IsMade c budget made → IsSomeAnd c.kept (IsSameRun made)
-    → MatchResult r (λ status. IsSomeAnd c.kept (IsRun (is_generated (words_of c)) (asks_images (words_of c)) budget c.streams status))
-    (IsStopped c.streams)
-    → PutsAtMost made.session.value budget c.streams.out.taken c.streams.out_after.taken
-    → IsSomeAnd c.kept (λ x. PutsImages (asks_images (words_of c)) x.session.value c.streams)
-    → (asks_images (words_of c) ≡ false → IsUntold c.streams.images c.streams.images_after)
-    → c.files_after ≡ c.files → c.input_after.faults ≡ c.input.faults → IsCarried c r
+    → MatchResult r (λ status. IsSomeAnd c.kept (IsRun (is_generated (words_of c)) (asks_images (words_of c)) budget c.old c.new status))
+    (IsStopped c.old c.new)
+    → PutsAtMost made.session.value budget c.old.out.taken c.new.out.taken
+    → IsSomeAnd c.kept (λ x. PutsImages (asks_images (words_of c)) x.session.value c.old c.new)
+    → (asks_images (words_of c) ≡ false → IsUntold c.old.images c.new.images)
+    → c.new.files ≡ c.old.files → c.new.input.faults ≡ c.old.input.faults → IsCarried c r
 run-asked c budget made (Ok status) is same ran front images unasked without_fault input_without_fault =
     let k = some-kept c.kept (IsSameRun made) same in
     let asked = asks_images (words_of c) in
     let summary = is_generated (words_of c) in
-    let here : IsRun summary asked budget c.streams status k.0 =
-    subst (λ (o : Option Kept). IsSomeAnd o (IsRun summary asked budget c.streams status)) k.1 ran in
+    let here : IsRun summary asked budget c.old c.new status k.0 =
+    subst (λ (o : Option Kept). IsSomeAnd o (IsRun summary asked budget c.old c.new status)) k.1 ran in
     record {
-      always = made-true c budget made k.0 is k.1 k.2 front (kept-images c.kept k.0 asked c.streams k.1 images) unasked;
+      always = made-true c budget made k.0 is k.1 k.2 front (kept-images c.kept k.0 asked c.old c.new k.1 images) unasked;
       ran = record {
         made =
-            subst (λ (o : Option Kept). IsSomeAnd o (IsRunAsked (words_of c) c.streams status)) (sym k.1)
+            subst (λ (o : Option Kept). IsSomeAnd o (IsRunAsked (words_of c) c.old c.new status)) (sym k.1)
             (made-run c budget made k.0 status is k.2 here);
         without_fault = without_fault;
         input_without_fault = input_without_fault;
@@ -406,7 +407,7 @@ run-asked c budget made (Err r) is same stopped front images unasked without_fau
     let k = some-kept c.kept (IsSameRun made) same in
     let asked = asks_images (words_of c) in
     record {
-      always = made-true c budget made k.0 is k.1 k.2 front (kept-images c.kept k.0 asked c.streams k.1 images) unasked;
+      always = made-true c budget made k.0 is k.1 k.2 front (kept-images c.kept k.0 asked c.old c.new k.1 images) unasked;
       ran = tt;
       refused = stopped-refused c k.0 r
           (of-program (given_of c) made.plan budget made.classes is.program is.prepared) k.1 without_fault input_without_fault
@@ -425,18 +426,18 @@ generation-said words r e = ap (λ (o : Option Read). option_map_or (λ (x : Rea
 pub carried-run : (c : Call) (summary : Bool) (budget : ℕ) (made : Kept) (r : Result ℕ Refusal) (words : Read)
     → words_accepted (words_of c) ≡ Some words → summary ≡ is_some words.generated
     → IsMade c budget made → IsSomeAnd c.kept (IsSameRun made)
-    → MatchResult r (λ status. IsSomeAnd c.kept (IsRun summary words.images budget c.streams status))
-    (IsStopped c.streams)
-    → PutsAtMost made.session.value budget c.streams.out.taken c.streams.out_after.taken
-    → IsSomeAnd c.kept (λ x. PutsImages words.images x.session.value c.streams)
-    → (words.images ≡ false → IsUntold c.streams.images c.streams.images_after)
-    → c.files_after ≡ c.files → c.input_after.faults ≡ c.input.faults → IsCarried c r
+    → MatchResult r (λ status. IsSomeAnd c.kept (IsRun summary words.images budget c.old c.new status))
+    (IsStopped c.old c.new)
+    → PutsAtMost made.session.value budget c.old.out.taken c.new.out.taken
+    → IsSomeAnd c.kept (λ x. PutsImages words.images x.session.value c.old c.new)
+    → (words.images ≡ false → IsUntold c.old.images c.new.images)
+    → c.new.files ≡ c.old.files → c.new.input.faults ≡ c.old.input.faults → IsCarried c r
 carried-run c summary budget made r words read sums is same ran front images unasked =
     let said : words.images ≡ asks_images (words_of c) = sym (images-said (words_of c) words read) in
     let sums_said : summary ≡ is_generated (words_of c) = sums ∙ sym (generation-said (words_of c) words read) in
     run-asked c budget made r is same
-    (subst (λ (s : Bool). MatchResult r (λ status. IsSomeAnd c.kept (IsRun s (asks_images (words_of c)) budget c.streams status)) (IsStopped c.streams)) sums_said
-    (subst (λ (asked : Bool). MatchResult r (λ status. IsSomeAnd c.kept (IsRun summary asked budget c.streams status)) (IsStopped c.streams)) said ran))
+    (subst (λ (s : Bool). MatchResult r (λ status. IsSomeAnd c.kept (IsRun s (asks_images (words_of c)) budget c.old c.new status)) (IsStopped c.old c.new)) sums_said
+    (subst (λ (asked : Bool). MatchResult r (λ status. IsSomeAnd c.kept (IsRun summary asked budget c.old c.new status)) (IsStopped c.old c.new)) said ran))
     front
-    (subst (λ (asked : Bool). IsSomeAnd c.kept (λ x. PutsImages asked x.session.value c.streams)) said images)
-    (subst (λ (asked : Bool). asked ≡ false → IsUntold c.streams.images c.streams.images_after) said unasked)
+    (subst (λ (asked : Bool). IsSomeAnd c.kept (λ x. PutsImages asked x.session.value c.old c.new)) said images)
+    (subst (λ (asked : Bool). asked ≡ false → IsUntold c.old.images c.new.images) said unasked)

@@ -7,8 +7,8 @@ use Rattle.jfluid_cli.proofs.Reports.OnDevices.{answered-from, carried-on}
 use Rattle.jfluid_cli.proofs.top.answer_texts.Goals as goal
 
 pub returns-in-Err-clause-answered : goal.returns-in-Err-clause-answered
-returns-in-Err-clause-answered g c = answered-from _ _ _ _ _ _ _ _ _ _ c.devices.view_is
-    (answered-words _ _ _ _ _ _ _ _ _ c.in-Err.refusal c.tell.result c.status.result c.requires.empty
+returns-in-Err-clause-answered g c = answered-from _ _ _ _ _ _ c.devices.view_is
+    (answered-words _ _ _ _ c.in-Err.refusal c.tell.result c.status.result c.requires.empty
     c.in-Err.ensures.refused c.in-Err.ensures.nameless (λ e. absurd (false≢true e)) c.tell.ensures.which
     c.status.ensures c.tell.ensures.line)
 

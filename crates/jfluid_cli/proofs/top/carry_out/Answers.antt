@@ -9,11 +9,11 @@ use Rattle.jfluid_cli.specs.Causes.{CallInputs}
 use Rattle.jfluid_cli.specs.Runs.{RunsProgram}
 use Rattle.jfluid_cli.specs.Stages.{IsPrepared}
 use Rattle.jfluid_cli.proofs.Runs.Carried.{carried-refused, carried-input, carried-memory, carried-run, of-program, rest-of-input}
-use Rattle.jfluid_cli.proofs.Reports.OnDevices.{carried-from, carried-on}
+use Rattle.jfluid_cli.proofs.Reports.OnDevices.{carried-from, carried-on, ran-on}
 use Rattle.jfluid_cli.proofs.top.carry_out.Goals as goal
 
 pub returns-in-Err-clause-carried : goal.returns-in-Err-clause-carried
-returns-in-Err-clause-carried g c = λ list read. carried-from (Ok list) _ _ _ _ _ _ _ _ _ c.devices.view_is
+returns-in-Err-clause-carried g c = λ list read. carried-from (Ok list) _ _ _ _ _ c.devices.view_is
     (carried-refused _ (read_in c.args.words.now) c.in-Err.refusal read c.requires.empty
     (record { taken = refl; faults = refl }) (record { taken = refl; faults = refl })
     (record { taken = refl; faults = refl }) refl
@@ -22,7 +22,7 @@ returns-in-Err-clause-carried g c = λ list read. carried-from (Ok list) _ _ _ _
 pub returns-in-Err-take-clause-carried : goal.returns-in-Err-take-clause-carried
 returns-in-Err-take-clause-carried g c =
     let l = c.in-Ok.loaded in
-    λ list read. carried-from (Ok list) _ _ _ _ _ _ _ _ _ c.devices.view_is
+    λ list read. carried-from (Ok list) _ _ _ _ _ c.devices.view_is
     (carried-input _ c.in-Err-take.refusal c.requires.empty
     (record { taken = refl; faults = refl }) (record { taken = refl; faults = refl })
     (record { taken = refl; faults = refl }) (c.in-Ok.ensures.without_fault refl)
@@ -30,7 +30,7 @@ returns-in-Err-take-clause-carried g c =
     c.in-Err-take.ensures.refused)
 
 pub returns-in_default-clause-carried : goal.returns-in_default-clause-carried
-returns-in_default-clause-carried g c = λ list read. carried-from (Ok list) _ _ _ _ _ _ _ _ _ c.devices.view_is
+returns-in_default-clause-carried g c = λ list read. carried-from (Ok list) _ _ _ _ _ c.devices.view_is
     (carried-memory _ c.requires.empty
     (record { taken = refl; faults = refl }) (record { taken = refl; faults = refl })
     (record { taken = refl; faults = refl }) (c.in-Ok.ensures.without_fault refl)
@@ -67,6 +67,10 @@ returns-clause-carried g c =
       rest = rest-of-input _ _ c.in-Ok-take.bytes c.in-Ok-take.ensures.short c.in-Ok-take.ensures.taken;
       ended = c.in-Ok-take.ensures.ended refl;
     })
-    c.run_made.ensures.same c.run_made.ensures.run c.run_made.ensures.prefix c.run_made.ensures.images
+    c.run_made.ensures.same
+    (ran-on _ _ _ _ (record { out = refl; report = refl; images = refl })
+    (record { out = refl; report = refl; images = refl })
+    c.is_some-summary.result _ l.budget _ c.run_made.result c.run_made.ensures.run)
+    c.run_made.ensures.prefix c.run_made.ensures.images
     c.run_made.ensures.unasked
     (c.in-Ok.ensures.without_fault refl) (c.in-Ok-take.ensures.without_fault refl)))

@@ -12,8 +12,8 @@ of-memory told (inl same) = same
 of-memory told (inr same) = same
 
 pub returns-in-Err-clause-answered : goal.returns-in-Err-clause-answered
-returns-in-Err-clause-answered g c = answered-from _ _ _ _ _ _ _ _ _ _ c.devices.view_is
-    (answered-words c.args.words _ _ _ _ _ _ _ _ NoMemory c.tell.result c.status.result refl
+returns-in-Err-clause-answered g c = answered-from _ _ _ _ _ _ c.devices.view_is
+    (answered-words c.args.words _ _ _ NoMemory c.tell.result c.status.result refl
     tt (λ a b xs ys. refl) (λ e. of-memory c.tell.result c.tell.ensures.which) c.tell.ensures.which
     c.status.ensures c.tell.ensures.line)
 

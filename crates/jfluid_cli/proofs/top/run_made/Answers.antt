@@ -2,43 +2,16 @@ use Rattle.std.proofs.Common.{subst}
 use Rattle.profile_session.specs.Sessions.{Profiling}
 use Rattle.jfluid_cli.specs.declared.kept.Kept.{Kept}
 use Rattle.jfluid_cli.specs.Runs.{PutsAtMost}
-use Rattle.jfluid_cli.specs.Sinks.{DevicesView, Streams}
+use Rattle.jfluid_cli.specs.Sinks.{DevicesView}
 use Rattle.jfluid_cli.proofs.Reports.Answered.{run-answer}
 use Rattle.jfluid_cli.proofs.Reports.OnDevices.{ran-from}
 use Rattle.jfluid_cli.proofs.top.run_made.Goals as goal
 
 pub returns-clause-run : goal.returns-clause-run
 returns-clause-run g c =
-    let s : Streams = record {
-      out = record {
-        taken = g.O.Sink.taken c.devices.inside.out;
-        faults = g.O.Sink.faults c.devices.inside.out;
-      };
-      out_after = record {
-        taken = g.O.Sink.taken c.run_all-outcome.new.out;
-        faults = g.O.Sink.faults c.run_all-outcome.new.out;
-      };
-      report = record {
-        taken = g.P.Sink.taken c.devices.inside.report;
-        faults = g.P.Sink.faults c.devices.inside.report;
-      };
-      report_after = record {
-        taken = g.P.Sink.taken c.answer-answered.new.report;
-        faults = g.P.Sink.faults c.answer-answered.new.report;
-      };
-      images = record {
-        taken = g.G.Sink.taken c.devices.inside.images;
-        faults = g.G.Sink.faults c.devices.inside.images;
-      };
-      images_after = record {
-        taken = g.G.Sink.taken c.answer-answered.new.images;
-        faults = g.G.Sink.faults c.answer-answered.new.images;
-      };
-    } in
     let k : Kept = record c.args.made_of { session = record c.args.made_of.session { value = c.answer-answered.new.session } } in
-    ran-from _ _ s.out_after s.report_after s.images_after c.answer-answered.result k c.args.summary c.args.asked c.args.budget
-    c.devices.view_is
-    (run-answer c.answer-answered.result c.run_all-outcome.result s c.args.summary c.args.asked c.args.budget
+    ran-from _ _ _ c.answer-answered.result k c.args.summary c.args.asked c.args.budget c.devices.view_is
+    (run-answer c.answer-answered.result c.run_all-outcome.result _ _ c.args.summary c.args.asked c.args.budget
     c.run_all-outcome.new.session k
     c.answer-answered.ensures.carried_out c.answer-answered.ensures.gathered c.answer-answered.ensures.shown
     c.answer-answered.ensures.stopped c.answer-answered.ensures.unshown c.run_all-outcome.ensures.carried_out
