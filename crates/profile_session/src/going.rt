@@ -1,6 +1,7 @@
 //! Turns and steps of a session.
 
-ghost use Rattle.std.specs.Prelude.{◌≡◌, ◌+◌, ◌-◌, ◌^◌, ◌<◌, ◌≤◌, true, false, MatchResult, if◌then◌else◌};
+ghost use Rattle.std.specs.Prelude.{◌≡◌, ◌≢◌, ◌+◌, ◌-◌, ◌^◌, ◌<◌, ◌≤◌, true, false, MatchResult, if◌then◌else◌};
+ghost use Rattle.jvm_machine.specs.declared.turn.Turn.TheVariants as Turn;
 ghost use Rattle.jvm_machine.specs.View.{IsGoingOn, has_ended};
 ghost use Rattle.profile_session.specs.Advances.{After, IsReady, Makes, RanFrom, Sliced, TurnedTo, ended_by};
 ghost use Rattle.profile_session.specs.Parts.{IsBusy, IsSameRun, Rests};
@@ -11,9 +12,10 @@ use crate::parts::Parts;
 use jf_bytes::NoMemory;
 use jvm_machine::Turn;
 
-/// Whether there was memory.
+/// Whether there was memory, of a turn of a machine that was whole.
 #[inline(always)]
 fn is_telling(turn: &Turn) -> bool
+    requires { turn.now ≢ Turn.Broken }
     ensures { result ≡ is_telling turn.now }
 {
     match turn {
@@ -21,7 +23,7 @@ fn is_telling(turn: &Turn) -> bool
         Turn::Probe(_) => true,
         Turn::Loaded(_) => true,
         Turn::Ended => true,
-        Turn::Broken => false,
+        Turn::Broken => unreachable!(),
         Turn::NoMemory => false,
     }
 }

@@ -19,6 +19,10 @@ use Rattle.profile_session.proofs.Turns.Turning.{begun-busy}
 
 -- ---- several steps, and one turn more
 
+pub ready-whole : (x : Parts) → IsReady x → x.vm.broken ≡ false
+ready-whole x (at_rest r on) = r.is.fit.whole
+ready-whole x (in_step busy profiles) = busy.is.fit.whole
+
 pub ready-hearable : (x : Parts) (most : ℕ) (t : Turn) (v : View) → IsReady x → is_telling t ≡ true → x.vm.clock + most < 9223372036854775808 → RunsOn x.vm most t v
     → IsHearable (record x { vm = v }) t
 ready-hearable x most t v (at_rest r on) tells below runs = ran-hearable x most t v r on runs tells below

@@ -1,7 +1,11 @@
 use Rattle.std.proofs.Common.{sym, ◌∙◌}
-use Rattle.profile_session.proofs.Turns.Slicing.{ready-hearable, ready-ran}
-use Rattle.profile_session.proofs.Turns.Worlds.{run-world}
+use Rattle.profile_session.proofs.Turns.Slicing.{ready-hearable, ready-ran, ready-whole}
+use Rattle.profile_session.proofs.Turns.Worlds.{run-whole, run-world}
 use Rattle.profile_session.proofs.parts.Parts.run.Goals as goal
+
+pub is_telling-requires : goal.is_telling-requires
+is_telling-requires c =
+    run-whole c.args.self.now.vm c.run_on-turn.new.self c.args.most c.run_on-turn.result (ready-whole c.args.self.now c.requires.ready) c.run_on-turn.ensures
 
 pub returns-then-not-is_telling : goal.returns-then-not-is_telling
 returns-then-not-is_telling c = run-world c.args.self.now.vm c.run_on-turn.new.self c.args.most c.run_on-turn.result c.run_on-turn.ensures

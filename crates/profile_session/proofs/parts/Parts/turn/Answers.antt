@@ -1,7 +1,10 @@
 use Rattle.std.proofs.Common.{sym, ◌∙◌}
 use Rattle.profile_session.proofs.Turns.Slices.{turn-after, turn-hearable}
-use Rattle.profile_session.proofs.Turns.Worlds.{turn-world}
+use Rattle.profile_session.proofs.Turns.Worlds.{turn-whole, turn-world}
 use Rattle.profile_session.proofs.parts.Parts.turn.Goals as goal
+
+pub is_telling-requires : goal.is_telling-requires
+is_telling-requires c = turn-whole c.args.self.now.vm c.step-turn.new.self c.step-turn.result c.requires.busy.is.fit.whole c.step-turn.ensures.turns
 
 pub returns-then-not-is_telling : goal.returns-then-not-is_telling
 returns-then-not-is_telling c = turn-world c.args.self.now.vm c.step-turn.new.self c.step-turn.result c.step-turn.ensures.turns
