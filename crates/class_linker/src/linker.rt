@@ -8,7 +8,8 @@ ghost use Rattle.jvm_model.specs.Classes.Layouts.{layout};
 ghost use Rattle.jvm_model.specs.Classes.Load.{is_among};
 ghost use Rattle.jvm_model.specs.Classes.Lookup.{is_subtype, place_in, resolved_field, resolved_method};
 ghost use Rattle.jvm_model.specs.Classes.Lookup.{superclass_of, superclasses};
-ghost use Rattle.jvm_model.specs.Classes.Selection.{Overrides, overrides, method_selected};
+ghost use Rattle.jvm_model.specs.Classes.Selection.{Overrides, is_abstract, is_static, overrides};
+ghost use Rattle.jvm_model.specs.Classes.Selection.{method_selected};
 ghost use Rattle.class_index.specs.Indices.{IsLinkable};
 ghost use Rattle.class_index.specs.Members.{place_view};
 ghost use Rattle.class_linker.specs.Linkers.{IsAnswer, IsKnown, IsLoaded, linker_of, load_answer};
@@ -20,7 +21,7 @@ use crate::declared_method::DeclaredMethod;
 use crate::kinds::is_subkind;
 use crate::loaded_classes::LoadedClass;
 use crate::loading::State;
-use crate::overriding::overrides;
+use crate::overriding::{is_abstract, is_static, overrides};
 use crate::resolving::{resolved_field, resolved_method};
 use crate::selecting::method_selected;
 use crate::super_calls::invoked_special;
@@ -257,6 +258,20 @@ impl Linker {
             DeclaredMethod { class, position },
         )?;
         Some((found.class, found.position))
+    }
+
+    /// Whether the method at a position of a class is static (4.6).
+    pub fn is_static(&self, class: u32, position: u16) -> bool
+        ensures { result ≡ is_static self.now.program (place_in class position) }
+    {
+        is_static(self.index.as_ref(), DeclaredMethod { class, position })
+    }
+
+    /// Whether the method at a position of a class is abstract (4.6).
+    pub fn is_abstract(&self, class: u32, position: u16) -> bool
+        ensures { result ≡ is_abstract self.now.program (place_in class position) }
+    {
+        is_abstract(self.index.as_ref(), DeclaredMethod { class, position })
     }
 
     /// Whether a method of a loaded class overrides another (5.4.5); methods are named by class and position.

@@ -11,7 +11,6 @@ use crate::declared_member::DeclaredMember;
 use crate::known::Callee;
 use crate::native_methods::native_at;
 use crate::numbers::MethodNumbers;
-use crate::targets::is_abstract;
 use class_linker::Linker;
 
 /// The native method that stands there, if it is one of a built-in class.
@@ -34,7 +33,7 @@ pub fn callee_of(linker: &Linker, numbers: &MethodNumbers, m: DeclaredMember) ->
     requires { AreNumbers linker.now.program numbers.now }
     ensures { IsCallee result linker.now.program (at_place m) }
 {
-    if is_abstract(linker.program(), m) {
+    if linker.is_abstract(m.class, m.position) {
         return Callee::Other;
     }
     match numbers.number(m.class, m.position) {

@@ -33,8 +33,5 @@ pub use outcome::{AbruptCompletion, Outcome};
 pub use receivers::{argument_count, receiver_below};
 pub use resolution::{resolve, resolved_name, resolves};
 pub use selections::{Selection, Selections};
-pub use targets::{
-    Selecting, Target, is_abstract, is_static, method_found, names_interface, receiver_kind,
-    selected_by,
-};
+pub use targets::{Selecting, Target, method_found, names_interface, receiver_kind, selected_by};
 pub use values::datum_of;

@@ -9,7 +9,7 @@ ghost use Rattle.jvm_model.specs.Instructions.InvocationRules.{names_interface, 
 ghost use Rattle.jvm_model.specs.Classes.Lookup.{resolved_method};
 ghost use Rattle.jvm_model.specs.Instructions.SymbolicReference.{member_found, is_below_kind, where_fitting};
 ghost use Rattle.jvm_model.specs.Basis.Programs.{class_named};
-ghost use Rattle.jvm_model.specs.Classes.Selection.{access_of, is_abstract, is_static};
+ghost use Rattle.jvm_model.specs.Classes.Selection.{is_static};
 ghost use Rattle.jvm_model.specs.Basis.SharedState.{class_of_kind};
 ghost use Rattle.jvm_model.specs.Classes.SuperCalls.{invoked_special};
 ghost use Rattle.class_index.specs.Members.{place_view};
@@ -26,11 +26,10 @@ use crate::instances::kind_of_object;
 use crate::known::{Chosen, Found};
 use crate::outcome::AbruptCompletion;
 use crate::resolution::exception_numbered;
-use base_classes::{ABSTRACT, STATIC};
 use class_linker::{Linker, Resolved};
 use heap_objects::Heap;
 use jf_bytes::Text16;
-use jvm_model::{Exception, MemberName, MethodName, Program, has_flag};
+use jvm_model::{Exception, MemberName, MethodName};
 
 /// Which invocation it is: invokespecial with the name of the class in which it stands, and whether
 /// it names an interface's method.
@@ -46,34 +45,6 @@ pub enum Selecting<'a> {
 pub struct Target {
     pub selected: Option<Chosen>,
     pub count: u16,
-}
-
-// ---- methods
-
-/// The flags of a method.
-fn access_of(program: &Program, m: DeclaredMember) -> u16
-    ensures { result ≡ access_of program.now (at_place m) }
-{
-    match program.classes.get(m.class as usize) {
-        Some(file) => match file.methods.get(m.position as usize) {
-            Some(method) => method.access,
-            None => 0,
-        },
-        None => 0,
-    }
-}
-
-/// Whether a method is static (JVM Specification 4.6).
-pub fn is_static(program: &Program, m: DeclaredMember) -> bool
-    ensures { result ≡ is_static program.now (at_place m) }
-{
-    has_flag(access_of(program, m), STATIC)
-}
-
-pub fn is_abstract(program: &Program, m: DeclaredMember) -> bool
-    ensures { result ≡ is_abstract program.now (at_place m) }
-{
-    has_flag(access_of(program, m), ABSTRACT)
 }
 
 // ---- resolution
@@ -112,14 +83,14 @@ fn found_in(
 
 /// The method, where it is static as it is asked for, or is not.
 fn fitting(
-    program: &Program,
+    linker: &Linker,
     m: DeclaredMember,
     fixed: bool,
 ) -> Result<DeclaredMember, AbruptCompletion>
     ensures { place_found result
-        ≡ where_fitting (beq (is_static program.now (at_place m)) fixed) (at_place m) }
+        ≡ where_fitting (beq (is_static linker.now.program (at_place m)) fixed) (at_place m) }
 {
-    if is_static(program, m) == fixed {
+    if linker.is_static(m.class, m.position) == fixed {
         Ok(m)
     } else {
         Err(AbruptCompletion::Raises(Exception::IncompatibleClassChange, None))
@@ -140,7 +111,7 @@ pub fn method_found(
 {
     let class = linker.index().class_of_kind(kind);
     match found_in(linker, class, interface, method.member()) {
-        Ok(m) => fitting(linker.program(), m, fixed),
+        Ok(m) => fitting(linker, m, fixed),
         Err(completion) => Err(completion),
     }
 }

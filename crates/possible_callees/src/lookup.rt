@@ -19,8 +19,8 @@ use crate::lineage::Lineage;
 use class_index::{Wanted, meaning_of, method_at};
 use class_linker::{Linker, Resolved};
 use jf_bytes::Text16;
-use jvm_model::{MemberName, Program};
-use member_selection::{DeclaredMember, MethodNumbers, is_static, is_static_field};
+use jvm_model::MemberName;
+use member_selection::{DeclaredMember, MethodNumbers, is_static_field};
 
 // ---- classes
 
@@ -50,11 +50,11 @@ pub fn class_with_methods(linker: &Linker, lineage: &Lineage, name: &Text16) -> 
 // ---- methods
 
 /// The method, where it is static as it is asked for, or is not.
-fn method_kept(program: &Program, m: DeclaredMember, fixed: bool) -> Option<DeclaredMember>
+fn method_kept(linker: &Linker, m: DeclaredMember, fixed: bool) -> Option<DeclaredMember>
     ensures { option_map at_place result
-        ≡ found_where (is_static program.now) fixed (Found (at_place m)) }
+        ≡ found_where (is_static linker.now.program) fixed (Found (at_place m)) }
 {
-    if is_static(program, m) == fixed {
+    if linker.is_static(m.class, m.position) == fixed {
         Some(m)
     } else {
         None
@@ -78,7 +78,7 @@ fn method_in(
 {
     match linker.resolve_method(class, interface, name, descriptor) {
         Resolved::Found(class, position) => {
-            method_kept(linker.program(), DeclaredMember { class, position }, fixed)
+            method_kept(linker, DeclaredMember { class, position }, fixed)
         }
         Resolved::Throws(_) => None,
     }

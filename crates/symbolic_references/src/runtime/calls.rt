@@ -22,7 +22,7 @@ use frame_stack::Frames;
 use jf_bytes::NoMemory;
 use jvm_model::{Exception, MethodName};
 use member_selection::{
-    AbruptCompletion, Callee, Chosen, DeclaredMember, Found, Outcome, Selecting, is_abstract,
+    AbruptCompletion, Callee, Chosen, DeclaredMember, Found, Outcome, Selecting,
 };
 
 impl Runtime {
@@ -71,7 +71,7 @@ impl Runtime {
         ensures same_loaded { self.new.shared.loaded ≡ self.old.shared.loaded }
         ensures enough { HaveOperands result frames.now }
     {
-        if is_abstract(self.linker.program(), m) {
+        if self.linker.is_abstract(m.class, m.position) {
             return Ok(Outcome::Abrupt(AbruptCompletion::Raises(Exception::AbstractMethod, None)));
         }
         match self.tables.numbers.number(m.class, m.position) {
