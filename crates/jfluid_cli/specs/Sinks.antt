@@ -1,4 +1,4 @@
--- What clauses see of a call's sinks, source and files, before and after.
+-- What clauses see of a call's devices: sinks, source and files.
 use Rattle.std.specs.Prelude.{◌≡◌, ℕ, ◌⊎◌, List, Option, Some, slice_get}
 use Rattle.jf_bytes.specs.Streams.{Told, PutsAll, PutsPrefix, Rose}
 
