@@ -1,4 +1,10 @@
+mod FoundLemmas
 mod Images
+mod NameLemmas
+mod NumberLemmas
 mod Plays
+mod ReadingLemmas
 mod Rests
+mod SayingLemmas
 mod Stays
+mod WordLemmas
