@@ -1,5 +1,7 @@
 mod FoundLemmas
 mod Images
+mod JudgingLemmas
+mod MakingLemmas
 mod NameLemmas
 mod NumberLemmas
 mod Plays

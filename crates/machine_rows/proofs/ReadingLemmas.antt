@@ -11,7 +11,7 @@ use Rattle.machine_rows.specs.Causes.{IsCause, IsMissing, IsSilent}
 use Rattle.machine_rows.specs.Reading.{AreSaid, LineSays, placed_at}
 use Rattle.machine_rows.specs.Words.{rest_of, word_of}
 
-one-more : {A : Type 0} (f : A → List ℕ) (xs : List A) (i : ℕ) (x d : A) → i < length xs → x ≡ get_or xs i d
+pub one-more : {A : Type 0} (f : A → List ℕ) (xs : List A) (i : ℕ) (x d : A) → i < length xs → x ≡ get_or xs i d
     → map f (take i xs) ++ (f x ∷ []) ≡ map f (take (suc i) xs)
 one-more f [] i x d less is = absurd (omega (arith, less))
 one-more f (y ∷ ys) zero x d less is = ap (λ z. f z ∷ []) is

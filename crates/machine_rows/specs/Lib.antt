@@ -6,3 +6,5 @@ pub mod Names
 pub mod Words
 pub mod Reading
 pub mod Causes
+pub mod Making
+pub mod Judging
