@@ -1,5 +1,5 @@
 -- The verdict from its parts.
-use Rattle.std.proofs.Common.{◌≡◌, ℕ, List, map, Option, None, ap, sym, subst}
+use Rattle.std.proofs.Common.{◌≡◌, ℕ, List, map, Option, None, subst}
 use Rattle.std.specs.Str.Lines.{lines}
 use Rattle.jf_bytes.specs.Streams.{Told}
 use Rattle.jvm_model.specs.declared.program.Program.{Program}

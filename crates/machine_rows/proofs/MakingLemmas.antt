@@ -1,6 +1,6 @@
 -- Classes of files, one by one.
-use Rattle.std.proofs.Common.{◌≡◌, ◌<◌, ◌+◌, ℕ, suc, List, [], ◌∷◌, ◌++◌, length, map, take, ap, sym, subst, ◌∙◌, add-one}
-use Rattle.std.specs.Prelude.{Option, Bool, true, false, codes, get_or}
+use Rattle.std.proofs.Common.{◌≡◌, ◌<◌, ◌+◌, ℕ, List, [], ◌∷◌, ◌++◌, length, map, take, ap, sym, subst, ◌∙◌, add-one}
+use Rattle.std.specs.Prelude.{Option, true, codes, get_or}
 use Rattle.std.specs.Str.{bytes_eq}
 use Rattle.jf_bytes.specs.Streams.{Told}
 use Rattle.const_pool.specs.declared.class.ClassFile.{ClassFile}

@@ -1,5 +1,5 @@
 -- The words of a line, and what single words say.
-use Rattle.std.specs.Prelude.{ℕ, ◌+◌, ◌^◌, ℤ, Bool, true, false, List, [], ◌∷◌, ◌++◌, length, drop, Option, Some, None, nat_lt, nat_le, codes, ◌==◌, ◌&&◌, if◌then◌else◌}
+use Rattle.std.specs.Prelude.{ℕ, ◌+◌, ◌^◌, ℤ, Bool, List, [], ◌∷◌, ◌++◌, length, drop, Option, Some, None, nat_lt, nat_le, codes, ◌==◌, ◌&&◌, if◌then◌else◌}
 use Rattle.std.specs.Char.{is_ascii_digit}
 use Rattle.std.specs.List.{before_first, list_all, slice_split}
 use Rattle.std.specs.Option.{option_and_then, option_map}
