@@ -1,4 +1,12 @@
+mod FoundLemmas
 mod Images
+mod JudgingLemmas
+mod MakingLemmas
+mod NameLemmas
+mod NumberLemmas
 mod Plays
+mod ReadingLemmas
 mod Rests
+mod SayingLemmas
 mod Stays
+mod WordLemmas

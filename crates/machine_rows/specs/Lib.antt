@@ -3,3 +3,8 @@ pub mod Ready
 pub mod Played
 pub mod Resting
 pub mod Names
+pub mod Words
+pub mod Reading
+pub mod Causes
+pub mod Making
+pub mod Judging

@@ -1,15 +1,17 @@
 -- Which classes and methods of a program the words of a row name.
 use Rattle.std.specs.Prelude.{◌≡◌, ℕ, ◌^◌, Bool, false, List, Option, Some, None, position, slice_get, nat_lt, if◌then◌else◌, ◌&&◌, ◌⊎◌}
-use Rattle.std.specs.Option.{option_and_then, option_map_or}
+use Rattle.std.specs.Option.{option_and_then, option_map, option_map_or}
 use Rattle.const_pool.specs.declared.class.ClassFile.{ClassFile}
 use Rattle.const_pool.specs.declared.class.Member.{Member}
 use Rattle.const_pool.specs.References.{name_type_of}
 use Rattle.plan_text.specs.declared.plan.RootName.{RootName}
-use Rattle.plan_text.specs.Roots.{IsRoot, IsNoRoot}
+use Rattle.jf_bytes.specs.Unicode.{utf16_of}
+use Rattle.plan_text.specs.Roots.{IsRoot, IsNoRoot, root_in}
 use Rattle.jvm_model.specs.declared.program.Program.{Program}
 use Rattle.jvm_model.specs.declared.program.MethodPlace.{MethodPlace}
 use Rattle.jvm_model.specs.Basis.Methods.{is_member}
-use Rattle.jvm_model.specs.Basis.Programs.{class_at, has_name}
+use Rattle.jvm_model.specs.Basis.Programs.{class_at, class_named, has_name}
+use Rattle.jvm_model.specs.Basis.Descriptors.{shape_of}
 
 -- a position that is a number of 32 bits, as classes and methods are numbered
 abbrev pub in_32_bits : Option ℕ → Option ℕ
@@ -33,3 +35,17 @@ method_of_root p root = in_32_bits (position (is_root p root) p.methods)
 abbrev pub IsMethodOf : Program → List ℕ → Option ℕ → Type 0
 IsMethodOf p word found =
     ((root : RootName) × IsRoot word root × (found ≡ method_of_root p root)) ⊎ (IsNoRoot word × (found ≡ None))
+
+-- ---- by words
+
+-- the position of the class of this name
+abbrev pub class_called : Program → List ℕ → Option ℕ
+class_called p name = in_32_bits (class_named p (utf16_of name))
+
+-- the root that a word is, if it is one
+abbrev pub root_called : List ℕ → Option RootName
+root_called word = option_and_then (λ root. option_map (λ shape. root) (shape_of root.descriptor)) (root_in (utf16_of word))
+
+-- the number of the method that a word names: class, dot, name, descriptor
+abbrev pub method_called : Program → List ℕ → Option ℕ
+method_called p word = option_and_then (method_of_root p) (root_called word)

@@ -1,5 +1,8 @@
 //! The verdict on a row.
 
+ghost use Rattle.std.specs.Prelude.{IfOk};
+ghost use Rattle.machine_rows.specs.Judging.{IsJudged};
+
 use crate::making::make;
 use crate::parts::{RowError, fetch_text, lines_of};
 use crate::playing::{Failure, play_all};
@@ -8,11 +11,9 @@ use jf_bytes::Files;
 use std::alloc::Global;
 
 /// What of a row came otherwise, if anything did.
-pub fn judge<F: Files>(
-    alloc: Global,
-    row: &str,
-    files: &mut F,
-) -> Result<Option<Failure>, RowError> {
+pub fn judge<F: Files>(alloc: Global, row: &str, files: &mut F) -> Result<Option<Failure>, RowError>
+    ensures { IfOk result (IsJudged (F.contents files.old) row.now) }
+{
     let text = fetch_text(alloc, row, files)?;
     let lines = lines_of(alloc, text.as_str())?;
     let mut vm = make(alloc, &lines, files)?;

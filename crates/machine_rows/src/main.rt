@@ -11,7 +11,10 @@ mod names;
 mod parts;
 mod playing;
 mod reading;
+mod saying;
+mod telling;
 mod turns;
+mod words;
 
 use jf_bytes::DiskFiles;
 use judging::judge;

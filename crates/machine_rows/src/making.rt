@@ -1,8 +1,15 @@
 //! Makes the machine of a row.
 
-ghost use Rattle.std.specs.Prelude.{◌≡◌, ◌≤◌, ◌<◌, ◌^◌, length, IfOk, IfSome};
+ghost use Rattle.std.specs.Prelude.{◌≡◌, ◌≤◌, ◌<◌, ◌^◌, ℕ, List, [], length, map, Ok, IfOk, IfSome, OnOk};
 ghost use Rattle.std.specs.List.{AllByRecursion};
 ghost use Rattle.const_pool.specs.ClassFile.{IsClassFile};
+ghost use Rattle.jf_bytes.specs.Unicode.{utf16_of};
+ghost use Rattle.class_reader.specs.Files.{IsFile};
+ghost use Rattle.plan_text.specs.Lines.{silent_plan};
+ghost use Rattle.admit_check.specs.Admission.{admission_of};
+ghost use Rattle.jvm_machine.specs.View.{machine_made};
+ghost use Rattle.machine_rows.specs.Files.{IsFileAt};
+ghost use Rattle.machine_rows.specs.Making.{AddsClass, AreClasses, IsMade, main_said};
 ghost use Rattle.machine_rows.specs.Ready.{IsFresh};
 ghost use Rattle.program_fit.specs.Runnable.{IsAdmitted};
 
@@ -22,7 +29,10 @@ const MOST_CLASSES: usize = 4096;
 
 /// The class of the class file at a path.
 fn read_file<F: Files>(alloc: Global, path: &str, files: &mut F) -> Result<ClassFile, RowError>
-    ensures { IfOk result IsClassFile }
+    ensures formed { IfOk result IsClassFile }
+    ensures read { let told = F.contents files.old in IfOk result (λ c.
+        (bytes : List ℕ) × IsFileAt told path.now bytes × IsFile bytes c) }
+    ensures stay { F.contents files.new ≡ F.contents files.old }
 {
     let bytes = fetch_file(alloc, path, files)?;
     match read_class(alloc, &bytes) {
@@ -32,32 +42,58 @@ fn read_file<F: Files>(alloc: Global, path: &str, files: &mut F) -> Result<Class
     }
 }
 
+/// Adds the class of the file that a line `class FILE` names.
+fn add_class<F: Files>(
+    alloc: Global,
+    classes: &mut Seq<ClassFile>,
+    line: &str,
+    files: &mut F,
+) -> Result<(), RowError>
+    requires { AllByRecursion IsClassFile classes.old }
+    ensures formed { OnOk result (AllByRecursion IsClassFile classes.new) }
+    ensures added { let told = F.contents files.old in
+        OnOk result (AddsClass told line.now classes.old classes.new) }
+    ensures stay { F.contents files.new ≡ F.contents files.old }
+{
+    let (word, path) = line_parted(line);
+    if word == "class" {
+        let class = match read_file(alloc, path, files) {
+            Ok(class) => class,
+            Err(error) => return Err(error),
+        };
+        let Ok(()) = classes.push(class) else {
+            return Err(RowError::NoMemory);
+        };
+        return Ok(());
+    }
+    Ok(())
+}
+
 /// The classes that the lines `class FILE` of a row name.
 fn read_classes<F: Files>(
     alloc: Global,
     lines: &[&str],
     files: &mut F,
 ) -> Result<Seq<ClassFile>, RowError>
-    ensures { IfOk result (AllByRecursion IsClassFile) }
+    ensures formed { IfOk result (AllByRecursion IsClassFile) }
+    ensures read { let told = F.contents files.old in
+        IfOk result (AreClasses told (map (λ l. l.now) lines.now)) }
+    ensures stay { F.contents files.new ≡ F.contents files.old }
 {
     let mut classes = Seq::new(alloc);
     for line in lines {
-        let (word, path) = line_parted(line);
-        if word == "class" {
-            let class = match read_file(alloc, path, files) {
-                Ok(class) => class,
-                Err(error) => return Err(error),
-            };
-            let Ok(()) = classes.push(class) else {
-                return Err(RowError::NoMemory);
-            };
+        match add_class(alloc, &mut classes, line, files) {
+            Ok(()) => {}
+            Err(error) => return Err(error),
         }
     }
     Ok(classes)
 }
 
 /// The main class that the line `main NAME` of a row names.
-fn main_of<'a>(lines: &[&'a str]) -> &'a str {
+fn main_of<'a>(lines: &[&'a str]) -> &'a str
+    ensures { result.now ≡ main_said (map (λ l. l.now) lines.now) }
+{
     for line in lines {
         let (word, name) = line_parted(line);
         if word == "main" {
@@ -70,7 +106,9 @@ fn main_of<'a>(lines: &[&'a str]) -> &'a str {
 /// The program of these classes, with the main class of this name.
 fn program_of(alloc: Global, classes: Seq<ClassFile>, main: &str) -> Result<Program, RowError>
     requires { AllByRecursion IsClassFile classes }
-    ensures { IfOk result IsAdmitted }
+    ensures admitted { IfOk result IsAdmitted }
+    ensures program { IfOk result (λ p.
+        admission_of classes (utf16_of main.now) silent_plan ≡ Ok p) }
 {
     let Ok(name) = from_utf8(alloc, main) else {
         return Err(RowError::NoMemory);
@@ -88,21 +126,28 @@ fn program_of(alloc: Global, classes: Seq<ClassFile>, main: &str) -> Result<Prog
 /// A new machine, in a place of its own.
 fn machine_placed(alloc: Global, program: Program) -> Result<Box<Vm>, NoMemory>
     requires { IsAdmitted program }
-    ensures { IfOk result (λ vm. IsFresh vm.value) }
+    ensures fresh { IfOk result (λ vm. IsFresh vm.value) }
+    ensures made { IfOk result (λ vm. vm.value ≡ machine_made program []) }
 {
     Ok(Box::new(alloc, Vm::new(alloc, program, Vec::new(alloc))?)?)
 }
 
 /// The machine of a row, on no input.
 pub fn make<F: Files>(alloc: Global, lines: &[&str], files: &mut F) -> Result<Box<Vm>, RowError>
-    ensures { IfOk result (λ vm. IsFresh vm.value) }
+    ensures fresh { IfOk result (λ vm. IsFresh vm.value) }
+    ensures made { let told = F.contents files.old in
+        IfOk result (λ vm. IsMade told (map (λ l. l.now) lines.now) vm.value) }
+    ensures stay { F.contents files.new ≡ F.contents files.old }
 {
     let classes = match read_classes(alloc, lines, files) {
         Ok(classes) => classes,
         Err(error) => return Err(error),
     };
     match program_of(alloc, classes, main_of(lines)) {
-        Ok(program) => Ok(machine_placed(alloc, program)?),
+        Ok(program) => match machine_placed(alloc, program) {
+            Ok(vm) => Ok(vm),
+            Err(NoMemory) => Err(RowError::NoMemory),
+        },
         Err(error) => Err(error),
     }
 }

@@ -2,10 +2,9 @@
 
 ghost use Rattle.std.specs.Prelude.{◌≡◌, IfOk, position};
 ghost use Rattle.const_pool.specs.References.{name_type_of};
-ghost use Rattle.jf_bytes.specs.Unicode.{utf16_of};
 ghost use Rattle.jvm_model.specs.Basis.Methods.{is_member, same_text_at};
-ghost use Rattle.jvm_model.specs.Basis.Programs.{class_named, has_name};
-ghost use Rattle.machine_rows.specs.Names.{IsMethodOf, has_member, in_32_bits, is_root, method_of_root};
+ghost use Rattle.jvm_model.specs.Basis.Programs.{has_name};
+ghost use Rattle.machine_rows.specs.Names.{IsMethodOf, class_called, has_member, in_32_bits, is_root, method_called, method_of_root};
 
 use const_pool::{ClassFile, Member, Pool};
 use jf_bytes::{NoMemory, Text16, from_utf8};
@@ -47,8 +46,7 @@ fn position_of(classes: &[ClassFile], wanted: &Text16) -> Option<usize>
 
 /// The position of the class with this name.
 pub fn class_named(alloc: Global, program: &Program, name: &str) -> Result<Option<u32>, NoMemory>
-    ensures { IfOk result (λ found.
-        found ≡ in_32_bits (class_named program.now (utf16_of name.now))) }
+    ensures { IfOk result (λ found. found ≡ class_called program.now name.now) }
 {
     let wanted = from_utf8(alloc, name)?;
     Ok(number_of(position_of(program.classes.as_slice(), &wanted)))
@@ -100,8 +98,8 @@ fn method_of(program: &Program, root: &RootName) -> Option<u32>
     number_of(place_of(program, root))
 }
 
-/// The number of the method that a word names: class, dot, name, descriptor.
-pub fn method_named(alloc: Global, program: &Program, word: &str) -> Result<Option<u32>, NoMemory>
+/// The number of the method of the root that a word is, if it is one.
+fn method_found(alloc: Global, program: &Program, word: &str) -> Result<Option<u32>, NoMemory>
     ensures { IfOk result (IsMethodOf program.now word.now) }
 {
     let plan = match plan_of_root(alloc, word) {
@@ -113,4 +111,12 @@ pub fn method_named(alloc: Global, program: &Program, word: &str) -> Result<Opti
         [action] => Ok(method_of(program, &action.root)),
         _ => Ok(None),
     }
+}
+
+/// The number of the method that a word names: class, dot, name, descriptor.
+pub fn method_named(alloc: Global, program: &Program, word: &str) -> Result<Option<u32>, NoMemory>
+    ensures of { IfOk result (IsMethodOf program.now word.now) }
+    ensures called { IfOk result (λ found. found ≡ method_called program.now word.now) }
+{
+    method_found(alloc, program, word)
 }

@@ -1,10 +1,11 @@
 //! The files of a row, and why a row is not run.
 
-ghost use Rattle.std.specs.Prelude.{◌≡◌, ◌==◌, ◌+◌, drop, length, map, IfOk};
-ghost use Rattle.std.specs.List.{before_first};
+ghost use Rattle.std.specs.Prelude.{◌≡◌, map, IfErr, IfOk};
 ghost use Rattle.std.specs.Str.Lines.{lines};
 ghost use Rattle.std.specs.String.{string_bytes};
+ghost use Rattle.machine_rows.specs.Causes.{IsMissing};
 ghost use Rattle.machine_rows.specs.Files.{IsFileAt};
+ghost use Rattle.machine_rows.specs.Words.{rest_of, word_of};
 
 use jf_bytes::{FetchError, Files, NoMemory};
 use std::alloc::{AllocError, AllocFailed, Global};
@@ -53,14 +54,25 @@ impl From<NoMemory> for RowError {
     }
 }
 
+/// A file that could not be fetched.
+fn missing(alloc: Global, path: &str) -> RowError
+    ensures { IsMissing path.now result }
+{
+    match String::from_str(alloc, path) {
+        Ok(name) => RowError::Missing(name),
+        Err(_) => RowError::NoMemory,
+    }
+}
+
 /// The contents of a file by its path.
 pub fn fetch_file<F: Files>(alloc: Global, path: &str, files: &mut F) -> Result<Vec<u8>, RowError>
     ensures found { IfOk result (λ bytes. IsFileAt (F.contents files.old) path.now bytes.items) }
+    ensures fails { IfErr result (IsMissing path.now) }
     ensures stay { F.contents files.new ≡ F.contents files.old }
 {
     match files.fetch(alloc, path, MOST) {
         Ok(bytes) => Ok(bytes),
-        Err(FetchError::Failed) => Err(RowError::Missing(String::from_str(alloc, path)?)),
+        Err(FetchError::Failed) => Err(missing(alloc, path)),
         Err(FetchError::NoMemory) => Err(RowError::NoMemory),
     }
 }
@@ -86,9 +98,10 @@ pub fn lines_of<'a>(alloc: Global, text: &'a str) -> Result<Vec<&'a str>, AllocE
 }
 
 /// The first word of a line, and what stands behind it.
+#[tactic(auto, unfolding(crate::specs::Words::word_of, crate::specs::Words::rest_of))]
 pub fn line_parted(line: &str) -> (&str, &str)
-    ensures word { result.0.now ≡ before_first (λ byte. byte == 32) line.now }
-    ensures rest { result.1.now ≡ drop (length result.0.now + 1) line.now }
+    ensures word { result.0.now ≡ word_of line.now }
+    ensures rest { result.1.now ≡ rest_of line.now }
 {
     match line.split_once(' ') {
         Some(parts) => parts,

@@ -10,7 +10,7 @@ ghost use Rattle.call_revelation.specs.Reveals.{now_of};
 ghost use Rattle.revelation_rows.specs.declared.item.Happening.TheVariants.{Loaded as class_loaded, Entered, Selected, Deselected, Quiet, Shown};
 ghost use Rattle.revelation_rows.specs.Scenes.{HasHappened, IsAlong, IsBlank, IsFresh, IsLinked, IsReady, loading};
 
-use crate::spent::{Spent, time_taken};
+use crate::spent::{Spent, nanoseconds};
 use call_revelation::Reveal;
 use class_linker::{Linker, Loaded};
 use jf_bytes::{NoMemory, Text16, from_utf8};
@@ -64,11 +64,11 @@ pub fn load<R: CpuClock>(
     ensures { OnOk result (HasHappened (class_loaded name.now) scene.old.linker scene.old.reveal
         scene.new.linker scene.new.reveal) }
 {
-    let start = time_taken(rt);
+    let start = nanoseconds(rt.thread_cpu_time());
     link(&mut scene.linker, name)?;
-    let linked = time_taken(rt);
+    let linked = nanoseconds(rt.thread_cpu_time());
     follow(alloc, &scene.linker, &mut scene.reveal)?;
-    let end = time_taken(rt);
+    let end = nanoseconds(rt.thread_cpu_time());
     scene
         .spent
         .add(linked.saturating_sub(start), end.saturating_sub(linked));
@@ -160,11 +160,11 @@ pub fn enter<R: CpuClock>(
     ensures { OnOk result (HasHappened (Entered method times) scene.old.linker scene.old.reveal
         scene.new.linker scene.new.reveal) }
 {
-    let start = time_taken(rt);
+    let start = nanoseconds(rt.thread_cpu_time());
     for _ in 0..times {
         enter_once(alloc, &scene.linker, &mut scene.reveal, method)?;
     }
-    let end = time_taken(rt);
+    let end = nanoseconds(rt.thread_cpu_time());
     scene.spent.add(0, end.saturating_sub(start));
     Ok(())
 }

@@ -1,9 +1,10 @@
 //! What a row takes of the processor.
 
-ghost use Rattle.std.specs.Prelude.{◌≡◌, ◌+◌, ◌-◌, ◌^◌, min};
+ghost use Rattle.std.specs.Prelude.{◌≡◌, ◌+◌, ◌-◌, ◌^◌, IfErr, IfOk, min, nat_lt, if◌then◌else◌};
+ghost use Rattle.std.specs.Duration.{as_nanos};
 
-use std::fmt;
-use std::time::CpuClock;
+use std::time::Duration;
+use std::{fmt, io};
 
 /// The nanoseconds of the processor that were taken.
 #[derive(Clone, Copy, Debug, PartialEq, Eq)]
@@ -34,9 +35,13 @@ impl Spent {
     }
 }
 
-/// The nanoseconds of the processor that were taken so far, where there is a clock of it.
-pub fn time_taken<R: CpuClock>(rt: &R) -> u64 {
-    match rt.thread_cpu_time() {
+/// The nanoseconds of a time that a clock told: 0 where it told none, and where 64 bits do not hold them.
+pub fn nanoseconds(time: io::Result<Duration>) -> u64
+    ensures told { IfOk time (λ t.
+        result ≡ if nat_lt (as_nanos t) (2 ^ 64) then as_nanos t else 0) }
+    ensures untold { IfErr time (λ e. result ≡ 0) }
+{
+    match time {
         Ok(time) => u64::try_from(time.as_nanos()).unwrap_or(0),
         Err(_) => 0,
     }

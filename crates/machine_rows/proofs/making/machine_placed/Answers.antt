@@ -13,5 +13,8 @@ new-requires-2-clause-closed c = (runnable c.args.program c.requires).closed
 pub new-requires-2-clause-starts : goal.new-requires-2-clause-starts
 new-requires-2-clause-starts c = (runnable c.args.program c.requires).starts
 
-pub returns : goal.returns
-returns c = record { program = c.args.program; admitted = c.requires; made = cc (c.in_ok-new.ensures, c.in_ok-new-2.ensures.ok, c.new.ensures.items) }
+pub returns-clause-fresh : goal.returns-clause-fresh
+returns-clause-fresh c = record { program = c.args.program; admitted = c.requires; made = cc (c.in_ok-new.ensures, c.in_ok-new-2.ensures.ok, c.new.ensures.items) }
+
+pub returns-clause-made : goal.returns-clause-made
+returns-clause-made c = cc (c.in_ok-new.ensures, c.in_ok-new-2.ensures.ok, c.new.ensures.items)

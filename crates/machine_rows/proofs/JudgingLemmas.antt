@@ -1,0 +1,32 @@
+-- The verdict from its parts.
+use Rattle.std.proofs.Common.{◌≡◌, ℕ, List, map, Option, None, subst}
+use Rattle.std.specs.Str.Lines.{lines}
+use Rattle.jf_bytes.specs.Streams.{Told}
+use Rattle.jvm_model.specs.declared.program.Program.{Program}
+use Rattle.jvm_machine.specs.View.{View}
+use Rattle.machine_rows.specs.declared.line.Placed.{Placed}
+use Rattle.machine_rows.specs.declared.playing.Failure.{Failure}
+use Rattle.machine_rows.specs.Files.{IsFileAt}
+use Rattle.machine_rows.specs.Judging.{IsJudged}
+use Rattle.machine_rows.specs.Making.{IsMade}
+use Rattle.machine_rows.specs.Played.{PlaysAll}
+use Rattle.machine_rows.specs.Reading.{AreRead}
+
+pub judged : (told first second : Option Told) (row text : List ℕ) (given same : List (List ℕ)) (program : Program) (machine start : View)
+    (placed asked : List Placed) (found : Option Failure) → IsFileAt told row text → first ≡ told → second ≡ first
+    → given ≡ lines text → same ≡ lines text → IsMade first given machine → program ≡ machine.program → AreRead program second same placed
+    → start ≡ machine → asked ≡ placed → (found ≡ None → PlaysAll (map (λ l. l.line) asked) start) → IsJudged told row found
+judged told first second row text given same program machine start placed asked found file stay then_stay are are_too made of read begins all played =
+    record {
+      text = text;
+      file = file;
+      machine = machine;
+      made = subst (λ t. IsMade t (lines text) machine) stay (subst (λ ts. IsMade first ts machine) are made);
+      placed = placed;
+      read =
+          subst (λ t. AreRead machine.program t (lines text) placed) stay
+          (subst (λ t. AreRead machine.program t (lines text) placed) then_stay
+          (subst (λ ts. AreRead machine.program second ts placed) are_too
+          (subst (λ p. AreRead p second same placed) of read)));
+      played = λ e. subst (PlaysAll (map (λ l. l.line) placed)) begins (subst (λ ps. PlaysAll (map (λ l. l.line) ps) start) all (played e));
+    }

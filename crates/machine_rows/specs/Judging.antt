@@ -1,0 +1,22 @@
+-- The verdict on a row.
+use Rattle.std.specs.Prelude.{◌≡◌, ℕ, List, map, Option, None}
+use Rattle.std.specs.Str.Lines.{lines}
+use Rattle.jf_bytes.specs.Streams.{Told}
+use Rattle.jvm_machine.specs.View.{View}
+use Rattle.machine_rows.specs.declared.line.Placed.{Placed}
+use Rattle.machine_rows.specs.declared.playing.Failure.{Failure}
+use Rattle.machine_rows.specs.Files.{IsFileAt}
+use Rattle.machine_rows.specs.Making.{IsMade}
+use Rattle.machine_rows.specs.Played.{PlaysAll}
+use Rattle.machine_rows.specs.Reading.{AreRead}
+
+-- The row's file has lines that name a program, which admission takes, and each of which says something; and where no
+-- line is told, all that they say comes of a machine of that program, one behind the other.
+pub record IsJudged (told : Option Told) (row : List ℕ) (found : Option Failure) : Type 0 where
+  pub text : List ℕ
+  pub file : IsFileAt told row text
+  pub machine : View
+  pub made : IsMade told (lines text) machine
+  pub placed : List Placed
+  pub read : AreRead machine.program told (lines text) placed
+  pub played : found ≡ None → PlaysAll (map (λ l. l.line) placed) machine
