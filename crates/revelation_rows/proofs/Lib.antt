@@ -7,3 +7,4 @@ pub mod WordLemmas
 pub mod FoundLemmas
 pub mod MarkLemmas
 pub mod FileLemmas
+pub mod JudgingLemmas

@@ -5,3 +5,4 @@ pub mod Names
 pub mod Words
 pub mod Reading
 pub mod Files
+pub mod Judging

@@ -1,11 +1,19 @@
 //! The verdict on a row.
 
+ghost use Rattle.std.specs.Prelude.{◌≡◌, ◌++◌, codes, map, true, false, IfOk, OnOk};
+ghost use Rattle.std.specs.List.{AllZip, filter};
+ghost use Rattle.std.specs.Str.Lines.{lines};
+ghost use Rattle.std.specs.String.{string_bytes};
+ghost use Rattle.jvm_model.specs.Classes.Load.{load_of};
+ghost use Rattle.revelation_rows.specs.Judging.{AddsVerdict, IsToldOfRow, IsVerdict, root_name};
+ghost use Rattle.revelation_rows.specs.Lines.{is_row as row_line};
+ghost use Rattle.revelation_rows.specs.Rows.{Comes, first};
 ghost use Rattle.revelation_rows.specs.Scenes.{IsBlank};
 
 use crate::item::{Difference, Fact, Item};
 use crate::making::make;
 use crate::names::{put_classes, put_marks, put_methods};
-use crate::parts::{Input, RowError, is_row};
+use crate::parts::{Input, RowError, is_row, lines_of};
 use crate::playing::play_all;
 use crate::reading::read_row;
 use crate::scenes::{Scene, begin, new_scene};
@@ -62,6 +70,9 @@ fn run<R: CpuClock>(
     items: &[Item],
 ) -> Result<Option<Difference>, RowError>
     requires { IsBlank scene.old.linker scene.old.reveal }
+    ensures { let l = scene.old.linker in
+        IfOk result (Comes l.program items.now
+        (first (load_of l.program l.loaded root_name).loaded)) }
 {
     let began = begin(alloc, scene)?;
     if !began {
@@ -76,32 +87,58 @@ fn judge<R: CpuClock>(
     alloc: Global,
     files: &[Vec<u8>],
     row: &str,
-) -> Result<(Option<String>, Spent), RowError> {
+) -> Result<(Option<String>, Spent), RowError>
+    ensures { let files = map (λ f. f.items) files.now in
+        IfOk result (λ answer. IsToldOfRow files row.now answer.0) }
+{
     let program = make(alloc, files)?;
     let Some(items) = read_row(alloc, &program, row)? else {
         return Err(RowError::Unknown);
     };
     let mut scene = new_scene(alloc, program)?;
-    let found = run(rt, alloc, &mut *scene, items.as_slice())?;
-    let difference = match found {
-        Some(came) => Some(text_of(alloc, scene.linker.program(), &came)?),
-        None => None,
-    };
-    Ok((difference, scene.spent))
+    match run(rt, alloc, &mut *scene, items.as_slice())? {
+        Some(came) => {
+            let told = text_of(alloc, scene.linker.program(), &came)?;
+            Ok((Some(told), scene.spent))
+        }
+        None => Ok((None, scene.spent)),
+    }
 }
 
-/// The line that tells of a row: `ROW ok`, or `ROW: ` and what came in place of what it says.
-fn verdict_of(alloc: Global, row: &str, difference: Option<String>) -> Result<Verdict, AllocError> {
-    match difference {
-        None => Ok(Verdict {
-            line: format!(in alloc; "{row} ok")?,
-            has_passed: true,
-        }),
-        Some(difference) => Ok(Verdict {
-            line: format!(in alloc; "{row}: {difference}")?,
-            has_passed: false,
-        }),
-    }
+/// The verdict on a row all of which came: `ROW ok`.
+fn passed(alloc: Global, row: &str) -> Result<Verdict, AllocError>
+    ensures line { IfOk result (λ v. string_bytes v.line ≡ row.now ++ codes " ok") }
+    ensures passed { IfOk result (λ v. v.has_passed ≡ true) }
+{
+    let line = format!(in alloc; "{row} ok")?;
+    Ok(Verdict {
+        line,
+        has_passed: true,
+    })
+}
+
+/// The verdict on another: `ROW: `, and what came in place of what it says, or why it is not played.
+fn failed(alloc: Global, row: &str, told: String) -> Result<Verdict, AllocError>
+    ensures line { IfOk result (λ v.
+        string_bytes v.line ≡ row.now ++ (codes ": " ++ string_bytes told)) }
+    ensures passed { IfOk result (λ v. v.has_passed ≡ false) }
+{
+    let line = format!(in alloc; "{row}: {told}")?;
+    Ok(Verdict {
+        line,
+        has_passed: false,
+    })
+}
+
+/// The verdict on a row where what it took is asked for.
+fn took(alloc: Global, spent: Spent) -> Result<Verdict, AllocError>
+    ensures { IfOk result (λ v. v.has_passed ≡ true) }
+{
+    let line = format!(in alloc; "{spent}")?;
+    Ok(Verdict {
+        line,
+        has_passed: true,
+    })
 }
 
 /// Plays a row over the program of these class files. Where it is `timed` what it took is told.
@@ -111,19 +148,65 @@ fn judge_row<R: CpuClock>(
     files: &[Vec<u8>],
     row: &str,
     timed: bool,
-) -> Result<Verdict, AllocError> {
+) -> Result<Verdict, AllocError>
+    ensures { let files = map (λ f. f.items) files.now in
+        IfOk result (IsVerdict files timed row.now) }
+{
     match judge(rt, alloc, files, row) {
         Ok((difference, spent)) => {
             if timed {
-                return Ok(Verdict {
-                    line: format!(in alloc; "{spent}")?,
-                    has_passed: true,
-                });
+                return Ok(took(alloc, spent)?);
             }
-            verdict_of(alloc, row, difference)
+            match difference {
+                None => Ok(passed(alloc, row)?),
+                Some(told) => Ok(failed(alloc, row, told)?),
+            }
         }
-        Err(error) => verdict_of(alloc, row, Some(format!(in alloc; "{error}")?)),
+        Err(error) => {
+            let told = format!(in alloc; "{error}")?;
+            Ok(failed(alloc, row, told)?)
+        }
     }
+}
+
+/// Adds the verdict on a line, where it is a row.
+fn add_verdict<R: CpuClock>(
+    rt: &R,
+    alloc: Global,
+    verdicts: &mut Vec<Verdict>,
+    files: &[Vec<u8>],
+    line: &str,
+    timed: bool,
+) -> Result<(), AllocError>
+    ensures { let files = map (λ f. f.items) files.now in
+        OnOk result (AddsVerdict (IsVerdict files timed) line.now
+        verdicts.old.items verdicts.new.items) }
+{
+    if is_row(line) {
+        let verdict = judge_row(rt, alloc, files, line, timed)?;
+        verdicts.push(verdict)?;
+        return Ok(());
+    }
+    Ok(())
+}
+
+/// Plays those of these lines that are rows.
+fn judge_lines<R: CpuClock>(
+    rt: &R,
+    alloc: Global,
+    files: &[Vec<u8>],
+    lines: &[&str],
+    timed: bool,
+) -> Result<Vec<Verdict>, AllocError>
+    ensures { let files = map (λ f. f.items) files.now in
+        let rows = filter row_line (map (λ l. l.now) lines.now) in
+        IfOk result (λ verdicts. AllZip (IsVerdict files timed) rows verdicts.items) }
+{
+    let mut verdicts = Vec::new(alloc);
+    for line in lines {
+        add_verdict(rt, alloc, &mut verdicts, files, line, timed)?;
+    }
+    Ok(verdicts)
 }
 
 /// Plays all rows over the program of the class files.
@@ -132,12 +215,11 @@ pub fn judge_all<R: CpuClock>(
     alloc: Global,
     input: &Input,
     timed: bool,
-) -> Result<Vec<Verdict>, AllocError> {
-    let mut verdicts = Vec::new(alloc);
-    for line in input.rows.lines() {
-        if is_row(line) {
-            verdicts.push(judge_row(rt, alloc, &input.classes, line, timed)?)?;
-        }
-    }
-    Ok(verdicts)
+) -> Result<Vec<Verdict>, AllocError>
+    ensures { let files = map (λ f. f.items) input.now.classes.items in
+        let rows = filter row_line (lines (string_bytes input.now.rows)) in
+        IfOk result (λ verdicts. AllZip (IsVerdict files timed) rows verdicts.items) }
+{
+    let lines = lines_of(alloc, input.rows.as_str())?;
+    judge_lines(rt, alloc, &input.classes, &lines, timed)
 }

@@ -1,8 +1,13 @@
 //! Makes the program of a row.
 
-ghost use Rattle.std.specs.Prelude.{IfOk};
-ghost use Rattle.std.specs.List.{AllByRecursion};
+ghost use Rattle.std.specs.Prelude.{◌≡◌, codes, map, Ok, IfOk};
+ghost use Rattle.std.specs.List.{AllByRecursion, AllZip};
+ghost use Rattle.jf_bytes.specs.Unicode.{utf16_of};
 ghost use Rattle.const_pool.specs.ClassFile.{IsClassFile};
+ghost use Rattle.class_reader.specs.Files.{IsFile};
+ghost use Rattle.plan_text.specs.Lines.{silent_plan};
+ghost use Rattle.admit_check.specs.Admission.{admission_of};
+ghost use Rattle.revelation_rows.specs.Judging.{IsProgramOf};
 ghost use Rattle.program_fit.specs.Runnable.{IsAdmitted};
 
 use crate::parts::RowError;
@@ -20,7 +25,8 @@ const MOST_CLASSES: usize = 4096;
 
 /// The class of a class file.
 fn read_file(alloc: Global, bytes: &[u8]) -> Result<ClassFile, RowError>
-    ensures { IfOk result IsClassFile }
+    ensures formed { IfOk result IsClassFile }
+    ensures read { IfOk result (IsFile bytes.now) }
 {
     match read_class(alloc, bytes) {
         Ok(class) => Ok(class),
@@ -30,7 +36,8 @@ fn read_file(alloc: Global, bytes: &[u8]) -> Result<ClassFile, RowError>
 }
 
 fn read_classes(alloc: Global, files: &[Vec<u8>]) -> Result<Seq<ClassFile>, RowError>
-    ensures { IfOk result (AllByRecursion IsClassFile) }
+    ensures formed { IfOk result (AllByRecursion IsClassFile) }
+    ensures read { IfOk result (AllZip IsFile (map (λ f. f.items) files.now)) }
 {
     let mut classes = Seq::new(alloc);
     for bytes in files {
@@ -48,7 +55,9 @@ fn read_classes(alloc: Global, files: &[Vec<u8>]) -> Result<Seq<ClassFile>, RowE
 /// The program of these classes, with the main class Main.
 fn program_of(alloc: Global, classes: Seq<ClassFile>) -> Result<Program, RowError>
     requires { AllByRecursion IsClassFile classes }
-    ensures { IfOk result IsAdmitted }
+    ensures admitted { IfOk result IsAdmitted }
+    ensures program { IfOk result (λ p.
+        admission_of classes (utf16_of (codes "Main")) silent_plan ≡ Ok p) }
 {
     let Ok(name) = from_utf8(alloc, "Main") else {
         return Err(RowError::NoMemory);
@@ -65,7 +74,8 @@ fn program_of(alloc: Global, classes: Seq<ClassFile>) -> Result<Program, RowErro
 
 /// The program of these class files, with the main class Main.
 pub fn make(alloc: Global, files: &[Vec<u8>]) -> Result<Program, RowError>
-    ensures { IfOk result IsAdmitted }
+    ensures admitted { IfOk result IsAdmitted }
+    ensures program { IfOk result (IsProgramOf (map (λ f. f.items) files.now)) }
 {
     match read_classes(alloc, files) {
         Ok(classes) => program_of(alloc, classes),

@@ -4,10 +4,11 @@ ghost use Rattle.std.specs.Prelude.{◌≡◌, true, IfOk, OnOk};
 ghost use Rattle.jvm_model.specs.Basis.KindNumbers.{user_count};
 ghost use Rattle.jvm_model.specs.Profiling.Points.{has_class};
 ghost use Rattle.jvm_model.specs.Profiling.Revealed.{with_loaded};
-ghost use Rattle.class_linker.specs.Linkers.{IsLoaded};
+ghost use Rattle.class_linker.specs.Linkers.{IsLoaded, linker_of};
 ghost use Rattle.program_fit.specs.Runnable.{IsAdmitted};
 ghost use Rattle.call_revelation.specs.Reveals.{now_of};
 ghost use Rattle.revelation_rows.specs.declared.item.Happening.TheVariants.{Loaded as class_loaded, Entered, Selected, Deselected, Quiet, Shown};
+ghost use Rattle.revelation_rows.specs.Judging.{root_name};
 ghost use Rattle.revelation_rows.specs.Scenes.{HasHappened, IsAlong, IsBlank, IsFresh, IsLinked, IsReady, loading};
 
 use crate::spent::{Spent, nanoseconds};
@@ -80,7 +81,8 @@ pub fn load<R: CpuClock>(
 /// Nothing is loaded.
 fn blank_scene(alloc: Global, program: Program) -> Result<Scene, NoMemory>
     requires { IsAdmitted program }
-    ensures { IfOk result (λ s. IsBlank s.linker s.reveal) }
+    ensures blank { IfOk result (λ s. IsBlank s.linker s.reveal) }
+    ensures linker { IfOk result (λ s. s.linker ≡ linker_of program) }
 {
     let mut reveal = Reveal::new(alloc, &program)?;
     reveal.show();
@@ -98,7 +100,8 @@ fn blank_scene(alloc: Global, program: Program) -> Result<Scene, NoMemory>
 /// The same, in a place of its own.
 pub fn new_scene(alloc: Global, program: Program) -> Result<Box<Scene>, NoMemory>
     requires { IsAdmitted program }
-    ensures { IfOk result (λ s. IsBlank s.value.linker s.value.reveal) }
+    ensures blank { IfOk result (λ s. IsBlank s.value.linker s.value.reveal) }
+    ensures linker { IfOk result (λ s. s.value.linker ≡ linker_of program) }
 {
     let scene = blank_scene(alloc, program)?;
     let place = Box::new(alloc, scene)?;
@@ -108,8 +111,10 @@ pub fn new_scene(alloc: Global, program: Program) -> Result<Box<Scene>, NoMemory
 /// Loads java/lang/Object. Whether it could be.
 pub fn begin(alloc: Global, scene: &mut Scene) -> Result<bool, NoMemory>
     requires { IsBlank scene.old.linker scene.old.reveal }
-    ensures { IfOk result (λ began. began ≡ true →
+    ensures fresh { IfOk result (λ began. began ≡ true →
         IsFresh scene.new.linker scene.new.reveal) }
+    ensures loaded { IfOk result (λ began.
+        scene.new.linker ≡ loading root_name scene.old.linker) }
 {
     let name = from_utf8(alloc, "java/lang/Object")?;
     link(&mut scene.linker, &name)?;

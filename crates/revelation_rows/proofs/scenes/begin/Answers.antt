@@ -1,6 +1,7 @@
 use Rattle.std.proofs.Common.{ap, sym, ◌∙◌}
 use Rattle.jvm_model.specs.Basis.KindNumbers.{user_count}
 use Rattle.jvm_model.specs.Classes.Load.{is_among}
+use Rattle.revelation_rows.specs.Scenes.{loading}
 use Rattle.revelation_rows.proofs.HappeningLemmas.{fresh}
 use Rattle.revelation_rows.proofs.SceneLemmas.{along-linked}
 use Rattle.revelation_rows.proofs.scenes.begin.Goals as goal
@@ -13,7 +14,13 @@ pub follow-requires-clause-root : goal.follow-requires-clause-root
 follow-requires-clause-root c =
     ap (λ class. is_among class c.link.new.linker.loaded) (sym (c.user_count.ensures.count ∙ ap user_count c.index.ensures)) ∙ (sym c.is_loaded.ensures ∙ c.if-not-is_loaded.false)
 
-pub returns : goal.returns
-returns c = λ e.
+pub returns-clause-fresh : goal.returns-clause-fresh
+returns-clause-fresh c = λ e.
     fresh c.args.scene.now.linker c.link.new.linker c.args.scene.now.reveal c.follow.new.reveal c.requires c.link.ensures.linked
     c.in_ok-follow.ensures.ready c.in_ok-follow.ensures.now c.follow.ensures.shown
+
+pub returns-then-not-is_loaded-clause-loaded : goal.returns-then-not-is_loaded-clause-loaded
+returns-then-not-is_loaded-clause-loaded c = c.in_ok-link.ensures.loaded ∙ ap (λ name. loading name c.args.scene.now.linker) c.in_ok-name.ensures.spelled
+
+pub returns-clause-loaded : goal.returns-clause-loaded
+returns-clause-loaded c = c.in_ok-link.ensures.loaded ∙ ap (λ name. loading name c.args.scene.now.linker) c.in_ok-name.ensures.spelled

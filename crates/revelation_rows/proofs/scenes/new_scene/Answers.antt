@@ -1,7 +1,10 @@
-use Rattle.std.proofs.Common.{subst, sym}
+use Rattle.std.proofs.Common.{ap, subst, sym, ◌∙◌}
 use Rattle.revelation_rows.specs.declared.scenes.Scene.{Scene}
 use Rattle.revelation_rows.specs.Scenes.{IsBlank}
 use Rattle.revelation_rows.proofs.scenes.new_scene.Goals as goal
 
-pub returns : goal.returns
-returns c = subst (λ (s : Scene). IsBlank s.linker s.reveal) (sym c.in_ok-place.ensures.ok) c.in_ok-scene.ensures
+pub returns-clause-blank : goal.returns-clause-blank
+returns-clause-blank c = subst (λ (s : Scene). IsBlank s.linker s.reveal) (sym c.in_ok-place.ensures.ok) c.in_ok-scene.ensures.blank
+
+pub returns-clause-linker : goal.returns-clause-linker
+returns-clause-linker c = ap (λ (s : Scene). s.linker) c.in_ok-place.ensures.ok ∙ c.in_ok-scene.ensures.linker
