@@ -1,5 +1,5 @@
 -- Files that are read, one by one.
-use Rattle.std.proofs.Common.{◌≡◌, ◌<◌, ◌+◌, ℕ, zero, suc, List, [], ◌∷◌, ◌++◌, length, map, take, ap, sym, subst, ◌∙◌, refl, arith, add-one}
+use Rattle.std.proofs.Common.{◌≡◌, ◌<◌, ◌+◌, ℕ, zero, suc, List, [], ◌∷◌, ◌++◌, length, map, take, ap, sym, subst, ◌∙◌, arith, add-one}
 use Rattle.std.specs.Prelude.{Option, get_or}
 use Rattle.jf_bytes.specs.Streams.{Told}
 use Rattle.revelation_rows.specs.Files.{AreRead, IsAdded}

@@ -1,6 +1,6 @@
 -- Words one by one.
 use Rattle.std.proofs.Common.{◌≡◌, ◌<◌, ℕ, suc, Bool, true, false, cond, not, List, [], ◌∷◌, ◌++◌, length, ◌+◌, refl, ap, ◌∙◌, sym, eqb, arith}
-use Rattle.std.specs.List.{filter, onto_first, position_or_len, slice_split}
+use Rattle.std.specs.List.{onto_first, position_or_len, slice_split}
 use Rattle.std.proofs.lemmas.List.{append_assoc}
 use Rattle.std.proofs.lemmas.List.Elements.{filter-append}
 use Rattle.std.proofs.lemmas.List.Splits.{slice_split_first}
