@@ -4,7 +4,7 @@ use Rattle.std.specs.List.{onto_first, position_or_len, slice_split}
 use Rattle.std.proofs.lemmas.List.{append_assoc}
 use Rattle.std.proofs.lemmas.List.Elements.{filter-append}
 use Rattle.std.proofs.lemmas.List.Splits.{slice_split_first}
-use Rattle.revelation_rows.specs.Words.{all_said, front_of, rest_of, said, words_in}
+use Rattle.revelation_rows.specs.Words.{all_said, front_of, rest_of, word_said, words_in}
 
 -- where no element passes, the list is the one part
 one-part : (p : ℕ → Bool) (xs : List ℕ) → position_or_len p xs ≡ length xs → slice_split p xs ≡ xs ∷ []
@@ -19,30 +19,30 @@ one-part p (x ∷ xs) e = by (one-part p xs) (p x) e
 
 -- the first word, and those behind it
 pub words-first : (byte : ℕ) (text : List ℕ) → position_or_len (λ b. eqb b byte) text < length text
-    → words_in byte text ≡ said (front_of byte text) ++ words_in byte (rest_of byte text)
+    → words_in byte text ≡ word_said (front_of byte text) ++ words_in byte (rest_of byte text)
 words-first byte text less =
     ap all_said (slice_split_first (λ b. eqb b byte) text 0 less)
     ∙ filter-append (λ word. not (eqb (length word) 0)) (front_of byte text ∷ []) (slice_split (λ b. eqb b byte) (rest_of byte text))
 
 -- the last word
 pub words-last : (byte : ℕ) (text : List ℕ) → position_or_len (λ b. eqb b byte) text ≡ length text
-    → words_in byte text ≡ said text
+    → words_in byte text ≡ word_said text
 words-last byte text e = ap all_said (one-part (λ b. eqb b byte) text e)
 
 -- ---- as they are put
 
 pub word-more : (byte : ℕ) (words new all : List (List ℕ)) (text front more : List ℕ) → front ≡ front_of byte text
     → more ≡ rest_of byte text → position_or_len (λ b. eqb b byte) text < length text
-    → words ++ words_in byte text ≡ all → new ≡ words ++ said front → new ++ words_in byte more ≡ all
+    → words ++ words_in byte text ≡ all → new ≡ words ++ word_said front → new ++ words_in byte more ≡ all
 word-more byte words new all text front more first rest less before put =
     ap (λ ws. ws ++ words_in byte more) put
-    ∙ (append_assoc words (said front) (words_in byte more)
-    ∙ (ap (λ ws. words ++ ws) (ap (λ w. said w ++ words_in byte more) first
-    ∙ (ap (λ t. said (front_of byte text) ++ words_in byte t) rest ∙ sym (words-first byte text less)))
+    ∙ (append_assoc words (word_said front) (words_in byte more)
+    ∙ (ap (λ ws. words ++ ws) (ap (λ w. word_said w ++ words_in byte more) first
+    ∙ (ap (λ t. word_said (front_of byte text) ++ words_in byte t) rest ∙ sym (words-first byte text less)))
     ∙ before))
 
 pub word-last : (byte : ℕ) (words new all : List (List ℕ)) (text : List ℕ)
     → position_or_len (λ b. eqb b byte) text ≡ length text → words ++ words_in byte text ≡ all
-    → new ≡ words ++ said text → new ≡ all
+    → new ≡ words ++ word_said text → new ≡ all
 word-last byte words new all text none before put =
     put ∙ (ap (λ ws. words ++ ws) (sym (words-last byte text none)) ∙ before)

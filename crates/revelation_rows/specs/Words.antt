@@ -13,8 +13,8 @@ rest_of byte text = after_first (λ b. b == byte) text
 abbrev pub all_said : List (List ℕ) → List (List ℕ)
 all_said words = filter (λ word. not (length word == 0)) words
 
-abbrev pub said : List ℕ → List (List ℕ)
-said word = all_said (word ∷ [])
+abbrev pub word_said : List ℕ → List (List ℕ)
+word_said word = all_said (word ∷ [])
 
 -- the words of a text between such bytes
 abbrev pub words_in : ℕ → List ℕ → List (List ℕ)

@@ -13,7 +13,7 @@ ghost use Rattle.revelation_rows.specs.Words.{words_in as words_between};
 
 use crate::item::{Fact, Happening, Item};
 use crate::names::{class_named, method_named};
-use crate::words::{parted, words_in};
+use crate::words::{split_at_first, words_in};
 use jf_bytes::{NoMemory, Seq, from_utf8};
 use jvm_model::{Mark, Program};
 use std::alloc::Global;
@@ -78,7 +78,7 @@ fn mark_one(marks: &mut Vec<Mark>, program: &Program, word: &str) -> bool
     ensures { with_mark program.now marks.old.items word.now
         ≡ if result then Some marks.new.items else None }
 {
-    let (name, _) = parted(word, '!');
+    let (name, _) = split_at_first(word, '!');
     let mark = if name.len() == word.len() {
         Mark::Plain
     } else {
@@ -146,7 +146,7 @@ fn item_loaded(alloc: Global, name: &str) -> Result<Option<Item>, NoMemory>
 fn begins(alloc: Global, program: &Program, words: &str) -> Result<Option<Item>, NoMemory>
     ensures { IfOk result (λ item. item ≡ begins_item program.now words.now) }
 {
-    let (name, targets) = parted(words, '=');
+    let (name, targets) = split_at_first(words, '=');
     let Some(method) = method_named(program, name) else {
         return Ok(None);
     };
@@ -183,7 +183,7 @@ fn read_verb(
 fn read_word(alloc: Global, program: &Program, word: &str) -> Result<Option<Item>, NoMemory>
     ensures { IfOk result (λ item. item ≡ word_item program.now word.now) }
 {
-    let (verb, name) = parted(word, ':');
+    let (verb, name) = split_at_first(word, ':');
     read_verb(alloc, program, verb, name)
 }
 
@@ -221,7 +221,7 @@ fn with_due(
     ensures { IfOk result (λ found.
         found ≡ option_map (λ more. items ++ more) (due_items program.now due.now)) }
 {
-    let (marked, changed) = parted(due, '|');
+    let (marked, changed) = split_at_first(due, '|');
     let marked = words_in(alloc, marked, ' ')?;
     let changed = words_in(alloc, changed, ' ')?;
     let Some(marks) = marks_of(alloc, program, &marked)? else {

@@ -1,15 +1,15 @@
 //! The words of a text.
 
 ghost use Rattle.std.specs.Prelude.{◌≡◌, ◌++◌, ◌<◌, map, IfOk, OnOk};
-ghost use Rattle.revelation_rows.specs.Words.{front_of, rest_of, said, words_in as words_between};
+ghost use Rattle.revelation_rows.specs.Words.{front_of, rest_of, word_said, words_in as words_between};
 
 use jf_bytes::NoMemory;
 use std::alloc::Global;
 
 /// What stands before the first such character of a text, and behind it.
-pub fn parted(text: &str, separator: char) -> (&str, &str)
+pub fn split_at_first(text: &str, separator: char) -> (&str, &str)
     requires { separator < 128 }
-    ensures front { result.0.now ≡ front_of separator text.now }
+    ensures first { result.0.now ≡ front_of separator text.now }
     ensures rest { result.1.now ≡ rest_of separator text.now }
 {
     match text.split_once(separator) {
@@ -21,7 +21,7 @@ pub fn parted(text: &str, separator: char) -> (&str, &str)
 /// Adds a word that is not empty.
 fn add_word<'a>(words: &mut Vec<&'a str>, word: &'a str) -> Result<(), NoMemory>
     ensures { OnOk result (map (λ w. w.now) words.new.items
-        ≡ map (λ w. w.now) words.old.items ++ said word.entry.now) }
+        ≡ map (λ w. w.now) words.old.items ++ word_said word.entry.now) }
 {
     if !word.is_empty() {
         words.push(word)?;
