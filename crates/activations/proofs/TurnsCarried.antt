@@ -15,7 +15,7 @@ use Rattle.jvm_model.specs.Basis.Data.{Listing}
 use Rattle.jvm_model.specs.Turns.InHand.{frame_popped}
 use Rattle.jvm_model.specs.Running.Moves.{throw_caught, handler_for, moves}
 use Rattle.jvm_model.specs.Basis.SharedState.{class_of}
-use Rattle.jvm_model.specs.Turns.Told.{Held, held_by, helds, mark_now}
+use Rattle.jvm_model.specs.Turns.Told.{Held, frame_held, helds, mark_now}
 use Rattle.jvm_model.specs.Turns.Pauses.{changes_due}
 use Rattle.prepared_code.specs.declared.initializations.Initialization.{Initialization}
 use Rattle.prepared_code.specs.declared.parts.Parts.{Parts}
@@ -49,7 +49,7 @@ module _ (v : ℕ → Mark) where
   held-stack [] ms = held-initializing ms
   held-stack (Active f ∷ es) ms =
       held-behind (above (suc (length es)) ms) (Active f ∷ stack_of es (beneath (suc (length es)) ms))
-      ∙ ap (λ more. let all : List Held = held_by v f ∷ more in all) (held-stack es (beneath (suc (length es)) ms))
+      ∙ ap (λ more. let all : List Held = frame_held v f ∷ more in all) (held-stack es (beneath (suc (length es)) ms))
   held-stack (Initializing c part ∷ es) ms =
       held-behind (above (suc (length es)) ms) (Initializing c part ∷ stack_of es (beneath (suc (length es)) ms))
       ∙ held-stack es (beneath (suc (length es)) ms)

@@ -3,7 +3,7 @@
 ghost use Rattle.std.specs.Prelude.{◌≡◌};
 ghost use Rattle.class_reader.specs.Reading.{Gives, with_rest, fault_within as within, enclosed_at, constant_index_at, raw_contents_at, raw_at, other_at, constant_value_at, code_at, code_attribute_at};
 
-use crate::code::code_of;
+use crate::code::code_contents_of;
 use crate::error::ReadError;
 use crate::lists::ReadItem;
 use crate::numbers::sized_of;
@@ -108,7 +108,7 @@ fn whole_code_of<'a>(
 {
     let at = place_of(limit, bytes);
     let (contents, rest) = sized_of(limit, bytes)?;
-    match code_of(alloc, pool, place_of(limit, rest), contents) {
+    match code_contents_of(alloc, pool, place_of(limit, rest), contents) {
         Ok((code, [])) => Ok((code, rest)),
         Ok(_) => Err(ReadError::BadLength(at)),
         Err(ReadError::NoMemory) => Err(ReadError::NoMemory),

@@ -68,7 +68,7 @@ fn code_bytes_of(limit: usize, bytes: &[u8]) -> Result<(&[u8], &[u8]), ReadError
 
 /// The contents of a Code attribute.
 #[tactic(auto, unfolding(crate::specs::Reading::code_at))]
-pub(crate) fn code_of<'a>(
+pub(crate) fn code_contents_of<'a>(
     alloc: Global,
     pool: &[Const],
     limit: usize,

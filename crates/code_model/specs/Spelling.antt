@@ -22,35 +22,35 @@ home_with homes = home_by (option_copied homes)
 
 -- ---- the bytes of parts of an instruction at this place
 
-abbrev pub target_text : Option (Bor Homes) → ℕ → Width → ℕ → List ℕ
-target_text homes place w t = target_bytes (home_with homes) place w t
+abbrev pub target_put : Option (Bor Homes) → ℕ → Width → ℕ → List ℕ
+target_put homes place w t = target_bytes (home_with homes) place w t
 
-abbrev pub targets_text : Option (Bor Homes) → ℕ → List ℕ → List ℕ
-targets_text homes place ts = flat_map (target_bytes (home_with homes) place w32) ts
+abbrev pub targets_put : Option (Bor Homes) → ℕ → List ℕ → List ℕ
+targets_put homes place ts = flat_map (target_bytes (home_with homes) place w32) ts
 
-abbrev pub table_text : Option (Bor Homes) → ℕ → ℕ → ℤ → List ℕ → List ℕ
-table_text homes place default low targets = operand_bytes (home_with homes) place w32 (Table default low targets)
+abbrev pub table_put : Option (Bor Homes) → ℕ → ℕ → ℤ → List ℕ → List ℕ
+table_put homes place default low targets = operand_bytes (home_with homes) place w32 (Table default low targets)
 
-abbrev pub pair_text : Option (Bor Homes) → ℕ → ℤ → ℕ → List ℕ
-pair_text homes place key t = pair_bytes (home_with homes) place (key, t)
+abbrev pub pair_put : Option (Bor Homes) → ℕ → ℤ → ℕ → List ℕ
+pair_put homes place key t = pair_bytes (home_with homes) place (key, t)
 
-abbrev pub pairs_text : Option (Bor Homes) → ℕ → List ℤ → List ℕ → List ℕ
-pairs_text homes place keys targets = flat_map (pair_bytes (home_with homes) place) (zip keys targets)
+abbrev pub pairs_put : Option (Bor Homes) → ℕ → List ℤ → List ℕ → List ℕ
+pairs_put homes place keys targets = flat_map (pair_bytes (home_with homes) place) (zip keys targets)
 
-abbrev pub lookup_text : Option (Bor Homes) → ℕ → ℕ → List ℤ → List ℕ → List ℕ
-lookup_text homes place default keys targets = operand_bytes (home_with homes) place w32 (Lookup default keys targets)
+abbrev pub lookup_put : Option (Bor Homes) → ℕ → ℕ → List ℤ → List ℕ → List ℕ
+lookup_put homes place default keys targets = operand_bytes (home_with homes) place w32 (Lookup default keys targets)
 
-abbrev pub operand_text : Option (Bor Homes) → ℕ → Width → Arg → List ℕ
-operand_text homes place w arg = operand_bytes (home_with homes) place w arg
+abbrev pub operand_put : Option (Bor Homes) → ℕ → Width → Arg → List ℕ
+operand_put homes place w arg = operand_bytes (home_with homes) place w arg
 
-abbrev pub instr_text : Option (Bor Homes) → ℕ → Instr → List ℕ
-instr_text homes place i = instr_bytes (home_with homes) place i
+abbrev pub instr_put : Option (Bor Homes) → ℕ → Instr → List ℕ
+instr_put homes place i = instr_bytes (home_with homes) place i
 
 -- ---- whole codes
 
 -- the front, the groups and the back
-abbrev pub code_text : Homes → List ℕ → List Group → List ℕ → List ℕ
-code_text homes front groups back = front ++ (groups_bytes (home_of homes) (length front) groups ++ back)
+abbrev pub laid_code : Homes → List ℕ → List Group → List ℕ → List ℕ
+laid_code homes front groups back = front ++ (groups_bytes (home_of homes) (length front) groups ++ back)
 
 abbrev pub spot : ℕ → ℕ → ℕ → Spot
 spot from home place = record { from = from; home = home; place = place }

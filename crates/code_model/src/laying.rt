@@ -12,7 +12,7 @@ ghost use Rattle.code_model.specs.declared.laying.LayError.TheVariants.{NoMemory
 use crate::homes::homes_of;
 use crate::instr::{Arg, Instr};
 use crate::sizes::{end_of_groups, group_end, place_of, size_of_number};
-use crate::spelling::code_of;
+use crate::spelling::laid_code;
 use jf_bytes::{NoMemory, Seq};
 use std::alloc::Global;
 use thiserror::Error;
@@ -127,6 +127,6 @@ pub fn lay_out(alloc: Global, front: &[u8], groups: &[Group], back: &[u8]) -> Re
     if let Some(at) = first_far(&homes, groups, front.len() as u32) {
         return Err(LayError::Far(at));
     }
-    let code = code_of(alloc, front, groups, back, &homes, len as usize)?;
+    let code = laid_code(alloc, front, groups, back, &homes, len as usize)?;
     Ok(Laid { code, homes })
 }

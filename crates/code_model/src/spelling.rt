@@ -11,9 +11,9 @@ ghost use Rattle.code_model.specs.Layout.{opcode_bytes, width_of, groups_bytes, 
 ghost use Rattle.code_model.specs.Layout.{fits_branch, end_from, first_far_from};
 ghost use Rattle.code_model.specs.Groups.{FitsNumber, FitsOperand, FitsInstr, FitsGroup};
 ghost use Rattle.code_model.specs.Groups.{IsUnmovedAt};
-ghost use Rattle.code_model.specs.Spelling.{Adds, home_with, target_text, targets_text, table_text};
-ghost use Rattle.code_model.specs.Spelling.{pair_text, pairs_text, lookup_text, operand_text};
-ghost use Rattle.code_model.specs.Spelling.{instr_text, code_text};
+ghost use Rattle.code_model.specs.Spelling.{Adds, home_with, target_put, targets_put, table_put};
+ghost use Rattle.code_model.specs.Spelling.{pair_put, pairs_put, lookup_put, operand_put};
+ghost use Rattle.code_model.specs.Spelling.{instr_put, laid_code};
 
 use crate::homes::home_by;
 use crate::instr::{Arg, Instr};
@@ -66,7 +66,7 @@ fn put_far_target(
     target: u16,
 ) -> Result<(), NoMemory>
     requires { IfSome homes (λ h. IsStrictlyIncreasing h.now.from) }
-    ensures { Adds result out.old out.new (target_text homes.entry place w32 target) }
+    ensures { Adds result out.old out.new (target_put homes.entry place w32 target) }
 {
     put_signed(out, NumberSize::Four, distance(homes, place, target))
 }
@@ -82,7 +82,7 @@ fn put_branch(
     requires homes { IfSome homes (λ h. IsStrictlyIncreasing h.now.from) }
     requires size { 2 ≤ byte_len (width size) }
     requires near { fits_branch (home_with homes) place (width size) (Target target) ≡ true }
-    ensures { Adds result out.old out.new (target_text homes.entry place (width size) target) }
+    ensures { Adds result out.old out.new (target_put homes.entry place (width size) target) }
 {
     put_signed(out, size, distance(homes, place, target))
 }
@@ -105,7 +105,7 @@ fn put_targets(
     targets: &[u16],
 ) -> Result<(), NoMemory>
     requires { IfSome homes (λ h. IsStrictlyIncreasing h.now.from) }
-    ensures { Adds result out.old out.new (targets_text homes.entry place targets.now) }
+    ensures { Adds result out.old out.new (targets_put homes.entry place targets.now) }
 {
     for target in targets {
         put_far_target(out, homes, place, *target)?;
@@ -132,7 +132,7 @@ fn put_table(
 ) -> Result<(), NoMemory>
     requires homes { IfSome homes (λ h. IsStrictlyIncreasing h.now.from) }
     requires fits { FitsOperand w32 (Table default low targets.now) }
-    ensures { Adds result out.old out.new (table_text homes.entry place default low targets.now) }
+    ensures { Adds result out.old out.new (table_put homes.entry place default low targets.now) }
 {
     put_padding(out, place)?;
     put_far_target(out, homes, place, default)?;
@@ -151,7 +151,7 @@ fn put_pair(
     target: u16,
 ) -> Result<(), NoMemory>
     requires { IfSome homes (λ h. IsStrictlyIncreasing h.now.from) }
-    ensures { Adds result out.old out.new (pair_text homes.entry place key target) }
+    ensures { Adds result out.old out.new (pair_put homes.entry place key target) }
 {
     put_signed(out, NumberSize::Four, key)?;
     put_far_target(out, homes, place, target)
@@ -167,7 +167,7 @@ fn put_pairs(
 ) -> Result<(), NoMemory>
     requires homes { IfSome homes (λ h. IsStrictlyIncreasing h.now.from) }
     requires columns { length keys.now ≡ length targets.now }
-    ensures { Adds result out.old out.new (pairs_text homes.entry place keys.now targets.now) }
+    ensures { Adds result out.old out.new (pairs_put homes.entry place keys.now targets.now) }
 {
     for (row, key) in keys.iter().enumerate() {
         put_pair(out, homes, place, *key, targets[row])?;
@@ -188,7 +188,7 @@ fn put_lookup(
     requires columns { length keys.now ≡ length targets.now }
     requires few { length keys.now < 2147483648 }
     ensures { Adds result out.old out.new
-        (lookup_text homes.entry place default keys.now targets.now) }
+        (lookup_put homes.entry place default keys.now targets.now) }
 {
     put_padding(out, place)?;
     put_far_target(out, homes, place, default)?;
@@ -208,7 +208,7 @@ fn put_operand(
     requires homes { IfSome homes (λ h. IsStrictlyIncreasing h.now.from) }
     requires fits { FitsOperand (width size) arg.now }
     requires near { fits_branch (home_with homes) place (width size) arg.now ≡ true }
-    ensures { Adds result out.old out.new (operand_text homes.entry place (width size) arg.now) }
+    ensures { Adds result out.old out.new (operand_put homes.entry place (width size) arg.now) }
 {
     match arg {
         Arg::Plain => Ok(()),
@@ -274,7 +274,7 @@ fn put_instr(
     requires homes { IfSome homes (λ h. IsStrictlyIncreasing h.now.from) }
     requires fits { FitsInstr instr.now }
     requires near { fits_branch (home_with homes) place (width_of instr.now) instr.now.arg ≡ true }
-    ensures { Adds result out.old out.new (instr_text homes.entry place instr.now) }
+    ensures { Adds result out.old out.new (instr_put homes.entry place instr.now) }
 {
     put_opcode(out, instr.wide, instr.op)?;
     put_operand(out, homes, place, size_of_number(instr), &instr.arg)
@@ -305,7 +305,7 @@ fn put_groups(
 
 /// The front, the groups and the back, one behind the other, `len` bytes in all.
 #[tactic(auto, using(crate::proofs::CodeLayouts::Walks::walk_bounds))]
-pub(crate) fn code_of(
+pub(crate) fn laid_code(
     alloc: Global,
     front: &[u8],
     groups: &[Group],
@@ -317,7 +317,7 @@ pub(crate) fn code_of(
     requires fits { All FitsGroup groups.now }
     requires near { first_far_from (home_of homes.now) (length front.now) groups.now ≡ None }
     requires short { end_from (length front.now) groups.now ≤ 65535 }
-    ensures { IfOk result (λ code. code ≡ code_text homes.now front.now groups.now back.now) }
+    ensures { IfOk result (λ code. code ≡ laid_code homes.now front.now groups.now back.now) }
 {
     let mut code = Seq::with_capacity(alloc, len)?;
     code.extend_from_slice(front)?;

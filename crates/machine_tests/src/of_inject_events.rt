@@ -58,7 +58,7 @@ fn image_of_p1(alloc: Global, first: u16, f: Mark, main: Mark) -> Result<Image, 
     Ok(image.ok().ok_or("no image")?)
 }
 
-fn code_of(image: &Image, method: usize) -> Option<&CodeAttribute> {
+fn code_within(image: &Image, method: usize) -> Option<&CodeAttribute> {
     let member = image.class.methods.get(method)?;
     match member.attributes.get(0) {
         Some(Attribute::Code(23, code)) => Some(code),
@@ -68,7 +68,7 @@ fn code_of(image: &Image, method: usize) -> Option<&CodeAttribute> {
 
 /// Whether a method has this code.
 fn has_code(image: &Image, method: usize, bytes: &[u8]) -> bool {
-    match code_of(image, method) {
+    match code_within(image, method) {
         Some(code) => code.code.as_slice() == bytes,
         None => false,
     }
@@ -76,7 +76,7 @@ fn has_code(image: &Image, method: usize, bytes: &[u8]) -> bool {
 
 /// Whether a method has this max_stack and this exception table.
 fn has_tables(image: &Image, method: usize, max_stack: u16, handlers: &[Handler]) -> bool {
-    match code_of(image, method) {
+    match code_within(image, method) {
         Some(code) => {
             code.max_stack == max_stack
                 && code.max_locals == 1
@@ -89,7 +89,7 @@ fn has_tables(image: &Image, method: usize, max_stack: u16, handlers: &[Handler]
 /// Whether a method's code has one attribute, a StackMapTable with the frame of the added handler alone, which begins here.
 fn has_one_frame(image: &Image, method: usize, handler: u8) -> bool {
     let frame = [0, 1, 0xFF, 0, handler, 0, 0, 0, 1, 7, 0, 40];
-    match code_of(image, method) {
+    match code_within(image, method) {
         Some(code) => match code.attributes.as_slice() {
             [raw] => {
                 let name = raw.name;
@@ -103,7 +103,7 @@ fn has_one_frame(image: &Image, method: usize, handler: u8) -> bool {
 
 /// Whether a method's code has no attributes.
 fn has_no_attributes(image: &Image, method: usize) -> bool {
-    match code_of(image, method) {
+    match code_within(image, method) {
         Some(code) => code.attributes.is_empty(),
         None => false,
     }

@@ -166,10 +166,10 @@ pub record Hears (old : Parts) (turn : Turn) (new : Parts) : Type 0 where
   pub started : new.started ≡ old.started
   pub acts : new.acts ≡ old.acts
 
--- What it needs to know of an event: it is told now, all loaded classes are known, a method that it enters is one of them, and it can be counted.
+-- What it needs to know of an event: it is told now, no class is known that was not loaded, a method that it enters is of a known class, and it can be counted.
 pub record IsTellable (x : Parts) (e : Event) : Type 0 where
   pub now : e.clock ≡ x.vm.clock
-  pub loaded : x.reveal.lineage.loaded ≡ loaded_in x
+  pub prefix : IsPrefix x.reveal.lineage.loaded (loaded_in x)
   pub begun : opens (profile_in x).open e.kind ≡ true → has_class x.vm.program x.reveal.lineage.loaded e.method ≡ true
   pub shallow : x.depth + entries_by e.kind ≤ 2 ^ 63
   pub few : calls_in x + entries_by e.kind ≤ 2 ^ 63

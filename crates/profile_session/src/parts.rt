@@ -4,6 +4,7 @@ ghost use Rattle.std.specs.Prelude.{◌≡◌, length, true, IfOk, MatchResult};
 ghost use Rattle.jvm_model.specs.Profiling.Points.{has_class};
 ghost use Rattle.jvm_model.specs.Profiling.Revealed.{with_loaded, with_method_entered, with_none_entered};
 ghost use Rattle.jvm_machine.specs.declared.turn.Turn.TheVariants as Turn;
+ghost use Rattle.possible_callees.specs.Tables.{IsPrefix};
 ghost use Rattle.context_tree.specs.Counts.{opens};
 ghost use Rattle.profile_session.specs.Keeping.{is_idle};
 ghost use Rattle.profile_session.specs.Parts.{AreFit, AreLoadable, AreShown, CanLoad, Drains, Hears, IsHearable};
@@ -148,7 +149,7 @@ impl Parts {
     fn enter(&mut self, method: u32) -> Result<(), NoMemory>
         requires fit { AreFit self.old }
         requires shown { AreShown self.old }
-        requires loaded { self.old.reveal.lineage.loaded ≡ loaded_in self.old }
+        requires prefix { IsPrefix self.old.reveal.lineage.loaded (loaded_in self.old) }
         requires class { let r = self.old.reveal in
             has_class self.old.vm.program r.lineage.loaded method ≡ true }
         ensures { let now = with_method_entered method (revealed_in self.old) in

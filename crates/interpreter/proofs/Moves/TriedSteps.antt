@@ -30,7 +30,7 @@ use Rattle.jvm_model.specs.Rewriting.Images.{is_off}
 use Rattle.jvm_model.specs.Turns.Rest.{loads_at, loads_on}
 use Rattle.jvm_model.specs.Running.Run.{goes_on, is_ready, starts, with_loaded}
 use Rattle.jvm_model.specs.Basis.SharedState.{phase_of}
-use Rattle.jvm_model.specs.Turns.Told.{held_by, helds}
+use Rattle.jvm_model.specs.Turns.Told.{frame_held, helds}
 use Rattle.jvm_model.specs.Turns.Pauses.{Pause}
 use Rattle.jvm_model.specs.Turns.StepPauses.{again_pause, instruction_attempted, frame_pause, is_nothing, is_return, leave_due, stack_pause, turn_pause}
 use Rattle.jvm_model.proofs.Turns.AttemptPauses.{breaks-pause, goes-again, goes-once, leaves, settled-there, stays-once}
@@ -144,8 +144,8 @@ module _ (w : Setup) (run : CanRun w) (n : ℕ) (s : State) (going : IsGoing s) 
   chosen : Instruction → Bool → Pause
   chosen i b =
       if b then record { state = record under { stack = Active f ∷ under.stack }; passed = n; due = Ends kind.Leave }
-      else again_pause w.world t v n (held_by v f ∷ helds v going.rest) i under f (starts (does w.world i.operation under.shared f.locals f.operands).outcome)
-      (turn_pause w.world t v n (held_by v f ∷ helds v going.rest) (instruction_attempted w.world t i under f))
+      else again_pause w.world t v n (frame_held v f ∷ helds v going.rest) i under f (starts (does w.world i.operation under.shared f.locals f.operands).outcome)
+      (turn_pause w.world t v n (frame_held v f ∷ helds v going.rest) (instruction_attempted w.world t i under f))
 
   silent-by : (delivered : Bool) (lo : Option Line) (io : Option Instruction) → Tie lo io → (not delivered && (not (is_off (v f.version)) && is_return_line lo)) ≡ false
       → frame_pause w.world t v delivered n under f io ≡ frame_pause w.world t v true n under f io

@@ -19,7 +19,7 @@ use Rattle.jvm_model.specs.Turns.Rest.{Attempt, Todo}
 use Rattle.jvm_model.specs.Running.Run.{turn}
 use Rattle.jvm_model.specs.Rewriting.StandsForRun.{at_homes, versions_forgotten, norm_by}
 use Rattle.jvm_model.specs.Turns.StepPauses.{Awaits, is_at_return}
-use Rattle.jvm_model.specs.Turns.Told.{held_by, helds}
+use Rattle.jvm_model.specs.Turns.Told.{frame_held, helds}
 use Rattle.interpreter.specs.declared.turns.hands.Gone.{Gone}
 use Rattle.interpreter.specs.declared.turns.hands.Hand.{Hand}
 use Rattle.interpreter.specs.Moves.Hands.{HasInHand, IsLeft, todo_of, versioned_in}
@@ -79,7 +79,7 @@ module _ (w : Setup) (hand : Hand) (clock : ℕ) (s : State) (is : IsMachine w h
       let runs = (subst (λ z. IsSoundStack z) there sound.stack).0.1.0 in
       let placed = same-frame _ f _ below (ap (moved_stack (self (norm_by (method_of w.versions) (places_of w.world.program)))) (sym e) ∙ (in_hand.placed ∙ e)) in
       record {
-        current = held_by (mark_of w.versions) f;
+        current = frame_held (mark_of w.versions) f;
         others = helds (mark_of w.versions) (stack_in below);
         live = ap (helds (mark_of w.versions)) there;
         at = f.place;

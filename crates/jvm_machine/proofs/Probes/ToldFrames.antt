@@ -7,7 +7,7 @@ use Rattle.jvm_model.specs.declared.event.Event.{Event}
 use Rattle.jvm_model.specs.declared.event.Mark.{Mark}
 use Rattle.jvm_model.specs.declared.state.Entry.{Entry}
 use Rattle.jvm_model.specs.Turns.Pauses.{begin_kind, told_at}
-use Rattle.jvm_model.specs.Turns.Told.{helds, held_by}
+use Rattle.jvm_model.specs.Turns.Told.{helds, frame_held}
 use Rattle.prepared_code.specs.declared.initializations.Initialization.{Initialization}
 use Rattle.prepared_code.specs.declared.parts.Here.{Here}
 use Rattle.prepared_code.specs.declared.parts.Parts.{Parts}
@@ -27,7 +27,7 @@ unfolding stack_of
 stack-none v ms = held-none v ms
 
 stack-some : (v : ℕ → Mark) (f : PlacedFrame) (fs : List PlacedFrame) (ms : List Initialization)
-    → helds v (stack_of (active f ∷ map active fs) ms) ≡ held_by v (frame_in f) ∷ helds v (stack_of (map active fs) (beneath (suc (length (map active fs))) ms))
+    → helds v (stack_of (active f ∷ map active fs) ms) ≡ frame_held v (frame_in f) ∷ helds v (stack_of (map active fs) (beneath (suc (length (map active fs))) ms))
 unfolding stack_of
 stack-some v f fs ms = held-initializing v (above (suc (length (map active fs))) ms) _
 

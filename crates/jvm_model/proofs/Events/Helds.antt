@@ -14,7 +14,7 @@ use Rattle.jvm_model.specs.Running.Applies.{still, with_frame, breaks, goes, pla
 use Rattle.jvm_model.specs.Running.Moves.{handler_for, own_at, throw_caught, after_super, with_super, runs_initializer, argument_array, main_or_end, moves, move, then_turn, turn_settled}
 use Rattle.jvm_model.specs.Classes.Load.{Fault}
 use Rattle.jvm_model.specs.Running.Run.{attempt, starts, is_quiet, before, arguments_made, with_loaded, loaded_turn, steps_by, steps_at, steps_on, step, main_loading, main_classes, loads_if, starts_unless, run_opened, heap_exhausted, starts_if, start}
-use Rattle.jvm_model.specs.Turns.Told.{Held, held_by, helds, mark_now, held_after, all_held}
+use Rattle.jvm_model.specs.Turns.Told.{Held, frame_held, helds, mark_now, held_after, all_held}
 use Rattle.jvm_model.proofs.Running.Settles.{settled-keeps}
 use Rattle.jvm_model.proofs.Running.Attempts.{again-by, with_loaded-shared}
 
@@ -36,21 +36,21 @@ module _ (v : ℕ → Mark) where
 
   -- ---- outcomes
 
-  goes-helds : (s : State) (f : Frame) (own : ℕ) (l : Locals) (o : Operands) (place : Option ℕ) → helds v (goes s f own l o place).stack ≡ held_by v f ∷ helds v s.stack
+  goes-helds : (s : State) (f : Frame) (own : ℕ) (l : Locals) (o : Operands) (place : Option ℕ) → helds v (goes s f own l o place).stack ≡ frame_held v f ∷ helds v s.stack
   goes-helds s f own l o None = refl
   goes-helds s f own l o (Some place) = by (nat_le (height_of o) f.max_stack) where
     moved : Frame
     moved = record f { place = place; locals = l; operands = o }
 
-    by : (b : Bool) → helds v (if b then with_frame s moved else breaks s f own).stack ≡ held_by v f ∷ helds v s.stack
+    by : (b : Bool) → helds v (if b then with_frame s moved else breaks s f own).stack ≡ frame_held v f ∷ helds v s.stack
     by true = refl
     by false = refl
 
-  enters-helds : (s : State) (f : Frame) (i : Instruction) (next : Option ℕ) → helds v (enters_subroutine s f i next).stack ≡ held_by v f ∷ helds v s.stack
+  enters-helds : (s : State) (f : Frame) (i : Instruction) (next : Option ℕ) → helds v (enters_subroutine s f i next).stack ≡ frame_held v f ∷ helds v s.stack
   enters-helds s f i None = refl
   enters-helds s f i (Some next) = goes-helds s f i.own f.locals (Addr next ∷ f.operands) (slice_get i.targets 0)
 
-  resumes-helds : (s : State) (f : Frame) (d : Option Datum) (found : Option Instruction) → helds v (resumes s f d found).stack ≡ held_by v f ∷ helds v s.stack
+  resumes-helds : (s : State) (f : Frame) (d : Option Datum) (found : Option Instruction) → helds v (resumes s f d found).stack ≡ frame_held v f ∷ helds v s.stack
   resumes-helds s f d None = refl
   resumes-helds s f d (Some i) = goes-helds s f i.own f.locals (with_value (option_map as_value d) f.operands) i.next
 
@@ -60,13 +60,13 @@ module _ (v : ℕ → Mark) where
   gives_back-helds t s d (Active f ∷ below) e = resumes-helds (record s { stack = below }) f d (t.at f.version f.place)
 
   beside-tells : (w : World) (t : Listing) (s : State) (f : Frame) (m : ℕ) (args : List Datum) (below : Operands) (live : ℕ)
-      → Tells t (held_by v f ∷ helds v s.stack) (begins_beside w t s f m args below live)
-  beside-tells w t s f m args below live = chosen-tells t (held_by v f ∷ helds v s.stack) (nat_lt live most_live) _ _ refl refl
+      → Tells t (frame_held v f ∷ helds v s.stack) (begins_beside w t s f m args below live)
+  beside-tells w t s f m args below live = chosen-tells t (frame_held v f ∷ helds v s.stack) (nat_lt live most_live) _ _ refl refl
 
-  pub applies-tells : (w : World) (t : Listing) (i : Instruction) (outcome : Outcome) (s : State) (f : Frame) → Tells t (held_by v f ∷ helds v s.stack) (applies w t i outcome s f)
+  pub applies-tells : (w : World) (t : Listing) (i : Instruction) (outcome : Outcome) (s : State) (f : Frame) → Tells t (frame_held v f ∷ helds v s.stack) (applies w t i outcome s f)
   applies-tells w t i (GoesOn l o to) s f = goes-helds s f i.own l o (place_of i to)
   applies-tells w t i Subroutine s f = enters-helds s f i i.next
-  applies-tells w t i (Invokes m args below) s f = chosen-tells t (held_by v f ∷ helds v s.stack) (has_room w m args) _ _ (beside-tells w t s f m args below (suc (live_in s.stack))) refl
+  applies-tells w t i (Invokes m args below) s f = chosen-tells t (frame_held v f ∷ helds v s.stack) (has_room w m args) _ _ (beside-tells w t s f m args below (suc (live_in s.stack))) refl
   applies-tells w t i (Returns d) s f = gives_back-helds t s d s.stack refl
   applies-tells w t i (Throws r) s f = refl
   applies-tells w t i (Raises c message) s f = refl
@@ -77,7 +77,7 @@ module _ (v : ℕ → Mark) where
 
   -- ---- moves
 
-  caught-tells : (w : World) (t : Listing) (s : State) (r : ℕ) (f : Frame) (h : Option ℕ) → Tells t (held_by v f ∷ helds v s.stack) (throw_caught w t s r f h)
+  caught-tells : (w : World) (t : Listing) (s : State) (r : ℕ) (f : Frame) (h : Option ℕ) → Tells t (frame_held v f ∷ helds v s.stack) (throw_caught w t s r f h)
   caught-tells w t s r f None = refl
   caught-tells w t s r f (Some target) = goes-helds (record s { thrown = None }) f (own_at t f) f.locals (Ref r ∷ []) (Some target)
 
@@ -117,20 +117,20 @@ module _ (v : ℕ → Mark) where
 
   -- ---- a step
 
-  attempt-tells : (w : World) (t : Listing) (i : Instruction) (s : State) (f : Frame) → Tells t (held_by v f ∷ helds v s.stack) (attempt w t i s f)
+  attempt-tells : (w : World) (t : Listing) (i : Instruction) (s : State) (f : Frame) → Tells t (frame_held v f ∷ helds v s.stack) (attempt w t i s f)
   attempt-tells w t i s f =
       let d : Done = does w i.operation s.shared f.locals f.operands in
       let after : State = record s { shared = d.shared; output = s.output ++ d.wrote } in
-      settled-tells w t (held_by v f ∷ helds v s.stack) (applies w t i d.outcome after f) (applies-tells w t i d.outcome after f)
+      settled-tells w t (frame_held v f ∷ helds v s.stack) (applies w t i d.outcome after f) (applies-tells w t i d.outcome after f)
 
   -- without changes they are the same
   quiet-same : (t : Listing) (ms : List Held) (changes : List Change) → is_quiet changes ≡ true → all_held (mark_now v t) ms changes ≡ ms
   quiet-same t ms [] e = refl
   quiet-same t ms (c ∷ more) e = absurd (let f : false ≡ true = e in cc)
 
-  by-tells : (w : World) (t : Listing) (i : Instruction) (s : State) (f : Frame) → Tells t (held_by v f ∷ helds v s.stack) (steps_by w t i s f (does w i.operation s.shared f.locals f.operands))
+  by-tells : (w : World) (t : Listing) (i : Instruction) (s : State) (f : Frame) → Tells t (frame_held v f ∷ helds v s.stack) (steps_by w t i s f (does w i.operation s.shared f.locals f.operands))
   by-tells w t i s f =
-      let ms = held_by v f ∷ helds v s.stack in
+      let ms = frame_held v f ∷ helds v s.stack in
       let a = attempt w t i s f in
       let second = attempt w t i (record a.after { stack = s.stack }) f in
       let first = attempt-tells w t i s f in
@@ -142,14 +142,14 @@ module _ (v : ℕ → Mark) where
   loaded-tells t [] ms a p = p
   loaded-tells t (c ∷ more) ms a p = p
 
-  at-tells : (w : World) (t : Listing) (s : State) (f : Frame) (found : Option Instruction) → Tells t (held_by v f ∷ helds v s.stack) (steps_at w t s f found)
+  at-tells : (w : World) (t : Listing) (s : State) (f : Frame) (found : Option Instruction) → Tells t (frame_held v f ∷ helds v s.stack) (steps_at w t s f found)
   at-tells w t s f None = refl
   at-tells w t s f (Some i) =
       let classes = loads w i.operation s.shared f.operands in
       let ready = with_loaded classes s in
       let turn = steps_by w t i ready f (does w i.operation ready.shared f.locals f.operands) in
       let same : ready.stack ≡ s.stack = ap (λ (x : State). x.stack) (with_loaded-shared classes s) in
-      loaded-tells t classes (held_by v f ∷ helds v s.stack) turn (subst (λ stack. Tells t (held_by v f ∷ helds v stack) turn) same (by-tells w t i ready f))
+      loaded-tells t classes (frame_held v f ∷ helds v s.stack) turn (subst (λ stack. Tells t (frame_held v f ∷ helds v stack) turn) same (by-tells w t i ready f))
 
   on-tells : (w : World) (t : Listing) (s : State) (ending : Option Ending) (stack : List Entry) → s.stack ≡ stack → Tells t (helds v stack) (steps_on w t s ending stack)
   on-tells w t s None (Active f ∷ below) e = at-tells w t (record s { stack = below }) f (t.at f.version f.place)

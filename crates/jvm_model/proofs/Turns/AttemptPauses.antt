@@ -14,7 +14,7 @@ use Rattle.jvm_model.specs.Instructions.Does.{does}
 use Rattle.jvm_model.specs.Running.Moves.{turn_settled}
 use Rattle.jvm_model.specs.Running.Run.{starts, is_ready, goes_on}
 use Rattle.jvm_model.specs.Basis.SharedState.{phase_of}
-use Rattle.jvm_model.specs.Turns.Told.{Held, held_by, helds, mark_now}
+use Rattle.jvm_model.specs.Turns.Told.{Held, frame_held, helds, mark_now}
 use Rattle.jvm_model.specs.Turns.Pauses.{Pause, changes_due, passed_by, step_paused}
 use Rattle.jvm_model.specs.Turns.StepPauses.{again_pause, instruction_attempted, frame_pause, is_nothing, leave_due, line_pause, pause_behind, stack_pause, step_pause, turn_pause}
 use Rattle.jvm_model.proofs.Turns.Pausing.{paused-is}
@@ -67,7 +67,7 @@ module _ (w : World) (t : Listing) (v : ℕ → Mark) (told : Bool) (n : ℕ) (s
     outcome = (does w i.operation under.shared f.locals f.operands).outcome
 
     abbrev live : List Held
-    live = held_by v f ∷ helds v below
+    live = frame_held v f ∷ helds v below
 
     -- the leave probe tells first
     pub leaves : leave_due told (v f.version) i.operation ≡ true → step_pause w t v told n s ≡ record { state = s; passed = n; due = Ends kind.Leave }

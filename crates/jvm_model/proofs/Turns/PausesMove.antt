@@ -11,7 +11,7 @@ use Rattle.jvm_model.specs.Running.Applies.{applies}
 use Rattle.jvm_model.specs.Running.Moves.{move, moves_left}
 use Rattle.jvm_model.specs.Running.Run.{starts, is_ready, goes_on}
 use Rattle.jvm_model.specs.Codes.Moved.{Moving, moved_frame, moved_stack, state_moved, moved_turn, moved_instruction, IsPlace, Agrees, self, IsPlaced}
-use Rattle.jvm_model.specs.Turns.Told.{Held, held_by, helds, mark_now}
+use Rattle.jvm_model.specs.Turns.Told.{Held, frame_held, helds, mark_now}
 use Rattle.jvm_model.specs.Turns.Pauses.{Due, Nothing, Ends, Begins, unless_off, changes_due, Pause, pause_by, pauses, step_paused, passed_by}
 use Rattle.jvm_model.specs.Turns.StepPauses.{instruction_attempted, pause_behind, turn_pause, is_nothing, again_pause, leave_due, line_pause, frame_pause, stack_pause, step_pause}
 use Rattle.jvm_model.proofs.Running.Operations.{does-moves}
@@ -116,14 +116,14 @@ module _ (norm : ℕ → ℕ → ℕ) (w : World) (t : Listing) (own : Agrees no
     line-moves told n i s f at =
         let j : Instruction = moved_instruction (m.home f.version) i in
         let d : Done = does w i.operation s.shared f.locals f.operands in
-        let live : List Held = held_by v f ∷ helds v s.stack in
+        let live : List Held = frame_held v f ∷ helds v s.stack in
         let first : Pause = record { state = record s { stack = Active f ∷ s.stack }; passed = n; due = Ends kind.Leave } in
         let stopped : Mark → Pause → Pause = λ mark rest. if leave_due told mark i.operation then moved_pause m first else rest in
         let again : List Held → Option ℕ → Pause → Pause = λ live c p. again_pause w u v n live j (state_moved m s) (moved_frame m f) c p in
         let dm : Done = does w i.operation s.shared (moved_frame m f).locals (moved_frame m f).operands in
         let a : Turn = instruction_attempted w t i s f in
         ap (λ mark. stopped mark (again (record { method = f.method; mark = mark } ∷ helds v (moved_stack m s.stack)) (starts dm.outcome) (turn_pause w u v n (record { method = f.method; mark = mark } ∷ helds v (moved_stack m s.stack)) (instruction_attempted w u j (state_moved m s) (moved_frame m f))))) (keeps f.version)
-        ∙ (ap (λ below. stopped (v f.version) (again (held_by v f ∷ below) (starts dm.outcome) (turn_pause w u v n (held_by v f ∷ below) (instruction_attempted w u j (state_moved m s) (moved_frame m f))))) (held-moves s.stack)
+        ∙ (ap (λ below. stopped (v f.version) (again (frame_held v f ∷ below) (starts dm.outcome) (turn_pause w u v n (frame_held v f ∷ below) (instruction_attempted w u j (state_moved m s) (moved_frame m f))))) (held-moves s.stack)
         ∙ (ap (λ c. stopped (v f.version) (again live c (turn_pause w u v n live (instruction_attempted w u j (state_moved m s) (moved_frame m f)))))
         (ap (λ (x : Done). starts x.outcome) (does-moves (m.home f.version) w i.operation s.shared f.locals f.operands) ∙ starts-moves norm w t own m u agrees (m.home f.version) d.outcome)
         ∙ (ap (λ p. stopped (v f.version) (again live (starts d.outcome) p))

@@ -16,7 +16,7 @@ use Rattle.jvm_model.specs.Running.Applies.{breaks, still, applies, has_room, li
 use Rattle.jvm_model.specs.Running.Run.{starts, steps_on, steps_by, steps_at, with_loaded, loaded_turn, attempt, is_quiet, is_ready, goes_on, goes_again}
 use Rattle.jvm_model.specs.Basis.SharedState.{phase_of}
 use Rattle.jvm_model.specs.Running.Moves.{move, then_turn, turn_settled}
-use Rattle.jvm_model.specs.Turns.Told.{Held, held_by, held_after, all_held, helds, mark_now}
+use Rattle.jvm_model.specs.Turns.Told.{Held, frame_held, held_after, all_held, helds, mark_now}
 use Rattle.jvm_model.specs.Turns.Rest.{loads_at, loads_on, step_loads, Attempt, Moves, rest, IsPart}
 use Rattle.jvm_model.specs.Turns.Pauses.{later_of, end_due, Due, Nothing, Ends, Begins, unless_off, change_due, Stop, stop_by, stop_in, stop_from, Pause, step_paused, passed_by, stop_of, IsPaused, is_end, Unwinds}
 use Rattle.jvm_model.specs.Turns.StepPauses.{ends_by, is_at_return, frame_pause, stack_pause, step_pause, is_return, leave_due, IsStepPaused, is_nothing, again_pause, pause_behind, turn_pause, instruction_attempted}
@@ -140,16 +140,16 @@ module _ (w : World) (t : Listing) (v : ℕ → Mark) where
   may-choose live true x y p q = p
   may-choose live false x y p q = q
 
-  may-leave : (live : List Held) (f : Frame) → is_off (v f.version) ≡ true → MayTell marks (held_by v f ∷ live) false (Left ∷ [])
+  may-leave : (live : List Held) (f : Frame) → is_off (v f.version) ≡ true → MayTell marks (frame_held v f ∷ live) false (Left ∷ [])
   may-leave live f off = quiet Left (ap (λ b. if b then Nothing else Ends kind.Leave) off)
 
   -- where no probe has told: nothing ends, or the version is an original
   may-tell : (i : Instruction) (outcome : Outcome) (s : State) (f : Frame) → (ends_by outcome ≡ true → is_off (v f.version) ≡ true)
-      → MayTell marks (held_by v f ∷ helds v s.stack) false (applies w t i outcome s f).changes
+      → MayTell marks (frame_held v f ∷ helds v s.stack) false (applies w t i outcome s f).changes
   may-tell i (GoesOn l o to) s f off = silent
   may-tell i Subroutine s f off = silent
   may-tell i (Invokes m args below) s f off =
-      let live : List Held = held_by v f ∷ helds v s.stack in
+      let live : List Held = frame_held v f ∷ helds v s.stack in
       may-choose live (has_room w m args) _ _ (may-choose live (nat_lt (suc (live_in s.stack)) most_live) _ _ (may-quiet live m (marks m) refl) silent) silent
   may-tell i (Returns d) s f off = may-leave (helds v s.stack) f (off refl)
   may-tell i (Throws r) s f off = silent
@@ -160,7 +160,7 @@ module _ (w : World) (t : Listing) (v : ℕ → Mark) where
   may-tell i (Breaks false) s f off = silent
 
   -- where one has told, it ends
-  has-told : (i : Instruction) (outcome : Outcome) (s : State) (f : Frame) → ends_by outcome ≡ true → MayTell marks (held_by v f ∷ helds v s.stack) true (applies w t i outcome s f).changes
+  has-told : (i : Instruction) (outcome : Outcome) (s : State) (f : Frame) → ends_by outcome ≡ true → MayTell marks (frame_held v f ∷ helds v s.stack) true (applies w t i outcome s f).changes
   has-told i (Returns d) s f e = told_before
   has-told i (Breaks true) s f e = told_before
   has-told i (Breaks false) s f e = absurd (let h : false ≡ true = e in cc)
@@ -172,14 +172,14 @@ module _ (w : World) (t : Listing) (v : ℕ → Mark) where
   has-told i (Initializes c) s f e = absurd (let h : false ≡ true = e in cc)
   has-told i (Exits n) s f e = absurd (let h : false ≡ true = e in cc)
 
-  attempted-held : (i : Instruction) (s : State) (f : Frame) → helds v (instruction_attempted w t i s f).after.stack ≡ all_held marks (held_by v f ∷ helds v s.stack) (instruction_attempted w t i s f).changes
+  attempted-held : (i : Instruction) (s : State) (f : Frame) → helds v (instruction_attempted w t i s f).after.stack ≡ all_held marks (frame_held v f ∷ helds v s.stack) (instruction_attempted w t i s f).changes
   attempted-held i s f =
       let d : Done = does w i.operation s.shared f.locals f.operands in
       applies-tells v w t i d.outcome (record s { shared = d.shared; output = s.output ++ d.wrote }) f
 
-  attempt-paused : (told : Bool) (n : ℕ) (i : Instruction) (s : State) (f : Frame) → MayTell marks (held_by v f ∷ helds v s.stack) told (instruction_attempted w t i s f).changes
-      → IsTurnPaused w t v told n (held_by v f ∷ helds v s.stack) (attempt w t i s f) (turn_pause w t v n (held_by v f ∷ helds v s.stack) (instruction_attempted w t i s f))
-  attempt-paused told n i s f may = turn-by told n (held_by v f ∷ helds v s.stack) (instruction_attempted w t i s f).after (instruction_attempted w t i s f).changes may (attempted-held i s f)
+  attempt-paused : (told : Bool) (n : ℕ) (i : Instruction) (s : State) (f : Frame) → MayTell marks (frame_held v f ∷ helds v s.stack) told (instruction_attempted w t i s f).changes
+      → IsTurnPaused w t v told n (frame_held v f ∷ helds v s.stack) (attempt w t i s f) (turn_pause w t v n (frame_held v f ∷ helds v s.stack) (instruction_attempted w t i s f))
+  attempt-paused told n i s f may = turn-by told n (frame_held v f ∷ helds v s.stack) (instruction_attempted w t i s f).after (instruction_attempted w t i s f).changes may (attempted-held i s f)
 
   -- ---- once more
 
@@ -230,12 +230,12 @@ module _ (w : World) (t : Listing) (v : ℕ → Mark) where
   second-paused n live i s f x p q e is = subst (λ (y : Turn). IsTurnPaused w t v false n live (then_turn y (attempt w t i (record y.after { stack = s.stack }) f)) q) (sym e) is
 
   again-paused : (n : ℕ) (i : Instruction) (s : State) (f : Frame) (c : Option ℕ) (x : Turn) (p : Pause)
-      → ((s' : State) → s'.stack ≡ s.stack → MayTell marks (held_by v f ∷ helds v s'.stack) false (instruction_attempted w t i s' f).changes)
-      → IsTurnPaused w t v false n (held_by v f ∷ helds v s.stack) x p
-      → IsTurnPaused w t v false n (held_by v f ∷ helds v s.stack) (goes_again w t i s f c x) (again_pause w t v n (held_by v f ∷ helds v s.stack) i s f c p)
+      → ((s' : State) → s'.stack ≡ s.stack → MayTell marks (frame_held v f ∷ helds v s'.stack) false (instruction_attempted w t i s' f).changes)
+      → IsTurnPaused w t v false n (frame_held v f ∷ helds v s.stack) x p
+      → IsTurnPaused w t v false n (frame_held v f ∷ helds v s.stack) (goes_again w t i s f c x) (again_pause w t v n (frame_held v f ∷ helds v s.stack) i s f c p)
   again-paused n i s f None x p may is = is
   again-paused n i s f (Some c) x p may is =
-      let live : List Held = held_by v f ∷ helds v s.stack in
+      let live : List Held = frame_held v f ∷ helds v s.stack in
       let s' : State = record p.state { stack = s.stack } in
       let q : Pause = turn_pause w t v n live (instruction_attempted w t i s' f) in
       let quiet : Bool = is_nothing p.due && p.passed == n in
@@ -288,21 +288,21 @@ module _ (w : World) (t : Listing) (v : ℕ → Mark) where
     told-once m op = refl
 
     line-paused : (told : Bool) (n : ℕ) (s : State) (f : Frame) (i : Instruction) → (told ≡ true → is_return i.operation ≡ true) → leave_due told (v f.version) i.operation ≡ false
-        → IsTurnPaused w t v told n (held_by v f ∷ helds v s.stack) (steps_by w t i s f (does w i.operation s.shared f.locals f.operands))
-        (again_pause w t v n (held_by v f ∷ helds v s.stack) i s f (starts (does w i.operation s.shared f.locals f.operands).outcome)
-        (turn_pause w t v n (held_by v f ∷ helds v s.stack) (instruction_attempted w t i s f)))
+        → IsTurnPaused w t v told n (frame_held v f ∷ helds v s.stack) (steps_by w t i s f (does w i.operation s.shared f.locals f.operands))
+        (again_pause w t v n (frame_held v f ∷ helds v s.stack) i s f (starts (does w i.operation s.shared f.locals f.operands).outcome)
+        (turn_pause w t v n (frame_held v f ∷ helds v s.stack) (instruction_attempted w t i s f)))
     line-paused true n s f i is none_due =
         let d : Done = does w i.operation s.shared f.locals f.operands in
-        let live : List Held = held_by v f ∷ helds v s.stack in
+        let live : List Held = frame_held v f ∷ helds v s.stack in
         let ends : ends_by d.outcome ≡ true = return-ends i.operation s.shared f.locals f.operands (is refl) in
         subst (λ c. IsTurnPaused w t v true n live (goes_again w t i s f c (attempt w t i s f)) (again_pause w t v n live i s f c (turn_pause w t v n live (instruction_attempted w t i s f)))) (sym (ends-start d.outcome ends))
         (attempt-paused true n i s f (has-told i d.outcome (record s { shared = d.shared; output = s.output ++ d.wrote }) f ends))
     line-paused false n s f i is none_due =
         let d : Done = does w i.operation s.shared f.locals f.operands in
-        again-paused n i s f (starts d.outcome) (attempt w t i s f) (turn_pause w t v n (held_by v f ∷ helds v s.stack) (instruction_attempted w t i s f))
+        again-paused n i s f (starts d.outcome) (attempt w t i s f) (turn_pause w t v n (frame_held v f ∷ helds v s.stack) (instruction_attempted w t i s f))
         (λ s' same. may s') (attempt-paused false n i s f (may s))
       where
-        may : (s' : State) → MayTell marks (held_by v f ∷ helds v s'.stack) false (instruction_attempted w t i s' f).changes
+        may : (s' : State) → MayTell marks (frame_held v f ∷ helds v s'.stack) false (instruction_attempted w t i s' f).changes
         may s' =
             let d : Done = does w i.operation s'.shared f.locals f.operands in
             may-tell i d.outcome (record s' { shared = d.shared; output = s'.output ++ d.wrote }) f
@@ -335,11 +335,11 @@ module _ (w : World) (t : Listing) (v : ℕ → Mark) where
     leave-parts Root op e = (e, refl)
 
     leave-stops : (n : ℕ) (s : State) (f : Frame) (i : Instruction) → leave_due false (v f.version) i.operation ≡ true
-        → stop_in marks n (held_by v f ∷ helds v s.stack) (steps_by w t i s f (does w i.operation s.shared f.locals f.operands)).changes
-        ≡ record { live = held_by v f ∷ helds v s.stack; passed = n; due = Ends kind.Leave }
+        → stop_in marks n (frame_held v f ∷ helds v s.stack) (steps_by w t i s f (does w i.operation s.shared f.locals f.operands)).changes
+        ≡ record { live = frame_held v f ∷ helds v s.stack; passed = n; due = Ends kind.Leave }
     leave-stops n s f i e =
         let d : Done = does w i.operation s.shared f.locals f.operands in
-        let live : List Held = held_by v f ∷ helds v s.stack in
+        let live : List Held = frame_held v f ∷ helds v s.stack in
         let parts = leave-parts (v f.version) i.operation e in
         let ends : ends_by d.outcome ≡ true = return-ends i.operation s.shared f.locals f.operands parts.0 in
         let a : Turn = instruction_attempted w t i s f in
@@ -371,7 +371,7 @@ module _ (w : World) (t : Listing) (v : ℕ → Mark) where
         changes = [];
         part = no-part w t Attempt whole;
         count = refl;
-        stops = ap (λ (a : Turn). stop_in marks n (held_by v f ∷ helds v s.stack) a.changes) (same ∙ at-rest s f i loaded) ∙ leave-stops n s f i e;
+        stops = ap (λ (a : Turn). stop_in marks n (frame_held v f ∷ helds v s.stack) a.changes) (same ∙ at-rest s f i loaded) ∙ leave-stops n s f i e;
         ends = λ nothing. (let h : Ends kind.Leave ≡ Nothing = nothing in cc);
         awaits = λ end. at (leave-parts (v f.version) i.operation e).0;
         loaded = whole_loaded;
@@ -380,8 +380,8 @@ module _ (w : World) (t : Listing) (v : ℕ → Mark) where
 
       by : (b : Bool) → leave_due told (v f.version) i.operation ≡ b
           → IsStepPaused w t v told n whole (if b then record { state = whole; passed = n; due = Ends kind.Leave }
-          else again_pause w t v n (held_by v f ∷ helds v s.stack) i s f (starts (does w i.operation s.shared f.locals f.operands).outcome)
-          (turn_pause w t v n (held_by v f ∷ helds v s.stack) (instruction_attempted w t i s f)))
+          else again_pause w t v n (frame_held v f ∷ helds v s.stack) i s f (starts (does w i.operation s.shared f.locals f.operands).outcome)
+          (turn_pause w t v n (frame_held v f ∷ helds v s.stack) (instruction_attempted w t i s f)))
       by true e = left told e
       by false e = from-turn told n whole (steps_by w t i s f (does w i.operation s.shared f.locals f.operands)) _ (same ∙ at-rest s f i loaded) (line-paused told n s f i is e)
 

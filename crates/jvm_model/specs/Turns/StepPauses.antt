@@ -10,7 +10,7 @@ use Rattle.jvm_model.specs.Instructions.Does.{does}
 use Rattle.jvm_model.specs.Running.Applies.{still, breaks, applies}
 use Rattle.jvm_model.specs.Running.Run.{starts, is_ready, goes_on}
 use Rattle.jvm_model.specs.Turns.Rest.{step_loads, Todo, Attempt, Moves, rest, IsPart}
-use Rattle.jvm_model.specs.Turns.Told.{Held, held_by, helds, mark_now}
+use Rattle.jvm_model.specs.Turns.Told.{Held, frame_held, helds, mark_now}
 use Rattle.jvm_model.specs.Turns.Pauses.{later_of, Due, Nothing, Ends, Begins, changes_due, stop_from, stop_of, passed_by, Pause, step_paused, is_end, Unwinds}
 
 -- the instruction alone, from the state without the current frame
@@ -66,8 +66,8 @@ abbrev pub line_pause : World → Listing → (ℕ → Mark) → Bool → ℕ �
 line_pause w t v told n s f i =
     if leave_due told (v f.version) i.operation
     then record { state = record s { stack = Active f ∷ s.stack }; passed = n; due = Ends kind.Leave }
-    else again_pause w t v n (held_by v f ∷ helds v s.stack) i s f (starts (does w i.operation s.shared f.locals f.operands).outcome)
-    (turn_pause w t v n (held_by v f ∷ helds v s.stack) (instruction_attempted w t i s f))
+    else again_pause w t v n (frame_held v f ∷ helds v s.stack) i s f (starts (does w i.operation s.shared f.locals f.operands).outcome)
+    (turn_pause w t v n (frame_held v f ∷ helds v s.stack) (instruction_attempted w t i s f))
 
 abbrev pub frame_pause : World → Listing → (ℕ → Mark) → Bool → ℕ → State → Frame → Option Instruction → Pause
 frame_pause w t v told n s f None = record { state = breaks s f 0; passed = n; due = Nothing }

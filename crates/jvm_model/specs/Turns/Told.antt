@@ -62,12 +62,12 @@ held_in marking t = map (held_at marking t.activations) t.live
 
 -- ---- the live activations of a state, by the marks of the versions
 
-abbrev pub held_by : (ℕ → Mark) → Frame → Held
-held_by mark_of f = record { method = f.method; mark = mark_of f.version }
+abbrev pub frame_held : (ℕ → Mark) → Frame → Held
+frame_held mark_of f = record { method = f.method; mark = mark_of f.version }
 
 abbrev pub helds : (ℕ → Mark) → List Entry → List Held
 helds mark_of [] = []
-helds mark_of (Active f ∷ below) = held_by mark_of f ∷ helds mark_of below
+helds mark_of (Active f ∷ below) = frame_held mark_of f ∷ helds mark_of below
 helds mark_of (Initializing c part ∷ below) = helds mark_of below
 
 -- the mark of the version in which a method begins

@@ -127,8 +127,8 @@ ahead-of x l fit is front =
     let grown : IsGrown (revealed_in x) (record (revealed_in x) { loaded = loaded_in x }) = grown-front (revealed_in x) (record (revealed_in x) { loaded = loaded_in x }) (loaded_in x) front refl in
     subst (λ (l : LinkerView). IsAhead l x.reveal) (sym is) (record { loaded = grown; root = grown (user_count x.vm.program) fit.root })
 
-pub front-same : (xs ys : List ℕ) → xs ≡ ys → IsPrefix xs ys
-front-same xs ys e = record { rest = []; is = sym e ∙ sym (append-nil xs) }
+pub prefix-same : (xs ys : List ℕ) → xs ≡ ys → IsPrefix xs ys
+prefix-same xs ys e = record { rest = []; is = sym e ∙ sym (append-nil xs) }
 
 -- ---- a method whose class is loaded
 

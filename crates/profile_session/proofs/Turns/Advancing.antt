@@ -26,6 +26,7 @@ use Rattle.profile_session.specs.declared.parts.Parts.{Parts}
 use Rattle.profile_session.specs.Advances.{After, Stays}
 use Rattle.profile_session.specs.Images.{AreImageable}
 use Rattle.profile_session.specs.Keeping.{Kept, marks_seen}
+use Rattle.profile_session.proofs.Points.Points.{prefix-same}
 use Rattle.profile_session.specs.Parts.{AreFit, AreLoadable, AreOf, Hears, IsBusy, IsHearable, IsProfiling, IsTellable, Needs, Rests, calls_in, kept_in, profile_in, revealed_in}
 use Rattle.profile_session.specs.Standing.{AtRest, InStep, Stands, rests, within}
 use Rattle.profile_session.specs.Turned.{events_in, is_telling, kept_turned}
@@ -154,7 +155,7 @@ needs-told x es v e is are knows same below =
     let path = open-entries es in
     record {
       now = knows.now;
-      loaded = knows.loaded;
+      prefix = prefix-same x.reveal.lineage.loaded (run_state v).shared.loaded knows.loaded;
       begun = λ opening. ap (λ (p : Program). has_class p x.reveal.lineage.loaded e.method) same ∙ knows.begun opening;
       shallow = omega (arith, few, depth, path, below);
       few = omega (arith, few, calls, below);

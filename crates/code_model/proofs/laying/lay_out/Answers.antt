@@ -39,11 +39,11 @@ homes_rise front gs homes a is = subst (λ (h : Homes). IsStrictlyIncreasing h.f
 pub first_far-requires-clause-homes : goal.first_far-requires-clause-homes
 first_far-requires-clause-homes c = homes_rise c.args.front.now c.args.groups.now c.in_ok-homes.homes c.requires.groups c.in_ok-homes.ensures
 
-pub code_of-requires-clause-homes : goal.code_of-requires-clause-homes
-code_of-requires-clause-homes c = homes_rise c.args.front.now c.args.groups.now c.in_ok-homes.homes c.requires.groups c.in_ok-homes.ensures
+pub laid_code-requires-clause-homes : goal.laid_code-requires-clause-homes
+laid_code-requires-clause-homes c = homes_rise c.args.front.now c.args.groups.now c.in_ok-homes.homes c.requires.groups c.in_ok-homes.ensures
 
-pub code_of-requires-clause-fits : goal.code_of-requires-clause-fits
-code_of-requires-clause-fits c = groups_fit c.args.groups.now c.requires.groups
+pub laid_code-requires-clause-fits : goal.laid_code-requires-clause-fits
+laid_code-requires-clause-fits c = groups_fit c.args.groups.now c.requires.groups
 
 far_is : (front : List ℕ) (gs : List Group) (homes : Homes) (at other : ℕ) → homes ≡ homes_of front gs → Some at ≡ first_far_from (home_of homes) (length front) gs → at ≡ other → first_far front gs ≡ Some other
 far_is front gs homes at other is far same =

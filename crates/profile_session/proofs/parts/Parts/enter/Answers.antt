@@ -3,8 +3,8 @@ use Rattle.jvm_model.specs.Profiling.Revealed.{with_method_entered}
 use Rattle.jvm_model.specs.Soundness.Sound.{HasClass}
 use Rattle.class_linker.specs.Linkers.{LinkerView}
 use Rattle.call_revelation.specs.Reveals.{IsRevelation}
-use Rattle.profile_session.specs.Parts.{loaded_in, revealed_in}
-use Rattle.profile_session.proofs.Points.Points.{ahead-of, class-loaded, fit-of, front-same, linked, method-within, point-of, reveals-linked, showable-of}
+use Rattle.profile_session.specs.Parts.{revealed_in}
+use Rattle.profile_session.proofs.Points.Points.{ahead-of, class-loaded, fit-of, linked, method-within, point-of, reveals-linked, showable-of}
 use Rattle.profile_session.proofs.Points.Unchanged.{point-itself}
 use Rattle.profile_session.proofs.parts.Parts.enter.Goals as goal
 
@@ -15,7 +15,7 @@ entered-requires-clause-revelation c =
 pub entered-requires-clause-ahead : goal.entered-requires-clause-ahead
 entered-requires-clause-ahead c =
     let x = c.args.self.now in
-    ahead-of x c.linker.result.now c.requires.fit (linked c.linker.result.now c.args.self.now.vm c.linker.ensures.program (c.linker.ensures.loaded c.requires.fit.whole)) (front-same x.reveal.lineage.loaded (loaded_in x) c.requires.loaded)
+    ahead-of x c.linker.result.now c.requires.fit (linked c.linker.result.now c.args.self.now.vm c.linker.ensures.program (c.linker.ensures.loaded c.requires.fit.whole)) c.requires.prefix
 
 pub entered-requires-clause-method : goal.entered-requires-clause-method
 entered-requires-clause-method c =
