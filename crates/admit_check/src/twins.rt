@@ -1,7 +1,7 @@
 //! Members of a class that agree in name and descriptor (JVM Specification 4.5, 4.6): each is compared with those before it where they are few, and
 //! found by hashing where they are many.
 
-ghost use Rattle.std.specs.Prelude.{◌≡◌, ◌++◌, ◌||◌, OnOk, IfOk};
+ghost use Rattle.std.specs.Prelude.{◌≡◌, OnOk, IfOk};
 ghost use Rattle.std.specs.List.{list_any};
 ghost use Rattle.const_pool.specs.References.{named_text};
 ghost use Rattle.admit_check.specs.Shapes.{has_member_twice, has_twins, is_same_member, same_named};

@@ -1,6 +1,6 @@
 //! Making a class file of a row (JVM Specification 4.1).
 
-ghost use Rattle.std.specs.Prelude.{◌≡◌, ◌<◌, ◌^◌, IfOk, IsTrue, map, [], length};
+ghost use Rattle.std.specs.Prelude.{◌≡◌, ◌<◌, IfOk, IsTrue, map, []};
 ghost use Rattle.std.specs.Option.{option_map};
 ghost use Rattle.base_classes.specs.Making.{AddsIndices, member_added, members_from, interfaces_from, superclass_added, class_file_of, has_pool};
 ghost use Rattle.base_classes.specs.RowViews.{member_view, class_view};

@@ -3,7 +3,6 @@
 
 ghost use Rattle.std.specs.Prelude.{◌≡◌, ◌≢◌, ◌<◌, ◌+◌, ◌^◌, ℕ, Some, filter, length, map, slice_get, IfNone, IfSome};
 ghost use Rattle.std.specs.List.{position_from};
-ghost use Rattle.base_classes.specs.BuiltInClasses.{built_in_classes};
 ghost use Rattle.base_classes.specs.Natives.{is_native, is_member, native_methods, native_starts, method_named, native_number};
 ghost use Rattle.base_classes.specs.RowViews.{member_view};
 

@@ -1,12 +1,11 @@
 //! The instructions of methods that were entered, which are read once, and where they stand by the classes that they name.
 
-ghost use Rattle.std.specs.Prelude.{◌≡◌, ◌<◌, [], if◌then◌else◌, is_ok, is_some, length, map, replicate, true, unwrap_or, IfOk, OnOk, None, ℕ};
+ghost use Rattle.std.specs.Prelude.{◌≡◌, ◌<◌, [], if◌then◌else◌, is_ok, is_some, length, replicate, true, IfOk, OnOk, None, ℕ};
 ghost use Rattle.std.specs.List.{AllByRecursion};
 ghost use Rattle.std.specs.Option.{option_copied};
 ghost use Rattle.jvm_model.specs.Instructions.SymbolicReference.{resolved_name};
 ghost use Rattle.jvm_model.specs.Basis.Programs.{class_named};
 ghost use Rattle.jvm_model.specs.Profiling.Revelation.{is_named, symbolic_references_of};
-ghost use Rattle.jvm_model.specs.Profiling.Targets.{operations_of};
 ghost use Rattle.prepared_code.specs.Prepared.{HasShortCodes};
 ghost use Rattle.possible_callees.specs.Tables.{list_at};
 ghost use Rattle.call_revelation.specs.Books.{HasMore, IsBookOf, code_at, is_noted, symbolic_reference_at};

@@ -1,12 +1,11 @@
 //! Methods that are entered, and quiet points.
 
-ghost use Rattle.std.specs.Prelude.{◌≡◌, ◌<◌, ◌∷◌, [], ℕ, false, is_some, length, slice_set, true, IfOk, OnErr, OnOk};
+ghost use Rattle.std.specs.Prelude.{◌≡◌, ◌<◌, ◌∷◌, [], ℕ, false, is_some, length, true, IfOk, OnErr, OnOk};
 ghost use Rattle.jvm_model.specs.declared.program.Program.{Program};
 ghost use Rattle.jvm_model.specs.Classes.Load.{is_among};
 ghost use Rattle.jvm_model.specs.Profiling.Revealed.{with_method_entered, with_none_entered};
 ghost use Rattle.jvm_model.specs.Soundness.Sound.{HasClass};
 ghost use Rattle.jvm_model.specs.Profiling.Targets.{operations_of, targets_in};
-ghost use Rattle.possible_callees.specs.Tables.{IsPrefix};
 ghost use Rattle.call_revelation.specs.Books.{code_at};
 ghost use Rattle.call_revelation.specs.Reveals.{IsAhead, IsGrown, IsKept, IsRevelation};
 ghost use Rattle.call_revelation.specs.Flags.{flag_at};

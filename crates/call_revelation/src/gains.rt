@@ -1,6 +1,6 @@
 //! What a call begins on a class that is loaded more.
 
-ghost use Rattle.std.specs.Prelude.{◌≡◌, true, OnOk};
+ghost use Rattle.std.specs.Prelude.{true, OnOk};
 ghost use Rattle.class_linker.specs.Linkers.{IsLoaded};
 ghost use Rattle.jvm_model.specs.Profiling.Revelation.{gained_on};
 ghost use Rattle.member_selection.specs.Numbers.{AreNumbers};

@@ -1,10 +1,9 @@
 //! Classes that are loaded more.
 
-ghost use Rattle.std.specs.Prelude.{◌≡◌, ◌≤◌, ◌++◌, [], ◌∷◌, List, ℕ, false, drop, flat_map, length, take, true, IfOk, IfSome, OnErr, OnOk, Some};
+ghost use Rattle.std.specs.Prelude.{◌≡◌, ◌≤◌, ◌++◌, [], ◌∷◌, ℕ, false, drop, flat_map, length, take, true, IfOk, IfSome, OnErr, OnOk, Some};
 ghost use Rattle.std.specs.List.{AllByRecursion};
 ghost use Rattle.std.specs.Option.{option_copied, option_map_or};
 ghost use Rattle.jvm_model.specs.Classes.Load.{is_among};
-ghost use Rattle.jvm_model.specs.Classes.Lookup.{is_subtype};
 ghost use Rattle.jvm_model.specs.Profiling.Revealed.{with_loaded};
 ghost use Rattle.jvm_model.specs.Profiling.Revelation.{IsLoadOrder};
 ghost use Rattle.jvm_model.specs.Soundness.Sound.{HasSupertypes};

@@ -1,6 +1,6 @@
 //! The classes that calls of entered methods name, and which of them are at or above a loaded class.
 
-ghost use Rattle.std.specs.Prelude.{◌≡◌, [], if◌then◌else◌, flat_map, is_ok, is_some, map, replicate, slice_set, true, IfOk, OnOk, ℕ};
+ghost use Rattle.std.specs.Prelude.{◌≡◌, [], if◌then◌else◌, flat_map, is_ok, is_some, replicate, slice_set, true, IfOk, OnOk, ℕ};
 ghost use Rattle.std.specs.Option.{option_to_list};
 ghost use Rattle.jvm_model.specs.declared.program.Program.{Program};
 ghost use Rattle.jvm_model.specs.Classes.Load.{is_among};

@@ -1,6 +1,6 @@
 //! One class file, from its bytes to those of its image.
 
-ghost use Rattle.std.specs.Prelude.{◌≡◌, ◌≢◌, ◌≤◌, ◌⊎◌, [], None, Err, IfOk, IfErr, OnOk};
+ghost use Rattle.std.specs.Prelude.{◌≡◌, ◌≢◌, ◌≤◌, ◌⊎◌, None, Err, IfOk, IfErr, OnOk};
 ghost use Rattle.jf_bytes.specs.Streams.{Rose, PutsAll, PutsPrefix, IsFetched};
 ghost use Rattle.class_reader.specs.Files.{most_bytes};
 ghost use Rattle.inject_events.specs.Answers.{IsProfilable, IsReadableClass};

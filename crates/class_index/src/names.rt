@@ -1,6 +1,6 @@
 //! The names of a program's classes.
 
-ghost use Rattle.std.specs.Prelude.{◌≡◌, [], None, is_ok, OnOk, if◌then◌else◌};
+ghost use Rattle.std.specs.Prelude.{◌≡◌, [], None, OnOk};
 ghost use Rattle.class_index.specs.Names.{position_of, with_first, with_position};
 
 use indexmap::IndexMap;

@@ -1,11 +1,10 @@
 //! What is kept of a class once it is loaded.
 
-ghost use Rattle.std.specs.Prelude.{◌≡◌, ◌++◌, [], flat_map, length, map, OnOk, IfOk};
-ghost use Rattle.std.specs.Option.{option_copied, option_map_or};
+ghost use Rattle.std.specs.Prelude.{◌≡◌, ◌++◌, [], flat_map, OnOk, IfOk};
+ghost use Rattle.std.specs.Option.{option_copied};
 ghost use Rattle.jvm_model.specs.Classes.Layouts.{own_kinds};
 ghost use Rattle.jvm_model.specs.Classes.Load.{is_among};
 ghost use Rattle.jvm_model.specs.Classes.Lookup.{superclass_of};
-ghost use Rattle.jvm_model.specs.Basis.Programs.{class_at};
 ghost use Rattle.class_index.specs.Orders.{with_classes};
 ghost use Rattle.class_linker.specs.LoadedClasses.{holds_class, layout_in, layout_made, loaded_class_at, loaded_class_made};
 ghost use Rattle.class_linker.specs.LoadedClasses.{superclasses_made, superinterfaces_made};

@@ -2,8 +2,8 @@
 
 ghost use Rattle.std.specs.Prelude.{◌≡◌, ◌↔◌, [], true, unwrap_or, IsTrue};
 ghost use Rattle.std.specs.List.{list_any};
-ghost use Rattle.std.specs.Option.{option_map, option_map_or};
-ghost use Rattle.jvm_model.specs.Classes.Lookup.{method_at, place_in, supertypes};
+ghost use Rattle.std.specs.Option.{option_map};
+ghost use Rattle.jvm_model.specs.Classes.Lookup.{method_at, supertypes};
 ghost use Rattle.jvm_model.specs.Basis.Programs.{name_at};
 ghost use Rattle.jvm_model.specs.Classes.Selection.{Overrides, access_of, is_abstract, is_open, is_private};
 ghost use Rattle.jvm_model.specs.Classes.Selection.{is_reached, is_static, overrides, passed_at};

@@ -1,9 +1,7 @@
 //! Which method invokespecial invokes (JVM Specification chapter 6, invokespecial).
 
-ghost use Rattle.std.specs.Prelude.{◌≡◌, IfSome, true};
+ghost use Rattle.std.specs.Prelude.{◌≡◌, true};
 ghost use Rattle.std.specs.Option.{option_map};
-ghost use Rattle.jvm_model.specs.Classes.Load.{is_among};
-ghost use Rattle.jvm_model.specs.Basis.Programs.{super_of};
 ghost use Rattle.class_linker.specs.DeclaredMethods.{at_place};
 ghost use Rattle.class_linker.specs.LoadedClasses.{AreLoadedClasses, holds_class};
 ghost use Rattle.jvm_model.specs.Classes.SuperCalls.{invoked_special, is_inherited, is_initializer};

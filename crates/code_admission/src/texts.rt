@@ -1,6 +1,6 @@
 //! Names and descriptors (JVM Specification 4.2, 4.3) as tests.
 
-ghost use Rattle.std.specs.Prelude.{◌≡◌, IfOk, length, drop};
+ghost use Rattle.std.specs.Prelude.{◌≡◌, IfOk};
 ghost use Rattle.code_admission.specs.Texts.{dimensions_of, is_array_name, is_class_name, is_field_text};
 ghost use Rattle.code_admission.specs.Texts.{field_kind, method_kinds};
 

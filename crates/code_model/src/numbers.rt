@@ -1,7 +1,7 @@
 //! Big-endian numbers of operands (JVM Specification 6.5). Each reader here and in the other modules is given the offset of the
 //! instruction's opcode, where a fault is told, and the bytes that are left; it answers the bytes behind its item.
 
-ghost use Rattle.std.specs.Prelude.{◌≡◌, if◌then◌else◌};
+ghost use Rattle.std.specs.Prelude.{◌≡◌};
 ghost use Rattle.std.specs.Int.{w8, w16, w32};
 ghost use Rattle.code_model.specs.Operands.{slot_width, target_reached};
 ghost use Rattle.code_model.specs.Reading.{Gives, number_at, run_at, signed_at, target_at};

@@ -1,6 +1,6 @@
 //! The operands of each form, and instructions (JVM Specification 6.5).
 
-ghost use Rattle.std.specs.Prelude.{◌≡◌, if◌then◌else◌};
+ghost use Rattle.std.specs.Prelude.{◌≡◌};
 ghost use Rattle.std.specs.Int.{w8, w16, w32};
 ghost use Rattle.code_model.specs.Operands.{form_of, is_wide};
 ghost use Rattle.code_model.specs.Reading.{Gives, value_at, index_at, local_at, increment_at};

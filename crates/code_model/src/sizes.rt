@@ -1,6 +1,6 @@
 //! How many bytes instructions take where they stand (JVM Specification 6.5).
 
-ghost use Rattle.std.specs.Prelude.{◌≡◌, ◌≤◌, ◌<◌, ◌^◌, length, All};
+ghost use Rattle.std.specs.Prelude.{◌≡◌, ◌<◌, ◌^◌, All};
 ghost use Rattle.std.specs.Int.{byte_len};
 ghost use Rattle.code_model.specs.Widths.{width};
 ghost use Rattle.code_model.specs.Operands.{slot_width, padding_len};

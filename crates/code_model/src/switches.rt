@@ -1,6 +1,6 @@
 //! The operands of tableswitch and lookupswitch (JVM Specification 6.5).
 
-ghost use Rattle.std.specs.Prelude.{◌≡◌, ◌<◌, ◌^◌};
+ghost use Rattle.std.specs.Prelude.{◌≡◌, ◌<◌};
 ghost use Rattle.std.specs.Int.{w32};
 ghost use Rattle.code_model.specs.Operands.{padding_len, case_count, rise_above, keys_rise};
 ghost use Rattle.code_model.specs.Reading.{Gives, target_at, pair_at, many_at, high_at, table_at};

@@ -1,5 +1,5 @@
 //! Tables by hand, from the pages of the attributes in the JVM Specification, 4.7.4, 4.7.8 and 4.7.9.
-ghost use Rattle.std.specs.Prelude.{◌≡◌, IfOk};
+ghost use Rattle.std.specs.Prelude.{IfOk};
 ghost use Rattle.std.specs.List.Sorted.{IsStrictlyIncreasing};
 
 use code_model::Homes;

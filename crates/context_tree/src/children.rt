@@ -1,6 +1,6 @@
 //! The children of nodes.
 
-ghost use Rattle.std.specs.Prelude.{◌≡◌, ◌<◌, ◌++◌, ◌∷◌, [], None, Some, IfSome, length, is_ok, slice_get, slice_set, slice_index_or, take, ◌-◌, OnOk, OnErr, if◌then◌else◌};
+ghost use Rattle.std.specs.Prelude.{◌≡◌, ◌<◌, ◌++◌, ◌∷◌, [], None, Some, length, is_ok, slice_get, take, ◌-◌, if◌then◌else◌};
 ghost use Rattle.std.specs.Option.{option_map};
 ghost use Rattle.context_tree.specs.ChildLists.{Becomes, number_under, list_at, with_entry};
 

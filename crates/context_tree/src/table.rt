@@ -1,7 +1,7 @@
 //! The nodes of a tree with their children, the open node, and the last clock.
 
-ghost use Rattle.std.specs.Prelude.{◌≡◌, ◌<◌, ◌≤◌, ◌+◌, ◌-◌, ◌^◌, Some, None, length, take, is_ok, slice_get, OnOk, OnErr, IfSome, if◌then◌else◌};
-ghost use Rattle.context_tree.specs.NodeTables.{entries_of, numbers_in, child_by, parent_in, changed_at, node_called, node_stepped, calls_in, own_in, own_at, steps_given, fresh, with_node, with_child, table_grown, entered_at, opened_in, closed_in, told_in, taken_in};
+ghost use Rattle.std.specs.Prelude.{◌≡◌, ◌<◌, ◌≤◌, ◌+◌, ◌-◌, ◌^◌, Some, None, length, is_ok, slice_get, IfSome, if◌then◌else◌};
+ghost use Rattle.context_tree.specs.NodeTables.{entries_of, numbers_in, child_by, parent_in, changed_at, node_called, node_stepped, calls_in, own_in, own_at, steps_given, with_node, with_child, table_grown, opened_in, closed_in, told_in};
 ghost use Rattle.context_tree.specs.ChildLists.{Becomes};
 ghost use Rattle.context_tree.specs.TreeViews.{total_at, IsTree};
 

@@ -1,6 +1,6 @@
 //! The tree: nodes in order of first begin, and a cursor at the open path.
 
-ghost use Rattle.std.specs.Prelude.{ℕ, ◌≡◌, ◌<◌, ◌≤◌, ◌+◌, ◌-◌, ◌^◌, Some, length, slice_get, OnOk, OnErr, IfOk, IfSome};
+ghost use Rattle.std.specs.Prelude.{ℕ, ◌≡◌, ◌<◌, ◌≤◌, ◌+◌, ◌-◌, ◌^◌, Some, length, OnOk, OnErr, IfOk, IfSome};
 ghost use Rattle.jvm_model.specs.declared.event.Event.{Event as TheEvent};
 ghost use Rattle.context_tree.specs.Profiles.{blank, event_taken, steps_credited, calls_of, nodes_of, child_at, path_of_node, total_of, totals_of};
 

@@ -1,6 +1,6 @@
 //! Numbers in unsigned LEB128, in room of bytes.
 
-ghost use Rattle.std.specs.Prelude.{◌≡◌, ◌+◌, ◌++◌, ◌∷◌, [], ◌<◌, ◌≤◌, ◌^◌, length, drop};
+ghost use Rattle.std.specs.Prelude.{◌≡◌, ◌+◌, ◌++◌, ◌∷◌, [], ◌<◌, ◌≤◌, ◌^◌, length};
 ghost use Rattle.event_buffer.specs.Rooms.{room_of};
 ghost use Rattle.event_buffer.specs.Records.{leb128};
 ghost use Rattle.event_buffer.specs.Reading.{number_in, behind_number};

@@ -1,8 +1,8 @@
 //! Records of events, in room of bytes.
 
-ghost use Rattle.std.specs.Prelude.{◌≡◌, ◌+◌, ◌-◌, ◌++◌, ◌≤◌, ◌<◌, ◌^◌, true, false, length};
+ghost use Rattle.std.specs.Prelude.{◌≡◌, ◌+◌, ◌-◌, ◌++◌, ◌≤◌, true, false, length};
 ghost use Rattle.event_buffer.specs.Rooms.{room_of};
-ghost use Rattle.event_buffer.specs.Records.{leb128, kind_number, record_of};
+ghost use Rattle.event_buffer.specs.Records.{kind_number, record_of};
 ghost use Rattle.event_buffer.specs.Reading.{kind_numbered};
 ghost use Rattle.event_buffer.specs.Spelled.{IsNext};
 

@@ -1,6 +1,6 @@
 //! Bytes in room that is made once.
 
-ghost use Rattle.std.specs.Prelude.{◌≡◌, ◌+◌, ◌++◌, ◌∷◌, [], ◌≤◌, ◌<◌, ◌^◌, true, false, length, drop, slice_get, IfOk};
+ghost use Rattle.std.specs.Prelude.{◌≡◌, ◌+◌, ◌++◌, ◌∷◌, [], ◌≤◌, ◌<◌, true, false, length, drop, slice_get, IfOk};
 ghost use Rattle.event_buffer.specs.Rooms.{room_of};
 
 use jf_bytes::NoMemory;

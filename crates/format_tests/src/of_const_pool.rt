@@ -1,6 +1,6 @@
 //! Pools, tails and descriptors by hand.
 
-ghost use Rattle.std.specs.Prelude.{◌≡◌, ◌<◌, length, IfOk, IsTrue};
+ghost use Rattle.std.specs.Prelude.{◌≡◌, ◌<◌};
 ghost use Rattle.const_pool.specs.Pool.{is_gap, is_wide, has_gaps};
 
 use const_pool::{

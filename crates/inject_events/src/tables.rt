@@ -1,6 +1,6 @@
 //! The tables of a Code in its version (JVM Specification 4.7.3).
 
-ghost use Rattle.std.specs.Prelude.{◌≡◌, ◌++◌, map, IfOk};
+ghost use Rattle.std.specs.Prelude.{◌≡◌, map, IfOk};
 ghost use Rattle.std.specs.List.Sorted.{IsStrictlyIncreasing};
 ghost use Rattle.jvm_model.specs.Rewriting.ImageTables.{moved_lines, moved_variables};
 ghost use Rattle.inject_events.specs.Tables.{is_named, table_of, moved_table, moved_raw, is_frame_table, has_frames, lacks_frames, version_tables, is_full_table, has_full_table, are_frames_full};

@@ -1,6 +1,6 @@
 -- What holds of each element of a list, a list with no element, and an element by its place.
 use Rattle.std.proofs.Common.{◌≡◌, ℕ, zero, suc, ◌+◌, ◌<◌, true, List, [], ◌∷◌, ◌++◌, length, ap, subst, refl, ◌∙◌, arith}
-use Rattle.std.specs.Prelude.{Some, None, slice_get, slice_set, ◌==◌}
+use Rattle.std.specs.Prelude.{Some, slice_get, slice_set, ◌==◌}
 use Rattle.std.specs.List.{AllByRecursion}
 use Rattle.std.proofs.lemmas.Bool.{eqb-true}
 use Rattle.std.proofs.lemmas.Option.{none-some, same_Some}

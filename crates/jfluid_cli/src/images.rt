@@ -1,6 +1,6 @@
 //! What is shown of a run: its images, the records of its swaps, and behind them its report.
 
-ghost use Rattle.std.specs.Prelude.{◌≡◌, true, false, if◌then◌else◌, IfErr, IfOk, MatchResult, OnOk};
+ghost use Rattle.std.specs.Prelude.{◌≡◌, false, IfOk, MatchResult, OnOk};
 ghost use Rattle.jf_bytes.specs.Streams.{PutsAll, PutsPrefix};
 ghost use Rattle.profile_session.specs.Answers.{Gathers};
 ghost use Rattle.jfluid_cli.specs.Calls.{IsShown};

@@ -1,6 +1,6 @@
 //! The report of a run, and the status that goes with it.
 
-ghost use Rattle.std.specs.Prelude.{◌≡◌, true, false, IfOk, IfErr, OnOk, MatchResult};
+ghost use Rattle.std.specs.Prelude.{◌≡◌, true, false, IfOk, OnOk, MatchResult};
 ghost use Rattle.profile_session.specs.Answers.{Gathers};
 ghost use Rattle.jfluid_cli.specs.Runs.{IsGoing, IsPlanned, SameProgram};
 ghost use Rattle.jfluid_cli.specs.Calls.{IsReported};

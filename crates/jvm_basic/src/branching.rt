@@ -1,6 +1,6 @@
 //! Branches, switches and subroutines (JVM Specification 2.11.7, 6.5).
 
-ghost use Rattle.std.specs.Prelude.{◌≡◌, ℤ, ◌-ℤ◌, ◌∷◌, Some, length, slice_get};
+ghost use Rattle.std.specs.Prelude.{◌≡◌, ◌-ℤ◌, ◌∷◌, Some, length, slice_get};
 ghost use Rattle.frame_stack.specs.FrameLists.{AreSound, top_operands};
 ghost use Rattle.jvm_model.specs.Basis.Values.{int_of};
 ghost use Rattle.jvm_basic.specs.Outcomes.{effect_of, after};

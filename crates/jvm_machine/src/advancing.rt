@@ -1,7 +1,7 @@
 //! How a step is taken up, and what it has come to.
 
 ghost use Rattle.prepared_code.specs.Originals.{AreNamesKnown};
-ghost use Rattle.std.specs.Prelude.{◌≡◌, ◌+◌, ◌++◌, ◌^◌, ◌<◌, drop, false, true, IfOk, OnErr, OnOk};
+ghost use Rattle.std.specs.Prelude.{◌≡◌, ◌+◌, ◌^◌, ◌<◌, drop, false, true, IfOk, OnOk};
 ghost use Rattle.jvm_model.specs.Basis.Data.{World};
 ghost use Rattle.jvm_model.specs.Turns.InHand.{behind_load};
 ghost use Rattle.jvm_model.specs.Running.Run.{main_loads, starts_with};

@@ -1,6 +1,6 @@
 //! The classes of a run, as native methods see them.
 
-ghost use Rattle.std.specs.Prelude.{◌≡◌, ◌<◌, IfSome, length, true};
+ghost use Rattle.std.specs.Prelude.{◌≡◌, ◌<◌, true};
 ghost use Rattle.class_linker.specs.Linkers.{IsKnown};
 ghost use Rattle.jvm_model.specs.Instructions.NativeRules.{is_known, loaded_class};
 

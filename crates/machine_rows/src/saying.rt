@@ -1,8 +1,8 @@
 //! What a line of a row's file says.
 
-ghost use Rattle.std.specs.Prelude.{◌≡◌, ◌++◌, IfOk, IfErr, OnOk, if◌then◌else◌};
+ghost use Rattle.std.specs.Prelude.{◌≡◌, ◌++◌, IfOk, IfErr, OnOk};
 ghost use Rattle.machine_rows.specs.Causes.{IsMissing};
-ghost use Rattle.machine_rows.specs.Reading.{LineSays, Refuses, each_said, install_said, one_line, clock_behind, of_clocks, plain_said, refusal_said};
+ghost use Rattle.machine_rows.specs.Reading.{LineSays, Refuses, each_said, install_said, one_line, clock_behind, plain_said, refusal_said};
 ghost use Rattle.machine_rows.specs.Reading.{settles, so_often, tells, turn_line, turn_taken, up_to, with_ending};
 ghost use Rattle.machine_rows.specs.Words.{rest_of, word_of};
 

@@ -9,7 +9,6 @@ ghost use Rattle.revelation_rows.specs.Names.{class_called, method_called};
 ghost use Rattle.revelation_rows.specs.Reading.{IsHalved, IsRead, all_found, begins_item, due_items, happening_said};
 ghost use Rattle.revelation_rows.specs.Reading.{marks_with, method_item, no_marks as none_marked, verb_item};
 ghost use Rattle.revelation_rows.specs.Reading.{with_mark, word_item, word_items};
-ghost use Rattle.revelation_rows.specs.Words.{words_in as words_between};
 
 use crate::item::{Fact, Happening, Item};
 use crate::names::{class_named, method_named};

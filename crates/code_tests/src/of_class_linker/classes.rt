@@ -1,10 +1,9 @@
 //! Classes that are written out: made as bytes, read, and put before the built-in ones.
 
-ghost use Rattle.std.specs.Prelude.{◌≡◌, ◌++◌, IfSome, IsTrue};
+ghost use Rattle.std.specs.Prelude.{IfSome, IsTrue};
 ghost use Rattle.std.specs.List.{AllByRecursion};
 ghost use Rattle.const_pool.specs.ClassFile.{IsClassFile};
 ghost use Rattle.class_index.specs.Indices.{IsLinkable};
-ghost use Rattle.jvm_model.specs.Classes.Load.{is_among};
 ghost use Rattle.class_linker.specs.Linkers.{IsLoaded};
 
 use base_classes::built_in;

@@ -1,6 +1,6 @@
 //! Layouts: the worked ones, and the limits of branches and of lengths.
 
-ghost use Rattle.std.specs.Prelude.{◌≡◌, ◌≤◌, length, IfOk, All};
+ghost use Rattle.std.specs.Prelude.{◌≡◌, IfOk, All};
 ghost use Rattle.code_model.specs.Groups.{instrs_of, IsShort};
 
 use super::worked::{ENTRY, GOTO, ICONST_0, IRETURN, LAYOUTS, LEAVING, Layout, RETURN, UNWINDING};
