@@ -46,7 +46,7 @@ use Rattle.code_admission.specs.CodeTables.{fits_frame, fits_frame_kind, fits_fr
 use Rattle.code_admission.specs.Floating.{floating_fault}
 use Rattle.admit_check.specs.Profiling.{HaveSoundTables, profiling_fault}
 use Rattle.admit_check.specs.Shapes.{shape_fault}
-use Rattle.code_admission.specs.Uses.{is_start}
+use Rattle.code_model.specs.Groups.{is_start}
 use Rattle.code_admission.proofs.Decoded.{reading_is_read}
 use Rattle.stackmap_shift.proofs.FramesRead.{frames_of-writable}
 use Rattle.jvm_model.proofs.Running.Starts.{code-among}

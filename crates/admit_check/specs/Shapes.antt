@@ -19,7 +19,8 @@ use Rattle.code_admission.specs.declared.error.AdmitError.{AdmitError}
 use Rattle.code_admission.specs.declared.error.AdmitError.TheVariants.{ReservedName, Duplicate, BadShape}
 use Rattle.code_admission.specs.declared.error.ShapeCause.TheVariants as cause
 use Rattle.code_admission.specs.Checks.{fault_if, first_of}
-use Rattle.code_admission.specs.Texts.{field_kind, is_field_text, is_method_text, is_array_name}
+use Rattle.jvm_model.specs.Classes.Kinds.{is_array_name}
+use Rattle.code_admission.specs.Texts.{field_kind, is_field_text, is_method_text}
 
 -- ---- names of classes
 

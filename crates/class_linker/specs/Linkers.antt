@@ -10,6 +10,7 @@ use Rattle.jvm_model.specs.Classes.Kinds.{kind_named}
 use Rattle.jvm_model.specs.Classes.Load as load
 use Rattle.jvm_model.specs.Classes.Lookup as lookup
 use Rattle.jvm_model.specs.Basis.Programs.{class_named}
+use Rattle.jvm_model.specs.Soundness.Sound as sound
 use Rattle.class_linker.specs.declared.answers.Loaded.{Loaded}
 use Rattle.class_linker.specs.declared.answers.Loaded.TheVariants.{New, Already, Throws as Stopped, NoMemory}
 use Rattle.class_linker.specs.declared.answers.Resolved.{Resolved}
@@ -21,7 +22,7 @@ pub record LinkerView : Type 0 where
   pub loaded : List ℕ
 
 abbrev pub IsLoaded : LinkerView → ℕ → Type 0
-IsLoaded l class = load.is_among class l.loaded ≡ true
+IsLoaded l class = sound.IsLoaded l.loaded class
 
 -- ---- errors
 

@@ -10,7 +10,6 @@ use Rattle.const_pool.specs.declared.descriptor.Kind.TheVariants as kind
 use Rattle.const_pool.specs.Descriptors.{IsBase, IsField, IsName, dimensions_text}
 use Rattle.jvm_model.specs.Classes.Kinds.{Element, Named, array_from, array_of, before_semicolon, element_of, is_array_name, meaning_of}
 use Rattle.code_admission.specs.Texts.{dimensions_of, field_kind, is_class_name, is_field_text}
-use Rattle.code_admission.specs.Texts as texts
 use Rattle.code_admission.proofs.Grammar.{field_kind_found}
 use Rattle.code_admission.proofs.Positions.{position-behind}
 
@@ -113,12 +112,8 @@ array-has name k array field =
       few = (let most = field.most in omega (arith, counted, most));
     }
 
-same-array : (name : List ℕ) → texts.is_array_name name ≡ is_array_name name
-same-array [] = refl
-same-array (unit ∷ rest) = refl
-
 pub class-dimensions : (name : List ℕ) → is_class_name name ≡ true → ((meaning_of name).dimensions ≡ dimensions_of name) × (dimensions_of name ≤ 255)
-class-dimensions name is = by (is_array_name name) refl (ap (λ b. not b || is_field_text name) (sym (same-array name)) ∙ is)
+class-dimensions name is = by (is_array_name name) refl is
   where
     field : (o : Option Kind) → field_kind name ≡ o → is_some o ≡ true → (k : Kind) × (field_kind name ≡ Some k)
     field None found there = absurd cc

@@ -22,7 +22,8 @@ use Rattle.jvm_model.specs.Codes.Lines.{targets_of}
 use Rattle.jvm_model.specs.Codes.Places.{is_start_in, read_from}
 use Rattle.code_admission.specs.Checks.{fault_if, first_in}
 use Rattle.code_admission.specs.Codes.{Method, cause_of, code_fault, fault_by, fits_handler, handler_fault, instr_fault, method_with, read_fault}
-use Rattle.code_admission.specs.Uses.{fits_targets, is_start}
+use Rattle.code_model.specs.Groups.{is_start}
+use Rattle.code_admission.specs.Uses.{fits_targets}
 use Rattle.code_admission.proofs.Decoded.{reading_found}
 use Rattle.jvm_model.specs.Soundness.Whole.{FitsHandler, HasSoundCode, instrs_of, is_stop}
 use Rattle.code_admission.proofs.ReadCodes.{code-read}

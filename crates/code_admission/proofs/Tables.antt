@@ -4,7 +4,8 @@ use Rattle.std.specs.Prelude.{◌==◌, unwrap_or, slice_get, slice_set}
 use Rattle.std.proofs.lemmas.Bool.{eqb-false}
 use Rattle.std.proofs.lemmas.List.{length-set, drop_more}
 use Rattle.code_model.specs.declared.instr.Instr.{Instr}
-use Rattle.code_admission.specs.Uses.{is_start, AreWithin}
+use Rattle.code_model.specs.Groups.{is_start}
+use Rattle.code_admission.specs.Uses.{AreWithin}
 
 -- something starts at this offset, by the table
 abbrev pub is_marked : List Bool → ℕ → Bool

@@ -14,7 +14,7 @@ use Rattle.stackmap_shift.specs.declared.frames.VType.TheVariants.{Uninit}
 use Rattle.stackmap_shift.specs.DebugTables.{lines_of, variables_of}
 use Rattle.stackmap_shift.specs.Frames.{frames_of}
 use Rattle.inject_events.specs.Tables.{is_named}
-use Rattle.code_admission.specs.Uses.{is_start}
+use Rattle.code_model.specs.Groups.{is_start}
 
 -- ---- frames
 

@@ -27,7 +27,8 @@ use Rattle.code_admission.specs.declared.error.CodeCause.TheVariants as cause
 use Rattle.code_admission.specs.Checks.{fault_if, first_of, first_in, first_from}
 use Rattle.code_admission.specs.CodeTables.{fits_raw}
 use Rattle.code_admission.specs.Texts.{method_kinds}
-use Rattle.code_admission.specs.Uses.{fits_pool, fits_locals, fits_targets, fits_return, fits_type, is_start}
+use Rattle.code_model.specs.Groups.{is_start}
+use Rattle.code_admission.specs.Uses.{fits_pool, fits_locals, fits_targets, fits_return, fits_type}
 
 -- ---- the instructions
 

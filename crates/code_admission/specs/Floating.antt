@@ -19,7 +19,7 @@ use Rattle.code_admission.specs.declared.error.FloatingPointUse.TheVariants as p
 use Rattle.code_admission.specs.Checks.{fault_if, first_of, first_in, first_from}
 use Rattle.code_admission.specs.Codes.{readings_of}
 use Rattle.code_admission.specs.FloatingFrames.{floating_frames}
-use Rattle.code_admission.specs.Texts.{is_array_name}
+use Rattle.jvm_model.specs.Classes.Kinds.{is_array_name}
 
 -- ---- descriptors
 

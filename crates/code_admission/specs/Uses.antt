@@ -1,19 +1,20 @@
 -- What an instruction names: a constant, locals, targets, a type (JVM Specification 4.9.1, 6.5). One row an opcode or a group of them.
 use Rattle.std.specs.Prelude.{◌≡◌, ℕ, ◌<◌, ◌+◌, ◌-◌, ◌%◌, Bool, true, false, not, List, Option, Some, None, unwrap_or, slice_get, codes, nat_le, ◌==◌, ◌&&◌, ◌||◌, if◌then◌else◌}
 use Rattle.std.specs.Int.{is_in_range}
-use Rattle.std.specs.List.{AllByRecursion, list_all, list_any}
+use Rattle.std.specs.List.{AllByRecursion, list_all}
 use Rattle.std.specs.Option.{option_map_or}
 use Rattle.const_pool.specs.declared.pool.Const.{Const}
-use Rattle.const_pool.specs.declared.pool.Const.TheVariants.{Integer, Float, Long, Double, Class, Text, InterfaceMethod}
+use Rattle.const_pool.specs.declared.pool.Const.TheVariants.{Integer, Float, Long, Double, Class, Text}
 use Rattle.const_pool.specs.declared.descriptor.Kind.{Kind}
 use Rattle.const_pool.specs.declared.descriptor.Kind.TheVariants as kind
 use Rattle.const_pool.specs.Pool.{entry_at}
-use Rattle.const_pool.specs.References.{Reference, named_class, named_text, named_member, named_field, named_method}
+use Rattle.const_pool.specs.References.{Reference, named_class, named_text, named_field, named_method}
 use Rattle.code_model.specs.declared.instr.Arg.{Arg}
 use Rattle.code_model.specs.declared.instr.Arg.TheVariants as arg
 use Rattle.code_model.specs.declared.instr.Instr.{Instr}
-use Rattle.code_model.specs.Groups.{targets_of}
+use Rattle.code_model.specs.Groups.{is_start, targets_of}
 use Rattle.jvm_model.specs.Basis.Descriptors.{same_text}
+use Rattle.jvm_model.specs.Codes.Lines.{named_interface_method}
 use Rattle.code_admission.specs.declared.uses.PoolUse.{PoolUse}
 use Rattle.code_admission.specs.declared.uses.PoolUse.TheVariants as use_of
 use Rattle.code_admission.specs.declared.uses.Slots.{Slots}
@@ -50,13 +51,6 @@ abbrev pub is_wide_constant : Const → Bool
 is_wide_constant (Long n) = true
 is_wide_constant (Double n) = true
 is_wide_constant _ = false
-
-abbrev pub is_interface_method : Const → Bool
-is_interface_method (InterfaceMethod c n) = true
-is_interface_method _ = false
-
-abbrev pub named_interface_method : List Const → ℕ → Option Reference
-named_interface_method pool i = if option_map_or is_interface_method (entry_at pool i) false then named_member pool i else None
 
 -- `<init>` is named by invokespecial alone, `<clinit>` by none (2.9)
 abbrev pub may_name : ℕ → List ℕ → Bool
@@ -111,9 +105,6 @@ abbrev pub fits_locals : ℕ → Instr → Bool
 fits_locals max_locals i = option_map_or (λ (s : Slots). nat_le (s.first + s.count) max_locals) (slots_of i.op i.arg) true
 
 -- ---- targets
-
-abbrev pub is_start : List Instr → ℕ → Bool
-is_start instrs at = list_any (λ (i : Instr). i.at == at) instrs
 
 -- a table, by offset, that tells where these instructions start
 abbrev pub TellsStarts : List Instr → List Bool → Type 0

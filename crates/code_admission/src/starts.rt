@@ -2,8 +2,8 @@
 
 ghost use Rattle.std.specs.Prelude.{◌≡◌, false, replicate, IfOk};
 ghost use Rattle.std.specs.List.{list_all};
-ghost use Rattle.code_model.specs.Groups.{targets_of};
-ghost use Rattle.code_admission.specs.Uses.{is_start, AreWithin, TellsStarts};
+ghost use Rattle.code_model.specs.Groups.{targets_of, is_start};
+ghost use Rattle.code_admission.specs.Uses.{AreWithin, TellsStarts};
 
 use code_model::{Arg, Instr};
 use jf_bytes::{NoMemory, Seq};

@@ -1,7 +1,8 @@
 //! Names and descriptors (JVM Specification 4.2, 4.3) as tests.
 
 ghost use Rattle.std.specs.Prelude.{◌≡◌, IfOk};
-ghost use Rattle.code_admission.specs.Texts.{dimensions_of, is_array_name, is_class_name, is_field_text};
+ghost use Rattle.jvm_model.specs.Classes.Kinds.{is_array_name};
+ghost use Rattle.code_admission.specs.Texts.{dimensions_of, is_class_name, is_field_text};
 ghost use Rattle.code_admission.specs.Texts.{field_kind, method_kinds};
 
 use const_pool::{DescriptorError, Kind, Shape, parse_field, parse_method};

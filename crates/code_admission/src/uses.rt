@@ -8,7 +8,8 @@ ghost use Rattle.const_pool.specs.References.{named_class, named_field, named_me
 ghost use Rattle.const_pool.specs.Members.{reference_view};
 ghost use Rattle.code_admission.specs.Texts.{is_class_name, is_field_text, is_method_text};
 ghost use Rattle.code_admission.specs.Uses.{pool_use, index_of, is_loadable, is_wide_constant};
-ghost use Rattle.code_admission.specs.Uses.{named_interface_method, may_name};
+ghost use Rattle.jvm_model.specs.Codes.Lines.{named_interface_method};
+ghost use Rattle.code_admission.specs.Uses.{may_name};
 ghost use Rattle.code_admission.specs.Uses.{is_member_name, fits_member, fits_use, fits_pool};
 ghost use Rattle.code_admission.specs.Uses.{slots_from, short_slots, plain_slots, slot_count};
 ghost use Rattle.code_admission.specs.Uses.{slots_of, fits_locals};

@@ -29,7 +29,8 @@ use Rattle.code_admission.specs.Floating.{floating_fault, floating_field, floati
 use Rattle.code_admission.specs.FloatingFrames.{floating_frames}
 use Rattle.admit_check.specs.Profiling.{profiling_fault, refusal_told}
 use Rattle.admit_check.specs.Shapes.{shape_fault, has_wrong_name, has_wrong_super, has_wrong_code_count, has_wrong_constant, has_wrong_text, has_twins, is_no_super_name}
-use Rattle.code_admission.specs.Texts.{is_array_name, is_field_text, is_method_text}
+use Rattle.jvm_model.specs.Classes.Kinds.{is_array_name}
+use Rattle.code_admission.specs.Texts.{is_field_text, is_method_text}
 use Rattle.generated_programs.proofs.FineMethods.{IsFineMethod}
 use Rattle.generated_programs.proofs.FineRows.{plain_setting}
 

@@ -19,7 +19,7 @@ use Rattle.jvm_model.specs.Instructions.ConstantRules.{pushes_string}
 use Rattle.jvm_model.specs.Instructions.LocalRules.{arithmetic_exception, by_zero}
 use Rattle.jvm_model.specs.Instructions.SymbolicReference.{newly_loaded}
 use Rattle.jvm_model.specs.Instructions.ReferenceRules.{does_named}
-use Rattle.jvm_model.specs.Instructions.ObjectRules.{done, loads_element, makes, measures, place_of, stores_element, storing_of, throws, watches}
+use Rattle.jvm_model.specs.Instructions.ObjectRules.{done, loads_element, makes, measures, array_element_of, stores_element, storing_of, throws, watches}
 use Rattle.jvm_model.specs.Running.Run.{starts}
 use Rattle.jvm_model.specs.Basis.SharedState.{exception_raised}
 use Rattle.jvm_model.specs.Basis.Values.{int_of, ref_of}
@@ -77,7 +77,7 @@ sees_objects w operation.Athrow s l o = done s (throws w s (ref_of o))
 sees_objects w operation.Monitor s l o = done s (watches (ref_of o) l o)
 sees_objects w operation.Arraylength s l o = done s (measures (ref_of o) s l o)
 sees_objects w (operation.Newarray kind) s l o = makes kind (int_of o) s l o
-sees_objects w (operation.LoadElement k) s l o = done s (loads_element k (place_of o) s l o)
+sees_objects w (operation.LoadElement k) s l o = done s (loads_element k (array_element_of o) s l o)
 sees_objects w (operation.StoreElement k) s l o = stores_element w.program k (storing_of k o) s l o
 sees_objects w (operation.LdcString units) s l o = pushes_string w.program units s l o
 sees_objects w _ s l o = done s (model.Breaks false)

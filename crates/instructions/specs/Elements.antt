@@ -8,7 +8,7 @@ use Rattle.heap_objects.specs.declared.Value.TheVariants.{Int}
 use Rattle.heap_objects.specs.Heaps.{HeapView, slot_at, with_slot_at}
 use Rattle.jvm_model.specs.declared.instruction.Operation.{Operation}
 use Rattle.jvm_model.specs.declared.instruction.Operation.TheVariants as operation
-use Rattle.jvm_model.specs.Instructions.ObjectRules.{Access, ToNull, ToAnother, Outside, Inside, Storing, access_to, array_length, place_of, storing_of}
+use Rattle.jvm_model.specs.Instructions.ObjectRules.{Access, ToNull, ToAnother, Outside, Inside, Storing, access_to, array_length, array_element_of, storing_of}
 use Rattle.jvm_model.specs.Basis.Values.{as_value, ref_of}
 use Rattle.jvm_basic.specs.declared.effect.Effect.TheVariants.{Next}
 use Rattle.jvm_basic.specs.Outcomes.{GoesOn, Rule, after, effect_of}
@@ -54,7 +54,7 @@ pub record IsLoaded (line : Line) (k : Kind) (old new : Parts) : Type 0 where
   pub array : ℕ
   pub index : ℤ
   pub datum : Datum
-  pub at : place_of (top_operands old.frames.frames) ≡ Some (array, index)
+  pub at : array_element_of (top_operands old.frames.frames) ≡ Some (array, index)
   pub there : element_at (access_to k array index old.runtime.shared.heap) array old.runtime.shared.heap ≡ Some datum
   pub goes : effect_of (replaces 2 (Some (as_value datum)) line.next) old.frames ≡ Next
   pub changed : new ≡ record old { frames = after (replaces 2 (Some (as_value datum)) line.next) old.frames }

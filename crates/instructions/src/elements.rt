@@ -10,7 +10,7 @@ ghost use Rattle.heap_objects.specs.Kinds.{element_of};
 ghost use Rattle.jvm_basic.specs.Outcomes.{after, effect_of};
 ghost use Rattle.jvm_basic.specs.Rules.{replaces};
 ghost use Rattle.jvm_model.specs.Basis.Values.{as_value};
-ghost use Rattle.jvm_model.specs.Instructions.ObjectRules.{Inside, access_to, index_in, place_of};
+ghost use Rattle.jvm_model.specs.Instructions.ObjectRules.{Inside, access_to, index_in, array_element_of};
 ghost use Rattle.jvm_model.specs.Instructions.ObjectRules.{serves, serves_object, storing_of};
 ghost use Rattle.jvm_model.specs.Instructions.ObjectRules.{access_refused, loads_element};
 ghost use Rattle.jvm_model.specs.Instructions.ObjectRules.{stores_element};
@@ -154,8 +154,8 @@ fn outcome_without_element(alloc: Global, led: Led, index: i32) -> Result<Outcom
 /// The array and the index on top.
 #[tactic(auto, using(crate::proofs::Attempts::QuickElements::place_is))]
 #[inline(always)]
-fn place_of(frames: &Frames) -> Option<ArrayElement>
-    ensures { option_map place_by result ≡ place_of (top_operands frames.now.frames) }
+fn array_element_of(frames: &Frames) -> Option<ArrayElement>
+    ensures { option_map place_by result ≡ array_element_of (top_operands frames.now.frames) }
 {
     match frames.reference_and_int() {
         Some((array, index)) => Some(ArrayElement { array, index }),
@@ -237,10 +237,10 @@ pub fn load_element(
     kind: Kind,
 ) -> Result<Outcome, NoMemory>
     ensures answer { IfOk result (λ a. outcome_in_frame a frames.now ≡ asking_in_frame
-        (λ l o. loads_element kind (place_of o) runtime.now.shared l o) frames.now) }
+        (λ l o. loads_element kind (array_element_of o) runtime.now.shared l o) frames.now) }
     ensures enough { HaveOperands result frames.now }
 {
-    let Some(place) = place_of(frames) else {
+    let Some(place) = array_element_of(frames) else {
         return Ok(Outcome::Abrupt(AbruptCompletion::Breaks));
     };
     match element_at(runtime.heap(), kind, &place) {
@@ -373,7 +373,7 @@ fn slot_for(heap: &Heap, kind: Kind, place: &ArrayElement) -> Option<u32>
 #[tactic(auto, using(crate::proofs::Attempts::QuickElements::place_narrow))]
 #[inline(always)]
 fn put_element(frames: &mut Frames, datum: Datum, next: u16) -> Effect
-    requires place { IsSome (place_of (top_operands frames.old.frames)) }
+    requires place { IsSome (array_element_of (top_operands frames.old.frames)) }
     ensures effect { result
         ≡ effect_of (replaces 2 (Some (as_value datum)) next) frames.old }
     ensures frames { frames.new
@@ -394,7 +394,7 @@ pub fn pass_load(parts: &mut Parts, line: &Line, kind: Kind) -> bool
     ensures gone { result ≡ true → IsLoaded line.now kind parts.old parts.new }
     ensures kept { result ≡ false → parts.new ≡ parts.old }
 {
-    let Some(place) = place_of(&parts.frames) else {
+    let Some(place) = array_element_of(&parts.frames) else {
         return false;
     };
     let Some(datum) = element_for(parts.runtime.heap(), kind, &place) else {

@@ -22,14 +22,14 @@ use Rattle.jfluid_cli.specs.Contents.{AreFetched, IsFaultAt, SpellAlone, classes
 use Rattle.jfluid_cli.specs.Refusals.{status_of, refusal_of}
 use Rattle.jfluid_cli.specs.Runs.{SameProgram}
 use Rattle.jfluid_cli.specs.Sinks.{DevicesView, FilesView, SourceView, IsUntold}
-use Rattle.jfluid_cli.specs.Top.{IsProgram, is_among}
+use Rattle.jfluid_cli.specs.Top.{IsProgram, is_one_of}
 use Rattle.jfluid_cli.specs.Words.{Command, words_accepted, AreClaps, AreRefused}
 
 -- ---- before a session is made
 
 -- the statuses of a refusal before the input is taken
 abbrev pub is_before_the_run : ℕ → Bool
-is_before_the_run = is_among (2 ∷ 3 ∷ 7 ∷ 9 ∷ [])
+is_before_the_run = is_one_of (2 ∷ 3 ∷ 7 ∷ 9 ∷ [])
 
 -- A refusal before the input is taken.
 pub record IsBeforeTheRun (g : CallInputs) (r : Refusal) : Type 0 where

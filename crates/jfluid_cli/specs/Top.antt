@@ -29,24 +29,24 @@ status_of_ending (Some (Exited code)) = 0
 status_of_ending (Some (Uncaught class)) = 1
 status_of_ending (Some (Unverifiable method offset)) = 10
 
-abbrev pub is_among : List ℕ → ℕ → Bool
-is_among statuses status = list_any (λ s. s == status) statuses
+abbrev pub is_one_of : List ℕ → ℕ → Bool
+is_one_of statuses status = list_any (λ s. s == status) statuses
 
 -- the run was carried out up to its end or the budget
 abbrev pub is_run : ℕ → Bool
-is_run = is_among (0 ∷ 1 ∷ 4 ∷ 8 ∷ 10 ∷ [])
+is_run = is_one_of (0 ∷ 1 ∷ 4 ∷ 8 ∷ 10 ∷ [])
 
 -- nothing was made
 abbrev pub is_refused : ℕ → Bool
-is_refused = is_among (2 ∷ 3 ∷ 5 ∷ 7 ∷ 11 ∷ [])
+is_refused = is_one_of (2 ∷ 3 ∷ 5 ∷ 7 ∷ 11 ∷ [])
 
 -- the program was not admitted, so no input was taken
 abbrev pub is_unadmitted : ℕ → Bool
-is_unadmitted = is_among (2 ∷ 3 ∷ 7 ∷ [])
+is_unadmitted = is_one_of (2 ∷ 3 ∷ 7 ∷ [])
 
 -- the statuses that there are
 abbrev pub is_status : ℕ → Bool
-is_status = is_among (0 ∷ 1 ∷ 2 ∷ 3 ∷ 4 ∷ 5 ∷ 6 ∷ 7 ∷ 8 ∷ 9 ∷ 10 ∷ 11 ∷ [])
+is_status = is_one_of (0 ∷ 1 ∷ 2 ∷ 3 ∷ 4 ∷ 5 ∷ 6 ∷ 7 ∷ 8 ∷ 9 ∷ 10 ∷ 11 ∷ [])
 
 -- ---- the program
 

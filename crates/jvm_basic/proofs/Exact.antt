@@ -27,7 +27,7 @@ use Rattle.jvm_model.specs.Basis.StackForms.{forms_of}
 use Rattle.jvm_model.specs.Basis.Values.{managed_stack}
 use Rattle.jvm_model.specs.Basis.Data.{Next as Behind, Target, Back}
 use Rattle.jvm_model.specs.declared.instruction.Keys.{Keys}
-use Rattle.jvm_model.specs.Basis.Data.{Outcome as Asked, GoesOn as AsksOn, Breaks as AsksBreak}
+use Rattle.jvm_model.specs.Basis.Data as model
 use Rattle.jvm_model.specs.Codes.Lines.{value_in, slot_in, increment_in, target_in, keys_in, targets_of}
 use Rattle.jvm_model.specs.Instructions.LocalRules
 use Rattle.jvm_basic.specs.Rules.{datum_in, arithmetic_exception, goes_at, outcome_placed, needs, does, rule_by, rule_of}
@@ -50,12 +50,12 @@ at-stays : (l : Locals) (o : Operands) (place : Option ℕ) → Stays (goes_at l
 at-stays l o None = refl
 at-stays l o (Some place) = refl
 
-simple-stays : (x : Asked) (next : ℕ) (targets : List ℕ) (l : Locals) (o : Operands) → is_simple x ≡ true → Stays (outcome_placed next targets l o x)
-simple-stays (AsksOn m p Behind) next targets l o h = refl
-simple-stays (AsksOn m p (Back t)) next targets l o h = refl
-simple-stays (AsksOn m p (Target k)) next targets l o h = absurd (false≢true h)
-simple-stays (AsksBreak false) next targets l o h = refl
-simple-stays (AsksBreak true) next targets l o h = absurd (false≢true h)
+simple-stays : (x : model.Outcome) (next : ℕ) (targets : List ℕ) (l : Locals) (o : Operands) → is_simple x ≡ true → Stays (outcome_placed next targets l o x)
+simple-stays (model.GoesOn m p Behind) next targets l o h = refl
+simple-stays (model.GoesOn m p (Back t)) next targets l o h = refl
+simple-stays (model.GoesOn m p (Target k)) next targets l o h = absurd (false≢true h)
+simple-stays (model.Breaks false) next targets l o h = refl
+simple-stays (model.Breaks true) next targets l o h = absurd (false≢true h)
 simple-stays _ next targets l o h = absurd (false≢true h)
 
 needs-stays : {A : Type 0} (v : Option A) (rule : A → Rule) (l : Locals) (o : Operands) → ((x : A) → Stays (rule x l o)) → Stays (needs v rule l o)

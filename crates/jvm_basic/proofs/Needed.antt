@@ -25,7 +25,7 @@ use Rattle.jvm_model.specs.Basis.StackForms.{forms_of}
 use Rattle.jvm_model.specs.Basis.Values.{has_form, puts_on, managed_stack}
 use Rattle.jvm_model.specs.Basis.Data.{Next as Behind}
 use Rattle.jvm_model.specs.declared.instruction.Keys.{Keys}
-use Rattle.jvm_model.specs.Basis.Data.{GoesOn as AsksOn, Breaks as AsksBreak}
+use Rattle.jvm_model.specs.Basis.Data as model
 use Rattle.jvm_model.specs.Codes.Lines.{value_in, slot_in, increment_in, target_in, keys_in, targets_of}
 use Rattle.jvm_model.specs.Instructions.LocalRules
 use Rattle.jvm_basic.specs.Rules.{datum_in, goes_at, outcome_placed, going, needs, loads, stores, increments, branches, target_chosen, switches, goes_back, does, rule_by, rule_of}
@@ -106,7 +106,7 @@ given-breaks : {A : Type 0} (v : Option A) (rule : A → Rule) (l : Locals) (o :
 given-breaks None rule l o each = refl
 given-breaks (Some x) rule l o each = each x
 
-choice-breaks : (b : Bool) (next : ℕ) (m l : Locals) (p o : Operands) → breaks (outcome_placed next [] l o (if b then AsksOn m p Behind else AsksBreak false)) ≡ not b
+choice-breaks : (b : Bool) (next : ℕ) (m l : Locals) (p o : Operands) → breaks (outcome_placed next [] l o (if b then model.GoesOn m p Behind else model.Breaks false)) ≡ not b
 choice-breaks true next m l p o = refl
 choice-breaks false next m l p o = refl
 

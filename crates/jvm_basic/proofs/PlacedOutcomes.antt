@@ -18,7 +18,7 @@ use Rattle.jvm_model.specs.declared.instruction.Keys.{Keys}
 use Rattle.jvm_model.specs.declared.instruction.Local.{Local}
 use Rattle.jvm_model.specs.declared.instruction.Local.TheVariants.{Constant, Load, Store, Iinc, Branch, Goto, Jsr, Ret, Switch}
 use Rattle.jvm_model.specs.Basis.Data.{Next as Behind, Target, Back}
-use Rattle.jvm_model.specs.Basis.Data.{Outcome as Asked, GoesOn as AsksOn, Breaks as AsksBreak}
+use Rattle.jvm_model.specs.Basis.Data as model
 use Rattle.jvm_model.specs.Codes.Lines.{value_in, slot_in, increment_in, target_in, keys_in, targets_of}
 use Rattle.jvm_model.specs.Instructions.LocalRules
 use Rattle.jvm_model.specs.Basis.StackForms.{forms_of}
@@ -29,20 +29,20 @@ use Rattle.jvm_basic.specs.Rules.{datum_in, outcome_placed, going, needs, does, 
 -- ---- outcomes that name no target
 
 -- it goes on behind the instruction or back, or breaks
-abbrev pub is_simple : Asked → Bool
-is_simple (AsksOn l o Behind) = true
-is_simple (AsksOn l o (Back t)) = true
-is_simple (AsksBreak false) = true
+abbrev pub is_simple : model.Outcome → Bool
+is_simple (model.GoesOn l o Behind) = true
+is_simple (model.GoesOn l o (Back t)) = true
+is_simple (model.Breaks false) = true
 is_simple _ = false
 
-pub simple-any : (x : Asked) (next : ℕ) (targets : List ℕ) (l : Locals) (o : Operands) → is_simple x ≡ true → outcome_placed next [] l o x ≡ outcome_placed next targets l o x
-simple-any (AsksOn m p Behind) next targets l o h = refl
-simple-any (AsksOn m p (Back t)) next targets l o h = refl
-simple-any (AsksOn m p (Target k)) next targets l o h = absurd (false≢true h)
-simple-any (AsksBreak b) next targets l o h = refl
+pub simple-any : (x : model.Outcome) (next : ℕ) (targets : List ℕ) (l : Locals) (o : Operands) → is_simple x ≡ true → outcome_placed next [] l o x ≡ outcome_placed next targets l o x
+simple-any (model.GoesOn m p Behind) next targets l o h = refl
+simple-any (model.GoesOn m p (Back t)) next targets l o h = refl
+simple-any (model.GoesOn m p (Target k)) next targets l o h = absurd (false≢true h)
+simple-any (model.Breaks b) next targets l o h = refl
 simple-any _ next targets l o h = absurd (false≢true h)
 
-choice-simple : (b : Bool) (l : Locals) (o : Operands) → is_simple (if b then AsksOn l o Behind else AsksBreak false) ≡ true
+choice-simple : (b : Bool) (l : Locals) (o : Operands) → is_simple (if b then model.GoesOn l o Behind else model.Breaks false) ≡ true
 choice-simple true l o = refl
 choice-simple false l o = refl
 

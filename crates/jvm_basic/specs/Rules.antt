@@ -21,7 +21,7 @@ use Rattle.jvm_model.specs.declared.family.Test.{Test}
 use Rattle.jvm_model.specs.Basis.Data.{Locals, Operands, StackForm}
 use Rattle.jvm_model.specs.declared.instruction.Local.TheVariants.{Constant, Load, Iinc, Goto, Jsr, Ret, Nop}
 use Rattle.jvm_model.specs.Basis.Data.{Where, Next, Target, Back, Subroutine}
-use Rattle.jvm_model.specs.Basis.Data.{Outcome as Asked, GoesOn as AsksOn, Raises as AsksRaise, Breaks as AsksBreak}
+use Rattle.jvm_model.specs.Basis.Data as model
 use Rattle.jvm_model.specs.Basis.Descriptors.{same_text}
 use Rattle.jvm_model.specs.Basis.Families.{family_of}
 use Rattle.jvm_model.specs.Codes.Lines.{value_in, slot_in, increment_in, target_in, keys_in, local_of, targets_of}
@@ -34,7 +34,7 @@ use Rattle.jvm_basic.specs.Outcomes.{Rule, Outcome, GoesOn, Raises, Breaks, Leav
 
 -- what an instruction asks for, without places
 abbrev pub Asking : Type 0
-Asking = Locals → Operands → Asked
+Asking = Locals → Operands → model.Outcome
 
 -- the position of a class among the built-in ones
 unfoldable pub class_position : List ℕ → ℕ
@@ -54,11 +54,11 @@ place_in next targets (Target k) = slice_get targets k
 place_in next targets (Back place) = Some place
 
 -- Of a frame with these locals and operands. What ends an activation or needs more than the frame is left to others.
-abbrev pub outcome_placed : ℕ → List ℕ → Locals → Operands → Asked → Outcome
-outcome_placed next targets l o (AsksOn m p to) = goes_at m p (place_in next targets to)
+abbrev pub outcome_placed : ℕ → List ℕ → Locals → Operands → model.Outcome → Outcome
+outcome_placed next targets l o (model.GoesOn m p to) = goes_at m p (place_in next targets to)
 outcome_placed next targets l o Subroutine = goes_at l (Addr next ∷ o) (slice_get targets 0)
-outcome_placed next targets l o (AsksRaise name message) = Raises (class_position name)
-outcome_placed next targets l o (AsksBreak false) = Breaks
+outcome_placed next targets l o (model.Raises name message) = Raises (class_position name)
+outcome_placed next targets l o (model.Breaks false) = Breaks
 outcome_placed next targets l o _ = Leaves
 
 abbrev pub going : Asking → ℕ → List ℕ → Rule

@@ -37,9 +37,9 @@ impl Spent {
 
 /// The nanoseconds of a time that a clock told: 0 where it told none, and where 64 bits do not hold them.
 pub fn nanoseconds(time: io::Result<Duration>) -> u64
-    ensures told { IfOk time (λ t.
+    ensures measured { IfOk time (λ t.
         result ≡ if nat_lt (as_nanos t) (2 ^ 64) then as_nanos t else 0) }
-    ensures untold { IfErr time (λ e. result ≡ 0) }
+    ensures failed { IfErr time (λ e. result ≡ 0) }
 {
     match time {
         Ok(time) => u64::try_from(time.as_nanos()).unwrap_or(0),

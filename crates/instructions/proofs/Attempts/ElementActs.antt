@@ -11,7 +11,7 @@ use Rattle.jvm_model.specs.declared.program.Program.{Program}
 use Rattle.jvm_model.specs.declared.state.Shared.{Shared}
 use Rattle.jvm_model.specs.Basis.Data.{Locals, Operands, Next, GoesOn, Raises}
 use Rattle.jvm_model.specs.Instructions.LocalRules.{replaces}
-use Rattle.jvm_model.specs.Instructions.ObjectRules.{Access, ToNull, ToAnother, Outside, Inside, Storing, access_refused, access_to, done, fits_array, index_in, loads_at, loads_element, place_of, serves_object, storing_of, stores_at, stores_element}
+use Rattle.jvm_model.specs.Instructions.ObjectRules.{Access, ToNull, ToAnother, Outside, Inside, Storing, access_refused, access_to, done, fits_array, index_in, loads_at, loads_element, array_element_of, serves_object, storing_of, stores_at, stores_element}
 use Rattle.jvm_model.specs.Basis.SharedState.{array_store}
 use Rattle.jvm_model.specs.Basis.Values.{as_value}
 use Rattle.instructions.specs.declared.elements.Led.{Led}
@@ -67,12 +67,12 @@ no_place : (at : ℕ × ℤ) → Some at ≡ None → ⊥
 no_place at e = cc
 
 -- the element is what is asked for in the place of the two
-pub is-loaded : (k : Kind) (s : Shared) (l : Locals) (o : Operands) (r : ℕ) (i : ℤ) (d : Datum) → Some (r, i) ≡ place_of o
-    → Some d ≡ element_at (access_to k r i s.heap) r s.heap → GoesOn l (as_value d ∷ drop 2 o) Next ≡ loads_element k (place_of o) s l o
+pub is-loaded : (k : Kind) (s : Shared) (l : Locals) (o : Operands) (r : ℕ) (i : ℤ) (d : Datum) → Some (r, i) ≡ array_element_of o
+    → Some d ≡ element_at (access_to k r i s.heap) r s.heap → GoesOn l (as_value d ∷ drop 2 o) Next ≡ loads_element k (array_element_of o) s l o
 is-loaded k s l o r i d at e = loads-at (access_to k r i s.heap) r i d s l o e ∙ ap (λ x. loads_element k x s l o) at
 
 -- which are there
-pub place-enough : (o : Operands) (r : ℕ) (i : ℤ) → Some (r, i) ≡ place_of o → 2 ≤ length o
+pub place-enough : (o : Operands) (r : ℕ) (i : ℤ) → Some (r, i) ≡ array_element_of o → 2 ≤ length o
 place-enough [] r i e = absurd (no_place (r, i) e)
 place-enough (Int n ∷ []) r i e = absurd (no_place (r, i) e)
 place-enough (Long n ∷ []) r i e = absurd (no_place (r, i) e)
@@ -87,8 +87,8 @@ refused-at ToNull r i s l o e = refl
 refused-at ToAnother r i s l o e = refl
 refused-at Outside r i s l o e = refl
 
-pub is-refused : (k : Kind) (s : Shared) (l : Locals) (o : Operands) (r : ℕ) (i : ℤ) (a : Access) → Some (r, i) ≡ place_of o → None ≡ element_at (access_to k r i s.heap) r s.heap
-    → a ≡ access_to k r i s.heap → access_refused a i ≡ loads_element k (place_of o) s l o
+pub is-refused : (k : Kind) (s : Shared) (l : Locals) (o : Operands) (r : ℕ) (i : ℤ) (a : Access) → Some (r, i) ≡ array_element_of o → None ≡ element_at (access_to k r i s.heap) r s.heap
+    → a ≡ access_to k r i s.heap → access_refused a i ≡ loads_element k (array_element_of o) s l o
 is-refused k s l o r i a at e led = ap (λ x. access_refused x i) led ∙ (refused-at (access_to k r i s.heap) r i s l o e ∙ ap (λ x. loads_element k x s l o) at)
 
 -- ---- stores

@@ -16,7 +16,7 @@ use Rattle.jvm_model.specs.declared.state.State.{State}
 use Rattle.jvm_model.specs.Basis.Data.{Done, GoesOn, Locals, Next as Following, Operands, Raises}
 use Rattle.jvm_model.specs.declared.program.Program.{Program}
 use Rattle.jvm_model.specs.declared.instruction.Operation.TheVariants as operation
-use Rattle.jvm_model.specs.Instructions.ObjectRules.{done, Storing, access_to, array_length, fits_array, loads_element, measures, place_of, stores_at, stores_element, storing_of}
+use Rattle.jvm_model.specs.Instructions.ObjectRules.{done, Storing, access_to, array_length, fits_array, loads_element, measures, array_element_of, stores_at, stores_element, storing_of}
 use Rattle.jvm_model.specs.Running.Run.{step, steps_at, steps_on}
 use Rattle.jvm_model.specs.Instructions.LocalRules.{replaces as gives_way}
 use Rattle.jvm_model.specs.Basis.SharedState.{array_store, null_pointer}
@@ -108,20 +108,20 @@ module _ (w : Setup) (run : CanRun w) (line : Line) where
     abbrev rule : Rule
     rule = replaces 2 (Some (as_value is.datum)) line.next
 
-    load-asks : (fs : List PlacedFrame) → place_of (top_operands fs) ≡ Some (is.array, is.index) → (l : Locals)
-        → loads_element k (place_of (top_operands fs)) old.runtime.shared l (top_operands fs) ≡ GoesOn l (as_value is.datum ∷ drop 2 (top_operands fs)) Following
+    load-asks : (fs : List PlacedFrame) → array_element_of (top_operands fs) ≡ Some (is.array, is.index) → (l : Locals)
+        → loads_element k (array_element_of (top_operands fs)) old.runtime.shared l (top_operands fs) ≡ GoesOn l (as_value is.datum ∷ drop 2 (top_operands fs)) Following
     load-asks fs at l =
         ap (λ x. loads_element k x old.runtime.shared l (top_operands fs)) at
         ∙ sym (loads-at (access_to k is.array is.index old.runtime.shared.heap) is.array is.index is.datum old.runtime.shared l (top_operands fs) (sym is.there))
 
-    load-quiet : (fs : List PlacedFrame) (ms : List Initialization) → place_of (top_operands fs) ≡ Some (is.array, is.index) → IsAtInstruction (length fs) ms old → StandsAt w fs line
+    load-quiet : (fs : List PlacedFrame) (ms : List Initialization) → array_element_of (top_operands fs) ≡ Some (is.array, is.index) → IsAtInstruction (length fs) ms old → StandsAt w fs line
         → (step w.world (listing_of w.versions) (with_initializations ms (state_with fs old))).changes ≡ []
     load-quiet [] ms at at_instruction stands = absurd stands
     load-quiet (f ∷ fs) ms at at_instruction stands =
         step-at old ms f fs at_instruction stands
         (line-load-quiet w line k (under old ms fs) (frame_in f) f.locals (as_value is.datum ∷ drop 2 f.operands) loads (load-asks (f ∷ fs) at f.locals) at_instruction.ending at_instruction.thrown)
 
-    load-done : (fs : List PlacedFrame) → StandsAt w fs line → place_of (top_operands fs) ≡ Some (is.array, is.index)
+    load-done : (fs : List PlacedFrame) → StandsAt w fs line → array_element_of (top_operands fs) ≡ Some (is.array, is.index)
         → effect_of rule (record { frames = fs; room = old.frames.room }) ≡ Next
         → state_with (frames_in (outcome_asked rule fs) fs) old ≡ on_top (acts w line) old fs
     load-done [] stands at goes = absurd stands

@@ -28,7 +28,7 @@ use Rattle.jvm_model.specs.declared.instruction.Operation.TheVariants.{Within, N
 use Rattle.jvm_model.specs.Codes.Lines.{ends, is_last, targets_of}
 use Rattle.jvm_model.specs.Instructions.LocalRules.{arithmetic_exception, by_zero, divides_these, goes_if, holds, tests, switches_on, goes_back, replaces, returns, returns_datum, within}
 use Rattle.jvm_model.specs.Classes.Lookup.{is_below}
-use Rattle.jvm_model.specs.Instructions.ObjectRules.{Access, ToNull, ToAnother, Outside, Inside, Storing, access_to, done, fits_array, loads_at, loads_element, makes, measures, place_of, stores_at, stores_element, storing_of, throws, watches}
+use Rattle.jvm_model.specs.Instructions.ObjectRules.{Access, ToNull, ToAnother, Outside, Inside, Storing, access_to, done, fits_array, loads_at, loads_element, makes, measures, array_element_of, stores_at, stores_element, storing_of, throws, watches}
 use Rattle.jvm_model.specs.Instructions.Does.{does, loads}
 use Rattle.jvm_model.specs.Instructions.SymbolicReference.{newly_loaded}
 use Rattle.jvm_model.specs.Instructions.ReferenceRules.{does_named}
@@ -426,8 +426,8 @@ op-acts w line s f (Newarray kind) none tied =
     (makes-silent kind (int_of f.operands) s.shared f.locals f.operands))
 op-acts w line s f (LoadElement k) none tied =
     acted w line s f (LoadElement k) (LoadElement k) tied.kept
-    (asked-acts w line (LoadElement k) s f (loads_element k (place_of f.operands) s.shared f.locals f.operands) refl
-    (stays-starts _ (loads-stays k (place_of f.operands) s.shared f.locals f.operands)))
+    (asked-acts w line (LoadElement k) s f (loads_element k (array_element_of f.operands) s.shared f.locals f.operands) refl
+    (stays-starts _ (loads-stays k (array_element_of f.operands) s.shared f.locals f.operands)))
 op-acts w line s f (StoreElement k) none tied =
     acted w line s f (StoreElement k) (StoreElement k) tied.kept
     (done-acts w line (StoreElement k) s f (stores_element w.world.program k (storing_of k f.operands) s.shared f.locals f.operands) refl

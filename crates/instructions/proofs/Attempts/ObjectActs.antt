@@ -19,7 +19,7 @@ use Rattle.jvm_model.specs.Basis.Values.{int_of, ref_of}
 use Rattle.jvm_model.specs.Classes.Lookup.{is_below}
 use Rattle.jvm_model.specs.Instructions.ConstantRules.{pushes_string}
 use Rattle.jvm_model.specs.Instructions.LocalRules.{replaces}
-use Rattle.jvm_model.specs.Instructions.ObjectRules.{Access, ToNull, ToAnother, Outside, Inside, Storing, access_to, fits_array, loads_at, loads_element, makes, measures, place_of, stores_at, stores_element, storing_of, throws, watches}
+use Rattle.jvm_model.specs.Instructions.ObjectRules.{Access, ToNull, ToAnother, Outside, Inside, Storing, access_to, fits_array, loads_at, loads_element, makes, measures, array_element_of, stores_at, stores_element, storing_of, throws, watches}
 use Rattle.jvm_model.specs.Running.Constants.{can_intern}
 use Rattle.jvm_model.specs.Running.Run.{starts}
 use Rattle.symbolic_references.specs.Runtimes.{RuntimeView, with_shared}
@@ -91,7 +91,7 @@ objects-plain w operation.Athrow s l o = thrown w s (ref_of o)
 objects-plain w operation.Monitor s l o = watched (ref_of o) l o
 objects-plain w operation.Arraylength s l o = measured (ref_of o) s l o
 objects-plain w (operation.Newarray kind) s l o = made kind (int_of o) s l o
-objects-plain w (operation.LoadElement k) s l o = loaded k (place_of o) s l o
+objects-plain w (operation.LoadElement k) s l o = loaded k (array_element_of o) s l o
 objects-plain w (operation.StoreElement k) s l o = stored w.program k (storing_of k o) s l o
 objects-plain w (operation.LdcString units) s l o = pushed w.program units s l o
 objects-plain w (operation.Within i) s l o = refl

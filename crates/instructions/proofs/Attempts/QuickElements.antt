@@ -15,13 +15,13 @@ use Rattle.heap_objects.specs.Heaps.{HeapView, kind_at, slot_at}
 use Rattle.heap_objects.specs.Kinds.{element_of}
 use Rattle.heap_objects.specs.Objects.{kind_of}
 use Rattle.jvm_model.specs.Basis.Data.{Operands}
-use Rattle.jvm_model.specs.Instructions.ObjectRules.{Inside, Outside, ToAnother, ToNull, access_to, index_in, place_of, serves, serves_object, storing_of}
+use Rattle.jvm_model.specs.Instructions.ObjectRules.{Inside, Outside, ToAnother, ToNull, access_to, index_in, array_element_of, serves, serves_object, storing_of}
 use Rattle.instructions.specs.Elements.{element_at}
 use Rattle.instructions.proofs.Attempts.ElementLemmas.{element_in, is_slot}
 
 -- ---- on top
 
-pub place_is : (o : Operands) → reference_and_int_of o ≡ place_of o
+pub place_is : (o : Operands) → reference_and_int_of o ≡ array_element_of o
 place_is [] = refl
 place_is (Int n ∷ []) = refl
 place_is (Int n ∷ Int m ∷ o) = refl
@@ -32,7 +32,7 @@ place_is (Long n ∷ o) = refl
 place_is (Ref n ∷ o) = refl
 place_is (Addr n ∷ o) = refl
 
-pub place_narrow : (o : Operands) → IsSome (place_of o) → AreNarrow 2 o
+pub place_narrow : (o : Operands) → IsSome (array_element_of o) → AreNarrow 2 o
 place_narrow (Int n ∷ Ref m ∷ o) h = (refl, (refl, tt))
 place_narrow _ h = absurd (false≢true h)
 

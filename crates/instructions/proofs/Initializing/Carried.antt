@@ -17,7 +17,7 @@ use Rattle.jvm_model.specs.Running.Applies.{still, breaks, place_of, enters_subr
 use Rattle.jvm_model.specs.Instructions.ConstantRules.{pushes_string}
 use Rattle.jvm_model.specs.Basis.Data.{Operands, Listing, Instruction, Outcome, GoesOn, Subroutine, Invokes, Returns, Throws, Raises, Initializes, Exits, Breaks, Turn}
 use Rattle.jvm_model.specs.Instructions.LocalRules.{arithmetic_exception, by_zero, returns}
-use Rattle.jvm_model.specs.Instructions.ObjectRules.{loads_element, makes, measures, place_of as element_of, stores_element, storing_of, throws, watches}
+use Rattle.jvm_model.specs.Instructions.ObjectRules.{loads_element, makes, measures, array_element_of as element_of, stores_element, storing_of, throws, watches}
 use Rattle.jvm_model.specs.Basis.SharedState.{Allocated, exception_raised, stack_overflow}
 use Rattle.jvm_model.specs.Basis.Values.{as_value, int_of, ref_of, with_value}
 use Rattle.jvm_basic.specs.Outcomes.{Outcome as Comes, GoesOn as Goes, Raises as Divides, Breaks as Fails, Leaves}

@@ -21,7 +21,7 @@ use Rattle.jvm_model.specs.Codes.Lines.{targets_of}
 use Rattle.jvm_model.specs.Basis.Values.{ref_of}
 use Rattle.jvm_model.specs.Instructions.LocalRules.{within}
 use Rattle.jvm_model.specs.Running.Moves.{moves_left, move, moves, turn_settled}
-use Rattle.jvm_model.specs.Instructions.ObjectRules.{done, loads_element, measures, place_of as element_of, stores_element, storing_of}
+use Rattle.jvm_model.specs.Instructions.ObjectRules.{done, loads_element, measures, array_element_of as element_of, stores_element, storing_of}
 use Rattle.jvm_model.specs.Running.Run.{goes_again, loaded_turn, starts, step, steps_at, steps_by, steps_on, tries, with_loaded}
 use Rattle.jvm_model.proofs.Running.QuietSettles.{stops}
 use Rattle.jvm_basic.specs.declared.effect.Effect.TheVariants.{Next}

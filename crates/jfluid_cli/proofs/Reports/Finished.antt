@@ -24,7 +24,7 @@ use Rattle.jfluid_cli.specs.Stages.{IsCarried, IsWordsRefusal}
 use Rattle.jfluid_cli.specs.Origins.{HasOrigin, IsOnlyProgram}
 use Rattle.jfluid_cli.specs.Refusals.{status_of, refusal_line, IsNameless}
 use Rattle.jfluid_cli.specs.Runs.{ending_at, world_on}
-use Rattle.jfluid_cli.specs.Top.{IsProgram, answer_for, is_among, is_refused, is_run, is_status, status_of_ending}
+use Rattle.jfluid_cli.specs.Top.{IsProgram, answer_for, is_one_of, is_refused, is_run, is_status, status_of_ending}
 use Rattle.jfluid_cli.specs.Words.{Command, words_accepted, asks_images, budget_of, command_of, file_words, is_generated, plan_word, words_in}
 use Rattle.jfluid_cli.proofs.Runs.Carried.{carried-before_the_run, files-said, memory-refused, plan-said}
 use Rattle.jfluid_cli.proofs.Runs.BeforeTheRun.{due-words, no-fault}
@@ -213,7 +213,7 @@ file-only c r refused unfit without_fault =
     (λ eleven. absurd (not-unfit g (program-told g r refused.cause (subst is_late (sym eleven) refl)) unfit))
   where
     is_late : ℕ → Type 0
-    is_late s = is_among (5 ∷ 6 ∷ 11 ∷ []) s ≡ true
+    is_late s = is_one_of (5 ∷ 6 ∷ 11 ∷ []) s ≡ true
 
 input-only : (c : Call) (r : Refusal) → IsTrueOf c → IsRefused c r → HasLongInput (given_of c) → FilesWithoutFault c
     → InputWithoutFault c → (status_of r ≡ 11) ⊎ (status_of r ≡ 9)

@@ -17,7 +17,7 @@ use Rattle.jfluid_cli.specs.Causes.{CallInputs, Accepts, AreContentsOf, HasLongI
 use Rattle.jfluid_cli.specs.Contents.{AreContentsBy, AreToldAs}
 use Rattle.jfluid_cli.specs.Origins.{HasOrigin}
 use Rattle.jfluid_cli.specs.Refusals.{status_of}
-use Rattle.jfluid_cli.specs.Top.{HasNoProgram, IsProgram, is_among}
+use Rattle.jfluid_cli.specs.Top.{HasNoProgram, IsProgram, is_one_of}
 use Rattle.jfluid_cli.specs.Words.{Command, words_accepted}
 use Rattle.jfluid_cli.proofs.Commands.Accepted.{accepted-claps, accepted-refused}
 use Rattle.jfluid_cli.proofs.Commands.OneCommand.{not-misplanned, one-command}
@@ -190,7 +190,7 @@ three-refused g NoMemory p cause three a = absurd cc
 three-refused g InputTooLong p cause three a = absurd cc
 
 -- 5, 6 and 11 come only where a program is told
-pub program-told : (g : CallInputs) (r : Refusal) → Because g r → is_among (5 ∷ 6 ∷ 11 ∷ []) (status_of r) ≡ true
+pub program-told : (g : CallInputs) (r : Refusal) → Because g r → is_one_of (5 ∷ 6 ∷ 11 ∷ []) (status_of r) ≡ true
     → OfProgram g
 program-told g InputFailed cause late = cause
 program-told g OutFailed cause late = cause

@@ -12,12 +12,12 @@ use Rattle.jvm_model.specs.declared.state.Entry.{Entry}
 use Rattle.jvm_model.specs.declared.state.Entry.TheVariants.{Active, Initializing}
 use Rattle.jvm_model.specs.declared.state.Frame.{Frame}
 use Rattle.jvm_model.specs.Turns.InHand.{original_of}
-use Rattle.jvm_model.specs.Codes.Moved.{moved_stack, self}
+use Rattle.jvm_model.specs.Codes.Moved.{moved_stack, at_homes}
 use Rattle.jvm_model.specs.Codes.Originals.{original}
 use Rattle.jvm_model.specs.Turns.Pauses.{is_end, later_of}
 use Rattle.jvm_model.specs.Turns.Rest.{Attempt, Todo}
 use Rattle.jvm_model.specs.Running.Run.{turn}
-use Rattle.jvm_model.specs.Rewriting.StandsForRun.{at_homes, versions_forgotten, norm_by}
+use Rattle.jvm_model.specs.Rewriting.StandsForRun.{versions_forgotten, norm_by}
 use Rattle.jvm_model.specs.Turns.StepPauses.{Awaits, is_at_return}
 use Rattle.jvm_model.specs.Turns.Told.{frame_held, helds}
 use Rattle.interpreter.specs.declared.turns.hands.Gone.{Gone}
@@ -77,7 +77,7 @@ module _ (w : Setup) (hand : Hand) (clock : ℕ) (s : State) (is : IsMachine w h
   by None (Active f ∷ below) e back =
       let there : s.stack ≡ stack_in (Active f ∷ below) = stack-is ∙ ap stack_in e in
       let runs = (subst (λ z. IsSoundStack z) there sound.stack).0.1.0 in
-      let placed = same-frame _ f _ below (ap (moved_stack (self (norm_by (method_of w.versions) (places_of w.world.program)))) (sym e) ∙ (in_hand.placed ∙ e)) in
+      let placed = same-frame _ f _ below (ap (moved_stack (at_homes (norm_by (method_of w.versions) (places_of w.world.program)))) (sym e) ∙ (in_hand.placed ∙ e)) in
       record {
         current = frame_held (mark_of w.versions) f;
         others = helds (mark_of w.versions) (stack_in below);

@@ -8,7 +8,8 @@ use Rattle.jvm_model.specs.declared.state.Entry.TheVariants.{Active, Initializin
 use Rattle.jvm_model.specs.declared.state.State.{State}
 use Rattle.jvm_model.specs.Running.Applies.{live_in}
 use Rattle.jvm_model.specs.Running.Run.{before, run}
-use Rattle.jvm_model.specs.Rewriting.StandsForRun.{at_homes, versions_forgotten}
+use Rattle.jvm_model.specs.Codes.Moved.{at_homes}
+use Rattle.jvm_model.specs.Rewriting.StandsForRun.{versions_forgotten}
 use Rattle.jvm_model.specs.Turns.Told.{helds}
 use Rattle.jvm_model.proofs.Relocated.AppliesMoves.{live-moves}
 use Rattle.interpreter.specs.declared.turns.hands.Hand.{Hand}

@@ -20,7 +20,7 @@ use Rattle.jvm_model.specs.Running.Run.{arguments_made, before, loaded_turn, mai
 use Rattle.jvm_model.specs.Basis.SharedState.{arguments_fit}
 use Rattle.jvm_model.specs.Rewriting.StandsFor.{mark_at}
 use Rattle.jvm_model.specs.Rewriting.StandsForRun.{StandsFor}
-use Rattle.jvm_model.specs.Turns.StepPauses.{IsLoaded}
+use Rattle.jvm_model.specs.Turns.StepPauses.{NeedsNoLoad}
 use Rattle.jvm_model.specs.Turns.Told.{Held, held_after, helds}
 use Rattle.jvm_model.proofs.Relocated.ClosedPrograms.{program-agrees}
 use Rattle.jvm_model.proofs.Turns.HandBegins.{begin-loads, hand-begins, hand-starts}
@@ -153,7 +153,7 @@ module _ (w : Setup) (homes : ℕ → ℕ → ℕ) (has : HasVersions w homes) w
       (versions-agree w.world.program (places_of w.world.program) homes w.versions has.are) s (original_of (versioned_in w homes) h.between) stands
       ∙ loaded-by hand.moves attempt h.loaded)
     where
-      loaded-by : (moves : Bool) → moves ≡ false → IsLoaded w.world t (todo_of moves) (original_of (versioned_in w homes) h.between) → step_loads w.world t (original_of (versioned_in w homes) h.between) ≡ []
+      loaded-by : (moves : Bool) → moves ≡ false → NeedsNoLoad w.world t (todo_of moves) (original_of (versioned_in w homes) h.between) → step_loads w.world t (original_of (versioned_in w homes) h.between) ≡ []
       loaded-by true e is = absurd (let f : true ≡ false = e in cc)
       loaded-by false e is = is
 

@@ -12,7 +12,7 @@ use Rattle.jvm_model.specs.Basis.Values.{as_value, datum_of, int_of, ref_of, dat
 use Rattle.jvm_model.specs.Basis.SharedState.{class_of, throwable, null_pointer, array_store}
 use Rattle.jvm_model.specs.Classes.Lookup.{is_below}
 use Rattle.jvm_model.specs.Instructions.LocalRules.{replaces}
-use Rattle.jvm_model.specs.Instructions.ObjectRules.{done, array_length, measures, makes_array, makes, Access, ToNull, ToAnother, Outside, Inside, access_to, loads_at, place_of, loads_element, fits_array, stores_at, Storing, storing_of, stores_element, watches, throws}
+use Rattle.jvm_model.specs.Instructions.ObjectRules.{done, array_length, measures, makes_array, makes, Access, ToNull, ToAnother, Outside, Inside, access_to, loads_at, array_element_of, loads_element, fits_array, stores_at, Storing, storing_of, stores_element, watches, throws}
 use Rattle.jvm_model.specs.Instructions.Rules.{when_ready}
 use Rattle.jvm_model.specs.Codes.Moved.{moved_value, moved_locals, moved_operands, moved_outcome, moved_done}
 use Rattle.jvm_model.proofs.Relocated.WithinMoves.{found-moves, kind-moves}
@@ -68,7 +68,7 @@ module _ (h : ℕ → ℕ) where
   ref_of-moves (Ref r ∷ below) = refl
   ref_of-moves _ = refl
 
-  pub place_of-moves : (o : Operands) → place_of (moved_operands h o) ≡ place_of o
+  pub place_of-moves : (o : Operands) → array_element_of (moved_operands h o) ≡ array_element_of o
   place_of-moves (Int i ∷ Ref r ∷ below) = refl
   place_of-moves _ = refl
 

@@ -15,7 +15,7 @@ use Rattle.jvm_model.specs.Codes.Lines.{code_instruction, instruction_of, method
 use Rattle.jvm_model.specs.Basis.Methods.{method_code}
 use Rattle.jvm_model.specs.Codes.Originals.{original}
 use Rattle.jvm_model.specs.Codes.Closed.{IsClosed, norm_of}
-use Rattle.jvm_model.specs.Codes.Moved.{moved_stack, self}
+use Rattle.jvm_model.specs.Codes.Moved.{moved_stack, at_homes}
 use Rattle.jvm_model.specs.Running.Run.{run}
 use Rattle.jvm_model.proofs.Relocated.ClosedCode.{closed-placed}
 use Rattle.jvm_model.specs.Codes.Places.{is_place, is_start_in, method_reading, read_from}
@@ -160,7 +160,7 @@ place_in (Initializing class part ∷ below) = 0
 pub closed-stands : (w : World) → IsClosed (places_of w.program) (original w.program) → (n : ℕ) → StandsAtPlace w.program (run w n).stack
 closed-stands w closed n = by (run w n).stack (closed-placed (places_of w.program) w (original w.program) closed n)
   where
-    by : (stack : List Entry) → moved_stack (self (norm_of (places_of w.program))) stack ≡ stack → StandsAtPlace w.program stack
+    by : (stack : List Entry) → moved_stack (at_homes (norm_of (places_of w.program))) stack ≡ stack → StandsAtPlace w.program stack
     by [] e = tt
     by (Active f ∷ below) e =
         fixed-place (places_of w.program) f.version f.place (places_of w.program f.version f.place) (closed.start f.version) refl (ap place_in e)

@@ -6,8 +6,8 @@ use Rattle.jvm_model.specs.Basis.Data.{Entry, Active, Initializing, State, Turn,
 use Rattle.jvm_model.specs.Running.Applies.{still}
 use Rattle.jvm_model.specs.Running.Moves.{turn_settled}
 use Rattle.jvm_model.specs.Running.Run.{step, start}
-use Rattle.jvm_model.specs.Codes.Moved.{moved_locals, moved_operands, moved_frame, moved_stack, moved_turn, moved_instruction, moved_catcher, Agrees, self}
-use Rattle.jvm_model.specs.Rewriting.StandsForRun.{listing_named, versions_forgotten, at_homes, norm_by, StandsFor, IsOfVersions, KeepVersions}
+use Rattle.jvm_model.specs.Codes.Moved.{moved_locals, moved_operands, moved_frame, moved_stack, moved_turn, moved_instruction, moved_catcher, Agrees, at_homes}
+use Rattle.jvm_model.specs.Rewriting.StandsForRun.{listing_named, versions_forgotten, norm_by, StandsFor, IsOfVersions, KeepVersions}
 use Rattle.jvm_model.proofs.Relocated.StepMoves.{settled-moves, settled-placed, step-moves, step-placed, start-moves, start-placed}
 
 same-instruction : (i : Option Instruction) → i ≡ option_map (moved_instruction (λ place. place)) i
@@ -23,9 +23,9 @@ same-handlers : (hs : List Catcher) → hs ≡ map (moved_catcher (λ place. pla
 same-handlers [] = refl
 same-handlers (h ∷ hs) = ap (λ (l : List Catcher). h ∷ l) (same-handlers hs)
 
-module _ (norm : ℕ → ℕ → ℕ) (w : World) (t : Listing) (own : Agrees norm (self norm) t t) (method_of current : ℕ → ℕ) where
+module _ (norm : ℕ → ℕ → ℕ) (w : World) (t : Listing) (own : Agrees norm (at_homes norm) t t) (method_of current : ℕ → ℕ) where
   -- the original code under versions is placed where the original is
-  pub named-own : Agrees (norm_by method_of norm) (self (norm_by method_of norm)) (listing_named method_of current t) (listing_named method_of current t)
+  pub named-own : Agrees (norm_by method_of norm) (at_homes (norm_by method_of norm)) (listing_named method_of current t) (listing_named method_of current t)
   named-own = record {
     current = λ k. refl;
     first = λ v. own.first (method_of v);
@@ -134,11 +134,11 @@ module _ (old new : ℕ → ℕ) (olds news : ℕ → ℕ → ℕ) where
   forgotten-kept (Initializing c part ∷ below) keeps = ap (λ stack. Initializing c part ∷ stack) (forgotten-kept below keeps)
 
   pub placed-kept : (norm : ℕ → ℕ → ℕ) (stack : List Entry) → KeepVersions old new olds news stack
-      → moved_stack (self (norm_by old norm)) stack ≡ moved_stack (self (norm_by new norm)) stack
+      → moved_stack (at_homes (norm_by old norm)) stack ≡ moved_stack (at_homes (norm_by new norm)) stack
   placed-kept norm [] keeps = refl
   placed-kept norm (Active f ∷ below) keeps =
-      ap (λ (v : ℕ). Active (record f { place = norm v f.place; locals = moved_locals (norm v) f.locals; operands = moved_operands (norm v) f.operands }) ∷ moved_stack (self (norm_by old norm)) below) (sym keeps.0)
-      ∙ ap (λ stack. Active (moved_frame (self (norm_by new norm)) f) ∷ stack) (placed-kept norm below keeps.2)
+      ap (λ (v : ℕ). Active (record f { place = norm v f.place; locals = moved_locals (norm v) f.locals; operands = moved_operands (norm v) f.operands }) ∷ moved_stack (at_homes (norm_by old norm)) below) (sym keeps.0)
+      ∙ ap (λ stack. Active (moved_frame (at_homes (norm_by new norm)) f) ∷ stack) (placed-kept norm below keeps.2)
   placed-kept norm (Initializing c part ∷ below) keeps = ap (λ stack. Initializing c part ∷ stack) (placed-kept norm below keeps)
 
   pub stands_for-kept : (norm : ℕ → ℕ → ℕ) (versioned original : State) → (stands : StandsFor norm old olds versioned original) → KeepVersions old new olds news stands.between.stack

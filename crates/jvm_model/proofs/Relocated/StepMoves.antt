@@ -10,7 +10,7 @@ use Rattle.jvm_model.specs.Classes.Load.{Fault}
 use Rattle.jvm_model.specs.Running.Applies.{still, applies}
 use Rattle.jvm_model.specs.Running.Moves.{move, moves_left, then_turn, settles, turn_settled}
 use Rattle.jvm_model.specs.Running.Run.{tries, attempt, starts, is_ready, is_quiet, goes_on, goes_again, steps_by, with_loaded, loaded_turn, steps_at, steps_on, step, before, arguments_made, main_loading, main_classes, main_loads, starts_unless, run_opened, starts_if, starts_with, start, turn_in, turn_in-zero, turn_in-suc}
-use Rattle.jvm_model.specs.Codes.Moved.{Moving, moved_locals, moved_operands, moved_outcome, moved_done, moved_frame, moved_stack, state_moved, moved_turn, moved_instruction, IsPlace, ArePlaces, Agrees, self, IsPlaced}
+use Rattle.jvm_model.specs.Codes.Moved.{Moving, moved_locals, moved_operands, moved_outcome, moved_done, moved_frame, moved_stack, state_moved, moved_turn, moved_instruction, IsPlace, ArePlaces, Agrees, at_homes, IsPlaced}
 use Rattle.jvm_model.proofs.Running.Operations.{does-moves, loads-moves}
 use Rattle.jvm_model.proofs.Relocated.AppliesMoves.{applies-moves, chosen_turn-moves}
 use Rattle.jvm_model.proofs.Relocated.MovesMove.{move-moves, left-moves}
@@ -30,10 +30,10 @@ top_frame d (Active f ∷ below) = f
 top_frame d _ = d
 
 module _ (norm : ℕ → ℕ → ℕ) where
-  pub placed-state : (s : State) → IsPlaced norm s → state_moved (self norm) s ≡ s
+  pub placed-state : (s : State) → IsPlaced norm s → state_moved (at_homes norm) s ≡ s
   placed-state s e = ap (λ stack. record s { stack = stack }) e
 
-  pub placed-places : (stack : List Entry) → moved_stack (self norm) stack ≡ stack → ArePlaces norm stack
+  pub placed-places : (stack : List Entry) → moved_stack (at_homes norm) stack ≡ stack → ArePlaces norm stack
   placed-places [] e = tt
   placed-places (Active f ∷ below) e = (ap (top_place 0) e, placed-places below (ap tail_of e))
   placed-places (Initializing c part ∷ below) e = placed-places below (ap tail_of e)
@@ -45,7 +45,7 @@ module _ (norm : ℕ → ℕ → ℕ) where
   -- What an attempt needs: the frame, those below it, and the instruction are placed.
   pub record IsReadyAt (i : Instruction) (s : State) (f : Frame) : Type 0 where
     pub below : IsPlaced norm s
-    pub frame : moved_frame (self norm) f ≡ f
+    pub frame : moved_frame (at_homes norm) f ≡ f
     pub instruction : moved_instruction (norm f.version) i ≡ i
 
 -- ---- what becomes of a placed state
@@ -54,24 +54,24 @@ module _ (norm : ℕ → ℕ → ℕ) where
 pub done-placed : (h : ℕ → ℕ) (w : World) (op : Operation Local) (s : Shared) (l : Locals) (o : Operands) → moved_locals h l ≡ l → moved_operands h o ≡ o → moved_done h (does w op s l o) ≡ does w op s l o
 done-placed h w op s l o ls os = sym (does-moves h w op s l o) ∙ (ap (λ x. does w op s x (moved_operands h o)) ls ∙ ap (does w op s l) os)
 
-module _ (norm : ℕ → ℕ → ℕ) (w : World) (t : Listing) (own : Agrees norm (self norm) t t) where
+module _ (norm : ℕ → ℕ → ℕ) (w : World) (t : Listing) (own : Agrees norm (at_homes norm) t t) where
   -- what a move of a placed state gives is placed
   pub next-placed : (s : State) (next : Turn) → IsPlaced norm s → move w t s ≡ Some next → IsPlaced norm next.after
   next-placed s next placed e =
-      let law : move w t (state_moved (self norm) s) ≡ option_map (moved_turn (self norm)) (move w t s) = move-moves w (self norm) norm t t own s (placed-places norm s.stack placed) in
-      let same : Some next ≡ Some (moved_turn (self norm) next) =
-      sym e ∙ (ap (move w t) (sym (placed-state norm s placed)) ∙ (law ∙ ap (option_map (moved_turn (self norm))) e)) in
-      sym (ap (λ (a : Turn). a.after.stack) (same_Some next (moved_turn (self norm) next) same))
+      let law : move w t (state_moved (at_homes norm) s) ≡ option_map (moved_turn (at_homes norm)) (move w t s) = move-moves w (at_homes norm) norm t t own s (placed-places norm s.stack placed) in
+      let same : Some next ≡ Some (moved_turn (at_homes norm) next) =
+      sym e ∙ (ap (move w t) (sym (placed-state norm s placed)) ∙ (law ∙ ap (option_map (moved_turn (at_homes norm))) e)) in
+      sym (ap (λ (a : Turn). a.after.stack) (same_Some next (moved_turn (at_homes norm) next) same))
 
   pub applied-placed : (i : Instruction) (s : State) (f : Frame) → IsReadyAt norm i s f → (outcome : Outcome) → moved_outcome (norm f.version) outcome ≡ outcome
       → IsPlaced norm (applies w t i outcome s f).after
   applied-placed i s f at outcome fixed =
-      let there : Turn = applies w t (moved_instruction (norm f.version) i) (moved_outcome (norm f.version) outcome) (state_moved (self norm) s) (moved_frame (self norm) f) in
-      let law : there ≡ moved_turn (self norm) (applies w t i outcome s f) = applies-moves w (self norm) norm t t own i outcome s f (placed-places norm s.stack at.below) in
+      let there : Turn = applies w t (moved_instruction (norm f.version) i) (moved_outcome (norm f.version) outcome) (state_moved (at_homes norm) s) (moved_frame (at_homes norm) f) in
+      let law : there ≡ moved_turn (at_homes norm) (applies w t i outcome s f) = applies-moves w (at_homes norm) norm t t own i outcome s f (placed-places norm s.stack at.below) in
       let here : there ≡ applies w t i outcome s f =
-      ap (λ k. applies w t k (moved_outcome (norm f.version) outcome) (state_moved (self norm) s) (moved_frame (self norm) f)) at.instruction
-      ∙ (ap (λ k. applies w t i k (state_moved (self norm) s) (moved_frame (self norm) f)) fixed
-      ∙ (ap (λ k. applies w t i outcome k (moved_frame (self norm) f)) (placed-state norm s at.below)
+      ap (λ k. applies w t k (moved_outcome (norm f.version) outcome) (state_moved (at_homes norm) s) (moved_frame (at_homes norm) f)) at.instruction
+      ∙ (ap (λ k. applies w t i k (state_moved (at_homes norm) s) (moved_frame (at_homes norm) f)) fixed
+      ∙ (ap (λ k. applies w t i outcome k (moved_frame (at_homes norm) f)) (placed-state norm s at.below)
       ∙ ap (applies w t i outcome s) at.frame)) in
       ap (λ (a : Turn). a.after.stack) (sym law ∙ here)
 
@@ -147,7 +147,7 @@ module _ (norm : ℕ → ℕ → ℕ) (w : World) (t : Listing) (own : Agrees no
     loaded_turn-moves [] a = refl
     loaded_turn-moves (c ∷ more) a = refl
 
-    steps_at-moves : (s : State) (f : Frame) → IsPlaced norm s → moved_frame (self norm) f ≡ f → (i : Option Instruction) → option_map (moved_instruction (norm f.version)) i ≡ i
+    steps_at-moves : (s : State) (f : Frame) → IsPlaced norm s → moved_frame (at_homes norm) f ≡ f → (i : Option Instruction) → option_map (moved_instruction (norm f.version)) i ≡ i
         → steps_at w u (state_moved m s) (moved_frame m f) (option_map (moved_instruction (m.home f.version)) i) ≡ moved_turn m (steps_at w t s f i)
     steps_at-moves s f below frame None fixed = refl
     steps_at-moves s f below frame (Some i) fixed =
@@ -162,7 +162,7 @@ module _ (norm : ℕ → ℕ → ℕ) (w : World) (t : Listing) (own : Agrees no
         ∙ (ap (loaded_turn classes) (steps_by-moves i ready f at)
         ∙ loaded_turn-moves classes (steps_by w t i ready f (does w i.operation ready.shared f.locals f.operands))))
 
-    steps_on-moves : (s : State) (ending : Option Ending) (stack : List Entry) → moved_stack (self norm) stack ≡ stack
+    steps_on-moves : (s : State) (ending : Option Ending) (stack : List Entry) → moved_stack (at_homes norm) stack ≡ stack
         → steps_on w u (state_moved m s) ending (moved_stack m stack) ≡ moved_turn m (steps_on w t s ending stack)
     steps_on-moves s None (Active f ∷ below) placed =
         let here : IsPlace norm f.version f.place = ap (top_place 0) placed in
@@ -176,18 +176,18 @@ module _ (norm : ℕ → ℕ → ℕ) (w : World) (t : Listing) (own : Agrees no
 
 -- ---- a step elsewhere is the step, and leaves a placed state
 
-pub step-moves : (norm : ℕ → ℕ → ℕ) (w : World) (m : Moving) (t u : Listing) → Agrees norm (self norm) t t → Agrees norm m t u → (s : State) → IsPlaced norm s
+pub step-moves : (norm : ℕ → ℕ → ℕ) (w : World) (m : Moving) (t u : Listing) → Agrees norm (at_homes norm) t t → Agrees norm m t u → (s : State) → IsPlaced norm s
     → step w u (state_moved m s) ≡ moved_turn m (step w t s)
 step-moves norm w m t u own agrees s placed = steps_on-moves norm w t own m u agrees s s.ending s.stack placed
 
-pub settled-placed : (norm : ℕ → ℕ → ℕ) (w : World) (t : Listing) → Agrees norm (self norm) t t → (a : Turn) → IsPlaced norm a.after → IsPlaced norm (turn_settled w t a).after
+pub settled-placed : (norm : ℕ → ℕ → ℕ) (w : World) (t : Listing) → Agrees norm (at_homes norm) t t → (a : Turn) → IsPlaced norm a.after → IsPlaced norm (turn_settled w t a).after
 settled-placed norm w t own a placed =
-    ap (λ (b : Turn). b.after.stack) (sym (settled-moves norm w t own (self norm) t own a placed)
+    ap (λ (b : Turn). b.after.stack) (sym (settled-moves norm w t own (at_homes norm) t own a placed)
     ∙ ap (λ s. turn_settled w t (record a { after = s })) (placed-state norm a.after placed))
 
-pub step-placed : (norm : ℕ → ℕ → ℕ) (w : World) (t : Listing) → Agrees norm (self norm) t t → (s : State) → IsPlaced norm s → IsPlaced norm (step w t s).after
+pub step-placed : (norm : ℕ → ℕ → ℕ) (w : World) (t : Listing) → Agrees norm (at_homes norm) t t → (s : State) → IsPlaced norm s → IsPlaced norm (step w t s).after
 step-placed norm w t own s placed =
-    ap (λ (a : Turn). a.after.stack) (sym (step-moves norm w (self norm) t t own own s placed) ∙ ap (step w t) (placed-state norm s placed))
+    ap (λ (a : Turn). a.after.stack) (sym (step-moves norm w (at_homes norm) t t own own s placed) ∙ ap (step w t) (placed-state norm s placed))
 
 -- ---- the same of the start
 
@@ -208,25 +208,25 @@ module _ (m : Moving) (w : World) where
   pub starts-still : state_moved m (starts_with w) ≡ starts_with w
   starts-still = if-still (arguments_fit w.program)
 
-pub start-moves : (norm : ℕ → ℕ → ℕ) (w : World) (m : Moving) (t u : Listing) → Agrees norm (self norm) t t → Agrees norm m t u → start w u ≡ moved_turn m (start w t)
+pub start-moves : (norm : ℕ → ℕ → ℕ) (w : World) (m : Moving) (t u : Listing) → Agrees norm (at_homes norm) t t → Agrees norm m t u → start w u ≡ moved_turn m (start w t)
 start-moves norm w m t u own agrees =
     let classes : List ℕ = main_loads w in
     let begun : Turn = still (starts_with w) in
     ap (λ s. loaded_turn classes (turn_settled w u (still s))) (sym (starts-still m w))
-    ∙ (ap (loaded_turn classes) (settled-moves norm w t own m u agrees begun (ap (λ (s : State). s.stack) (starts-still (self norm) w)))
+    ∙ (ap (loaded_turn classes) (settled-moves norm w t own m u agrees begun (ap (λ (s : State). s.stack) (starts-still (at_homes norm) w)))
     ∙ loaded_turn-moves norm w t own m u agrees classes (turn_settled w t begun))
 
-pub start-placed : (norm : ℕ → ℕ → ℕ) (w : World) (t : Listing) → Agrees norm (self norm) t t → IsPlaced norm (start w t).after
-start-placed norm w t own = sym (ap (λ (a : Turn). a.after.stack) (start-moves norm w (self norm) t t own own))
+pub start-placed : (norm : ℕ → ℕ → ℕ) (w : World) (t : Listing) → Agrees norm (at_homes norm) t t → IsPlaced norm (start w t).after
+start-placed norm w t own = sym (ap (λ (a : Turn). a.after.stack) (start-moves norm w (at_homes norm) t t own own))
 
 -- ---- and of the run
 
-pub turn_in-placed : (norm : ℕ → ℕ → ℕ) (w : World) (t : Listing) → Agrees norm (self norm) t t → (n : ℕ) → IsPlaced norm (turn_in w t n).after
+pub turn_in-placed : (norm : ℕ → ℕ → ℕ) (w : World) (t : Listing) → Agrees norm (at_homes norm) t t → (n : ℕ) → IsPlaced norm (turn_in w t n).after
 turn_in-placed norm w t own zero = subst (λ (a : Turn). IsPlaced norm a.after) (sym (turn_in-zero w t)) (start-placed norm w t own)
 turn_in-placed norm w t own (suc n) =
     subst (λ (a : Turn). IsPlaced norm a.after) (sym (turn_in-suc w t n)) (step-placed norm w t own (turn_in w t n).after (turn_in-placed norm w t own n))
 
-pub turn_in-moves : (norm : ℕ → ℕ → ℕ) (w : World) (m : Moving) (t u : Listing) → Agrees norm (self norm) t t → Agrees norm m t u → (n : ℕ) → turn_in w u n ≡ moved_turn m (turn_in w t n)
+pub turn_in-moves : (norm : ℕ → ℕ → ℕ) (w : World) (m : Moving) (t u : Listing) → Agrees norm (at_homes norm) t t → Agrees norm m t u → (n : ℕ) → turn_in w u n ≡ moved_turn m (turn_in w t n)
 turn_in-moves norm w m t u own agrees zero = turn_in-zero w u ∙ (start-moves norm w m t u own agrees ∙ ap (moved_turn m) (sym (turn_in-zero w t)))
 turn_in-moves norm w m t u own agrees (suc n) =
     turn_in-suc w u n

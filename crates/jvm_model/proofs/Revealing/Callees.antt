@@ -39,7 +39,7 @@ use Rattle.jvm_model.specs.Instructions.ConstantRules.{pushes_object_of}
 use Rattle.jvm_model.specs.Running.Constants.{can_intern}
 use Rattle.jvm_model.specs.Instructions.Does.{does, loads}
 use Rattle.jvm_model.specs.Instructions.ReferenceRules.{does_named}
-use Rattle.jvm_model.specs.Instructions.ObjectRules.{Access, ToNull, ToAnother, Outside, Inside, Storing, access_to, done, fits_array, makes, place_of, stores_at, stores_element, storing_of}
+use Rattle.jvm_model.specs.Instructions.ObjectRules.{Access, ToNull, ToAnother, Outside, Inside, Storing, access_to, done, fits_array, makes, array_element_of, stores_at, stores_element, storing_of}
 use Rattle.jvm_model.specs.Basis.Programs.{number_of_method, place_of_method}
 use Rattle.jvm_model.specs.Instructions.Rules.{class_initialized, when_ready}
 use Rattle.jvm_model.specs.Classes.Selection.{is_abstract, is_static, method_selected}
@@ -571,7 +571,7 @@ module _ (w : World) (fit : IsFit w.program) (s : Shared) (is : IsSoundShared w.
   does-due Monitor l o nothing = watches-sound p s.loaded [] (ref_of o) l o
   does-due (Newarray kind) l o nothing = array-idle [] kind (int_of o) l o
   does-due Arraylength l o nothing = measures-sound p s.loaded [] (ref_of o) s l o
-  does-due (LoadElement k) l o nothing = element-sound p s.loaded [] k (place_of o) s l o
+  does-due (LoadElement k) l o nothing = element-sound p s.loaded [] k (array_element_of o) s l o
   does-due (StoreElement k) l o nothing = store-idle [] k (storing_of k o) l o
   does-due (LdcString units) l o nothing =
       chosen [] (can_intern units s.heap) (done (record s { heap = with_interned (kind_for p string) units s.heap }) (GoesOn l (Ref (interned_number units s.heap) ∷ o) Next))

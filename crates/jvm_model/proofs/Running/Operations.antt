@@ -2,7 +2,7 @@
 use Rattle.std.proofs.Common.{◌≡◌, ℕ, refl, ap, ◌∙◌}
 use Rattle.jvm_model.specs.Basis.Data.{Locals, Operands, Shared, World, Local, Operation, Within, Named, Athrow, Monitor, Newarray, Arraylength, LoadElement, StoreElement, LdcString}
 use Rattle.jvm_model.specs.Instructions.Does.{does, loads}
-use Rattle.jvm_model.specs.Instructions.ObjectRules.{done, measures, makes, place_of, loads_element, storing_of, stores_element, watches, throws}
+use Rattle.jvm_model.specs.Instructions.ObjectRules.{done, measures, makes, array_element_of, loads_element, storing_of, stores_element, watches, throws}
 use Rattle.jvm_model.specs.Basis.Values.{int_of, ref_of}
 use Rattle.jvm_model.specs.Codes.Moved.{moved_locals, moved_operands, moved_done}
 use Rattle.jvm_model.proofs.Relocated.WithinMoves.{within-moves}
@@ -21,7 +21,7 @@ module _ (h : ℕ → ℕ) where
   does-moves w Arraylength s l o =
       ap (λ r. done s (measures r s (moved_locals h l) (moved_operands h o))) (ref_of-moves h o) ∙ ap (done s) (measures-moves h (ref_of o) s l o)
   does-moves w (LoadElement k) s l o =
-      ap (λ at. done s (loads_element k at s (moved_locals h l) (moved_operands h o))) (place_of-moves h o) ∙ ap (done s) (loads_element-moves h k (place_of o) s l o)
+      ap (λ at. done s (loads_element k at s (moved_locals h l) (moved_operands h o))) (place_of-moves h o) ∙ ap (done s) (loads_element-moves h k (array_element_of o) s l o)
   does-moves w (StoreElement k) s l o =
       ap (λ x. stores_element w.program k x s (moved_locals h l) (moved_operands h o)) (storing_of-moves h k o) ∙ stores_element-moves h w.program k (storing_of k o) s l o
   does-moves w (LdcString units) s l o = string-moves h w.program units s l o

@@ -12,7 +12,7 @@ use Rattle.jvm_model.specs.Running.Constants.{can_intern}
 use Rattle.jvm_model.specs.Instructions.Does.{does, loads}
 use Rattle.jvm_model.specs.Instructions.LocalRules.{divides_these, goes_back, goes_if, holds, increments, leaves, pushes, replaces, returns, returns_datum, stores, switches_on, tests, within}
 use Rattle.jvm_model.specs.Classes.Lookup.{is_below}
-use Rattle.jvm_model.specs.Instructions.ObjectRules.{Access, ToNull, ToAnother, Outside, Inside, Storing, access_to, done, fits_array, loads_at, loads_element, measures, place_of, access_refused, stores_at, stores_element, storing_of, throws, watches}
+use Rattle.jvm_model.specs.Instructions.ObjectRules.{Access, ToNull, ToAnother, Outside, Inside, Storing, access_to, done, fits_array, loads_at, loads_element, measures, array_element_of, access_refused, stores_at, stores_element, storing_of, throws, watches}
 use Rattle.jvm_model.specs.Basis.SharedState.{array_store, class_of, kind_for, null_pointer, string, throwable}
 use Rattle.jvm_model.specs.Soundness.Sound.{CanAttempt, IsFit, IsSoundDone, IsSoundOutcome, IsSoundShared}
 use Rattle.jvm_model.specs.Basis.StackForms.{forms_of}
@@ -196,6 +196,6 @@ module _ (w : World) (fit : IsFit w.program) (s : Shared) (is : IsSoundShared w.
   sound-does (Newarray kind) l o can nothing =
       array-fine w fit s is kind (int_of o) l o (primitive w.program s.loaded (has-root w.program fit s.loaded is.built_in) kind can)
   sound-does Arraylength l o can nothing = quiet (measures (ref_of o) s l o) (measures-sound w.program s.loaded (ref_of o) s l o)
-  sound-does (LoadElement k) l o can nothing = quiet (loads_element k (place_of o) s l o) (element-sound w.program s.loaded k (place_of o) s l o)
+  sound-does (LoadElement k) l o can nothing = quiet (loads_element k (array_element_of o) s l o) (element-sound w.program s.loaded k (array_element_of o) s l o)
   sound-does (StoreElement k) l o can nothing = store-fine k (storing_of k o) l o
   sound-does (LdcString units) l o can nothing = string-fine units l o

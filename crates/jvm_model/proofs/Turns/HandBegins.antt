@@ -4,11 +4,11 @@ use Rattle.jvm_model.specs.Basis.Data.{Entry, Active, Initializing, State, Turn,
 use Rattle.jvm_model.specs.Running.Applies.{still}
 use Rattle.jvm_model.specs.Running.Moves.{turn_settled}
 use Rattle.jvm_model.specs.Running.Run.{step, start, with_loaded, loaded_turn, main_loads, starts_with}
-use Rattle.jvm_model.specs.Codes.Moved.{moved_stack, Agrees, self, IsPlaced}
-use Rattle.jvm_model.specs.Rewriting.StandsForRun.{versions_forgotten, at_homes, norm_by, StandsFor, IsOfVersions, KeepVersions}
+use Rattle.jvm_model.specs.Codes.Moved.{moved_stack, Agrees, at_homes, IsPlaced}
+use Rattle.jvm_model.specs.Rewriting.StandsForRun.{versions_forgotten, norm_by, StandsFor, IsOfVersions, KeepVersions}
 use Rattle.jvm_model.specs.Turns.Rest.{step_loads, Todo, Attempt, Moves, rest}
 use Rattle.jvm_model.specs.Turns.Told.{Held, helds}
-use Rattle.jvm_model.specs.Turns.StepPauses.{Awaits, IsLoaded}
+use Rattle.jvm_model.specs.Turns.StepPauses.{Awaits, NeedsNoLoad}
 use Rattle.jvm_model.specs.Turns.InHand.{Versioned, original_of, InHand, behind_load}
 use Rattle.jvm_model.proofs.Relocated.StepMoves.{starts-still}
 use Rattle.jvm_model.proofs.Relocated.StandsForRun.{at_homes-kept, forgotten-kept, placed-kept}
@@ -40,7 +40,7 @@ module _ (w : World) (t : Listing) (x y : Versioned) (turn : Turn) (passed : ℕ
         tells = ap (λ z. (rest w t todo z).changes) (sym same) ∙ h.tells;
         lives = h.lives ∙ sym marks;
         awaits = λ yes. subst (Awaits w t todo) same (h.awaits yes);
-        loaded = subst (IsLoaded w t todo) same h.loaded;
+        loaded = subst (NeedsNoLoad w t todo) same h.loaded;
       }
 
 -- ---- a step begins
@@ -57,7 +57,7 @@ loaded-stack : (classes : List ℕ) (s : State) → (with_loaded classes s).stac
 loaded-stack [] s = refl
 loaded-stack (c ∷ more) s = refl
 
-module _ (w : World) (t : Listing) (x : Versioned) (own : Agrees x.norm (self x.norm) t t) (current : ℕ → ℕ) (u : Listing) (is : IsOfVersions x.norm x.method_of current x.homes t u)
+module _ (w : World) (t : Listing) (x : Versioned) (own : Agrees x.norm (at_homes x.norm) t t) (current : ℕ → ℕ) (u : Listing) (is : IsOfVersions x.norm x.method_of current x.homes t u)
     (versioned original : State) (stands : StandsFor x.norm x.method_of x.homes versioned original) where
   -- The machine loads what the step loads, which is the step's first change; then the rest of the step is in hand.
   pub hand-begins : InHand w t x (step w t original) (behind_load (step_loads w u versioned)) false (helds x.mark_of versioned.stack) Attempt (with_loaded (step_loads w u versioned) versioned)
@@ -93,7 +93,7 @@ hand-starts w t x =
     record {
       between = starts_with w;
       versioned = sym (starts-still (at_homes x.homes) w);
-      placed = ap (λ (s : State). s.stack) (starts-still (self (norm_by x.method_of x.norm)) w);
+      placed = ap (λ (s : State). s.stack) (starts-still (at_homes (norm_by x.method_of x.norm)) w);
       same = ap (λ z. (turn_settled w t (still z)).after) (starts-still (versions_forgotten x.method_of) w) ∙ sym (load-after (main_loads w) there);
       tells = ap (λ z. (turn_settled w t (still z)).changes) (starts-still (versions_forgotten x.method_of) w) ∙ sym (drop-load (main_loads w) there);
       lives = refl;

@@ -10,7 +10,7 @@ use Rattle.jvm_model.specs.Instructions.Does.{does}
 use Rattle.jvm_model.specs.Running.Applies.{applies}
 use Rattle.jvm_model.specs.Running.Moves.{move, moves_left}
 use Rattle.jvm_model.specs.Running.Run.{starts, is_ready, goes_on}
-use Rattle.jvm_model.specs.Codes.Moved.{Moving, moved_frame, moved_stack, state_moved, moved_turn, moved_instruction, IsPlace, Agrees, self, IsPlaced}
+use Rattle.jvm_model.specs.Codes.Moved.{Moving, moved_frame, moved_stack, state_moved, moved_turn, moved_instruction, IsPlace, Agrees, at_homes, IsPlaced}
 use Rattle.jvm_model.specs.Turns.Told.{Held, frame_held, helds, mark_now}
 use Rattle.jvm_model.specs.Turns.Pauses.{Due, Nothing, Ends, Begins, unless_off, changes_due, Pause, pause_by, pauses, step_paused, passed_by}
 use Rattle.jvm_model.specs.Turns.StepPauses.{instruction_attempted, pause_behind, turn_pause, is_nothing, again_pause, leave_due, line_pause, frame_pause, stack_pause, step_pause}
@@ -22,7 +22,7 @@ use Rattle.jvm_model.proofs.Relocated.StepMoves.{placed-places, placed-state, ne
 abbrev pub moved_pause : Moving → Pause → Pause
 moved_pause m p = record p { state = state_moved m p.state }
 
-module _ (norm : ℕ → ℕ → ℕ) (w : World) (t : Listing) (own : Agrees norm (self norm) t t) (v : ℕ → Mark) where
+module _ (norm : ℕ → ℕ → ℕ) (w : World) (t : Listing) (own : Agrees norm (at_homes norm) t t) (v : ℕ → Mark) where
   module _ (m : Moving) (u : Listing) (agrees : Agrees norm m t u) (keeps : (version : ℕ) → v (m.version version) ≡ v version) where
     pub held-moves : (stack : List Entry) → helds v (moved_stack m stack) ≡ helds v stack
     held-moves [] = refl
@@ -131,12 +131,12 @@ module _ (norm : ℕ → ℕ → ℕ) (w : World) (t : Listing) (own : Agrees no
         ∙ (ap (stopped (v f.version)) (again-moves n live i s f at (starts d.outcome) (turn_pause w t v n live a))
         ∙ chosen-moves (leave_due told (v f.version) i.operation) first (again_pause w t v n live i s f (starts d.outcome) (turn_pause w t v n live a)) (moved_pause m first) _ refl refl))))
 
-    frame-moves : (told : Bool) (n : ℕ) (s : State) (f : Frame) → IsPlaced norm s → moved_frame (self norm) f ≡ f → (i : Option Instruction) → option_map (moved_instruction (norm f.version)) i ≡ i
+    frame-moves : (told : Bool) (n : ℕ) (s : State) (f : Frame) → IsPlaced norm s → moved_frame (at_homes norm) f ≡ f → (i : Option Instruction) → option_map (moved_instruction (norm f.version)) i ≡ i
         → frame_pause w u v told n (state_moved m s) (moved_frame m f) (option_map (moved_instruction (m.home f.version)) i) ≡ moved_pause m (frame_pause w t v told n s f i)
     frame-moves told n s f below frame None fixed = refl
     frame-moves told n s f below frame (Some i) fixed = line-moves told n i s f (record { below = below; frame = frame; instruction = same_Some _ _ fixed })
 
-    stack-moves : (told : Bool) (n : ℕ) (s : State) (ending : Option Ending) (stack : List Entry) → moved_stack (self norm) stack ≡ stack
+    stack-moves : (told : Bool) (n : ℕ) (s : State) (ending : Option Ending) (stack : List Entry) → moved_stack (at_homes norm) stack ≡ stack
         → stack_pause w u v told n (state_moved m s) ending (moved_stack m stack) ≡ moved_pause m (stack_pause w t v told n s ending stack)
     stack-moves told n s None (Active f ∷ below) placed =
         let here : IsPlace norm f.version f.place = ap (top_place 0) placed in
@@ -155,8 +155,8 @@ module _ (norm : ℕ → ℕ → ℕ) (w : World) (t : Listing) (own : Agrees no
 
   pub paused-placed : (n : ℕ) (s : State) → IsPlaced norm s → IsPlaced norm (step_paused w t v n s).state
   paused-placed n s placed =
-      ap (λ (p : Pause). p.state.stack) (sym (paused-moves (self norm) t own (λ version. refl) n s placed) ∙ ap (step_paused w t v n) (placed-state norm s placed))
+      ap (λ (p : Pause). p.state.stack) (sym (paused-moves (at_homes norm) t own (λ version. refl) n s placed) ∙ ap (step_paused w t v n) (placed-state norm s placed))
 
   pub step_pause-placed : (told : Bool) (n : ℕ) (s : State) → IsPlaced norm s → IsPlaced norm (step_pause w t v told n s).state
   step_pause-placed told n s placed =
-      ap (λ (p : Pause). p.state.stack) (sym (step_pause-moves (self norm) t own (λ version. refl) told n s placed) ∙ ap (step_pause w t v told n) (placed-state norm s placed))
+      ap (λ (p : Pause). p.state.stack) (sym (step_pause-moves (at_homes norm) t own (λ version. refl) told n s placed) ∙ ap (step_pause w t v told n) (placed-state norm s placed))

@@ -5,8 +5,8 @@ use Rattle.std.specs.Option.{option_map}
 use Rattle.jvm_model.specs.Basis.Data.{Frame, Entry, Active, Initializing, Ending, State, Instruction, Listing, World}
 use Rattle.jvm_model.specs.Running.Run.{with_loaded}
 use Rattle.jvm_model.specs.Turns.Rest.{loads_at, loads_on, step_loads, Todo, Attempt, Moves, rest}
-use Rattle.jvm_model.specs.Codes.Moved.{Moving, state_moved, moved_frame, moved_stack, moved_instruction, ArePlaces, Agrees, self, IsPlaced}
-use Rattle.jvm_model.specs.Rewriting.StandsForRun.{listing_named, versions_forgotten, at_homes, norm_by, StandsFor, IsOfVersions}
+use Rattle.jvm_model.specs.Codes.Moved.{Moving, state_moved, moved_frame, moved_stack, moved_instruction, ArePlaces, Agrees, at_homes, IsPlaced}
+use Rattle.jvm_model.specs.Rewriting.StandsForRun.{listing_named, versions_forgotten, norm_by, StandsFor, IsOfVersions}
 use Rattle.jvm_model.proofs.Running.Operations.{loads-moves}
 use Rattle.jvm_model.proofs.Relocated.StepMoves.{placed-places}
 use Rattle.jvm_model.proofs.Relocated.StandsForRun.{named-original, step-stands_for, step-same_changes, moves-stand_for, moves-same_changes}
@@ -47,7 +47,7 @@ loaded-stands_for norm method_of homes (c ∷ more) versioned original stands = 
 
 -- ---- what is left
 
-module _ (norm : ℕ → ℕ → ℕ) (w : World) (t : Listing) (own : Agrees norm (self norm) t t) (method_of current : ℕ → ℕ) (homes : ℕ → ℕ → ℕ) (u : Listing)
+module _ (norm : ℕ → ℕ → ℕ) (w : World) (t : Listing) (own : Agrees norm (at_homes norm) t t) (method_of current : ℕ → ℕ) (homes : ℕ → ℕ → ℕ) (u : Listing)
     (is : IsOfVersions norm method_of current homes t u) (versioned original : State) (stands : StandsFor norm method_of homes versioned original) where
   pub rest-stands_for : (l : Todo) → StandsFor norm method_of homes (rest w u l versioned).after (rest w t l original).after
   rest-stands_for Attempt = step-stands_for norm w t own method_of current homes u is versioned original stands

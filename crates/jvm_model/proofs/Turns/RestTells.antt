@@ -7,7 +7,7 @@ use Rattle.jvm_model.specs.Running.Applies.{still, applies, has_room, live_in, m
 use Rattle.jvm_model.specs.Running.Moves.{move, then_turn, turn_settled}
 use Rattle.jvm_model.specs.Running.Run.{attempt, starts, with_loaded, loaded_turn, steps_by, steps_at, steps_on}
 use Rattle.jvm_model.specs.Turns.Rest.{loads_at, loads_first, loads_on, Todo, Attempt, Moves, rest}
-use Rattle.jvm_model.specs.Turns.StepPauses.{IsLoaded}
+use Rattle.jvm_model.specs.Turns.StepPauses.{NeedsNoLoad}
 use Rattle.jvm_model.proofs.Running.Attempts.{again-by}
 use Rattle.jvm_model.proofs.Running.Settles.{settled-keeps}
 use Rattle.jvm_model.proofs.Turns.Pausing.{OneAtMost, none, one, move-one}
@@ -84,6 +84,6 @@ on-no w t s None [] e = tt
 on-no w t s None (Initializing c part ∷ below) e = tt
 on-no w t s (Some x) stack e = tt
 
-pub rest-no : (w : World) (t : Listing) (todo : Todo) (s : State) → IsLoaded w t todo s → NoLoads (rest w t todo s).changes
+pub rest-no : (w : World) (t : Listing) (todo : Todo) (s : State) → NeedsNoLoad w t todo s → NoLoads (rest w t todo s).changes
 rest-no w t Attempt s e = on-no w t s s.ending s.stack e
 rest-no w t Moves s e = settled-no w t (still s) tt

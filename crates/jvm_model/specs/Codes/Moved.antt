@@ -99,9 +99,9 @@ pub record Agrees (norm : ℕ → ℕ → ℕ) (m : Moving) (t u : Listing) : Ty
 -- ---- placed states
 
 -- each place as `norm` has it
-abbrev pub self : (ℕ → ℕ → ℕ) → Moving
-self norm = record { version = λ v. v; home = norm }
+abbrev pub at_homes : (ℕ → ℕ → ℕ) → Moving
+at_homes norm = record { version = λ v. v; home = norm }
 
 -- its frames stand at places, and all its return addresses are places
 abbrev pub IsPlaced : (ℕ → ℕ → ℕ) → State → Type 0
-IsPlaced norm s = moved_stack (self norm) s.stack ≡ s.stack
+IsPlaced norm s = moved_stack (at_homes norm) s.stack ≡ s.stack

@@ -7,7 +7,7 @@ use Rattle.jvm_model.specs.Instructions.ConstantRules.{pushes_string}
 use Rattle.jvm_model.specs.Instructions.LocalRules.{within}
 use Rattle.jvm_model.specs.Instructions.SymbolicReference.{newly_loaded}
 use Rattle.jvm_model.specs.Instructions.ReferenceRules.{does_named}
-use Rattle.jvm_model.specs.Instructions.ObjectRules.{done, loads_element, makes, measures, place_of, stores_element, storing_of, throws, watches}
+use Rattle.jvm_model.specs.Instructions.ObjectRules.{done, loads_element, makes, measures, array_element_of, stores_element, storing_of, throws, watches}
 use Rattle.jvm_model.specs.Basis.Values.{int_of, ref_of}
 
 abbrev pub does : World → Operation Local → Shared → Locals → Operands → Done
@@ -17,7 +17,7 @@ does w Athrow s l o = done s (throws w s (ref_of o))
 does w Monitor s l o = done s (watches (ref_of o) l o)
 does w (Newarray kind) s l o = makes kind (int_of o) s l o
 does w Arraylength s l o = done s (measures (ref_of o) s l o)
-does w (LoadElement k) s l o = done s (loads_element k (place_of o) s l o)
+does w (LoadElement k) s l o = done s (loads_element k (array_element_of o) s l o)
 does w (StoreElement k) s l o = stores_element w.program k (storing_of k o) s l o
 does w (LdcString units) s l o = pushes_string w.program units s l o
 

@@ -106,9 +106,9 @@ loads_at (Inside slot) r i s l o = replaces 2 (option_map as_value (slot_at r sl
 loads_at access r i s l o = access_refused access i
 
 -- an array and an index
-abbrev pub place_of : Operands → Option (ℕ × ℤ)
-place_of (Int i ∷ Ref r ∷ below) = Some (r, i)
-place_of _ = None
+abbrev pub array_element_of : Operands → Option (ℕ × ℤ)
+array_element_of (Int i ∷ Ref r ∷ below) = Some (r, i)
+array_element_of _ = None
 
 abbrev pub loads_element : Kind → Option (ℕ × ℤ) → Shared → Locals → Operands → Outcome
 loads_element k None s l o = Breaks false

@@ -3,7 +3,7 @@
 -- different versions, and the version that a method begins in may change from step to step.
 use Rattle.std.specs.Prelude.{◌≡◌, ℕ, List, [], ◌∷◌}
 use Rattle.jvm_model.specs.Basis.Data.{Entry, Active, Initializing, State, Listing}
-use Rattle.jvm_model.specs.Codes.Moved.{Moving, state_moved, Agrees, IsPlaced}
+use Rattle.jvm_model.specs.Codes.Moved.{Moving, state_moved, Agrees, IsPlaced, at_homes}
 
 -- the original code under versions: the method that each version is of, and the version that a method begins in
 abbrev pub listing_named : (ℕ → ℕ) → (ℕ → ℕ) → Listing → Listing
@@ -17,10 +17,6 @@ listing_named method_of current t = record {
 -- each frame in its method again
 abbrev pub versions_forgotten : (ℕ → ℕ) → Moving
 versions_forgotten method_of = record { version = method_of; home = λ v place. place }
-
--- each frame at the home of its place in its version
-abbrev pub at_homes : (ℕ → ℕ → ℕ) → Moving
-at_homes homes = record { version = λ v. v; home = homes }
 
 -- the places of a version, by the offsets of its method
 abbrev pub norm_by : (ℕ → ℕ) → (ℕ → ℕ → ℕ) → ℕ → ℕ → ℕ

@@ -136,11 +136,11 @@ told_from marks step true live [] = []
 told_from marks step true live (c ∷ more) = changes_told marks step (held_after marks live c) more
 
 -- What is told up to a stop: it, and no more.
-pub record IsStop (marks : ℕ → Mark) (step n : ℕ) (told : Bool) (live : List Held) (changes : List Change) (s : Stop) : Type 0 where
+pub record IsStop (marks : ℕ → Mark) (step n : ℕ) (delivered : Bool) (live : List Held) (changes : List Change) (s : Stop) : Type 0 where
   pub passed : List Change
   pub more : List Change
   pub all : changes ≡ passed ++ more
   pub count : s.passed ≡ passed_by n passed
-  pub tells : told_from marks step told live changes ≡ option_map_or (λ e. e ∷ told_from marks step (is_end s.due) s.live more) (told_at s.due step s.live) []
+  pub tells : told_from marks step delivered live changes ≡ option_map_or (λ e. e ∷ told_from marks step (is_end s.due) s.live more) (told_at s.due step s.live) []
   pub lives : all_held marks s.live more ≡ all_held marks live changes
   pub ends : s.due ≡ Nothing → more ≡ []

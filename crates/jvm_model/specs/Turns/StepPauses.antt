@@ -60,26 +60,26 @@ EndsByReturn w = (op : Operation Local) (s : Shared) (l : Locals) (o : Operands)
 
 -- a probe tells of it first, unless it has told
 abbrev pub leave_due : Bool → Mark → Operation Local → Bool
-leave_due told m op = not told && not (is_off m) && is_return op
+leave_due delivered m op = not delivered && not (is_off m) && is_return op
 
 abbrev pub line_pause : World → Listing → (ℕ → Mark) → Bool → ℕ → State → Frame → Instruction → Pause
-line_pause w t v told n s f i =
-    if leave_due told (v f.version) i.operation
+line_pause w t v delivered n s f i =
+    if leave_due delivered (v f.version) i.operation
     then record { state = record s { stack = Active f ∷ s.stack }; passed = n; due = Ends kind.Leave }
     else again_pause w t v n (frame_held v f ∷ helds v s.stack) i s f (starts (does w i.operation s.shared f.locals f.operands).outcome)
     (turn_pause w t v n (frame_held v f ∷ helds v s.stack) (instruction_attempted w t i s f))
 
 abbrev pub frame_pause : World → Listing → (ℕ → Mark) → Bool → ℕ → State → Frame → Option Instruction → Pause
-frame_pause w t v told n s f None = record { state = breaks s f 0; passed = n; due = Nothing }
-frame_pause w t v told n s f (Some i) = line_pause w t v told n s f i
+frame_pause w t v delivered n s f None = record { state = breaks s f 0; passed = n; due = Nothing }
+frame_pause w t v delivered n s f (Some i) = line_pause w t v delivered n s f i
 
 abbrev pub stack_pause : World → Listing → (ℕ → Mark) → Bool → ℕ → State → Option Ending → List Entry → Pause
-stack_pause w t v told n s None (Active f ∷ below) = frame_pause w t v told n (record s { stack = below }) f (t.at f.version f.place)
-stack_pause w t v told n s _ _ = record { state = s; passed = n; due = Nothing }
+stack_pause w t v delivered n s None (Active f ∷ below) = frame_pause w t v delivered n (record s { stack = below }) f (t.at f.version f.place)
+stack_pause w t v delivered n s _ _ = record { state = s; passed = n; due = Nothing }
 
 -- Its classes are loaded, and so many changes of the step are behind it; whether the probe before its return has told.
 abbrev pub step_pause : World → Listing → (ℕ → Mark) → Bool → ℕ → State → Pause
-step_pause w t v told n s = stack_pause w t v told n s s.ending s.stack
+step_pause w t v delivered n s = stack_pause w t v delivered n s s.ending s.stack
 
 -- a return stands there
 abbrev pub is_at_return : Listing → Option Ending → List Entry → Bool
@@ -92,18 +92,18 @@ Awaits w t Attempt s = is_at_return t s.ending s.stack ≡ true
 Awaits w t Moves s = Unwinds w t s
 
 -- what an attempt needs is loaded
-abbrev pub IsLoaded : World → Listing → Todo → State → Type 0
-IsLoaded w t Attempt s = step_loads w t s ≡ []
-IsLoaded w t Moves s = Unit {0}
+abbrev pub NeedsNoLoad : World → Listing → Todo → State → Type 0
+NeedsNoLoad w t Attempt s = step_loads w t s ≡ []
+NeedsNoLoad w t Moves s = Unit {0}
 
 -- What it has to do with the step.
-pub record IsStepPaused (w : World) (t : Listing) (v : ℕ → Mark) (told : Bool) (n : ℕ) (s : State) (p : Pause) : Type 0 where
+pub record IsStepPaused (w : World) (t : Listing) (v : ℕ → Mark) (delivered : Bool) (n : ℕ) (s : State) (p : Pause) : Type 0 where
   pub todo : Todo
   pub changes : List Change
   pub part : IsPart w t Attempt s changes todo p.state
   pub count : p.passed ≡ passed_by n changes
-  pub stops : stop_from (mark_now v t) told n (helds v s.stack) (rest w t Attempt s).changes ≡ stop_of v p
+  pub stops : stop_from (mark_now v t) delivered n (helds v s.stack) (rest w t Attempt s).changes ≡ stop_of v p
   pub ends : p.due ≡ Nothing → rest w t todo p.state ≡ still p.state
   pub awaits : is_end p.due ≡ true → Awaits w t todo p.state
-  pub loaded : IsLoaded w t todo p.state
+  pub loaded : NeedsNoLoad w t todo p.state
   pub later : (p.due ≡ Nothing → ⊥) → todo ≡ later_of p.due
