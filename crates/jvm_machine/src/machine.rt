@@ -487,6 +487,13 @@ impl Vm {
             .install(self.alloc, numbers, class, &image, homes, frames)
     }
 
+    /// Whether the start was made.
+    pub fn has_started(&self) -> bool
+        ensures { result ≡ self.now.started }
+    {
+        self.started
+    }
+
     /// The number of steps that were begun after the start.
     pub fn clock(&self) -> u64
         ensures { result ≡ self.now.clock }

@@ -11,7 +11,6 @@ use Rattle.profile_session.specs.Standing.{next_step}
 pub record Stays (old new : Parts) : Type 0 where
   pub world_is : world new.vm ≡ world old.vm
   pub acts : new.acts ≡ old.acts
-  pub started : new.started ≡ old.started
 
 -- the step is done
 pub record Finished (old : Parts) (ended : Bool) (new : Parts) : Type 0 where
@@ -104,7 +103,6 @@ pub record Makes (old : Parts) (steps : ℕ) (ended : Bool) (new : Parts) : Type
   pub world_is : world new.vm ≡ world old.vm
   pub acts : new.acts ≡ old.acts
   pub ended_is : has_ended new.vm ≡ ended
-  pub flag : new.started ≡ true
   pub started : new.vm.started ≡ true
   pub clock : ended ≡ false → new.vm.clock ≡ old.vm.clock + steps
   pub later : old.vm.clock ≤ new.vm.clock

@@ -124,7 +124,6 @@ pub record IsPoint (old : Parts) (r : Revealed) (new : Parts) : Type 0 where
   pub now : revealed_in new ≡ r
   pub fit : AreFit new
   pub shown : AreShown new
-  pub started : new.started ≡ old.started
   pub acts : new.acts ≡ old.acts
 
 -- ---- events
@@ -163,7 +162,6 @@ pub record Hears (old : Parts) (turn : Turn) (new : Parts) : Type 0 where
   pub vm : new.vm ≡ record old.vm { marks = marks_seen old.vm.program (kept_in new).seen }
   pub fit : AreFit new
   pub shown : AreShown new
-  pub started : new.started ≡ old.started
   pub acts : new.acts ≡ old.acts
 
 -- What it needs to know of an event: it is told now, no class is known that was not loaded, a method that it enters is of a known class, and it can be counted.
@@ -211,7 +209,6 @@ pub record Acts (old : Parts) (act : Act) (new : Parts) : Type 0 where
   pub vm : new.vm ≡ record old.vm { marks = marks_seen old.vm.program (kept_in new).seen }
   pub fit : AreFit new
   pub shown : AreShown new
-  pub started : new.started ≡ old.started
   pub acts : new.acts ≡ old.acts ++ act ∷ []
 
 -- the tree has taken all that was told, and the steps up to the clock

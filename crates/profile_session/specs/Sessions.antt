@@ -139,7 +139,7 @@ profiling_in broken gathered x = record {
   program = x.vm.program;
   input = x.vm.input;
   acts = x.acts;
-  started = x.started;
+  started = x.vm.started;
   broken = broken;
   clock = x.vm.clock;
   gathered = gathered;
@@ -150,7 +150,6 @@ profiling_in broken gathered x = record {
 -- they rest at a step of the run under the accepted actions
 pub record Stands (x : Parts) : Type 0 where
   pub rests : Rests x
-  pub started : x.started ≡ x.vm.started
 
 -- and the tree is theirs, where it was gathered
 pub record Holds (gathered : Bool) (x : Parts) : Type 0 where

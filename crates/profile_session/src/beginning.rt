@@ -45,6 +45,5 @@ pub fn begin(alloc: Global, vm: Box<Vm>) -> Result<Parts, NoMemory>
         depth: 0,
         swaps: Seq::new(alloc),
         acts: Seq::new(alloc),
-        started: false,
     })
 }

@@ -151,16 +151,20 @@ impl Parts {
     /// The number of the step that comes next: the start is step 0.
     fn next_number(&self) -> u64
         requires { self.now.vm.clock < 2 ^ 63 }
-        ensures { result ≡ (if self.now.started then self.now.vm.clock + 1 else 0) }
+        ensures { let v = self.now.vm in
+            result ≡ (if v.started then v.clock + 1 else 0) }
     {
-        if self.started { self.vm.clock() + 1 } else { 0 }
+        if self.vm.has_started() {
+            self.vm.clock() + 1
+        } else {
+            0
+        }
     }
 
     /// So many steps, or those up to the one in which the run ends; the first time the start too. Says whether the run has ended.
     pub fn make(&mut self, steps: u64) -> Result<bool, NoMemory>
         requires rests { Rests self.old }
         requires goes_on { has_ended self.old.vm ≡ false }
-        requires started { self.old.started ≡ self.old.vm.started }
         requires below { self.old.vm.clock + steps < 2 ^ 62 }
         ensures { MatchResult result
             (λ ended. Makes self.old steps ended self.new)
@@ -168,7 +172,6 @@ impl Parts {
     {
         let last = self.vm.clock() + steps;
         let mut next = self.next_number();
-        self.started = true;
         while next <= last {
             if self.slice(next, last)? {
                 return Ok(true);

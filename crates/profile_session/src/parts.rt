@@ -24,8 +24,8 @@ use jvm_machine::{Turn, Vm};
 use jvm_model::{Act, Event};
 use std::alloc::Global;
 
-/// The machine, what is revealed, the tree with what the buffer holds, how many paths are open, the swap list, the accepted actions,
-/// and whether the start was made.
+/// The machine, what is revealed, the tree with what the buffer holds, how many paths are open, the swap list and the accepted
+/// actions.
 #[derive(Drop)]
 pub struct Parts {
     pub alloc: Global,
@@ -36,7 +36,6 @@ pub struct Parts {
     pub depth: u64,
     pub swaps: Seq<Swap>,
     pub acts: Seq<Act>,
-    pub started: bool,
 }
 
 impl Parts {

@@ -76,7 +76,6 @@ acted-by x y act acts n is =
         room = f.room;
       };
       shown = n.shown;
-      started = n.started;
       acts = is ∙ ap (λ l. l ++ act ∷ []) n.acts;
     }
 

@@ -102,7 +102,6 @@ point-at x new r shown stays s =
       now = s.now;
       fit = s.fit;
       shown = s.shown;
-      started = ap (λ (y : Parts). y.started) s.same;
       acts = ap (λ (y : Parts). y.acts) s.same;
     }
 

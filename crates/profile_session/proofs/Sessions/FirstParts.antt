@@ -121,8 +121,8 @@ module _ (p : Program) (input : List ℕ) where
   }
 
 pub begun-stands : (x : Parts) → x.vm ≡ machine_made x.vm.program x.vm.input → CanBeProfiled x.vm.program → IsFirst x.vm x.reveal → x.tree ≡ blank → x.buffer ≡ empty 65536 → x.depth ≡ 0
-    → x.swaps ≡ [] → x.acts ≡ [] → x.started ≡ false → Stands x
-begun-stands x fresh can first tree buffer depth swaps acts started =
+    → x.swaps ≡ [] → x.acts ≡ [] → Stands x
+begun-stands x fresh can first tree buffer depth swaps acts =
     let p = x.vm.program in
     let w = world x.vm in
     let clock : x.vm.clock ≡ 0 = ap (λ (v : View). v.clock) fresh in
@@ -161,5 +161,4 @@ begun-stands x fresh can first tree buffer depth swaps acts started =
         stands = subst (λ l. AtRest l w [] (kept_in x) x.vm) (sym acts)
             (subst (λ k. AtRest [] w [] k x.vm) (sym kept) (subst (λ (v : View). AtRest [] (world v) [] (first_kept (world v)) v) (sym fresh) (first-rests p x.vm.input)));
       };
-      started = started ∙ sym (ap (λ (v : View). v.started) fresh);
     }

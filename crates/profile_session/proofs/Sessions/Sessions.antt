@@ -41,26 +41,24 @@ use Rattle.profile_session.proofs.Swaps.SwapLists.{swaps-are}
 
 -- the run's state for which the session and its machine stand
 pub run-in : (x : Parts) (b g : Bool) → Stands x → run_state x.vm ≡ run_of (profiling_in b g x)
-run-in x b g s = ap (λ b. if b then run (world x.vm) x.vm.clock else before (world x.vm)) (sym s.started)
+run-in x b g s = refl
 
 pub over-in : (x : Parts) (b g : Bool) → Stands x → has_ended x.vm ≡ is_over (profiling_in b g x)
 over-in x b g s = ap (λ (s : State). is_some s.ending) (run-in x b g s)
 
 pub made-stands : (x new : Parts) (steps : ℕ) (ended : Bool) → Makes x steps ended new → Stands new
-made-stands x new steps ended m = record { rests = m.rests; started = m.flag ∙ sym m.started }
+made-stands x new steps ended m = record { rests = m.rests }
 
 -- what is live runs the version in which it began
 pub live-in : (x : Parts) (b g : Bool) → Stands x → LiveRunOn (profiling_in b g x)
-live-in x b g s =
-    s.rests.stands.lives
-    ∙ ap (λ b. held_in (marking_of x.acts (world x.vm)) (trace_before (world x.vm) (if b then x.vm.clock + 1 else 0))) (sym s.started)
+live-in x b g s = s.rests.stands.lives
 
 pub made-by : (x new : Parts) (g : Bool) (steps : ℕ) (ended : Bool) → Stands x → is_over (profiling_in false g x) ≡ false → Makes x steps ended new
     → Advances (profiling_in false g x) steps (run_by ended) (profiling_in false false new)
 made-by x new g steps ended s going m = by ended m where
   onward : (ended : Bool) → Makes x steps ended new → Onward (profiling_in false g x) steps (profiling_in false false new)
   onward ended m = record {
-    same = ap₂ (λ (w : World) b. let v : Profiling = record (profiling_in false false new) { program = w.program; input = w.input; started = b } in v) m.world_is m.flag
+    same = ap₂ (λ (w : World) b. let v : Profiling = record (profiling_in false false new) { program = w.program; input = w.input; started = b } in v) m.world_is m.started
         ∙ ap₂ (λ acts stale. let v : Profiling = record (profiling_in false false x) { acts = acts; started = true; clock = new.vm.clock; live = new.vm.live; stale = stale } in v) m.acts
         (m.rests.is.fit.tidy ∙ sym s.rests.is.fit.tidy);
     later = m.later;
@@ -79,7 +77,7 @@ made-by x new g steps ended s going m = by ended m where
 -- ---- what stands between calls
 
 step-is : (x : Parts) (b g : Bool) → Stands x → next_step x.vm ≡ step_of (profiling_in b g x)
-step-is x b g s = ap (λ b. if b then x.vm.clock + 1 else 0) (sym s.started)
+step-is x b g s = refl
 
 kept-is : (x : Parts) (b g : Bool) → Stands x → kept_in x ≡ kept_before x.acts (world x.vm) (step_of (profiling_in b g x))
 kept-is x b g s = s.rests.stands.kept ∙ ap (kept_before x.acts (world x.vm)) (step-is x b g s)
@@ -126,8 +124,8 @@ tree-of x new b g s brings =
     let r = s.rests in
     let w = world x.vm in
     let m = marking_of x.acts w in
-    let delivered : (started : Bool) → x.started ≡ started → r.delivered ≡ told_before m w (if started then x.vm.clock + 1 else 0) =
-    λ started e. r.stands.delivered ∙ ap (λ b. told_before m w (if b then x.vm.clock + 1 else 0)) (sym s.started ∙ e) in
+    let delivered : (started : Bool) → x.vm.started ≡ started → r.delivered ≡ told_before m w (if started then x.vm.clock + 1 else 0) =
+    λ started e. r.stands.delivered ∙ ap (λ b. told_before m w (if b then x.vm.clock + 1 else 0)) e in
     let tree : new.tree ≡ steps_credited x.vm.clock (profile_of r.delivered) = brings.tree ∙ r.are.profile in
     record {
       before_the_run = λ no. ap (λ (q : Profile). q.contexts) (tree ∙ ap (λ es. steps_credited x.vm.clock (profile_of es)) (delivered false no));
@@ -156,7 +154,6 @@ brought-stands x new s b = subst Stands (sym b.same) (there b.same b.profile b.c
           are = record { profile = twice ∙ r.are.profile; calls = (let a = r.are.calls in omega (arith, a, calls_y)); order = r.are.order };
           stands = subst (λ k. AtRest x.acts (world x.vm) r.delivered k x.vm) kept r.stands;
         };
-        started = s.started;
       }
 
 pub brought-same : (x new : Parts) (b g : Bool) → Brings x new → profiling_in b g new ≡ profiling_in b g x
@@ -203,7 +200,7 @@ lends-none old new act.Ended r = r
 
 -- ---- an action
 
-pub acted-stands : (x new : Parts) (a : Act) → Stands x → a.moment ≡ x.vm.clock → (x.started ≡ true → 1 ≤ x.vm.clock) → Acts x a new → Stands new
+pub acted-stands : (x new : Parts) (a : Act) → Stands x → a.moment ≡ x.vm.clock → (x.vm.started ≡ true → 1 ≤ x.vm.clock) → Acts x a new → Stands new
 acted-stands x new a s moment late is =
     let r = s.rests in
     let w = world x.vm in
@@ -214,7 +211,7 @@ acted-stands x new a s moment late is =
     let vm : new.vm ≡ record x.vm { marks = marks_seen x.vm.program (kept_act x.vm.program (kept_in x) a).seen } =
     is.vm ∙ ap (λ (k : Kept). let v : View = record x.vm { marks = marks_seen x.vm.program k.seen } in v) kept in
     let stands : AtRest (x.acts ++ a ∷ []) w r.delivered (kept_act x.vm.program (kept_in x) a) new.vm =
-    acted w x.acts a r.delivered (kept_in x) x.vm moment (λ yes. late (s.started ∙ yes)) r.stands new.vm vm in
+    acted w x.acts a r.delivered (kept_in x) x.vm moment late r.stands new.vm vm in
     record {
       rests = record {
         is = record {
@@ -229,7 +226,6 @@ acted-stands x new a s moment late is =
             (subst (λ w. AtRest (x.acts ++ a ∷ []) w r.delivered (kept_in new) new.vm) (sym world_is)
             (subst (λ k. AtRest (x.acts ++ a ∷ []) w r.delivered k new.vm) (sym kept) stands));
       };
-      started = is.started ∙ (s.started ∙ sym (ap (λ (v : View). v.started) is.vm));
     }
 
 -- ---- which actions are refused
@@ -261,7 +257,7 @@ accepts x new v g a stands now going moment selected at none is = record {
   whole = sym (ap (λ (v : Profiling). v.broken) now);
   going = going;
   other = sym at ∙ other-is a.select selected none;
-  same = ap₂ (λ (v : View) started. let q : Profiling = record (profiling_in false false new) { program = v.program; input = v.input; started = started; clock = v.clock; live = v.live; stale = v.stale } in q) is.vm is.started
+  same = ap (λ (v : View). let q : Profiling = record (profiling_in false false new) { program = v.program; input = v.input; started = v.started; clock = v.clock; live = v.live; stale = v.stale } in q) is.vm
       ∙ (ap (λ acts. let q : Profiling = record (profiling_in false false x) { acts = acts } in q) is.acts
       ∙ (ap (λ n. let q : Profiling = record (profiling_in false false x) { acts = x.acts ++ record { moment = n; select = a.select; method = a.method } ∷ [] } in q) moment
       ∙ ap (with_act a.select a.method) now));

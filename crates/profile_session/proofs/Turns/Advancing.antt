@@ -189,7 +189,7 @@ hearable x es v turn is are stands on t tells below =
     by NoMemory t tells = tt
 
 stays-by : (x new : Parts) (v : View) (turn : Turn) → Went x.vm v → Hears (record x { vm = v }) turn new → Stays x new
-stays-by x new v turn went h = record { world_is = ap world h.vm ∙ same-world x.vm v went; acts = h.acts; started = h.started }
+stays-by x new v turn went h = record { world_is = ap world h.vm ∙ same-world x.vm v went; acts = h.acts }
 
 profiling-by : (x new : Parts) (v : View) (turn : Turn) → IsProfiling x → Went x.vm v → Hears (record x { vm = v }) turn new → IsProfiling new
 profiling-by x new v turn is went h =

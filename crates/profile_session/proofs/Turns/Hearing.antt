@@ -52,7 +52,6 @@ hears-load x new classes is n = record {
   vm = n.vm ∙ ap (λ r. let v : View = record x.vm { marks = marks_of x.vm.program r } in v) (sym n.now);
   fit = n.fit;
   shown = n.shown;
-  started = n.started;
   acts = n.acts;
 }
 
@@ -70,7 +69,6 @@ hears-quiet x new idle n =
       vm = n.vm ∙ ap (λ r. let v : View = record x.vm { marks = marks_of x.vm.program r } in v) (sym n.now);
       fit = n.fit;
       shown = n.shown;
-      started = n.started;
       acts = n.acts;
     }
 
@@ -90,12 +88,11 @@ hears-still x fit shown idle =
       vm = same-marks x fit shown;
       fit = fit;
       shown = shown;
-      started = refl;
       acts = refl;
     }
 
 pub hears-ended : (x new : Parts) → Hears x Settled new → Hears x Ended new
-hears-ended x new h = record { kept = h.kept; profile = h.profile; calls = h.calls; vm = h.vm; fit = h.fit; shown = h.shown; started = h.started; acts = h.acts }
+hears-ended x new h = record { kept = h.kept; profile = h.profile; calls = h.calls; vm = h.vm; fit = h.fit; shown = h.shown; acts = h.acts }
 
 pub ended-by : {A E : Type 0} (r : Result A E) (Q : E → Type 0) (x new : Parts) → MatchResult r (λ a. Hears x Settled new) Q → MatchResult r (λ a. Hears x Ended new) Q
 ended-by (Ok a) Q x new h = hears-ended x new h
@@ -139,7 +136,6 @@ module _ (x : Parts) (e : Event) (t : Profile) (b : Held) (d : ℕ) where
         vm = n.vm ∙ ap (λ r. let v : View = record x.vm { marks = marks_of p r } in v) (sym n.now);
         fit = n.fit;
         shown = n.shown;
-        started = n.started;
         acts = n.acts;
       }
 
@@ -154,7 +150,6 @@ module _ (x : Parts) (e : Event) (t : Profile) (b : Held) (d : ℕ) where
         vm = same-marks y fit shown;
         fit = fit;
         shown = shown;
-        started = refl;
         acts = refl;
       }
 

@@ -112,7 +112,7 @@ ran x new most turn v r on runs tells h =
     record {
       between = y;
       rests = b.rests;
-      stays = record { world_is = b.world_is; acts = refl; started = refl };
+      stays = record { world_is = b.world_is; acts = refl };
       low = omega (arith, next);
       high = omega (arith, next, most_is);
       last = after y new b.rests.delivered v turn b.rests.is b.rests.are (rests b.rests.stands) b.going runs.last tells h;
@@ -121,7 +121,7 @@ ran x new most turn v r on runs tells h =
 -- ---- from turn to turn
 
 pub then-stays : (a b c : Parts) → Stays a b → Stays b c → Stays a c
-then-stays a b c s t = record { world_is = t.world_is ∙ s.world_is; acts = t.acts ∙ s.acts; started = t.started ∙ s.started }
+then-stays a b c s t = record { world_is = t.world_is ∙ s.world_is; acts = t.acts ∙ s.acts }
 
 -- ---- many slices
 
@@ -129,53 +129,20 @@ pub record Making (first : Parts) (steps last next : ℕ) (x : Parts) : Type 0 w
   pub rests : Rests x
   pub world_is : world x.vm ≡ world first.vm
   pub acts : x.acts ≡ first.acts
-  pub flag : x.started ≡ true
   pub going : has_ended x.vm ≡ false
   pub next_is : next ≡ next_step x.vm
   pub later : first.vm.clock ≤ next
   pub last_is : last ≡ first.vm.clock + steps
   pub low : next ≤ last + 1
 
--- that the session has started is no matter of the machine
-flagged : (x : Parts) → Rests x → Rests (record x { started = true })
-flagged x r =
-    let f = r.is.fit in
-    record {
-      is = record {
-        fit = record {
-          whole = f.whole;
-          tidy = f.tidy;
-          revelation = f.revelation;
-          imageable = f.imageable;
-          root = f.root;
-          marks = f.marks;
-          depth = f.depth;
-          shallow = f.shallow;
-          few = f.few;
-          order = f.order;
-          last = f.last;
-          room = f.room;
-        };
-        shown = r.is.shown;
-        whole = r.is.whole;
-        from = r.is.from;
-      };
-      delivered = r.delivered;
-      are = record { profile = r.are.profile; calls = r.are.calls; order = r.are.order };
-      stands = r.stands;
-    }
-
-pub making-first : (x : Parts) (steps last next : ℕ) → Rests x → has_ended x.vm ≡ false → x.started ≡ x.vm.started → last ≡ x.vm.clock + steps → next ≡ (if x.started then x.vm.clock + 1 else 0)
-    → Making x steps last next (record x { started = true })
-making-first x steps last next r going flag last_is next_is =
-    let at : next ≡ next_step x.vm = next_is ∙ ap (λ b. if b then x.vm.clock + 1 else 0) flag in
+pub making-first : (x : Parts) (steps last next : ℕ) → Rests x → has_ended x.vm ≡ false → last ≡ x.vm.clock + steps → next ≡ next_step x.vm → Making x steps last next x
+making-first x steps last next r going last_is at =
     let up = next-clock x in
     let from = clock-next x r in
     record {
-      rests = flagged x r;
+      rests = r;
       world_is = refl;
       acts = refl;
-      flag = refl;
       going = going;
       next_is = at;
       later = omega (arith, at, from);
@@ -191,7 +158,6 @@ making-next first x new steps last next m le s =
       rests = s.rests;
       world_is = s.stays.world_is ∙ m.world_is;
       acts = s.stays.acts ∙ m.acts;
-      flag = s.stays.started ∙ m.flag;
       going = s.ended_is;
       next_is = sym (ap (λ b. if b then new.vm.clock + 1 else 0) s.started);
       later = (let l = m.later in let low = s.low in omega (arith, at, l, low));
@@ -212,7 +178,6 @@ making-ends first x new steps last next m le s =
       world_is = s.stays.world_is ∙ m.world_is;
       acts = s.stays.acts ∙ m.acts;
       ended_is = s.ended_is;
-      flag = s.stays.started ∙ m.flag;
       started = s.started;
       clock = λ no. absurd (let h : true ≡ false = no in cc);
       later = (let l = m.later in let low = s.low in omega (arith, at, l, low));
@@ -225,7 +190,6 @@ making-done first x steps last next m over = record {
   world_is = m.world_is;
   acts = m.acts;
   ended_is = m.going;
-  flag = m.flag;
   started = started x.vm.started refl;
   clock = λ no. clock;
   later = (let c = clock in omega (arith, c));

@@ -81,7 +81,7 @@ pub slicing-first : (x : Parts) (next last : ℕ) → Rests x → IsGoingOn x.vm
 slicing-first x next last r on at some = starts (record {
   rests = r;
   going = on;
-  stays = record { world_is = refl; acts = refl; started = refl };
+  stays = record { world_is = refl; acts = refl };
   next = refl;
   all = omega (arith, at, some);
   some = omega (arith, some);
@@ -307,7 +307,7 @@ pub record Turning (first x : Parts) : Type 0 where
   pub left : length (events_left x.vm) ≤ length (events_left first.vm)
 
 pub turning-first : (x : Parts) → IsBusy x → Turning x x
-turning-first x busy = record { busy = busy; stays = record { world_is = refl; acts = refl; started = refl }; clock = sym (busy-clock x busy); left = omega arith }
+turning-first x busy = record { busy = busy; stays = record { world_is = refl; acts = refl }; clock = sym (busy-clock x busy); left = omega arith }
 
 pub turning-busily : (first x : Parts) → Turning first x → is_idle (kept_in x).seen ≡ false → GoesBusily first x
 turning-busily first x d profiles = record { goes = record { stays = d.stays; busy = d.busy; clock = d.clock }; profiles = profiles; left = d.left }

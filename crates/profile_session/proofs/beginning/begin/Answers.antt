@@ -19,9 +19,9 @@ returns-clause-stands c =
     begun-stands _ (subst (λ (v : View). v ≡ machine_made v.program v.input) (sym c.into_inner.ensures) c.requires.fresh)
     (subst (λ (v : View). CanBeProfiled v.program) (sym c.into_inner.ensures) c.requires.profilable)
     (subst (λ (v : View). IsFirst v c.in_ok-reveal.reveal) (c.deref.ensures ∙ sym c.into_inner.ensures) c.in_ok-reveal.ensures)
-    c.new-2.ensures c.in_ok-buffer.ensures refl c.new-3.ensures c.new-4.ensures refl
+    c.new-2.ensures c.in_ok-buffer.ensures refl c.new-3.ensures c.new-4.ensures
 
 pub returns-clause-seen : goal.returns-clause-seen
 returns-clause-seen c =
-    ap₂ (λ (v : View) acts. let q : Profiling = record (profiling_of v.program v.input) { acts = acts; clock = v.clock; live = v.live; stale = v.stale } in q) c.into_inner.ensures c.new-4.ensures
-    ∙ ap (λ (v : View). let q : Profiling = record (profiling_of c.args.vm.value.program c.args.vm.value.input) { clock = v.clock; live = v.live; stale = v.stale } in q) c.requires.fresh
+    ap₂ (λ (v : View) acts. let q : Profiling = record (profiling_of v.program v.input) { acts = acts; started = v.started; clock = v.clock; live = v.live; stale = v.stale } in q) c.into_inner.ensures c.new-4.ensures
+    ∙ ap (λ (v : View). let q : Profiling = record (profiling_of c.args.vm.value.program c.args.vm.value.input) { started = v.started; clock = v.clock; live = v.live; stale = v.stale } in q) c.requires.fresh

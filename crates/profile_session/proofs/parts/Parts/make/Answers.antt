@@ -5,7 +5,7 @@ use Rattle.profile_session.proofs.parts.Parts.make.Goals as goal
 
 pub loop-next-init : goal.loop-next-init
 loop-next-init c =
-    making-first c.args.self.now c.args.steps (c.clock.result + c.args.steps) c.next_number-next.result c.requires.rests c.requires.goes_on c.requires.started
+    making-first c.args.self.now c.args.steps (c.clock.result + c.args.steps) c.next_number-next.result c.requires.rests c.requires.goes_on
     (ap (λ n. n + c.args.steps) c.clock.ensures) c.next_number-next.ensures
 
 pub slice-requires-clause-next : goal.slice-requires-clause-next
