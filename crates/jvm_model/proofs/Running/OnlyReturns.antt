@@ -45,7 +45,7 @@ use Rattle.jvm_model.specs.Classes.Lookup.{resolved_field, resolved_method}
 use Rattle.jvm_model.specs.Instructions.SymbolicReference.{is_instance, is_null, resolved_kind, New, Getfield, Putfield, Getstatic, Putstatic, Invokevirtual, Invokespecial, Invokestatic, Invokeinterface, Checkcast, Instanceof, Anewarray, Multianewarray, LdcClass}
 use Rattle.jvm_model.specs.Instructions.ReferenceRules.{does_named}
 use Rattle.jvm_model.specs.Instructions.NativeRules.{kinds_in, outcome_of, runs_native, runs_number, seen_by_natives}
-use Rattle.jvm_model.specs.Instructions.ObjectRules.{place_of, storing_of}
+use Rattle.jvm_model.specs.Instructions.ObjectRules.{array_element_of, storing_of}
 use Rattle.jvm_model.specs.Basis.Programs.{number_of_method}
 use Rattle.jvm_model.specs.Instructions.Rules.{class_initialized, when_ready}
 use Rattle.jvm_model.specs.Classes.Selection.{is_abstract, is_static}
@@ -391,7 +391,7 @@ no-end w Athrow s l o e = only-of (throws-only w s (ref_of o))
 no-end w Monitor s l o e = only-of (watches-only (ref_of o) l o)
 no-end w (Newarray kind) s l o e = makes-only kind (int_of o) s l o
 no-end w Arraylength s l o e = only-of (measures-only (ref_of o) s l o)
-no-end w (LoadElement k) s l o e = only-of (loads_element-only k (place_of o) s l o)
+no-end w (LoadElement k) s l o e = only-of (loads_element-only k (array_element_of o) s l o)
 no-end w (StoreElement k) s l o e = stores_element-only w.program k (storing_of k o) s l o
 no-end w (LdcString units) s l o e = string-only w.program s l o units
 
