@@ -60,11 +60,15 @@ method_item verb method =
     else if bytes_eq verb (codes "unselected") then Some (Is (IsSelected method false))
     else option_map (λ happening. Happens happening) (happening_said verb method)
 
+-- the methods that the words of a text name, between commas
+abbrev pub methods_called : Program → List ℕ → Option (List ℕ)
+methods_called p words = all_found (method_called p) (words_in 44 words)
+
 -- the methods that a method can begin: `begins:METHOD=METHOD,..`
 abbrev pub begins_item : Program → List ℕ → Option Item
 begins_item p words =
     option_and_then (λ method.
-    option_map (λ methods. Is (Begins method methods)) (all_found (method_called p) (words_in 44 (rest_after 61 words))))
+    option_map (λ methods. Is (Begins method methods)) (methods_called p (rest_after 61 words)))
     (method_called p (front_of 61 words))
 
 -- what a verb and what stands behind its colon say

@@ -5,8 +5,8 @@ ghost use Rattle.std.specs.Option.{option_map};
 ghost use Rattle.jf_bytes.specs.Unicode.{utf16_of};
 ghost use Rattle.revelation_rows.specs.declared.item.Happening.TheVariants.{Loaded as class_loaded};
 ghost use Rattle.revelation_rows.specs.declared.item.Item.TheVariants.{Happens};
-ghost use Rattle.revelation_rows.specs.Reading.{IsHalved, IsRead, all_found, begins_item, due_items, happening_said};
-ghost use Rattle.revelation_rows.specs.Reading.{marks_with, method_item, no_marks as none_marked, verb_item};
+ghost use Rattle.revelation_rows.specs.Reading.{IsHalved, IsRead, begins_item, due_items, happening_said};
+ghost use Rattle.revelation_rows.specs.Reading.{marks_with, method_item, methods_called, no_marks as none_marked, verb_item};
 ghost use Rattle.revelation_rows.specs.Reading.{with_mark, word_item, word_items};
 
 use crate::item::{Fact, Happening, Item};
@@ -108,6 +108,14 @@ fn item_loaded(alloc: Global, name: &str) -> Result<Option<Item>, NoMemory>
     Ok(Some(Item::Happens(Happening::Loaded(from_utf8(alloc, name)?))))
 }
 
+/// The numbers of the methods that the words of a text name, between commas.
+fn methods_in(alloc: Global, program: &Program, text: &str) -> Result<Option<Seq<u32>>, NoMemory>
+    ensures { IfOk result (λ found. found ≡ methods_called program.now text.now) }
+{
+    let words = words_in(alloc, text, ',')?;
+    find_all(alloc, &MethodNames { program }, &words)
+}
+
 /// The methods that a method can begin: `begins:METHOD=METHOD,..`.
 fn begins(alloc: Global, program: &Program, words: &str) -> Result<Option<Item>, NoMemory>
     ensures { IfOk result (λ item. item ≡ begins_item program.now words.now) }
@@ -116,8 +124,7 @@ fn begins(alloc: Global, program: &Program, words: &str) -> Result<Option<Item>,
     let Some(method) = method_named(alloc, program, name)? else {
         return Ok(None);
     };
-    let targets = words_in(alloc, targets, ',')?;
-    match find_all(alloc, &MethodNames { program }, &targets)? {
+    match methods_in(alloc, program, targets)? {
         Some(methods) => Ok(Some(Item::Is(Fact::Begins(method, methods)))),
         None => Ok(None),
     }
