@@ -6,7 +6,7 @@ use Rattle.jvm_model.specs.declared.program.Program.{Program}
 use Rattle.jvm_machine.specs.View.{View}
 use Rattle.machine_rows.specs.declared.line.Placed.{Placed}
 use Rattle.machine_rows.specs.declared.playing.Failure.{Failure}
-use Rattle.machine_rows.specs.Files.{IsFileAt}
+use Rattle.row_words.specs.Files.{IsFileAt}
 use Rattle.machine_rows.specs.Judging.{IsJudged}
 use Rattle.machine_rows.specs.Making.{IsMade}
 use Rattle.machine_rows.specs.Played.{PlaysAll}

@@ -1,4 +1,3 @@
-mod FoundLemmas
 mod Images
 mod JudgingLemmas
 mod MakingLemmas
@@ -9,4 +8,3 @@ mod ReadingLemmas
 mod Rests
 mod SayingLemmas
 mod Stays
-mod WordLemmas

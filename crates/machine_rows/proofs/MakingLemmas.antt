@@ -1,14 +1,14 @@
 -- Classes of files, one by one.
-use Rattle.std.proofs.Common.{◌≡◌, ◌<◌, ◌+◌, ℕ, List, [], ◌∷◌, ◌++◌, length, map, take, ap, sym, subst, ◌∙◌, add-one}
+use Rattle.std.proofs.Common.{◌≡◌, ◌<◌, ◌+◌, ℕ, List, [], ◌∷◌, ◌++◌, length, map, take, sym, subst}
 use Rattle.std.specs.Prelude.{Option, true, codes, get_or}
 use Rattle.std.specs.Str.{bytes_eq}
 use Rattle.jf_bytes.specs.Streams.{Told}
 use Rattle.const_pool.specs.declared.class.ClassFile.{ClassFile}
 use Rattle.class_reader.specs.Files.{IsFile}
-use Rattle.machine_rows.specs.Files.{IsFileAt}
+use Rattle.row_words.specs.Files.{IsFileAt}
 use Rattle.machine_rows.specs.Making.{AddsClass, AreClasses}
 use Rattle.machine_rows.specs.Words.{rest_of, word_of}
-use Rattle.machine_rows.proofs.ReadingLemmas.{one-more}
+use Rattle.row_words.proofs.ListLemmas.{taken-more}
 
 pub no-classes : (told : Option Told) (classes : List ClassFile) → classes ≡ [] → AreClasses told [] classes
 no-classes told classes e = subst (AreClasses told []) (sym e) AreClasses.none
@@ -18,7 +18,7 @@ pub class-more : {A : Type 0} (f : A → List ℕ) (xs : List A) (i : ℕ) (x d 
     → AddsClass here text old new → AreClasses told (map f (take (i + 1) xs)) new
 class-more f xs i x d here told text old new less is same named read added =
     subst (λ texts. AreClasses told texts new)
-    (one-more f xs i x d less is ∙ ap (λ k. map f (take k xs)) (sym (add-one i)))
+    (taken-more f xs i x d less is)
     (AreClasses.more (map f (take i xs)) (f x) old new read
     (subst (λ t. AddsClass told t old new) named (subst (λ t. AddsClass t text old new) same added)))
 

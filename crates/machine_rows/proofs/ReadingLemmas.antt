@@ -1,6 +1,7 @@
 -- What lines say, one by one.
-use Rattle.std.proofs.Common.{◌≡◌, ◌<◌, ◌≤◌, ◌+◌, ℕ, zero, suc, List, [], ◌∷◌, ◌++◌, length, map, take, drop, ap, sym, subst, ◌∙◌, refl, arith, add-one}
+use Rattle.std.proofs.Common.{◌≡◌, ◌<◌, ◌≤◌, ◌+◌, ℕ, zero, suc, List, [], ◌∷◌, ◌++◌, length, map, take, drop, ap, sym, subst, ◌∙◌, refl, arith}
 use Rattle.std.specs.Prelude.{Option, Some, None, get_or}
+use Rattle.std.proofs.lemmas.List.{take_all}
 use Rattle.jf_bytes.specs.Streams.{Told}
 use Rattle.jvm_model.specs.declared.program.Program.{Program}
 use Rattle.machine_rows.specs.declared.line.Placed.{Placed}
@@ -10,12 +11,7 @@ use Rattle.machine_rows.specs.declared.saying.Said.{Said}
 use Rattle.machine_rows.specs.Causes.{IsCause, IsMissing, IsSilent}
 use Rattle.machine_rows.specs.Reading.{AreSaid, LineSays, placed_at}
 use Rattle.machine_rows.specs.Words.{rest_of, word_of}
-
-pub one-more : {A : Type 0} (f : A → List ℕ) (xs : List A) (i : ℕ) (x d : A) → i < length xs → x ≡ get_or xs i d
-    → map f (take i xs) ++ (f x ∷ []) ≡ map f (take (suc i) xs)
-one-more f [] i x d less is = absurd (omega (arith, less))
-one-more f (y ∷ ys) zero x d less is = ap (λ z. f z ∷ []) is
-one-more f (y ∷ ys) (suc i) x d less is = ap (λ fs. f y ∷ fs) (one-more f ys i x d (omega (arith, less)) is)
+use Rattle.row_words.proofs.ListLemmas.{taken-more}
 
 so-many : {A : Type 0} (f : A → List ℕ) (xs : List A) (i : ℕ) → i < length xs → length (map f (take i xs)) ≡ i
 so-many f [] i less = absurd (omega (arith, less))
@@ -38,7 +34,7 @@ module _ {A : Type 0} (f : A → List ℕ) (xs : List A) (i : ℕ) (x d : A) (le
       let counted : number ≡ length (map f (take i xs)) + 1 = numbered ∙ ap (λ k. k + 1) (sym (so-many f xs i less)) in
       subst (λ ps. AreSaid p told (map f (take (i + 1) xs)) ps said.next) (sym (put ∙ ap (λ k. placed ++ placed_at k said.lines) counted))
       (subst (λ texts. AreSaid p told texts (placed ++ placed_at (length (map f (take i xs)) + 1) said.lines) said.next)
-      (one-more f xs i x d less is ∙ ap (λ k. map f (take k xs)) (sym (add-one i)))
+      (taken-more f xs i x d less is)
       (AreSaid.more (map f (take i xs)) (f x) placed next said read
       (subst (λ t. LineSays p told next t (Some said)) named (subst (λ t. LineSays p t next text (Some said)) same (subst (LineSays p here next text) is_said says)))))
 
@@ -78,7 +74,4 @@ pub none-said : (p : Program) (told : Option Told) (placed : List Placed) → pl
 none-said p told placed e = subst (λ ps. AreSaid p told [] ps 0) (sym e) AreSaid.none
 
 pub all-taken : {A : Type 0} (f : A → List ℕ) (xs : List A) (i : ℕ) → length xs ≤ i → map f (take i xs) ≡ map f xs
-all-taken f [] zero past = refl
-all-taken f [] (suc i) past = refl
-all-taken f (x ∷ xs) zero past = absurd (omega (arith, past))
-all-taken f (x ∷ xs) (suc i) past = ap (λ fs. f x ∷ fs) (all-taken f xs i (omega (arith, past)))
+all-taken f xs i past = ap (map f) (take_all i xs past)

@@ -5,7 +5,7 @@ use Rattle.jf_bytes.specs.Streams.{Told}
 use Rattle.jvm_machine.specs.View.{View}
 use Rattle.machine_rows.specs.declared.line.Placed.{Placed}
 use Rattle.machine_rows.specs.declared.playing.Failure.{Failure}
-use Rattle.machine_rows.specs.Files.{IsFileAt}
+use Rattle.row_words.specs.Files.{IsFileAt}
 use Rattle.machine_rows.specs.Making.{IsMade}
 use Rattle.machine_rows.specs.Played.{PlaysAll}
 use Rattle.machine_rows.specs.Reading.{AreRead}

@@ -1,4 +1,3 @@
-pub mod Files
 pub mod Ready
 pub mod Played
 pub mod Resting

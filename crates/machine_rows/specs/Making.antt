@@ -9,7 +9,7 @@ use Rattle.plan_text.specs.Lines.{silent_plan}
 use Rattle.jvm_model.specs.declared.program.Program.{Program}
 use Rattle.admit_check.specs.Admission.{admission_of}
 use Rattle.jvm_machine.specs.View.{View, machine_made}
-use Rattle.machine_rows.specs.Files.{IsFileAt}
+use Rattle.row_words.specs.Files.{IsFileAt}
 use Rattle.machine_rows.specs.Words.{rest_of, word_of}
 
 -- a line `class FILE` adds the class that the file's bytes spell, and another line none

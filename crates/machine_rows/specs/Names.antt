@@ -1,5 +1,5 @@
--- Which classes and methods of a program the words of a row name.
-use Rattle.std.specs.Prelude.{◌≡◌, ℕ, ◌^◌, Bool, false, List, Option, Some, None, position, slice_get, nat_lt, if◌then◌else◌, ◌&&◌, ◌⊎◌}
+-- Which methods of a program the words of a row name.
+use Rattle.std.specs.Prelude.{◌≡◌, ℕ, Bool, false, List, Option, None, position, slice_get, ◌&&◌, ◌⊎◌}
 use Rattle.std.specs.Option.{option_and_then, option_map, option_map_or}
 use Rattle.const_pool.specs.declared.class.ClassFile.{ClassFile}
 use Rattle.const_pool.specs.declared.class.Member.{Member}
@@ -10,12 +10,9 @@ use Rattle.plan_text.specs.Roots.{IsRoot, IsNoRoot, root_in}
 use Rattle.jvm_model.specs.declared.program.Program.{Program}
 use Rattle.jvm_model.specs.declared.program.MethodPlace.{MethodPlace}
 use Rattle.jvm_model.specs.Basis.Methods.{is_member}
-use Rattle.jvm_model.specs.Basis.Programs.{class_at, class_named, has_name}
+use Rattle.jvm_model.specs.Basis.Programs.{class_at, has_name}
+use Rattle.row_words.specs.Names.{in_32_bits}
 use Rattle.jvm_model.specs.Basis.Descriptors.{shape_of}
-
--- a position that is a number of 32 bits, as classes and methods are numbered
-abbrev pub in_32_bits : Option ℕ → Option ℕ
-in_32_bits found = option_and_then (λ n. if nat_lt n (2 ^ 32) then Some n else None) found
 
 -- the method at a position of a class has the name and the descriptor of a root
 abbrev pub has_member : RootName → ClassFile → ℕ → Bool
@@ -37,10 +34,6 @@ IsMethodOf p word found =
     ((root : RootName) × IsRoot word root × (found ≡ method_of_root p root)) ⊎ (IsNoRoot word × (found ≡ None))
 
 -- ---- by words
-
--- the position of the class of this name
-abbrev pub class_called : Program → List ℕ → Option ℕ
-class_called p name = in_32_bits (class_named p (utf16_of name))
 
 -- the root that a word is, if it is one
 abbrev pub root_called : List ℕ → Option RootName

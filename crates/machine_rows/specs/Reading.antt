@@ -15,9 +15,10 @@ use Rattle.machine_rows.specs.declared.line.Placed.{Placed}
 use Rattle.machine_rows.specs.declared.saying.Refusal.{Refusal}
 use Rattle.machine_rows.specs.declared.saying.Said.{Said}
 use Rattle.machine_rows.specs.declared.telling.OneTurn.{OneTurn}
-use Rattle.machine_rows.specs.Files.{IsFileAt}
-use Rattle.machine_rows.specs.Names.{class_called, method_called}
-use Rattle.machine_rows.specs.Words.{all_found, cause_said, kind_said, marks_said, number_said, output_said, rest_of, status_said, word_of, words_in}
+use Rattle.row_words.specs.Files.{IsFileAt}
+use Rattle.machine_rows.specs.Names.{method_called}
+use Rattle.machine_rows.specs.Words.{cause_said, kind_said, marks_said, number_said, output_said, rest_of, status_said, word_of}
+use Rattle.row_words.specs.Names.{class_called, classes_called}
 
 -- ---- one turn
 
@@ -33,7 +34,7 @@ event_said p kind words =
 abbrev pub turn_said : Program → ℕ → List ℕ → List ℕ → Option OneTurn
 turn_said p next word rest =
     if bytes_eq word (codes "loaded") then
-    option_map (λ classes. record { turn = turn.Loaded classes; clock = next }) (all_found (class_called p) (words_in rest))
+    option_map (λ classes. record { turn = turn.Loaded classes; clock = next }) (classes_called p rest)
     else if bytes_eq word (codes "ended") then
     option_map (λ clock. record { turn = turn.Ended; clock = clock }) (number_said 64 (word_of rest))
     else if bytes_eq word (codes "settled") then

@@ -1,8 +1,8 @@
 -- The words of a line, and what single words say.
-use Rattle.std.specs.Prelude.{ℕ, ◌+◌, ◌^◌, ℤ, Bool, List, [], ◌∷◌, ◌++◌, length, drop, Option, Some, None, nat_lt, nat_le, codes, ◌==◌, ◌&&◌, if◌then◌else◌}
+use Rattle.std.specs.Prelude.{ℕ, ◌^◌, ℤ, Bool, List, [], ◌∷◌, ◌++◌, length, Option, Some, None, nat_lt, nat_le, codes, ◌==◌, ◌&&◌, if◌then◌else◌}
 use Rattle.std.specs.Char.{is_ascii_digit}
-use Rattle.std.specs.List.{before_first, list_all, slice_split}
-use Rattle.std.specs.Option.{option_and_then, option_map}
+use Rattle.std.specs.List.{list_all}
+use Rattle.std.specs.Option.{option_map}
 use Rattle.std.specs.Str.{bytes_eq}
 use Rattle.std.specs.Str.Parse.{digits_value, signed_digits_value, starts_with_minus, without_leading_plus, without_leading_sign}
 use Rattle.class_reader.specs.declared.error.ReadError.{ReadError}
@@ -13,24 +13,16 @@ use Rattle.jvm_model.specs.declared.event.EventKind.{EventKind}
 use Rattle.jvm_model.specs.declared.event.EventKind.TheVariants as kind
 use Rattle.jvm_model.specs.declared.event.Mark.{Mark}
 use Rattle.jvm_model.specs.declared.event.Mark.TheVariants as mark
+use Rattle.row_words.specs.Words.{all_found, front_of, rest_after}
 
 -- ---- words
 
 -- the first word of a text, and what stands behind the space that ends it
 unfoldable pub word_of : List ℕ → List ℕ
-word_of text = before_first (λ byte. byte == 32) text
+word_of text = front_of 32 text
 
 unfoldable pub rest_of : List ℕ → List ℕ
-rest_of text = drop (length (word_of text) + 1) text
-
--- all words of a text, between single spaces
-abbrev pub words_in : List ℕ → List (List ℕ)
-words_in text = slice_split (λ byte. byte == 32) text
-
--- what is found for each of these, if something is found for each
-abbrev pub all_found : {A B : Type 0} → (A → Option B) → List A → Option (List B)
-all_found find [] = Some []
-all_found find (a ∷ more) = option_and_then (λ b. option_map (λ bs. b ∷ bs) (all_found find more)) (find a)
+rest_of text = rest_after 32 text
 
 -- ---- numbers
 

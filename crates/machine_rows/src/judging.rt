@@ -4,10 +4,11 @@ ghost use Rattle.std.specs.Prelude.{IfOk};
 ghost use Rattle.machine_rows.specs.Judging.{IsJudged};
 
 use crate::making::make;
-use crate::parts::{RowError, fetch_text, lines_of};
+use crate::parts::{RowError, fetch_text};
 use crate::playing::{Failure, play_all};
 use crate::reading::read_lines;
 use jf_bytes::Files;
+use row_words::lines_of;
 use std::alloc::Global;
 
 /// What of a row came otherwise, if anything did.

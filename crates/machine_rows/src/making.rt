@@ -8,7 +8,7 @@ ghost use Rattle.class_reader.specs.Files.{IsFile};
 ghost use Rattle.plan_text.specs.Lines.{silent_plan};
 ghost use Rattle.admit_check.specs.Admission.{admission_of};
 ghost use Rattle.jvm_machine.specs.View.{machine_made};
-ghost use Rattle.machine_rows.specs.Files.{IsFileAt};
+ghost use Rattle.row_words.specs.Files.{IsFileAt};
 ghost use Rattle.machine_rows.specs.Making.{AddsClass, AreClasses, IsMade, main_said};
 ghost use Rattle.machine_rows.specs.Ready.{IsFresh};
 ghost use Rattle.program_fit.specs.Runnable.{IsAdmitted};

@@ -1,56 +1,16 @@
-//! Classes and methods of a program by their names.
+//! Methods of a program by their names.
 
 ghost use Rattle.std.specs.Prelude.{◌≡◌, IfOk, position};
 ghost use Rattle.const_pool.specs.References.{name_type_of};
-ghost use Rattle.jvm_model.specs.Basis.Methods.{is_member, same_text_at};
-ghost use Rattle.jvm_model.specs.Basis.Programs.{has_name};
-ghost use Rattle.machine_rows.specs.Names.{IsMethodOf, class_called, has_member, in_32_bits, is_root, method_called, method_of_root};
+ghost use Rattle.jvm_model.specs.Basis.Methods.{is_member};
+ghost use Rattle.machine_rows.specs.Names.{IsMethodOf, has_member, is_root, method_called, method_of_root};
 
 use const_pool::{ClassFile, Member, Pool};
-use jf_bytes::{NoMemory, Text16, from_utf8};
+use jf_bytes::NoMemory;
 use jvm_model::{MethodPlace, Program};
 use plan_text::{PlanError, RootName, plan_of_root};
+use row_words::{has_name, is_text, number_of};
 use std::alloc::Global;
-
-/// A position as a number of a class or a method.
-fn number_of(position: Option<usize>) -> Option<u32>
-    ensures { result ≡ in_32_bits position }
-{
-    u32::try_from(position?).ok()
-}
-
-fn is_text(pool: &Pool, index: u16, wanted: &Text16) -> bool
-    ensures { result ≡ same_text_at pool.now index wanted.now }
-{
-    match pool.text(index) {
-        Ok(text) => text.same(wanted),
-        Err(_) => false,
-    }
-}
-
-fn has_name(class: &ClassFile, wanted: &Text16) -> bool
-    ensures { result ≡ has_name wanted.now class.now }
-{
-    match class.pool.class_name(class.this_class) {
-        Ok(name) => name.same(wanted),
-        Err(_) => false,
-    }
-}
-
-/// Where the first class with this name stands.
-fn position_of(classes: &[ClassFile], wanted: &Text16) -> Option<usize>
-    ensures { result ≡ position (has_name wanted.now) classes.now }
-{
-    classes.iter().position(|class| has_name(class, wanted))
-}
-
-/// The position of the class with this name.
-pub fn class_named(alloc: Global, program: &Program, name: &str) -> Result<Option<u32>, NoMemory>
-    ensures { IfOk result (λ found. found ≡ class_called program.now name.now) }
-{
-    let wanted = from_utf8(alloc, name)?;
-    Ok(number_of(position_of(program.classes.as_slice(), &wanted)))
-}
 
 /// Whether a method has the name and the descriptor of a root.
 fn is_member(pool: &Pool, method: &Member, root: &RootName) -> bool

@@ -1,18 +1,15 @@
 //! The files of a row, and why a row is not run.
 
-ghost use Rattle.std.specs.Prelude.{◌≡◌, map, IfErr, IfOk};
-ghost use Rattle.std.specs.Str.Lines.{lines};
+ghost use Rattle.std.specs.Prelude.{◌≡◌, IfErr, IfOk};
 ghost use Rattle.std.specs.String.{string_bytes};
 ghost use Rattle.machine_rows.specs.Causes.{IsMissing};
-ghost use Rattle.machine_rows.specs.Files.{IsFileAt};
+ghost use Rattle.row_words.specs.Files.{IsFileAt};
 ghost use Rattle.machine_rows.specs.Words.{rest_of, word_of};
 
 use jf_bytes::{FetchError, Files, NoMemory};
+use row_words::{MOST, split_at_first};
 use std::alloc::{AllocError, AllocFailed, Global};
 use thiserror::Error;
-
-/// The greatest length of a file of a row: none comes near it.
-const MOST: usize = 67_108_864;
 
 /// Why a row is not run.
 #[derive(Debug, Drop, Error)]
@@ -90,21 +87,11 @@ pub fn fetch_text<F: Files>(alloc: Global, path: &str, files: &mut F) -> Result<
     }
 }
 
-/// The lines of a text.
-pub fn lines_of<'a>(alloc: Global, text: &'a str) -> Result<Vec<&'a str>, AllocError>
-    ensures { IfOk result (λ all. map (λ line. line.now) all.items ≡ lines text.now) }
-{
-    text.lines().collect(alloc)
-}
-
 /// The first word of a line, and what stands behind it.
 #[tactic(auto, unfolding(crate::specs::Words::word_of, crate::specs::Words::rest_of))]
 pub fn line_parted(line: &str) -> (&str, &str)
     ensures word { result.0.now ≡ word_of line.now }
     ensures rest { result.1.now ≡ rest_of line.now }
 {
-    match line.split_once(' ') {
-        Some(parts) => parts,
-        None => (line, ""),
-    }
+    split_at_first(line, ' ')
 }

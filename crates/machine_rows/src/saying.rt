@@ -7,7 +7,7 @@ ghost use Rattle.machine_rows.specs.Reading.{settles, so_often, tells, turn_line
 ghost use Rattle.machine_rows.specs.Words.{rest_of, word_of};
 
 use crate::line::Line;
-use crate::names::{class_named, method_named};
+use crate::names::method_named;
 use crate::parts::{RowError, fetch_file, line_parted};
 use crate::telling::{OneTurn, ending_of, turn_of};
 use crate::words::{cause_of, kind_of, marks_of, number_of_32_bits, number_of_64_bits, output_of};
@@ -15,6 +15,7 @@ use class_shape::SwapError;
 use jf_bytes::{Files, NoMemory, Seq};
 use jvm_machine::Turn;
 use jvm_model::{Event, EventKind, Program};
+use row_words::class_named;
 use std::alloc::Global;
 
 /// What a line says, and the clock of the step that settles next behind it.

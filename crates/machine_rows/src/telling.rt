@@ -1,16 +1,15 @@
 //! What a line says of one turn of the machine, and of the ending.
 
-ghost use Rattle.std.specs.Prelude.{◌≡◌, map, IfOk};
-ghost use Rattle.machine_rows.specs.Names.{class_called};
-ghost use Rattle.machine_rows.specs.Words.{all_found, words_in as words_between};
+ghost use Rattle.std.specs.Prelude.{◌≡◌, IfOk};
 ghost use Rattle.machine_rows.specs.Reading.{ending_said, event_said, turn_said, unverifiable_said};
 
-use crate::names::{class_named, method_named};
+use crate::names::method_named;
 use crate::parts::line_parted;
-use crate::words::{kind_of, number_of_16_bits, number_of_64_bits, status_of, words_in};
-use jf_bytes::{NoMemory, Seq};
+use crate::words::{kind_of, number_of_16_bits, number_of_64_bits, status_of};
+use jf_bytes::NoMemory;
 use jvm_machine::Turn;
 use jvm_model::{Ending, Event, EventKind, Program};
+use row_words::{class_named, classes_in};
 use std::alloc::Global;
 
 /// A turn with its clock.
@@ -18,34 +17,6 @@ use std::alloc::Global;
 pub struct OneTurn {
     pub turn: Turn,
     pub clock: u64,
-}
-
-/// The classes that these words name.
-fn classes_of(
-    alloc: Global,
-    program: &Program,
-    words: &[&str],
-) -> Result<Option<Seq<u32>>, NoMemory>
-    ensures { IfOk result (λ found.
-        found ≡ all_found (class_called program.now) (map (λ w. w.now) words.now)) }
-{
-    let mut classes = Seq::new(alloc);
-    for word in words {
-        match class_named(alloc, program, word)? {
-            Some(class) => classes.push(class)?,
-            None => return Ok(None),
-        }
-    }
-    Ok(Some(classes))
-}
-
-/// The classes that the words of a text name.
-fn classes_in(alloc: Global, program: &Program, words: &str) -> Result<Option<Seq<u32>>, NoMemory>
-    ensures { IfOk result (λ found.
-        found ≡ all_found (class_called program.now) (words_between words.now)) }
-{
-    let words = words_in(alloc, words)?;
-    classes_of(alloc, program, &words)
 }
 
 /// The method and the offset that end a run as unverifiable, by their words.

@@ -1,7 +1,7 @@
-//! The words of a line, and what single words say.
+//! What single words of a line say.
 
-ghost use Rattle.std.specs.Prelude.{◌≡◌, ◌++◌, ◌∷◌, [], map, IfOk, OnOk};
-ghost use Rattle.machine_rows.specs.Words.{cause_said, fault_said, kind_said, mark_said, marks_said, number_said, output_said, status_said, words_in};
+ghost use Rattle.std.specs.Prelude.{◌≡◌, IfOk};
+ghost use Rattle.machine_rows.specs.Words.{cause_said, fault_said, kind_said, mark_said, marks_said, number_said, output_said, status_said};
 
 use crate::parts::line_parted;
 use class_reader::ReadError;
@@ -9,31 +9,6 @@ use class_shape::SwapError;
 use jf_bytes::{NoMemory, Seq};
 use jvm_model::{EventKind, Mark};
 use std::alloc::Global;
-
-// ---- words
-
-/// Adds a word.
-fn add_word<'a>(words: &mut Vec<&'a str>, word: &'a str) -> Result<(), NoMemory>
-    ensures { OnOk result (map (λ w. w.now) words.new.items
-        ≡ map (λ w. w.now) words.old.items ++ word.entry.now ∷ []) }
-{
-    words.push(word)?;
-    Ok(())
-}
-
-/// All words of a text, between single spaces.
-pub fn words_in<'a>(alloc: Global, text: &'a str) -> Result<Vec<&'a str>, NoMemory>
-    ensures { IfOk result (λ words. map (λ w. w.now) words.items ≡ words_in text.entry.now) }
-{
-    let mut words = Vec::new(alloc);
-    let mut rest = text;
-    while let Some((word, more)) = rest.split_once(' ') {
-        add_word(&mut words, word)?;
-        rest = more;
-    }
-    add_word(&mut words, rest)?;
-    Ok(words)
-}
 
 // ---- numbers
 

@@ -1,18 +1,13 @@
 -- Files that are read, one by one.
-use Rattle.std.proofs.Common.{◌≡◌, ◌<◌, ◌+◌, ℕ, zero, suc, List, [], ◌∷◌, ◌++◌, length, map, take, ap, sym, subst, ◌∙◌, arith, add-one}
+use Rattle.std.proofs.Common.{◌≡◌, ◌<◌, ◌+◌, ℕ, List, [], length, map, take, sym, subst}
 use Rattle.std.specs.Prelude.{Option, get_or}
 use Rattle.jf_bytes.specs.Streams.{Told}
 use Rattle.revelation_rows.specs.Files.{AreRead, IsAdded}
+use Rattle.row_words.proofs.ListLemmas.{taken-more}
 
 pub none-read : (told : Option Told) (classes : List (List ℕ)) (rows : List ℕ) → classes ≡ [] → rows ≡ [] → AreRead told [] classes rows
 none-read told classes rows no_classes no_rows =
     subst (λ cs. AreRead told [] cs rows) (sym no_classes) (subst (AreRead told [] []) (sym no_rows) AreRead.none)
-
-pub one-more : {A : Type 0} (f : A → List ℕ) (xs : List A) (i : ℕ) (x d : A) → i < length xs → x ≡ get_or xs i d
-    → map f (take i xs) ++ (f x ∷ []) ≡ map f (take (suc i) xs)
-one-more f [] i x d less is = absurd (omega (arith, less))
-one-more f (y ∷ ys) zero x d less is = ap (λ z. f z ∷ []) is
-one-more f (y ∷ ys) (suc i) x d less is = ap (λ fs. f y ∷ fs) (one-more f ys i x d (omega (arith, less)) is)
 
 pub more-read : {A : Type 0} (f : A → List ℕ) (xs : List A) (i : ℕ) (x : A) (here told : Option Told) (path : List ℕ)
     (classes new_classes : List (List ℕ)) (rows new_rows : List ℕ) → i < length xs → x ≡ get_or xs i x → here ≡ told → path ≡ f x
@@ -20,7 +15,7 @@ pub more-read : {A : Type 0} (f : A → List ℕ) (xs : List A) (i : ℕ) (x : A
     → AreRead told (map f (take (i + 1) xs)) new_classes new_rows
 more-read f xs i x here told path classes new_classes rows new_rows less is same named read added =
     subst (λ paths. AreRead told paths new_classes new_rows)
-    (one-more f xs i x x less is ∙ ap (λ k. map f (take k xs)) (sym (add-one i)))
+    (taken-more f xs i x x less is)
     (AreRead.more (f x) (map f (take i xs)) classes rows new_classes new_rows read
     (subst (λ name. IsAdded told name classes rows new_classes new_rows) named
     (subst (λ t. IsAdded t path classes rows new_classes new_rows) same added)))

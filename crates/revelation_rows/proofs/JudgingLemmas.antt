@@ -1,8 +1,9 @@
 -- Verdicts one by one.
-use Rattle.std.proofs.Common.{◌≡◌, ◌<◌, ◌+◌, ℕ, Bool, true, false, cond, List, [], ◌∷◌, ◌++◌, length, map, take, ap, sym, subst, ◌∙◌, refl, add-one}
+use Rattle.std.proofs.Common.{◌≡◌, ◌<◌, ◌+◌, ℕ, Bool, true, false, cond, List, [], ◌∷◌, ◌++◌, length, map, take, sym, subst}
 use Rattle.std.specs.Prelude.{Option, Some, None, Result, Ok, Err, IfOk, codes, get_or}
 use Rattle.std.specs.List.{AllByRecursion, AllZip, filter}
 use Rattle.std.specs.String.{string_bytes}
+use Rattle.std.proofs.lemmas.List.{append-nil}
 use Rattle.std.proofs.lemmas.List.Elements.{filter-append}
 use Rattle.jf_bytes.specs.Unicode.{utf16_of}
 use Rattle.const_pool.specs.declared.class.ClassFile.{ClassFile}
@@ -19,7 +20,7 @@ use Rattle.revelation_rows.specs.Judging.{AddsVerdict, IsJudged, IsProgramOf, Is
 use Rattle.revelation_rows.specs.Reading.{IsRead}
 use Rattle.revelation_rows.specs.Rows.{Comes, first}
 use Rattle.revelation_rows.specs.Lines.{is_row}
-use Rattle.revelation_rows.proofs.FileLemmas.{one-more}
+use Rattle.row_words.proofs.ListLemmas.{taken-more}
 
 zip-append : {A B : Type 0} (R : A → B → Type 0) (xs more : List A) (ys others : List B) → AllZip R xs ys → AllZip R more others
     → AllZip R (xs ++ more) (ys ++ others)
@@ -41,7 +42,7 @@ pub zip-next : {A B : Type 0} (R : List ℕ → B → Type 0) (f : A → List �
     → i < length xs → x ≡ get_or xs i d → text ≡ f x → AllZip R (map f (take i xs)) old → R text y → new ≡ old ++ y ∷ []
     → AllZip R (map f (take (i + 1) xs)) new
 zip-next R f xs i x d text old new y less is named zip holds put =
-    subst (λ texts. AllZip R texts new) (one-more f xs i x d less is ∙ ap (λ k. map f (take k xs)) (sym (add-one i)))
+    subst (λ texts. AllZip R texts new) (taken-more f xs i x d less is)
     (subst (AllZip R (map f (take i xs) ++ f x ∷ [])) (sym put)
     (zip-append R (map f (take i xs)) (f x ∷ []) old (y ∷ []) zip (subst (λ t. R t y) named holds, tt)))
 
@@ -50,7 +51,7 @@ pub verdict-next : {A : Type 0} (R : List ℕ → Verdict → Type 0) (f : A →
     → AllZip R (filter is_row (map f (take (i + 1) xs))) new
 verdict-next R f xs i x d line old new less is named zip added =
     let front = map f (take i xs) in
-    subst (λ texts. AllZip R (filter is_row texts) new) (one-more f xs i x d less is ∙ ap (λ k. map f (take k xs)) (sym (add-one i)))
+    subst (λ texts. AllZip R (filter is_row texts) new) (taken-more f xs i x d less is)
     (subst (λ rows. AllZip R rows new) (sym (filter-append is_row front (f x ∷ [])))
     (subst (AllZip R (filter is_row front ++ filter is_row (f x ∷ []))) (sym added.put)
     (zip-append R (filter is_row front) (filter is_row (f x ∷ [])) old added.more zip
@@ -102,8 +103,4 @@ module _ (R : List ℕ → Verdict → Type 0) (line : List ℕ) where
   row-added old new v is holds put = record { more = v ∷ []; each = one-row v (is_row line) is holds; put = put }
 
   pub none-added : (old : List Verdict) → is_row line ≡ false → AddsVerdict R line old old
-  none-added old is = record { more = []; each = no-row (is_row line) is; put = sym (by old) }
-    where
-      by : (vs : List Verdict) → vs ++ [] ≡ vs
-      by [] = refl
-      by (v ∷ vs) = ap (λ r. v ∷ r) (by vs)
+  none-added old is = record { more = []; each = no-row (is_row line) is; put = sym (append-nil old) }

@@ -3,8 +3,6 @@ pub mod HappeningLemmas
 pub mod RowLemmas
 pub mod ToldLemmas
 pub mod LookLemmas
-pub mod WordLemmas
-pub mod FoundLemmas
 pub mod MarkLemmas
 pub mod FileLemmas
 pub mod JudgingLemmas

@@ -1,9 +1,10 @@
 -- The marks of all methods one by one, the methods that one can begin, and marks that are the same.
-use Rattle.std.proofs.Common.{◌≡◌, ◌<◌, ◌≤◌, ◌+◌, ℕ, zero, suc, Bool, true, false, List, [], ◌∷◌, ◌++◌, drop, length, map, add-one, ap, sym, ◌∙◌, refl, arith}
+use Rattle.std.proofs.Common.{◌≡◌, ◌<◌, ◌≤◌, ◌+◌, ℕ, Bool, true, false, List, [], ◌∷◌, ◌++◌, drop, length, map, ap, sym, ◌∙◌, refl}
 use Rattle.std.specs.Prelude.{Result, Ok, Err, IfOk}
 use Rattle.std.specs.Bool.{Decides}
 use Rattle.std.specs.Cmp.Lexicographic.{pointwise}
 use Rattle.std.specs.List.{enumerate_from}
+use Rattle.std.proofs.lemmas.List.{append-nil, append_assoc, drop_all, drop_more}
 use Rattle.std.proofs.lemmas.Slice.Eq.{slice_eq-Decides}
 use Rattle.jvm_model.specs.declared.event.Mark.{Mark}
 use Rattle.jvm_model.specs.declared.event.Mark.TheVariants.{Off, Plain, Root}
@@ -27,43 +28,19 @@ pub marks-first : (p : Program) (r : Revealed) (marks : List Mark) (places : Lis
 marks-first p r marks places none same =
     ap (λ (ms : List Mark). ms ++ marks_from p r 0 places) none ∙ ap (marks_from p r 0) same
 
-rest-behind : (places : List MethodPlace) (i : ℕ) → i < length places → (x : MethodPlace) × (drop i places ≡ x ∷ drop (suc i) places)
-rest-behind [] i less = absurd (omega (arith, less))
-rest-behind (y ∷ ys) zero less = (y, refl)
-rest-behind (y ∷ ys) (suc i) less = rest-behind ys i (omega (arith, less))
-
-rest-of : (places : List MethodPlace) (i : ℕ) → i < length places → (x : MethodPlace) × (drop i places ≡ x ∷ drop (i + 1) places)
-rest-of places i less =
-    let rest = rest-behind places i less in
-    (rest.0, rest.1 ∙ ap (λ k. rest.0 ∷ drop k places) (sym (add-one i)))
-
-append-assoc : (xs ys zs : List Mark) → (xs ++ ys) ++ zs ≡ xs ++ (ys ++ zs)
-append-assoc [] ys zs = refl
-append-assoc (x ∷ xs) ys zs = ap (λ l. x ∷ l) (append-assoc xs ys zs)
-
-append-nothing : (xs : List Mark) → xs ++ [] ≡ xs
-append-nothing [] = refl
-append-nothing (x ∷ xs) = ap (λ l. x ∷ l) (append-nothing xs)
-
 pub marks-next : (p : Program) (r : Revealed) (marks more : List Mark) (mark : Mark) (places : List MethodPlace) (i : ℕ) (due : List Mark) → i < length places
     → more ≡ marks ++ mark ∷ [] → mark ≡ mark_of p r i → marks ++ marks_from p r i (drop i places) ≡ due → more ++ marks_from p r (i + 1) (drop (i + 1) places) ≡ due
 marks-next p r marks more mark places i due less pushed is before =
-    let rest = rest-of places i less in
+    let rest = drop_more places i (record { class = 0; position = 0 }) less in
     ap (λ (ms : List Mark). ms ++ marks_from p r (i + 1) (drop (i + 1) places)) pushed
-    ∙ (append-assoc marks (mark ∷ []) (marks_from p r (i + 1) (drop (i + 1) places))
+    ∙ (append_assoc marks (mark ∷ []) (marks_from p r (i + 1) (drop (i + 1) places))
     ∙ (ap (λ m. marks ++ m ∷ marks_from p r (i + 1) (drop (i + 1) places)) is
-    ∙ (ap (λ ps. marks ++ marks_from p r i ps) (sym rest.1) ∙ before)))
-
-past : (places : List MethodPlace) (i : ℕ) → length places ≤ i → drop i places ≡ []
-past [] zero e = refl
-past [] (suc i) e = refl
-past (x ∷ xs) zero e = absurd (omega (arith, e))
-past (x ∷ xs) (suc i) e = past xs i (omega (arith, e))
+    ∙ (ap (λ ps. marks ++ marks_from p r i ps) (sym rest) ∙ before)))
 
 pub marks-all : (p : Program) (r : Revealed) (marks : List Mark) (places : List MethodPlace) (i : ℕ) (due : List Mark) → length places ≤ i
     → marks ++ marks_from p r i (drop i places) ≡ due → marks ≡ due
 marks-all p r marks places i due end before =
-    sym (append-nothing marks) ∙ (ap (λ ps. marks ++ marks_from p r i ps) (sym (past places i end)) ∙ before)
+    sym (append-nil marks) ∙ (ap (λ ps. marks ++ marks_from p r i ps) (sym (drop_all i places end)) ∙ before)
 
 -- ---- what can begin
 

@@ -7,7 +7,7 @@ use Rattle.jvm_model.specs.declared.event.Mark.{Mark}
 use Rattle.jvm_model.specs.declared.event.Mark.TheVariants.{Off}
 use Rattle.jvm_model.specs.declared.program.Program.{Program}
 use Rattle.revelation_rows.specs.Reading.{marks_with, with_mark}
-use Rattle.revelation_rows.proofs.FoundLemmas.{words-left}
+use Rattle.row_words.proofs.FoundLemmas.{left-more}
 
 -- one method more that is not marked
 off-behind : {A : Type 0} (xs : List A) (i : ℕ) → i < length xs
@@ -27,7 +27,7 @@ module _ (p : Program) (marks : List Mark) (words : List (Bor (List ℕ))) (i : 
   pub marked : (new : List Mark) (is : Bool) → with_mark p marks (get_or words i d).now ≡ (if is then Some new else None)
       → marks_with p marks (map (λ w. w.now) (drop i words))
       ≡ (if is then marks_with p new (map (λ w. w.now) (drop (i + 1) words)) else None)
-  marked new is said = ap (marks_with p marks) (words-left words i d less) ∙ (ap next said ∙ by is)
+  marked new is said = ap (marks_with p marks) (left-more (λ w. w.now) words i d less) ∙ (ap next said ∙ by is)
     where
       by : (is : Bool) → next (if is then Some new else None)
           ≡ (if is then marks_with p new (map (λ w. w.now) (drop (i + 1) words)) else None)

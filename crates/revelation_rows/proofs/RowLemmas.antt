@@ -1,7 +1,7 @@
 -- What comes of one item, and of all that is left.
-use Rattle.std.proofs.Common.{◌≡◌, ◌≢◌, ◌<◌, ◌≤◌, ◌+◌, ℕ, zero, suc, true, false, List, [], ◌∷◌, Some, None, drop, length, ap, add-one, sym, ◌∙◌, subst, refl, arith}
-use Rattle.std.specs.Prelude.{Option, get_or, slice_get}
-use Rattle.std.proofs.lemmas.Option.{same_Some}
+use Rattle.std.proofs.Common.{◌≡◌, ◌≢◌, ◌<◌, ◌≤◌, ◌+◌, ℕ, true, false, List, ◌∷◌, Some, None, drop, length, ap, sym, ◌∙◌, subst, refl}
+use Rattle.std.specs.Prelude.{Option, get_or}
+use Rattle.std.proofs.lemmas.List.{drop_all}
 use Rattle.jvm_model.specs.declared.program.Program.{Program}
 use Rattle.jvm_model.specs.Profiling.Revealed.{marks_of}
 use Rattle.class_linker.specs.Linkers.{LinkerView}
@@ -16,6 +16,7 @@ use Rattle.revelation_rows.specs.declared.item.Item.{Item}
 use Rattle.revelation_rows.specs.declared.item.Item.TheVariants.{Happens, Is}
 use Rattle.revelation_rows.specs.Rows.{Comes, Differs, Passes, Seen, behind, can_be_asked, can_be_told, first, revealed_by, shown_by}
 use Rattle.revelation_rows.specs.Scenes.{GoesOn, HasHappened, IsFresh, IsReady, IsSeen, IsToldOf, StopsAt, marks_shown}
+use Rattle.row_words.proofs.ListLemmas.{rest-more}
 
 -- ---- one item
 
@@ -78,26 +79,6 @@ pub record IsGoing (p : Program) (items : List Item) (start : Seen) (l : LinkerV
 pub going-first : (items : List Item) (l : LinkerView) (r : Reveal) → IsFresh l r → IsGoing l.program items (first l.loaded) l r items
 going-first items l r is = record { ready = is.ready; program = refl; stands = first l.loaded; seen = is.seen; comes = λ found comes. comes }
 
--- what is read of the items in a loop
-there : (xs : List Item) (i : ℕ) (x : Item) → i < length xs → x ≡ get_or xs i x → slice_get xs i ≡ Some x
-there [] i x less e = absurd (omega (arith, less))
-there (y ∷ ys) zero x less e = ap Some (sym e)
-there (y ∷ ys) (suc i) x less e = there ys i x (omega (arith, less)) e
-
-dropped : (xs : List Item) (i : ℕ) (x : Item) → slice_get xs i ≡ Some x → drop i xs ≡ x ∷ drop (suc i) xs
-dropped [] i x e = absurd cc
-dropped (y ∷ ys) zero x e = ap (λ z. z ∷ ys) (same_Some y x e)
-dropped (y ∷ ys) (suc i) x e = dropped ys i x e
-
-next-dropped : (xs : List Item) (i : ℕ) (x : Item) → i < length xs → x ≡ get_or xs i x → drop i xs ≡ x ∷ drop (i + 1) xs
-next-dropped xs i x less e = dropped xs i x (there xs i x less e) ∙ ap (λ k. x ∷ drop k xs) (sym (add-one i))
-
-past : (xs : List Item) (i : ℕ) → length xs ≤ i → drop i xs ≡ []
-past [] zero e = refl
-past [] (suc i) e = refl
-past (x ∷ xs) zero e = absurd (omega (arith, e))
-past (x ∷ xs) (suc i) e = past xs i (omega (arith, e))
-
 -- one item more
 one-more : (p : Program) (items : List Item) (start : Seen) (l : LinkerView) (r : Reveal) (next : LinkerView) (after : Reveal) (x : Item) (rest : List Item)
     → IsGoing p items start l r (x ∷ rest) → GoesOn x l r next after → IsGoing p items start next after rest
@@ -113,14 +94,14 @@ pub going-next : (p : Program) (items : List Item) (start : Seen) (l : LinkerVie
     → i < length items → x ≡ get_or items i x → IsGoing p items start l r (drop i items) → GoesOn x l r next after
     → IsGoing p items start next after (drop (i + 1) items)
 going-next p items start l r next after i x less e is on =
-    one-more p items start l r next after x (drop (i + 1) items) (subst (IsGoing p items start l r) (next-dropped items i x less e) is) on
+    one-more p items start l r next after x (drop (i + 1) items) (subst (IsGoing p items start l r) (rest-more items i x less e) is) on
 
 pub comes-none : (p : Program) (items : List Item) (start : Seen) (l : LinkerView) (r : Reveal) (i : ℕ) → length items ≤ i
     → IsGoing p items start l r (drop i items) → Comes p items start None
-comes-none p items start l r i end is = is.comes None (subst (λ rest. Comes p rest is.stands None) (sym (past items i end)) (Comes.all is.stands))
+comes-none p items start l r i end is = is.comes None (subst (λ rest. Comes p rest is.stands None) (sym (drop_all i items end)) (Comes.all is.stands))
 
 pub comes-some : (p : Program) (items : List Item) (start : Seen) (l : LinkerView) (r : Reveal) (i : ℕ) (x : Item) (difference : Difference)
     → i < length items → x ≡ get_or items i x → IsGoing p items start l r (drop i items) → StopsAt x l r difference → Comes p items start (Some difference)
 comes-some p items start l r i x difference less e is stops =
-    is.comes (Some difference) (subst (λ rest. Comes p rest is.stands (Some difference)) (sym (next-dropped items i x less e))
+    is.comes (Some difference) (subst (λ rest. Comes p rest is.stands (Some difference)) (sym (rest-more items i x less e))
     (Comes.stops x (drop (i + 1) items) is.stands difference (subst (λ q. Differs q is.stands x difference) is.program (stops is.stands is.seen))))

@@ -1,11 +1,8 @@
 -- What the files that the words name give.
 use Rattle.std.specs.Prelude.{◌≡◌, ◌==◌, ℕ, Bool, List, [], ◌∷◌, ◌++◌, Option, codes, if◌then◌else◌}
 use Rattle.std.specs.List.{ends_with}
-use Rattle.jf_bytes.specs.Streams.{Told, IsFetched}
-
--- the bytes are those of the file at this path, or the first of a longer one, where the files tell their contents
-abbrev pub IsFileAt : Option Told → List ℕ → List ℕ → Type 0
-IsFileAt told path bytes = IsFetched told path 67108864 bytes
+use Rattle.jf_bytes.specs.Streams.{Told}
+use Rattle.row_words.specs.Files.{IsFileAt}
 
 -- a file is a class file where its name ends so, and else has rows
 abbrev pub is_class_path : List ℕ → Bool

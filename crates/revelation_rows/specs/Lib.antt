@@ -2,7 +2,6 @@ pub mod Lines
 pub mod Rows
 pub mod Scenes
 pub mod Names
-pub mod Words
 pub mod Reading
 pub mod Files
 pub mod Judging

@@ -1,47 +1,39 @@
--- Which classes and methods of a program words name, and how they are shown.
-use Rattle.std.specs.Prelude.{ℕ, ◌+◌, ◌^◌, Bool, false, List, [], ◌∷◌, ◌++◌, length, drop, Option, Some, None, position, slice_get, nat_lt, encode_utf8, if◌then◌else◌, ◌==◌, ◌&&◌}
-use Rattle.std.specs.List.{before_first, flat_map}
+-- Which methods of a program words name, and how classes and methods are shown.
+use Rattle.std.specs.Prelude.{ℕ, ◌+◌, Bool, false, List, [], ◌∷◌, ◌++◌, Option, Some, None, position, slice_get, nat_lt, encode_utf8, if◌then◌else◌, ◌&&◌}
+use Rattle.std.specs.List.{flat_map}
 use Rattle.std.specs.Option.{option_and_then, option_map_or}
 use Rattle.const_pool.specs.declared.class.ClassFile.{ClassFile}
 use Rattle.const_pool.specs.declared.class.Member.{Member}
 use Rattle.const_pool.specs.References.{named_text}
+use Rattle.jf_bytes.specs.Unicode.{utf16_of}
 use Rattle.jvm_model.specs.declared.event.Mark.{Mark}
 use Rattle.jvm_model.specs.declared.event.Mark.TheVariants.{Off, Plain, Root}
 use Rattle.jvm_model.specs.declared.program.Program.{Program}
 use Rattle.jvm_model.specs.declared.program.MethodPlace.{MethodPlace}
 use Rattle.jvm_model.specs.Basis.Methods.{same_text_at}
-use Rattle.jvm_model.specs.Basis.Programs.{class_at, class_named, has_name, name_at, place_of_method}
+use Rattle.jvm_model.specs.Basis.Programs.{class_at, has_name, name_at, place_of_method}
+use Rattle.revelation_rows.specs.declared.names.CalledMethod.{CalledMethod}
+use Rattle.row_words.specs.Names.{in_32_bits}
+use Rattle.row_words.specs.Words.{front_of, rest_after}
 
 -- ---- found
 
--- a position that is a number of 32 bits, as classes and methods are numbered
-abbrev pub in_32_bits : Option ℕ → Option ℕ
-in_32_bits found = option_and_then (λ n. if nat_lt n (2 ^ 32) then Some n else None) found
-
--- the position of the class of this name
-abbrev pub class_called : Program → List ℕ → Option ℕ
-class_called p name = in_32_bits (class_named p name)
-
 -- the class and the name that a word says: what stands before its first point, and behind it
-abbrev pub class_word : List ℕ → List ℕ
-class_word word = before_first (λ byte. byte == 46) word
-
-abbrev pub name_word : List ℕ → List ℕ
-name_word word = drop (length (class_word word) + 1) word
+abbrev pub name_said : List ℕ → CalledMethod
+name_said word = record { class = utf16_of (front_of 46 word); name = utf16_of (rest_after 46 word) }
 
 -- the method at a position of a class has this name
 abbrev pub has_method : List ℕ → ClassFile → ℕ → Bool
 has_method name c at =
     option_map_or (λ (m : Member). same_text_at c.pool m.name name) (slice_get c.methods at) false
 
-abbrev pub is_called : Program → List ℕ → MethodPlace → Bool
-is_called p word place =
-    option_map_or (λ (c : ClassFile). has_name (class_word word) c && has_method (name_word word) c place.position)
-    (class_at p place.class) false
+abbrev pub is_called : Program → CalledMethod → MethodPlace → Bool
+is_called p wanted place =
+    option_map_or (λ (c : ClassFile). has_name wanted.class c && has_method wanted.name c place.position) (class_at p place.class) false
 
 -- the number of the first method of this name, whatever its descriptor
 abbrev pub method_called : Program → List ℕ → Option ℕ
-method_called p word = in_32_bits (position (is_called p word) p.methods)
+method_called p word = in_32_bits (position (is_called p (name_said word)) p.methods)
 
 -- ---- shown
 

@@ -12,13 +12,9 @@ use Rattle.revelation_rows.specs.declared.item.Happening.{Happening}
 use Rattle.revelation_rows.specs.declared.item.Happening.TheVariants.{Deselected, Entered, Loaded, Quiet, Selected, Shown}
 use Rattle.revelation_rows.specs.declared.item.Item.{Item}
 use Rattle.revelation_rows.specs.declared.item.Item.TheVariants.{Happens, Is}
-use Rattle.revelation_rows.specs.Names.{class_called, method_called}
-use Rattle.revelation_rows.specs.Words.{front_of, rest_of, words_in}
-
--- what is found for each of these, if something is found for each
-abbrev pub all_found : {A B : Type 0} → (A → Option B) → List A → Option (List B)
-all_found find [] = Some []
-all_found find (a ∷ more) = option_and_then (λ b. option_map (λ bs. b ∷ bs) (all_found find more)) (find a)
+use Rattle.revelation_rows.specs.Names.{method_called}
+use Rattle.row_words.specs.Names.{classes_called}
+use Rattle.row_words.specs.Words.{all_found, front_of, rest_after, words_in}
 
 -- ---- marks and classes
 
@@ -44,7 +40,7 @@ abbrev pub due_items : Program → List ℕ → Option (List Item)
 due_items p due =
     option_and_then (λ marks.
     option_map (λ classes. Is (Marks marks) ∷ Is (Changed classes) ∷ [])
-    (all_found (class_called p) (words_in 32 (rest_of 124 due))))
+    (classes_called p (rest_after 124 due)))
     (marks_with p (no_marks p) (words_in 32 (front_of 124 due)))
 
 -- ---- words
@@ -64,11 +60,15 @@ method_item verb method =
     else if bytes_eq verb (codes "unselected") then Some (Is (IsSelected method false))
     else option_map (λ happening. Happens happening) (happening_said verb method)
 
+-- the methods that the words of a text name, between commas
+abbrev pub methods_called : Program → List ℕ → Option (List ℕ)
+methods_called p words = all_found (method_called p) (words_in 44 words)
+
 -- the methods that a method can begin: `begins:METHOD=METHOD,..`
 abbrev pub begins_item : Program → List ℕ → Option Item
 begins_item p words =
     option_and_then (λ method.
-    option_map (λ methods. Is (Begins method methods)) (all_found (method_called p) (words_in 44 (rest_of 61 words))))
+    option_map (λ methods. Is (Begins method methods)) (methods_called p (rest_after 61 words)))
     (method_called p (front_of 61 words))
 
 -- what a verb and what stands behind its colon say
@@ -83,7 +83,7 @@ verb_item p verb name =
     else option_and_then (method_item verb) (method_called p name)
 
 abbrev pub word_item : Program → List ℕ → Option Item
-word_item p word = verb_item p (front_of 58 word) (rest_of 58 word)
+word_item p word = verb_item p (front_of 58 word) (rest_after 58 word)
 
 abbrev pub word_items : Program → List ℕ → Option (List Item)
 word_items p words = all_found (word_item p) (words_in 32 words)

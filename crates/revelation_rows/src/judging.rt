@@ -13,13 +13,14 @@ ghost use Rattle.revelation_rows.specs.Scenes.{IsBlank};
 use crate::item::{Difference, Fact, Item};
 use crate::making::make;
 use crate::names::{put_classes, put_marks, put_methods};
-use crate::parts::{Input, RowError, is_row, lines_of};
+use crate::parts::{Input, RowError, is_row};
 use crate::playing::play_all;
 use crate::reading::read_row;
 use crate::scenes::{Scene, begin, new_scene};
 use crate::spent::Spent;
 use jf_bytes::NoMemory;
 use jvm_model::Program;
+use row_words::lines_of;
 use std::alloc::{AllocError, Global};
 use std::time::CpuClock;
 

@@ -16,7 +16,6 @@ mod playing;
 mod reading;
 mod scenes;
 mod spent;
-mod words;
 
 use jf_bytes::DiskFiles;
 use judging::judge_all;

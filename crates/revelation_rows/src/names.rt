@@ -1,57 +1,39 @@
 //! Methods by their names, and their names: a class, a point, and a name.
 
-ghost use Rattle.std.specs.Prelude.{◌≡◌, ◌++◌, position, OnOk};
+ghost use Rattle.std.specs.Prelude.{◌≡◌, ◌++◌, position, IfOk, OnOk};
 ghost use Rattle.std.specs.List.{flat_map};
 ghost use Rattle.std.specs.Option.{option_and_then, option_copied};
 ghost use Rattle.std.specs.String.{string_bytes};
-ghost use Rattle.jvm_model.specs.Basis.Methods.{same_text_at};
-ghost use Rattle.jvm_model.specs.Basis.Programs.{class_at, has_name};
-ghost use Rattle.revelation_rows.specs.Names.{class_called, class_shown, class_word, has_method, in_32_bits, is_called, mark_shown, marks_shown_from, member_name};
-ghost use Rattle.revelation_rows.specs.Names.{method_called, method_shown, name_word, text_shown, unit_shown};
+ghost use Rattle.jvm_model.specs.Basis.Programs.{class_at};
+ghost use Rattle.revelation_rows.specs.Names.{class_shown, has_method, is_called, mark_shown, marks_shown_from, member_name};
+ghost use Rattle.revelation_rows.specs.Names.{method_called, method_shown, name_said, text_shown, unit_shown};
 
-use const_pool::{ClassFile, Pool};
-use jf_bytes::{NoMemory, Text16};
+use const_pool::ClassFile;
+use jf_bytes::{NoMemory, Text16, from_utf8};
 use jvm_model::{Mark, MethodPlace, Program};
+use row_words::{LookUp, has_name, is_text, number_of, split_at_first};
+use std::alloc::Global;
 
 // ---- found
 
-/// A position as the number of a class or a method.
-fn number_of(position: Option<usize>) -> Option<u32>
-    ensures { result ≡ in_32_bits position }
-{
-    u32::try_from(position?).ok()
+/// The name of a class, and that of a method in it.
+#[derive(Drop)]
+struct CalledMethod {
+    class: Text16,
+    name: Text16,
 }
 
 /// The class and the name that a word says.
-fn word_parted(word: &str) -> (&str, &str)
-    ensures class { result.0.now ≡ class_word word.now }
-    ensures name { result.1.now ≡ name_word word.now }
+fn name_in(alloc: Global, word: &str) -> Result<CalledMethod, NoMemory>
+    ensures { IfOk result (λ n. n ≡ name_said word.now) }
 {
-    match word.split_once('.') {
-        Some(parts) => parts,
-        None => (word, ""),
-    }
+    let (class, name) = split_at_first(word, '.');
+    let class = from_utf8(alloc, class)?;
+    let name = from_utf8(alloc, name)?;
+    Ok(CalledMethod { class, name })
 }
 
-fn is_text(pool: &Pool, index: u16, word: &str) -> bool
-    ensures { result ≡ same_text_at pool.now index word.now }
-{
-    match pool.text(index) {
-        Ok(text) => text.is_bytes(word.as_bytes()),
-        Err(_) => false,
-    }
-}
-
-fn has_name(file: &ClassFile, name: &str) -> bool
-    ensures { result ≡ has_name name.now file.now }
-{
-    match file.pool.class_name(file.this_class) {
-        Ok(found) => found.is_bytes(name.as_bytes()),
-        Err(_) => false,
-    }
-}
-
-fn has_method(file: &ClassFile, position: u16, name: &str) -> bool
+fn has_method(file: &ClassFile, position: u16, name: &Text16) -> bool
     ensures { result ≡ has_method name.now file.now position }
 {
     match file.methods.get(position as usize) {
@@ -60,47 +42,51 @@ fn has_method(file: &ClassFile, position: u16, name: &str) -> bool
     }
 }
 
-/// Whether a method has the name that a word says.
-fn is_called(program: &Program, word: &str, place: &MethodPlace) -> bool
-    ensures { result ≡ is_called program.now word.now place.now }
+/// Whether a method has this name.
+fn is_called(program: &Program, wanted: &CalledMethod, place: &MethodPlace) -> bool
+    ensures { result ≡ is_called program.now wanted.now place.now }
 {
-    let (class, name) = word_parted(word);
     match program.classes.get(place.class as usize) {
-        Some(file) => has_name(file, class) && has_method(file, place.position, name),
+        Some(file) => {
+            has_name(file, &wanted.class) && has_method(file, place.position, &wanted.name)
+        }
         None => false,
     }
 }
 
 /// Where the first method of this name stands among all.
-fn place_of(program: &Program, word: &str) -> Option<usize>
-    ensures { result ≡ position (is_called program.now word.now) program.now.methods }
+fn place_of(program: &Program, wanted: &CalledMethod) -> Option<usize>
+    ensures { result ≡ position (is_called program.now wanted.now) program.now.methods }
 {
     program
         .methods
         .as_slice()
         .iter()
-        .position(|place| is_called(program, word, place))
+        .position(|place| is_called(program, wanted, place))
 }
 
-/// The number of the first method that has this name.
-pub fn method_named(program: &Program, word: &str) -> Option<u32>
-    ensures { result ≡ method_called program.now word.now }
+/// The number of the first method that has the name that a word says.
+pub fn method_named(alloc: Global, program: &Program, word: &str) -> Result<Option<u32>, NoMemory>
+    ensures { IfOk result (λ found. found ≡ method_called program.now word.now) }
 {
-    number_of(place_of(program, word))
+    let wanted = name_in(alloc, word)?;
+    Ok(number_of(place_of(program, &wanted)))
 }
 
-/// Where the first class of this name stands.
-fn position_of(classes: &[ClassFile], name: &str) -> Option<usize>
-    ensures { result ≡ position (has_name name.now) classes.now }
-{
-    classes.iter().position(|file| has_name(file, name))
+/// The methods of a program by their names.
+#[derive(Drop)]
+pub struct MethodNames<'a> {
+    pub program: &'a Program,
 }
 
-/// The position of the class with this name.
-pub fn class_named(program: &Program, name: &str) -> Option<u32>
-    ensures { result ≡ class_called program.now name.now }
-{
-    number_of(position_of(program.classes.as_slice(), name))
+impl<'a> LookUp for MethodNames<'a> {
+    type Found = u32;
+
+    ghost found = { λ names word. method_called names.program.now word };
+
+    fn find(&self, alloc: Global, word: &str) -> Result<Option<u32>, NoMemory> {
+        method_named(alloc, self.program, word)
+    }
 }
 
 // ---- put

@@ -1,17 +1,15 @@
 //! The files of the rows, and why a row is not played.
 
 ghost use Rattle.std.specs.Prelude.{◌≡◌, map, IfOk, OnOk};
-ghost use Rattle.std.specs.Str.Lines.{lines};
 ghost use Rattle.std.specs.String.{string_bytes};
-ghost use Rattle.revelation_rows.specs.Files.{AreRead, IsAdded, IsFileAt, is_class_path};
+ghost use Rattle.revelation_rows.specs.Files.{AreRead, IsAdded, is_class_path};
 ghost use Rattle.revelation_rows.specs.Lines.{is_row as row_line};
+ghost use Rattle.row_words.specs.Files.{IsFileAt};
 
 use jf_bytes::{FetchError, Files, NoMemory};
+use row_words::MOST;
 use std::alloc::{AllocError, AllocFailed, Global};
 use thiserror::Error;
-
-/// The greatest length of a file: none comes near it.
-const MOST: usize = 67_108_864;
 
 /// Why a row is not played.
 #[derive(Debug, Drop, Error)]
@@ -123,13 +121,6 @@ pub fn read_files<F: Files>(
         add_file(alloc, &mut input, path.as_str(), files)?;
     }
     Ok(input)
-}
-
-/// The lines of a text.
-pub fn lines_of<'a>(alloc: Global, text: &'a str) -> Result<Vec<&'a str>, AllocError>
-    ensures { IfOk result (λ all. map (λ line. line.now) all.items ≡ lines text.now) }
-{
-    text.lines().collect(alloc)
 }
 
 /// Whether a line is a row, and neither empty nor a remark.

@@ -5,60 +5,21 @@ ghost use Rattle.std.specs.Option.{option_map};
 ghost use Rattle.jf_bytes.specs.Unicode.{utf16_of};
 ghost use Rattle.revelation_rows.specs.declared.item.Happening.TheVariants.{Loaded as class_loaded};
 ghost use Rattle.revelation_rows.specs.declared.item.Item.TheVariants.{Happens};
-ghost use Rattle.revelation_rows.specs.Names.{class_called, method_called};
-ghost use Rattle.revelation_rows.specs.Reading.{IsHalved, IsRead, all_found, begins_item, due_items, happening_said};
-ghost use Rattle.revelation_rows.specs.Reading.{marks_with, method_item, no_marks as none_marked, verb_item};
+ghost use Rattle.revelation_rows.specs.Reading.{IsHalved, IsRead, begins_item, due_items, happening_said};
+ghost use Rattle.revelation_rows.specs.Reading.{marks_with, method_item, methods_called, no_marks as none_marked, verb_item};
 ghost use Rattle.revelation_rows.specs.Reading.{with_mark, word_item, word_items};
 
 use crate::item::{Fact, Happening, Item};
-use crate::names::{class_named, method_named};
-use crate::words::{split_at_first, words_in};
+use crate::names::{MethodNames, method_named};
 use jf_bytes::{NoMemory, Seq, from_utf8};
 use jvm_model::{Mark, Program};
+use row_words::{LookUp, classes_in, find_all, split_at_first, words_in};
 use std::alloc::Global;
 
 /// How often `again` enters a method.
 const AGAIN: u32 = 10_000_000;
 
 // ---- what must be the case
-
-/// The numbers of the methods that these words name, in their order.
-fn methods_of(
-    alloc: Global,
-    program: &Program,
-    words: &[&str],
-) -> Result<Option<Seq<u32>>, NoMemory>
-    ensures { IfOk result (λ found.
-        found ≡ all_found (method_called program.now) (map (λ w. w.now) words.now)) }
-{
-    let mut methods = Seq::new(alloc);
-    for word in words {
-        match method_named(program, word) {
-            Some(method) => methods.push(method)?,
-            None => return Ok(None),
-        }
-    }
-    Ok(Some(methods))
-}
-
-/// The positions of the classes that these words name, in their order.
-fn classes_of(
-    alloc: Global,
-    program: &Program,
-    words: &[&str],
-) -> Result<Option<Seq<u32>>, NoMemory>
-    ensures { IfOk result (λ found.
-        found ≡ all_found (class_called program.now) (map (λ w. w.now) words.now)) }
-{
-    let mut classes = Seq::new(alloc);
-    for word in words {
-        match class_named(program, word) {
-            Some(class) => classes.push(class)?,
-            None => return Ok(None),
-        }
-    }
-    Ok(Some(classes))
-}
 
 /// No method is marked.
 fn no_marks(alloc: Global, program: &Program) -> Result<Vec<Mark>, NoMemory>
@@ -73,9 +34,14 @@ fn no_marks(alloc: Global, program: &Program) -> Result<Vec<Mark>, NoMemory>
 
 /// Marks the method that a word names, as a root where a `!` is behind its name. Whether there is
 /// one.
-fn mark_one(marks: &mut Vec<Mark>, program: &Program, word: &str) -> bool
-    ensures { with_mark program.now marks.old.items word.now
-        ≡ if result then Some marks.new.items else None }
+fn mark_one(
+    alloc: Global,
+    marks: &mut Vec<Mark>,
+    program: &Program,
+    word: &str,
+) -> Result<bool, NoMemory>
+    ensures { IfOk result (λ is. with_mark program.now marks.old.items word.now
+        ≡ if is then Some marks.new.items else None) }
 {
     let (name, _) = split_at_first(word, '!');
     let mark = if name.len() == word.len() {
@@ -83,14 +49,14 @@ fn mark_one(marks: &mut Vec<Mark>, program: &Program, word: &str) -> bool
     } else {
         Mark::Root
     };
-    let Some(method) = method_named(program, name) else {
-        return false;
+    let Some(method) = method_named(alloc, program, name)? else {
+        return Ok(false);
     };
     if method as usize >= marks.len() {
-        return false;
+        return Ok(false);
     }
     marks[method as usize] = mark;
-    true
+    Ok(true)
 }
 
 /// The marks of all methods, where those that these words name are marked.
@@ -100,7 +66,8 @@ fn marks_of(alloc: Global, program: &Program, words: &[&str]) -> Result<Option<S
 {
     let mut marks = no_marks(alloc, program)?;
     for word in words {
-        if !mark_one(&mut marks, program, word) {
+        let is_marked = mark_one(alloc, &mut marks, program, word)?;
+        if !is_marked {
             return Ok(None);
         }
     }
@@ -141,16 +108,23 @@ fn item_loaded(alloc: Global, name: &str) -> Result<Option<Item>, NoMemory>
     Ok(Some(Item::Happens(Happening::Loaded(from_utf8(alloc, name)?))))
 }
 
+/// The numbers of the methods that the words of a text name, between commas.
+fn methods_in(alloc: Global, program: &Program, text: &str) -> Result<Option<Seq<u32>>, NoMemory>
+    ensures { IfOk result (λ found. found ≡ methods_called program.now text.now) }
+{
+    let words = words_in(alloc, text, ',')?;
+    find_all(alloc, &MethodNames { program }, &words)
+}
+
 /// The methods that a method can begin: `begins:METHOD=METHOD,..`.
 fn begins(alloc: Global, program: &Program, words: &str) -> Result<Option<Item>, NoMemory>
     ensures { IfOk result (λ item. item ≡ begins_item program.now words.now) }
 {
     let (name, targets) = split_at_first(words, '=');
-    let Some(method) = method_named(program, name) else {
+    let Some(method) = method_named(alloc, program, name)? else {
         return Ok(None);
     };
-    let targets = words_in(alloc, targets, ',')?;
-    match methods_of(alloc, program, &targets)? {
+    match methods_in(alloc, program, targets)? {
         Some(methods) => Ok(Some(Item::Is(Fact::Begins(method, methods)))),
         None => Ok(None),
     }
@@ -172,7 +146,7 @@ fn read_verb(
         "show" => Ok(Some(Item::Happens(Happening::Shown))),
         "any_selected" => Ok(Some(Item::Is(Fact::SelectsAny(true)))),
         "none_selected" => Ok(Some(Item::Is(Fact::SelectsAny(false)))),
-        _ => match method_named(program, name) {
+        _ => match method_named(alloc, program, name)? {
             Some(method) => Ok(item_of(verb, method)),
             None => Ok(None),
         },
@@ -188,26 +162,28 @@ fn read_word(alloc: Global, program: &Program, word: &str) -> Result<Option<Item
 
 // ---- rows
 
-/// What these words say, where each says something.
-fn items_of(alloc: Global, program: &Program, words: &[&str]) -> Result<Option<Seq<Item>>, NoMemory>
-    ensures { IfOk result (λ found.
-        found ≡ all_found (word_item program.now) (map (λ w. w.now) words.now)) }
-{
-    let mut items = Seq::new(alloc);
-    for word in words {
-        match read_word(alloc, program, word)? {
-            Some(item) => items.push(item)?,
-            None => return Ok(None),
-        }
-    }
-    Ok(Some(items))
+/// What the words of a row say, over a program.
+#[derive(Drop)]
+struct RowWords<'a> {
+    program: &'a Program,
 }
 
+impl<'a> LookUp for RowWords<'a> {
+    type Found = Item;
+
+    ghost found = { λ words word. word_item words.program.now word };
+
+    fn find(&self, alloc: Global, word: &str) -> Result<Option<Item>, NoMemory> {
+        read_word(alloc, self.program, word)
+    }
+}
+
+/// What the words of a text say, where each says something.
 fn read_words(alloc: Global, program: &Program, words: &str) -> Result<Option<Seq<Item>>, NoMemory>
     ensures { IfOk result (λ found. found ≡ word_items program.now words.now) }
 {
     let words = words_in(alloc, words, ' ')?;
-    items_of(alloc, program, &words)
+    find_all(alloc, &RowWords { program }, &words)
 }
 
 /// Adds which marks there must be, and which classes must have others than those that were shown.
@@ -222,11 +198,10 @@ fn with_due(
 {
     let (marked, changed) = split_at_first(due, '|');
     let marked = words_in(alloc, marked, ' ')?;
-    let changed = words_in(alloc, changed, ' ')?;
     let Some(marks) = marks_of(alloc, program, &marked)? else {
         return Ok(None);
     };
-    let Some(classes) = classes_of(alloc, program, &changed)? else {
+    let Some(classes) = classes_in(alloc, program, changed)? else {
         return Ok(None);
     };
     let mut items = items;

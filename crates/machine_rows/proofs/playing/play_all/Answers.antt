@@ -1,5 +1,5 @@
 use Rattle.std.proofs.Common.{Ok, ap, sym, ◌∙◌}
-use Rattle.machine_rows.proofs.Plays.{lines_of, plays-all, plays-next, there}
+use Rattle.machine_rows.proofs.Plays.{lines_of, plays-all, plays-next}
 use Rattle.machine_rows.proofs.Rests.{fresh-ready, fresh-rests, rests}
 use Rattle.machine_rows.proofs.playing.play_all.Goals as goal
 
@@ -17,7 +17,7 @@ loop-placed-preserved c =
       ready = c.play.ensures.ready none;
       rests = λ e. rests c.placed-item.result.line c.loop-placed.resting c.loop-placed.vm c.play.new.vm (c.play.ensures.played none) c.loop-placed.invariant.rests (sym c.rests_behind-resting.ensures ∙ e);
       plays = plays-next c.args.lines.now c.loop-placed.placed-index c.placed-item.result (lines_of c.args.lines.now) c.args.vm.now c.loop-placed.vm c.play.new.vm
-          (there c.args.lines.now c.loop-placed.placed-index c.placed-item.result c.loop-placed-test.true c.placed-item.is) (c.play.ensures.played none) c.loop-placed.invariant.plays;
+          c.loop-placed-test.true c.placed-item.is (c.play.ensures.played none) c.loop-placed.invariant.plays;
     }
 
 pub returns : goal.returns

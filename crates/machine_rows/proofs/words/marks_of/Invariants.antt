@@ -1,7 +1,8 @@
 -- what is said by the letters that are left is put behind what was said
 use Rattle.std.proofs.Common.{◌≡◌, ◌++◌, drop}
 use Rattle.std.specs.Option.{option_map}
-use Rattle.machine_rows.specs.Words.{all_found, mark_said}
+use Rattle.machine_rows.specs.Words.{mark_said}
+use Rattle.row_words.specs.Words.{all_found}
 use Rattle.machine_rows.proofs.words.marks_of.Given as goal
 
 abbrev pub invariant-loop-letter : goal.invariant-loop-letter
