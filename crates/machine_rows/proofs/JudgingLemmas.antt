@@ -1,5 +1,6 @@
 -- The verdict from its parts.
 use Rattle.std.proofs.Common.{◌≡◌, ℕ, List, map, Option, None, subst}
+use Rattle.std.specs.Option.{IfSome}
 use Rattle.std.specs.Str.Lines.{lines}
 use Rattle.jf_bytes.specs.Streams.{Told}
 use Rattle.jvm_model.specs.declared.program.Program.{Program}
@@ -9,14 +10,15 @@ use Rattle.machine_rows.specs.declared.playing.Failure.{Failure}
 use Rattle.row_words.specs.Files.{IsFileAt}
 use Rattle.machine_rows.specs.Judging.{IsJudged}
 use Rattle.machine_rows.specs.Making.{IsMade}
-use Rattle.machine_rows.specs.Played.{PlaysAll}
+use Rattle.machine_rows.specs.Played.{FailsAt, PlaysAll}
 use Rattle.machine_rows.specs.Reading.{AreRead}
 
 pub judged : (told first second : Option Told) (row text : List ℕ) (given same : List (List ℕ)) (program : Program) (machine start : View)
     (placed asked : List Placed) (found : Option Failure) → IsFileAt told row text → first ≡ told → second ≡ first
     → given ≡ lines text → same ≡ lines text → IsMade first given machine → program ≡ machine.program → AreRead program second same placed
-    → start ≡ machine → asked ≡ placed → (found ≡ None → PlaysAll (map (λ l. l.line) asked) start) → IsJudged told row found
-judged told first second row text given same program machine start placed asked found file stay then_stay are are_too made of read begins all played =
+    → start ≡ machine → asked ≡ placed → (found ≡ None → PlaysAll (map (λ l. l.line) asked) start)
+    → IfSome found (λ f. FailsAt asked f start) → IsJudged told row found
+judged told first second row text given same program machine start placed asked found file stay then_stay are are_too made of read begins all played failed =
     record {
       text = text;
       file = file;
@@ -29,4 +31,5 @@ judged told first second row text given same program machine start placed asked 
           (subst (λ ts. AreRead machine.program second ts placed) are_too
           (subst (λ p. AreRead p second same placed) of read)));
       played = λ e. subst (PlaysAll (map (λ l. l.line) placed)) begins (subst (λ ps. PlaysAll (map (λ l. l.line) ps) start) all (played e));
+      failed = subst (λ v. IfSome found (λ f. FailsAt placed f v)) begins (subst (λ ps. IfSome found (λ f. FailsAt ps f start)) all failed);
     }

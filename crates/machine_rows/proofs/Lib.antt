@@ -3,6 +3,7 @@ mod JudgingLemmas
 mod MakingLemmas
 mod NameLemmas
 mod NumberLemmas
+mod Otherwise
 mod Plays
 mod ReadingLemmas
 mod Rests

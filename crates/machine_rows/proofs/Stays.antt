@@ -47,7 +47,7 @@ turn-ready old new Ended r t known =
 turn-ready old new Broken r t known = absurd (let e : true ≡ false = sym t.broken ∙ r.whole in cc)
 turn-ready old new NoMemory r t known = absurd (known refl)
 
-passes-ready : (old : View) (n : ℕ) (new : View) → IsReady old → Passes old n new → IsReady new
+pub passes-ready : (old : View) (n : ℕ) (new : View) → IsReady old → Passes old n new → IsReady new
 passes-ready old _ _ r Passes.none = r
 passes-ready old _ _ r (Passes.more m mid new p s) = turn-ready mid new Settled (passes-ready old m mid r p) s (λ e. absurd cc)
 

@@ -1,5 +1,5 @@
 -- The verdict on a row.
-use Rattle.std.specs.Prelude.{◌≡◌, ℕ, List, map, Option, None}
+use Rattle.std.specs.Prelude.{◌≡◌, ℕ, List, map, Option, None, IfSome}
 use Rattle.std.specs.Str.Lines.{lines}
 use Rattle.jf_bytes.specs.Streams.{Told}
 use Rattle.jvm_machine.specs.View.{View}
@@ -7,11 +7,12 @@ use Rattle.machine_rows.specs.declared.line.Placed.{Placed}
 use Rattle.machine_rows.specs.declared.playing.Failure.{Failure}
 use Rattle.row_words.specs.Files.{IsFileAt}
 use Rattle.machine_rows.specs.Making.{IsMade}
-use Rattle.machine_rows.specs.Played.{PlaysAll}
+use Rattle.machine_rows.specs.Played.{FailsAt, PlaysAll}
 use Rattle.machine_rows.specs.Reading.{AreRead}
 
 -- The row's file has lines that name a program, which admission takes, and each of which says something; and where no
--- line is told, all that they say comes of a machine of that program, one behind the other.
+-- line is told, all that they say comes of a machine of that program, one behind the other; where one is, those before it
+-- have come so, and of it came what is told.
 pub record IsJudged (told : Option Told) (row : List ℕ) (found : Option Failure) : Type 0 where
   pub text : List ℕ
   pub file : IsFileAt told row text
@@ -20,3 +21,4 @@ pub record IsJudged (told : Option Told) (row : List ℕ) (found : Option Failur
   pub placed : List Placed
   pub read : AreRead machine.program told (lines text) placed
   pub played : found ≡ None → PlaysAll (map (λ l. l.line) placed) machine
+  pub failed : IfSome found (λ f. FailsAt placed f machine)

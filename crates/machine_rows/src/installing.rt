@@ -1,11 +1,12 @@
 //! Installs the image of a class, and tries bytes that redefine none.
 
-ghost use Rattle.std.specs.Prelude.{◌≡◌, ◌≢◌, ◌<◌, ◌≤◌, None, Some, Ok, true, length, IfOk, IfSome};
+ghost use Rattle.std.specs.Prelude.{◌≡◌, ◌≢◌, ◌<◌, ◌≤◌, None, Some, Ok, true, false, length, IfNone, IfOk, IfSome};
 ghost use Rattle.jvm_machine.specs.Installs.{with_class};
 ghost use Rattle.std.specs.Option.{option_copied};
 ghost use Rattle.jvm_model.specs.Basis.Programs.{class_at};
 ghost use Rattle.jvm_model.specs.Profiling.Swaps.{first_number};
-ghost use Rattle.machine_rows.specs.Played.{IsNotRedefined};
+ghost use Rattle.machine_rows.specs.declared.line.Line.TheVariants.{Installed, Refused};
+ghost use Rattle.machine_rows.specs.Played.{FitsMarks, IsNotRedefined, IsNotUnfit, IsOtherwise};
 ghost use Rattle.machine_rows.specs.Ready.{IsImageFile, IsReady, IsUnfit};
 
 use crate::turns::Difference;
@@ -44,8 +45,10 @@ fn class_at(vm: &Vm, class: u32) -> Option<&ClassFile>
 /// The image of a class for these marks, where they are one for each method, and no method without Code is marked.
 fn image_of(alloc: Global, vm: &Vm, class: u32, marks: &[Mark]) -> Result<Option<Image>, NoMemory>
     requires { IsReady vm.now }
-    ensures { IfOk result (λ found. IfSome found (λ image.
+    ensures image { IfOk result (λ found. IfSome found (λ image.
         IsImageFile vm.now.program class marks.now image.class image.homes)) }
+    ensures unfit { IfOk result (λ found. IfNone found
+        (FitsMarks vm.now.program class marks.now → ⊥)) }
 {
     let Some(original) = class_at(vm, class) else {
         return Ok(None);
@@ -73,6 +76,8 @@ pub fn install(
     requires { IsReady vm.old }
     ensures installed { result ≡ Ok None → vm.new ≡ with_class class marks.now vm.old }
     ensures ready { result ≡ Ok None → IsReady vm.new }
+    ensures otherwise { IfOk result (λ told. IfSome told
+        (IsOtherwise vm.old (Installed class marks.now))) }
 {
     if !vm.linker().is_loaded(class) {
         return Ok(Some(Difference::NotMarked));
@@ -92,6 +97,7 @@ pub fn install(
 fn is_unfit(alloc: Global, vm: &Vm, class: u32, bytes: &[u8]) -> Result<bool, NoMemory>
     ensures unfit { result ≡ Ok true → IsUnfit vm.now.program class bytes.now }
     ensures known { result ≡ Ok true → class < length vm.now.program.classes }
+    ensures fit { result ≡ Ok false → IsNotUnfit vm.now.program class bytes.now }
 {
     let Some(original) = class_at(vm, class) else {
         return Ok(false);
@@ -107,6 +113,8 @@ fn is_unfit(alloc: Global, vm: &Vm, class: u32, bytes: &[u8]) -> Result<bool, No
 fn same_refusal(wanted: SwapError, came: SwapError) -> Result<Option<Difference>, NoMemory>
     ensures same { result ≡ Ok None → came ≡ wanted }
     ensures found { result ≡ Ok None → came ≢ SwapError.NoMemory }
+    ensures other { IfOk result (λ told. IfSome told (λ d.
+        (d ≡ Difference.Redefined (Some came)) × (came ≢ wanted) × (came ≢ SwapError.NoMemory))) }
 {
     if let SwapError::NoMemory = came {
         return Err(NoMemory);
@@ -129,6 +137,8 @@ pub fn refuse(
     ensures refused { result ≡ Ok None
         → IsNotRedefined vm.old class bytes.now wanted vm.new }
     ensures ready { result ≡ Ok None → IsReady vm.new }
+    ensures otherwise { IfOk result (λ told. IfSome told
+        (IsOtherwise vm.old (Refused class bytes.now wanted))) }
 {
     if !vm.linker().is_loaded(class) {
         return Ok(Some(Difference::NotMarked));

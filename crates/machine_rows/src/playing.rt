@@ -1,9 +1,10 @@
 //! Plays the lines of a row on a machine.
 
-ghost use Rattle.std.specs.Prelude.{◌≡◌, ◌≢◌, None, Ok, map, true};
+ghost use Rattle.std.specs.Prelude.{◌≡◌, ◌≢◌, None, Some, Ok, map, true, IfOk, IfSome};
 ghost use Rattle.jvm_machine.specs.View.{is_resting};
 ghost use Rattle.jvm_machine.specs.declared.turn.Turn.TheVariants.{NoMemory as of_memory};
-ghost use Rattle.machine_rows.specs.Played.{IsPlayed, IsRun, IsTurned, PlaysAll};
+ghost use Rattle.machine_rows.specs.declared.line.Line.TheVariants.{Ran, Turned};
+ghost use Rattle.machine_rows.specs.Played.{FailsAt, IsOtherwise, IsPlayed, IsRun, IsTurned, PlaysAll};
 ghost use Rattle.machine_rows.specs.Ready.{IsFresh, IsReady};
 ghost use Rattle.machine_rows.specs.Resting.{rests_at, rests_behind};
 
@@ -42,6 +43,8 @@ fn turn_compared(
     ensures turn { result ≡ Ok None → came ≡ wanted.now }
     ensures clock { result ≡ Ok None → now ≡ clock }
     ensures found { result ≡ Ok None → came ≢ of_memory }
+    ensures other { IfOk result (λ told. IfSome told (λ d.
+        (d ≡ Difference.Turned came now) × (came ≡ wanted.now → now ≢ clock))) }
 {
     if let Turn::NoMemory = came {
         return Err(NoMemory);
@@ -57,6 +60,8 @@ fn turn(vm: &mut Vm, wanted: &Turn, clock: u64) -> Result<Option<Difference>, No
     requires { IsReady vm.old }
     ensures turned { result ≡ Ok None → IsTurned vm.old wanted.now clock vm.new }
     ensures ready { result ≡ Ok None → IsReady vm.new }
+    ensures otherwise { IfOk result (λ told. IfSome told
+        (IsOtherwise vm.old (Turned wanted.now clock))) }
 {
     if vm.clock() > MOST_STEPS {
         return Ok(Some(Difference::Exhausted));
@@ -65,7 +70,7 @@ fn turn(vm: &mut Vm, wanted: &Turn, clock: u64) -> Result<Option<Difference>, No
     turn_compared(wanted, clock, came, vm.clock())
 }
 
-/// Asks for several steps, where no step is in hand.
+/// Asks for several steps, where no step is in hand. `resting` says whether none is.
 fn run(
     vm: &mut Vm,
     most: u64,
@@ -74,9 +79,11 @@ fn run(
     resting: bool,
 ) -> Result<Option<Difference>, NoMemory>
     requires ready { IsReady vm.old }
-    requires rests { resting ≡ true → is_resting vm.old ≡ true }
+    requires rests { resting ≡ is_resting vm.old }
     ensures ran { result ≡ Ok None → IsRun vm.old most wanted.now clock vm.new }
     ensures ready { result ≡ Ok None → IsReady vm.new }
+    ensures otherwise { IfOk result (λ told. IfSome told
+        (IsOtherwise vm.old (Ran most wanted.now clock))) }
 {
     if vm.clock() > MOST_STEPS || most > MOST_STEPS || most == 0 || !resting {
         return Ok(Some(Difference::Exhausted));
@@ -86,7 +93,8 @@ fn run(
 }
 
 fn same_ending(wanted: Ending, came: Option<Ending>) -> Option<Difference>
-    ensures { result ≡ None → came ≡ Some wanted }
+    ensures same { result ≡ None → came ≡ Some wanted }
+    ensures other { IfSome result (λ d. (d ≡ Difference.Ended came) × (came ≢ Some wanted)) }
 {
     match came {
         Some(ending) if ending == wanted => None,
@@ -95,7 +103,8 @@ fn same_ending(wanted: Ending, came: Option<Ending>) -> Option<Difference>
 }
 
 fn same_output(wanted: &[u8], came: &[u8]) -> Option<Difference>
-    ensures { result ≡ None → came.now ≡ wanted.now }
+    ensures same { result ≡ None → came.now ≡ wanted.now }
+    ensures other { IfSome result (λ d. (d ≡ Difference.Printed) × (came.now ≢ wanted.now)) }
 {
     if came == wanted {
         return None;
@@ -104,7 +113,8 @@ fn same_output(wanted: &[u8], came: &[u8]) -> Option<Difference>
 }
 
 fn same_count(wanted: u32, came: u32) -> Option<Difference>
-    ensures { result ≡ None → came ≡ wanted }
+    ensures same { result ≡ None → came ≡ wanted }
+    ensures other { IfSome result (λ d. (d ≡ Difference.Lives came) × (came ≢ wanted)) }
 {
     if came == wanted {
         return None;
@@ -122,7 +132,7 @@ fn rests_at(turn: &Turn) -> bool
     }
 }
 
-/// Whether no step is in hand behind a line, where it is known whether one was before.
+/// Whether no step is in hand behind a line that has come, by whether none was before.
 fn rests_behind(line: &Line, resting: bool) -> bool
     ensures { result ≡ rests_behind line.now resting }
 {
@@ -142,9 +152,10 @@ fn play(
     resting: bool,
 ) -> Result<Option<Difference>, NoMemory>
     requires ready { IsReady vm.old }
-    requires rests { resting ≡ true → is_resting vm.old ≡ true }
+    requires rests { resting ≡ is_resting vm.old }
     ensures played { result ≡ Ok None → IsPlayed line.now vm.old vm.new }
     ensures ready { result ≡ Ok None → IsReady vm.new }
+    ensures otherwise { IfOk result (λ told. IfSome told (IsOtherwise vm.old line.now)) }
 {
     match line {
         Line::Turned(wanted, clock) => turn(vm, wanted, *clock),
@@ -162,7 +173,8 @@ fn play(
 /// Plays the lines of a row, up to the first of which another thing comes.
 pub fn play_all(alloc: Global, vm: &mut Vm, lines: &[Placed]) -> Result<Option<Failure>, NoMemory>
     requires { IsFresh vm.old }
-    ensures { result ≡ Ok None → PlaysAll (map (λ l. l.line) lines.now) vm.old }
+    ensures came { result ≡ Ok None → PlaysAll (map (λ l. l.line) lines.now) vm.old }
+    ensures failed { IfOk result (λ told. IfSome told (λ f. FailsAt lines.now f vm.old)) }
 {
     let mut resting = true;
     for placed in lines {

@@ -1,6 +1,6 @@
 //! What came beside what a row says.
 
-ghost use Rattle.std.specs.Prelude.{◌≡◌, true};
+ghost use Rattle.std.specs.Prelude.{◌≡◌, ◌≢◌, true, false};
 
 use class_shape::SwapError;
 use jvm_machine::Turn;
@@ -45,9 +45,10 @@ impl fmt::Display for Difference {
     }
 }
 
-/// Whether a turn that came is the wanted one; want of memory, now or before, is none.
+/// Whether a turn that came is the wanted one.
 pub fn is_same_turn(wanted: &Turn, came: &Turn) -> bool
-    ensures { result ≡ true → came.now ≡ wanted.now }
+    ensures same { result ≡ true → came.now ≡ wanted.now }
+    ensures other { result ≡ false → came.now ≢ wanted.now }
 {
     match wanted {
         Turn::Settled => matches!(came, Turn::Settled),
@@ -60,6 +61,7 @@ pub fn is_same_turn(wanted: &Turn, came: &Turn) -> bool
             Turn::Loaded(others) => classes.as_slice() == others.as_slice(),
             _ => false,
         },
-        Turn::Broken | Turn::NoMemory => false,
+        Turn::Broken => matches!(came, Turn::Broken),
+        Turn::NoMemory => matches!(came, Turn::NoMemory),
     }
 }

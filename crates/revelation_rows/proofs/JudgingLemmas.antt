@@ -1,6 +1,6 @@
 -- Verdicts one by one.
-use Rattle.std.proofs.Common.{◌≡◌, ◌<◌, ◌+◌, ℕ, Bool, true, false, cond, List, [], ◌∷◌, ◌++◌, length, map, take, sym, subst}
-use Rattle.std.specs.Prelude.{Option, Some, None, Result, Ok, Err, IfOk, codes, get_or}
+use Rattle.std.proofs.Common.{◌≡◌, ◌<◌, ◌+◌, ℕ, zero, suc, Bool, true, false, cond, List, [], ◌∷◌, ◌++◌, drop, length, map, take, ap, sym, subst, ◌∙◌, refl, add-one, arith}
+use Rattle.std.specs.Prelude.{Option, Some, None, Result, Ok, Err, IfErr, IfOk, codes, get_or}
 use Rattle.std.specs.List.{AllByRecursion, AllZip, filter}
 use Rattle.std.specs.String.{string_bytes}
 use Rattle.std.proofs.lemmas.List.{append-nil}
@@ -16,7 +16,9 @@ use Rattle.class_linker.specs.Linkers.{LinkerView, linker_of}
 use Rattle.revelation_rows.specs.declared.item.Difference.{Difference}
 use Rattle.revelation_rows.specs.declared.item.Item.{Item}
 use Rattle.revelation_rows.specs.declared.judging.Verdict.{Verdict}
-use Rattle.revelation_rows.specs.Judging.{AddsVerdict, IsJudged, IsProgramOf, IsToldOfRow, IsVerdict, root_name}
+use Rattle.revelation_rows.specs.declared.parts.RowError.{RowError}
+use Rattle.revelation_rows.specs.declared.parts.RowError.TheVariants.{Missing, NotText, NotRead, NotAdmitted, NoRoot, Unknown, NoMemory}
+use Rattle.revelation_rows.specs.Judging.{AddsVerdict, AreUnadmitted, AreUnmade, IsJudged, IsProgramOf, IsToldOfRow, IsUnbegun, IsUnplayed, IsUnread, IsVerdict, root_name}
 use Rattle.revelation_rows.specs.Reading.{IsRead}
 use Rattle.revelation_rows.specs.Rows.{Comes, first}
 use Rattle.revelation_rows.specs.Lines.{is_row}
@@ -77,6 +79,68 @@ pub program-made : {E : Type 0} (files : List (List ℕ)) (classes : List ClassF
     → IfOk r (λ p. admission_of classes (utf16_of (codes "Main")) silent_plan ≡ Ok p) → IfOk r (IsProgramOf files)
 program-made files classes (Ok p) read admitted = record { classes = classes; read = read; admitted = admitted }
 program-made files classes (Err e) read admitted = tt
+
+-- ---- why a row is not played
+
+parted : {A : Type 0} (f : A → List ℕ) (xs : List A) (i : ℕ) (x d : A) → i < length xs → x ≡ get_or xs i d
+    → map f xs ≡ map f (take i xs) ++ f x ∷ map f (drop (suc i) xs)
+parted f [] i x d less is = absurd (omega (arith, less))
+parted f (y ∷ ys) zero x d less is = ap (λ z. f z ∷ map f ys) (sym is)
+parted f (y ∷ ys) (suc i) x d less is = ap (λ fs. f y ∷ fs) (parted f ys i x d (omega (arith, less)) is)
+
+pub none-made : {A : Type 0} (f : A → List ℕ) (xs : List A) (i : ℕ) (x d : A) (bytes : List ℕ) (error : RowError) → i < length xs → x ≡ get_or xs i d → bytes ≡ f x
+    → IsUnread bytes error → AreUnmade (map f xs) error
+none-made f xs i x d bytes (Missing name) less is named unread = unread
+none-made f xs i x d bytes (NotText name) less is named unread = unread
+none-made f xs i x d bytes NotRead less is named unread = record {
+  before = map f (take i xs);
+  bytes = f x;
+  after = map f (drop (suc i) xs);
+  there = parted f xs i x d less is;
+  unread = subst (λ b. IsUnread b NotRead) named unread;
+}
+none-made f xs i x d bytes NotAdmitted less is named unread = unread
+none-made f xs i x d bytes NoRoot less is named unread = unread
+none-made f xs i x d bytes Unknown less is named unread = unread
+none-made f xs i x d bytes NoMemory less is named unread = tt
+
+none-admitted : (files : List (List ℕ)) (classes : List ClassFile) (error : RowError) → AllZip IsFile files classes → AreUnadmitted classes error → AreUnmade files error
+none-admitted files classes (Missing name) read refused = refused
+none-admitted files classes (NotText name) read refused = refused
+none-admitted files classes NotRead read refused = absurd refused
+none-admitted files classes NotAdmitted read refused = (classes, read, refused)
+none-admitted files classes NoRoot read refused = refused
+none-admitted files classes Unknown read refused = refused
+none-admitted files classes NoMemory read refused = tt
+
+pub program-unmade : (files : List (List ℕ)) (classes : List ClassFile) (r : Result Program RowError) → AllZip IsFile files classes → IfErr r (AreUnadmitted classes)
+    → IfErr r (AreUnmade files)
+program-unmade files classes (Ok p) read refused = tt
+program-unmade files classes (Err e) read refused = none-admitted files classes e read refused
+
+pub unmade : (files : List (List ℕ)) (row : List ℕ) (error : RowError) → AreUnmade files error → IsUnplayed files row error
+unmade files row (Missing name) is = is
+unmade files row (NotText name) is = is
+unmade files row NotRead is = is
+unmade files row NotAdmitted is = is
+unmade files row NoRoot is = absurd is
+unmade files row Unknown is = absurd is
+unmade files row NoMemory is = tt
+
+unbegun-of : (files : List (List ℕ)) (row : List ℕ) (p : Program) (error : RowError) → IsProgramOf files p → IsUnbegun (linker_of p) error → IsUnplayed files row error
+unbegun-of files row p (Missing name) of is = is
+unbegun-of files row p (NotText name) of is = is
+unbegun-of files row p NotRead of is = absurd is
+unbegun-of files row p NotAdmitted of is = absurd is
+unbegun-of files row p NoRoot of is = (p, of, is)
+unbegun-of files row p Unknown of is = absurd is
+unbegun-of files row p NoMemory of is = tt
+
+pub unbegun : (files : List (List ℕ)) (row : List ℕ) (p : Program) (l : LinkerView) (error : RowError) → IsProgramOf files p → l ≡ linker_of p → IsUnbegun l error
+    → IsUnplayed files row error
+unbegun files row p l error of starts is = unbegun-of files row p error of (subst (λ m. IsUnbegun m error) starts is)
+
+-- ---- a verdict
 
 module _ {A : Type 0} (files : List (List ℕ)) (timed : Bool) (row : List ℕ) (v : Verdict) where
   pub told-took : (told : Option A) → timed ≡ true → IsToldOfRow files row told → v.has_passed ≡ true → IsVerdict files timed row v

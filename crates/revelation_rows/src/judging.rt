@@ -1,11 +1,11 @@
 //! The verdict on a row.
 
-ghost use Rattle.std.specs.Prelude.{◌≡◌, ◌++◌, codes, map, true, false, IfOk, OnOk};
+ghost use Rattle.std.specs.Prelude.{◌≡◌, ◌++◌, codes, map, true, false, IfErr, IfOk, OnOk};
 ghost use Rattle.std.specs.List.{AllZip, filter};
 ghost use Rattle.std.specs.Str.Lines.{lines};
 ghost use Rattle.std.specs.String.{string_bytes};
 ghost use Rattle.jvm_model.specs.Classes.Load.{load_of};
-ghost use Rattle.revelation_rows.specs.Judging.{AddsVerdict, IsToldOfRow, IsVerdict, root_name};
+ghost use Rattle.revelation_rows.specs.Judging.{AddsVerdict, IsToldOfRow, IsUnbegun, IsUnplayed, IsVerdict, root_name};
 ghost use Rattle.revelation_rows.specs.Lines.{is_row as row_line};
 ghost use Rattle.revelation_rows.specs.Rows.{Comes, first};
 ghost use Rattle.revelation_rows.specs.Scenes.{IsBlank};
@@ -71,15 +71,21 @@ fn run<R: CpuClock>(
     items: &[Item],
 ) -> Result<Option<Difference>, RowError>
     requires { IsBlank scene.old.linker scene.old.reveal }
-    ensures { let l = scene.old.linker in
+    ensures came { let l = scene.old.linker in
         IfOk result (Comes l.program items.now
         (first (load_of l.program l.loaded root_name).loaded)) }
+    ensures unbegun { IfErr result (IsUnbegun scene.old.linker) }
 {
-    let began = begin(alloc, scene)?;
+    let Ok(began) = begin(alloc, scene) else {
+        return Err(RowError::NoMemory);
+    };
     if !began {
         return Err(RowError::NoRoot);
     }
-    Ok(play_all(rt, alloc, scene, items)?)
+    match play_all(rt, alloc, scene, items) {
+        Ok(found) => Ok(found),
+        Err(NoMemory) => Err(RowError::NoMemory),
+    }
 }
 
 /// What came otherwise than a row says, if anything did, and what the row took of the processor.
@@ -89,19 +95,32 @@ fn judge<R: CpuClock>(
     files: &[Vec<u8>],
     row: &str,
 ) -> Result<(Option<String>, Spent), RowError>
-    ensures { let files = map (λ f. f.items) files.now in
+    ensures told { let files = map (λ f. f.items) files.now in
         IfOk result (λ answer. IsToldOfRow files row.now answer.0) }
+    ensures unplayed { IfErr result (IsUnplayed (map (λ f. f.items) files.now) row.now) }
 {
-    let program = make(alloc, files)?;
-    let Some(items) = read_row(alloc, &program, row)? else {
+    let program = match make(alloc, files) {
+        Ok(program) => program,
+        Err(error) => return Err(error),
+    };
+    let Ok(read) = read_row(alloc, &program, row) else {
+        return Err(RowError::NoMemory);
+    };
+    let Some(items) = read else {
         return Err(RowError::Unknown);
     };
-    let mut scene = new_scene(alloc, program)?;
-    match run(rt, alloc, &mut *scene, items.as_slice())? {
-        Some(came) => {
-            let told = text_of(alloc, scene.linker.program(), &came)?;
-            Ok((Some(told), scene.spent))
-        }
+    let Ok(mut scene) = new_scene(alloc, program) else {
+        return Err(RowError::NoMemory);
+    };
+    let found = match run(rt, alloc, &mut *scene, items.as_slice()) {
+        Ok(found) => found,
+        Err(error) => return Err(error),
+    };
+    match found {
+        Some(came) => match text_of(alloc, scene.linker.program(), &came) {
+            Ok(told) => Ok((Some(told), scene.spent)),
+            Err(NoMemory) => Err(RowError::NoMemory),
+        },
         None => Ok((None, scene.spent)),
     }
 }
@@ -142,6 +161,17 @@ fn took(alloc: Global, spent: Spent) -> Result<Verdict, AllocError>
     })
 }
 
+/// Why a row is not played, in words.
+fn cause(alloc: Global, error: &RowError) -> Result<String, AllocError>
+    ensures { IfOk result (λ told.
+        error.now ≡ RowError.NoMemory → string_bytes told ≡ codes "no memory") }
+{
+    if let RowError::NoMemory = error {
+        return String::from_str(alloc, "no memory");
+    }
+    format!(in alloc; "{error}")
+}
+
 /// Plays a row over the program of these class files. Where it is `timed` what it took is told.
 fn judge_row<R: CpuClock>(
     rt: &R,
@@ -164,7 +194,7 @@ fn judge_row<R: CpuClock>(
             }
         }
         Err(error) => {
-            let told = format!(in alloc; "{error}")?;
+            let told = cause(alloc, &error)?;
             Ok(failed(alloc, row, told)?)
         }
     }

@@ -1,7 +1,8 @@
 //! A program whose classes are loaded and whose methods are entered and selected as a row says.
 
-ghost use Rattle.std.specs.Prelude.{◌≡◌, true, IfOk, OnOk};
+ghost use Rattle.std.specs.Prelude.{◌≡◌, true, false, IfOk, OnOk};
 ghost use Rattle.jvm_model.specs.Basis.KindNumbers.{user_count};
+ghost use Rattle.jvm_model.specs.Classes.Load.{is_among};
 ghost use Rattle.jvm_model.specs.Profiling.Points.{has_class};
 ghost use Rattle.jvm_model.specs.Profiling.Revealed.{with_loaded};
 ghost use Rattle.class_linker.specs.Linkers.{IsLoaded, linker_of};
@@ -115,6 +116,8 @@ pub fn begin(alloc: Global, scene: &mut Scene) -> Result<bool, NoMemory>
         IsFresh scene.new.linker scene.new.reveal) }
     ensures loaded { IfOk result (λ began.
         scene.new.linker ≡ loading root_name scene.old.linker) }
+    ensures rootless { IfOk result (λ began. began ≡ false →
+        is_among (user_count scene.new.linker.program) scene.new.linker.loaded ≡ false) }
 {
     let name = from_utf8(alloc, "java/lang/Object")?;
     link(&mut scene.linker, &name)?;

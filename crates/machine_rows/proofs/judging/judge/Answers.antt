@@ -15,4 +15,4 @@ returns g c =
     c.in_ok-text.ensures.found c.in_ok-text.ensures.stay c.in_ok-vm.ensures.stay
     (ap (map (λ l. l.now)) c.deref.ensures.value ∙ texts) (ap (map (λ l. l.now)) c.deref-3.ensures.value ∙ texts)
     c.in_ok-vm.ensures.made (c.program.ensures ∙ ap (λ (v : View). v.program) c.deref-2.ensures) c.in_ok-placed.ensures.read
-    c.deref_mut.ensures.value c.deref-4.ensures.value (λ e. c.play_all.ensures (c.in_ok-play_all.was ∙ ap Ok e))
+    c.deref_mut.ensures.value c.deref-4.ensures.value (λ e. c.play_all.ensures.came (c.in_ok-play_all.was ∙ ap Ok e)) c.in_ok-play_all.ensures.failed

@@ -1,6 +1,9 @@
 use Rattle.std.proofs.Common.{◌≡◌, None, ap, refl, subst, sym, ◌∙◌}
+use Rattle.std.specs.Option.{IfSome}
 use Rattle.jvm_machine.specs.Installs.{with_class}
-use Rattle.machine_rows.specs.Played.{IsNotRedefined}
+use Rattle.machine_rows.specs.declared.line.Line.TheVariants as line
+use Rattle.machine_rows.specs.Played.{IsNotRedefined, IsOtherwise}
+use Rattle.machine_rows.proofs.Otherwise.{ended-else, lives-else, of-line, printed-else}
 use Rattle.machine_rows.proofs.Plays.{played}
 use Rattle.machine_rows.proofs.playing.play.Goals as goal
 
@@ -14,7 +17,7 @@ pub returns-in-Ended-clause-played : goal.returns-in-Ended-clause-played
 returns-in-Ended-clause-played c = λ e.
     let none : c.same_ending.result ≡ None = cc in
     played c.args.line.now _ c.args.vm.now c.args.vm.now c.in-Ended.is (record {
-      holds = λ rests. sym (c.ending.ensures c.requires.ready.whole rests) ∙ c.same_ending.ensures none;
+      holds = λ rests. sym (c.ending.ensures c.requires.ready.whole rests) ∙ c.same_ending.ensures.same none;
       same = refl;
     })
 
@@ -22,7 +25,7 @@ pub returns-in-Printed-clause-played : goal.returns-in-Printed-clause-played
 returns-in-Printed-clause-played c = λ e.
     let none : c.same_output.result ≡ None = cc in
     played c.args.line.now _ c.args.vm.now c.args.vm.now c.in-Printed.is (record {
-      holds = λ rests. sym (c.output.ensures c.requires.ready.whole rests) ∙ (c.same_output.ensures none ∙ c.as_slice-in-Printed.ensures);
+      holds = λ rests. sym (c.output.ensures c.requires.ready.whole rests) ∙ (c.same_output.ensures.same none ∙ c.as_slice-in-Printed.ensures);
       same = refl;
     })
 
@@ -37,4 +40,37 @@ returns-in-Refused-clause-played c = λ e.
 pub returns-in-Lives-clause-played : goal.returns-in-Lives-clause-played
 returns-in-Lives-clause-played c = λ e.
     let none : c.same_count.result ≡ None = cc in
-    played c.args.line.now _ c.args.vm.now c.args.vm.now c.in-Lives.is (sym c.live.ensures.live ∙ c.same_count.ensures none, refl)
+    played c.args.line.now _ c.args.vm.now c.args.vm.now c.in-Lives.is (sym c.live.ensures.live ∙ c.same_count.ensures.same none, refl)
+
+-- ---- another thing came
+
+pub returns-in-Turned-clause-otherwise : goal.returns-in-Turned-clause-otherwise
+returns-in-Turned-clause-otherwise c = of-line c.turn.result c.args.vm.now c.args.line.now _ c.in-Turned.is c.turn.ensures.otherwise
+
+pub returns-in-Ran-clause-otherwise : goal.returns-in-Ran-clause-otherwise
+returns-in-Ran-clause-otherwise c = of-line c.run.result c.args.vm.now c.args.line.now _ c.in-Ran.is c.run.ensures.otherwise
+
+pub returns-in-Installed-clause-otherwise : goal.returns-in-Installed-clause-otherwise
+returns-in-Installed-clause-otherwise c =
+    of-line c.install.result c.args.vm.now c.args.line.now _ (c.in-Installed.is ∙ ap (λ m. line.Installed c.in-Installed.class m) (sym c.as_slice.ensures)) c.install.ensures.otherwise
+
+pub returns-in-Refused-clause-otherwise : goal.returns-in-Refused-clause-otherwise
+returns-in-Refused-clause-otherwise c =
+    of-line c.refuse.result c.args.vm.now c.args.line.now _
+    (c.in-Refused.is ∙ ap (λ b. line.Refused c.in-Refused.class b c.in-Refused.refusal) (sym c.as_slice-in-Refused.ensures)) c.refuse.ensures.otherwise
+
+pub returns-in-Ended-clause-otherwise : goal.returns-in-Ended-clause-otherwise
+returns-in-Ended-clause-otherwise c =
+    subst (λ l. IfSome c.same_ending.result (IsOtherwise c.args.vm.now l)) (sym c.in-Ended.is)
+    (ended-else c.same_ending.result c.args.vm.now _ c.ending.result (λ rests. sym (c.ending.ensures c.requires.ready.whole rests)) c.same_ending.ensures.other)
+
+pub returns-in-Printed-clause-otherwise : goal.returns-in-Printed-clause-otherwise
+returns-in-Printed-clause-otherwise c =
+    subst (λ l. IfSome c.same_output.result (IsOtherwise c.args.vm.now l)) (sym c.in-Printed.is)
+    (printed-else c.same_output.result c.args.vm.now _ c.as_slice-in-Printed.result.now c.output.result.now c.as_slice-in-Printed.ensures
+    (λ rests. c.output.ensures c.requires.ready.whole rests) c.same_output.ensures.other)
+
+pub returns-in-Lives-clause-otherwise : goal.returns-in-Lives-clause-otherwise
+returns-in-Lives-clause-otherwise c =
+    subst (λ l. IfSome c.same_count.result (IsOtherwise c.args.vm.now l)) (sym c.in-Lives.is)
+    (lives-else c.same_count.result c.args.vm.now _ c.live.result c.live.ensures.live c.same_count.ensures.other)
