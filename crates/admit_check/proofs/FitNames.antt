@@ -14,7 +14,6 @@ use Rattle.jvm_model.specs.Basis.Programs.{has_built_in_name, has_name, name_of}
 use Rattle.admit_check.specs.Admission.{class_fault, classes_fault}
 use Rattle.code_admission.specs.Checks.{fault_if}
 use Rattle.admit_check.specs.Shapes.{has_same_name, has_wrong_name, is_reserved, is_taken_name, name_fault, own_name, same_named, shape_fault}
-use Rattle.code_admission.specs.Texts as texts
 use Rattle.code_admission.proofs.Positions.{position-behind, position-first}
 
 -- ---- tests
@@ -38,13 +37,9 @@ taken-free : (o : Option (List ℕ)) → option_map_or is_taken_name o false ≡
 taken-free None e = refl
 taken-free (Some name) e = (or_parts (same_text name probe_class) _ e).1
 
-array-name : (name : List ℕ) → texts.is_array_name name ≡ false → is_array_name name ≡ false
-array-name [] e = e
-array-name (unit ∷ rest) e = e
-
-wrong-plain : (name : List ℕ) (o : Option (List ℕ)) → o ≡ Some name → option_map_or (λ name. length name == 0 || texts.is_array_name name) o false ≡ false → is_array_name name ≡ false
+wrong-plain : (name : List ℕ) (o : Option (List ℕ)) → o ≡ Some name → option_map_or (λ name. length name == 0 || is_array_name name) o false ≡ false → is_array_name name ≡ false
 wrong-plain name None is e = absurd (none-some name is)
-wrong-plain name (Some found) is e = ap is_array_name (sym (same_Some found name is)) ∙ array-name found (or_parts (length found == 0) _ e).1
+wrong-plain name (Some found) is e = ap is_array_name (sym (same_Some found name is)) ∙ (or_parts (length found == 0) _ e).1
 
 -- what a class without a fault has
 record IsSoundAt (earlier : List ClassFile) (c : ClassFile) : Type 0 where
