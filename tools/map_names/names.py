@@ -1,10 +1,34 @@
 #!/usr/bin/env python3
-"""names.py: tells each file, definition and function that docs/MAP.md names in backquotes and that is not there; status 1 if any is not."""
+"""names.py: tells each file, definition and function that docs/MAP.md names in backquotes and that is not there, and where the
+list of files that crates/map_rows reads is not what git keeps; status 1 if anything is told. --write makes that list first."""
 import os
 import re
+import subprocess
 import sys
 
 TOP = os.path.dirname(os.path.dirname(os.path.dirname(os.path.abspath(__file__))))
+
+LIST = "crates/map_rows/data/files"
+
+
+def listed():
+    """The paths that the list must have: of the files that git keeps, without the data of the crates, each with a / in front."""
+    told = subprocess.run(["git", "ls-files", "-z", "crates", "docs", "tools"], cwd=TOP, capture_output=True, text=True, check=True)
+    paths = {path for path in told.stdout.split("\0") if path and not re.match("crates/[^/]*/data/", path)}
+    return [f"/{path}" for path in sorted(paths)]
+
+
+def check_list(write):
+    """Writes the list, or tells in what it differs; answers whether it does."""
+    wanted = listed()
+    if write:
+        with open(f"{TOP}/{LIST}", "w") as file:
+            file.writelines(f"{path}\n" for path in wanted)
+    with open(f"{TOP}/{LIST}") as file:
+        found = file.read()
+    for path in sorted(set(wanted) ^ set(found.splitlines())):
+        print(f"{LIST} {'lacks' if path in wanted else 'has'} {path}")
+    return found != "".join(f"{path}\n" for path in wanted)
 
 
 def sources():
@@ -16,6 +40,7 @@ def sources():
 
 
 def main():
+    differs = check_list("--write" in sys.argv[1:])
     paths = list(sources())
     endings = {"/".join(path.split("/")[at:]) for path in paths for at in range(len(path.split("/")))}
     bare = {it.rsplit(".", 1)[0] for it in endings}
@@ -44,7 +69,9 @@ def main():
             wrong.append(name)
     for name in wrong:
         print(f"docs/MAP.md names {name}, which is not there")
-    sys.exit(1 if wrong else 0)
+    if differs:
+        print(f"{LIST} is not what git keeps: tools/map_names/names.py --write makes it")
+    sys.exit(1 if wrong or differs else 0)
 
 
 main()

@@ -1,0 +1,3 @@
+pub mod FileLemmas
+pub mod NameLemmas
+pub mod WorkedNames
