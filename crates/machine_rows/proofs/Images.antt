@@ -1,6 +1,6 @@
 -- The image of a class of an admitted program, from its bytes.
-use Rattle.std.proofs.Common.{◌≡◌, ◌≢◌, ℕ, ◌<◌, ◌≤◌, List, length, Option, Some, None, ap, subst, sym, ◌∙◌}
-use Rattle.std.proofs.lemmas.Option.{none-some, same_Some, slice_get_within}
+use Rattle.std.proofs.Common.{◌≡◌, ℕ, ◌<◌, ◌≤◌, List, length, Option, Some, subst, sym, ◌∙◌}
+use Rattle.std.proofs.lemmas.Option.{same_Some, slice_get_within}
 use Rattle.jf_bytes.proofs.Lists.{each_at}
 use Rattle.const_pool.specs.declared.class.ClassFile.{ClassFile}
 use Rattle.const_pool.specs.ClassFile.{IsClassFile, Spells}
@@ -16,10 +16,9 @@ use Rattle.class_shape.specs.ClassShapes.{HasSameShape}
 use Rattle.class_shape.proofs.ImageShapes.{image-shape}
 use Rattle.class_shape.proofs.SwapLaws.{no-swap_fault}
 use Rattle.inject_events.specs.Answers.{IsReadableClass, MarkedHaveCode}
-use Rattle.hotswap.specs.Redefining.{IsRefused, Redefines, SpellsImage}
+use Rattle.hotswap.specs.Redefining.{IsRefused, SpellsImage}
 use Rattle.jvm_machine.specs.Installs.{IsImageOf}
 use Rattle.program_fit.specs.Runnable.{IsAdmitted}
-use Rattle.machine_rows.specs.Played.{FitsMarks}
 use Rattle.machine_rows.specs.Ready.{IsImageFile, IsUnfit}
 
 pub few-methods : (p : Program) → IsAdmitted p → length p.methods ≤ 32768
@@ -55,22 +54,7 @@ spells-none p class bytes marks homes unfit = λ original other there swap. absu
 pub image-known : (p : Program) (class : ℕ) (marks : List Mark) (image : ClassFile) (homes : List (Option Homes)) → IsImageFile p class marks image homes → class < length p.classes
 image-known p class marks image homes file = slice_get_within p.classes class file.made.file file.made.there
 
--- ---- marks that a class cannot have
-
-pub no-class : (p : Program) (class : ℕ) (marks : List Mark) → class_at p class ≡ None → FitsMarks p class marks → ⊥
-no-class p class marks none fits = none-some fits.file (sym none ∙ fits.there)
-
-pub other-count : (p : Program) (class : ℕ) (marks : List Mark) (c : ClassFile) → class_at p class ≡ Some c → length marks ≢ length c.methods → FitsMarks p class marks → ⊥
-other-count p class marks c there other fits =
-    other (fits.counted ∙ ap (λ (f : ClassFile). length f.methods) (same_Some fits.file c (sym fits.there ∙ there)))
-
-pub lacks-code : (p : Program) (class : ℕ) (marks : List Mark) (c : ClassFile) → class_at p class ≡ Some c → (MarkedHaveCode marks c.methods → ⊥) → FitsMarks p class marks → ⊥
-lacks-code p class marks c there lack fits =
-    lack (subst (λ (f : ClassFile). MarkedHaveCode marks f.methods) (same_Some fits.file c (sym fits.there ∙ there)) fits.coded)
-
--- ---- bytes that redefine a class
-
--- those of an image do
+-- the bytes of an image redefine its class
 pub never-refused : (p : Program) (class : ℕ) (bytes : List ℕ) (marks : List Mark) (image : ClassFile) (homes : List (Option Homes)) (refusal : SwapError) → IsAdmitted p
     → IsImageFile p class marks image homes → Spells bytes image → IsRefused p class bytes refusal → ⊥
 never-refused p class bytes marks image homes refusal a file spelled refused =
@@ -80,7 +64,3 @@ never-refused p class bytes marks image homes refusal a file spelled refused =
         (record { first = first_number p class; marks = marks; homes = homes; made = file.made.imaged }) in
     no-swap_fault refused.original bytes image refusal
     (record { spelled = spelled; shape = subst (λ c. HasSameShape c image) same shape }) refused.fault
-
--- those that redefine none don't
-pub not-redefined : (p : Program) (class : ℕ) (bytes : List ℕ) → IsUnfit p class bytes → Redefines p class bytes → ⊥
-not-redefined p class bytes unfit redefines = unfit redefines.1.original redefines.0 redefines.1.is redefines.1.swap

@@ -99,7 +99,7 @@ none-made f xs i x d bytes NotRead less is named unread = record {
   there = parted f xs i x d less is;
   unread = subst (λ b. IsUnread b NotRead) named unread;
 }
-none-made f xs i x d bytes NotAdmitted less is named unread = unread
+none-made f xs i x d bytes NotAdmitted less is named unread = absurd unread
 none-made f xs i x d bytes NoRoot less is named unread = unread
 none-made f xs i x d bytes Unknown less is named unread = unread
 none-made f xs i x d bytes NoMemory less is named unread = tt

@@ -11,8 +11,8 @@ first_number-first-requires c = subst (λ p. length p.methods ≤ 32768) (sym c.
 pub instrument-requires-clause-class : goal.instrument-requires-clause-class
 instrument-requires-clause-class c = readable c.args.vm.now.program c.args.class c.in-Some.original.now c.requires.admitted (sym c.in-Some.ensures)
 
-pub returns-in-Ok : goal.returns-in-Ok
-returns-in-Ok c = image-file c.args.vm.now.program c.args.class c.args.marks.now c.in-Some.original.now c.in-Ok.image.class c.in-Ok.image.homes c.requires.admitted (sym c.in-Some.ensures) (c.if-marks-len.false ∙ c.len.ensures)
+pub returns-in-Ok-clause-image : goal.returns-in-Ok-clause-image
+returns-in-Ok-clause-image c = image-file c.args.vm.now.program c.args.class c.args.marks.now c.in-Some.original.now c.in-Ok.image.class c.in-Ok.image.homes c.requires.admitted (sym c.in-Some.ensures) (c.if-marks-len.false ∙ c.len.ensures)
     (subst (MarkedHaveCode c.args.marks.now) c.as_slice.ensures (c.marked_have_code.ensures.have c.if-not-marked_have_code.false))
     (subst (λ n. MarkedHaveCode c.args.marks.now c.in-Some.original.now.methods → IsImage c.in-Some.original.now n c.args.marks.now c.in-Ok.image.class c.in-Ok.image.homes)
     (c.first_number-first.ensures.number ∙ ap (λ p. first_number p c.args.class) c.program.ensures) c.in-Ok.ensures.image)

@@ -1,4 +1,7 @@
-use Rattle.std.proofs.Common.{[], Ok, ap, ◌∙◌, subst}
+use Rattle.std.proofs.Common.{[], Ok, ap, ◌∙◌, subst, sym}
+use Rattle.jvm_model.specs.Classes.Load.{is_among}
+use Rattle.machine_rows.specs.Played.{IsOtherwise}
+use Rattle.machine_rows.proofs.Otherwise.{refused-else}
 use Rattle.hotswap.specs.Redefining.{IsRefused}
 use Rattle.program_fit.proofs.Runs.{runnable}
 use Rattle.machine_rows.proofs.Images.{spells-none}
@@ -22,3 +25,15 @@ redefine-requires-clause-formed c = (runnable c.args.vm.now.program c.requires.a
 
 pub redefine-requires-clause-known : goal.redefine-requires-clause-known
 redefine-requires-clause-known c = c.is_unfit.ensures.known (c.in_ok-is_unfit.was ∙ ap Ok c.if-not-branch.false)
+
+pub returns-then-not-is_loaded-clause-otherwise : goal.returns-then-not-is_loaded-clause-otherwise
+returns-then-not-is_loaded-clause-otherwise c = IsOtherwise.not_loaded c.args.class c.args.bytes.now c.args.wanted
+    (ap (is_among c.args.class) (sym (c.linker.ensures.loaded c.requires.whole)) ∙ (sym c.is_loaded.ensures ∙ c.if-not-is_loaded.true))
+
+pub returns-then-not-branch-clause-otherwise : goal.returns-then-not-branch-clause-otherwise
+returns-then-not-branch-clause-otherwise c =
+    IsOtherwise.not_refused c.args.class c.args.bytes.now c.args.wanted (c.is_unfit.ensures.fit (c.in_ok-is_unfit.was ∙ ap Ok c.if-not-branch.true))
+
+pub returns-in-Err-clause-otherwise : goal.returns-in-Err-clause-otherwise
+returns-in-Err-clause-otherwise c =
+    refused-else c.same_refusal.result c.args.vm.now c.args.class c.args.bytes.now c.args.wanted c.in-Err.came c.in-Err.ensures.refused c.same_refusal.ensures.other
