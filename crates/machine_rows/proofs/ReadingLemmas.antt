@@ -11,18 +11,12 @@ use Rattle.machine_rows.specs.declared.saying.Said.{Said}
 use Rattle.machine_rows.specs.Causes.{IsCause, IsMissing, IsSilent}
 use Rattle.machine_rows.specs.Reading.{AreSaid, LineSays, placed_at}
 use Rattle.machine_rows.specs.Words.{rest_of, word_of}
-use Rattle.row_words.proofs.ListLemmas.{taken-more}
+use Rattle.row_words.proofs.ListLemmas.{parted-each, taken-more}
 
 so-many : {A : Type 0} (f : A → List ℕ) (xs : List A) (i : ℕ) → i < length xs → length (map f (take i xs)) ≡ i
 so-many f [] i less = absurd (omega (arith, less))
 so-many f (y ∷ ys) zero less = refl
 so-many f (y ∷ ys) (suc i) less = ap suc (so-many f ys i (omega (arith, less)))
-
-halved : {A : Type 0} (f : A → List ℕ) (xs : List A) (i : ℕ) (x d : A) → i < length xs → x ≡ get_or xs i d
-    → map f xs ≡ map f (take i xs) ++ (f x ∷ map f (drop (suc i) xs))
-halved f [] i x d less is = absurd (omega (arith, less))
-halved f (y ∷ ys) zero x d less is = ap (λ z. f z ∷ map f ys) (sym is)
-halved f (y ∷ ys) (suc i) x d less is = ap (λ fs. f y ∷ fs) (halved f ys i x d (omega (arith, less)) is)
 
 module _ {A : Type 0} (f : A → List ℕ) (xs : List A) (i : ℕ) (x d : A) (less : i < length xs) (is : x ≡ get_or xs i d)
     (p : Program) (here told : Option Told) (placed : List Placed) (next : ℕ) (same : here ≡ told)
@@ -50,8 +44,8 @@ module _ {A : Type 0} (f : A → List ℕ) (xs : List A) (i : ℕ) (x d : A) (le
     next = next;
     said = read;
     silent = subst (λ t. LineSays p told next t None) (sym silent) (subst (λ t. LineSays p t next text None) same (subst (LineSays p here next text) nothing says));
-    after = map f (drop (suc i) xs);
-    there = halved f xs i x d less is ∙ ap (λ t. map f (take i xs) ++ (t ∷ map f (drop (suc i) xs))) (sym named ∙ sym silent);
+    after = map f (drop (i + 1) xs);
+    there = parted-each f xs i x d less is ∙ ap (λ t. map f (take i xs) ++ (t ∷ map f (drop (i + 1) xs))) (sym named ∙ sym silent);
   }
   said-none text answer NoMemory named nothing says silent = tt
 
@@ -60,8 +54,8 @@ module _ {A : Type 0} (f : A → List ℕ) (xs : List A) (i : ℕ) (x d : A) (le
   file-missing text (Missing name) named missing = record {
     before = map f (take i xs);
     text = f x;
-    after = map f (drop (suc i) xs);
-    there = halved f xs i x d less is;
+    after = map f (drop (i + 1) xs);
+    there = parted-each f xs i x d less is;
     named = missing ∙ ap (λ t. word_of (rest_of (rest_of t))) named;
   }
   file-missing text (NotText name) named missing = absurd missing

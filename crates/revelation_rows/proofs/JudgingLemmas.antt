@@ -1,5 +1,5 @@
 -- Verdicts one by one.
-use Rattle.std.proofs.Common.{◌≡◌, ◌<◌, ◌+◌, ℕ, zero, suc, Bool, true, false, cond, List, [], ◌∷◌, ◌++◌, drop, length, map, take, ap, sym, subst, ◌∙◌, refl, add-one, arith}
+use Rattle.std.proofs.Common.{◌≡◌, ◌<◌, ◌+◌, ℕ, Bool, true, false, cond, List, [], ◌∷◌, ◌++◌, drop, length, map, take, sym, subst}
 use Rattle.std.specs.Prelude.{Option, Some, None, Result, Ok, Err, IfErr, IfOk, codes, get_or}
 use Rattle.std.specs.List.{AllByRecursion, AllZip, filter}
 use Rattle.std.specs.String.{string_bytes}
@@ -22,7 +22,7 @@ use Rattle.revelation_rows.specs.Judging.{AddsVerdict, AreUnadmitted, AreUnmade,
 use Rattle.revelation_rows.specs.Reading.{IsRead}
 use Rattle.revelation_rows.specs.Rows.{Comes, first}
 use Rattle.revelation_rows.specs.Lines.{is_row}
-use Rattle.row_words.proofs.ListLemmas.{taken-more}
+use Rattle.row_words.proofs.ListLemmas.{parted-each, taken-more}
 
 zip-append : {A B : Type 0} (R : A → B → Type 0) (xs more : List A) (ys others : List B) → AllZip R xs ys → AllZip R more others
     → AllZip R (xs ++ more) (ys ++ others)
@@ -82,12 +82,6 @@ program-made files classes (Err e) read admitted = tt
 
 -- ---- why a row is not played
 
-parted : {A : Type 0} (f : A → List ℕ) (xs : List A) (i : ℕ) (x d : A) → i < length xs → x ≡ get_or xs i d
-    → map f xs ≡ map f (take i xs) ++ f x ∷ map f (drop (suc i) xs)
-parted f [] i x d less is = absurd (omega (arith, less))
-parted f (y ∷ ys) zero x d less is = ap (λ z. f z ∷ map f ys) (sym is)
-parted f (y ∷ ys) (suc i) x d less is = ap (λ fs. f y ∷ fs) (parted f ys i x d (omega (arith, less)) is)
-
 pub none-made : {A : Type 0} (f : A → List ℕ) (xs : List A) (i : ℕ) (x d : A) (bytes : List ℕ) (error : RowError) → i < length xs → x ≡ get_or xs i d → bytes ≡ f x
     → IsUnread bytes error → AreUnmade (map f xs) error
 none-made f xs i x d bytes (Missing name) less is named unread = unread
@@ -95,8 +89,8 @@ none-made f xs i x d bytes (NotText name) less is named unread = unread
 none-made f xs i x d bytes NotRead less is named unread = record {
   before = map f (take i xs);
   bytes = f x;
-  after = map f (drop (suc i) xs);
-  there = parted f xs i x d less is;
+  after = map f (drop (i + 1) xs);
+  there = parted-each f xs i x d less is;
   unread = subst (λ b. IsUnread b NotRead) named unread;
 }
 none-made f xs i x d bytes NotAdmitted less is named unread = absurd unread

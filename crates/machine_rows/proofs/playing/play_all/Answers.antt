@@ -1,7 +1,7 @@
 use Rattle.std.proofs.Common.{Ok, ap, refl, subst, sym, ◌∙◌}
 use Rattle.std.specs.Option.{IfSome}
 use Rattle.machine_rows.specs.Played.{IsOtherwise, Plays}
-use Rattle.machine_rows.proofs.Plays.{fails-at, plays-all, plays-next, there}
+use Rattle.machine_rows.proofs.Plays.{fails-at, plays-all, plays-next}
 use Rattle.machine_rows.proofs.Rests.{fresh-ready, fresh-rests, rests}
 use Rattle.machine_rows.proofs.playing.play_all.Goals as goal
 
@@ -15,20 +15,19 @@ loop-placed-init c = record {
 pub loop-placed-preserved : goal.loop-placed-preserved
 loop-placed-preserved c =
     let none = c.in_ok-difference.was ∙ ap Ok c.in_default.is in
-    let found = there c.args.lines.now c.loop-placed.placed-index c.placed-item.result c.loop-placed-test.true c.placed-item.is in
     record {
       ready = c.play.ensures.ready none;
       rests = c.rests_behind-resting.ensures
           ∙ rests c.placed-item.result.line c.loop-placed.resting c.loop-placed.vm c.play.new.vm (c.play.ensures.played none) c.loop-placed.invariant.ready
           (c.play.ensures.ready none) c.loop-placed.invariant.rests;
-      plays = plays-next c.args.lines.now c.loop-placed.placed-index c.placed-item.result c.args.vm.now c.loop-placed.vm c.play.new.vm found
-          c.loop-placed.invariant.plays (c.play.ensures.played none);
+      plays = plays-next c.args.lines.now c.loop-placed.placed-index c.placed-item.result c.args.vm.now c.loop-placed.vm c.play.new.vm
+          c.loop-placed-test.true c.placed-item.is c.loop-placed.invariant.plays (c.play.ensures.played none);
     }
 
 pub returns-in-Some-clause-failed : goal.returns-in-Some-clause-failed
 returns-in-Some-clause-failed c =
     fails-at c.args.lines.now c.loop-placed.placed-index c.placed-item.result _ c.args.vm.now c.loop-placed.vm
-    (there c.args.lines.now c.loop-placed.placed-index c.placed-item.result c.loop-placed-test.true c.placed-item.is) c.loop-placed.invariant.plays refl
+    c.loop-placed-test.true c.placed-item.is c.loop-placed.invariant.plays refl
     (subst (λ o. IfSome o (IsOtherwise c.loop-placed.vm c.placed-item.result.line)) c.in-Some.is c.in_ok-difference.ensures.otherwise)
 
 pub returns-clause-came : goal.returns-clause-came
