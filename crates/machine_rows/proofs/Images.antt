@@ -61,6 +61,6 @@ never-refused p class bytes marks image homes refusal a file spelled refused =
     let formed = each_at IsClassFile p.classes class file.made.file a.is.sound.formed file.made.there in
     let same = same_Some file.made.file refused.original (sym file.made.there ∙ refused.is) in
     let shape = image-shape file.made.file image formed
-        (record { first = first_number p class; marks = marks; homes = homes; made = file.made.imaged }) in
+    (record { first = first_number p class; marks = marks; homes = homes; made = file.made.imaged }) in
     no-swap_fault refused.original bytes image refusal
     (record { spelled = spelled; shape = subst (λ c. HasSameShape c image) same shape }) refused.fault

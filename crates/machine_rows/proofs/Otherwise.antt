@@ -1,6 +1,6 @@
 -- What is told of a line that has not come, from what is told of its parts.
-use Rattle.std.proofs.Common.{◌≡◌, ◌≢◌, ◌⊎◌, inl, inr, ℕ, Bool, true, false, List, length, Option, Some, None, Result, Ok, Err, IfOk, ap, sym, subst, ◌∙◌}
-use Rattle.std.specs.Option.{IfNone, IfSome}
+use Rattle.std.proofs.Common.{◌≡◌, ◌≢◌, ℕ, true, List, length, Option, Some, None, Result, Ok, Err, IfOk, sym, subst, ◌∙◌}
+use Rattle.std.specs.Option.{IfSome}
 use Rattle.class_shape.specs.declared.error.SwapError.{SwapError}
 use Rattle.class_shape.specs.declared.error.SwapError.TheVariants.{NoMemory}
 use Rattle.jvm_machine.specs.declared.turn.Turn.{Turn}

@@ -4,7 +4,8 @@ ghost use Rattle.std.specs.Prelude.{◌≡◌, ◌≢◌, None, Some, Ok, map, t
 ghost use Rattle.jvm_machine.specs.View.{is_resting};
 ghost use Rattle.jvm_machine.specs.declared.turn.Turn.TheVariants.{NoMemory as of_memory};
 ghost use Rattle.machine_rows.specs.declared.line.Line.TheVariants.{Ran, Turned};
-ghost use Rattle.machine_rows.specs.Played.{FailsAt, IsOtherwise, IsPlayed, IsRun, IsTurned, PlaysAll};
+ghost use Rattle.machine_rows.specs.Played.{FailsAt, IsOtherwise, IsPlayed};
+ghost use Rattle.machine_rows.specs.Played.{IsRun, IsTurned, PlaysAll};
 ghost use Rattle.machine_rows.specs.Ready.{IsFresh, IsReady};
 ghost use Rattle.machine_rows.specs.Resting.{rests_at, rests_behind};
 

@@ -7,7 +7,8 @@ ghost use Rattle.const_pool.specs.ClassFile.{IsClassFile};
 ghost use Rattle.class_reader.specs.Files.{IsFile};
 ghost use Rattle.plan_text.specs.Lines.{silent_plan};
 ghost use Rattle.admit_check.specs.Admission.{admission_of};
-ghost use Rattle.revelation_rows.specs.Judging.{AreUnadmitted, AreUnmade, IsProgramOf, IsUnread};
+ghost use Rattle.revelation_rows.specs.Judging.{AreUnadmitted, AreUnmade};
+ghost use Rattle.revelation_rows.specs.Judging.{IsProgramOf, IsUnread};
 ghost use Rattle.program_fit.specs.Runnable.{IsAdmitted};
 
 use crate::parts::RowError;

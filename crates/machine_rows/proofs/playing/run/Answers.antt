@@ -23,9 +23,9 @@ returns-clause-otherwise c =
 pub returns-then-clock-gt-MOST_STEPS-clause-otherwise : goal.returns-then-clock-gt-MOST_STEPS-clause-otherwise
 returns-then-clock-gt-MOST_STEPS-clause-otherwise c = IsOtherwise.not_run c.args.most c.args.wanted.now c.args.clock
     (elim c.then-clock-gt-MOST_STEPS.branch [
-      then-clock-gt-MOST_STEPS-via-then-clock-gt-MOST_STEPS w ↦ inl (omega (arith, w.if-clock-gt-MOST_STEPS.true, c.clock.ensures))
-    | then-clock-gt-MOST_STEPS-via-else-clock-gt-MOST_STEPS+then-most-gt-MOST_STEPS w ↦ inr (inl (omega (arith, w.if-most-gt-MOST_STEPS.true)))
-    | then-clock-gt-MOST_STEPS-via-else-clock-gt-MOST_STEPS+else-most-gt-MOST_STEPS+then-most-eq0 w ↦ inr (inr (inl (omega (arith, w.if-most-eq0.true))))
-    | then-clock-gt-MOST_STEPS-via-else-clock-gt-MOST_STEPS+else-most-gt-MOST_STEPS+else-most-eq0+then-not-resting w ↦
-      inr (inr (inr (sym c.requires.rests ∙ w.if-not-resting.true)))
+      | then-clock-gt-MOST_STEPS-via-then-clock-gt-MOST_STEPS w ↦ inl (omega (arith, w.if-clock-gt-MOST_STEPS.true, c.clock.ensures))
+      | then-clock-gt-MOST_STEPS-via-else-clock-gt-MOST_STEPS+then-most-gt-MOST_STEPS w ↦ inr (inl (omega (arith, w.if-most-gt-MOST_STEPS.true)))
+      | then-clock-gt-MOST_STEPS-via-else-clock-gt-MOST_STEPS+else-most-gt-MOST_STEPS+then-most-eq0 w ↦ inr (inr (inl (omega (arith, w.if-most-eq0.true))))
+      | then-clock-gt-MOST_STEPS-via-else-clock-gt-MOST_STEPS+else-most-gt-MOST_STEPS+else-most-eq0+then-not-resting w ↦
+          inr (inr (inr (sym c.requires.rests ∙ w.if-not-resting.true)))
     ])

@@ -1,7 +1,6 @@
-use Rattle.std.proofs.Common.{ap, map, subst, sym, ◌∙◌}
+use Rattle.std.proofs.Common.{subst, sym}
 use Rattle.revelation_rows.specs.declared.scenes.Scene.{Scene}
 use Rattle.revelation_rows.specs.Scenes.{IsBlank}
-use Rattle.revelation_rows.proofs.JudgingLemmas.{judged}
 use Rattle.revelation_rows.proofs.judging.judge.Goals as goal
 
 pub run-requires : goal.run-requires
