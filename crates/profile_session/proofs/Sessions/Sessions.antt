@@ -6,7 +6,6 @@ use Rattle.jvm_model.specs.declared.event.Act.{Act}
 use Rattle.jvm_model.specs.declared.event.Mark.TheVariants.{Off, Plain, Root}
 use Rattle.jvm_model.specs.declared.program.Program.{Program}
 use Rattle.jvm_model.specs.declared.state.State.{State}
-use Rattle.jvm_model.specs.Profiling.Activations.{trace_before}
 use Rattle.jvm_model.specs.Soundness.Calls.{AreFrom}
 use Rattle.jvm_model.specs.Basis.Data.{World}
 use Rattle.jvm_model.specs.declared.instruction.Local.{Local}
@@ -15,9 +14,8 @@ use Rattle.jvm_model.specs.Classes.Load.{is_among}
 use Rattle.jvm_model.specs.Codes.Originals.{original}
 use Rattle.jvm_model.specs.Profiling.Points.{Standing, has_class, is_target, mark_in, marking_of, nothing, standing_in}
 use Rattle.jvm_model.specs.Profiling.Revealed.{mark_of}
-use Rattle.jvm_model.specs.Running.Run.{before, ending_of, run}
+use Rattle.jvm_model.specs.Running.Run.{ending_of}
 use Rattle.jvm_model.specs.Profiling.Swaps.{points_before}
-use Rattle.jvm_model.specs.Turns.Told.{held_in}
 use Rattle.jvm_model.specs.Soundness.Whole.{IsWhole}
 use Rattle.context_tree.specs.Profiles.{Profile, steps_credited, profile_of}
 use Rattle.context_tree.specs.Seen.{Matches, seen_act}

@@ -1,4 +1,4 @@
-use Rattle.std.proofs.Common.{sym, ap, ◌∙◌}
+use Rattle.std.proofs.Common.{ap, ◌∙◌}
 use Rattle.profile_session.specs.Sessions.{Profiling}
 use Rattle.profile_session.proofs.session.Session.clock.Goals as goal
 
