@@ -1,6 +1,13 @@
-use Rattle.std.proofs.Common.{sym, ◌∙◌}
+use Rattle.std.proofs.Common.{sym, subst, ◌∙◌}
+use Rattle.possible_callees.specs.Tables.{IsPrefix}
+use Rattle.profile_session.specs.declared.parts.Parts.{Parts}
+use Rattle.profile_session.specs.Parts.{loaded_in}
 use Rattle.profile_session.proofs.Turns.Hearing.{hears-open, hears-shut}
 use Rattle.profile_session.proofs.parts.Parts.tell.Goals as goal
+
+pub enter-requires-clause-prefix : goal.enter-requires-clause-prefix
+enter-requires-clause-prefix c =
+    subst (λ (x : Parts). IsPrefix x.reveal.lineage.loaded (loaded_in x)) (sym c.in_ok-take.ensures.takes.same) c.requires.tellable.prefix
 
 pub returns-then-not-branch : goal.returns-then-not-branch
 returns-then-not-branch c =
