@@ -11,10 +11,16 @@ use Rattle.class_reader.specs.Files.{IsFile}
 use Rattle.plan_text.specs.Lines.{silent_plan}
 use Rattle.admit_check.specs.Admission.{admission_of}
 use Rattle.jvm_model.specs.declared.program.Program.{Program}
+use Rattle.jvm_model.specs.Classes.Load.{load_of}
+use Rattle.class_linker.specs.Linkers.{LinkerView, linker_of}
+use Rattle.revelation_rows.specs.declared.item.Difference.{Difference}
+use Rattle.revelation_rows.specs.declared.item.Item.{Item}
 use Rattle.revelation_rows.specs.declared.judging.Verdict.{Verdict}
 use Rattle.revelation_rows.specs.declared.parts.RowError.{RowError}
 use Rattle.revelation_rows.specs.declared.parts.RowError.TheVariants.{Missing, NotText, NotRead, NotAdmitted, NoRoot, Unknown, NoMemory}
-use Rattle.revelation_rows.specs.Judging.{AddsVerdict, AreUnadmitted, AreUnmade, IsProgramOf, IsToldOfRow, IsUnread, IsVerdict}
+use Rattle.revelation_rows.specs.Judging.{AddsVerdict, AreUnadmitted, AreUnmade, IsJudged, IsProgramOf, IsToldOfRow, IsUnbegun, IsUnplayed, IsUnread, IsVerdict, root_name}
+use Rattle.revelation_rows.specs.Reading.{IsRead}
+use Rattle.revelation_rows.specs.Rows.{Comes, first}
 use Rattle.revelation_rows.specs.Lines.{is_row}
 use Rattle.row_words.proofs.ListLemmas.{parted-each, taken-more}
 
@@ -55,6 +61,20 @@ verdict-next R f xs i x d line old new less is named zip added =
 
 -- ---- a row
 
+pub judged : (files : List (List ℕ)) (row : List ℕ) (p : Program) (said : Option (List Item)) (items asked : List Item) (l : LinkerView)
+    (came found : Option Difference) → IsProgramOf files p → IsRead p row said → said ≡ Some items → l ≡ linker_of p → asked ≡ items
+    → Comes l.program asked (first (load_of l.program l.loaded root_name).loaded) came → came ≡ found → IsJudged files row found
+judged files row p said items asked l came found of read says starts same comes is = record {
+  program = p;
+  of = of;
+  items = items;
+  read = subst (IsRead p row) says read;
+  comes =
+      subst (Comes p items (first (load_of p [] root_name).loaded)) is
+      (subst (λ xs. Comes p xs (first (load_of p [] root_name).loaded) came) same
+      (subst (λ (l : LinkerView). Comes l.program asked (first (load_of l.program l.loaded root_name).loaded) came) starts comes));
+}
+
 pub program-made : {E : Type 0} (files : List (List ℕ)) (classes : List ClassFile) (r : Result Program E) → AllZip IsFile files classes
     → IfOk r (λ p. admission_of classes (utf16_of (codes "Main")) silent_plan ≡ Ok p) → IfOk r (IsProgramOf files)
 program-made files classes (Ok p) read admitted = record { classes = classes; read = read; admitted = admitted }
@@ -91,6 +111,19 @@ pub program-unmade : (files : List (List ℕ)) (classes : List ClassFile) (r : R
     → IfErr r (AreUnmade files)
 program-unmade files classes (Ok p) read refused = tt
 program-unmade files classes (Err e) read refused = none-admitted files classes e read refused
+
+unbegun-of : (files : List (List ℕ)) (row : List ℕ) (p : Program) (error : RowError) → IsProgramOf files p → IsUnbegun (linker_of p) error → IsUnplayed files row error
+unbegun-of files row p (Missing name) of is = is
+unbegun-of files row p (NotText name) of is = is
+unbegun-of files row p NotRead of is = absurd is
+unbegun-of files row p NotAdmitted of is = absurd is
+unbegun-of files row p NoRoot of is = (p, of, is)
+unbegun-of files row p Unknown of is = absurd is
+unbegun-of files row p NoMemory of is = tt
+
+pub unbegun : (files : List (List ℕ)) (row : List ℕ) (p : Program) (l : LinkerView) (error : RowError) → IsProgramOf files p → l ≡ linker_of p → IsUnbegun l error
+    → IsUnplayed files row error
+unbegun files row p l error of starts is = unbegun-of files row p error of (subst (λ m. IsUnbegun m error) starts is)
 
 -- ---- a verdict
 
