@@ -1,5 +1,5 @@
 -- The image of a class of an admitted program, from its bytes.
-use Rattle.std.proofs.Common.{◌≡◌, ℕ, ◌<◌, ◌≤◌, List, length, Option, Some, subst, sym, ◌∙◌}
+use Rattle.std.proofs.Common.{◌≡◌, ℕ, ◌<◌, ◌≤◌, List, length, Option, Some, ap, subst, sym, ◌∙◌}
 use Rattle.std.proofs.lemmas.Option.{same_Some, slice_get_within}
 use Rattle.jf_bytes.proofs.Lists.{each_at}
 use Rattle.const_pool.specs.declared.class.ClassFile.{ClassFile}
@@ -19,6 +19,7 @@ use Rattle.inject_events.specs.Answers.{IsReadableClass, MarkedHaveCode}
 use Rattle.hotswap.specs.Redefining.{IsRefused, SpellsImage}
 use Rattle.jvm_machine.specs.Installs.{IsImageOf}
 use Rattle.program_fit.specs.Runnable.{IsAdmitted}
+use Rattle.machine_rows.specs.Played.{FitsMarks}
 use Rattle.machine_rows.specs.Ready.{IsImageFile, IsUnfit}
 
 pub few-methods : (p : Program) → IsAdmitted p → length p.methods ≤ 32768
@@ -34,6 +35,13 @@ image-file p class marks c image homes a there counted have made formed = record
   made = record { file = c; there = there; counted = counted; imaged = made have };
   formed = formed (each_at IsClassFile p.classes class c a.is.sound.formed there);
 }
+
+-- where this class cannot have the marks, no class at its position can
+pub fits-no-marks : (p : Program) (class : ℕ) (marks : List Mark) (c : ClassFile) → class_at p class ≡ Some c
+    → (length marks ≡ length c.methods → MarkedHaveCode marks c.methods → ⊥) → FitsMarks p class marks → ⊥
+fits-no-marks p class marks c there unfit fits =
+    let same : fits.file ≡ c = same_Some fits.file c (sym fits.there ∙ there) in
+    unfit (fits.counted ∙ ap (λ (f : ClassFile). length f.methods) same) (subst (λ (f : ClassFile). MarkedHaveCode marks f.methods) same fits.coded)
 
 -- its bytes spell nothing else
 spells-only : (p : Program) (class : ℕ) (bytes : List ℕ) (marks : List Mark) (image : ClassFile) (homes : List (Option Homes)) → IsImageFile p class marks image homes → Spells bytes image
