@@ -1,5 +1,5 @@
 #!/usr/bin/env python3
-"""names.py: tells each file, definition and function that docs/MAP.md names in backquotes and that is not there, and where the
+"""names.py: tells each file, definition and function that the page MAP.md of crates/map_rows names in backquotes and that is not there, and where the
 list of files that crates/map_rows reads is not what git keeps; status 1 if anything is told. --write makes that list first."""
 import os
 import re
@@ -8,6 +8,7 @@ import sys
 
 TOP = os.path.dirname(os.path.dirname(os.path.dirname(os.path.abspath(__file__))))
 
+PAGE = "crates/map_rows/data/MAP.md"
 LIST = "crates/map_rows/data/files"
 
 
@@ -51,7 +52,7 @@ def main():
             with open(f"{TOP}/crates/{path}") as file:
                 words.update(re.findall(r"[A-Za-z_][A-Za-z0-9_-]*", file.read()))
     wrong = []
-    with open(f"{TOP}/docs/MAP.md") as file:
+    with open(f"{TOP}/{PAGE}") as file:
         text = re.sub(r"```.*?```", "", file.read(), flags=re.S)
     for name in re.findall(r"`([^`\n]+)`", text):
         name = name.rstrip("/")
@@ -68,7 +69,7 @@ def main():
         if not there:
             wrong.append(name)
     for name in wrong:
-        print(f"docs/MAP.md names {name}, which is not there")
+        print(f"{PAGE} names {name}, which is not there")
     if differs:
         print(f"{LIST} is not what git keeps: tools/map_names/names.py --write makes it")
     sys.exit(1 if wrong or differs else 0)

@@ -1,5 +1,5 @@
-//! Checks that each file that docs/MAP.md names is there. Its folder has that page as `MAP.md`, and
-//! `files`, the paths of the files that git keeps, a line each, with a `/` in front. It prints a line
+//! Checks that each file that the page `MAP.md` names is there. Its folder has that page, and `files`,
+//! the paths of the files that git keeps, a line each, with a `/` in front. It prints a line
 //! for each name that is not there, and then how many they are. Its status is 0 where each is there, 1
 //! where one is not, and 2 where the page or the list could not be read.
 #![tactic(auto)]
