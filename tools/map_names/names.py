@@ -1,6 +1,7 @@
 #!/usr/bin/env python3
-"""names.py: tells each file, definition and function that the page MAP.md of crates/map_rows names in backquotes and that is not there, and where the
-list of files that crates/map_rows reads is not what git keeps; status 1 if anything is told. --write makes that list first."""
+"""names.py: tells each file, definition and function that the page MAP.md of crates/map_rows names in backquotes and
+that is not there, and where the list of files that crates/map_rows reads is not what git keeps; status 1 if anything is
+told. --write makes that list first."""
 import os
 import re
 import subprocess
