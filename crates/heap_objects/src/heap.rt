@@ -103,6 +103,13 @@ impl Heap {
         self.used
     }
 
+    /// How many slots objects may take, all together.
+    pub fn limit(&self) -> u32
+        ensures { result ≡ self.now.limit }
+    {
+        self.limit
+    }
+
     /// Whether there is room for so many slots more.
     pub fn has_room(&self, asked: usize) -> bool
         ensures { result ≡ nat_le (self.now.used + asked) self.now.limit }

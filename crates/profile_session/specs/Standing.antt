@@ -45,7 +45,6 @@ pub record InStep (acts : List Act) (w : World) (es : List Event) (k : Kept) (v 
   pub delivered : es ++ events_left v ≡ events_of (marking_of acts w) w v.clock
   pub lives : live_then v ≡ held_in (marking_of acts w) (trace w v.clock)
   pub marks : v.marks ≡ marks_seen w.program k.seen
-  pub loaded : k.seen.loaded ≡ (run w v.clock).shared.loaded
   pub order : AreOrdered (to_come v)
   pub none : (n : ℕ) → v.clock ≤ n → acts_behind n acts ≡ []
   pub moments : AllByRecursion (λ (a : Act). a.moment ≤ v.clock) acts

@@ -44,11 +44,10 @@ marks-all p r marks places i due end before =
 
 -- ---- what can begin
 
-pub if-targets : {E : Type 0} (p : Program) (r : Revealed) (loaded : List ℕ) (method : ℕ) (result : Result (List ℕ) E) → r.loaded ≡ loaded
-    → IfOk result (λ ms. IsRising ms) → IfOk result (λ ms. (m : ℕ) → is_among m ms ≡ is_among m (targets p loaded method)) → IfOk result (AreTargets p r method)
-if-targets p r loaded method (Ok ms) same rising among =
-    record { rising = rising; targets = λ m. among m ∙ ap (λ l. is_among m (targets p l method)) (sym same) }
-if-targets p r loaded method (Err error) same rising among = tt
+pub if-targets : {E : Type 0} (p : Program) (loaded : List ℕ) (method : ℕ) (result : Result (List ℕ) E) → IfOk result (λ ms. IsRising ms)
+    → IfOk result (λ ms. (m : ℕ) → is_among m ms ≡ is_among m (targets p loaded method)) → IfOk result (AreTargets p loaded method)
+if-targets p loaded method (Ok ms) rising among = record { rising = rising; targets = among }
+if-targets p loaded method (Err error) rising among = tt
 
 -- ---- marks that are the same
 

@@ -3,10 +3,9 @@ use Rattle.std.proofs.Common.{◌≡◌, ◌≢◌, ◌<◌, ◌≤◌, ◌+◌,
 use Rattle.std.specs.Prelude.{Option, get_or}
 use Rattle.std.proofs.lemmas.List.{drop_all}
 use Rattle.jvm_model.specs.declared.program.Program.{Program}
-use Rattle.jvm_model.specs.Profiling.Revealed.{marks_of}
+use Rattle.jvm_model.specs.Profiling.Revealed.{marks_of, with_loaded}
 use Rattle.class_linker.specs.Linkers.{LinkerView}
 use Rattle.call_revelation.specs.declared.reveal.Reveal.{Reveal}
-use Rattle.call_revelation.specs.Reveals.{now_of}
 use Rattle.revelation_rows.specs.declared.item.Difference.{Difference}
 use Rattle.revelation_rows.specs.declared.item.Difference.TheVariants.{Came, NotLoaded}
 use Rattle.revelation_rows.specs.declared.item.Fact.{Fact}
@@ -15,52 +14,52 @@ use Rattle.revelation_rows.specs.declared.item.Happening.TheVariants.{Deselected
 use Rattle.revelation_rows.specs.declared.item.Item.{Item}
 use Rattle.revelation_rows.specs.declared.item.Item.TheVariants.{Happens, Is}
 use Rattle.revelation_rows.specs.Rows.{Comes, Differs, Passes, Seen, behind, can_be_asked, can_be_told, first, revealed_by, shown_by}
-use Rattle.revelation_rows.specs.Scenes.{GoesOn, HasHappened, IsFresh, IsReady, IsSeen, IsToldOf, StopsAt, marks_shown}
+use Rattle.revelation_rows.specs.Scenes.{GoesOn, HasHappened, IsFollowed, IsFresh, IsReady, IsSeen, IsToldOf, StopsAt, marks_shown, revealed}
 use Rattle.row_words.proofs.ListLemmas.{rest-more}
 
 -- ---- one item
 
 -- which marks are shown behind a happening
-shown-behind : (p : Program) (happening : Happening) (r : Reveal) (s : Seen) → now_of r ≡ s.now → r.shown ≡ marks_of p s.before
-    → marks_shown p happening r ≡ marks_of p (shown_by happening s)
-shown-behind p (Loaded name) r s now shown = shown
-shown-behind p (Entered method times) r s now shown = shown
-shown-behind p (Selected method) r s now shown = shown
-shown-behind p (Deselected method) r s now shown = shown
-shown-behind p Quiet r s now shown = shown
-shown-behind p Shown r s now shown = ap (marks_of p) now
+shown-behind : (happening : Happening) (l : LinkerView) (r : Reveal) (s : Seen) → IsSeen l r s
+    → marks_shown happening l r ≡ marks_of l.program (shown_by happening s)
+shown-behind (Loaded name) l r s seen = seen.shown
+shown-behind (Entered method times) l r s seen = seen.shown
+shown-behind (Selected method) l r s seen = seen.shown
+shown-behind (Deselected method) l r s seen = seen.shown
+shown-behind Quiet l r s seen = seen.shown
+shown-behind Shown l r s seen = ap (marks_of l.program) seen.now
 
 goes-on : (happening : Happening) (l : LinkerView) (r : Reveal) (next : LinkerView) (after : Reveal) → HasHappened happening l r next after
-    → can_be_asked l.program (now_of r) (Happens happening) ≡ true → GoesOn (Happens happening) l r next after
+    → can_be_asked l.program (revealed l r) (Happens happening) ≡ true → GoesOn (Happens happening) l r next after
 goes-on happening l r next after has can = record {
   ready = has.ready;
   program = has.program;
   passes = λ s seen. ap (λ n. can_be_asked l.program n (Happens happening)) (sym seen.now) ∙ can;
   seen = λ s seen. record {
     now = has.now ∙ ap (revealed_by l.program happening) seen.now;
-    shown = has.shown ∙ (shown-behind l.program happening r s seen.now seen.shown ∙ ap (λ p. marks_of p (shown_by happening s)) (sym has.program));
+    shown = has.shown ∙ (shown-behind happening l r s seen ∙ ap (λ p. marks_of p (shown_by happening s)) (sym has.program));
   };
 }
 
 -- where it is this one
 pub goes-on-as : (happening said : Happening) (l : LinkerView) (r : Reveal) (next : LinkerView) (after : Reveal) → happening ≡ said
-    → HasHappened said l r next after → can_be_asked l.program (now_of r) (Happens said) ≡ true → GoesOn (Happens happening) l r next after
+    → HasHappened said l r next after → can_be_asked l.program (revealed l r) (Happens said) ≡ true → GoesOn (Happens happening) l r next after
 goes-on-as happening said l r next after e has can =
     subst (λ h. GoesOn (Happens h) l r next after) (sym e) (goes-on said l r next after has can)
 
-pub cannot-happen : (happening : Happening) (l : LinkerView) (r : Reveal) → can_be_asked l.program (now_of r) (Happens happening) ≡ false
+pub cannot-happen : (happening : Happening) (l : LinkerView) (r : Reveal) → can_be_asked l.program (revealed l r) (Happens happening) ≡ false
     → StopsAt (Happens happening) l r NotLoaded
 cannot-happen happening l r cannot s seen = ap (λ n. can_be_asked l.program n (Happens happening)) (sym seen.now) ∙ cannot
 
-pub untold : (fact : Fact) (l : LinkerView) (r : Reveal) → can_be_told l.program (now_of r) fact ≡ false → StopsAt (Is fact) l r NotLoaded
+pub untold : (fact : Fact) (l : LinkerView) (r : Reveal) → can_be_told l.program (revealed l r) fact ≡ false → StopsAt (Is fact) l r NotLoaded
 untold fact l r cannot s seen = ap (λ n. can_be_told l.program n fact) (sym seen.now) ∙ cannot
 
-pub fact-holds : (fact came : Fact) (l : LinkerView) (r : Reveal) → IsReady l r → IsToldOf l r fact came → came ≡ fact → GoesOn (Is fact) l r l r
-fact-holds fact came l r ready is same = record {
-  ready = ready;
+pub fact-holds : (fact came : Fact) (l : LinkerView) (r after : Reveal) → IsFollowed l r after → IsToldOf l r fact came → came ≡ fact → GoesOn (Is fact) l r l after
+fact-holds fact came l r after by is same = record {
+  ready = by.ready;
   program = refl;
   passes = subst (IsToldOf l r fact) same is;
-  seen = λ s seen. seen;
+  seen = λ s seen. record { now = ap (with_loaded l.loaded) by.now ∙ seen.now; shown = by.shown ∙ seen.shown };
 }
 
 pub fact-differs : (fact came : Fact) (l : LinkerView) (r : Reveal) → IsToldOf l r fact came → came ≢ fact → StopsAt (Is fact) l r (Came came)

@@ -9,7 +9,7 @@ use Rattle.jvm_model.specs.Basis.KindNumbers.{user_count}
 use Rattle.jvm_model.specs.Classes.Load.{is_among, load_of}
 use Rattle.jvm_model.specs.Profiling.Points.{has_class}
 use Rattle.jvm_model.specs.Basis.Programs.{place_of_method}
-use Rattle.jvm_model.specs.Profiling.Revealed.{Revealed, with_loaded}
+use Rattle.jvm_model.specs.Profiling.Revealed.{Revealed}
 use Rattle.jvm_model.specs.Soundness.Sound.{HasClass, HasSupertypes}
 use Rattle.jvm_model.proofs.Loading.LoadOrder.{load-order}
 use Rattle.jvm_model.proofs.Soundness.SoundClasses.{named-load}
@@ -24,7 +24,7 @@ use Rattle.possible_callees.proofs.Numbers.Fronts.{front-among, front-more, fron
 use Rattle.call_revelation.specs.declared.reveal.Reveal.{Reveal}
 use Rattle.call_revelation.specs.Reveals.{IsAhead, IsRevelation, nothing_revealed, now_of}
 use Rattle.prepared_code.proofs.Initializing.BuiltInLoads.{few-coded}
-use Rattle.revelation_rows.specs.Scenes.{IsAlong, IsLinked, IsReady}
+use Rattle.revelation_rows.specs.Scenes.{IsAlong, IsFollowed, IsLinked, IsReady, revealed}
 
 -- ---- what is loaded more
 
@@ -60,21 +60,32 @@ along-linked l next r is by = record {
   order = by.order is.order;
 }
 
-pub along-ahead : (l : LinkerView) (r : Reveal) → IsAlong l r → IsLoaded l (user_count l.program) → IsAhead l r
-along-ahead l r is root = record { loaded = λ class h. front-among r.lineage.loaded l.loaded class is.prefix h; root = root }
-
-pub root-linked : (l next : LinkerView) → IsLoaded l (user_count l.program) → IsLinked l next → IsLoaded next (user_count next.program)
+root-linked : (l next : LinkerView) → IsLoaded l (user_count l.program) → IsLinked l next → IsLoaded next (user_count next.program)
 root-linked l next root by =
     front-among l.loaded next.loaded (user_count next.program) by.prefix (ap (λ p. is_among (user_count p) l.loaded) by.program ∙ root)
 
-pub now-ready : (l : LinkerView) (old new : Reveal) → IsAlong l old → IsLoaded l (user_count l.program) → IsRevelation l.program new
-    → now_of new ≡ with_loaded l.loaded (now_of old) → IsReady l new
-now-ready l old new is root revelation now =
+pub ready-linked : (l next : LinkerView) (r : Reveal) → IsReady l r → IsLinked l next → IsReady next r
+ready-linked l next r is by = record { along = along-linked l next r is.along by; root = root-linked l next is.root by }
+
+pub ready-ahead : (l : LinkerView) (r : Reveal) → IsReady l r → IsAhead l r
+ready-ahead l r is = record { loaded = λ class h. front-among r.lineage.loaded l.loaded class is.along.prefix h; root = is.root }
+
+pub followed : (l : LinkerView) (old new : Reveal) → IsReady l old → IsRevelation l.program new → now_of new ≡ revealed l old → new.shown ≡ old.shown
+    → IsFollowed l old new
+followed l old new is revelation now shown =
     let same : (now_of new).loaded ≡ l.loaded = ap (λ (n : Revealed). n.loaded) now in
     record {
-      along = record { admitted = is.admitted; revelation = revelation; prefix = subst (λ xs. IsPrefix xs l.loaded) (sym same) (front-self l.loaded); order = is.order };
-      same = same;
-      root = root;
+      ready = record {
+        along = record {
+          admitted = is.along.admitted;
+          revelation = revelation;
+          prefix = subst (λ xs. IsPrefix xs l.loaded) (sym same) (front-self l.loaded);
+          order = is.along.order;
+        };
+        root = is.root;
+      };
+      now = now;
+      shown = shown;
     }
 
 none-above : (p : Program) → HasSupertypes p []
@@ -91,9 +102,6 @@ nothing-along p l r admitted e revelation now = subst (λ l. IsAlong l r) (sym e
 
 -- ---- a method of a class that is loaded
 
-pub ready-ahead : (l : LinkerView) (r : Reveal) → IsReady l r → IsAhead l r
-ready-ahead l r is = along-ahead l r is.along is.root
-
 -- it has a place
 placed : (p : Program) (loaded : List ℕ) (method : ℕ) (found : Option MethodPlace)
     → option_map_or (λ (place : MethodPlace). is_among place.class loaded) found false ≡ true → (place : MethodPlace) × (found ≡ Some place)
@@ -107,9 +115,6 @@ within p loaded method has =
 pub class-loaded : (p : Program) (loaded : List ℕ) (method : ℕ) → has_class p loaded method ≡ true → HasClass p loaded method
 class-loaded p loaded method has place e =
     ap (λ found. option_map_or (λ (place : MethodPlace). is_among place.class loaded) found false) (sym e) ∙ has
-
-pub class-known : (l : LinkerView) (r : Reveal) (method : ℕ) → IsReady l r → has_class l.program l.loaded method ≡ true → HasClass l.program r.lineage.loaded method
-class-known l r method is has = subst (λ xs. HasClass l.program xs method) (sym is.same) (class-loaded l.program l.loaded method has)
 
 -- ---- methods are numbered
 

@@ -11,32 +11,32 @@ use Rattle.call_revelation.specs.Reveals.{now_of}
 use Rattle.revelation_rows.specs.declared.item.Fact.{Fact}
 use Rattle.revelation_rows.specs.declared.item.Fact.TheVariants.{Begins, Changed, IsSelected, Marks, SelectsAny}
 use Rattle.revelation_rows.specs.Rows.{AreTargets, IsTold}
-use Rattle.revelation_rows.specs.Scenes.{IsToldOf}
+use Rattle.revelation_rows.specs.Scenes.{IsFollowed, IsToldOf}
 
-module _ (l : LinkerView) (r : Reveal) (fact : Fact) where
-  pub told-marks : (wanted came : List Mark) → fact ≡ Marks wanted → came ≡ marks_of l.program (now_of r) → IsToldOf l r fact (Marks came)
+module _ (l : LinkerView) (r after : Reveal) (by : IsFollowed l r after) (fact : Fact) where
+  pub told-marks : (wanted came : List Mark) → fact ≡ Marks wanted → came ≡ marks_of l.program (now_of after) → IsToldOf l r fact (Marks came)
   told-marks wanted came e is s seen =
-      subst (λ f. IsTold l.program s f (Marks came)) (sym e) (IsTold.marks wanted came (is ∙ ap (marks_of l.program) seen.now))
+      subst (λ f. IsTold l.program s f (Marks came)) (sym e) (IsTold.marks wanted came (is ∙ ap (marks_of l.program) (by.now ∙ seen.now)))
 
   pub told-changed : (wanted came : List ℕ) → fact ≡ Changed wanted
-      → ((before : Revealed) → r.shown ≡ marks_of l.program before → came ≡ changed_of l.program before (now_of r)) → IsToldOf l r fact (Changed came)
+      → ((before : Revealed) → after.shown ≡ marks_of l.program before → came ≡ changed_of l.program before (now_of after)) → IsToldOf l r fact (Changed came)
   told-changed wanted came e is s seen =
       subst (λ f. IsTold l.program s f (Changed came)) (sym e)
-      (IsTold.changed wanted came (is s.before seen.shown ∙ ap (changed_of l.program s.before) seen.now))
+      (IsTold.changed wanted came (is s.before (by.shown ∙ seen.shown) ∙ ap (changed_of l.program s.before) (by.now ∙ seen.now)))
 
-  pub told-begins : (method : ℕ) (wanted came : List ℕ) → fact ≡ Begins method wanted → AreTargets l.program (now_of r) method came
+  pub told-begins : (method : ℕ) (wanted came : List ℕ) → fact ≡ Begins method wanted → AreTargets l.program l.loaded method came
       → IsToldOf l r fact (Begins method came)
   told-begins method wanted came e is s seen =
       subst (λ f. IsTold l.program s f (Begins method came)) (sym e)
-      (IsTold.begins method wanted came (subst (λ n. AreTargets l.program n method came) seen.now is))
+      (IsTold.begins method wanted came (subst (λ (n : Revealed). AreTargets l.program n.loaded method came) seen.now is))
 
-  pub told-selected : (method : ℕ) (wanted came : Bool) → fact ≡ IsSelected method wanted → came ≡ is_among method (now_of r).selected
+  pub told-selected : (method : ℕ) (wanted came : Bool) → fact ≡ IsSelected method wanted → came ≡ is_among method (now_of after).selected
       → IsToldOf l r fact (IsSelected method came)
   told-selected method wanted came e is s seen =
       subst (λ f. IsTold l.program s f (IsSelected method came)) (sym e)
-      (IsTold.selected method wanted came (is ∙ ap (λ (n : Revealed). is_among method n.selected) seen.now))
+      (IsTold.selected method wanted came (is ∙ ap (λ (n : Revealed). is_among method n.selected) (by.now ∙ seen.now)))
 
-  pub told-selects : (wanted came : Bool) → fact ≡ SelectsAny wanted → came ≡ not (is_empty (now_of r).selected) → IsToldOf l r fact (SelectsAny came)
+  pub told-selects : (wanted came : Bool) → fact ≡ SelectsAny wanted → came ≡ not (is_empty (now_of after).selected) → IsToldOf l r fact (SelectsAny came)
   told-selects wanted came e is s seen =
       subst (λ f. IsTold l.program s f (SelectsAny came)) (sym e)
-      (IsTold.selects wanted came (is ∙ ap (λ (n : Revealed). not (is_empty n.selected)) seen.now))
+      (IsTold.selects wanted came (is ∙ ap (λ (n : Revealed). not (is_empty n.selected)) (by.now ∙ seen.now)))

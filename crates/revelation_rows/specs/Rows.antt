@@ -56,9 +56,9 @@ behind p (Is fact) s = s
 -- ---- what is the case
 
 -- these are the methods that one of a loaded class can begin, in order
-pub record AreTargets (p : Program) (r : Revealed) (method : ℕ) (methods : List ℕ) : Type 0 where
+pub record AreTargets (p : Program) (loaded : List ℕ) (method : ℕ) (methods : List ℕ) : Type 0 where
   pub rising : IsRising methods
-  pub targets : (m : ℕ) → is_among m methods ≡ is_among m (targets p r.loaded method)
+  pub targets : (m : ℕ) → is_among m methods ≡ is_among m (targets p loaded method)
 
 -- what can begin is told of methods whose class is loaded
 abbrev pub can_be_told : Program → Revealed → Fact → Bool
@@ -72,7 +72,7 @@ can_be_told p r (SelectsAny any) = true
 pub data IsTold (p : Program) (s : Seen) : Fact → Fact → Type 0 where
   marks : (wanted came : List Mark) → came ≡ marks_of p s.now → IsTold p s (Marks wanted) (Marks came)
   changed : (wanted came : List ℕ) → came ≡ changed_of p s.before s.now → IsTold p s (Changed wanted) (Changed came)
-  begins : (method : ℕ) (wanted came : List ℕ) → AreTargets p s.now method came → IsTold p s (Begins method wanted) (Begins method came)
+  begins : (method : ℕ) (wanted came : List ℕ) → AreTargets p s.now.loaded method came → IsTold p s (Begins method wanted) (Begins method came)
   selected : (method : ℕ) (wanted came : Bool) → came ≡ is_among method s.now.selected → IsTold p s (IsSelected method wanted) (IsSelected method came)
   selects : (wanted came : Bool) → came ≡ not (is_empty s.now.selected) → IsTold p s (SelectsAny wanted) (SelectsAny came)
 

@@ -4,7 +4,7 @@ use Rattle.jvm_model.specs.declared.event.Mark.{Mark}
 use Rattle.jvm_model.specs.declared.program.Program.{Program}
 use Rattle.jvm_model.specs.Basis.KindNumbers.{user_count}
 use Rattle.jvm_model.specs.Classes.Load.{load_of}
-use Rattle.jvm_model.specs.Profiling.Revealed.{marks_of}
+use Rattle.jvm_model.specs.Profiling.Revealed.{Revealed, marks_of, with_loaded}
 use Rattle.jvm_model.specs.Profiling.Revelation.{IsLoadOrder}
 use Rattle.class_linker.specs.Linkers.{IsLoaded, LinkerView}
 use Rattle.program_fit.specs.Runnable.{IsAdmitted}
@@ -37,17 +37,26 @@ pub record IsAlong (l : LinkerView) (r : Reveal) : Type 0 where
   pub prefix : IsPrefix (now_of r).loaded l.loaded
   pub order : IsLoadOrder l.program [] l.loaded
 
--- so it is, it knows what the linker has loaded, and java/lang/Object is loaded
+-- so it is, and java/lang/Object is loaded
 pub record IsReady (l : LinkerView) (r : Reveal) : Type 0 where
   pub along : IsAlong l r
-  pub same : (now_of r).loaded ≡ l.loaded
   pub root : IsLoaded l (user_count l.program)
 
 -- ---- what is seen of it
 
+-- what is selected and entered, with what the linker has loaded: it alone says that
+abbrev pub revealed : LinkerView → Reveal → Revealed
+revealed l r = with_loaded l.loaded (now_of r)
+
 pub record IsSeen (l : LinkerView) (r : Reveal) (s : Seen) : Type 0 where
-  pub now : now_of r ≡ s.now
+  pub now : revealed l r ≡ s.now
   pub shown : r.shown ≡ marks_of l.program s.before
+
+-- the revelation takes what is loaded more, as it does before it is asked for marks and before a method is entered
+pub record IsFollowed (l : LinkerView) (r after : Reveal) : Type 0 where
+  pub ready : IsReady l after
+  pub now : now_of after ≡ revealed l r
+  pub shown : after.shown ≡ r.shown
 
 -- nothing is loaded, and nothing was shown
 pub record IsBlank (l : LinkerView) (r : Reveal) : Type 0 where
@@ -61,19 +70,19 @@ pub record IsFresh (l : LinkerView) (r : Reveal) : Type 0 where
 
 -- ---- what becomes of it
 
-abbrev pub marks_shown : Program → Happening → Reveal → List Mark
-marks_shown p (Loaded name) r = r.shown
-marks_shown p (Entered method times) r = r.shown
-marks_shown p (Selected method) r = r.shown
-marks_shown p (Deselected method) r = r.shown
-marks_shown p Quiet r = r.shown
-marks_shown p Shown r = marks_of p (now_of r)
+abbrev pub marks_shown : Happening → LinkerView → Reveal → List Mark
+marks_shown (Loaded name) l r = r.shown
+marks_shown (Entered method times) l r = r.shown
+marks_shown (Selected method) l r = r.shown
+marks_shown (Deselected method) l r = r.shown
+marks_shown Quiet l r = r.shown
+marks_shown Shown l r = marks_of l.program (revealed l r)
 
 pub record HasHappened (happening : Happening) (l : LinkerView) (r : Reveal) (next : LinkerView) (after : Reveal) : Type 0 where
   pub ready : IsReady next after
   pub program : next.program ≡ l.program
-  pub now : now_of after ≡ revealed_by l.program happening (now_of r)
-  pub shown : after.shown ≡ marks_shown l.program happening r
+  pub now : revealed next after ≡ revealed_by l.program happening (revealed l r)
+  pub shown : after.shown ≡ marks_shown happening l r
 
 -- the fact of its kind that is told of whatever is seen
 abbrev pub IsToldOf : LinkerView → Reveal → Fact → Fact → Type 0
@@ -88,7 +97,7 @@ pub record GoesOn (item : Item) (l : LinkerView) (r : Reveal) (next : LinkerView
 
 -- what is told of a fact: that of its kind, unless it cannot be told
 abbrev pub IsAnswered : LinkerView → Reveal → Fact → Option Fact → Type 0
-IsAnswered l r fact None = can_be_told l.program (now_of r) fact ≡ false
+IsAnswered l r fact None = can_be_told l.program (revealed l r) fact ≡ false
 IsAnswered l r fact (Some came) = IsToldOf l r fact came
 
 -- an item does not pass, which is told

@@ -1,14 +1,17 @@
 //! What is the case in a scene, beside what a row says of it.
 
 ghost use Rattle.std.specs.Prelude.{◌≡◌, ◌≢◌, true, false, IfOk};
+ghost use Rattle.jvm_model.specs.Basis.KindNumbers.{user_count};
 ghost use Rattle.jvm_model.specs.Profiling.Points.{has_class};
 ghost use Rattle.jvm_model.specs.Profiling.Revealed.{marks_of};
-ghost use Rattle.call_revelation.specs.Reveals.{now_of};
+ghost use Rattle.class_linker.specs.Linkers.{IsLoaded};
+ghost use Rattle.program_fit.specs.Runnable.{IsAdmitted};
+ghost use Rattle.call_revelation.specs.Reveals.{IsRevelation, now_of};
 ghost use Rattle.revelation_rows.specs.Rows.{AreTargets};
-ghost use Rattle.revelation_rows.specs.Scenes.{IsAnswered, IsReady};
+ghost use Rattle.revelation_rows.specs.Scenes.{IsAnswered, IsFollowed, IsReady};
 
 use crate::item::Fact;
-use crate::scenes::{Scene, has_class};
+use crate::scenes::{follow, has_class};
 use call_revelation::Reveal;
 use class_linker::Linker;
 use jf_bytes::{NoMemory, Seq};
@@ -18,7 +21,7 @@ use std::alloc::Global;
 
 /// The marks of all methods, by their numbers.
 fn marks(alloc: Global, linker: &Linker, reveal: &Reveal) -> Result<Seq<Mark>, NoMemory>
-    requires { IsReady linker.now reveal.now }
+    requires { IsRevelation linker.now.program reveal.now }
     ensures { IfOk result (λ ms. ms ≡ marks_of linker.now.program (now_of reveal.now)) }
 {
     let places = linker.program().methods.as_slice();
@@ -30,35 +33,33 @@ fn marks(alloc: Global, linker: &Linker, reveal: &Reveal) -> Result<Seq<Mark>, N
 }
 
 /// The methods that this one, whose class is loaded, can begin.
-fn methods_begun(
-    alloc: Global,
-    linker: &Linker,
-    reveal: &Reveal,
-    method: u32,
-) -> Result<Seq<u32>, NoMemory>
-    requires ready { IsReady linker.now reveal.now }
+fn methods_begun(alloc: Global, linker: &Linker, method: u32) -> Result<Seq<u32>, NoMemory>
+    requires admitted { IsAdmitted linker.now.program }
+    requires root { IsLoaded linker.now (user_count linker.now.program) }
     requires class { has_class linker.now.program linker.now.loaded method ≡ true }
-    ensures { IfOk result (AreTargets linker.now.program (now_of reveal.now) method) }
+    ensures { IfOk result (AreTargets linker.now.program linker.now.loaded method) }
 {
     targets(alloc, method, linker)
 }
 
-/// The fact of the same kind that is the case, where it can be told.
+/// The fact of the same kind that is the case, where it can be told. The revelation takes before what is loaded more.
 pub fn fact_told(
     alloc: Global,
     linker: &Linker,
-    reveal: &Reveal,
+    reveal: &mut Reveal,
     fact: &Fact,
 ) -> Result<Option<Fact>, NoMemory>
-    requires { IsReady linker.now reveal.now }
-    ensures { IfOk result (IsAnswered linker.now reveal.now fact.now) }
+    requires { IsReady linker.now reveal.old }
+    ensures told { IfOk result (IsAnswered linker.now reveal.old fact.now) }
+    ensures followed { IfOk result (λ came. IsFollowed linker.now reveal.old reveal.new) }
 {
+    follow(alloc, linker, reveal)?;
     match fact {
         Fact::Marks(_) => Ok(Some(Fact::Marks(marks(alloc, linker, reveal)?))),
         Fact::Changed(_) => Ok(Some(Fact::Changed(reveal.changed(alloc)?))),
         Fact::Begins(method, _) => {
             if has_class(linker, *method) {
-                Ok(Some(Fact::Begins(*method, methods_begun(alloc, linker, reveal, *method)?)))
+                Ok(Some(Fact::Begins(*method, methods_begun(alloc, linker, *method)?)))
             } else {
                 Ok(None)
             }

@@ -64,7 +64,7 @@ fn happen<R: CpuClock>(
             Ok(None)
         }
         Happening::Shown => {
-            show(&scene.linker, &mut scene.reveal);
+            show(alloc, &scene.linker, &mut scene.reveal)?;
             Ok(None)
         }
     }
@@ -74,12 +74,12 @@ fn happen<R: CpuClock>(
 fn look(
     alloc: Global,
     linker: &Linker,
-    reveal: &Reveal,
+    reveal: &mut Reveal,
     fact: &Fact,
 ) -> Result<Option<Difference>, NoMemory>
-    requires { IsReady linker.now reveal.now }
+    requires { IsReady linker.now reveal.old }
     ensures { IfOk result (ComesTo (Is fact.now)
-        linker.now reveal.now linker.now reveal.now) }
+        linker.now reveal.old linker.now reveal.new) }
 {
     match fact_told(alloc, linker, reveal, fact)? {
         Some(came) => {
@@ -105,7 +105,7 @@ fn play<R: CpuClock>(
 {
     match item {
         Item::Happens(happening) => happen(rt, alloc, scene, happening),
-        Item::Is(fact) => look(alloc, &scene.linker, &scene.reveal, fact),
+        Item::Is(fact) => look(alloc, &scene.linker, &mut scene.reveal, fact),
     }
 }
 

@@ -4,13 +4,12 @@ ghost use Rattle.std.specs.Prelude.{◌≡◌, true, false, IfOk, OnOk};
 ghost use Rattle.jvm_model.specs.Basis.KindNumbers.{user_count};
 ghost use Rattle.jvm_model.specs.Classes.Load.{is_among};
 ghost use Rattle.jvm_model.specs.Profiling.Points.{has_class};
-ghost use Rattle.jvm_model.specs.Profiling.Revealed.{with_loaded};
-ghost use Rattle.class_linker.specs.Linkers.{IsLoaded, linker_of};
+ghost use Rattle.class_linker.specs.Linkers.{linker_of};
 ghost use Rattle.program_fit.specs.Runnable.{IsAdmitted};
 ghost use Rattle.call_revelation.specs.Reveals.{now_of};
 ghost use Rattle.revelation_rows.specs.declared.item.Happening.TheVariants.{Loaded as class_loaded, Entered, Selected, Deselected, Quiet, Shown};
 ghost use Rattle.revelation_rows.specs.Judging.{root_name};
-ghost use Rattle.revelation_rows.specs.Scenes.{HasHappened, IsAlong, IsBlank, IsFresh, IsLinked, IsReady, loading};
+ghost use Rattle.revelation_rows.specs.Scenes.{HasHappened, IsBlank, IsFollowed, IsFresh, IsLinked, IsReady, loading};
 
 use crate::spent::{Spent, nanoseconds};
 use call_revelation::Reveal;
@@ -43,14 +42,10 @@ fn link(linker: &mut Linker, name: &Text16) -> Result<(), NoMemory>
     }
 }
 
-/// The revelation takes what the linker has loaded.
-fn follow(alloc: Global, linker: &Linker, reveal: &mut Reveal) -> Result<(), NoMemory>
-    requires along { IsAlong linker.now reveal.old }
-    requires root { IsLoaded linker.now (user_count linker.now.program) }
-    ensures ready { OnOk result (IsReady linker.now reveal.new) }
-    ensures now { OnOk result (now_of reveal.new
-        ≡ with_loaded linker.now.loaded (now_of reveal.old)) }
-    ensures shown { reveal.new.shown ≡ reveal.old.shown }
+/// The revelation takes what the linker has loaded more.
+pub fn follow(alloc: Global, linker: &Linker, reveal: &mut Reveal) -> Result<(), NoMemory>
+    requires { IsReady linker.now reveal.old }
+    ensures { OnOk result (IsFollowed linker.now reveal.old reveal.new) }
 {
     reveal.loaded(alloc, linker)
 }
@@ -140,7 +135,7 @@ pub fn has_class(linker: &Linker, method: u32) -> bool
     }
 }
 
-/// The method, whose class is loaded, is entered.
+/// The method, whose class the revelation knows as loaded, is entered.
 fn enter_once(
     alloc: Global,
     linker: &Linker,
@@ -148,9 +143,11 @@ fn enter_once(
     method: u32,
 ) -> Result<(), NoMemory>
     requires ready { IsReady linker.now reveal.old }
-    requires class { has_class linker.now.program linker.now.loaded method ≡ true }
-    ensures { OnOk result (HasHappened (Entered method 1) linker.now reveal.old
+    requires class { has_class linker.now.program (now_of reveal.old).loaded method ≡ true }
+    ensures entered { OnOk result (HasHappened (Entered method 1) linker.now reveal.old
         linker.now reveal.new) }
+    ensures class { OnOk result
+        (has_class linker.now.program (now_of reveal.new).loaded method ≡ true) }
 {
     reveal.entered(alloc, linker, method)
 }
@@ -169,6 +166,7 @@ pub fn enter<R: CpuClock>(
         scene.new.linker scene.new.reveal) }
 {
     let start = nanoseconds(rt.thread_cpu_time());
+    follow(alloc, &scene.linker, &mut scene.reveal)?;
     for _ in 0..times {
         enter_once(alloc, &scene.linker, &mut scene.reveal, method)?;
     }
@@ -210,9 +208,11 @@ pub fn quiet(linker: &Linker, reveal: &mut Reveal) -> Result<(), NoMemory>
     reveal.quiet()
 }
 
-pub fn show(linker: &Linker, reveal: &mut Reveal)
+pub fn show(alloc: Global, linker: &Linker, reveal: &mut Reveal) -> Result<(), NoMemory>
     requires { IsReady linker.now reveal.old }
-    ensures { HasHappened Shown linker.now reveal.old linker.now reveal.new }
+    ensures { OnOk result (HasHappened Shown linker.now reveal.old linker.now reveal.new) }
 {
+    follow(alloc, linker, reveal)?;
     reveal.show();
+    Ok(())
 }

@@ -6,7 +6,7 @@ use Rattle.std.proofs.lemmas.Result.{on_ok_weaker}
 use Rattle.jf_bytes.specs.declared.error.NoMemory.{NoMemory}
 use Rattle.jvm_model.specs.declared.state.Shared.{Shared}
 use Rattle.jvm_model.specs.declared.state.State.{State}
-use Rattle.jvm_model.specs.Basis.Data.{Outcome, World}
+use Rattle.jvm_model.specs.Basis.Data.{Outcome}
 use Rattle.jvm_model.specs.declared.instruction.SymbolicReference.TheVariants.{New}
 use Rattle.jvm_model.specs.Classes.Load.{Fault, load_of}
 use Rattle.jvm_model.specs.Instructions.SymbolicReference.{kind_unless, resolved_kind}
@@ -83,6 +83,3 @@ pub fits-room : (w : Setup) (s : State) → s ≡ before w.world → arguments_f
 fits-room w s is fits =
     subst (λ (x : State). x.shared.heap.used + arguments_cost w.world.program.args ≤ x.shared.heap.limit) (sym is)
     (leb-true ((before w.world).shared.heap.used + arguments_cost w.world.program.args) w.world.program.heap fits)
-
-pub limit-before : (w : World) (s : State) → s ≡ before w → s.shared.heap.limit ≡ w.program.heap
-limit-before w s is = ap (λ (x : State). x.shared.heap.limit) is

@@ -175,6 +175,19 @@ module _ (w : World) (is : IsWhole w.program) (acts : List Act) (from : AreFrom 
       ∙ (ap (λ (s : Seen). s.loaded) (load-seen p n (kept_before acts w n) classes)
       ∙ (ap (λ l. l ++ classes) (loaded-then n) ∙ sym (told-of n).loads))
 
+  -- an event loads none
+  events-keep : (es : List Event) (k : Kept) → (fold (kept_event p) k es).seen.loaded ≡ k.seen.loaded
+  events-keep [] k = refl
+  events-keep (e ∷ es) k = events-keep es (kept_event p k e) ∙ ap (λ (s : Seen). s.loaded) (event-seen p k e)
+
+  -- what is revealed within a step is what the run has loaded behind it, since what is left to be told are events
+  pub loaded-in : (es : List Event) (k : Kept) (v : View) → InStep acts w es k v → k.seen.loaded ≡ (run w v.clock).shared.loaded
+  loaded-in es k v s =
+      let n = v.clock in
+      let loaded : Kept = kept_load p n (kept_before acts w n) (loads_of (turn w n).changes) in
+      sym (events-keep (events_left v) k) ∙ (ap (λ (k : Kept). k.seen.loaded) s.kept
+      ∙ (events-keep (step_events marking w n) loaded ∙ loaded-behind n loaded refl))
+
   -- ---- a step sets out, behind its load
 
   record SetsOut (es : List Event) (k : Kept) (v : View) (left : List Change) : Type 0 where
@@ -213,7 +226,6 @@ module _ (w : World) (is : IsWhole w.program) (acts : List Act) (from : AreFrom 
         delivered = ap₂ (λ a b. a ++ b) s.delivered events ∙ events-behind marking w n;
         lives = lives;
         marks = s.marks;
-        loaded = loaded-behind n k s.kept;
         order = subst AreOrdered (sym s.coming) s.order;
         none = s.none;
         moments = s.moments;
@@ -378,7 +390,6 @@ module _ (w : World) (is : IsWhole w.program) (acts : List Act) (from : AreFrom 
           delivered = ap (λ l. (es ++ e ∷ []) ++ l) events ∙ (append_assoc es (e ∷ []) (events_left (step_stopped v)) ∙ (ap (λ l. es ++ l) (sym tells) ∙ s.delivered));
           lives = lives ∙ (stop-lives v ∙ s.lives);
           marks = marked;
-          loaded = ap (λ (k : Kept). k.seen.loaded) is_later ∙ (ap (λ (s : Seen). s.loaded) (event-seen p k e) ∙ s.loaded);
           order = stays-ordered v s.order;
           none = s.none;
           moments = s.moments;

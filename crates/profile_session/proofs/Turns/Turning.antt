@@ -29,7 +29,7 @@ use Rattle.profile_session.specs.Standing.{AtRest, InStep, Stands, rests, within
 use Rattle.profile_session.specs.Turned.{events_in, is_telling, kept_turned}
 use Rattle.profile_session.proofs.Sessions.Begun.{AllBegin, called-begin, drop-begin, from-stop}
 use Rattle.profile_session.proofs.Points.Joins.{load-seen}
-use Rattle.profile_session.proofs.Turns.Steps.{begins, loads, opened, settles, told-clock, told-of, unopened}
+use Rattle.profile_session.proofs.Turns.Steps.{begins, loaded-in, loads, opened, settles, told-clock, told-of, unopened}
 use Rattle.jvm_machine.proofs.Probes.SeenLaws.{stop-tells, stopped-busy}
 
 abbrev pub begun-is : (v : View) → is_resting v ≡ true → step_begun v ≡ clock_advanced v
@@ -133,7 +133,7 @@ module _ (w : World) (is : IsWhole w.program) (acts : List Act) (from : AreFrom 
       let all : AllBegin (λ m. has_class p loaded m ≡ true) (turn (world v) n).changes =
       subst (λ w. AllBegin (λ m. has_class p loaded m ≡ true) (turn w n).changes) (sym s.same)
       (called-begin p (operations_of p) loaded (methods_before w n) (turn w n).changes (told-of w is acts from n).calls) in
-      subst (λ l. has_class p l e.method ≡ true) (sym s.loaded)
+      subst (λ l. has_class p l e.method ≡ true) (sym (loaded-in w is acts from es k v s))
       (from-stop (λ m. has_class p loaded m ≡ true) (mark_at v.marks) n k.seen.open e opening v.delivered (to_come v)
       (drop-begin (λ m. has_class p loaded m ≡ true) v.passed (turn (world v) n).changes all) v.passed v.live delivered)
 
@@ -146,7 +146,7 @@ module _ (w : World) (is : IsWhole w.program) (acts : List Act) (from : AreFrom 
       record {
         knows = record {
           some = t.some;
-          loaded = sym (ap (λ (s : Seen). s.loaded) (load-seen p mid.clock k classes)) ∙ (there.loaded ∙ sym state);
+          loaded = sym (ap (λ (s : Seen). s.loaded) (load-seen p mid.clock k classes)) ∙ (loaded-in w is acts from es later (record mid { marks = marks_seen p later.seen }) there ∙ sym state);
           order = subst (IsLoadOrder p []) (sym state) (run-order w (revealable w is) mid.clock);
         };
         behind = λ new e. (
@@ -165,7 +165,7 @@ module _ (w : World) (is : IsWhole w.program) (acts : List Act) (from : AreFrom 
       record {
         knows = record {
           now = told-clock (next_stop v).due v.clock (next_stop v).live e t.next ∙ sym clock;
-          loaded = s.loaded ∙ sym state;
+          loaded = loaded-in w is acts from es k v s ∙ sym state;
           begun = is-loaded es k v e s t.next;
           few = (let f = fewer es k v e s t.next in omega (arith, f, clock));
         };

@@ -69,17 +69,17 @@ fn make_arguments(kind: u32, args: &[Text16], heap: &mut Heap) -> Result<(), NoM
 impl Runtime {
     /// Makes the array of the arguments of `main`, and then their texts. There is room for them.
     pub fn make_arguments(&mut self) -> Result<(), NoMemory>
-        requires room { self.old.shared.heap.used + arguments_cost self.old.world.program.args
+        requires { self.old.shared.heap.used + arguments_cost self.old.world.program.args
             ≤ self.old.shared.heap.limit }
-        requires limit { self.old.shared.heap.limit ≡ self.old.world.program.heap }
         ensures runtime { OnOk result (self.new
             ≡ with_heap (with_arguments self.old.world.program self.old.shared.heap) self.old) }
         ensures world { self.new.world ≡ self.old.world }
         ensures same_loaded { self.new.shared.loaded ≡ self.old.shared.loaded }
     {
         let kind = self.string_kind();
+        // there is room for them, so there are fewer than 2^32
+        let _limit = self.heap.limit();
         let program = self.linker.program();
-        let _limit = program.heap;
         make_arguments(kind, program.args.as_slice(), &mut self.heap)
     }
 }

@@ -15,7 +15,7 @@ loop-method-preserved c =
     let p = c.args.linker.now.program in
     let now = now_of c.args.reveal.now in
     marks-next p now c.loop-method.marks c.push.new.self c.mark.result c.as_slice-places.result.now c.loop-method.method (marks_of p now) c.loop-method-test.true
-    c.in_ok-push.ensures.items (c.mark.ensures p c.requires.along.revelation) c.loop-method.invariant
+    c.in_ok-push.ensures.items (c.mark.ensures p c.requires) c.loop-method.invariant
 
 pub returns : goal.returns
 returns c =

@@ -1,5 +1,4 @@
-use Rattle.std.proofs.Common.{ap, refl, sym, ◌∙◌}
-use Rattle.jvm_model.specs.Profiling.Points.{has_class}
+use Rattle.std.proofs.Common.{refl, sym, ◌∙◌}
 use Rattle.revelation_rows.specs.declared.item.Happening.TheVariants.{Entered}
 use Rattle.revelation_rows.proofs.RowLemmas.{cannot-happen, goes-on-as}
 use Rattle.revelation_rows.proofs.playing.enter_loaded.Goals as goal
@@ -8,11 +7,11 @@ pub returns-then-not-has_class : goal.returns-then-not-has_class
 returns-then-not-has_class g c =
     let l = c.args.scene.now.linker in
     cannot-happen (Entered c.args.method c.args.times) l c.args.scene.now.reveal
-    (ap (λ loaded. has_class l.program loaded c.args.method) c.requires.same ∙ (sym c.has_class.ensures ∙ c.if-not-has_class.true))
+    (sym c.has_class.ensures ∙ c.if-not-has_class.true)
 
 pub returns : goal.returns
 returns g c =
     let l = c.args.scene.now.linker in
     goes-on-as (Entered c.args.method c.args.times) (Entered c.args.method c.args.times) l c.args.scene.now.reveal c.enter.new.scene.linker c.enter.new.scene.reveal refl
     c.in_ok-enter.ensures
-    (ap (λ loaded. has_class l.program loaded c.args.method) c.requires.same ∙ (sym c.has_class.ensures ∙ c.if-not-has_class.false))
+    (sym c.has_class.ensures ∙ c.if-not-has_class.false)

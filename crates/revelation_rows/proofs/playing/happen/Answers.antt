@@ -33,7 +33,7 @@ returns-in_ok-quiet-in-Quiet g c =
     goes-on-as c.args.happening.now Quiet c.args.scene.now.linker c.args.scene.now.reveal c.args.scene.now.linker c.quiet.new.reveal c.in-Quiet.is
     c.in_ok-quiet-in-Quiet.ensures refl
 
-pub returns-in-Shown : goal.returns-in-Shown
-returns-in-Shown g c =
+pub returns-in_ok-show-in-Shown : goal.returns-in_ok-show-in-Shown
+returns-in_ok-show-in-Shown g c =
     goes-on-as c.args.happening.now Shown c.args.scene.now.linker c.args.scene.now.reveal c.args.scene.now.linker c.show.new.reveal c.in-Shown.is
-    c.show.ensures refl
+    c.in_ok-show-in-Shown.ensures refl

@@ -13,4 +13,4 @@ returns-in-Happens g c =
 pub returns-in-Is : goal.returns-in-Is
 returns-in-Is g c =
     let old = c.args.scene.now in
-    subst (λ (i : Item). IfOk c.look.result (ComesTo i old.linker old.reveal old.linker old.reveal)) (sym c.in-Is.is) c.look.ensures
+    subst (λ (i : Item). IfOk c.look.result (ComesTo i old.linker old.reveal old.linker c.look.new.reveal)) (sym c.in-Is.is) c.look.ensures

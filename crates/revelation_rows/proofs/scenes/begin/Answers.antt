@@ -6,18 +6,17 @@ use Rattle.revelation_rows.proofs.HappeningLemmas.{fresh}
 use Rattle.revelation_rows.proofs.SceneLemmas.{along-linked}
 use Rattle.revelation_rows.proofs.scenes.begin.Goals as goal
 
-pub follow-requires-clause-along : goal.follow-requires-clause-along
-follow-requires-clause-along c =
-    along-linked c.args.scene.now.linker c.link.new.linker c.args.scene.now.reveal c.requires.along c.link.ensures.linked
-
-pub follow-requires-clause-root : goal.follow-requires-clause-root
-follow-requires-clause-root c =
-    ap (λ class. is_among class c.link.new.linker.loaded) (sym (c.user_count.ensures.count ∙ ap user_count c.index.ensures)) ∙ (sym c.is_loaded.ensures ∙ c.if-not-is_loaded.false)
+pub follow-requires : goal.follow-requires
+follow-requires c = record {
+  along = along-linked c.args.scene.now.linker c.link.new.linker c.args.scene.now.reveal c.requires.along c.link.ensures.linked;
+  root =
+      ap (λ class. is_among class c.link.new.linker.loaded) (sym (c.user_count.ensures.count ∙ ap user_count c.index.ensures))
+      ∙ (sym c.is_loaded.ensures ∙ c.if-not-is_loaded.false);
+}
 
 pub returns-clause-fresh : goal.returns-clause-fresh
 returns-clause-fresh c = λ e.
-    fresh c.args.scene.now.linker c.link.new.linker c.args.scene.now.reveal c.follow.new.reveal c.requires c.link.ensures.linked
-    c.in_ok-follow.ensures.ready c.in_ok-follow.ensures.now c.follow.ensures.shown
+    fresh c.args.scene.now.linker c.link.new.linker c.args.scene.now.reveal c.follow.new.reveal c.requires c.link.ensures.linked c.in_ok-follow.ensures
 
 pub returns-then-not-is_loaded-clause-loaded : goal.returns-then-not-is_loaded-clause-loaded
 returns-then-not-is_loaded-clause-loaded c = c.in_ok-link.ensures.loaded ∙ ap (λ name. loading name c.args.scene.now.linker) c.in_ok-name.ensures.spelled

@@ -1,5 +1,7 @@
--- it was entered so often, and nothing was loaded
-use Rattle.std.proofs.Common.{◌≡◌}
+-- it was entered so often, nothing was loaded, and the revelation knows its class
+use Rattle.std.proofs.Common.{◌≡◌, true}
+use Rattle.jvm_model.specs.Profiling.Points.{has_class}
+use Rattle.call_revelation.specs.Reveals.{now_of}
 use Rattle.revelation_rows.specs.declared.item.Happening.TheVariants.{Entered}
 use Rattle.revelation_rows.specs.Scenes.{HasHappened}
 use Rattle.revelation_rows.proofs.scenes.enter.Given as goal
@@ -9,4 +11,5 @@ invariant-loop g l = record {
   entered :
       HasHappened (Entered l.method l.counter) l.fn.scene.linker l.fn.scene.reveal l.fn.scene.linker l.scene.reveal;
   linker : l.scene.linker ≡ l.fn.scene.linker;
+  class : has_class l.fn.scene.linker.program (now_of l.scene.reveal).loaded l.method ≡ true;
 }

@@ -1,7 +1,7 @@
 use Rattle.std.proofs.Common.{refl}
 use Rattle.revelation_rows.specs.declared.item.Happening.TheVariants.{Entered}
-use Rattle.revelation_rows.proofs.HappeningLemmas.{if-happened}
-use Rattle.revelation_rows.proofs.SceneLemmas.{class-known, ready-ahead, within}
+use Rattle.revelation_rows.proofs.HappeningLemmas.{class-next, if-happened}
+use Rattle.revelation_rows.proofs.SceneLemmas.{class-loaded, ready-ahead, within}
 use Rattle.revelation_rows.proofs.scenes.enter_once.Goals as goal
 
 pub entered-requires-clause-revelation : goal.entered-requires-clause-revelation
@@ -11,12 +11,16 @@ pub entered-requires-clause-ahead : goal.entered-requires-clause-ahead
 entered-requires-clause-ahead c = ready-ahead c.args.linker.now c.args.reveal.now c.requires.ready
 
 pub entered-requires-clause-method : goal.entered-requires-clause-method
-entered-requires-clause-method c = within c.args.linker.now.program c.args.linker.now.loaded c.args.method c.requires.class
+entered-requires-clause-method c = within c.args.linker.now.program c.args.reveal.now.lineage.loaded c.args.method c.requires.class
 
 pub entered-requires-clause-class : goal.entered-requires-clause-class
-entered-requires-clause-class c = class-known c.args.linker.now c.args.reveal.now c.args.method c.requires.ready c.requires.class
+entered-requires-clause-class c = class-loaded c.args.linker.now.program c.args.reveal.now.lineage.loaded c.args.method c.requires.class
 
-pub returns : goal.returns
-returns c =
+pub returns-clause-entered : goal.returns-clause-entered
+returns-clause-entered c =
     if-happened (Entered c.args.method 1) c.args.linker.now c.args.reveal.now c.entered.new.self c.entered.result c.requires.ready
-    c.entered.ensures.revelation refl c.entered.ensures.now c.entered.ensures.shown
+    c.entered.ensures.revelation refl refl c.entered.ensures.now c.entered.ensures.shown
+
+pub returns-clause-class : goal.returns-clause-class
+returns-clause-class c =
+    class-next c.args.method c.args.linker.now.program c.args.reveal.now c.entered.new.self c.entered.result c.requires.class c.entered.ensures.now

@@ -7,4 +7,4 @@ pub returns : goal.returns
 returns c =
     let p = c.args.linker.now.program in
     if-happened Quiet c.args.linker.now c.args.reveal.now c.quiet.new.self c.quiet.result c.requires
-    (c.quiet.ensures.revelation p c.requires.along.revelation) refl (c.quiet.ensures.now p c.requires.along.revelation) c.quiet.ensures.shown
+    (c.quiet.ensures.revelation p c.requires.along.revelation) refl refl (c.quiet.ensures.now p c.requires.along.revelation) c.quiet.ensures.shown

@@ -5,15 +5,12 @@ use Rattle.prepared_code.specs.Initializations.{state_of}
 use Rattle.prepared_code.specs.Originals.{setup_in}
 use Rattle.prepared_code.proofs.Lines.KnownNames.{names-kept}
 use Rattle.instructions.proofs.Attempts.NamedAttempts.{on-either}
-use Rattle.interpreter.proofs.Loads.Starts.{begins-all, fits-room, limit-before}
+use Rattle.interpreter.proofs.Loads.Starts.{begins-all, fits-room}
 use Rattle.interpreter.proofs.startup.beginning.load_main.Goals as goal
 
-pub make_arguments-requires-clause-room : goal.make_arguments-requires-clause-room
-make_arguments-requires-clause-room c =
+pub make_arguments-requires : goal.make_arguments-requires
+make_arguments-requires c =
     fits-room (setup_in c.args.parts.now.runtime c.args.originals.now) (state_of c.args.initializing.now c.args.parts.now) c.requires.at_start.before c.requires.fits
-
-pub make_arguments-requires-clause-limit : goal.make_arguments-requires-clause-limit
-make_arguments-requires-clause-limit c = limit-before c.args.parts.now.runtime.world (state_of c.args.initializing.now c.args.parts.now) c.requires.at_start.before
 
 pub load_main-requires : goal.load_main-requires
 load_main-requires c = record {
