@@ -15,4 +15,4 @@ meaning_view m = record { dimensions = m.dimensions; element = element_view m.el
 
 -- an array of so many dimensions, with the element that is left
 abbrev pub array_behind : ℕ → List ℕ → Option kinds.Meaning
-array_behind dimensions units = if nat_le dimensions 255 then option_map (kinds.array_of dimensions) (kinds.element_of units) else None
+array_behind dimensions units = if nat_le dimensions 255 then option_map (kinds.array_meaning dimensions) (kinds.element_of units) else None

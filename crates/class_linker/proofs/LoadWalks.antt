@@ -8,8 +8,8 @@ use Rattle.std.proofs.lemmas.Bool.{false≢true, and_parts}
 use Rattle.std.proofs.lemmas.Option.{none-some}
 use Rattle.const_pool.specs.declared.class.ClassFile.{ClassFile}
 use Rattle.const_pool.specs.References.{named_class}
-use Rattle.jvm_model.specs.Classes.Kinds.{Named, array_from, array_of, is_array_name}
-use Rattle.jvm_model.specs.Classes.Load.{Fault, Circular, Incompatible, Loading, Need, There, Begun, Fresh as Unloaded, behind_needs, by_standing, class_needs, loading_done, loading_failed, go_on, is_among, is_met, load_element, load_named, load_needs, need, need_fault, needs_of, standing_of, unless}
+use Rattle.jvm_model.specs.Classes.Kinds.{Named, array_from, array_meaning, is_array_name}
+use Rattle.jvm_model.specs.Classes.Load.{Fault, Circular, Incompatible, Loading, Need, There, Begun, Fresh as Unloaded, behind_needs, by_load_state, class_needs, loading_done, loading_failed, go_on, is_among, is_met, load_element, load_named, load_needs, need, need_fault, needs_of, load_state_of, unless}
 use Rattle.jvm_model.specs.Classes.Lookup.{interface_names, interfaces_of, is_interface, superclass_of}
 use Rattle.jvm_model.specs.Basis.Programs.{class_at, class_named}
 use Rattle.jvm_model.specs.declared.program.Program.{Program}
@@ -90,7 +90,7 @@ module _ (p : Program) (class : ℕ) (after : List ℕ) where
       by (Some fault) h = absurd (failed_done l.loaded after fault h)
 
   class_done : (depth : ℕ) (path name loaded : List ℕ)
-      → by_standing (standing_of path loaded (Some class)) name loaded (λ class. behind_needs class (load_needs p (load_named p depth (path ++ class ∷ [])) (needs_of p class) loaded)) ≡ loading_done after
+      → by_load_state (load_state_of path loaded (Some class)) name loaded (λ class. behind_needs class (load_needs p (load_named p depth (path ++ class ∷ [])) (needs_of p class) loaded)) ≡ loading_done after
       → is_among class after ≡ true
   class_done depth path name loaded e = by (is_among class loaded) (is_among class path) refl e
     where
@@ -98,7 +98,7 @@ module _ (p : Program) (class : ℕ) (after : List ℕ) where
       fresh class = behind_needs class (load_needs p (load_named p depth (path ++ class ∷ [])) (needs_of p class) loaded)
 
       by : (a b : Bool) → is_among class loaded ≡ a
-          → by_standing (if a then There else if b then Begun else Unloaded class) name loaded (λ class. behind_needs class (load_needs p (load_named p depth (path ++ class ∷ [])) (needs_of p class) loaded)) ≡ loading_done after
+          → by_load_state (if a then There else if b then Begun else Unloaded class) name loaded (λ class. behind_needs class (load_needs p (load_named p depth (path ++ class ∷ [])) (needs_of p class) loaded)) ≡ loading_done after
           → is_among class after ≡ true
       by true b is h = ap (is_among class) (sym (done_done loaded after h)) ∙ is
       by false true is h = absurd (failed_done loaded after Circular h)
@@ -109,10 +109,10 @@ module _ (p : Program) (class : ℕ) (after : List ℕ) where
   named_done zero path name loaded plain is e = absurd (failed_done loaded after Circular e)
   named_done (suc n) path name loaded plain is e =
       let fresh : ℕ → Loading = λ class. behind_needs class (load_needs p (load_named p n (path ++ class ∷ [])) (needs_of p class) loaded) in
-      let by_name : List ℕ → Loading = λ class_name. by_standing (standing_of path loaded (class_named p class_name)) class_name loaded fresh in
+      let by_name : List ℕ → Loading = λ class_name. by_load_state (load_state_of path loaded (class_named p class_name)) class_name loaded fresh in
       class_done n path name loaded
-      (sym (ap (λ o. by_standing (standing_of path loaded o) name loaded fresh) is)
-      ∙ (sym (ap (λ (b : Bool). load_element (if b then unwrap_or (array_from 0 name) (array_of 0 (Named name)) else array_of 0 (Named name)).element loaded by_name) plain) ∙ e))
+      (sym (ap (λ o. by_load_state (load_state_of path loaded o) name loaded fresh) is)
+      ∙ (sym (ap (λ (b : Bool). load_element (if b then unwrap_or (array_from 0 name) (array_meaning 0 (Named name)) else array_meaning 0 (Named name)).element loaded by_name) plain) ∙ e))
 
 -- ---- the classes of needs
 

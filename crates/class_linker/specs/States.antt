@@ -56,7 +56,7 @@ pub record IsLater (before after : State) : Type 0 where
 
 -- what is loaded for a class's name, and for any name, where this loads a class that is not loaded yet
 abbrev pub class_loading : Program → List ℕ → List ℕ → List ℕ → (ℕ → load.Loading) → load.Loading
-class_loading p path name loaded fresh = load.by_standing (load.standing_of path loaded (class_named p name)) name loaded fresh
+class_loading p path name loaded fresh = load.by_load_state (load.load_state_of path loaded (class_named p name)) name loaded fresh
 
 abbrev pub named_loading : Program → List ℕ → List ℕ → List ℕ → (ℕ → load.Loading) → load.Loading
 named_loading p path name loaded fresh =

@@ -8,7 +8,7 @@ use Rattle.std.proofs.lemmas.List.{length-append}
 use Rattle.const_pool.specs.declared.descriptor.Kind.{Kind}
 use Rattle.const_pool.specs.declared.descriptor.Kind.TheVariants as kind
 use Rattle.const_pool.specs.Descriptors.{IsBase, IsField, IsName, dimensions_text}
-use Rattle.jvm_model.specs.Classes.Kinds.{Element, Named, array_from, array_of, before_semicolon, element_of, is_array_name, meaning_of}
+use Rattle.jvm_model.specs.Classes.Kinds.{Element, Named, array_from, array_meaning, before_semicolon, element_of, is_array_name, meaning_of}
 use Rattle.code_admission.specs.Texts.{dimensions_of, field_kind, is_class_name, is_field_text}
 use Rattle.code_admission.proofs.Grammar.{field_kind_found}
 use Rattle.code_admission.proofs.Positions.{position-behind}
@@ -68,17 +68,17 @@ array-behind : (d n : ℕ) (text : List ℕ) → array_from d (dimensions_text n
 array-behind d zero text = ap (λ k. array_from k text) (let e : d ≡ d + 0 = omega arith in e)
 array-behind d (suc n) text = array-behind (d + 1) n text ∙ ap (λ k. array_from k text) (let e : d + 1 + n ≡ d + suc n = omega arith in e)
 
-array-element : (d : ℕ) (text : List ℕ) → d ≤ 255 → IsElement text → (element : Element) × (array_from d text ≡ Some (array_of d element))
+array-element : (d : ℕ) (text : List ℕ) → d ≤ 255 → IsElement text → (element : Element) × (array_from d text ≡ Some (array_meaning d element))
 array-element d [] few is = absurd cc (is.there)
 array-element d (unit ∷ rest) few is = by (element_of (unit ∷ rest)) refl is.there
   where
-    by : (o : Option Element) → element_of (unit ∷ rest) ≡ o → is_some o ≡ true → (element : Element) × (array_from d (unit ∷ rest) ≡ Some (array_of d element))
+    by : (o : Option Element) → element_of (unit ∷ rest) ≡ o → is_some o ≡ true → (element : Element) × (array_from d (unit ∷ rest) ≡ Some (array_meaning d element))
     by None found there = absurd cc
     by (Some element) found there = (
       element,
-      ap (λ b. cond b (array_from (d + 1) rest) (cond (nat_le d 255) (option_map (array_of d) (element_of (unit ∷ rest))) None)) is.plain
-          ∙ (ap (λ b. cond b (option_map (array_of d) (element_of (unit ∷ rest))) None) (le-leb d 255 few)
-          ∙ ap (option_map (array_of d)) found),
+      ap (λ b. cond b (array_from (d + 1) rest) (cond (nat_le d 255) (option_map (array_meaning d) (element_of (unit ∷ rest))) None)) is.plain
+          ∙ (ap (λ b. cond b (option_map (array_meaning d) (element_of (unit ∷ rest))) None) (le-leb d 255 few)
+          ∙ ap (option_map (array_meaning d)) found),
     )
 
 -- ---- names
@@ -96,7 +96,7 @@ plain-has : (name : List ℕ) → is_array_name name ≡ false → HasDimensions
 plain-has name plain =
     let none = plain-dimensions name plain in
     record {
-      same = ap (λ b. (cond b (unwrap_or (array_from 0 name) (array_of 0 (Named name))) (array_of 0 (Named name))).dimensions) plain ∙ sym none;
+      same = ap (λ b. (cond b (unwrap_or (array_from 0 name) (array_meaning 0 (Named name))) (array_meaning 0 (Named name))).dimensions) plain ∙ sym none;
       few = omega (arith, none);
     }
 
@@ -105,10 +105,10 @@ array-has name k array field =
     let element = base-element field.element field.element_kind field.base in
     let counted : dimensions_of name ≡ field.dimensions = ap dimensions_of field.spelled ∙ dimensions-counted field.dimensions field.element element.plain in
     let found = array-element field.dimensions field.element field.most element in
-    let from : array_from 0 name ≡ Some (array_of field.dimensions found.0) = ap (array_from 0) field.spelled ∙ (array-behind 0 field.dimensions field.element ∙ (ap (λ k. array_from k field.element) (zero-add field.dimensions) ∙ found.1)) in
+    let from : array_from 0 name ≡ Some (array_meaning field.dimensions found.0) = ap (array_from 0) field.spelled ∙ (array-behind 0 field.dimensions field.element ∙ (ap (λ k. array_from k field.element) (zero-add field.dimensions) ∙ found.1)) in
     record {
-      same = ap (λ b. (cond b (unwrap_or (array_from 0 name) (array_of 0 (Named name))) (array_of 0 (Named name))).dimensions) array
-          ∙ (ap (λ o. (unwrap_or o (array_of 0 (Named name))).dimensions) from ∙ sym counted);
+      same = ap (λ b. (cond b (unwrap_or (array_from 0 name) (array_meaning 0 (Named name))) (array_meaning 0 (Named name))).dimensions) array
+          ∙ (ap (λ o. (unwrap_or o (array_meaning 0 (Named name))).dimensions) from ∙ sym counted);
       few = (let most = field.most in omega (arith, counted, most));
     }
 

@@ -4,7 +4,7 @@ ghost use Rattle.std.specs.Prelude.{◌≡◌, ◌-◌, None, Some, true, false,
 ghost use Rattle.std.specs.Prelude.{IfNone, IfOk, OnOk};
 ghost use Rattle.std.specs.Option.{IfSome};
 ghost use Rattle.jvm_model.specs.Basis.Families.{family_of};
-ghost use Rattle.jvm_model.specs.Running.Run.{with_loaded};
+ghost use Rattle.jvm_model.specs.Running.Run.{with_classes_loaded};
 ghost use Rattle.jvm_model.specs.Soundness.Sound.{IsPrimitiveArray};
 ghost use Rattle.member_selection.specs.Outcomes.{Asks, HaveOperands};
 ghost use Rattle.symbolic_references.specs.Leaving.{Sets};
@@ -421,7 +421,7 @@ fn attempt_name_loaded(
     ensures loads { let w = setup_in parts.old.runtime originals.old in
         let s = state_of initializing.old parts.old in
         IfOk result (λ o. IfNone o
-        (state_of initializing.new parts.new ≡ with_loaded (loads_in w s) s)) }
+        (state_of initializing.new parts.new ≡ with_classes_loaded (loads_in w s) s)) }
 {
     let outcome = originals.attempt_loaded(
         alloc,
@@ -481,7 +481,7 @@ fn attempt_loaded_there(
     ensures loads { let w = setup_in parts.old.runtime originals.old in
         let s = state_of initializing.old parts.old in
         IfOk result (λ o. IfNone o
-        (state_of initializing.new parts.new ≡ with_loaded (loads_in w s) s)) }
+        (state_of initializing.new parts.new ≡ with_classes_loaded (loads_in w s) s)) }
 {
     if named_at(originals, here) {
         return attempt_name_loaded(alloc, originals, parts, initializing, here);
@@ -524,7 +524,7 @@ pub fn attempt_loaded(
     ensures loads { let w = setup_in parts.old.runtime originals.old in
         let s = state_of initializing.old parts.old in
         IfOk result (λ o. IfNone o
-        (state_of initializing.new parts.new ≡ with_loaded (loads_in w s) s)) }
+        (state_of initializing.new parts.new ≡ with_classes_loaded (loads_in w s) s)) }
 {
     let Some(here) = where_now(&parts.frames) else {
         return Ok(Some(None));

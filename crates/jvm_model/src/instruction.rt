@@ -1,7 +1,7 @@
 //! Instructions as they are attempted, with the names that they give (JVM Specification 4.4, 6.5).
 
 ghost use Rattle.std.specs.Prelude.{◌≡◌};
-ghost use Rattle.jvm_model.specs.Basis.MemberNames.{params_by, reference_to};
+ghost use Rattle.jvm_model.specs.Basis.MemberNames.{descriptor_params, reference_to};
 
 use crate::family::{
     Division, IntOperator, LongOperator, LongShift, OfInt, OfLong, StackInstruction, Test,
@@ -39,13 +39,13 @@ pub struct MethodName {
 impl Model for MethodName {
     ghost use Rattle.std.specs.Prelude.{◌≡◌};
     ghost use Rattle.const_pool.specs.References.{Reference};
-    ghost use Rattle.jvm_model.specs.Basis.MemberNames.{params_by};
+    ghost use Rattle.jvm_model.specs.Basis.MemberNames.{descriptor_params};
 
     ghost Value = { Reference };
 
     ghost view = { λ m. m.member };
 
-    ghost invariant = { λ m. m.params ≡ params_by m.member.member.descriptor };
+    ghost invariant = { λ m. m.params ≡ descriptor_params m.member.member.descriptor };
 }
 
 /// An instruction that names a class, a field or a method, with the names that it gives: what they refer to is looked up in
@@ -175,7 +175,7 @@ impl MemberName {
 impl MethodName {
     /// The names, with the kinds that the descriptor tells.
     pub fn new(member: MemberName, params: Option<Seq<Kind>>) -> MethodName
-        requires { params ≡ params_by member.member.descriptor }
+        requires { params ≡ descriptor_params member.member.descriptor }
         ensures { result ≡ member }
     {
         MethodName { member, params }
@@ -197,7 +197,7 @@ impl MethodName {
 
     /// The kinds of its parameters.
     pub fn params(&self) -> &Option<Seq<Kind>>
-        ensures { result.now ≡ params_by self.now.member.descriptor }
+        ensures { result.now ≡ descriptor_params self.now.member.descriptor }
     {
         &self.params
     }

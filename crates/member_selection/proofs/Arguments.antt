@@ -23,7 +23,7 @@ use Rattle.jvm_model.specs.Basis.Descriptors.{shape_of}
 use Rattle.jvm_model.specs.Instructions.InvocationRules.{arguments_by, receiver_in, with_receiver}
 use Rattle.jvm_model.specs.Basis.Values.{arguments, data_of, datum_of}
 use Rattle.jvm_model.proofs.Running.Shapes.{method_sound}
-use Rattle.jvm_model.specs.Basis.MemberNames.{params_by}
+use Rattle.jvm_model.specs.Basis.MemberNames.{descriptor_params}
 use Rattle.member_selection.specs.Targets.{as_datum, data_in, is_reference, reference_in}
 
 -- as many values as parameters, or there are no such data
@@ -223,7 +223,7 @@ receiver-is o (suc n) ne le =
 
 -- ---- by a descriptor
 
-pub by-params : (instance : Bool) (m : NameAndType) (o : Operands) → arguments_by instance m o ≡ option_and_then (λ ks. arguments (with_receiver instance ks) o) (params_by m.descriptor)
+pub by-params : (instance : Bool) (m : NameAndType) (o : Operands) → arguments_by instance m o ≡ option_and_then (λ ks. arguments (with_receiver instance ks) o) (descriptor_params m.descriptor)
 by-params instance m o = by (shape_of m.descriptor) where
   by : (shape : Option Shape) → option_and_then (λ (s : Shape). arguments (with_receiver instance s.params) o) shape
       ≡ option_and_then (λ ks. arguments (with_receiver instance ks) o) (option_map (λ (s : Shape). s.params) shape)
@@ -243,7 +243,7 @@ some-slots (k ∷ ks) =
     positive kind.Double = omega arith
     positive _ = omega arith
 
-pub few-params : (descriptor : List ℕ) (ks : List Kind) → params_by descriptor ≡ Some ks → length ks ≤ 255
+pub few-params : (descriptor : List ℕ) (ks : List Kind) → descriptor_params descriptor ≡ Some ks → length ks ≤ 255
 few-params descriptor ks e = by (shape_of descriptor) refl e where
   by : (shape : Option Shape) → shape_of descriptor ≡ shape → option_map (λ (s : Shape). s.params) shape ≡ Some ks → length ks ≤ 255
   by None is e = absurd (none-some ks e)
@@ -252,10 +252,10 @@ few-params descriptor ks e = by (shape_of descriptor) refl e where
       let least = some-slots s.params in
       subst (λ xs. length xs ≤ 255) (same_Some s.params ks e) (omega (arith, most, least))
 
-pub by-shape : (instance : Bool) (m : NameAndType) (o : Operands) (ks : List Kind) → params_by m.descriptor ≡ Some ks → arguments (with_receiver instance ks) o ≡ arguments_by instance m o
+pub by-shape : (instance : Bool) (m : NameAndType) (o : Operands) (ks : List Kind) → descriptor_params m.descriptor ≡ Some ks → arguments (with_receiver instance ks) o ≡ arguments_by instance m o
 by-shape instance m o ks e = sym (by-params instance m o ∙ ap (option_and_then (λ ks. arguments (with_receiver instance ks) o)) e)
 
-pub no-shape : (instance : Bool) (m : NameAndType) (o : Operands) → params_by m.descriptor ≡ None → None ≡ arguments_by instance m o
+pub no-shape : (instance : Bool) (m : NameAndType) (o : Operands) → descriptor_params m.descriptor ≡ None → None ≡ arguments_by instance m o
 no-shape instance m o e = sym (by-params instance m o ∙ ap (option_and_then (λ ks. arguments (with_receiver instance ks) o)) e)
 
 -- ---- what stands on top

@@ -6,7 +6,7 @@ use Rattle.std.proofs.lemmas.Option.{none-some}
 use Rattle.jvm_model.specs.declared.program.Program.{Program}
 use Rattle.jvm_model.specs.Basis.KindNumbers.{base_of_class, kind_number, user_count}
 use Rattle.jvm_model.specs.Classes.Kinds.{Element, Primitive, Named, kind_named, meaning_of, parts_named}
-use Rattle.jvm_model.specs.Classes.Load.{Fault, NoClass, Circular, Loading, There, Begun, Fresh, behind_needs, by_standing, loading_done, is_among, load_element, load_named, load_needs, load_of, needs_of, standing_of, unless}
+use Rattle.jvm_model.specs.Classes.Load.{Fault, NoClass, Circular, Loading, There, Begun, Fresh, behind_needs, by_load_state, loading_done, is_among, load_element, load_named, load_needs, load_of, needs_of, load_state_of, unless}
 use Rattle.jvm_model.specs.Basis.Programs.{class_named}
 use Rattle.member_selection.specs.Objects.{IsUsable}
 use Rattle.jvm_model.proofs.Soundness.SoundKinds.{name-usable}
@@ -22,8 +22,8 @@ behind-there class (Some fault) loaded none = absurd (none-some fault (sym none)
 
 module _ (path name loaded : List ℕ) (load : ℕ → Loading) where
   standing-there : (class : ℕ) (a b : Bool) → is_among class loaded ≡ a
-      → (by_standing (if a then There else if b then Begun else Fresh class) name loaded (λ c. behind_needs c (load c))).fault ≡ None
-      → is_among class (by_standing (if a then There else if b then Begun else Fresh class) name loaded (λ c. behind_needs c (load c))).loaded ≡ true
+      → (by_load_state (if a then There else if b then Begun else Fresh class) name loaded (λ c. behind_needs c (load c))).fault ≡ None
+      → is_among class (by_load_state (if a then There else if b then Begun else Fresh class) name loaded (λ c. behind_needs c (load c))).loaded ≡ true
   standing-there class true b is none = is
   standing-there class false true is none = absurd (none-some Circular (sym none))
   standing-there class false false is none = behind-there class (load class).fault (load class).loaded none
@@ -32,9 +32,9 @@ module _ (path name loaded : List ℕ) (load : ℕ → Loading) where
   pub record Stands (o : Option ℕ) : Type 0 where
     pub class : ℕ
     pub found : o ≡ Some class
-    pub there : is_among class (by_standing (standing_of path loaded o) name loaded (λ c. behind_needs c (load c))).loaded ≡ true
+    pub there : is_among class (by_load_state (load_state_of path loaded o) name loaded (λ c. behind_needs c (load c))).loaded ≡ true
 
-  stands : (o : Option ℕ) → (by_standing (standing_of path loaded o) name loaded (λ c. behind_needs c (load c))).fault ≡ None → Stands o
+  stands : (o : Option ℕ) → (by_load_state (load_state_of path loaded o) name loaded (λ c. behind_needs c (load c))).fault ≡ None → Stands o
   stands None none = absurd (none-some (NoClass name) (sym none))
   stands (Some class) none =
       record { class = class; found = refl; there = standing-there class (is_among class loaded) (is_among class path) refl none }
@@ -50,23 +50,23 @@ same-name : (a b : List ℕ) → Named a ≡ Named b → a ≡ b
 same-name a b e = cc
 
 name-loads : (p : Program) (path own loaded : List ℕ) (load : ℕ → Loading)
-    → (by_standing (standing_of path loaded (class_named p own)) own loaded (λ class. behind_needs class (load class))).fault ≡ None
-    → Loads p (Named own) (by_standing (standing_of path loaded (class_named p own)) own loaded (λ class. behind_needs class (load class)))
+    → (by_load_state (load_state_of path loaded (class_named p own)) own loaded (λ class. behind_needs class (load class))).fault ≡ None
+    → Loads p (Named own) (by_load_state (load_state_of path loaded (class_named p own)) own loaded (λ class. behind_needs class (load class)))
 name-loads p path own loaded load none = by (stands path own loaded load (class_named p own) none)
   where
     by : Stands path own loaded load (class_named p own)
-        → Loads p (Named own) (by_standing (standing_of path loaded (class_named p own)) own loaded (λ class. behind_needs class (load class)))
+        → Loads p (Named own) (by_load_state (load_state_of path loaded (class_named p own)) own loaded (λ class. behind_needs class (load class)))
     by s = record {
       class = λ name is.
           subst (λ n. (class : ℕ) × (class_named p n ≡ Some class)
-          × (is_among class (by_standing (standing_of path loaded (class_named p own)) own loaded (λ c. behind_needs c (load c))).loaded ≡ true))
+          × (is_among class (by_load_state (load_state_of path loaded (class_named p own)) own loaded (λ c. behind_needs c (load c))).loaded ≡ true))
           (same-name own name is) (s.class, s.found, s.there);
     }
 
 by-element : (p : Program) (n : ℕ) (path loaded : List ℕ) (e : Element)
-    → (load_element e loaded (λ name. by_standing (standing_of path loaded (class_named p name)) name loaded
+    → (load_element e loaded (λ name. by_load_state (load_state_of path loaded (class_named p name)) name loaded
     (λ class. behind_needs class (load_needs p (load_named p n (path ++ class ∷ [])) (needs_of p class) loaded)))).fault ≡ None
-    → Loads p e (load_element e loaded (λ name. by_standing (standing_of path loaded (class_named p name)) name loaded
+    → Loads p e (load_element e loaded (λ name. by_load_state (load_state_of path loaded (class_named p name)) name loaded
     (λ class. behind_needs class (load_needs p (load_named p n (path ++ class ∷ [])) (needs_of p class) loaded))))
 by-element p n path loaded (Primitive code) none = record { class = λ name is. absurd (no-named code name is) }
 by-element p n path loaded (Named own) none =

@@ -3,7 +3,7 @@ use Rattle.std.specs.Prelude.{◌≡◌, ℕ, false, Some, None, IsSome, nat_lt,
 use Rattle.std.specs.Option.{option_and_then}
 use Rattle.base_classes.specs.Natives.{native_methods, native_number}
 use Rattle.jvm_model.specs.declared.program.Program.{Program}
-use Rattle.jvm_model.specs.Instructions.InvocationRules.{reference_to}
+use Rattle.jvm_model.specs.Instructions.InvocationRules.{method_reference}
 use Rattle.jvm_model.specs.Basis.KindNumbers.{user_count}
 use Rattle.jvm_model.specs.Classes.Lookup.{MemberPlace}
 use Rattle.jvm_model.specs.Basis.Programs.{number_of_method}
@@ -23,7 +23,7 @@ pub record IsNative (p : Program) (m : MemberPlace) (n : ℕ) : Type 0 where
   pub concrete : is_abstract p m ≡ false
   pub codeless : number_of_method p m.class m.position ≡ None
   pub built_in : nat_lt m.class (user_count p) ≡ false
-  pub named : option_and_then native_number (reference_to p m) ≡ Some n
+  pub named : option_and_then native_number (method_reference p m) ≡ Some n
   pub stands : IsSome (slice_get native_methods n)
 
 abbrev pub IsCallee : Callee → Program → MemberPlace → Type 0

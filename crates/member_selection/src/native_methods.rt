@@ -4,7 +4,7 @@ ghost use Rattle.std.specs.Prelude.{◌≡◌, IfSome, IsSome, slice_get};
 ghost use Rattle.std.specs.Option.{option_and_then, option_map};
 ghost use Rattle.base_classes.specs.Natives.{native_methods, native_number};
 ghost use Rattle.const_pool.specs.Members.{reference_view};
-ghost use Rattle.jvm_model.specs.Instructions.InvocationRules.{reference_to};
+ghost use Rattle.jvm_model.specs.Instructions.InvocationRules.{method_reference};
 ghost use Rattle.member_selection.specs.Members.{at_place};
 
 use crate::declared_member::DeclaredMember;
@@ -13,8 +13,8 @@ use const_pool::MemberRef;
 use jvm_model::Program;
 
 /// The name of the class that declares a method, and its name and descriptor.
-fn reference_to(program: &Program, m: DeclaredMember) -> Option<MemberRef<'_>>
-    ensures { option_map reference_view result ≡ reference_to program.now (at_place m) }
+fn method_reference(program: &Program, m: DeclaredMember) -> Option<MemberRef<'_>>
+    ensures { option_map reference_view result ≡ method_reference program.now (at_place m) }
 {
     let file = program.classes.get(m.class as usize)?;
     let Ok(class) = file.pool.class_name(file.this_class) else {
@@ -37,9 +37,9 @@ fn reference_to(program: &Program, m: DeclaredMember) -> Option<MemberRef<'_>>
 /// The number of a native method of a built-in class.
 pub fn native_at(program: &Program, m: DeclaredMember) -> Option<u16>
     ensures number { result
-        ≡ option_and_then native_number (reference_to program.now (at_place m)) }
+        ≡ option_and_then native_number (method_reference program.now (at_place m)) }
     ensures stands { IfSome result (λ n. IsSome (slice_get native_methods n)) }
 {
-    let method = reference_to(program, m)?;
+    let method = method_reference(program, m)?;
     native_of(method.class, method.name, method.descriptor)
 }

@@ -11,7 +11,7 @@ ghost use Rattle.jvm_model.specs.Codes.Lines.{has_dimensions, named_by};
 ghost use Rattle.jvm_model.specs.Codes.Lines.{interface_reference, array_reference};
 ghost use Rattle.jvm_model.specs.Codes.Lines.{named_interface_method, symbolic_reference_of, special_of};
 ghost use Rattle.jvm_model.specs.Basis.Programs.{name_of};
-ghost use Rattle.jvm_model.specs.Basis.MemberNames.{params_by};
+ghost use Rattle.jvm_model.specs.Basis.MemberNames.{descriptor_params};
 ghost use Rattle.prepared_lines.specs.Lines.{operation_kept};
 
 use crate::descriptor::shape_of;
@@ -42,8 +42,8 @@ fn member_as(alloc: Global, member: &MemberRef<'_>) -> Result<MemberName, NoMemo
 }
 
 /// The kinds of the parameters that a method's descriptor tells.
-fn params_by(alloc: Global, descriptor: &Text16) -> Result<Option<Seq<Kind>>, NoMemory>
-    ensures { IfOk result (λ params. params ≡ params_by descriptor.now) }
+fn descriptor_params(alloc: Global, descriptor: &Text16) -> Result<Option<Seq<Kind>>, NoMemory>
+    ensures { IfOk result (λ params. params ≡ descriptor_params descriptor.now) }
 {
     match shape_of(alloc, descriptor)? {
         Some(shape) => Ok(Some(shape.params)),
@@ -55,7 +55,7 @@ fn params_by(alloc: Global, descriptor: &Text16) -> Result<Option<Seq<Kind>>, No
 fn method_as(alloc: Global, method: &MemberRef<'_>) -> Result<MethodName, NoMemory>
     ensures { IfOk result (λ name. name ≡ reference_view method.now) }
 {
-    let params = params_by(alloc, method.descriptor)?;
+    let params = descriptor_params(alloc, method.descriptor)?;
     Ok(MethodName::new(member_as(alloc, method)?, params))
 }
 

@@ -8,7 +8,7 @@ use Rattle.jvm_model.specs.declared.program.Program.{Program}
 use Rattle.jvm_model.specs.declared.state.Shared.{Shared}
 use Rattle.jvm_model.specs.Basis.Data.{Operands}
 use Rattle.jvm_model.specs.Classes.Kinds.{Element, Primitive, Named, kind_named, meaning_of}
-use Rattle.jvm_model.specs.Classes.Load.{Fault, Loading, There, Begun, Fresh, behind_needs, by_standing, loading_done, is_among, load_element, load_named, load_needs, load_of, needs_of, standing_of}
+use Rattle.jvm_model.specs.Classes.Load.{Fault, Loading, There, Begun, Fresh, behind_needs, by_load_state, loading_done, is_among, load_element, load_named, load_needs, load_of, needs_of, load_state_of}
 use Rattle.jvm_model.specs.Basis.Programs.{class_named}
 use Rattle.jvm_model.proofs.Loading.LoadsAgain.{newly-again, newly-loaded}
 use Rattle.jvm_model.specs.Instructions.SymbolicReference.{kind_unless, newly_loaded, resolved_kind, resolved_name, resolves}
@@ -90,7 +90,7 @@ loads-in l new before after n o is more does =
 
 stays-element : (p : Program) (n : ℕ) (big : List ℕ) (e : Element)
     → ((name : List ℕ) → e ≡ Named name → (class : ℕ) × (class_named p name ≡ Some class) × (is_among class big ≡ true))
-    → load_element e big (λ name. by_standing (standing_of [] big (class_named p name)) name big
+    → load_element e big (λ name. by_load_state (load_state_of [] big (class_named p name)) name big
     (λ class. behind_needs class (load_needs p (load_named p n ([] ++ class ∷ [])) (needs_of p class) big))) ≡ loading_done big
 stays-element p n big (Primitive code) has = refl
 stays-element p n big (Named own) has = by (has own refl)
@@ -99,10 +99,10 @@ stays-element p n big (Named own) has = by (has own refl)
     fresh class = behind_needs class (load_needs p (load_named p n ([] ++ class ∷ [])) (needs_of p class) big)
 
     by : (class : ℕ) × (class_named p own ≡ Some class) × (is_among class big ≡ true)
-        → by_standing (standing_of [] big (class_named p own)) own big fresh ≡ loading_done big
+        → by_load_state (load_state_of [] big (class_named p own)) own big fresh ≡ loading_done big
     by (class, named, there) =
-        ap (λ o. by_standing (standing_of [] big o) own big fresh) named
-        ∙ ap (λ b. by_standing (if b then There else if is_among class [] then Begun else Fresh class) own big fresh) there
+        ap (λ o. by_load_state (load_state_of [] big o) own big fresh) named
+        ∙ ap (λ b. by_load_state (if b then There else if is_among class [] then Begun else Fresh class) own big fresh) there
 
 pub loads-more : (p : Program) (loaded more name : List ℕ) → load_of p loaded name ≡ loading_done loaded → load_of p (loaded ++ more) name ≡ loading_done (loaded ++ more)
 loads-more p loaded more name is =

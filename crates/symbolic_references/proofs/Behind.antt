@@ -6,7 +6,7 @@ use Rattle.heap_objects.specs.declared.Value.TheVariants.{Int}
 use Rattle.jvm_model.specs.Instructions.CreationRules.{answers, casts_to}
 use Rattle.jvm_model.specs.declared.state.Shared.{Shared}
 use Rattle.jvm_model.specs.Basis.Data.{Locals, Operands, World, Next, Outcome, GoesOn, Done}
-use Rattle.jvm_model.specs.Instructions.FieldRules.{gets_of, held_of, kind_by, pushes_static, puts_into, putting_of, sets_static}
+use Rattle.jvm_model.specs.Instructions.FieldRules.{gets_of, field_held, kind_by, pushes_static, puts_into, putting_of, sets_static}
 use Rattle.jvm_model.specs.Instructions.InvocationRules.{Virtual, OfInterface, Special, arguments_by, invokes_on, invokes_with_static}
 use Rattle.jvm_model.specs.Instructions.LocalRules.{replaces}
 use Rattle.jvm_model.specs.Instructions.SymbolicReference.{◌>>=◌, is_null, resolved_kind, resolved_name, resolves, unless_refused}
@@ -42,7 +42,7 @@ behind w (Getstatic r) s l o is =
     then-unless s (resolved_kind w.program s.loaded r.class) (λ kind. field_found w.program kind true r) (λ m. pushes_static w.program m s l o)
 behind w (Putstatic r) s l o is =
     then-unless s (resolved_kind w.program s.loaded r.class) (λ kind. field_found w.program kind true r)
-    (λ m. class_initialized w.program m.class s (sets_static m (held_of (kind_by r) o) s l o))
+    (λ m. class_initialized w.program m.class s (sets_static m (field_held (kind_by r) o) s l o))
 behind w (Invokevirtual r) s l o is =
     then-unless s (resolved_kind w.program s.loaded r.class) (λ kind. method_found w.program kind false false r)
     (λ m. invokes_on w Virtual r m (arguments_by true r.member o) s l o)

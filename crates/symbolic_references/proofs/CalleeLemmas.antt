@@ -5,7 +5,7 @@ use Rattle.std.specs.Option.{option_map_or}
 use Rattle.heap_objects.specs.declared.datum.Datum.{Datum}
 use Rattle.jvm_model.specs.declared.state.Shared.{Shared}
 use Rattle.jvm_model.specs.Basis.Data.{Locals, Operands, World, Invokes, Raises, Breaks}
-use Rattle.jvm_model.specs.Instructions.InvocationRules.{abstract_method, invokes_number, invokes_selected, reference_to, unsatisfied_link}
+use Rattle.jvm_model.specs.Instructions.InvocationRules.{abstract_method, invokes_number, invokes_selected, method_reference, unsatisfied_link}
 use Rattle.jvm_model.specs.Classes.Lookup.{MemberPlace}
 use Rattle.jvm_model.specs.Instructions.NativeRules.{runs_native, runs_number}
 use Rattle.jvm_model.specs.Instructions.ObjectRules.{done}
@@ -24,5 +24,5 @@ module _ (w : World) (m : MemberPlace) (args : List Datum) (s : Shared) (l : Loc
   native-invoked n is =
       ap (λ b. if b then done s (Raises abstract_method None) else invokes_number w m (number_of_method w.program m.class m.position) args s l below) is.concrete
       ∙ (ap (λ o. invokes_number w m o args s l below) is.codeless
-      ∙ (ap (λ b. if b then done s (Raises unsatisfied_link None) else runs_native w (reference_to w.program m) args s l below) is.built_in
+      ∙ (ap (λ b. if b then done s (Raises unsatisfied_link None) else runs_native w (method_reference w.program m) args s l below) is.built_in
       ∙ ap (λ o. option_map_or (λ number. runs_number w number args s l below) o (done s (Breaks false))) is.named))

@@ -12,7 +12,7 @@ use Rattle.jvm_model.specs.declared.state.Phase.{Phase}
 use Rattle.jvm_model.specs.declared.state.Phase.TheVariants.{Fresh, Running, Ready, Erroneous}
 use Rattle.heap_objects.specs.declared.datum.Datum.{Datum}
 use Rattle.jvm_model.specs.Basis.Data.{Locals, Operands, Outcome, Raises, Done}
-use Rattle.jvm_model.specs.Instructions.FieldRules.{Putting, gets_of, kind_by, held_of, puts_into, putting_of, sets_static}
+use Rattle.jvm_model.specs.Instructions.FieldRules.{Putting, gets_of, kind_by, field_held, puts_into, putting_of, sets_static}
 use Rattle.jvm_model.specs.Classes.Lookup.{MemberPlace}
 use Rattle.jvm_model.specs.Instructions.SymbolicReference.{unless_refused}
 use Rattle.jvm_model.specs.Instructions.ObjectRules.{done, makes}
@@ -116,7 +116,7 @@ module _ (p : Program) (kind : ℕ) (r : Reference) (s : Shared) (l : Locals) (o
   writes_putstatic =
       nothing output (puts_static p kind r s l o)
       (unless-by IsSilent s (field_found p kind true r) _ (λ q. refl)
-      (λ m. ready-by IsSilent p (phase_of s m.class) m.class s _ (λ q. refl) (sets-silent m (held_of (kind_by r) o) s l o)))
+      (λ m. ready-by IsSilent p (phase_of s m.class) m.class s _ (λ q. refl) (sets-silent m (field_held (kind_by r) o) s l o)))
 
   pub shared_getfield : s ≡ (gets_instance p kind r s l o).shared
   shared_getfield =

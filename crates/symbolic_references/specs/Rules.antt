@@ -11,7 +11,7 @@ use Rattle.jvm_model.specs.Basis.Values.{ref_of}
 use Rattle.jvm_model.specs.Classes.Layouts.{layout}
 use Rattle.jvm_model.specs.Classes.Lookup.{MemberPlace}
 use Rattle.jvm_model.specs.Instructions.CreationRules.{allocates, zero_of}
-use Rattle.jvm_model.specs.Instructions.FieldRules.{gets_of, held_of, kind_by, puts_into, putting_of, sets_static}
+use Rattle.jvm_model.specs.Instructions.FieldRules.{gets_of, field_held, kind_by, puts_into, putting_of, sets_static}
 use Rattle.jvm_model.specs.Instructions.Rules.{class_initialized}
 use Rattle.member_selection.specs.Answers.{Rule}
 use Rattle.member_selection.specs.Targets.{data_in}
@@ -34,7 +34,7 @@ puts_to p r m s l o = puts_into p r m (putting_of (kind_by r) o) s l o
 
 -- the topmost operand goes into a static field of this kind
 abbrev pub sets_held : MemberPlace → Kind → Shared → Rule
-sets_held m kind s l o = sets_static m (held_of kind o) s l o
+sets_held m kind s l o = sets_static m (field_held kind o) s l o
 
 -- an object without anything but its fields
 abbrev pub makes_fields : Program → ℕ → ℕ → Shared → Rule

@@ -32,7 +32,7 @@ use Rattle.jvm_model.specs.Instructions.ObjectRules.{Access, ToNull, ToAnother, 
 use Rattle.jvm_model.specs.Instructions.Does.{does, loads}
 use Rattle.jvm_model.specs.Instructions.SymbolicReference.{newly_loaded}
 use Rattle.jvm_model.specs.Instructions.ReferenceRules.{does_named}
-use Rattle.jvm_model.specs.Running.Run.{starts, with_loaded}
+use Rattle.jvm_model.specs.Running.Run.{starts, with_classes_loaded}
 use Rattle.jvm_model.specs.Basis.SharedState.{class_of, null_pointer, throwable}
 use Rattle.jvm_model.specs.Basis.StackForms.{forms_of}
 use Rattle.jvm_model.specs.Basis.Values.{datum_of, local_loaded, local_in, int_of, ref_of, managed_stack}
@@ -450,7 +450,7 @@ op-awaits w s f (LdcString units) none = refl
 
 -- ---- instructions that name something
 
-pub with-loaded : (classes : List ℕ) (s : State) → with_loaded classes s ≡ record s { shared = record s.shared { loaded = s.shared.loaded ++ classes } }
+pub with-loaded : (classes : List ℕ) (s : State) → with_classes_loaded classes s ≡ record s { shared = record s.shared { loaded = s.shared.loaded ++ classes } }
 with-loaded [] s = ap (λ local_loaded. record s { shared = record s.shared { loaded = local_loaded } }) (sym (append-nil s.shared.loaded))
 with-loaded (c ∷ more) s = refl
 
@@ -458,7 +458,7 @@ with-loaded (c ∷ more) s = refl
 
 module _ (w : Setup) (line : Line) (op : Operation Local) (s : State) (f : Frame) where
   abbrev pub readied : State
-  readied = with_loaded (loads w.world op s.shared f.operands) s
+  readied = with_classes_loaded (loads w.world op s.shared f.operands) s
 
   abbrev pub done_there : Done
   done_there = does w.world op readied.shared f.locals f.operands

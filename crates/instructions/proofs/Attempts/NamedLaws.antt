@@ -27,8 +27,8 @@ use Rattle.jvm_model.specs.Basis.Data.{Locals, Operands, Outcome, GoesOn, Subrou
 use Rattle.jvm_model.specs.declared.instruction.SymbolicReference.{SymbolicReference}
 use Rattle.jvm_model.specs.declared.instruction.SymbolicReference.TheVariants.{New, Getfield, Putfield, Getstatic, Putstatic, Invokevirtual, Invokespecial, Invokestatic, Invokeinterface, Checkcast, Instanceof, Anewarray, Multianewarray, LdcClass}
 use Rattle.jvm_model.specs.Basis.Descriptors.{shape_of}
-use Rattle.jvm_model.specs.Instructions.FieldRules.{Putting, gets_of, held_of, is_static_field, kind_by, named_field, puts_into, putting_of, sets_static}
-use Rattle.jvm_model.specs.Instructions.InvocationRules.{Selecting, Virtual, OfInterface, Special, arguments_by, invokes_number, invokes_on, invokes_selected, invokes_with_static, named_method, not_of_class, receiver_in, reference_to, selected_by, with_receiver}
+use Rattle.jvm_model.specs.Instructions.FieldRules.{Putting, gets_of, field_held, is_static_field, kind_by, named_field, puts_into, putting_of, sets_static}
+use Rattle.jvm_model.specs.Instructions.InvocationRules.{Selecting, Virtual, OfInterface, Special, arguments_by, invokes_number, invokes_on, invokes_selected, invokes_with_static, named_method, not_of_class, receiver_in, method_reference, selected_by, with_receiver}
 use Rattle.jvm_model.specs.Basis.KindNumbers.{user_count}
 use Rattle.jvm_model.specs.Classes.Layouts.{layout}
 use Rattle.jvm_model.specs.Classes.Load.{Fault}
@@ -255,8 +255,8 @@ module _ (s : Shared) (o : Operands) where
       → IsNamed s o (invokes_number w.world m n args s l below)
   number-named w m (Some n) args l below takes = record { loaded = refl; asks = takes }
   number-named w m None args l below takes =
-      if-named (nat_lt m.class (user_count w.world.program)) _ (runs_native w.world (reference_to w.world.program m) args s l below) (refuses s o _ refl)
-      (native-named w (reference_to w.world.program m) args l below)
+      if-named (nat_lt m.class (user_count w.world.program)) _ (runs_native w.world (method_reference w.world.program m) args s l below) (refuses s o _ refl)
+      (native-named w (method_reference w.world.program m) args l below)
 
   selected-named : (w : Setup) (m : Option MemberPlace) (args : List Datum) (l : Locals) (below : Operands) → Takes o args below
       → IsNamed s o (invokes_selected w.world m args s l below)
@@ -312,7 +312,7 @@ module _ (s : Shared) (o : Operands) where
   is-named w (Getstatic r) l =
       unless-named _ _ (field-plain w.world.program s.loaded true r) (λ m. ready-named w.world.program m.class _ (refuses s o _ (pushes-plain _ l o)))
   is-named w (Putstatic r) l =
-      unless-named _ _ (field-plain w.world.program s.loaded true r) (λ m. ready-named w.world.program m.class _ (sets-named m (held_of (kind_by r) o) l))
+      unless-named _ _ (field-plain w.world.program s.loaded true r) (λ m. ready-named w.world.program m.class _ (sets-named m (field_held (kind_by r) o) l))
   is-named w (Invokevirtual r) l = unless-named _ _ (method-plain w.world.program s.loaded false false r) (λ m. on-named w Virtual r m l)
   is-named w (Invokespecial caller r interface) l =
       unless-named _ _ (method-plain w.world.program s.loaded interface false r) (λ m. on-named w (Special caller interface) r m l)

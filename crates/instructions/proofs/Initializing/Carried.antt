@@ -13,7 +13,7 @@ use Rattle.jvm_model.specs.declared.state.Frame.{Frame}
 use Rattle.jvm_model.specs.declared.state.State.{State}
 use Rattle.jvm_model.specs.declared.instruction.Operation.{Operation}
 use Rattle.jvm_model.specs.declared.instruction.Operation.TheVariants as operation
-use Rattle.jvm_model.specs.Running.Applies.{still, breaks, place_of, enters_subroutine, new_frame, throws_at, has_room, begins, invokes, most_live, live_in, applies}
+use Rattle.jvm_model.specs.Running.Applies.{still, breaks, place_of, enters_subroutine, new_frame, throws_at, has_room, begins, invocation_turn, most_live, live_in, applies}
 use Rattle.jvm_model.specs.Instructions.ConstantRules.{pushes_string}
 use Rattle.jvm_model.specs.Basis.Data.{Operands, Listing, Instruction, Outcome, GoesOn, Subroutine, Invokes, Returns, Throws, Raises, Initializes, Exits, Breaks, Turn}
 use Rattle.jvm_model.specs.Instructions.LocalRules.{arithmetic_exception, by_zero, returns}
@@ -61,7 +61,7 @@ module _ (ms : List Initialization) where
       ∙ ap (λ es. let all : List Entry = Active (new_frame w.world t m args) ∷ es in all) (framed ms s (record f { operands = rest }) free))
 
   invokes-carried : (w : Setup) (t : Listing) (i : Instruction) (s : State) (f : Frame) (m : ℕ) (args : List Datum) (rest : Operands) → IsFree ms s
-      → with_initializations ms (invokes w.world t i s f m args rest).after ≡ (invokes w.world t i (with_initializations ms s) f m args rest).after
+      → with_initializations ms (invocation_turn w.world t i s f m args rest).after ≡ (invocation_turn w.world t i (with_initializations ms s) f m args rest).after
   invokes-carried w t i s f m args rest free =
       by (has_room w.world m args) (nat_lt (suc (live_in s.stack)) most_live)
       ∙ ap (λ n. (delivered (has_room w.world m args) (nat_lt (suc n) most_live)).after) (sym (live-stack s.stack ms))

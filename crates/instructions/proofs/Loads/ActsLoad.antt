@@ -11,7 +11,7 @@ use Rattle.jvm_model.specs.declared.state.Entry.{Entry}
 use Rattle.jvm_model.specs.declared.state.Entry.TheVariants.{Active, Initializing}
 use Rattle.jvm_model.specs.declared.state.Frame.{Frame}
 use Rattle.jvm_model.specs.declared.state.State.{State}
-use Rattle.jvm_model.specs.Running.Applies.{applies, breaks, enters_subroutine, gives_back, goes, has_room, invokes, live_in, most_live, place_of, resumes, begins, still, throws_at}
+use Rattle.jvm_model.specs.Running.Applies.{applies, breaks, enters_subroutine, gives_back, goes, has_room, invocation_turn, live_in, most_live, place_of, resumes, begins, still, throws_at}
 use Rattle.jvm_model.specs.Instructions.ConstantRules.{pushes_string}
 use Rattle.jvm_model.specs.Running.Constants.{can_intern}
 use Rattle.jvm_model.specs.Basis.Data.{Locals, Operands, Listing, Instruction, Outcome, GoesOn, Subroutine, Invokes, Returns, Throws, Raises, Initializes, Exits, Breaks, Done}
@@ -50,7 +50,7 @@ module _ (s : State) (f : Frame) where
   enters-keeps i None = refl
   enters-keeps i (Some next) = goes-keeps i.own f.locals (Addr next ∷ f.operands) (slice_get i.targets 0)
 
-  invokes-keeps : (w : Setup) (t : Listing) (i : Instruction) (m : ℕ) (args : List Datum) (below : Operands) → Keeps s (invokes w.world t i s f m args below).after
+  invokes-keeps : (w : Setup) (t : Listing) (i : Instruction) (m : ℕ) (args : List Datum) (below : Operands) → Keeps s (invocation_turn w.world t i s f m args below).after
   invokes-keeps w t i m args below = by (has_room w.world m args) (nat_lt (suc (live_in s.stack)) most_live) where
     by : (room few : Bool)
         → Keeps s (cond room (cond few (begins w.world t s f m args below) (still (throws_at s f (exception_raised w.world s.shared stack_overflow None)))) (still (breaks s f i.own))).after

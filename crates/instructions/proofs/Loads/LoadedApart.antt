@@ -11,8 +11,8 @@ use Rattle.jvm_model.specs.declared.instruction.Operation.{Operation}
 use Rattle.jvm_model.specs.declared.instruction.Operation.TheVariants as operation
 use Rattle.jvm_model.specs.Instructions.Does.{loads}
 use Rattle.jvm_model.specs.Instructions.SymbolicReference.{newly_loaded}
-use Rattle.jvm_model.specs.Turns.Rest.{loads_at, loads_on}
-use Rattle.jvm_model.specs.Running.Run.{with_loaded}
+use Rattle.jvm_model.specs.Turns.Rest.{classes_loaded_at, loads_on}
+use Rattle.jvm_model.specs.Running.Run.{with_classes_loaded}
 use Rattle.member_selection.specs.declared.outcome.Outcome.{Outcome as CodeOutcome}
 use Rattle.member_selection.specs.Answers.{done_on}
 use Rattle.member_selection.specs.Attempts.{attempts, is_loaded, loaded_for}
@@ -39,7 +39,7 @@ use Rattle.instructions.proofs.Attempts.NamedAttempts.{Names, held, names-there}
 -- by a line of the current frame
 abbrev loads_of : Setup → State → List PlacedFrame → Option Line → List ℕ
 loads_of w s [] lo = []
-loads_of w s (f ∷ fs) lo = loads_at w.world s (frame_in f) (option_map instruction_in lo)
+loads_of w s (f ∷ fs) lo = classes_loaded_at w.world s (frame_in f) (option_map instruction_in lo)
 
 -- a line that names nothing loads nothing
 unnamed-loads : (w : Setup) (s : State) (fs : List PlacedFrame) (lo : Option Line) → named_in lo ≡ false → loads_of w s fs lo ≡ []
@@ -98,7 +98,7 @@ module _ (w : Setup) (ms : List Initialization) (p : Parts) (going : p.ending �
       by : (fs : List PlacedFrame) → here_of fs ≡ Some here → loads_of w s fs (line_at w.versions here.version here.place) ≡ newly_loaded w.world.program p.runtime.shared.loaded n (top_operands fs)
       by [] is = absurd (none-some here is)
       by (f ∷ fs) is =
-          ap (λ lo. loads_at w.world s (frame_in f) (option_map instruction_in lo)) names.there
+          ap (λ lo. classes_loaded_at w.world s (frame_in f) (option_map instruction_in lo)) names.there
           ∙ ap (λ a. loads w.world (operation_as names.line a) s.shared f.operands) names.named
 
     pub none-loads : (b : Bool) → IfNamed (line_at w.versions here.version here.place) (λ n next. b ≡ is_loaded w.world n p.runtime.shared p.frames) → b ≡ loads_none w s
@@ -109,7 +109,7 @@ module _ (w : Setup) (ms : List Initialization) (p : Parts) (going : p.ending �
     -- the classes are loaded, and nothing else is done
     pub has-loaded : (left : RuntimeView)
         → IfNamed (line_at w.versions here.version here.place) (λ n next. left ≡ runtimes.with_loaded (loaded_for w.world.program n p.runtime.shared p.frames) p.runtime)
-        → state_of ms (record p { runtime = left }) ≡ with_loaded (loads_in w s) s
+        → state_of ms (record p { runtime = left }) ≡ with_classes_loaded (loads_in w s) s
     has-loaded left loaded =
         ap (λ (x : RuntimeView). state_of ms (record p { runtime = x }))
         (held (line_at w.versions here.version here.place) names (λ n next. left ≡ runtimes.with_loaded (loaded_for w.world.program n p.runtime.shared p.frames) p.runtime) loaded)
@@ -141,7 +141,7 @@ module _ (w : Setup) (ms : List Initialization) (p : Parts) (going : p.ending �
 
   module _ (is : o ≡ None) (left : RuntimeView)
       (loads : IfNamed (line_at w.versions here.version here.place) (λ n next. IfNone o (left ≡ runtimes.with_loaded (loaded_for w.world.program n p.runtime.shared p.frames) p.runtime))) where
-    pub loaded-apart : state_of ms (record p { runtime = left }) ≡ with_loaded (loads_in w (state_of ms p)) (state_of ms p)
+    pub loaded-apart : state_of ms (record p { runtime = left }) ≡ with_classes_loaded (loads_in w (state_of ms p)) (state_of ms p)
     loaded-apart =
         has-loaded w ms p going here is_named_there at none left
         (subst (λ x. IfNamed (line_at w.versions here.version here.place) (λ n next. IfNone x (left ≡ runtimes.with_loaded (loaded_for w.world.program n p.runtime.shared p.frames) p.runtime)))

@@ -22,7 +22,7 @@ use Rattle.jvm_model.specs.Basis.Values.{ref_of}
 use Rattle.jvm_model.specs.Instructions.LocalRules.{within}
 use Rattle.jvm_model.specs.Running.Moves.{moves_left, move, moves, turn_settled}
 use Rattle.jvm_model.specs.Instructions.ObjectRules.{done, loads_element, measures, array_element_of as element_of, stores_element, storing_of}
-use Rattle.jvm_model.specs.Running.Run.{goes_again, loaded_turn, starts, step, steps_at, steps_by, steps_on, tries, with_loaded}
+use Rattle.jvm_model.specs.Running.Run.{goes_again, loaded_turn, starts, step, steps_at, steps_by, steps_on, tries, with_classes_loaded}
 use Rattle.jvm_model.proofs.Running.QuietSettles.{stops}
 use Rattle.jvm_basic.specs.declared.effect.Effect.TheVariants.{Next}
 use Rattle.jvm_basic.specs.Outcomes.{effect_in}
@@ -87,7 +87,7 @@ module _ (w : Setup) where
   abbrev pub step_by : Instruction → Operation Local → State → Frame → Turn
   step_by i op s f =
       let classes = loads w.world op s.shared f.operands in
-      let ready = with_loaded classes s in
+      let ready = with_classes_loaded classes s in
       loaded_turn classes (steps_by w.world t i ready f (does w.world op ready.shared f.locals f.operands))
 
   within-quiet : (i : Instruction) (l : Local) (s : State) (f : Frame) → IsQuiet i (within l f.locals f.operands) (record s { output = s.output ++ [] }) f → (step_by i (Within l) s f).changes ≡ []

@@ -9,7 +9,7 @@ use Rattle.jvm_model.specs.Basis.Data.{Turn}
 use Rattle.jvm_model.specs.Turns.InHand.{GoesOn, goes_from, frame_popped}
 use Rattle.jvm_model.specs.Codes.Originals.{original}
 use Rattle.jvm_model.specs.Turns.Pauses.{Pause}
-use Rattle.jvm_model.specs.Running.Run.{starts_with, with_loaded}
+use Rattle.jvm_model.specs.Running.Run.{starts_with, with_classes_loaded}
 use Rattle.jvm_model.specs.Turns.Told.{Held}
 use Rattle.jvm_model.proofs.Relocated.ClosedPrograms.{program-agrees}
 use Rattle.jvm_model.proofs.Turns.GoesAll.{all-goes}
@@ -56,7 +56,7 @@ module _ (w : Setup) (run : CanRun w) (s new : State) where
 
   -- from an attempt
   pub attempt-sound : (o : Option Due) (delivered : Bool) (n passed : ℕ) → is_some o ≡ loads_none w s
-      → IfSome o (λ due. pause_at new passed due ≡ tried_in w delivered n s) → IfNone o (new ≡ with_loaded (loads_in w s) s) → IsSoundIn w s → IsSoundIn w new
+      → IfSome o (λ due. pause_at new passed due ≡ tried_in w delivered n s) → IfNone o (new ≡ with_classes_loaded (loads_in w s) s) → IsSoundIn w s → IsSoundIn w new
   attempt-sound (Some due) delivered n passed some reaches loads is =
       subst (IsSoundIn w) (ap (λ (p : Pause). p.state) (sym reaches)) (tried-sound w run n s is (empty_from_length (loads_in w s) (sym some)) delivered)
   attempt-sound None delivered n passed some reaches loads is = subst (IsSoundIn w) (sym loads) (loaded-sound w run s is)

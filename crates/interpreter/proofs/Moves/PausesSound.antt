@@ -17,8 +17,8 @@ use Rattle.jvm_model.specs.Running.Between.{changes_between}
 use Rattle.jvm_model.specs.Turns.InHand.{frame_popped}
 use Rattle.jvm_model.specs.Running.Moves.{moves_left, move}
 use Rattle.jvm_model.specs.Turns.Pauses.{Pause, changes_due, passed_by, pause_by, step_paused, pauses}
-use Rattle.jvm_model.specs.Turns.Rest.{loads_at, loads_on}
-use Rattle.jvm_model.specs.Running.Run.{with_loaded}
+use Rattle.jvm_model.specs.Turns.Rest.{classes_loaded_at, loads_on}
+use Rattle.jvm_model.specs.Running.Run.{with_classes_loaded}
 use Rattle.jvm_model.specs.Soundness.SoundListings.{IsSoundEntry}
 use Rattle.jvm_model.specs.Turns.StepPauses.{pause_behind, stack_pause}
 use Rattle.jvm_model.specs.Turns.Told.{helds, mark_now}
@@ -98,17 +98,17 @@ module _ (w : Setup) (run : CanRun w) where
 
   -- ---- behind the classes that it loads
 
-  at-sound : (s : State) (f : Frame) (io : Option Instruction) → Sound s → Sound (with_loaded (loads_at w.world s f io) s)
+  at-sound : (s : State) (f : Frame) (io : Option Instruction) → Sound s → Sound (with_classes_loaded (classes_loaded_at w.world s f io) s)
   at-sound s f None is = is
   at-sound s f (Some i) is = sound-loaded (RunsIn w.versions) w.world i.operation f.operands s is
 
-  on-sound : (s : State) (ending : Option Ending) (stack : List Entry) → Sound s → Sound (with_loaded (loads_on w.world t s ending stack) s)
+  on-sound : (s : State) (ending : Option Ending) (stack : List Entry) → Sound s → Sound (with_classes_loaded (loads_on w.world t s ending stack) s)
   on-sound s (Some e) stack is = is
   on-sound s None [] is = is
   on-sound s None (Active f ∷ below) is = at-sound s f (t.at f.version f.place) is
   on-sound s None (Initializing c part ∷ below) is = is
 
-  pub loaded-sound : (s : State) → Sound s → Sound (with_loaded (loads_in w s) s)
+  pub loaded-sound : (s : State) → Sound s → Sound (with_classes_loaded (loads_in w s) s)
   loaded-sound s is = on-sound s s.ending s.stack is
 
 -- ---- wherever a step stops that begins with an attempt

@@ -27,8 +27,8 @@ use Rattle.jvm_model.specs.declared.instruction.Operation.TheVariants.{Named, Wi
 use Rattle.jvm_model.specs.declared.instruction.Operation.{Operation}
 use Rattle.jvm_model.specs.Instructions.Does.{does, loads}
 use Rattle.jvm_model.specs.Rewriting.Images.{is_off}
-use Rattle.jvm_model.specs.Turns.Rest.{loads_at, loads_on}
-use Rattle.jvm_model.specs.Running.Run.{goes_on, is_ready, starts, with_loaded}
+use Rattle.jvm_model.specs.Turns.Rest.{classes_loaded_at, loads_on}
+use Rattle.jvm_model.specs.Running.Run.{is_going_on, is_ready, starts, with_classes_loaded}
 use Rattle.jvm_model.specs.Basis.SharedState.{phase_of}
 use Rattle.jvm_model.specs.Turns.Told.{frame_held, helds}
 use Rattle.jvm_model.specs.Turns.Pauses.{Pause}
@@ -107,7 +107,7 @@ module _ (w : Setup) (run : CanRun w) (n : ℕ) (s : State) (going : IsGoing s) 
   abbrev first : State → Pause
   first mid = pause_behind_attempt w (live_in s.stack) n mid
 
-  loads-here : loads_in w s ≡ loads_at w.world s f (t.at f.version f.place)
+  loads-here : loads_in w s ≡ classes_loaded_at w.world s f (t.at f.version f.place)
   loads-here = ap (λ e. loads_on w.world t s e s.stack) going.ending ∙ ap (loads_on w.world t s None) going.stack
 
   -- ---- the return is told first
@@ -122,7 +122,7 @@ module _ (w : Setup) (run : CanRun w) (n : ℕ) (s : State) (going : IsGoing s) 
 
   told-by : (delivered : Bool) (lo : Option Line) (io : Option Instruction) → t.at f.version f.place ≡ io → Tie lo io
       → (not delivered && (not (is_off (v f.version)) && is_return_line lo)) ≡ true
-      → (tried_in w delivered n s ≡ pause_at s n (Ends kind.Leave)) × (loads_at w.world s f io ≡ [])
+      → (tried_in w delivered n s ≡ pause_at s n (Ends kind.Leave)) × (classes_loaded_at w.world s f io ≡ [])
   told-by delivered None io at tie due =
       absurd (false≢true (and_parts (not (is_off (v f.version))) false (and_parts (not delivered) (not (is_off (v f.version)) && false) due).1).1)
   told-by delivered (Some line) None at tie due = absurd tie
@@ -162,7 +162,7 @@ module _ (w : Setup) (run : CanRun w) (n : ℕ) (s : State) (going : IsGoing s) 
 
   module _ (line : Line) (op : Operation Local) (tied : IsTied line op) (x : State) (none : loads w.world op x.shared f.operands ≡ []) where
     same-ready : readied w line op x f ≡ x
-    same-ready = ap (λ classes. with_loaded classes x) none
+    same-ready = ap (λ classes. with_classes_loaded classes x) none
 
     starts-same : starts (does w.world op x.shared f.locals f.operands).outcome ≡ class_awaited w x f line.operation
     starts-same =
@@ -197,7 +197,7 @@ module _ (w : Setup) (run : CanRun w) (n : ℕ) (s : State) (going : IsGoing s) 
       ap (λ changes. attempt_followed w.world t v n changes (breaks under f 0)) (ap (λ (es : List Entry). changes_between (live_in es) (breaks under f 0).stack) going.stack ∙ sym (applies-tell w.world t nowhere (Breaks false) under f))
       ∙ paused-move w.world t v n (breaks under f 0)
 
-  once-by : (lo : Option Line) (io : Option Instruction) → t.at f.version f.place ≡ io → Tie lo io → loads_at w.world s f io ≡ [] → awaited_by w under f lo ≡ None
+  once-by : (lo : Option Line) (io : Option Instruction) → t.at f.version f.place ≡ io → Tie lo io → classes_loaded_at w.world s f io ≡ [] → awaited_by w under f lo ≡ None
       → tried_in w true n s ≡ first (attempts_line w under f lo)
   once-by None None at tie none awaits = breaks-pause w.world t v true n s f going.rest going.ending going.stack at ∙ sym broken-first
   once-by None (Some i) at tie none awaits = absurd tie
@@ -284,7 +284,7 @@ module _ (w : Setup) (run : CanRun w) (n : ℕ) (s : State) (going : IsGoing s) 
     found = is-there c here (t.at f.version f.place) (tied-there w run f.version f.place) (sym awaited-here ∙ is)
 
     none-there : loads w.world found.i.operation s.shared f.operands ≡ []
-    none-there = sym (loads-here ∙ ap (loads_at w.world s f) found.at) ∙ none
+    none-there = sym (loads-here ∙ ap (classes_loaded_at w.world s f) found.at) ∙ none
 
     pub tried-stays : tries_again n c (first (attempts_on w s s.stack)) ≡ false → tried_in w true n s ≡ first (attempts_on w s s.stack)
     tried-stays isnt = stays-by c found.line found.i found.at found.there found.tie none-there found.awaits isnt
@@ -308,7 +308,7 @@ nothing-due Begins is = absurd (false≢true is)
 
 module _ (n c : ℕ) (q : Pause) (again : tries_again n c q ≡ true) where
   three : (is_nothing q.due && q.passed == n && is_ready (phase_of q.state.shared c)) ≡ true
-  three = (and_parts (is_nothing q.due && q.passed == n && is_ready (phase_of q.state.shared c)) (goes_on q.state.ending q.state.thrown) again).0
+  three = (and_parts (is_nothing q.due && q.passed == n && is_ready (phase_of q.state.shared c)) (is_going_on q.state.ending q.state.thrown) again).0
 
   two : (is_nothing q.due && q.passed == n) ≡ true
   two = (and_parts (is_nothing q.due && q.passed == n) (is_ready (phase_of q.state.shared c)) three).0

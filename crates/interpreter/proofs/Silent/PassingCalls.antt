@@ -17,7 +17,7 @@ use Rattle.jvm_model.specs.declared.event.Mark.TheVariants.{Off, Plain, Root}
 use Rattle.jvm_model.specs.declared.state.Entry.{Entry}
 use Rattle.jvm_model.specs.declared.state.Shared.{Shared}
 use Rattle.jvm_model.specs.declared.state.State.{State}
-use Rattle.jvm_model.specs.Running.Applies.{begins, begins_beside, breaks, has_room, invokes, live_in, most_live, new_frame, still, throws_at, with_frame}
+use Rattle.jvm_model.specs.Running.Applies.{begins, begins_beside, breaks, has_room, invocation_turn, live_in, most_live, new_frame, still, throws_at, with_frame}
 use Rattle.jvm_model.specs.Basis.Data.{Began, Datum, Done, Invokes, Operands, Listing, Turn}
 use Rattle.jvm_model.specs.declared.instruction.SymbolicReference.{SymbolicReference}
 use Rattle.jvm_model.specs.declared.instruction.Operation.TheVariants as operation
@@ -26,7 +26,7 @@ use Rattle.jvm_model.specs.Running.Moves.{moves_left, turn_settled}
 use Rattle.jvm_model.specs.Instructions.SymbolicReference.{newly_loaded}
 use Rattle.jvm_model.specs.Turns.Pauses.{stop_by, stop_in, unless_off}
 use Rattle.jvm_model.specs.Basis.Programs.{max_locals_of}
-use Rattle.jvm_model.specs.Turns.Rest.{loads_at, loads_on, step_loads}
+use Rattle.jvm_model.specs.Turns.Rest.{classes_loaded_at, loads_on, step_loads}
 use Rattle.jvm_model.specs.Rewriting.Images.{is_off}
 use Rattle.jvm_model.specs.Running.Run.{starts, step}
 use Rattle.jvm_model.specs.Basis.SharedState.{exception_raised, stack_overflow}
@@ -117,7 +117,7 @@ module _ (w : Setup) (run : CanRun w) (ms : List Initialization) (here : Here) (
       let at : line_at w.versions f.version f.place ≡ Some line = ap (λ (h : Here). line_at w.versions h.version h.place) same ∙ found in
       ap (λ e. loads_on w.world t s e s.stack) at_instruction.ending
       ∙ (ap (λ es. loads_on w.world t s None es) (top-frame ms f fs free)
-      ∙ (ap (λ x. loads_at w.world u (frame_in f) (option_map instruction_in x)) at
+      ∙ (ap (λ x. classes_loaded_at w.world u (frame_in f) (option_map instruction_in x)) at
       ∙ (ap (λ a. loads w.world (operation_as line a) old.runtime.shared f.operands) named ∙ none)))
 
   -- ---- the turn
@@ -130,7 +130,7 @@ module _ (w : Setup) (run : CanRun w) (ms : List Initialization) (here : Here) (
     begun = begins w.world t u (frame_in f) c.method args below
 
     invokes-begins : has_room w.world c.method args ≡ true → nat_lt (suc (length fs)) most_live ≡ true
-        → invokes w.world t (instruction_in line) u (frame_in f) c.method args below ≡ begun
+        → invocation_turn w.world t (instruction_in line) u (frame_in f) c.method args below ≡ begun
     invokes-begins room few =
         ap (λ b. cond b (begins_beside w.world t u (frame_in f) c.method args below (suc (live_in (stack_of (map active fs) ms)))) (still (breaks u (frame_in f) line.instr.at))) room
         ∙ (ap (λ k. begins_beside w.world t u (frame_in f) c.method args below (suc k)) (live-stack (map active fs) ms ∙ live-is fs)

@@ -22,7 +22,7 @@ use Rattle.jvm_model.specs.Instructions.LocalRules.{returns}
 use Rattle.jvm_model.specs.Running.Moves.{moves_left, move}
 use Rattle.jvm_model.specs.Instructions.ObjectRules.{done}
 use Rattle.jvm_model.specs.Turns.Pauses.{stop_by, stop_in, unless_off}
-use Rattle.jvm_model.specs.Turns.Rest.{loads_at, loads_on, step_loads}
+use Rattle.jvm_model.specs.Turns.Rest.{classes_loaded_at, loads_on, step_loads}
 use Rattle.jvm_model.specs.Instructions.Does.{loads}
 use Rattle.jvm_model.specs.Running.Run.{goes_again, starts, step, steps_at, steps_on, tries}
 use Rattle.jvm_model.specs.Turns.Told.{Held, helds, mark_now}
@@ -153,7 +153,7 @@ module _ (w : Setup) (run : CanRun w) (ms : List Initialization) (here : Here) (
       let at : line_at w.versions f.version f.place ≡ Some line = ap (λ (h : Here). line_at w.versions h.version h.place) same ∙ found in
       ap (λ e. loads_on w.world t s e s.stack) at_instruction.ending
       ∙ (ap (λ es. loads_on w.world t s None es) (top-frame ms f fs free)
-      ∙ (ap (λ x. loads_at w.world u (frame_in f) (option_map instruction_in x)) at
+      ∙ (ap (λ x. classes_loaded_at w.world u (frame_in f) (option_map instruction_in x)) at
       ∙ ap (λ a. loads w.world (operation_as line a) old.runtime.shared f.operands) ends))
 
   -- ---- what is told, and what runs

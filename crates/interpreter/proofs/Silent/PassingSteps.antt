@@ -19,7 +19,7 @@ use Rattle.jvm_model.specs.declared.instruction.Operation.TheVariants as operati
 use Rattle.jvm_model.specs.Running.Moves.{turn_settled}
 use Rattle.jvm_model.specs.Instructions.SymbolicReference.{newly_loaded}
 use Rattle.jvm_model.specs.Instructions.ReferenceRules.{does_named}
-use Rattle.jvm_model.specs.Running.Run.{goes_again, loaded_turn, starts, step, steps_at, steps_by, steps_on, tries, with_loaded}
+use Rattle.jvm_model.specs.Running.Run.{goes_again, loaded_turn, starts, step, steps_at, steps_by, steps_on, tries, with_classes_loaded}
 use Rattle.symbolic_references.specs.declared.invoked.Invoked.{Invoked}
 use Rattle.symbolic_references.specs.declared.invoked.Invoked.TheVariants as invoked
 use Rattle.symbolic_references.specs.declared.invoked.NativeCall.{NativeCall}
@@ -168,7 +168,7 @@ module _ (w : Setup) (run : CanRun w) (ms : List Initialization) (here : Here) (
       → starts (does_named w.world n old.runtime.shared f.locals f.operands).outcome ≡ None
       → step_by w i (Named n) (under fs) (frame_in f) ≡ follows (does_named w.world n old.runtime.shared f.locals f.operands) f fs
   named-turn f fs none starts_none =
-      ap (λ classes. let ready = with_loaded classes (under fs) in
+      ap (λ classes. let ready = with_classes_loaded classes (under fs) in
       loaded_turn classes (steps_by w.world t i ready (frame_in f) (does_named w.world n ready.shared f.locals f.operands))) none
       ∙ ap (λ o. goes_again w.world t i (under fs) (frame_in f) o (tries w.world t i (under fs) (frame_in f) (does_named w.world n old.runtime.shared f.locals f.operands))) starts_none
 

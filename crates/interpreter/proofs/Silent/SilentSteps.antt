@@ -11,7 +11,7 @@ use Rattle.jvm_model.specs.declared.state.State.{State}
 use Rattle.jvm_model.specs.Basis.Data.{Change, Listing, Turn}
 use Rattle.jvm_model.specs.Turns.Pauses.{Pause, Stop, stop_in}
 use Rattle.jvm_model.specs.Turns.Rest.{step_loads}
-use Rattle.jvm_model.specs.Running.Run.{loaded_turn, step, with_loaded}
+use Rattle.jvm_model.specs.Running.Run.{loaded_turn, step, with_classes_loaded}
 use Rattle.jvm_model.specs.Turns.StepPauses.{step_pause}
 use Rattle.jvm_model.specs.Turns.Told.{Held, helds, mark_now}
 use Rattle.jvm_model.proofs.Running.OnlyReturns.{ends-by-return}
@@ -33,7 +33,7 @@ module _ (w : Setup) (s : State) (quiet : (step w.world (listing_of w.versions) 
 
   nothing-loaded : step_loads w.world u s ≡ []
   nothing-loaded = by (step_loads w.world u s) (sym (ap (λ (a : Turn). a.changes) (step-loads w.world u s)) ∙ quiet) where
-    by : (classes : List ℕ) → (loaded_turn classes (step w.world u (with_loaded classes s))).changes ≡ [] → classes ≡ []
+    by : (classes : List ℕ) → (loaded_turn classes (step w.world u (with_classes_loaded classes s))).changes ≡ [] → classes ≡ []
     by [] e = refl
     by (c ∷ others) e = absurd (first-change _ _ e) where
       first-change : (c : Change) (cs : List Change) → c ∷ cs ≡ [] → ⊥

@@ -8,7 +8,7 @@ use Rattle.jvm_model.specs.declared.instruction.Operation.{Operation}
 use Rattle.jvm_model.specs.declared.instruction.Operation.TheVariants as operation
 use Rattle.jvm_model.specs.Basis.Data.{Change}
 use Rattle.jvm_model.specs.Rewriting.Images.{is_off}
-use Rattle.jvm_model.specs.Running.Run.{goes_on, is_ready}
+use Rattle.jvm_model.specs.Running.Run.{is_going_on, is_ready}
 use Rattle.jvm_model.specs.Basis.SharedState.{phase_of}
 use Rattle.jvm_model.specs.Turns.Told.{mark_now}
 use Rattle.jvm_model.specs.Running.Between.{changes_between, depths_compared, attempt_followed}
@@ -66,7 +66,7 @@ pause_behind_attempt w live n s =
 -- its class is ready, and nothing else has happened
 abbrev pub tries_again : ℕ → ℕ → Pause → Bool
 tries_again n class p =
-    is_nothing p.due && p.passed == n && is_ready (phase_of p.state.shared class) && goes_on p.state.ending p.state.thrown
+    is_nothing p.due && p.passed == n && is_ready (phase_of p.state.shared class) && is_going_on p.state.ending p.state.thrown
 
 -- ---- all of it
 

@@ -4,7 +4,7 @@ ghost use Rattle.std.specs.Prelude.{◌≡◌, ◌||◌, true, false, ℕ, List,
 ghost use Rattle.std.specs.Option.{IfSome};
 ghost use Rattle.jvm_model.specs.Basis.Data.{Turn};
 ghost use Rattle.jvm_model.specs.Turns.Pauses.{is_end, later_of};
-ghost use Rattle.jvm_model.specs.Running.Run.{starts_with, with_loaded};
+ghost use Rattle.jvm_model.specs.Running.Run.{starts_with, with_classes_loaded};
 ghost use Rattle.jvm_model.specs.Turns.Told.{Held};
 ghost use Rattle.interpreter.specs.Moves.Hands.{HasGoneOn, HasInHand, IsLeft, goes_in, todo_of};
 ghost use Rattle.prepared_code.specs.Initializations.{state_of};
@@ -124,7 +124,7 @@ pub fn go(
     ensures loads { let w = setup_in parts.old.runtime originals.old in
         let s = state_of initializing.old parts.old in
         IfOk result (λ o. IfNone o
-        (state_of initializing.new parts.new ≡ with_loaded (loads_in w s) s)) }
+        (state_of initializing.new parts.new ≡ with_classes_loaded (loads_in w s) s)) }
     // The rest of the same step is in hand then, at the next of its changes that is told.
     ensures hands { let w = setup_in parts.old.runtime originals.old in
         let s = state_of initializing.old parts.old in

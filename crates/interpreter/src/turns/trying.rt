@@ -5,7 +5,7 @@ ghost use Rattle.std.specs.Prelude.{◌≡◌, ◌&&◌, ◌==◌, false, length
 ghost use Rattle.std.specs.Prelude.{IfNone, IfOk, OnOk};
 ghost use Rattle.std.specs.Option.{IfSome};
 ghost use Rattle.jvm_model.specs.Turns.Pauses.{passed_by};
-ghost use Rattle.jvm_model.specs.Running.Run.{goes_on, is_ready, with_loaded};
+ghost use Rattle.jvm_model.specs.Running.Run.{is_going_on, is_ready, with_classes_loaded};
 ghost use Rattle.jvm_model.specs.Basis.SharedState.{phase_of};
 ghost use Rattle.jvm_model.specs.Turns.StepPauses.{is_nothing};
 ghost use Rattle.instructions.specs.Acts.{attempts_on, goes_on_in};
@@ -121,7 +121,7 @@ fn is_nothing(due: Due) -> bool
 #[inline(always)]
 fn tries_again(parts: &Parts, class: u32, due: Due, same: bool) -> bool
     ensures { result ≡ (is_nothing due && same && is_ready (phase_of parts.now.runtime.shared class)
-        && goes_on parts.now.ending parts.now.thrown) }
+        && is_going_on parts.now.ending parts.now.thrown) }
 {
     is_nothing(due)
         && same
@@ -187,7 +187,7 @@ fn try_line(
     ensures loads { let w = setup_in parts.old.runtime originals.old in
         let s = state_of initializing.old parts.old in
         IfOk result (λ o. IfNone o
-        (state_of initializing.new parts.new ≡ with_loaded (loads_in w s) s)) }
+        (state_of initializing.new parts.new ≡ with_classes_loaded (loads_in w s) s)) }
     ensures same { IfOk result (λ o. IfNone o (passed.new ≡ passed.old)) }
 {
     let depth = parts.frames.depth();
@@ -238,7 +238,7 @@ pub fn go_by_attempt(
     ensures loads { let w = setup_in parts.old.runtime originals.old in
         let s = state_of initializing.old parts.old in
         IfOk result (λ o. IfNone o
-        (state_of initializing.new parts.new ≡ with_loaded (loads_in w s) s)) }
+        (state_of initializing.new parts.new ≡ with_classes_loaded (loads_in w s) s)) }
     ensures same { IfOk result (λ o. IfNone o (passed.new ≡ passed.old)) }
 {
     if !goes_on(parts, initializing) {

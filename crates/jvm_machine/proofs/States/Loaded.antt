@@ -14,8 +14,8 @@ use Rattle.jvm_model.specs.Basis.Data.{Instruction, Listing, Turn, World}
 use Rattle.jvm_model.specs.Instructions.Does.{does, loads}
 use Rattle.jvm_model.specs.Turns.InHand.{original_of}
 use Rattle.jvm_model.specs.Codes.Originals.{original}
-use Rattle.jvm_model.specs.Turns.Rest.{loads_at, loads_on, rest, step_loads}
-use Rattle.jvm_model.specs.Running.Run.{before, run, step, steps_at, steps_by, steps_on, turn, with_loaded}
+use Rattle.jvm_model.specs.Turns.Rest.{classes_loaded_at, loads_on, rest, step_loads}
+use Rattle.jvm_model.specs.Running.Run.{before, run, step, steps_at, steps_by, steps_on, turn, with_classes_loaded}
 use Rattle.jvm_model.specs.Soundness.Sound.{IsFit}
 use Rattle.jvm_model.specs.Turns.Told.{Held, helds}
 use Rattle.jvm_model.specs.Soundness.SoundListings.{IsSound, IsSoundEntry, IsSoundListing}
@@ -41,11 +41,11 @@ use Rattle.jvm_machine.proofs.States.Shown.{rest-shows, stands-shows}
 
 module _ (Runs : ℕ → ℕ → Type 0) (w : World) (fit : IsFit w.program) (t : Listing) (is_sound : IsSoundListing Runs w.program t) where
   at-loaded : (s : State) (f : Frame) (o : Option Instruction) → IsSound Runs w.program s → IsSoundEntry Runs w.program s.shared.loaded (Active f) → t.at f.version f.place ≡ o
-      → (steps_at w t s f o).after.shared.loaded ≡ s.shared.loaded ++ loads_at w s f o
+      → (steps_at w t s f o).after.shared.loaded ≡ s.shared.loaded ++ classes_loaded_at w s f o
   at-loaded s f None is entry e = with-loaded-is [] s
   at-loaded s f (Some i) is entry e =
       let classes : List ℕ = loads w i.operation s.shared f.operands in
-      let ready : State = with_loaded classes s in
+      let ready : State = with_classes_loaded classes s in
       let a : Turn = steps_by w t i ready f (does w i.operation ready.shared f.locals f.operands) in
       ap (λ (z : State). z.shared.loaded) (loaded-after classes a) ∙ ((at-goes Runs w fit t is_sound s f i is entry e).same ∙ with-loaded-is classes s)
 

@@ -11,7 +11,7 @@ use Rattle.jvm_model.specs.Basis.Data.{Turn}
 use Rattle.jvm_model.specs.Turns.InHand.{behind_load}
 use Rattle.jvm_model.specs.Turns.Pauses.{is_end}
 use Rattle.jvm_model.specs.Turns.Rest.{loads_first}
-use Rattle.jvm_model.specs.Running.Run.{before, main_loads, run, starts_with, turn, with_loaded}
+use Rattle.jvm_model.specs.Running.Run.{before, main_loads, run, starts_with, turn, with_classes_loaded}
 use Rattle.jvm_model.specs.Turns.Told.{Held, helds}
 use Rattle.interpreter.specs.declared.turns.hands.Gone.{Gone}
 use Rattle.interpreter.specs.declared.turns.hands.Hand.{Hand}
@@ -170,7 +170,7 @@ module _ (w : Setup) (hand : Hand) (started : Bool) (clock : ℕ) (s : State) (i
   hand-by true false e f some = start-hand w is.homes is.has
   hand-by true true e f some =
       let none : loads_in w s ≡ [] = empty_from_length (loads_in w s) some in
-      subst (λ l. HasInHand w is.homes (turn w.world (clock + 1)) (record { moves = false; delivered = false; passed = behind_load l }) (helds (mark_of w.versions) (with_loaded l s).stack) (with_loaded l s)) none
+      subst (λ l. HasInHand w is.homes (turn w.world (clock + 1)) (record { moves = false; delivered = false; passed = behind_load l }) (helds (mark_of w.versions) (with_classes_loaded l s).stack) (with_classes_loaded l s)) none
       (step-hand w is.homes is.has clock s (stands_now e f))
 
   -- ---- the start has loaded classes
@@ -251,7 +251,7 @@ module _ (w : Setup) (hand : Hand) (started : Bool) (clock : ℕ) (s : State) (i
     same-state = ap₂ (λ r b. taken_state w.world r b s) at_rest.first at_rest.begun
 
     abbrev next_state : State
-    next_state = with_loaded (loads_in w s) s
+    next_state = with_classes_loaded (loads_in w s) s
 
     abbrev loads_hand : Hand
     loads_hand = record { moves = false; delivered = false; passed = 1 }
@@ -263,7 +263,7 @@ module _ (w : Setup) (hand : Hand) (started : Bool) (clock : ℕ) (s : State) (i
     module _ (c : ℕ) (more : List ℕ) (loads : loads_in w s ≡ c ∷ more) where
       loads-seen : state_seen w next_state true false (clock + 1) loads_hand ≡ record (step_begun old) { passed = 1 }
       loads-seen =
-          ap (λ l. state_seen w (with_loaded l s) true false (clock + 1) loads_hand) loads
+          ap (λ l. state_seen w (with_classes_loaded l s) true false (clock + 1) loads_hand) loads
           ∙ (ap₂ (λ (b delivered : Bool). record (state_seen w s true false (if b then clock + 1 else 0) loads_hand) { delivered = delivered }) (sym at_rest.begun) (sym (resting-parts at_rest.first).1)
           ∙ ap (λ r. begun_by r 1) (sym at_rest.first))
 

@@ -6,7 +6,7 @@ use Rattle.jf_bytes.proofs.Lists.{empty_from_length}
 use Rattle.frame_stack.specs.FrameLists.{PlacedFrame}
 use Rattle.jvm_model.specs.declared.state.State.{State}
 use Rattle.jvm_model.specs.Basis.Data.{Turn, World}
-use Rattle.jvm_model.specs.Running.Run.{starts_with, with_loaded}
+use Rattle.jvm_model.specs.Running.Run.{starts_with, with_classes_loaded}
 use Rattle.jvm_model.specs.Turns.Told.{Held, helds}
 use Rattle.interpreter.specs.declared.turns.hands.Gone.{Gone}
 use Rattle.interpreter.specs.declared.turns.hands.Hand.{Hand}
@@ -39,7 +39,7 @@ one_passed h = record h { passed = 1 }
 -- the step has loaded classes, and they are the last ones
 abbrev pub TellsStep : Setup → List ℕ → Hand → State → ℕ → View → Type 0
 TellsStep w l h s c v = (o : Option Gone) → ((g : Gone) → o ≡ Some g → ⊥) → is_some o ≡ (h.moves || loads_none w s) → (s' : State)
-    → IfNone o (s' ≡ with_loaded (loads_in w s) s) → (IsSoundIn w s → IsSoundIn w s')
+    → IfNone o (s' ≡ with_classes_loaded (loads_in w s) s) → (IsSoundIn w s → IsSoundIn w s')
     → TellsClasses v (drop (length s.shared.loaded) s'.shared.loaded) (state_seen w s' true false c (one_passed h)) × IsMachine w (one_passed h) (state_seen w s' true false c (one_passed h)) s'
 
 abbrev pub GoesOnFrom : Setup → Hand → State → Gone → State → Type 0
@@ -156,15 +156,15 @@ module _ (w : Setup) (h : Hand) (started broken : Bool) (clock : ℕ) (s : State
         let rest = at_rest w h started clock s unbroken none in
         let front = some-front (loads_in w s) rest.loads in
         let same : taken_state w.world now started s ≡ s = same-state w h started clock s unbroken none in
-        let made : s' ≡ with_loaded (loads_in w s) s =
-        subst (λ x. IfNone x (s' ≡ with_loaded (loads_in w (taken_state w.world now started s)) (taken_state w.world now started s))) gone loads'
-        ∙ ap (λ (z : State). with_loaded (loads_in w z) z) same in
+        let made : s' ≡ with_classes_loaded (loads_in w s) s =
+        subst (λ x. IfNone x (s' ≡ with_classes_loaded (loads_in w (taken_state w.world now started s)) (taken_state w.world now started s))) gone loads'
+        ∙ ap (λ (z : State). with_classes_loaded (loads_in w z) z) same in
         let hand : one_passed (taken_hand w.world now started h) ≡ record { moves = false; delivered = false; passed = 1 } =
         ap₂ (λ r b. one_passed (taken_hand w.world r b h)) rest.first rest.begun in
         let ticks : clock_in now started clock ≡ clock + 1 = clock-more w h started clock s unbroken none in
-        let next : State = with_loaded (loads_in w s) s in
+        let next : State = with_classes_loaded (loads_in w s) s in
         let lasts : front.0 ∷ front.1 ≡ drop (length (taken_state w.world now started s).shared.loaded) s'.shared.loaded =
-        sym (ap₂ (λ (a b : State). drop (length a.shared.loaded) b.shared.loaded) same made ∙ (ap (λ l. drop (length s.shared.loaded) (with_loaded l s).shared.loaded) front.2 ∙ drop-front s.shared.loaded (front.0 ∷ front.1))) in (
+        sym (ap₂ (λ (a b : State). drop (length a.shared.loaded) b.shared.loaded) same made ∙ (ap (λ l. drop (length s.shared.loaded) (with_classes_loaded l s).shared.loaded) front.2 ∙ drop-front s.shared.loaded (front.0 ∷ front.1))) in (
           subst (λ l. TellsClasses (state_seen w s started false clock h) l (state_seen w s' true false (clock_in now started clock) (one_passed (taken_hand w.world now started h)))) lasts
               (subst (λ (z : State). TellsClasses (state_seen w s started false clock h) (front.0 ∷ front.1) (state_seen w z true false (clock_in now started clock) (one_passed (taken_hand w.world now started h)))) (sym made)
               (subst (λ c. TellsClasses (state_seen w s started false clock h) (front.0 ∷ front.1) (state_seen w next true false c (one_passed (taken_hand w.world now started h)))) (sym ticks)

@@ -16,7 +16,7 @@ use Rattle.jvm_model.specs.Running.Moves.{turn_settled}
 use Rattle.jvm_model.specs.Codes.Originals.{original}
 use Rattle.jvm_model.specs.Turns.Pauses.{Stop, change_due, is_end, stop_by, stop_from, stop_in}
 use Rattle.jvm_model.specs.Turns.Rest.{Todo, loads_first, step_loads}
-use Rattle.jvm_model.specs.Running.Run.{arguments_made, before, loaded_turn, main_classes, main_loading, main_loads, run_opened, run, starts_if, starts_unless, starts_with, step, turn, turn_in-more, turn_in-zero, with_loaded}
+use Rattle.jvm_model.specs.Running.Run.{arguments_made, before, loaded_turn, main_classes, main_loading, main_loads, run_opened, run, starts_if, starts_unless, starts_with, step, turn, turn_in-more, turn_in-zero, with_classes_loaded}
 use Rattle.jvm_model.specs.Basis.SharedState.{arguments_fit}
 use Rattle.jvm_model.specs.Rewriting.StandsFor.{mark_at}
 use Rattle.jvm_model.specs.Rewriting.StandsForRun.{StandsFor}
@@ -40,7 +40,7 @@ use Rattle.jvm_machine.specs.View.{View, loads_next, next_stop, to_come}
 
 -- ---- frames behind a load
 
-pub loaded-held : (v : ℕ → Mark) (classes : List ℕ) (s : State) → helds v (with_loaded classes s).stack ≡ helds v s.stack
+pub loaded-held : (v : ℕ → Mark) (classes : List ℕ) (s : State) → helds v (with_classes_loaded classes s).stack ≡ helds v s.stack
 loaded-held v [] s = refl
 loaded-held v (c ∷ more) s = refl
 
@@ -163,12 +163,12 @@ module _ (w : Setup) (homes : ℕ → ℕ → ℕ) (has : HasVersions w homes) w
     abbrev begun_hand : Hand
     begun_hand = record { moves = false; delivered = false; passed = behind_load (loads_in w s) }
 
-    pub step-hand : HasInHand w homes (turn w.world (clock + 1)) begun_hand (helds marked (with_loaded (loads_in w s) s).stack) (with_loaded (loads_in w s) s)
+    pub step-hand : HasInHand w homes (turn w.world (clock + 1)) begun_hand (helds marked (with_classes_loaded (loads_in w s) s).stack) (with_classes_loaded (loads_in w s) s)
     step-hand =
         let begun = hand-begins w.world t (versioned_in w homes) (program-agrees w.world.program has.closed) (current_of w.versions) (listing_of w.versions)
         (versions-agree w.world.program (places_of w.world.program) homes w.versions has.are) s (run w.world clock) stands in
-        subst (λ (a : Turn). HasInHand w homes a begun_hand (helds marked (with_loaded (loads_in w s) s).stack) (with_loaded (loads_in w s) s)) (sym (turn_in-more w.world t clock))
-        (subst (λ live. HasInHand w homes (step w.world t (run w.world clock)) begun_hand live (with_loaded (loads_in w s) s)) (sym (loaded-held marked (loads_in w s) s)) begun)
+        subst (λ (a : Turn). HasInHand w homes a begun_hand (helds marked (with_classes_loaded (loads_in w s) s).stack) (with_classes_loaded (loads_in w s) s)) (sym (turn_in-more w.world t clock))
+        (subst (λ live. HasInHand w homes (step w.world t (run w.world clock)) begun_hand live (with_classes_loaded (loads_in w s) s)) (sym (loaded-held marked (loads_in w s) s)) begun)
 
     -- what it loads is its first change
     pub step-first : (c : ℕ) (more : List ℕ) → loads_in w s ≡ c ∷ more → loads_first (turn w.world (clock + 1)).changes ≡ c ∷ more
@@ -176,7 +176,7 @@ module _ (w : Setup) (homes : ℕ → ℕ → ℕ) (has : HasVersions w homes) w
         ap (λ (a : Turn). loads_first a.changes) (turn_in-more w.world t clock)
         ∙ (ap loads_first (begin-loads w.world t (versioned_in w homes) (program-agrees w.world.program has.closed) (current_of w.versions) (listing_of w.versions)
         (versions-agree w.world.program (places_of w.world.program) homes w.versions has.are) s (run w.world clock) stands)
-        ∙ ap (λ cs. loads_first (loaded_turn cs (step w.world t (with_loaded (step_loads w.world t (run w.world clock)) (run w.world clock)))).changes) loads)
+        ∙ ap (λ cs. loads_first (loaded_turn cs (step w.world t (with_classes_loaded (step_loads w.world t (run w.world clock)) (run w.world clock)))).changes) loads)
 
   -- ---- the start
 

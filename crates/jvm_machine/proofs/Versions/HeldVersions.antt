@@ -18,7 +18,7 @@ use Rattle.prepared_code.specs.Initializations.{above, beneath, initializing_ent
 use Rattle.prepared_code.specs.Originals.{OriginalsView, setup_in}
 use Rattle.prepared_code.specs.States.{active}
 use Rattle.prepared_code.specs.Tables.{Adds, AreAllCurrent, AreOfMethods, IsAdded, Releases, Version, Versions, version_at}
-use Rattle.jvm_model.specs.Running.Run.{starts_with, with_loaded}
+use Rattle.jvm_model.specs.Running.Run.{starts_with, with_classes_loaded}
 use Rattle.interpreter.specs.declared.turns.hands.Hand.{Hand}
 use Rattle.prepared_code.specs.Versions.{Setup}
 use Rattle.symbolic_references.specs.Runtimes.{RuntimeView}
@@ -197,11 +197,11 @@ tidy-taken w w1 resting started s s1 same there first tidy =
     by false started first = tidy
 
 -- loaded classes are not seen by it
-pub tidy-loaded : (w w1 : Setup) (classes : List ℕ) (s s1 : State) → w1 ≡ w → s1 ≡ with_loaded classes s → IsTidy w.versions s.stack → IsTidy w1.versions s1.stack
+pub tidy-loaded : (w w1 : Setup) (classes : List ℕ) (s s1 : State) → w1 ≡ w → s1 ≡ with_classes_loaded classes s → IsTidy w.versions s.stack → IsTidy w1.versions s1.stack
 tidy-loaded w w1 classes s s1 same there tidy =
     subst (λ (u : Setup). IsTidy u.versions s1.stack) (sym same)
     (subst (λ (z : State). IsTidy w.versions z.stack) (sym there) (by classes))
   where
-    by : (classes : List ℕ) → IsTidy w.versions (with_loaded classes s).stack
+    by : (classes : List ℕ) → IsTidy w.versions (with_classes_loaded classes s).stack
     by [] = tidy
     by (c ∷ more) = tidy

@@ -11,7 +11,7 @@ use Rattle.jvm_model.specs.declared.state.State.{State}
 use Rattle.jvm_model.specs.Basis.Data.{Turn, World}
 use Rattle.jvm_model.specs.Classes.Load.{Fault}
 use Rattle.jvm_model.specs.Codes.Originals.{original}
-use Rattle.jvm_model.specs.Running.Run.{arguments_made, before, main_classes, main_loading, run_opened, starts_if, starts_unless, starts_with, with_loaded}
+use Rattle.jvm_model.specs.Running.Run.{arguments_made, before, main_classes, main_loading, run_opened, starts_if, starts_unless, starts_with, with_classes_loaded}
 use Rattle.jvm_model.specs.Basis.SharedState.{arguments_fit}
 use Rattle.jvm_model.specs.Soundness.SoundListings.{IsSoundEntry}
 use Rattle.jvm_model.specs.Rewriting.StandsForRun.{KeepVersions}
@@ -36,7 +36,7 @@ AreKept v stack = AllByRecursion (IsKeptEntry v) stack
 
 -- ---- where nothing runs
 
-loaded-kept : (v : Versions) (classes : List ℕ) (s : State) → AreKept v s.stack → AreKept v (with_loaded classes s).stack
+loaded-kept : (v : Versions) (classes : List ℕ) (s : State) → AreKept v s.stack → AreKept v (with_classes_loaded classes s).stack
 loaded-kept v [] s are = are
 loaded-kept v (c ∷ more) s are = are
 

@@ -13,7 +13,7 @@ use Rattle.jvm_model.specs.Instructions.Does.{does, loads}
 use Rattle.jvm_model.specs.Running.Applies.{still, with_frame, breaks, goes, place_of, enters_subroutine, has_room, live_in, most_live, begins_beside, resumes, gives_back, applies}
 use Rattle.jvm_model.specs.Running.Moves.{handler_for, own_at, throw_caught, after_super, with_super, runs_initializer, argument_array, main_or_end, moves, move, then_turn, turn_settled}
 use Rattle.jvm_model.specs.Classes.Load.{Fault}
-use Rattle.jvm_model.specs.Running.Run.{attempt, starts, is_quiet, before, arguments_made, with_loaded, loaded_turn, steps_by, steps_at, steps_on, step, main_loading, main_classes, loads_if, starts_unless, run_opened, heap_exhausted, starts_if, start}
+use Rattle.jvm_model.specs.Running.Run.{attempt, starts, has_no_changes, before, arguments_made, with_classes_loaded, loaded_turn, steps_by, steps_at, steps_on, step, main_loading, main_classes, loads_if, starts_unless, run_opened, heap_exhausted, starts_if, start}
 use Rattle.jvm_model.specs.Turns.Told.{Held, frame_held, helds, mark_now, held_after, all_held}
 use Rattle.jvm_model.proofs.Running.Settles.{settled-keeps}
 use Rattle.jvm_model.proofs.Running.Attempts.{again-by, with_loaded-shared}
@@ -124,7 +124,7 @@ module _ (v : ℕ → Mark) where
       settled-tells w t (frame_held v f ∷ helds v s.stack) (applies w t i d.outcome after f) (applies-tells w t i d.outcome after f)
 
   -- without changes they are the same
-  quiet-same : (t : Listing) (ms : List Held) (changes : List Change) → is_quiet changes ≡ true → all_held (mark_now v t) ms changes ≡ ms
+  quiet-same : (t : Listing) (ms : List Held) (changes : List Change) → has_no_changes changes ≡ true → all_held (mark_now v t) ms changes ≡ ms
   quiet-same t ms [] e = refl
   quiet-same t ms (c ∷ more) e = absurd (let f : false ≡ true = e in cc)
 
@@ -146,7 +146,7 @@ module _ (v : ℕ → Mark) where
   at-tells w t s f None = refl
   at-tells w t s f (Some i) =
       let classes = loads w i.operation s.shared f.operands in
-      let ready = with_loaded classes s in
+      let ready = with_classes_loaded classes s in
       let turn = steps_by w t i ready f (does w i.operation ready.shared f.locals f.operands) in
       let same : ready.stack ≡ s.stack = ap (λ (x : State). x.stack) (with_loaded-shared classes s) in
       loaded-tells t classes (frame_held v f ∷ helds v s.stack) turn (subst (λ stack. Tells t (frame_held v f ∷ helds v stack) turn) same (by-tells w t i ready f))

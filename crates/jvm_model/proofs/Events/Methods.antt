@@ -12,21 +12,21 @@ use Rattle.jvm_model.specs.Instructions.Does.{does, loads}
 use Rattle.jvm_model.specs.Running.Applies.{still, with_frame, breaks, goes, place_of, enters_subroutine, has_room, live_in, most_live, begins_beside, resumes, gives_back, applies}
 use Rattle.jvm_model.specs.Running.Moves.{handler_for, own_at, throw_caught, after_super, with_super, runs_initializer, argument_array, main_or_end, moves, move, then_turn, turn_settled}
 use Rattle.jvm_model.specs.Classes.Load.{Fault}
-use Rattle.jvm_model.specs.Running.Run.{attempt, starts, is_quiet, before, arguments_made, with_loaded, loaded_turn, steps_by, steps_at, steps_on, step, main_loading, main_classes, loads_if, starts_unless, run_opened, heap_exhausted, starts_if, start, turn_in, turn_in-zero, turn_in-suc}
-use Rattle.jvm_model.specs.Running.Changes.{methods, after_change, after_changes}
+use Rattle.jvm_model.specs.Running.Run.{attempt, starts, has_no_changes, before, arguments_made, with_classes_loaded, loaded_turn, steps_by, steps_at, steps_on, step, main_loading, main_classes, loads_if, starts_unless, run_opened, heap_exhausted, starts_if, start, turn_in, turn_in-zero, turn_in-suc}
+use Rattle.jvm_model.specs.Running.Changes.{methods, methods_after_change, methods_after_changes}
 use Rattle.jvm_model.proofs.Running.Settles.{settled-keeps}
 use Rattle.jvm_model.proofs.Running.Attempts.{again-by, with_loaded-shared}
 
 -- from these methods the changes lead to those of the state
 abbrev pub Tells : List ℕ → Turn → Type 0
-Tells ms a = methods a.after.stack ≡ after_changes ms a.changes
+Tells ms a = methods a.after.stack ≡ methods_after_changes ms a.changes
 
-after_changes-append : (ms : List ℕ) (a b : List Change) → after_changes ms (a ++ b) ≡ after_changes (after_changes ms a) b
+after_changes-append : (ms : List ℕ) (a b : List Change) → methods_after_changes ms (a ++ b) ≡ methods_after_changes (methods_after_changes ms a) b
 after_changes-append ms [] b = refl
-after_changes-append ms (c ∷ more) b = after_changes-append (after_change ms c) more b
+after_changes-append ms (c ∷ more) b = after_changes-append (methods_after_change ms c) more b
 
 pub then-tells : (ms : List ℕ) (a b : Turn) → Tells ms a → Tells (methods a.after.stack) b → Tells ms (then_turn a b)
-then-tells ms a b p q = q ∙ (ap (λ k. after_changes k b.changes) p ∙ sym (after_changes-append ms a.changes b.changes))
+then-tells ms a b p q = q ∙ (ap (λ k. methods_after_changes k b.changes) p ∙ sym (after_changes-append ms a.changes b.changes))
 
 chosen-tells : (ms : List ℕ) (test : Bool) (x y : Turn) → Tells ms x → Tells ms y → Tells ms (if test then x else y)
 chosen-tells ms true x y p q = p
@@ -122,7 +122,7 @@ attempt-tells w t i s f =
     settled-tells w t (f.method ∷ methods s.stack) (applies w t i d.outcome after f) (applies-tells w t i d.outcome after f)
 
 -- without changes the methods are the same
-quiet-same : (ms : List ℕ) (changes : List Change) → is_quiet changes ≡ true → after_changes ms changes ≡ ms
+quiet-same : (ms : List ℕ) (changes : List Change) → has_no_changes changes ≡ true → methods_after_changes ms changes ≡ ms
 quiet-same ms [] e = refl
 quiet-same ms (c ∷ more) e = absurd (let f : false ≡ true = e in cc)
 
@@ -144,7 +144,7 @@ at-tells : (w : World) (t : Listing) (s : State) (f : Frame) (found : Option Ins
 at-tells w t s f None = refl
 at-tells w t s f (Some i) =
     let classes = loads w i.operation s.shared f.operands in
-    let ready = with_loaded classes s in
+    let ready = with_classes_loaded classes s in
     let turn = steps_by w t i ready f (does w i.operation ready.shared f.locals f.operands) in
     let same : ready.stack ≡ s.stack = ap (λ (x : State). x.stack) (with_loaded-shared classes s) in
     loaded-tells classes (f.method ∷ methods s.stack) turn (subst (λ stack. Tells (f.method ∷ methods stack) turn) same (by-tells w t i ready f))
@@ -153,7 +153,7 @@ on-tells : (w : World) (t : Listing) (s : State) (ending : Option Ending) (stack
 on-tells w t s None (Active f ∷ below) e = at-tells w t (record s { stack = below }) f (t.at f.version f.place)
 on-tells w t s _ stack e = ap methods e
 
-pub step-tells : (w : World) (t : Listing) (s : State) → methods (step w t s).after.stack ≡ after_changes (methods s.stack) (step w t s).changes
+pub step-tells : (w : World) (t : Listing) (s : State) → methods (step w t s).after.stack ≡ methods_after_changes (methods s.stack) (step w t s).changes
 step-tells w t s = on-tells w t s s.ending s.stack refl
 
 -- no frame is there in the start
@@ -161,7 +161,7 @@ starts_unless-methods : (w : World) (fault : Option Fault) (s : State) → metho
 starts_unless-methods w None s e = refl
 starts_unless-methods w (Some fault) s e = e
 
-pub start-tells : (w : World) (t : Listing) → methods (start w t).after.stack ≡ after_changes [] (start w t).changes
+pub start-tells : (w : World) (t : Listing) → methods (start w t).after.stack ≡ methods_after_changes [] (start w t).changes
 start-tells w t = by (arguments_fit w.program) where
   by : (b : Bool) → Tells [] (loaded_turn (loads_if w b) (turn_settled w t (still (starts_if w b))))
   by true =
@@ -173,9 +173,9 @@ start-tells w t = by (arguments_fit w.program) where
 -- ---- the run
 
 -- the frames' methods after a step are those before it, changed as the step tells
-pub run-tells : (w : World) (t : Listing) (n : ℕ) → methods (turn_in w t (suc n)).after.stack ≡ after_changes (methods (turn_in w t n).after.stack) (turn_in w t (suc n)).changes
+pub run-tells : (w : World) (t : Listing) (n : ℕ) → methods (turn_in w t (suc n)).after.stack ≡ methods_after_changes (methods (turn_in w t n).after.stack) (turn_in w t (suc n)).changes
 run-tells w t n = subst (Tells (methods (turn_in w t n).after.stack)) (sym (turn_in-suc w t n)) (step-tells w t (turn_in w t n).after)
 
 -- and after the start they are those that it tells of
-pub run-tells-first : (w : World) (t : Listing) → methods (turn_in w t 0).after.stack ≡ after_changes [] (turn_in w t 0).changes
+pub run-tells-first : (w : World) (t : Listing) → methods (turn_in w t 0).after.stack ≡ methods_after_changes [] (turn_in w t 0).changes
 run-tells-first w t = subst (Tells []) (sym (turn_in-zero w t)) (start-tells w t)

@@ -9,7 +9,7 @@ use Rattle.jvm_model.specs.Basis.SharedState.{class_of}
 use Rattle.jvm_model.specs.Instructions.Does.{does, loads}
 use Rattle.jvm_model.specs.Running.Applies.{still, with_frame, new_frame, has_room, live_in, most_live, begins, begins_beside, applies}
 use Rattle.jvm_model.specs.Running.Moves.{handler_for, throw_caught, at_part, runs_initializer, argument_array, main_or_end, moves, move, then_turn, turn_settled}
-use Rattle.jvm_model.specs.Running.Run.{attempt, starts, is_quiet, goes_on, with_loaded, loaded_turn, steps_by, steps_at, steps_on, step, main_loads, starts_with, start, turn_in, turn_in-zero, turn_in-suc}
+use Rattle.jvm_model.specs.Running.Run.{attempt, starts, has_no_changes, is_going_on, with_classes_loaded, loaded_turn, steps_by, steps_at, steps_on, step, main_loads, starts_with, start, turn_in, turn_in-zero, turn_in-suc}
 use Rattle.jvm_model.specs.Running.Changes.{begun_count, EndThenBegin, OnlyEnd, AreOrdered}
 use Rattle.jvm_model.proofs.Running.Settles.{settled-keeps, settled-stops}
 use Rattle.jvm_model.proofs.Running.Attempts.{again-by, with_loaded-shared, loaded-after}
@@ -158,16 +158,16 @@ attempt-begins w t i s f open' none_thrown =
     settled-begins w t (applies w t i d.outcome after f) (applies-well w t i d.outcome after f open' none_thrown)
 
 -- what goes on has neither ended nor thrown
-open-ended : (ending : Option Ending) (thrown : Option ℕ) → goes_on ending thrown ≡ true → ending ≡ None
+open-ended : (ending : Option Ending) (thrown : Option ℕ) → is_going_on ending thrown ≡ true → ending ≡ None
 open-ended None thrown e = refl
 open-ended (Some x) thrown e = absurd (let f : false ≡ true = e in cc)
 
-open-thrown : (ending : Option Ending) (thrown : Option ℕ) → goes_on ending thrown ≡ true → thrown ≡ None
+open-thrown : (ending : Option Ending) (thrown : Option ℕ) → is_going_on ending thrown ≡ true → thrown ≡ None
 open-thrown ending None e = refl
 open-thrown None (Some r) e = absurd (let f : false ≡ true = e in cc)
 open-thrown (Some x) (Some r) e = absurd (let f : false ≡ true = e in cc)
 
-quiet-end : (cs : List Change) → is_quiet cs ≡ true → OnlyEnd cs
+quiet-end : (cs : List Change) → has_no_changes cs ≡ true → OnlyEnd cs
 quiet-end [] e = tt
 quiet-end (c ∷ cs) e = absurd (let f : false ≡ true = e in cc)
 
@@ -183,7 +183,7 @@ at-ordered : (w : World) (t : Listing) (s : State) (f : Frame) (found : Option I
 at-ordered w t s f None open' none_thrown = tt
 at-ordered w t s f (Some i) open' none_thrown =
     let classes = loads w i.operation s.shared f.operands in
-    let ready = with_loaded classes s in
+    let ready = with_classes_loaded classes s in
     let turn = steps_by w t i ready f (does w i.operation ready.shared f.locals f.operands) in
     let same = with_loaded-shared classes s in
     let ending : ready.ending ≡ s.ending = ap (λ (x : State). x.ending) same in
@@ -224,7 +224,7 @@ at-stops : (w : World) (t : Listing) (s : State) (f : Frame) (found : Option Ins
 at-stops w t s f None = refl
 at-stops w t s f (Some i) =
     let classes = loads w i.operation s.shared f.operands in
-    let ready = with_loaded classes s in
+    let ready = with_classes_loaded classes s in
     let d = does w i.operation ready.shared f.locals f.operands in
     let a = attempt w t i ready f in
     ap (move w t) (loaded-after classes (steps_by w t i ready f d))

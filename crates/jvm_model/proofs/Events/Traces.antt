@@ -8,7 +8,7 @@ use Rattle.std.proofs.lemmas.Option.{slice_get_within, same_Some}
 use Rattle.jf_bytes.proofs.Lists.{slice_get-set_same}
 use Rattle.jvm_model.specs.Basis.Data.{Listing, World, Change, Loads, Began, Left, Unwound, State}
 use Rattle.jvm_model.specs.Running.Run.{start, step, turn_in, turn_in-zero, turn_in-suc}
-use Rattle.jvm_model.specs.Running.Changes.{methods, without_first, after_change, after_changes}
+use Rattle.jvm_model.specs.Running.Changes.{methods, without_first, methods_after_change, methods_after_changes}
 use Rattle.jvm_model.specs.Profiling.Activations.{Activation, Trace, no_trace, current, with_begin, ended_at, without_current, with_end, trace_changed, all_changed, trace_in, trace_in-zero, trace_in-suc}
 use Rattle.jvm_model.proofs.Events.Chains.{slice_get-append_left, slice_get_at, IsBelow}
 
@@ -168,33 +168,33 @@ end-methods step t is = ends t.live refl is where
       ap (λ (activations : List Activation). map (method_at activations) rest) (ended_at-found step number t.activations are.0.activation are.0.found)
       ∙ methods-set t.activations number are.0.activation step are.0.found rest
 
-pub changed-methods : (step : ℕ) (t : Trace) (c : Change) → IsTrace t → live_methods (trace_changed step t c) ≡ after_change (live_methods t) c
+pub changed-methods : (step : ℕ) (t : Trace) (c : Change) → IsTrace t → live_methods (trace_changed step t c) ≡ methods_after_change (live_methods t) c
 changed-methods step t (Loads classes) is = refl
 changed-methods step t (Began method) is = begin-methods step method t is
 changed-methods step t Left is = end-methods step t is
 changed-methods step t Unwound is = end-methods step t is
 
 -- The methods of the live activations are changed as told.
-pub all_changed-methods : (step : ℕ) (t : Trace) (changes : List Change) → IsTrace t → live_methods (all_changed step t changes) ≡ after_changes (live_methods t) changes
+pub all_changed-methods : (step : ℕ) (t : Trace) (changes : List Change) → IsTrace t → live_methods (all_changed step t changes) ≡ methods_after_changes (live_methods t) changes
 all_changed-methods step t [] is = refl
 all_changed-methods step t (c ∷ more) is =
-    all_changed-methods step (trace_changed step t c) more (changed-keeps step t c is) ∙ ap (λ ms. after_changes ms more) (changed-methods step t c is)
+    all_changed-methods step (trace_changed step t c) more (changed-keeps step t c is) ∙ ap (λ ms. methods_after_changes ms more) (changed-methods step t c is)
 
 -- That frames are changed as told, at the start and in each step over a listing.
 pub record FramesFollow (w : World) (t : Listing) : Type 0 where
-  pub starts : methods (start w t).after.stack ≡ after_changes [] (start w t).changes
-  pub steps : (s : State) → methods (step w t s).after.stack ≡ after_changes (methods s.stack) (step w t s).changes
+  pub starts : methods (start w t).after.stack ≡ methods_after_changes [] (start w t).changes
+  pub steps : (s : State) → methods (step w t s).after.stack ≡ methods_after_changes (methods s.stack) (step w t s).changes
 
 -- Then the live activations are the frames, one for one, each of its frame's method.
 pub live-follow : (w : World) (t : Listing) → FramesFollow w t → (n : ℕ) → live_methods (trace_in w t n) ≡ methods (turn_in w t n).after.stack
 live-follow w t follow zero =
     ap live_methods (trace_in-zero w t)
     ∙ (all_changed-methods 0 no_trace (turn_in w t 0).changes no_trace-is
-    ∙ subst (λ first. after_changes [] first.changes ≡ methods first.after.stack) (sym (turn_in-zero w t)) (sym follow.starts))
+    ∙ subst (λ first. methods_after_changes [] first.changes ≡ methods first.after.stack) (sym (turn_in-zero w t)) (sym follow.starts))
 live-follow w t follow (suc n) =
     ap live_methods (trace_in-suc w t n)
     ∙ (all_changed-methods (suc n) (trace_in w t n) (turn_in w t (suc n)).changes (trace_in-is w t n)
-    ∙ (ap (λ ms. after_changes ms (turn_in w t (suc n)).changes) (live-follow w t follow n)
-    ∙ subst (λ next. after_changes (methods (turn_in w t n).after.stack) next.changes ≡ methods next.after.stack) (sym (turn_in-suc w t n)) (sym (follow.steps (turn_in w t n).after))))
+    ∙ (ap (λ ms. methods_after_changes ms (turn_in w t (suc n)).changes) (live-follow w t follow n)
+    ∙ subst (λ next. methods_after_changes (methods (turn_in w t n).after.stack) next.changes ≡ methods next.after.stack) (sym (turn_in-suc w t n)) (sym (follow.steps (turn_in w t n).after))))
 
 -- ---- what is told of an end

@@ -18,7 +18,7 @@ use Rattle.jvm_model.specs.Basis.Data.{SymbolicReference, Invokestatic, Local, O
 use Rattle.jvm_model.specs.Basis.Descriptors.{same_text}
 use Rattle.jvm_model.specs.Rewriting.Images.{with_code_among, IsMarkedMember, IsMemberImage}
 use Rattle.jvm_model.specs.Codes.Lines.{operation_of}
-use Rattle.jvm_model.specs.Small.Resolved.{own_method, resolved_name, resolved_in}
+use Rattle.jvm_model.specs.Small.Resolved.{own_method, resolved_reference, resolved_in}
 use Rattle.jvm_model.specs.Basis.Methods.{code_among, code_of, method_named}
 use Rattle.jvm_model.proofs.Soundness.MoreEntries.{HasMore, map-kept, name_of-kept, operation-more}
 
@@ -85,7 +85,7 @@ pub operation_of-kept : (c image : ClassFile) (i : Instr) (o : Operation Local) 
 operation_of-kept c image i o alike e = operation-more c image i o (has-more c image alike) e
 
 -- and so with its names looked up
-resolved_name-kept : (c image : ClassFile) (n : SymbolicReference) (q : Resolved) → LooksAlike c image → resolved_name c n ≡ Some q → resolved_name image n ≡ Some q
+resolved_name-kept : (c image : ClassFile) (n : SymbolicReference) (q : Resolved) → LooksAlike c image → resolved_reference c n ≡ Some q → resolved_reference image n ≡ Some q
 resolved_name-kept c image (Invokestatic r) q alike e = map-kept resolved.Invokestatic (own_method c r) (own_method image r) q (λ k is. own_method-kept c image r k alike is) e
 resolved_name-kept c image n q alike e = e
 

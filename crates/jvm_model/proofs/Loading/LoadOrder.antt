@@ -7,7 +7,7 @@ use Rattle.std.specs.List.{AllByRecursion}
 use Rattle.const_pool.specs.declared.class.ClassFile.{ClassFile}
 use Rattle.jvm_model.specs.Basis.Data.{Program, World}
 use Rattle.jvm_model.specs.Classes.Kinds.{Element, Primitive, Named, meaning_of}
-use Rattle.jvm_model.specs.Classes.Load.{Fault, Loading, Need, There, Begun, Fresh as Unloaded, behind_needs, by_standing, loading_done, is_among, load_element, load_named, load_needs, load_of, need_fault, needs_of, standing_of, unless}
+use Rattle.jvm_model.specs.Classes.Load.{Fault, Loading, Need, There, Begun, Fresh as Unloaded, behind_needs, by_load_state, loading_done, is_among, load_element, load_named, load_needs, load_of, need_fault, needs_of, load_state_of, unless}
 use Rattle.jvm_model.specs.Basis.Programs.{class_named, has_built_in_name}
 use Rattle.jvm_model.specs.Profiling.Revelation.{IsLoadOrder}
 use Rattle.jvm_model.specs.Running.Run.{before}
@@ -42,12 +42,12 @@ module _ (p : Program) (P : List ℕ → Type 0) (first : List ℕ)
 
   class_kept : (path name loaded : List ℕ) (fresh : ℕ → Loading) (o : Option ℕ) → P loaded
       → ((class : ℕ) → is_among class path ≡ false → P (fresh class).loaded)
-      → P (by_standing (standing_of path loaded o) name loaded fresh).loaded
+      → P (by_load_state (load_state_of path loaded o) name loaded fresh).loaded
   class_kept path name loaded fresh None h k = h
   class_kept path name loaded fresh (Some class) h k = by (is_among class loaded) (is_among class path) refl
     where
       by : (a b : Bool) → is_among class path ≡ b
-          → P (by_standing (if a then There else if b then Begun else Unloaded class) name loaded fresh).loaded
+          → P (by_load_state (if a then There else if b then Begun else Unloaded class) name loaded fresh).loaded
       by true b e = h
       by false true e = h
       by false false e = k class e
@@ -71,7 +71,7 @@ module _ (p : Program) (P : List ℕ → Type 0) (first : List ℕ)
   named_kept (suc n) path begins name loaded h =
       let within : ℕ → List ℕ → List ℕ → Loading = λ class. load_named p n (path ++ class ∷ []) in
       let fresh : ℕ → Loading = λ class. behind_needs class (load_needs p (within class) (needs_of p class) loaded) in
-      element_kept loaded (λ class_name. by_standing (standing_of path loaded (class_named p class_name)) class_name loaded fresh) (meaning_of name).element h
+      element_kept loaded (λ class_name. by_load_state (load_state_of path loaded (class_named p class_name)) class_name loaded fresh) (meaning_of name).element h
       (λ class_name. class_kept path class_name loaded fresh (class_named p class_name) h
       (λ class out. behind_kept class (load_needs p (within class) (needs_of p class) loaded) (begins class out)
       (needs_kept (within class) (named_kept n (path ++ class ∷ []) (longer path class begins)) (needs_of p class) loaded h)))
@@ -115,12 +115,12 @@ module _ (p : Program) (P : List ℕ → Type 0)
 
   class_ordered : (path name loaded : List ℕ) (fresh : ℕ → Loading) (o : Option ℕ) → P loaded
       → ((class : ℕ) → is_among class loaded ≡ false → P (fresh class).loaded)
-      → P (by_standing (standing_of path loaded o) name loaded fresh).loaded
+      → P (by_load_state (load_state_of path loaded o) name loaded fresh).loaded
   class_ordered path name loaded fresh None h k = h
   class_ordered path name loaded fresh (Some class) h k = by (is_among class loaded) (is_among class path) refl
     where
       by : (a b : Bool) → is_among class loaded ≡ a
-          → P (by_standing (if a then There else if b then Begun else Unloaded class) name loaded fresh).loaded
+          → P (by_load_state (if a then There else if b then Begun else Unloaded class) name loaded fresh).loaded
       by true b e = h
       by false true e = h
       by false false e = k class e
@@ -157,7 +157,7 @@ module _ (p : Program) (P : List ℕ → Type 0)
       let plain : (class : ℕ) → AreLoads p (λ l. Unit {0}) (needs_of p class) loaded (all class) =
       λ class. needs-load p (λ l. Unit {0}) (λ l c needs u. tt) (within class) (named-load p (λ l. Unit {0}) (λ l c needs u. tt) n (path ++ class ∷ [])) (needs_of p class) loaded in
       element_ordered loaded
-      (λ class_name. by_standing (standing_of path loaded (class_named p class_name)) class_name loaded (λ class. behind_needs class (all class))) (meaning_of name).element h
+      (λ class_name. by_load_state (load_state_of path loaded (class_named p class_name)) class_name loaded (λ class. behind_needs class (all class))) (meaning_of name).element h
       (λ class_name. class_ordered path class_name loaded (λ class. behind_needs class (all class)) (class_named p class_name) h
       (λ class new. behind_ordered class (all class)
       (not_loaded p class n (path ++ class ∷ []) (needs_of p class) loaded (among-last class path) new)

@@ -8,7 +8,7 @@ use Rattle.std.proofs.lemmas.Option.{none-some}
 use Rattle.jvm_model.specs.Basis.Data.{Operands}
 use Rattle.jvm_model.specs.Running.Growth.{Extends}
 use Rattle.jvm_model.specs.Classes.Kinds.{Element, Primitive, Named, kind_named, meaning_of}
-use Rattle.jvm_model.specs.Classes.Load.{Fault, Circular, Loading, Need, There, Begun, Fresh, behind_needs, by_standing, loading_done, loading_failed, go_on, is_among, load_element, load_named, load_needs, load_of, need_fault, needs_of, standing_of, unless}
+use Rattle.jvm_model.specs.Classes.Load.{Fault, Circular, Loading, Need, There, Begun, Fresh, behind_needs, by_load_state, loading_done, loading_failed, go_on, is_among, load_element, load_named, load_needs, load_of, need_fault, needs_of, load_state_of, unless}
 use Rattle.jvm_model.specs.Instructions.SymbolicReference.{SymbolicReference, kind_unless, newly_loaded, resolved_kind, resolved_name, resolves}
 use Rattle.jvm_model.specs.Basis.Programs.{class_named}
 use Rattle.jvm_model.specs.declared.program.Program.{Program}
@@ -33,12 +33,12 @@ module _ (p : Program) (P : List ℕ → Type 0) (first : List ℕ)
 
   class-keeps : (path name loaded : List ℕ) (fresh : ℕ → Loading) (o : Option ℕ) → P loaded
       → ((class : ℕ) → is_among class path ≡ false → P (fresh class).loaded)
-      → P (by_standing (standing_of path loaded o) name loaded fresh).loaded
+      → P (by_load_state (load_state_of path loaded o) name loaded fresh).loaded
   class-keeps path name loaded fresh None h k = h
   class-keeps path name loaded fresh (Some class) h k = by (is_among class loaded) (is_among class path) refl
     where
       by : (a b : Bool) → is_among class path ≡ b
-          → P (by_standing (if a then There else if b then Begun else Fresh class) name loaded fresh).loaded
+          → P (by_load_state (if a then There else if b then Begun else Fresh class) name loaded fresh).loaded
       by true b e = h
       by false true e = h
       by false false e = k class e
@@ -63,7 +63,7 @@ module _ (p : Program) (P : List ℕ → Type 0) (first : List ℕ)
   named-keeps (suc n) path begins name loaded h =
       let within : ℕ → List ℕ → List ℕ → Loading = λ class. load_named p n (path ++ class ∷ []) in
       let fresh : ℕ → Loading = λ class. behind_needs class (load_needs p (within class) (needs_of p class) loaded) in
-      element-keeps loaded (λ class_name. by_standing (standing_of path loaded (class_named p class_name)) class_name loaded fresh) (meaning_of name).element h
+      element-keeps loaded (λ class_name. by_load_state (load_state_of path loaded (class_named p class_name)) class_name loaded fresh) (meaning_of name).element h
       (λ class_name. class-keeps path class_name loaded fresh (class_named p class_name) h
       (λ class out. unless-keeps (load_needs p (within class) (needs_of p class) loaded).fault (load_needs p (within class) (needs_of p class) loaded).loaded
       (λ l. loading_done (l ++ class ∷ []))
@@ -122,15 +122,15 @@ module _ (p : Program) (path after big : List ℕ) (within : Within after big) w
 
   class-there : (name loaded : List ℕ) (load : ℕ → Loading) (o : Option ℕ)
       → ((class : ℕ) → load class ≡ loading_done after → is_among class big ≡ true)
-      → by_standing (standing_of path loaded o) name loaded load ≡ loading_done after
-      → (again : ℕ → Loading) → by_standing (standing_of path big o) name big again ≡ loading_done big
+      → by_load_state (load_state_of path loaded o) name loaded load ≡ loading_done after
+      → (again : ℕ → Loading) → by_load_state (load_state_of path big o) name big again ≡ loading_done big
   class-there name loaded load None there e again = absurd (failed-done loaded after _ e)
   class-there name loaded load (Some class) there e again =
-      ap (λ b. by_standing (if b then There else if is_among class path then Begun else Fresh class) name big again)
+      ap (λ b. by_load_state (if b then There else if is_among class path then Begun else Fresh class) name big again)
       (by (is_among class loaded) (is_among class path) refl e)
     where
       by : (a b : Bool) → is_among class loaded ≡ a
-          → by_standing (if a then There else if b then Begun else Fresh class) name loaded load ≡ loading_done after → is_among class big ≡ true
+          → by_load_state (if a then There else if b then Begun else Fresh class) name loaded load ≡ loading_done after → is_among class big ≡ true
       by true b is h = within class (ap (is_among class) (sym (done-done loaded after h)) ∙ is)
       by false true is h = absurd (failed-done loaded after Circular h)
       by false false is h = there class h
@@ -146,8 +146,8 @@ module _ (p : Program) (path after big : List ℕ) (within : Within after big) w
   named-there (suc n) name loaded e =
       let fresh : List ℕ → ℕ → Loading = λ l class. behind_needs class (load_needs p (load_named p n (path ++ class ∷ [])) (needs_of p class) l) in
       element-there (meaning_of name).element loaded
-      (λ class_name. by_standing (standing_of path loaded (class_named p class_name)) class_name loaded (fresh loaded))
-      (λ class_name. by_standing (standing_of path big (class_named p class_name)) class_name big (fresh big))
+      (λ class_name. by_load_state (load_state_of path loaded (class_named p class_name)) class_name loaded (fresh loaded))
+      (λ class_name. by_load_state (load_state_of path big (class_named p class_name)) class_name big (fresh big))
       (λ class_name h. class-there class_name loaded (fresh loaded) (class_named p class_name)
       (λ class. behind-there class (load_needs p (load_named p n (path ++ class ∷ [])) (needs_of p class) loaded).fault (load_needs p (load_named p n (path ++ class ∷ [])) (needs_of p class) loaded).loaded)
       h (fresh big)) e
@@ -193,31 +193,31 @@ module _ (p : Program) (path : List ℕ) (class : ℕ) (load : ℕ → List ℕ 
     (not-there : (loaded : List ℕ) → is_among class loaded ≡ false → is_among class (load class loaded).loaded ≡ false) where
   -- a class that is neither loaded nor being loaded
   fresh-again : (name loaded : List ℕ) (o : Option Fault) → is_among class loaded ≡ false → is_among class path ≡ false → (load class loaded).fault ≡ o
-      → by_standing (standing_of path (unless o (load class loaded).loaded (λ l. loading_done (l ++ class ∷ []))).loaded (Some class)) name
+      → by_load_state (load_state_of path (unless o (load class loaded).loaded (λ l. loading_done (l ++ class ∷ []))).loaded (Some class)) name
       (unless o (load class loaded).loaded (λ l. loading_done (l ++ class ∷ []))).loaded
       (λ c. behind_needs c (load c (unless o (load class loaded).loaded (λ l. loading_done (l ++ class ∷ []))).loaded))
       ≡ unless o (load class loaded).loaded (λ l. loading_done (l ++ class ∷ []))
   fresh-again name loaded None out off is =
-      ap (λ b. by_standing (if b then There else if is_among class path then Begun else Fresh class) name ((load class loaded).loaded ++ class ∷ [])
+      ap (λ b. by_load_state (if b then There else if is_among class path then Begun else Fresh class) name ((load class loaded).loaded ++ class ∷ [])
       (λ c. behind_needs c (load c ((load class loaded).loaded ++ class ∷ []))))
       (among-last class (load class loaded).loaded)
   fresh-again name loaded (Some fault) out off is =
-      ap (λ b. by_standing (if b then There else if is_among class path then Begun else Fresh class) name (load class loaded).loaded
+      ap (λ b. by_load_state (if b then There else if is_among class path then Begun else Fresh class) name (load class loaded).loaded
       (λ c. behind_needs c (load c (load class loaded).loaded)))
       (not-there loaded out)
-      ∙ (ap (λ b. by_standing (if b then Begun else Fresh class) name (load class loaded).loaded (λ c. behind_needs c (load c (load class loaded).loaded))) off
+      ∙ (ap (λ b. by_load_state (if b then Begun else Fresh class) name (load class loaded).loaded (λ c. behind_needs c (load c (load class loaded).loaded))) off
       ∙ (ap (behind_needs class) (load-again loaded) ∙ ap (λ o. unless o (load class loaded).loaded (λ l. loading_done (l ++ class ∷ []))) is))
 
   class-again : (name loaded : List ℕ) (a b : Bool) → is_among class loaded ≡ a → is_among class path ≡ b
-      → by_standing (standing_of path (by_standing (if a then There else if b then Begun else Fresh class) name loaded (λ c. behind_needs c (load c loaded))).loaded (Some class)) name
-      (by_standing (if a then There else if b then Begun else Fresh class) name loaded (λ c. behind_needs c (load c loaded))).loaded
-      (λ c. behind_needs c (load c (by_standing (if a then There else if b then Begun else Fresh class) name loaded (λ c. behind_needs c (load c loaded))).loaded))
-      ≡ by_standing (if a then There else if b then Begun else Fresh class) name loaded (λ c. behind_needs c (load c loaded))
+      → by_load_state (load_state_of path (by_load_state (if a then There else if b then Begun else Fresh class) name loaded (λ c. behind_needs c (load c loaded))).loaded (Some class)) name
+      (by_load_state (if a then There else if b then Begun else Fresh class) name loaded (λ c. behind_needs c (load c loaded))).loaded
+      (λ c. behind_needs c (load c (by_load_state (if a then There else if b then Begun else Fresh class) name loaded (λ c. behind_needs c (load c loaded))).loaded))
+      ≡ by_load_state (if a then There else if b then Begun else Fresh class) name loaded (λ c. behind_needs c (load c loaded))
   class-again name loaded true b is on =
-      ap (λ k. by_standing (if k then There else if is_among class path then Begun else Fresh class) name loaded (λ c. behind_needs c (load c loaded))) is
+      ap (λ k. by_load_state (if k then There else if is_among class path then Begun else Fresh class) name loaded (λ c. behind_needs c (load c loaded))) is
   class-again name loaded false true is on =
-      ap (λ k. by_standing (if k then There else if is_among class path then Begun else Fresh class) name loaded (λ c. behind_needs c (load c loaded))) is
-      ∙ ap (λ k. by_standing (if k then Begun else Fresh class) name loaded (λ c. behind_needs c (load c loaded))) on
+      ap (λ k. by_load_state (if k then There else if is_among class path then Begun else Fresh class) name loaded (λ c. behind_needs c (load c loaded))) is
+      ∙ ap (λ k. by_load_state (if k then Begun else Fresh class) name loaded (λ c. behind_needs c (load c loaded))) on
   class-again name loaded false false is on = fresh-again name loaded (load class loaded).fault is on refl
 
 -- what a class needs, with the class on the path
@@ -227,7 +227,7 @@ within p n path class loaded = load_needs p (load_named p n (path ++ class ∷ [
 -- the class of a name
 abbrev by_name : Program → ℕ → List ℕ → List ℕ → List ℕ → Loading
 by_name p n path loaded name =
-    by_standing (standing_of path loaded (class_named p name)) name loaded (λ class. behind_needs class (within p n path class loaded))
+    by_load_state (load_state_of path loaded (class_named p name)) name loaded (λ class. behind_needs class (within p n path class loaded))
 
 module _ (p : Program) (n : ℕ) (path : List ℕ)
     (within-again : (class : ℕ) (loaded : List ℕ) → within p n path class (within p n path class loaded).loaded ≡ within p n path class loaded) where
@@ -235,10 +235,10 @@ module _ (p : Program) (n : ℕ) (path : List ℕ)
   name-again name loaded = by (class_named p name)
     where
       by : (o : Option ℕ)
-          → by_standing (standing_of path (by_standing (standing_of path loaded o) name loaded (λ class. behind_needs class (within p n path class loaded))).loaded o) name
-          (by_standing (standing_of path loaded o) name loaded (λ class. behind_needs class (within p n path class loaded))).loaded
-          (λ class. behind_needs class (within p n path class (by_standing (standing_of path loaded o) name loaded (λ class. behind_needs class (within p n path class loaded))).loaded))
-          ≡ by_standing (standing_of path loaded o) name loaded (λ class. behind_needs class (within p n path class loaded))
+          → by_load_state (load_state_of path (by_load_state (load_state_of path loaded o) name loaded (λ class. behind_needs class (within p n path class loaded))).loaded o) name
+          (by_load_state (load_state_of path loaded o) name loaded (λ class. behind_needs class (within p n path class loaded))).loaded
+          (λ class. behind_needs class (within p n path class (by_load_state (load_state_of path loaded o) name loaded (λ class. behind_needs class (within p n path class loaded))).loaded))
+          ≡ by_load_state (load_state_of path loaded o) name loaded (λ class. behind_needs class (within p n path class loaded))
       by None = refl
       by (Some class) =
           class-again p path class (within p n path) (within-again class)

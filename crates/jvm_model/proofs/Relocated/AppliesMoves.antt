@@ -10,8 +10,8 @@ use Rattle.frame_stack.specs.Widths.{width, height_of}
 use Rattle.jvm_model.specs.Basis.Values.{as_value, arguments_spread, locals_with, with_value}
 use Rattle.jvm_model.specs.Basis.Programs.{max_stack_of, max_locals_of}
 use Rattle.jvm_model.specs.Basis.SharedState.{exception_raised, stack_overflow}
-use Rattle.jvm_model.specs.Running.Applies.{still, with_frame, breaks, goes, place_of, enters_subroutine, new_frame, throws_at, has_room, begins, live_in, most_live, begins_beside, invokes, resumes, gives_back, applies}
-use Rattle.jvm_model.specs.Codes.Moved.{Moving, moved_slot, moved_locals, moved_operands, moved_where, moved_outcome, moved_frame, moved_stack, state_moved, moved_turn, moved_instruction, ArePlaces, Agrees}
+use Rattle.jvm_model.specs.Running.Applies.{still, with_frame, breaks, goes, place_of, enters_subroutine, new_frame, throws_at, has_room, begins, live_in, most_live, begins_beside, invocation_turn, resumes, gives_back, applies}
+use Rattle.jvm_model.specs.Codes.Moved.{Moving, moved_slot, moved_locals, moved_operands, moved_where, moved_outcome, moved_frame, moved_stack, state_moved, moved_turn, moved_instruction, ArePlaces, IsMovedListing}
 use Rattle.jvm_model.proofs.Relocated.WithinMoves.{found-moves, long-moves, with-moves}
 
 -- ---- parts of a frame
@@ -89,7 +89,7 @@ module _ (w : World) (m : Moving) where
 
   -- ---- invocation and return
 
-  module _ (norm : ℕ → ℕ → ℕ) (t u : Listing) (agrees : Agrees norm m t u) where
+  module _ (norm : ℕ → ℕ → ℕ) (t u : Listing) (agrees : IsMovedListing norm m t u) where
     pub frame-moves : (k : ℕ) (args : List Datum) → new_frame w u k args ≡ moved_frame m (new_frame w t k args)
     frame-moves k args =
         let v : ℕ = t.current k in
@@ -108,7 +108,7 @@ module _ (w : World) (m : Moving) where
         refl
 
     invokes-moves : (i : Instruction) (s : State) (f : Frame) (k : ℕ) (args : List Datum) (below : Operands)
-        → invokes w u (moved_instruction (m.home f.version) i) (state_moved m s) (moved_frame m f) k args (moved_operands (m.home f.version) below) ≡ moved_turn m (invokes w t i s f k args below)
+        → invocation_turn w u (moved_instruction (m.home f.version) i) (state_moved m s) (moved_frame m f) k args (moved_operands (m.home f.version) below) ≡ moved_turn m (invocation_turn w t i s f k args below)
     invokes-moves i s f k args below =
         let beside : ℕ → Turn = λ live. begins_beside w u (state_moved m s) (moved_frame m f) k args (moved_operands (m.home f.version) below) (suc live) in
         chosen_turn-moves (has_room w k args) (begins_beside w t s f k args below (suc (live_in s.stack))) _ (still (breaks s f i.own)) _

@@ -20,7 +20,7 @@ use Rattle.jvm_model.specs.Codes.Originals.{catcher_of, method_handlers, origina
 use Rattle.jvm_model.specs.Codes.Places.{is_place, is_start_in, read_from}
 use Rattle.jvm_model.specs.Basis.Programs.{class_at, place_of_method}
 use Rattle.jvm_model.proofs.Relocated.StandingFrames.{Stand, place-start, read-stand}
-use Rattle.jvm_model.specs.Soundness.Calls.{is_end, places_of}
+use Rattle.jvm_model.specs.Soundness.Calls.{is_code_end, places_of}
 use Rattle.jvm_model.specs.Soundness.Whole.{FitsHandler, HasSoundCode, HasSoundCodes, instrs_of, is_stop}
 
 module _ (bytes : List ℕ) where
@@ -136,7 +136,7 @@ module _ (p : Program) (sound : HasSoundCodes p) where
       || option_map_or (λ (code : CodeAttribute). length code.code == at) o false
 
   abbrev places_in : Option MethodPlace → ℕ → Bool
-  places_in o at = unwrap_or (option_and_then (λ (place : MethodPlace). option_and_then (λ c. Some (is_place c place.position at || is_end c place.position at)) (class_at p place.class)) o) true
+  places_in o at = unwrap_or (option_and_then (λ (place : MethodPlace). option_and_then (λ c. Some (is_place c place.position at || is_code_end c place.position at)) (class_at p place.class)) o) true
 
   zero-place : (v : ℕ) → places_of p v 0 ≡ true
   zero-place v = by (place_of_method p v)
@@ -145,7 +145,7 @@ module _ (p : Program) (sound : HasSoundCodes p) where
       coded None = refl
       coded (Some code) = refl
 
-      class : (o : Option ClassFile) (place : MethodPlace) → unwrap_or (option_and_then (λ c. Some (is_place c place.position 0 || is_end c place.position 0)) o) true ≡ true
+      class : (o : Option ClassFile) (place : MethodPlace) → unwrap_or (option_and_then (λ c. Some (is_place c place.position 0 || is_code_end c place.position 0)) o) true ≡ true
       class None place = refl
       class (Some c) place = coded (method_code c place.position)
 
@@ -167,9 +167,9 @@ module _ (p : Program) (sound : HasSoundCodes p) where
       coded c position (Some code) is has place found = each code (has code refl) at i (is-of c code at i found) place
 
       class : (at_place : MethodPlace) (o : Option ClassFile) → place_of_method p v ≡ Some at_place → class_at p at_place.class ≡ o
-          → unwrap_or (option_and_then (λ c. Some (is_place c at_place.position at || is_end c at_place.position at)) o) true ≡ true
+          → unwrap_or (option_and_then (λ c. Some (is_place c at_place.position at || is_code_end c at_place.position at)) o) true ≡ true
           → option_and_then (λ c. method_instruction c at_place.position at) o ≡ Some i
-          → P (λ k. unwrap_or (option_and_then (λ c. Some (is_place c at_place.position k || is_end c at_place.position k)) o) true) i
+          → P (λ k. unwrap_or (option_and_then (λ c. Some (is_place c at_place.position k || is_code_end c at_place.position k)) o) true) i
       class at_place None stands is place found = absurd (none-some i found)
       class at_place (Some c) stands is place found =
           coded c at_place.position (method_code c at_place.position) refl (λ code e. sound v at_place c code stands is e) place found
@@ -202,7 +202,7 @@ module _ (p : Program) (sound : HasSoundCodes p) where
       coded c (Some code) has = each c code code.handlers (has code refl).handlers
 
       class : (at_place : MethodPlace) (o : Option ClassFile) → place_of_method p v ≡ Some at_place → class_at p at_place.class ≡ o
-          → (let is : ℕ → Bool = λ k. unwrap_or (option_and_then (λ c. Some (is_place c at_place.position k || is_end c at_place.position k)) o) true in
+          → (let is : ℕ → Bool = λ k. unwrap_or (option_and_then (λ c. Some (is_place c at_place.position k || is_code_end c at_place.position k)) o) true in
           AllByRecursion (λ (h : Catcher). (is h.start ≡ true) × (is h.finish ≡ true) × (is h.target ≡ true)) (unwrap_or (option_and_then (λ c. method_handlers c at_place.position) o) []))
       class at_place None stands is = tt
       class at_place (Some c) stands is = coded c (method_code c at_place.position) (λ code e. sound v at_place c code stands is e)

@@ -4,7 +4,7 @@ use Rattle.std.specs.List.{AllByRecursion}
 use Rattle.std.specs.Option.{IfSome, option_map, option_and_then}
 use Rattle.jvm_model.specs.Basis.Data.{Instruction, Catcher, Listing, World}
 use Rattle.jvm_model.specs.Running.Run.{turn_in}
-use Rattle.jvm_model.specs.Codes.Moved.{moved_instruction, moved_catcher, IsPlace, HaveBounds, Agrees, at_homes, IsPlaced}
+use Rattle.jvm_model.specs.Codes.Moved.{moved_instruction, moved_catcher, IsPlace, HaveBounds, IsMovedListing, at_homes, IsPlaced}
 use Rattle.jvm_model.specs.Codes.Closed.{IsWithin, IsClosed, norm_of, laid_out}
 use Rattle.jvm_model.proofs.Relocated.StepMoves.{turn_in-placed}
 
@@ -61,7 +61,7 @@ module _ (is_place : ℕ → ℕ → Bool) where
   closed-place : (t : Listing) → IsClosed is_place t → (v at : ℕ) → IsPlace (norm_of is_place) v at → is_place v at ≡ true
   closed-place t closed v at is = fixed-place v at (is_place v at) (closed.start v) refl is
 
-  pub closed-agrees : (t : Listing) → IsClosed is_place t → Agrees (norm_of is_place) (at_homes (norm_of is_place)) t t
+  pub closed-agrees : (t : Listing) → IsClosed is_place t → IsMovedListing (norm_of is_place) (at_homes (norm_of is_place)) t t
   closed-agrees t closed =
       let n : ℕ → ℕ → ℕ = norm_of is_place in
       record {
@@ -81,7 +81,7 @@ module _ (is_place : ℕ → ℕ → Bool) where
   pub laid_out-agrees : (home : ℕ → ℕ → ℕ) (origin : ℕ → ℕ → Option ℕ) (t : Listing) → IsClosed is_place t
       → ((v at : ℕ) → is_place v at ≡ true → origin v (home v at) ≡ Some at)
       → ((v a b : ℕ) → is_place v a ≡ true → is_place v b ≡ true → a < b → home v a < home v b)
-      → Agrees (norm_of is_place) (record { version = λ v. v; home = home }) t (laid_out home origin t)
+      → IsMovedListing (norm_of is_place) (record { version = λ v. v; home = home }) t (laid_out home origin t)
   laid_out-agrees home origin t closed back rises =
       let place : (v at : ℕ) → IsPlace (norm_of is_place) v at → is_place v at ≡ true = closed-place t closed in
       record {

@@ -18,7 +18,7 @@ use Rattle.jvm_model.specs.Codes.Closed.{IsClosed, IsWithin, norm_of}
 use Rattle.jvm_model.specs.Basis.Data.{Catcher, Instruction, Local, Operation}
 use Rattle.jvm_model.specs.Codes.Lines.{code_instruction, ends, instruction_of, method_instruction, next_of, operation_of, targets_of}
 use Rattle.jvm_model.specs.Basis.Methods.{method_code}
-use Rattle.jvm_model.specs.Codes.Moved.{Agrees, at_homes}
+use Rattle.jvm_model.specs.Codes.Moved.{IsMovedListing, at_homes}
 use Rattle.jvm_model.specs.Codes.Originals.{catcher_of, method_handlers, original}
 use Rattle.jvm_model.specs.Codes.Places.{is_start_in}
 use Rattle.jvm_model.specs.Basis.Programs.{class_at, code_of_method, place_of_method}
@@ -202,5 +202,5 @@ module _ (p : Program) (closed : HasClosedCodes p) where
     handlers = λ v. handlers-by v (code_of_method p v) refl;
   }
 
-  pub program-agrees : Agrees (norm_of is_place) (at_homes (norm_of is_place)) (original p) (original p)
+  pub program-agrees : IsMovedListing (norm_of is_place) (at_homes (norm_of is_place)) (original p) (original p)
   program-agrees = closed-agrees is_place (original p) program-closed

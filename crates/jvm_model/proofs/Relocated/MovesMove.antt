@@ -8,15 +8,15 @@ use Rattle.jvm_model.specs.Classes.Lookup.{is_below}
 use Rattle.jvm_model.specs.Basis.Programs.{super_of, initializer_of}
 use Rattle.jvm_model.specs.Basis.SharedState.{phase_of, class_of, stack_overflow}
 use Rattle.jvm_model.specs.Running.Applies.{still, with_frame, goes, new_frame, has_room, live_in, most_live}
-use Rattle.jvm_model.specs.Running.Moves.{covers, handler_for, own_at, throw_caught, at_part, after_super, with_super, raises, runs_initializer, initializes, argument_array, main_or_end, moves, move, weight, weights, fresh, unit, unless, moves_left}
-use Rattle.jvm_model.specs.Codes.Moved.{Moving, moved_locals, moved_frame, moved_stack, state_moved, moved_turn, moved_instruction, moved_catcher, IsPlace, ArePlaces, HaveBounds, Agrees}
+use Rattle.jvm_model.specs.Running.Moves.{covers, handler_for, own_at, throw_caught, at_part, after_super, with_super, raises, runs_initializer, initializes, argument_array, main_or_end, moves, move, weight, weights, fresh, unit, unit_unless, moves_left}
+use Rattle.jvm_model.specs.Codes.Moved.{Moving, moved_locals, moved_frame, moved_stack, state_moved, moved_turn, moved_instruction, moved_catcher, IsPlace, ArePlaces, HaveBounds, IsMovedListing}
 use Rattle.jvm_model.proofs.Relocated.AppliesMoves.{goes-moves, frame-moves, chosen_turn-moves, live-moves}
 
 chosen_target-moves : (h : ℕ → ℕ) (b : Bool) (x : ℕ) (y : Option ℕ) → (if b then Some (h x) else option_map h y) ≡ option_map h (if b then Some x else y)
 chosen_target-moves h true x y = refl
 chosen_target-moves h false x y = refl
 
-module _ (w : World) (m : Moving) (norm : ℕ → ℕ → ℕ) (t u : Listing) (agrees : Agrees norm m t u) where
+module _ (w : World) (m : Moving) (norm : ℕ → ℕ → ℕ) (t u : Listing) (agrees : IsMovedListing norm m t u) where
   -- ---- handlers
 
   -- homes stand in the order of their places
@@ -147,4 +147,4 @@ weights-moves m (Active f ∷ below) = ap (λ n. 1 + n) (weights-moves m below)
 weights-moves m (Initializing c part ∷ below) = ap (λ n. weight (Initializing c part) + n) (weights-moves m below)
 
 pub left-moves : (m : Moving) (s : State) → moves_left (state_moved m s) ≡ moves_left s
-left-moves m s = ap (λ n. 8 * fresh s.shared.phases + n + unit (is_some s.thrown) + 2 * unless s.begun + unless (is_some s.ending)) (weights-moves m s.stack)
+left-moves m s = ap (λ n. 8 * fresh s.shared.phases + n + unit (is_some s.thrown) + 2 * unit_unless s.begun + unit_unless (is_some s.ending)) (weights-moves m s.stack)

@@ -32,11 +32,11 @@ use Rattle.jvm_model.specs.Instructions.LocalRules.{pushes, replaces}
 use Rattle.jvm_model.specs.Instructions.ObjectRules.{done, makes}
 use Rattle.jvm_model.specs.Instructions.SymbolicReference.{SymbolicReference, New, Getfield, Putfield, Getstatic, Putstatic, Invokevirtual, Invokespecial, Invokestatic, Invokeinterface, Checkcast, Instanceof, Anewarray, Multianewarray, LdcClass, resolved_name, is_null, resolves, newly_loaded, ◌>>=◌, unless_refused, kind_unless, resolved_kind, member_found, where_fitting, receiver, is_instance}
 use Rattle.jvm_model.specs.Instructions.ReferenceRules.{does_named}
-use Rattle.jvm_model.specs.Instructions.FieldRules.{is_static_field, named_field, kind_by, field_narrowed, held_of, static_field, gets_static, sets_static, puts_static, slot_of, has_field, field_owner, gets_of, gets_instance, Putting, putting_of, puts_into, puts_instance}
+use Rattle.jvm_model.specs.Instructions.FieldRules.{is_static_field, named_field, kind_by, field_narrowed, field_held, static_field, gets_static, sets_static, puts_static, slot_of, has_field, field_owner, gets_of, gets_instance, Putting, putting_of, puts_into, puts_instance}
 use Rattle.jvm_model.specs.Instructions.ConstantRules.{pushes_object_of, pushes_string}
 use Rattle.jvm_model.specs.Running.Constants.{can_intern}
 use Rattle.jvm_model.specs.Instructions.CreationRules.{allocates, is_text_class, has_no_instances, instantiation_error, zero_of, makes_object, makes_instance, makes_new, array_over, makes_array_of, counts_from, counts_of, lengths_of, slots_of_arrays, with_arrays, makes_arrays, makes_by_counts, makes_multi, class_cast, casts_to, casts, int_for, answers, tells_instance}
-use Rattle.jvm_model.specs.Instructions.InvocationRules.{named_method, with_receiver, arguments_by, receiver_in, abstract_method, unsatisfied_link, reference_to, invokes_native, invokes_number, invokes_selected, invokes_with_static, invokes_static_method, Selecting, Virtual, OfInterface, Special, names_interface, not_of_class, selected_by, invokes_on, invokes_instance}
+use Rattle.jvm_model.specs.Instructions.InvocationRules.{named_method, with_receiver, arguments_by, receiver_in, abstract_method, unsatisfied_link, method_reference, invokes_native, invokes_number, invokes_selected, invokes_with_static, invokes_static_method, Selecting, Virtual, OfInterface, Special, names_interface, not_of_class, selected_by, invokes_on, invokes_instance}
 use Rattle.jvm_model.specs.Instructions.NativeRules.{kinds_in, outcome_of, runs_native, runs_number, seen_by_natives, thrown_by}
 use Rattle.jvm_model.specs.Codes.Moved.{moved_value, moved_locals, moved_operands, moved_outcome, moved_done}
 use Rattle.jvm_model.proofs.Relocated.WithinMoves.{found-moves, kind-moves, pushed-moves}
@@ -93,7 +93,7 @@ module _ (h : ℕ → ℕ) where
       then-fixed (resolved_kind p loaded r.class) (λ kind. member_found (of_kind kind) >>= fits) (kind-fixed p loaded r.class)
       (λ kind. then-fixed (member_found (of_kind kind)) fits (found-fixed (of_kind kind)) (λ m. fitting-fixed (beq (is_static_field p m) static) m))
 
-  held-moves : (k : Kind) (o : Operands) → held_of k (moved_operands h o) ≡ held_of k o
+  held-moves : (k : Kind) (o : Operands) → field_held k (moved_operands h o) ≡ field_held k o
   held-moves k [] = refl
   held-moves k (v ∷ below) = ap (option_map (field_narrowed k)) (kind-moves h k v)
 
@@ -109,7 +109,7 @@ module _ (h : ℕ → ℕ) where
 
   puts_static-moves : (p : Program) (r : Reference) (s : Shared) (l : Locals) (o : Operands) → puts_static p r s (moved_locals h l) (moved_operands h o) ≡ moved_done h (puts_static p r s l o)
   puts_static-moves p r s l o =
-      let held : Option Datum = held_of (kind_by r) o in
+      let held : Option Datum = field_held (kind_by r) o in
       refused-moves s (named_field p s.loaded true r) _ _ (field-fixed p s.loaded true r)
       (λ m. ready-moves h p (phase_of s m.class) m.class s (sets_static m held s l o) _
       (ap (λ d. sets_static m d s (moved_locals h l) (moved_operands h o)) (held-moves (kind_by r) o) ∙ sets_static-moves m held s l o))
@@ -290,8 +290,8 @@ module _ (h : ℕ → ℕ) where
   invokes_native-moves : (w : World) (m : MemberPlace) (args : List Datum) (s : Shared) (l : Locals) (o : Operands)
       → invokes_native w m args s (moved_locals h l) (moved_operands h o) ≡ moved_done h (invokes_native w m args s l o)
   invokes_native-moves w m args s l o =
-      chosen-moves h (nat_lt m.class (user_count w.program)) (done s (Raises unsatisfied_link None)) _ (runs_native w (reference_to w.program m) args s l o) _ refl
-      (runs_native-moves w (reference_to w.program m) args s l o)
+      chosen-moves h (nat_lt m.class (user_count w.program)) (done s (Raises unsatisfied_link None)) _ (runs_native w (method_reference w.program m) args s l o) _ refl
+      (runs_native-moves w (method_reference w.program m) args s l o)
 
   invokes_number-moves : (w : World) (m : MemberPlace) (n : Option ℕ) (args : List Datum) (s : Shared) (l : Locals) (o : Operands)
       → invokes_number w m n args s (moved_locals h l) (moved_operands h o) ≡ moved_done h (invokes_number w m n args s l o)

@@ -25,7 +25,7 @@ use Rattle.jvm_model.specs.Soundness.SoundListings.{IsSoundEntry, RunsOriginal}
 use Rattle.jvm_model.specs.Soundness.Climbing.{HasBareObject}
 use Rattle.jvm_model.proofs.Revealing.CalledSteps.{Has}
 use Rattle.jvm_model.proofs.Revealing.CalledRuns.{IsAt, StandsAt}
-use Rattle.jvm_model.specs.Soundness.Calls.{StandsAtPlace, is_end, places_of}
+use Rattle.jvm_model.specs.Soundness.Calls.{StandsAtPlace, is_code_end, places_of}
 use Rattle.jvm_model.specs.Profiling.Targets.{operations_of}
 
 module _ (bytes : List ℕ) where
@@ -84,7 +84,7 @@ module _ (bytes : List ℕ) where
           subst (λ k. is_start_in (read_from (length bytes) bytes 0) k ≡ true) (sym zero_is) (sized (length bytes) refl (ap (instruction_at bytes) (sym zero_is) ∙ found))
 
 -- of a method of a class
-reading-has : (c : ClassFile) (position at : ℕ) (i : Instruction) → (is_place c position at || is_end c position at) ≡ true → method_instruction c position at ≡ Some i
+reading-has : (c : ClassFile) (position at : ℕ) (i : Instruction) → (is_place c position at || is_code_end c position at) ≡ true → method_instruction c position at ≡ Some i
     → Has (filter_map (operation_of c) (method_reading c position)) i.operation
 reading-has c position at i place found = by (method_code c position) place found
   where
@@ -126,14 +126,14 @@ module _ (w : World) (fit : IsFit w.program) (bare : HasBareObject w.program) (m
       by (place_of_method w.program f.method) (ap (λ v. places_of w.program v f.place) (sym original_is) ∙ place_is) (ap (λ v. (original w.program).at v f.place) (sym original_is) ∙ found)
     where
       of : (o : Option ClassFile) (place : MethodPlace)
-          → unwrap_or (option_and_then (λ c. Some (is_place c place.position f.place || is_end c place.position f.place)) o) true ≡ true
+          → unwrap_or (option_and_then (λ c. Some (is_place c place.position f.place || is_code_end c place.position f.place)) o) true ≡ true
           → option_and_then (λ c. method_instruction c place.position f.place) o ≡ Some i
           → Has (unwrap_or (option_and_then (λ c. Some (filter_map (operation_of c) (method_reading c place.position))) o) []) i.operation
       of None place start e = absurd (none-some i e)
       of (Some c) place start e = reading-has c place.position f.place i start e
 
       by : (o : Option MethodPlace)
-          → unwrap_or (option_and_then (λ (place : MethodPlace). option_and_then (λ c. Some (is_place c place.position f.place || is_end c place.position f.place)) (class_at w.program place.class)) o) true ≡ true
+          → unwrap_or (option_and_then (λ (place : MethodPlace). option_and_then (λ c. Some (is_place c place.position f.place || is_code_end c place.position f.place)) (class_at w.program place.class)) o) true ≡ true
           → option_and_then (λ (place : MethodPlace). option_and_then (λ c. method_instruction c place.position f.place) (class_at w.program place.class)) o ≡ Some i
           → Has (unwrap_or (option_and_then (λ (place : MethodPlace). option_and_then (λ c. Some (filter_map (operation_of c) (method_reading c place.position))) (class_at w.program place.class)) o) []) i.operation
       by None start e = absurd (none-some i e)

@@ -6,7 +6,7 @@ use Rattle.jvm_model.specs.Basis.Data.{Entry, Active, Initializing, State, Turn,
 use Rattle.jvm_model.specs.Running.Applies.{still}
 use Rattle.jvm_model.specs.Running.Moves.{turn_settled}
 use Rattle.jvm_model.specs.Running.Run.{step, start}
-use Rattle.jvm_model.specs.Codes.Moved.{moved_locals, moved_operands, moved_frame, moved_stack, moved_turn, moved_instruction, moved_catcher, Agrees, at_homes}
+use Rattle.jvm_model.specs.Codes.Moved.{moved_locals, moved_operands, moved_frame, moved_stack, moved_turn, moved_instruction, moved_catcher, IsMovedListing, at_homes}
 use Rattle.jvm_model.specs.Rewriting.StandsForRun.{listing_named, versions_forgotten, norm_by, StandsFor, IsOfVersions, KeepVersions}
 use Rattle.jvm_model.proofs.Relocated.StepMoves.{settled-moves, settled-placed, step-moves, step-placed, start-moves, start-placed}
 
@@ -23,9 +23,9 @@ same-handlers : (hs : List Catcher) → hs ≡ map (moved_catcher (λ place. pla
 same-handlers [] = refl
 same-handlers (h ∷ hs) = ap (λ (l : List Catcher). h ∷ l) (same-handlers hs)
 
-module _ (norm : ℕ → ℕ → ℕ) (w : World) (t : Listing) (own : Agrees norm (at_homes norm) t t) (method_of current : ℕ → ℕ) where
+module _ (norm : ℕ → ℕ → ℕ) (w : World) (t : Listing) (own : IsMovedListing norm (at_homes norm) t t) (method_of current : ℕ → ℕ) where
   -- the original code under versions is placed where the original is
-  pub named-own : Agrees (norm_by method_of norm) (at_homes (norm_by method_of norm)) (listing_named method_of current t) (listing_named method_of current t)
+  pub named-own : IsMovedListing (norm_by method_of norm) (at_homes (norm_by method_of norm)) (listing_named method_of current t) (listing_named method_of current t)
   named-own = record {
     current = λ k. refl;
     first = λ v. own.first (method_of v);
@@ -36,7 +36,7 @@ module _ (norm : ℕ → ℕ → ℕ) (w : World) (t : Listing) (own : Agrees no
   }
 
   -- and without them it is the original
-  pub named-original : ((k : ℕ) → t.current k ≡ method_of (current k)) → Agrees (norm_by method_of norm) (versions_forgotten method_of) (listing_named method_of current t) t
+  pub named-original : ((k : ℕ) → t.current k ≡ method_of (current k)) → IsMovedListing (norm_by method_of norm) (versions_forgotten method_of) (listing_named method_of current t) t
   named-original begins = record {
     current = begins;
     first = λ v. refl;

@@ -9,8 +9,8 @@ use Rattle.jvm_model.specs.Instructions.Does.{does, loads}
 use Rattle.jvm_model.specs.Classes.Load.{Fault}
 use Rattle.jvm_model.specs.Running.Applies.{still, applies}
 use Rattle.jvm_model.specs.Running.Moves.{move, moves_left, then_turn, settles, turn_settled}
-use Rattle.jvm_model.specs.Running.Run.{tries, attempt, starts, is_ready, is_quiet, goes_on, goes_again, steps_by, with_loaded, loaded_turn, steps_at, steps_on, step, before, arguments_made, main_loading, main_classes, main_loads, starts_unless, run_opened, starts_if, starts_with, start, turn_in, turn_in-zero, turn_in-suc}
-use Rattle.jvm_model.specs.Codes.Moved.{Moving, moved_locals, moved_operands, moved_outcome, moved_done, moved_frame, moved_stack, state_moved, moved_turn, moved_instruction, IsPlace, ArePlaces, Agrees, at_homes, IsPlaced}
+use Rattle.jvm_model.specs.Running.Run.{tries, attempt, starts, is_ready, has_no_changes, is_going_on, goes_again, steps_by, with_classes_loaded, loaded_turn, steps_at, steps_on, step, before, arguments_made, main_loading, main_classes, main_loads, starts_unless, run_opened, starts_if, starts_with, start, turn_in, turn_in-zero, turn_in-suc}
+use Rattle.jvm_model.specs.Codes.Moved.{Moving, moved_locals, moved_operands, moved_outcome, moved_done, moved_frame, moved_stack, state_moved, moved_turn, moved_instruction, IsPlace, ArePlaces, IsMovedListing, at_homes, IsPlaced}
 use Rattle.jvm_model.proofs.Running.Operations.{does-moves, loads-moves}
 use Rattle.jvm_model.proofs.Relocated.AppliesMoves.{applies-moves, chosen_turn-moves}
 use Rattle.jvm_model.proofs.Relocated.MovesMove.{move-moves, left-moves}
@@ -38,7 +38,7 @@ module _ (norm : ℕ → ℕ → ℕ) where
   placed-places (Active f ∷ below) e = (ap (top_place 0) e, placed-places below (ap tail_of e))
   placed-places (Initializing c part ∷ below) e = placed-places below (ap tail_of e)
 
-  loaded-placed : (classes : List ℕ) (s : State) → IsPlaced norm s → IsPlaced norm (with_loaded classes s)
+  loaded-placed : (classes : List ℕ) (s : State) → IsPlaced norm s → IsPlaced norm (with_classes_loaded classes s)
   loaded-placed [] s e = e
   loaded-placed (c ∷ more) s e = e
 
@@ -54,7 +54,7 @@ module _ (norm : ℕ → ℕ → ℕ) where
 pub done-placed : (h : ℕ → ℕ) (w : World) (op : Operation Local) (s : Shared) (l : Locals) (o : Operands) → moved_locals h l ≡ l → moved_operands h o ≡ o → moved_done h (does w op s l o) ≡ does w op s l o
 done-placed h w op s l o ls os = sym (does-moves h w op s l o) ∙ (ap (λ x. does w op s x (moved_operands h o)) ls ∙ ap (does w op s l) os)
 
-module _ (norm : ℕ → ℕ → ℕ) (w : World) (t : Listing) (own : Agrees norm (at_homes norm) t t) where
+module _ (norm : ℕ → ℕ → ℕ) (w : World) (t : Listing) (own : IsMovedListing norm (at_homes norm) t t) where
   -- what a move of a placed state gives is placed
   pub next-placed : (s : State) (next : Turn) → IsPlaced norm s → move w t s ≡ Some next → IsPlaced norm next.after
   next-placed s next placed e =
@@ -75,7 +75,7 @@ module _ (norm : ℕ → ℕ → ℕ) (w : World) (t : Listing) (own : Agrees no
       ∙ ap (applies w t i outcome s) at.frame)) in
       ap (λ (a : Turn). a.after.stack) (sym law ∙ here)
 
-  module _ (m : Moving) (u : Listing) (agrees : Agrees norm m t u) where
+  module _ (m : Moving) (u : Listing) (agrees : IsMovedListing norm m t u) where
     -- ---- the moves
 
     settles_on-moves : (n : ℕ) → ((a : Turn) → IsPlaced norm a.after → settles w u n (moved_turn m a) ≡ moved_turn m (settles w t n a))
@@ -120,7 +120,7 @@ module _ (norm : ℕ → ℕ → ℕ) (w : World) (t : Listing) (own : Agrees no
     again-moves i s f at None a = refl
     again-moves i s f at (Some c) a =
         let s' : State = record a.after { stack = s.stack } in
-        chosen_turn-moves w m (is_quiet a.changes && is_ready (phase_of a.after.shared c) && goes_on a.after.ending a.after.thrown) (then_turn a (attempt w t i s' f)) _ a _
+        chosen_turn-moves w m (has_no_changes a.changes && is_ready (phase_of a.after.shared c) && is_going_on a.after.ending a.after.thrown) (then_turn a (attempt w t i s' f)) _ a _
         (ap (then_turn (moved_turn m a)) (attempt-moves i s' f (record { below = at.below; frame = at.frame; instruction = at.instruction })))
         refl
 
@@ -139,7 +139,7 @@ module _ (norm : ℕ → ℕ → ℕ) (w : World) (t : Listing) (own : Agrees no
 
     -- ---- a step
 
-    loaded-moves : (classes : List ℕ) (s : State) → with_loaded classes (state_moved m s) ≡ state_moved m (with_loaded classes s)
+    loaded-moves : (classes : List ℕ) (s : State) → with_classes_loaded classes (state_moved m s) ≡ state_moved m (with_classes_loaded classes s)
     loaded-moves [] s = refl
     loaded-moves (c ∷ more) s = refl
 
@@ -154,10 +154,10 @@ module _ (norm : ℕ → ℕ → ℕ) (w : World) (t : Listing) (own : Agrees no
         let j : Instruction = moved_instruction (m.home f.version) i in
         let g : Frame = moved_frame m f in
         let classes : List ℕ = loads w i.operation s.shared f.operands in
-        let ready : State = with_loaded classes s in
+        let ready : State = with_classes_loaded classes s in
         let at : IsReadyAt norm i ready f = record { below = loaded-placed norm classes s below; frame = frame; instruction = same_Some _ _ fixed } in
         let stepped : State → Turn = λ s'. steps_by w u j s' g (does w i.operation s'.shared g.locals g.operands) in
-        ap (λ cs. loaded_turn cs (stepped (with_loaded cs (state_moved m s)))) (loads-moves (m.home f.version) w i.operation s.shared f.operands)
+        ap (λ cs. loaded_turn cs (stepped (with_classes_loaded cs (state_moved m s)))) (loads-moves (m.home f.version) w i.operation s.shared f.operands)
         ∙ (ap (λ s'. loaded_turn classes (stepped s')) (loaded-moves classes s)
         ∙ (ap (loaded_turn classes) (steps_by-moves i ready f at)
         ∙ loaded_turn-moves classes (steps_by w t i ready f (does w i.operation ready.shared f.locals f.operands))))
@@ -176,16 +176,16 @@ module _ (norm : ℕ → ℕ → ℕ) (w : World) (t : Listing) (own : Agrees no
 
 -- ---- a step elsewhere is the step, and leaves a placed state
 
-pub step-moves : (norm : ℕ → ℕ → ℕ) (w : World) (m : Moving) (t u : Listing) → Agrees norm (at_homes norm) t t → Agrees norm m t u → (s : State) → IsPlaced norm s
+pub step-moves : (norm : ℕ → ℕ → ℕ) (w : World) (m : Moving) (t u : Listing) → IsMovedListing norm (at_homes norm) t t → IsMovedListing norm m t u → (s : State) → IsPlaced norm s
     → step w u (state_moved m s) ≡ moved_turn m (step w t s)
 step-moves norm w m t u own agrees s placed = steps_on-moves norm w t own m u agrees s s.ending s.stack placed
 
-pub settled-placed : (norm : ℕ → ℕ → ℕ) (w : World) (t : Listing) → Agrees norm (at_homes norm) t t → (a : Turn) → IsPlaced norm a.after → IsPlaced norm (turn_settled w t a).after
+pub settled-placed : (norm : ℕ → ℕ → ℕ) (w : World) (t : Listing) → IsMovedListing norm (at_homes norm) t t → (a : Turn) → IsPlaced norm a.after → IsPlaced norm (turn_settled w t a).after
 settled-placed norm w t own a placed =
     ap (λ (b : Turn). b.after.stack) (sym (settled-moves norm w t own (at_homes norm) t own a placed)
     ∙ ap (λ s. turn_settled w t (record a { after = s })) (placed-state norm a.after placed))
 
-pub step-placed : (norm : ℕ → ℕ → ℕ) (w : World) (t : Listing) → Agrees norm (at_homes norm) t t → (s : State) → IsPlaced norm s → IsPlaced norm (step w t s).after
+pub step-placed : (norm : ℕ → ℕ → ℕ) (w : World) (t : Listing) → IsMovedListing norm (at_homes norm) t t → (s : State) → IsPlaced norm s → IsPlaced norm (step w t s).after
 step-placed norm w t own s placed =
     ap (λ (a : Turn). a.after.stack) (sym (step-moves norm w (at_homes norm) t t own own s placed) ∙ ap (step w t) (placed-state norm s placed))
 
@@ -197,7 +197,7 @@ module _ (m : Moving) (w : World) where
   unless-still (Some fault) s still = ap (λ stack. record (starts_unless w (Some fault) s) { stack = stack }) still
   unless-still None s still = refl
 
-  loaded-still : (classes : List ℕ) (s : State) → moved_stack m s.stack ≡ s.stack → moved_stack m (with_loaded classes s).stack ≡ (with_loaded classes s).stack
+  loaded-still : (classes : List ℕ) (s : State) → moved_stack m s.stack ≡ s.stack → moved_stack m (with_classes_loaded classes s).stack ≡ (with_classes_loaded classes s).stack
   loaded-still [] s still = still
   loaded-still (c ∷ more) s still = still
 
@@ -208,7 +208,7 @@ module _ (m : Moving) (w : World) where
   pub starts-still : state_moved m (starts_with w) ≡ starts_with w
   starts-still = if-still (arguments_fit w.program)
 
-pub start-moves : (norm : ℕ → ℕ → ℕ) (w : World) (m : Moving) (t u : Listing) → Agrees norm (at_homes norm) t t → Agrees norm m t u → start w u ≡ moved_turn m (start w t)
+pub start-moves : (norm : ℕ → ℕ → ℕ) (w : World) (m : Moving) (t u : Listing) → IsMovedListing norm (at_homes norm) t t → IsMovedListing norm m t u → start w u ≡ moved_turn m (start w t)
 start-moves norm w m t u own agrees =
     let classes : List ℕ = main_loads w in
     let begun : Turn = still (starts_with w) in
@@ -216,17 +216,17 @@ start-moves norm w m t u own agrees =
     ∙ (ap (loaded_turn classes) (settled-moves norm w t own m u agrees begun (ap (λ (s : State). s.stack) (starts-still (at_homes norm) w)))
     ∙ loaded_turn-moves norm w t own m u agrees classes (turn_settled w t begun))
 
-pub start-placed : (norm : ℕ → ℕ → ℕ) (w : World) (t : Listing) → Agrees norm (at_homes norm) t t → IsPlaced norm (start w t).after
+pub start-placed : (norm : ℕ → ℕ → ℕ) (w : World) (t : Listing) → IsMovedListing norm (at_homes norm) t t → IsPlaced norm (start w t).after
 start-placed norm w t own = sym (ap (λ (a : Turn). a.after.stack) (start-moves norm w (at_homes norm) t t own own))
 
 -- ---- and of the run
 
-pub turn_in-placed : (norm : ℕ → ℕ → ℕ) (w : World) (t : Listing) → Agrees norm (at_homes norm) t t → (n : ℕ) → IsPlaced norm (turn_in w t n).after
+pub turn_in-placed : (norm : ℕ → ℕ → ℕ) (w : World) (t : Listing) → IsMovedListing norm (at_homes norm) t t → (n : ℕ) → IsPlaced norm (turn_in w t n).after
 turn_in-placed norm w t own zero = subst (λ (a : Turn). IsPlaced norm a.after) (sym (turn_in-zero w t)) (start-placed norm w t own)
 turn_in-placed norm w t own (suc n) =
     subst (λ (a : Turn). IsPlaced norm a.after) (sym (turn_in-suc w t n)) (step-placed norm w t own (turn_in w t n).after (turn_in-placed norm w t own n))
 
-pub turn_in-moves : (norm : ℕ → ℕ → ℕ) (w : World) (m : Moving) (t u : Listing) → Agrees norm (at_homes norm) t t → Agrees norm m t u → (n : ℕ) → turn_in w u n ≡ moved_turn m (turn_in w t n)
+pub turn_in-moves : (norm : ℕ → ℕ → ℕ) (w : World) (m : Moving) (t u : Listing) → IsMovedListing norm (at_homes norm) t t → IsMovedListing norm m t u → (n : ℕ) → turn_in w u n ≡ moved_turn m (turn_in w t n)
 turn_in-moves norm w m t u own agrees zero = turn_in-zero w u ∙ (start-moves norm w m t u own agrees ∙ ap (moved_turn m) (sym (turn_in-zero w t)))
 turn_in-moves norm w m t u own agrees (suc n) =
     turn_in-suc w u n

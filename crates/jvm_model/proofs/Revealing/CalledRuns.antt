@@ -11,7 +11,7 @@ use Rattle.frame_stack.specs.Widths.{height_of}
 use Rattle.jvm_model.specs.Basis.Data.{Ending, MethodPlace, Program, Frame, Entry, Active, Initializing, Part, Constants, Superclass, Initializer, Finish, Phase, Fresh, Running, Ready, Erroneous, Shared, State, Locals, Operands, Change, Loads, Began, Left, Unwound, Turn, Instruction, Listing, Local, Operation, Done, World}
 use Rattle.jvm_model.specs.Basis.Data as operation
 use Rattle.jvm_model.specs.Running.Applies.{still, with_frame, breaks, goes, new_frame, has_room, live_in, most_live, applies}
-use Rattle.jvm_model.specs.Running.Changes.{methods, without_first, after_changes, EndThenBegin, AreOrdered}
+use Rattle.jvm_model.specs.Running.Changes.{methods, without_first, methods_after_changes, EndThenBegin, AreOrdered}
 use Rattle.jvm_model.specs.Instructions.Does.{does, loads}
 use Rattle.jvm_model.specs.Classes.Load.{Fault, error_of, is_among}
 use Rattle.jvm_model.specs.Classes.Lookup.{supertypes}
@@ -19,7 +19,7 @@ use Rattle.jvm_model.specs.Running.Moves.{after_super, argument_array, at_part, 
 use Rattle.jvm_model.specs.Instructions.SymbolicReference.{message_of, newly_loaded}
 use Rattle.jvm_model.specs.Codes.Originals.{original}
 use Rattle.jvm_model.specs.Basis.Programs.{initializer_of, place_of_method, super_of}
-use Rattle.jvm_model.specs.Running.Run.{arguments_made, attempt, before, is_quiet, loaded_turn, loads_if, main_class, main_classes, main_loading, main_loads, run_opened, run, start, starts, starts_if, starts_unless, starts_with, step, steps_at, steps_by, steps_on, turn, turn_in-zero, turn_in-suc, with_loaded}
+use Rattle.jvm_model.specs.Running.Run.{arguments_made, attempt, before, has_no_changes, loaded_turn, loads_if, main_class, main_classes, main_loading, main_loads, run_opened, run, start, starts, starts_if, starts_unless, starts_with, step, steps_at, steps_by, steps_on, turn, turn_in-zero, turn_in-suc, with_classes_loaded}
 use Rattle.jvm_model.specs.Basis.SharedState.{arguments_fit, class_of, null, phase_of}
 use Rattle.jvm_model.specs.Soundness.Sound.{CanAttempt, HasClass, HasSupertypes, IsFit, IsLoaded, IsSoundOutcome}
 use Rattle.jvm_model.specs.Soundness.SoundListings.{IsSound, IsSoundEntry, RunsOriginal}
@@ -118,7 +118,7 @@ module _ (w : World) (fit : IsFit w.program) (bare : HasBareObject w.program) (c
       by (operation.StoreElement k) = refl
       by (operation.LdcString units) = refl
 
-  quiet-same : (ms : List ℕ) (changes : List Change) → is_quiet changes ≡ true → after_changes ms changes ≡ ms
+  quiet-same : (ms : List ℕ) (changes : List Change) → has_no_changes changes ≡ true → methods_after_changes ms changes ≡ ms
   quiet-same ms [] e = refl
   quiet-same ms (c ∷ more) e = absurd (false≢true e)
 
@@ -208,7 +208,7 @@ module _ (w : World) (fit : IsFit w.program) (bare : HasBareObject w.program) (c
   at-step s f None is entry e at due climbs = still-step s (breaks s f 0) refl due (f.method ∷ methods s.stack)
   at-step s f (Some i) is entry e at due climbs =
       let classes = loads w i.operation s.shared f.operands in
-      let ready : State = with_loaded classes s in
+      let ready : State = with_classes_loaded classes s in
       let turn : Turn = steps_by w t i ready f (does w i.operation ready.shared f.locals f.operands) in
       let whole : ready.shared.loaded ≡ s.shared.loaded ++ classes = with-loaded-is classes s in
       let stack_same : ready.stack ≡ s.stack = ap (λ (x : State). x.stack) (with_loaded-shared classes s) in
@@ -404,7 +404,7 @@ module _ (w : World) (fit : IsFit w.program) (bare : HasBareObject w.program) (c
       by None e some = absurd (false≢true some)
       by (Some place) e some = has place e
 
-  end-called : (loaded ms : List ℕ) (changes : List Change) → EndThenBegin changes → Targeted p code loaded ms changes → Placed p changes → Have loaded (after_changes ms changes)
+  end-called : (loaded ms : List ℕ) (changes : List Change) → EndThenBegin changes → Targeted p code loaded ms changes → Placed p changes → Have loaded (methods_after_changes ms changes)
       → AreCalled p code loaded ms changes
   end-called loaded ms [] order targets placed have = tt
   end-called loaded ms (Left ∷ more) order targets placed have = end-called loaded (without_first ms) more order targets placed have
@@ -413,7 +413,7 @@ module _ (w : World) (fit : IsFit w.program) (bare : HasBareObject w.program) (c
   end-called loaded ms (Began m ∷ c ∷ more) order targets placed have = absurd order
   end-called loaded ms (Loads classes ∷ more) order targets placed have = absurd order
 
-  are-called : (loaded ms : List ℕ) (changes : List Change) → AreOrdered changes → Targeted p code loaded ms changes → Placed p changes → Have loaded (after_changes ms changes)
+  are-called : (loaded ms : List ℕ) (changes : List Change) → AreOrdered changes → Targeted p code loaded ms changes → Placed p changes → Have loaded (methods_after_changes ms changes)
       → AreCalled p code loaded ms changes
   are-called loaded ms (Loads classes ∷ more) order targets placed have = end-called loaded ms more order targets placed have
   are-called loaded ms [] order targets placed have = tt
@@ -435,7 +435,7 @@ module _ (w : World) (fit : IsFit w.program) (bare : HasBareObject w.program) (c
         (step-calls (run w n) (run-sound n) (stands.at n) was.due
         (subst (λ (a : Turn). Climbs p a.after.shared.loaded) (turn_in-suc w t n) (stands.climbs (suc n))))
 
-    methods-next : (n : ℕ) → methods (run w n).stack ≡ after_changes (methods_before w n) (turn w n).changes
+    methods-next : (n : ℕ) → methods (run w n).stack ≡ methods_after_changes (methods_before w n) (turn w n).changes
     methods-next zero = run-tells-first w t
     methods-next (suc n) = run-tells w t n
 

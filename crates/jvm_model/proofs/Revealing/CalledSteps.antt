@@ -9,7 +9,7 @@ use Rattle.heap_objects.specs.declared.Value.TheVariants.{Ref, Addr}
 use Rattle.frame_stack.specs.Widths.{height_of}
 use Rattle.jvm_model.specs.Basis.Data.{Ending, Program, Frame, Entry, Active, Initializing, Part, Constants, Superclass, Initializer, Finish, Phase, Fresh, Running, Ready, Erroneous, State, Locals, Operands, Change, Loads, Began, Left, Unwound, Turn, Instruction, Listing, Local, Operation, Outcome, GoesOn, Subroutine, Invokes, Returns, Throws, Raises, Initializes, Exits, Breaks, World}
 use Rattle.jvm_model.specs.Running.Applies.{still, with_frame, breaks, goes, new_frame, place_of, enters_subroutine, has_room, live_in, most_live, begins, begins_beside, resumes, gives_back, applies}
-use Rattle.jvm_model.specs.Running.Changes.{methods, without_first, after_changes}
+use Rattle.jvm_model.specs.Running.Changes.{methods, without_first, methods_after_changes}
 use Rattle.jvm_model.specs.Classes.Load.{is_among}
 use Rattle.jvm_model.specs.Running.Moves.{after_super, argument_array, at_part, throw_caught, handler_for, initializes, main_or_end, moves, own_at, runs_initializer, then_turn, with_super}
 use Rattle.jvm_model.specs.Codes.Originals.{original}
@@ -70,7 +70,7 @@ Placed p (Began m ∷ more) = (is_some (place_of_method p m) ≡ true) × Placed
 Placed p (Left ∷ more) = Placed p more
 Placed p (Unwound ∷ more) = Placed p more
 
-targeted-append : (p : Program) (code : ℕ → List (Operation Local)) (loaded ms : List ℕ) (a b : List Change) → Targeted p code loaded ms a → Targeted p code loaded (after_changes ms a) b
+targeted-append : (p : Program) (code : ℕ → List (Operation Local)) (loaded ms : List ℕ) (a b : List Change) → Targeted p code loaded ms a → Targeted p code loaded (methods_after_changes ms a) b
     → Targeted p code loaded ms (a ++ b)
 targeted-append p code loaded ms [] b first second = second
 targeted-append p code loaded ms (Loads classes ∷ more) b first second = targeted-append p code loaded ms more b first second

@@ -13,7 +13,7 @@ use Rattle.const_pool.specs.declared.class.ClassFile.{ClassFile}
 use Rattle.const_pool.specs.References.{NameAndType}
 use Rattle.jvm_model.specs.Basis.Data.{MethodPlace, Program, Outcome}
 use Rattle.jvm_model.specs.Basis.KindNumbers.{base_of_class, class_of_base, kind_number, kind_parts, user_count}
-use Rattle.jvm_model.specs.Classes.Kinds.{Element, Named, Meaning, array_from, array_of, base_of_element, element_of, is_above_arrays, is_subbase, is_subbase_of, is_subkind, kind_named, meaning_of, parts_named}
+use Rattle.jvm_model.specs.Classes.Kinds.{Element, Named, Meaning, array_from, array_meaning, base_of_element, element_of, is_above_arrays, is_subbase, is_subbase_of, is_subkind, kind_named, meaning_of, parts_named}
 use Rattle.jvm_model.specs.Classes.Load.{is_among, load_of}
 use Rattle.jvm_model.specs.Classes.Lookup.{MemberPlace, Found, Fails, first_in, field_at, found_or, incompatible_change, is_interface, is_subtype, method_at, resolved_field, resolved_method, superclasses, superclasses_within, superinterfaces, superinterfaces_within, supertypes, supertypes_within, superclass_of}
 use Rattle.jvm_model.specs.Instructions.SymbolicReference.{member_found}
@@ -92,33 +92,33 @@ array-deep : (deep : ℕ) (name : List ℕ) (m : Meaning) → array_from deep na
 array-deep deep [] m e = absurd (none-some m e)
 array-deep deep (unit ∷ rest) m e = by (unit == 91) e (array-deep (deep + 1) rest m)
   where
-    of : (o : Option Element) → option_map (array_of deep) o ≡ Some m → deep ≤ m.dimensions
+    of : (o : Option Element) → option_map (array_meaning deep) o ≡ Some m → deep ≤ m.dimensions
     of None e = absurd (none-some m e)
-    of (Some element) e = let same : deep ≡ m.dimensions = ap (λ (x : Meaning). x.dimensions) (same_Some (array_of deep element) m e) in omega (arith, same)
+    of (Some element) e = let same : deep ≡ m.dimensions = ap (λ (x : Meaning). x.dimensions) (same_Some (array_meaning deep element) m e) in omega (arith, same)
 
-    by-deep : (b : Bool) → (if b then option_map (array_of deep) (element_of (unit ∷ rest)) else None) ≡ Some m → deep ≤ m.dimensions
+    by-deep : (b : Bool) → (if b then option_map (array_meaning deep) (element_of (unit ∷ rest)) else None) ≡ Some m → deep ≤ m.dimensions
     by-deep true e = of (element_of (unit ∷ rest)) e
     by-deep false e = absurd (none-some m e)
 
-    by : (b : Bool) → (if b then array_from (deep + 1) rest else if nat_le deep 255 then option_map (array_of deep) (element_of (unit ∷ rest)) else None) ≡ Some m
+    by : (b : Bool) → (if b then array_from (deep + 1) rest else if nat_le deep 255 then option_map (array_meaning deep) (element_of (unit ∷ rest)) else None) ≡ Some m
         → (array_from (deep + 1) rest ≡ Some m → deep + 1 ≤ m.dimensions) → deep ≤ m.dimensions
     by true e further = let more = further e in omega (arith, more)
     by false e further = by-deep (nat_le deep 255) e
 
 -- a class's own name, or one of an array
 data Means (name : List ℕ) (m : Meaning) : Type 0 where
-  own : m ≡ array_of 0 (Named name) → Means name m
+  own : m ≡ array_meaning 0 (Named name) → Means name m
   deeper : 1 ≤ m.dimensions → Means name m
 
 means : (name : List ℕ) → Means name (meaning_of name)
 means [] = own refl
 means (unit ∷ rest) = by (unit == 91) refl
   where
-    array : (o : Option Meaning) → array_from 1 rest ≡ o → Means (unit ∷ rest) (unwrap_or o (array_of 0 (Named (unit ∷ rest))))
+    array : (o : Option Meaning) → array_from 1 rest ≡ o → Means (unit ∷ rest) (unwrap_or o (array_meaning 0 (Named (unit ∷ rest))))
     array None e = own refl
     array (Some m) e = deeper (array-deep 1 rest m e)
 
-    by : (b : Bool) → (unit == 91) ≡ b → Means (unit ∷ rest) (if b then unwrap_or (if b then array_from 1 rest else if nat_le 0 255 then option_map (array_of 0) (element_of (unit ∷ rest)) else None) (array_of 0 (Named (unit ∷ rest))) else array_of 0 (Named (unit ∷ rest)))
+    by : (b : Bool) → (unit == 91) ≡ b → Means (unit ∷ rest) (if b then unwrap_or (if b then array_from 1 rest else if nat_le 0 255 then option_map (array_meaning 0) (element_of (unit ∷ rest)) else None) (array_meaning 0 (Named (unit ∷ rest))) else array_meaning 0 (Named (unit ∷ rest)))
     by true e = array (array_from 1 rest) refl
     by false e = own refl
 
@@ -140,7 +140,7 @@ module _ (p : Program) (fit : IsFit p) where
         → loaded_class_named p loaded name ≡ Some class → Names loaded name kind
     of_array : 16777216 ≤ kind → class_of_kind p kind ≡ user_count p → is_array_type name ≡ true → Names loaded name kind
 
-  own-names : (loaded name : List ℕ) (kind : ℕ) → meaning_of name ≡ array_of 0 (Named name)
+  own-names : (loaded name : List ℕ) (kind : ℕ) → meaning_of name ≡ array_meaning 0 (Named name)
       → ((class : ℕ) → class_named p name ≡ Some class → IsLoaded loaded class) → kind_named p name ≡ Some kind → Names loaded name kind
   own-names loaded name kind plain there named = by (class_named p name) refl (sym (ap (λ m. option_map kind_number (parts_named p m)) plain) ∙ named)
     where

@@ -25,8 +25,8 @@ use Rattle.jvm_model.specs.Basis.Data.{Program, Phase, Fresh, Running, Ready, Er
 use Rattle.jvm_model.specs.Basis.Values.{as_value, int_of, ref_of}
 use Rattle.jvm_model.specs.Basis.Data as operation
 use Rattle.jvm_model.specs.Instructions.CreationRules.{allocates, answers, array_over, casts, casts_to, class_cast, counts_of, has_no_instances, instantiation_error, is_text_class, lengths_of, makes_arrays, makes_by_counts, makes_instance, makes_multi, makes_new, makes_object, slots_of_arrays, tells_instance, with_arrays, zero_of}
-use Rattle.jvm_model.specs.Instructions.FieldRules.{Putting, field_owner, gets_instance, gets_of, gets_static, has_field, puts_instance, puts_into, putting_of, slot_of, held_of, is_static_field, kind_by, named_field, pushes_static, puts_static, sets_static, static_field}
-use Rattle.jvm_model.specs.Instructions.InvocationRules.{Selecting, Virtual, OfInterface, Special, abstract_method, arguments_by, invokes_instance, invokes_number, invokes_on, invokes_selected, invokes_static_method, invokes_with_static, named_method, names_interface, not_of_class, receiver_in, reference_to, selected_by, unsatisfied_link}
+use Rattle.jvm_model.specs.Instructions.FieldRules.{Putting, field_owner, gets_instance, gets_of, gets_static, has_field, puts_instance, puts_into, putting_of, slot_of, field_held, is_static_field, kind_by, named_field, pushes_static, puts_static, sets_static, static_field}
+use Rattle.jvm_model.specs.Instructions.InvocationRules.{Selecting, Virtual, OfInterface, Special, abstract_method, arguments_by, invokes_instance, invokes_number, invokes_on, invokes_selected, invokes_static_method, invokes_with_static, named_method, names_interface, not_of_class, receiver_in, method_reference, selected_by, unsatisfied_link}
 use Rattle.jvm_model.specs.Basis.KindNumbers.{kind_parts, user_count}
 use Rattle.jvm_model.specs.Classes.Kinds.{Named, is_subkind, kind_named}
 use Rattle.jvm_model.specs.Classes.Load.{Fault, is_among, load_of}
@@ -221,8 +221,8 @@ module _ (w : World) (fit : IsFit w.program) (s : Shared) (is : IsSoundShared w.
   put-static-due : (r : Reference) (l : Locals) (o : Operands) → Whole r.class → Due (begun_by p s.loaded (Putstatic r)) (puts_static p r s l o)
   put-static-due r l o whole =
       let ms = begun_by p s.loaded (Putstatic r) in
-      unless-due (IsField r) ms (named_field p s.loaded true r) (λ m. class_initialized p m.class s (sets_static m (held_of (kind_by r) o) s l o)) (field-good r whole)
-      (λ m field. initialized-due ms m.class (sets_static m (held_of (kind_by r) o) s l o) (field-due r m field) (by ms m (held_of (kind_by r) o)))
+      unless-due (IsField r) ms (named_field p s.loaded true r) (λ m. class_initialized p m.class s (sets_static m (field_held (kind_by r) o) s l o)) (field-good r whole)
+      (λ m field. initialized-due ms m.class (sets_static m (field_held (kind_by r) o) s l o) (field-due r m field) (by ms m (field_held (kind_by r) o)))
     where
       by : (ms : List ℕ) (m : MemberPlace) (d : Option Datum) → Due ms (sets_static m d s l o)
       by ms m None = tt
@@ -255,8 +255,8 @@ module _ (w : World) (fit : IsFit w.program) (s : Shared) (is : IsSoundShared w.
       → ((n : ℕ) → o ≡ Some n → (is_among n ms ≡ true) × (is_some (place_of_method p n) ≡ true)) → Due ms (invokes_number w m o args s l below)
   number-due ms m (Some n) args l below there = there n refl
   number-due ms m None args l below there =
-      chosen ms (nat_lt m.class (user_count p)) (done s (Raises unsatisfied_link None)) (runs_native w (reference_to p m) args s l below) tt
-      (native-due ms (reference_to p m) args l below)
+      chosen ms (nat_lt m.class (user_count p)) (done s (Raises unsatisfied_link None)) (runs_native w (method_reference p m) args s l below) tt
+      (native-due ms (method_reference p m) args l below)
 
   selected-due : (ms : List ℕ) (o : Option MemberPlace) (args : List Datum) (l : Locals) (below : Operands)
       → ((n : ℕ) → is_among n (method_coded p o) ≡ true → is_among n ms ≡ true) → Due ms (invokes_selected w o args s l below)

@@ -15,7 +15,7 @@ use Rattle.jvm_model.specs.Basis.SharedState.{phase_of, class_of}
 use Rattle.jvm_model.specs.Instructions.Does.{does, loads}
 use Rattle.jvm_model.specs.Running.Applies.{still, goes, place_of, enters_subroutine, has_room, live_in, most_live, begins_beside, resumes, gives_back, applies}
 use Rattle.jvm_model.specs.Running.Moves.{handler_for, own_at, throw_caught, after_super, with_super, runs_initializer, argument_array, main_or_end, moves, move, turn_settled}
-use Rattle.jvm_model.specs.Running.Run.{attempt, starts, with_loaded, steps_by, steps_at, steps_on, step, turn_in, turn_in-suc}
+use Rattle.jvm_model.specs.Running.Run.{attempt, starts, with_classes_loaded, steps_by, steps_at, steps_on, step, turn_in, turn_in-suc}
 use Rattle.jvm_model.specs.Running.Growth.{Extends}
 use Rattle.jvm_model.proofs.Running.Settles.{settled-keeps}
 use Rattle.jvm_model.proofs.Running.Attempts.{again-by, with_loaded-shared, loaded-after}
@@ -137,7 +137,7 @@ at-grows : (w : World) (t : Listing) (s : State) (f : Frame) (found : Option Ins
 at-grows w t s f None = Extends-same s.output
 at-grows w t s f (Some i) =
     let classes = loads w i.operation s.shared f.operands in
-    let ready = with_loaded classes s in
+    let ready = with_classes_loaded classes s in
     let turn = steps_by w t i ready f (does w i.operation ready.shared f.locals f.operands) in
     let same : ready.output ≡ s.output = ap (λ (x : State). x.output) (with_loaded-shared classes s) in
     subst (λ (x : State). Extends s.output x.output) (sym (loaded-after classes turn)) (subst (λ old. Extends old turn.after.output) same (by-grows w t i ready f))

@@ -37,8 +37,8 @@ use Rattle.native_effects.specs.Effects.Making.{answer_of_class}
 use Rattle.jvm_model.specs.Running.Constants.{can_intern}
 use Rattle.jvm_model.specs.Instructions.ConstantRules.{pushes_string, pushes_object_of}
 use Rattle.jvm_model.specs.Instructions.CreationRules.{allocates, answers, array_over, casts_to, class_cast, counts_of, has_no_instances, instantiation_error, is_text_class, lengths_of, makes_arrays, makes_by_counts, makes_instance, makes_object, slots_of_arrays, with_arrays, zero_of}
-use Rattle.jvm_model.specs.Instructions.FieldRules.{Putting, field_owner, gets_of, has_field, held_of, is_static_field, kind_by, named_field, pushes_static, puts_into, putting_of, sets_static, slot_of, static_field}
-use Rattle.jvm_model.specs.Instructions.InvocationRules.{Selecting, Virtual, OfInterface, Special, abstract_method, arguments_by, invokes_instance, invokes_native, invokes_number, invokes_on, invokes_selected, invokes_with_static, named_method, names_interface, not_of_class, receiver_in, reference_to, selected_by, unsatisfied_link}
+use Rattle.jvm_model.specs.Instructions.FieldRules.{Putting, field_owner, gets_of, has_field, field_held, is_static_field, kind_by, named_field, pushes_static, puts_into, putting_of, sets_static, slot_of, static_field}
+use Rattle.jvm_model.specs.Instructions.InvocationRules.{Selecting, Virtual, OfInterface, Special, abstract_method, arguments_by, invokes_instance, invokes_native, invokes_number, invokes_on, invokes_selected, invokes_with_static, named_method, names_interface, not_of_class, receiver_in, method_reference, selected_by, unsatisfied_link}
 use Rattle.jvm_model.specs.Basis.KindNumbers.{user_count}
 use Rattle.jvm_model.specs.Classes.Layouts.{layout}
 use Rattle.jvm_model.specs.Classes.Lookup.{resolved_field, resolved_method}
@@ -314,8 +314,8 @@ module _ (w : World) (s : Shared) (l : Locals) (o : Operands) where
 
   invokes_native-only : (m : MemberPlace) (args : List Datum) (below : Operands) → Only (invokes_native w m args s l below)
   invokes_native-only m args below =
-      chosen-done (nat_lt m.class (user_count w.program)) (done s (Raises unsatisfied_link None)) (runs_native w (reference_to w.program m) args s l below) (only-on refl)
-      (runs-only args below (option_and_then native_number (reference_to w.program m)))
+      chosen-done (nat_lt m.class (user_count w.program)) (done s (Raises unsatisfied_link None)) (runs_native w (method_reference w.program m) args s l below) (only-on refl)
+      (runs-only args below (option_and_then native_number (method_reference w.program m)))
 
   number-only : (m : MemberPlace) (n : Option ℕ) (args : List Datum) (below : Operands) → Only (invokes_number w m n args s l below)
   number-only m (Some n) args below = only-on refl
@@ -362,8 +362,8 @@ module _ (w : World) (s : Shared) (l : Locals) (o : Operands) where
       unless-only s (named_field p s.loaded true r) (λ m. pushes_static p m s l o) (field-fine p s l o true r)
       (λ m. ready-only p (phase_of s m.class) m.class s (done s (pushes (option_map as_value (static_at s (static_field m))) l o)) (only-of (pushes-only (option_map as_value (static_at s (static_field m))) l o)))
   named-only (Putstatic r) =
-      unless-only s (named_field p s.loaded true r) (λ m. class_initialized p m.class s (sets_static m (held_of (kind_by r) o) s l o)) (field-fine p s l o true r)
-      (λ m. ready-only p _ m.class s _ (sets-only p s l o m (held_of (kind_by r) o)))
+      unless-only s (named_field p s.loaded true r) (λ m. class_initialized p m.class s (sets_static m (field_held (kind_by r) o) s l o)) (field-fine p s l o true r)
+      (λ m. ready-only p _ m.class s _ (sets-only p s l o m (field_held (kind_by r) o)))
   named-only (Invokevirtual r) = instance_call-only Virtual r
   named-only (Invokespecial caller r interface) = instance_call-only (Special caller interface) r
   named-only (Invokestatic r) =

@@ -32,9 +32,9 @@ use Rattle.jvm_model.specs.declared.family.Family.TheVariants as family
 use Rattle.jvm_model.specs.Basis.Data.{Datum, IntOperator, Iadd, Isub, Imul, Local, Nop, Constant, Load, Store, ManageStack, BinaryOfInts, BinaryOfLongs, DivisionOfInts, DivisionOfLongs, ShiftOfLong, UnaryOfInt, UnaryOfLong, Lcmp, Iinc, Branch, Goto, Switch, Jsr, Ret, Return, SymbolicReference, Getstatic, Invokestatic, Invokevirtual, LdcClass, Operation, Within, Named, Newarray, LdcString}
 use Rattle.jvm_model.specs.Basis.Families.{rows, family_of}
 use Rattle.jvm_model.specs.Codes.Lines.{value_in, slot_in, increment_in, target_in, keys_in, local_of, constant_in, symbolic_reference_of, interface_reference, array_reference, has_dimensions, named_by, ObjectRow, object_rows, object_among, newarray_of, other_operation, operation_by, operation_of, targets_of as offsets_of, ends, pool_constant_operation, object_constant, object_constant_in}
-use Rattle.jvm_model.specs.Small.Resolved.{own_method, resolved_local, resolved_name, resolved_in, resolved_of}
+use Rattle.jvm_model.specs.Small.Resolved.{own_method, resolved_local, resolved_reference, resolved_in, resolved_of}
 use Rattle.jvm_model.specs.Instructions.Rules.{is_out, is_println}
-use Rattle.jvm_model.specs.Small.SmallClass.{is_return}
+use Rattle.jvm_model.specs.Small.SmallClass.{is_plain_return}
 use Rattle.jvm_model.specs.Rewriting.Versions.{is_return_opcode}
 use Rattle.jvm_model.specs.declared.operation.Resolved.{Resolved}
 use Rattle.jvm_model.specs.declared.operation.Resolved.TheVariants as resolved
@@ -204,7 +204,7 @@ chosen : {A : Type 0} (b : Bool) (x y : Option A) (z : A) → cond b x y ≡ Som
 chosen true x y z e = inl (refl, e)
 chosen false x y z e = inr e
 
-reference-goes_on : (c : ClassFile) (n : SymbolicReference) (q : Resolved) → resolved_name c n ≡ Some q → goes_on q
+reference-goes_on : (c : ClassFile) (n : SymbolicReference) (q : Resolved) → resolved_reference c n ≡ Some q → goes_on q
 reference-goes_on c (Getstatic r) q e = elim (chosen (is_out r) (Some resolved.Out) None q e) [ inl is ↦ only resolved.Out q refl is.1 | inr is ↦ absurd (none-some q is) ]
 reference-goes_on c (Invokestatic r) q e = let k = in_map resolved.Invokestatic (own_method c r) q e in subst goes_on k.1 refl
 reference-goes_on c (Invokevirtual r) q e = elim (chosen (is_println r) (Some resolved.Println) None q e) [ inl is ↦ only resolved.Println q refl is.1 | inr is ↦ absurd (none-some q is) ]
@@ -340,7 +340,7 @@ operation-within c op a family.PoolConstant o e = given-within c op a o (option_
 operation-within c op a f o e = inr (inl (local-within f a (constant_in c.pool a) o e))
 
 -- An operation returns exactly where its opcode is a return's.
-pub returns-instr : (c : ClassFile) (i : Instr) (q : Resolved) → i.op < 256 → resolved_of c i ≡ Some q → (is_return_operation q ≡ is_return_opcode i.op) × (is_return i ≡ is_return_opcode i.op)
+pub returns-instr : (c : ClassFile) (i : Instr) (q : Resolved) → i.op < 256 → resolved_of c i ≡ Some q → (is_return_operation q ≡ is_return_opcode i.op) × (is_plain_return i ≡ is_return_opcode i.op)
 returns-instr c i q lt e =
     let f = family_of i.op in
     option_and_then_some (resolved_in c) (operation_of c i) q e (λ o is rest. elim (operation-within c i.op i.arg f o is) [

@@ -13,7 +13,7 @@ use Rattle.jvm_model.specs.Basis.Programs.{class_at, name_at, super_of, initiali
 use Rattle.jvm_model.specs.Basis.SharedState.{error, no_class_definition, in_initializer, stack_overflow, phase_of, with_phase, class_of, Field, message_cost, with_message, with_exception, Allocated, made_with, null}
 use Rattle.heap_objects.specs.Heaps.{next_number}
 use Rattle.jvm_model.specs.Running.Applies.{with_frame, goes, breaks, has_room, live_in, most_live}
-use Rattle.jvm_model.specs.Running.Moves.{handler_for, own_at, throw_caught, throw_wrapped, raises, with_constants, after_super, with_super, runs_initializer, initializes, argument_array, main_or_end, moves, move, weights, fresh, unless, moves_left, then_turn, settles, turn_settled}
+use Rattle.jvm_model.specs.Running.Moves.{handler_for, own_at, throw_caught, throw_wrapped, raises, with_constants, after_super, with_super, runs_initializer, initializes, argument_array, main_or_end, moves, move, weights, fresh, unit_unless, moves_left, then_turn, settles, turn_settled}
 
 -- ---- phases
 
@@ -131,7 +131,7 @@ fails-phases w s c r = by (is_below w.program (class_of w.program s r) error) wh
 raises-left : (w : World) (stack : List Entry) (begun : Bool) (output : List ℕ) (shared : Shared) (name : List ℕ) (message : Option (List ℕ))
     → moves_left (raises w (state stack None begun output shared None) name message) ≡ moves_left (state stack None begun output shared None) + 1
 raises-left w stack begun output shared name message =
-    subst (λ ps. 8 * fresh ps + weights stack + 1 + 2 * unless begun + 1 ≡ 8 * fresh shared.phases + weights stack + 0 + 2 * unless begun + 1 + 1) (sym (made-phases w shared name message null)) (omega arith)
+    subst (λ ps. 8 * fresh ps + weights stack + 1 + 2 * unit_unless begun + 1 ≡ 8 * fresh shared.phases + weights stack + 0 + 2 * unit_unless begun + 1 + 1) (sym (made-phases w shared name message null)) (omega arith)
 
 after_super-less : (w : World) (stack : List Entry) (begun : Bool) (output : List ℕ) (shared : Shared) (c d : ℕ) (p : Option Phase) → phase_of shared d ≡ p
     → moves_left (after_super w (state stack None begun output shared None) c d p) < moves_left (state (Initializing c Superclass ∷ stack) None begun output shared None)

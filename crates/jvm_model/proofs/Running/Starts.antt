@@ -32,7 +32,7 @@ use Rattle.jvm_model.specs.Rewriting.StandsFor.{IsBuilt, code_line, line_at}
 use Rattle.jvm_model.specs.Rewriting.Versions.{is_return_opcode}
 use Rattle.jvm_model.specs.Basis.Methods.{code_among, code_of, method_code}
 use Rattle.jvm_model.proofs.Running.Opcodes.{returns-instr, ends-resolved, StaysAlike, StaysAlike-operation}
-use Rattle.jvm_model.specs.Small.SmallClass.{IsSmallClass, IsSmallCode, is_small_opcode, is_small_instr, fits_method, ends_in_return, is_return}
+use Rattle.jvm_model.specs.Small.SmallClass.{IsSmallClass, IsSmallCode, is_small_opcode, is_small_instr, fits_method, ends_in_return, is_plain_return}
 
 -- ---- readings, by number
 
@@ -55,9 +55,9 @@ Reads-next bytes at (h ∷ is) zero i j p e f = Reads-first bytes (end_of h) is 
 Reads-next bytes at (h ∷ is) (suc k) i j p e f = Reads-next bytes (end_of h) is k i j p.1 e f
 
 -- behind one that does not return there is another, where the last one returns
-pub next-instr : (is : List Instr) (k : ℕ) (i : Instr) → ends_in_return is ≡ true → slice_get is k ≡ Some i → is_return i ≡ false → (j : Instr) × (slice_get is (suc k) ≡ Some j)
+pub next-instr : (is : List Instr) (k : ℕ) (i : Instr) → ends_in_return is ≡ true → slice_get is k ≡ Some i → is_plain_return i ≡ false → (j : Instr) × (slice_get is (suc k) ≡ Some j)
 next-instr [] k i ends e stays = absurd (none-some i e)
-next-instr (h ∷ []) zero i ends e stays = absurd (let same : is_return h ≡ is_return i = ap is_return (same_Some h i e) in let t : true ≡ false = sym ends ∙ (same ∙ stays) in cc)
+next-instr (h ∷ []) zero i ends e stays = absurd (let same : is_plain_return h ≡ is_plain_return i = ap is_plain_return (same_Some h i e) in let t : true ≡ false = sym ends ∙ (same ∙ stays) in cc)
 next-instr (h ∷ []) (suc k) i ends e stays = absurd (none-some i e)
 next-instr (h ∷ g ∷ is) zero i ends e stays = (g, refl)
 next-instr (h ∷ g ∷ is) (suc k) i ends e stays = next-instr (g ∷ is) k i ends e stays

@@ -17,7 +17,7 @@ use Rattle.jvm_model.specs.Classes.Lookup.{interface_names, interfaces_of, is_in
 use Rattle.jvm_model.specs.Instructions.SymbolicReference.{New, newly_loaded, resolved_name, resolves}
 use Rattle.jvm_model.specs.Codes.Originals.{original}
 use Rattle.jvm_model.specs.Basis.Programs.{class_at, class_named, has_name, name_at, super_of}
-use Rattle.jvm_model.specs.Running.Run.{before, loads_if, main_class, main_loads, run, start, steps_at, steps_by, steps_on, turn_in-zero, turn_in-suc, with_loaded}
+use Rattle.jvm_model.specs.Running.Run.{before, loads_if, main_class, main_loads, run, start, steps_at, steps_by, steps_on, turn_in-zero, turn_in-suc, with_classes_loaded}
 use Rattle.jvm_model.specs.Basis.SharedState.{arguments_fit}
 use Rattle.jvm_model.specs.Soundness.Sound.{IsFit, IsLoaded}
 use Rattle.jvm_model.specs.Soundness.SoundListings.{IsSound, IsSoundEntry, RunsOriginal}
@@ -399,7 +399,7 @@ module _ (w : World) (fit : IsFit w.program) (P : List ℕ → Type 0)
   at-keeps s f None is entry e h = h
   at-keeps s f (Some i) is entry e h =
       let classes = loads w i.operation s.shared f.operands in
-      let ready : State = with_loaded classes s in
+      let ready : State = with_classes_loaded classes s in
       let turn : Turn = steps_by w (original w.program) i ready f (does w i.operation ready.shared f.locals f.operands) in
       subst P
       (sym (ap (λ (x : State). x.shared.loaded) (loaded-after classes turn) ∙ ((at-goes RunsOriginal w fit (original w.program) (original-sound w.program fit) s f i is entry e).same ∙ with-loaded-is classes s)))

@@ -8,8 +8,8 @@ use Rattle.std.proofs.lemmas.Bool.{false≢true, eqb-true}
 use Rattle.std.proofs.lemmas.Option.{same_Some, none-some}
 use Rattle.const_pool.specs.declared.class.ClassFile.{ClassFile}
 use Rattle.const_pool.specs.References.{named_class}
-use Rattle.jvm_model.specs.Classes.Kinds.{Element, Primitive, Named, array_from, array_of, is_array_name, meaning_of}
-use Rattle.jvm_model.specs.Classes.Load.{Fault, NoClass, Circular, Incompatible, Loading, Need, There, Begun, Fresh, behind_needs, by_standing, class_needs, loading_done, is_among, is_met, load_element, load_named, load_needs, load_of, need, need_fault, needs_of, standing_of, unless}
+use Rattle.jvm_model.specs.Classes.Kinds.{Element, Primitive, Named, array_from, array_meaning, is_array_name, meaning_of}
+use Rattle.jvm_model.specs.Classes.Load.{Fault, NoClass, Circular, Incompatible, Loading, Need, There, Begun, Fresh, behind_needs, by_load_state, class_needs, loading_done, is_among, is_met, load_element, load_named, load_needs, load_of, need, need_fault, needs_of, load_state_of, unless}
 use Rattle.jvm_model.specs.Classes.Lookup.{interface_names, interfaces_of, is_interface, superclass_of, superclasses, superclasses_within, superinterfaces, superinterfaces_within, supertypes, supertypes_within}
 use Rattle.jvm_model.specs.Basis.Programs.{class_at, class_named}
 use Rattle.jvm_model.specs.Soundness.Sound.{HasSupertypes, IsLoaded}
@@ -85,7 +85,7 @@ same-name a b e = cc
 
 pub plain-element : (name : List ℕ) → is_array_name name ≡ false → (meaning_of name).element ≡ Named name
 plain-element name plain =
-    ap (λ (b : Bool). (if b then unwrap_or (array_from 0 name) (array_of 0 (Named name)) else array_of 0 (Named name)).element) plain
+    ap (λ (b : Bool). (if b then unwrap_or (array_from 0 name) (array_meaning 0 (Named name)) else array_meaning 0 (Named name)).element) plain
 
 module _ (p : Program) (P : List ℕ → Type 0)
     (one_more : (loaded : List ℕ) (class : ℕ) → AllByRecursion (HasLoaded p loaded) (needs_of p class) → P loaded → P (loaded ++ class ∷ [])) where
@@ -111,7 +111,7 @@ module _ (p : Program) (P : List ℕ → Type 0)
   module _ (path own loaded : List ℕ) (within : ℕ → Loading)
       (needs : (class : ℕ) → AreLoads p P (needs_of p class) loaded (within class)) where
     standing-load : (class : ℕ) (a b : Bool) → class_named p own ≡ Some class → is_among class loaded ≡ a
-        → IsLoad p P (Named own) loaded (by_standing (if a then There else if b then Begun else Fresh class) own loaded (λ c. behind_needs c (within c)))
+        → IsLoad p P (Named own) loaded (by_load_state (if a then There else if b then Begun else Fresh class) own loaded (λ c. behind_needs c (within c)))
     standing-load class true b found is = record {
       kept = λ h. h;
       grown = λ c h. h;
@@ -122,7 +122,7 @@ module _ (p : Program) (P : List ℕ → Type 0)
     standing-load class false false found is = behind-load own loaded class (within class) found (needs class) (within class).fault refl
 
     class-load : (o : Option ℕ) → class_named p own ≡ o
-        → IsLoad p P (Named own) loaded (by_standing (standing_of path loaded o) own loaded (λ c. behind_needs c (within c)))
+        → IsLoad p P (Named own) loaded (by_load_state (load_state_of path loaded o) own loaded (λ c. behind_needs c (within c)))
     class-load None found = stopped (Named own) loaded (NoClass own)
     class-load (Some class) found = standing-load class (is_among class loaded) (is_among class path) found refl
 
@@ -178,7 +178,7 @@ module _ (p : Program) (P : List ℕ → Type 0)
   named-load (suc n) path name loaded =
       let within : ℕ → Loading = λ class. load_needs p (load_named p n (path ++ class ∷ [])) (needs_of p class) loaded in
       element-load (meaning_of name).element loaded
-      (λ own. by_standing (standing_of path loaded (class_named p own)) own loaded (λ class. behind_needs class (within class)))
+      (λ own. by_load_state (load_state_of path loaded (class_named p own)) own loaded (λ class. behind_needs class (within class)))
       (λ own. class-load path own loaded within
       (λ class. needs-load (load_named p n (path ++ class ∷ [])) (named-load n (path ++ class ∷ [])) (needs_of p class) loaded)
       (class_named p own) refl)

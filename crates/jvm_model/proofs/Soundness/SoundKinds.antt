@@ -12,7 +12,7 @@ use Rattle.const_pool.specs.BuiltIn.{built_in_names}
 use Rattle.jvm_model.specs.declared.program.Program.{Program}
 use Rattle.jvm_model.specs.Basis.Descriptors.{same_text}
 use Rattle.jvm_model.specs.Basis.KindNumbers.{base_of_class, class_of_base, kind_number, user_count}
-use Rattle.jvm_model.specs.Classes.Kinds.{Element, Primitive, Named, Meaning, array_from, array_of, before_semicolon, element_of, kind_named, meaning_of, parts_named, primitive_code}
+use Rattle.jvm_model.specs.Classes.Kinds.{Element, Primitive, Named, Meaning, array_from, array_meaning, before_semicolon, element_of, kind_named, meaning_of, parts_named, primitive_code}
 use Rattle.jvm_model.specs.Classes.Load.{load_of}
 use Rattle.jvm_model.specs.Basis.Programs.{class_named, has_name}
 use Rattle.jvm_model.specs.Basis.SharedState.{class_of_kind, kind_for}
@@ -167,7 +167,7 @@ abbrev EachMeaning : ℕ → Option Meaning → Type 0
 EachMeaning least None = Unit {0}
 EachMeaning least (Some m) = (least ≤ m.dimensions) × IsElement m.element
 
-mapped : (d : ℕ) (o : Option Element) → Each o → EachMeaning d (option_map (array_of d) o)
+mapped : (d : ℕ) (o : Option Element) → Each o → EachMeaning d (option_map (array_meaning d) o)
 mapped d None each = tt
 mapped d (Some e) each = (omega arith, each)
 
@@ -179,15 +179,15 @@ from-each : (d : ℕ) (units : List ℕ) → EachMeaning d (array_from d units)
 from-each d [] = tt
 from-each d (unit ∷ rest) = by (from-each (d + 1) rest) (unit == 91) (nat_le d 255)
   where
-    by : EachMeaning (d + 1) (array_from (d + 1) rest) → (a b : Bool) → EachMeaning d (if a then array_from (d + 1) rest else if b then option_map (array_of d) (element_of (unit ∷ rest)) else None)
+    by : EachMeaning (d + 1) (array_from (d + 1) rest) → (a b : Bool) → EachMeaning d (if a then array_from (d + 1) rest else if b then option_map (array_meaning d) (element_of (unit ∷ rest)) else None)
     by deeper true b = lower d (d + 1) (array_from (d + 1) rest) (omega arith) deeper
     by deeper false true = mapped d (element_of (unit ∷ rest)) (each-element (unit ∷ rest))
     by deeper false false = tt
 
-plain : (name : List ℕ) → IsMeaning (array_of 0 (Named name))
+plain : (name : List ℕ) → IsMeaning (array_meaning 0 (Named name))
 plain name = record { deep = λ code e. absurd (no-primitive name code e); small = λ code e. absurd (no-primitive name code e) }
 
-or-plain : (name : List ℕ) (o : Option Meaning) → EachMeaning 1 o → IsMeaning (unwrap_or o (array_of 0 (Named name)))
+or-plain : (name : List ℕ) (o : Option Meaning) → EachMeaning 1 o → IsMeaning (unwrap_or o (array_meaning 0 (Named name)))
 or-plain name None each = plain name
 or-plain name (Some m) each = record { deep = λ code e. each.0; small = each.1.small }
 
@@ -196,7 +196,7 @@ means [] = plain []
 means (unit ∷ rest) = by (unit == 91) refl
   where
     by : (b : Bool) → (unit == 91) ≡ b
-        → IsMeaning (if b then unwrap_or (if b then array_from 1 rest else if nat_le 0 255 then option_map (array_of 0) (element_of (unit ∷ rest)) else None) (array_of 0 (Named (unit ∷ rest))) else array_of 0 (Named (unit ∷ rest)))
+        → IsMeaning (if b then unwrap_or (if b then array_from 1 rest else if nat_le 0 255 then option_map (array_meaning 0) (element_of (unit ∷ rest)) else None) (array_meaning 0 (Named (unit ∷ rest))) else array_meaning 0 (Named (unit ∷ rest)))
     by true is = or-plain (unit ∷ rest) (array_from 1 rest) (from-each 1 rest)
     by false is = plain (unit ∷ rest)
 

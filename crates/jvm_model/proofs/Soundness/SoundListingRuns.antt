@@ -9,7 +9,7 @@ use Rattle.jvm_model.specs.Basis.Data.{Listing, Operands, Frame, Entry, Active, 
 use Rattle.jvm_model.specs.Instructions.Does.{does, loads}
 use Rattle.jvm_model.specs.Running.Moves.{move, moves, turn_settled, then_turn}
 use Rattle.jvm_model.specs.Codes.Originals.{original}
-use Rattle.jvm_model.specs.Running.Run.{attempt, main_class, main_loads, start, starts, starts_with, step, steps_at, steps_by, steps_on, tries, with_loaded}
+use Rattle.jvm_model.specs.Running.Run.{attempt, main_class, main_loads, start, starts, starts_with, step, steps_at, steps_by, steps_on, tries, with_classes_loaded}
 use Rattle.jvm_model.specs.Basis.SharedState.{arguments_fit, class_of}
 use Rattle.jvm_model.specs.Soundness.Sound.{CanAttempt, HasClass, HasSupertypes, IsFit, IsLoaded, IsSoundOutcome, IsSoundShared}
 use Rattle.jvm_model.specs.Soundness.SoundListings.{IsSound, IsSoundEntry, IsSoundListing, RunsOriginal}
@@ -26,7 +26,7 @@ use Rattle.jvm_model.proofs.Loading.Among.{among-front}
 
 -- `Runs` tells which versions a frame of a method can be in
 module _ (Runs : ℕ → ℕ → Type 0) where
-  more-sound : (p : Program) (classes : List ℕ) (s : State) → HasSupertypes p (s.shared.loaded ++ classes) → IsSound Runs p s → IsSound Runs p (with_loaded classes s)
+  more-sound : (p : Program) (classes : List ℕ) (s : State) → HasSupertypes p (s.shared.loaded ++ classes) → IsSound Runs p s → IsSound Runs p (with_classes_loaded classes s)
   more-sound p [] s above is = is
   more-sound p (c ∷ more) s above is = record {
     shared = shared-more p (c ∷ more) s above is.shared;
@@ -36,7 +36,7 @@ module _ (Runs : ℕ → ℕ → Type 0) where
   }
 
   -- where all is loaded that the instruction names
-  pub sound-loaded : (w : World) (op : Operation Local) (o : Operands) (s : State) → IsSound Runs w.program s → IsSound Runs w.program (with_loaded (loads w op s.shared o) s)
+  pub sound-loaded : (w : World) (op : Operation Local) (o : Operands) (s : State) → IsSound Runs w.program s → IsSound Runs w.program (with_classes_loaded (loads w op s.shared o) s)
   sound-loaded w op o s is = more-sound w.program (loads w op s.shared o) s (loads-supertypes w op s.shared o is.shared.above) is
 
   -- ---- a step
@@ -101,11 +101,11 @@ module _ (Runs : ℕ → ℕ → Type 0) where
     -- what an instruction loads is loaded, and it leads to a sound state with no more
     pub at-goes : (s : State) (f : Frame) (i : Instruction) → IsSound Runs w.program s → IsSoundEntry Runs w.program s.shared.loaded (Active f)
         → t.at f.version f.place ≡ Some i
-        → (let ready : State = with_loaded (loads w i.operation s.shared f.operands) s in
+        → (let ready : State = with_classes_loaded (loads w i.operation s.shared f.operands) s in
         GoesTo Runs w.program ready.shared.loaded (steps_by w t i ready f (does w i.operation ready.shared f.locals f.operands)).after)
     at-goes s f i is entry e =
         let classes = loads w i.operation s.shared f.operands in
-        let ready : State = with_loaded classes s in
+        let ready : State = with_classes_loaded classes s in
         let there : IsSoundEntry Runs w.program ready.shared.loaded (Active f) =
         subst (λ loaded. IsSoundEntry Runs w.program loaded (Active f)) (sym (with-loaded-is classes s))
         (entry-grows Runs w.program s.shared.loaded (s.shared.loaded ++ classes) (λ class h. among-front class s.shared.loaded classes h) (Active f) entry) in
@@ -118,7 +118,7 @@ module _ (Runs : ℕ → ℕ → Type 0) where
     at-sound s f None is entry on e = (applied-goes Runs w fit t is_sound (record { operation = Athrow; own = 0; next = None; targets = [] }) (Breaks false) s f is entry tt).sound
     at-sound s f (Some i) is entry on e =
         let classes = loads w i.operation s.shared f.operands in
-        let ready : State = with_loaded classes s in
+        let ready : State = with_classes_loaded classes s in
         subst (λ (x : State). IsSound Runs w.program x)
         (sym (loaded-after classes (steps_by w t i ready f (does w i.operation ready.shared f.locals f.operands))))
         (at-goes s f i is entry e).sound

@@ -30,8 +30,8 @@ use Rattle.jvm_model.specs.declared.program.Program.{Program}
 use Rattle.jvm_model.specs.Instructions.ConstantRules.{pushes_class, pushes_object_of}
 use Rattle.jvm_model.specs.Instructions.CreationRules.{allocates, answers, array_over, casts, casts_to, class_cast, counts_from, counts_of, has_no_instances, instantiation_error, is_text_class, lengths_of, makes_array_of, makes_arrays, makes_by_counts, makes_instance, makes_multi, makes_new, makes_object, slots_of_arrays, tells_instance, with_arrays, zero_of}
 use Rattle.jvm_model.specs.Basis.Data.{Locals, Operands, MethodPlace, Phase, Fresh, Running, Ready, Erroneous, Shared, World, Outcome, GoesOn, Next, Invokes, Initializes, Throws, Raises, Breaks, Done}
-use Rattle.jvm_model.specs.Instructions.FieldRules.{Putting, field_owner, gets_instance, gets_of, gets_static, has_field, held_of, is_static_field, kind_by, named_field, pushes_static, puts_instance, puts_into, puts_static, putting_of, sets_static, slot_of, static_field}
-use Rattle.jvm_model.specs.Instructions.InvocationRules.{Selecting, Virtual, OfInterface, Special, abstract_method, arguments_by, invokes_instance, invokes_number, invokes_on, invokes_selected, invokes_static_method, invokes_with_static, named_method, names_interface, not_of_class, receiver_in, reference_to, selected_by, unsatisfied_link}
+use Rattle.jvm_model.specs.Instructions.FieldRules.{Putting, field_owner, gets_instance, gets_of, gets_static, has_field, field_held, is_static_field, kind_by, named_field, pushes_static, puts_instance, puts_into, puts_static, putting_of, sets_static, slot_of, static_field}
+use Rattle.jvm_model.specs.Instructions.InvocationRules.{Selecting, Virtual, OfInterface, Special, abstract_method, arguments_by, invokes_instance, invokes_number, invokes_on, invokes_selected, invokes_static_method, invokes_with_static, named_method, names_interface, not_of_class, receiver_in, method_reference, selected_by, unsatisfied_link}
 use Rattle.jvm_model.specs.Basis.KindNumbers.{user_count}
 use Rattle.jvm_model.specs.Classes.Kinds.{kind_named, meaning_of}
 use Rattle.jvm_model.specs.Classes.Layouts.{layout}
@@ -380,8 +380,8 @@ module _ (w : World) (fit : IsFit w.program) (s : Shared) (is : IsSoundShared w.
 
   put-static-fine : (r : Reference) (l : Locals) (o : Operands) → Whole r.class → Fine (puts_static p r s l o)
   put-static-fine r l o whole =
-      unless-fine InLoaded (named_field p s.loaded true r) (λ m. class_initialized p m.class s (sets_static m (held_of (kind_by r) o) s l o)) (named-field true r whole)
-      (λ m there. initialized-fine m.class (sets_static m (held_of (kind_by r) o) s l o) there (by m (held_of (kind_by r) o)))
+      unless-fine InLoaded (named_field p s.loaded true r) (λ m. class_initialized p m.class s (sets_static m (field_held (kind_by r) o) s l o)) (named-field true r whole)
+      (λ m there. initialized-fine m.class (sets_static m (field_held (kind_by r) o) s l o) there (by m (field_held (kind_by r) o)))
     where
       by : (m : MemberPlace) (d : Option Datum) → Fine (sets_static m d s l o)
       by m None = quiet (Breaks false) tt
@@ -493,8 +493,8 @@ module _ (w : World) (fit : IsFit w.program) (s : Shared) (is : IsSoundShared w.
       → Fine (invokes_number w m o args s l below)
   number-fine m (Some n) args l below there e = quiet (Invokes n args below) (number-class p m.class m.position n s.loaded e there)
   number-fine m None args l below there e =
-      chosen (nat_lt m.class (user_count p)) (done s (Raises unsatisfied_link None)) (runs_native w (reference_to p m) args s l below)
-      (quiet (Raises unsatisfied_link None) refl) (native-fine (reference_to p m) args l below)
+      chosen (nat_lt m.class (user_count p)) (done s (Raises unsatisfied_link None)) (runs_native w (method_reference p m) args s l below)
+      (quiet (Raises unsatisfied_link None) refl) (native-fine (method_reference p m) args l below)
 
   selected-fine : (o : Option MemberPlace) (args : List Datum) (l : Locals) (below : Operands) → IsFoundLoaded s.loaded o → Fine (invokes_selected w o args s l below)
   selected-fine None args l below there = quiet (Raises abstract_method None) refl

@@ -6,7 +6,7 @@ use Rattle.jvm_model.specs.Basis.Data.{Operands, Shared, State, Local, Operation
 use Rattle.jvm_model.specs.Instructions.Does.{does, loads}
 use Rattle.jvm_model.specs.Classes.Load.{load_of}
 use Rattle.jvm_model.specs.Instructions.SymbolicReference.{newly_loaded, resolved_name, resolves}
-use Rattle.jvm_model.specs.Running.Run.{with_loaded}
+use Rattle.jvm_model.specs.Running.Run.{with_classes_loaded}
 use Rattle.jvm_model.specs.Soundness.Sound.{HasSupertypes, IsSoundShared}
 use Rattle.jvm_model.proofs.Loading.LoadsAgain.{newly-again, newly-loaded}
 use Rattle.jvm_model.proofs.Soundness.SoundClasses.{load-supertypes}
@@ -15,7 +15,7 @@ use Rattle.jvm_model.proofs.Loading.Among.{among-front}
 
 -- ---- classes are loaded
 
-pub with-loaded-is : (classes : List ℕ) (s : State) → (with_loaded classes s).shared.loaded ≡ s.shared.loaded ++ classes
+pub with-loaded-is : (classes : List ℕ) (s : State) → (with_classes_loaded classes s).shared.loaded ≡ s.shared.loaded ++ classes
 with-loaded-is [] s = sym (append-nil s.shared.loaded)
 with-loaded-is (c ∷ more) s = refl
 
@@ -50,7 +50,7 @@ loads-same w (StoreElement k) a b o e = refl
 loads-same w (LdcString units) a b o e = refl
 
 -- nothing is left to load then
-pub loads-again : (w : World) (op : Operation Local) (s : State) (o : Operands) → loads w op (with_loaded (loads w op s.shared o) s).shared o ≡ []
+pub loads-again : (w : World) (op : Operation Local) (s : State) (o : Operands) → loads w op (with_classes_loaded (loads w op s.shared o) s).shared o ≡ []
 loads-again w (Named n) s o =
     ap (λ loaded. newly_loaded w.program loaded n o) (with-loaded-is (newly_loaded w.program s.shared.loaded n o) s) ∙ newly-again w.program s.shared.loaded n o
 loads-again w (Within i) s o = refl
@@ -63,7 +63,7 @@ loads-again w (StoreElement k) s o = refl
 loads-again w (LdcString units) s o = refl
 
 pub shared-more : (p : Program) (classes : List ℕ) (s : State) → HasSupertypes p (s.shared.loaded ++ classes) → IsSoundShared p s.shared
-    → IsSoundShared p (with_loaded classes s).shared
+    → IsSoundShared p (with_classes_loaded classes s).shared
 shared-more p [] s above is = is
 shared-more p (c ∷ more) s above is = record {
   built_in = record {

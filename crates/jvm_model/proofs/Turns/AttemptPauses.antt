@@ -12,7 +12,7 @@ use Rattle.jvm_model.specs.Basis.Data.{Change, Turn, Instruction, Outcome, Listi
 use Rattle.jvm_model.specs.Running.Applies.{breaks, still, live_in}
 use Rattle.jvm_model.specs.Instructions.Does.{does}
 use Rattle.jvm_model.specs.Running.Moves.{turn_settled}
-use Rattle.jvm_model.specs.Running.Run.{starts, is_ready, goes_on}
+use Rattle.jvm_model.specs.Running.Run.{starts, is_ready, is_going_on}
 use Rattle.jvm_model.specs.Basis.SharedState.{phase_of}
 use Rattle.jvm_model.specs.Turns.Told.{Held, frame_held, helds, mark_now}
 use Rattle.jvm_model.specs.Turns.Pauses.{Pause, changes_due, passed_by, step_paused}
@@ -44,7 +44,7 @@ settled-there w t v n changes s nothing = by (changes_due (mark_now v t) [] chan
 
 -- the instruction is attempted again
 abbrev pub goes_twice : ℕ → ℕ → Pause → Bool
-goes_twice n c p = is_nothing p.due && p.passed == n && is_ready (phase_of p.state.shared c) && goes_on p.state.ending p.state.thrown
+goes_twice n c p = is_nothing p.due && p.passed == n && is_ready (phase_of p.state.shared c) && is_going_on p.state.ending p.state.thrown
 
 module _ (w : World) (t : Listing) (v : ℕ → Mark) (told : Bool) (n : ℕ) (s : State) (f : Frame) (below : List Entry)
     (going : s.ending ≡ None) (top : s.stack ≡ Active f ∷ below) where

@@ -7,7 +7,7 @@ use Rattle.jvm_model.specs.Basis.Programs.{initializer_of}
 use Rattle.jvm_model.specs.Basis.SharedState.{class_of}
 use Rattle.jvm_model.specs.Running.Applies.{has_room, live_in, most_live}
 use Rattle.jvm_model.specs.Running.Moves.{handler_for, throw_caught, runs_initializer, argument_array, main_or_end, moves, move}
-use Rattle.jvm_model.specs.Codes.Moved.{moved_turn, Agrees, at_homes}
+use Rattle.jvm_model.specs.Codes.Moved.{moved_turn, IsMovedListing, at_homes}
 use Rattle.jvm_model.specs.Rewriting.StandsForRun.{listing_named, norm_by, IsOfVersions}
 use Rattle.jvm_model.specs.Turns.Rest.{Todo, Attempt, Moves}
 use Rattle.jvm_model.specs.Turns.Told.{Held}
@@ -64,7 +64,7 @@ module _ (w : World) (t : Listing) (s : State) where
 
 -- ---- all three
 
-module _ (w : World) (t : Listing) (x : Versioned) (own : Agrees x.norm (at_homes x.norm) t t) (current : ℕ → ℕ) (u : Listing) (is : IsOfVersions x.norm x.method_of current x.homes t u)
+module _ (w : World) (t : Listing) (x : Versioned) (own : IsMovedListing x.norm (at_homes x.norm) t t) (current : ℕ → ℕ) (u : Listing) (is : IsOfVersions x.norm x.method_of current x.homes t u)
     (only : EndsByReturn w) (turn : Turn) (passed : ℕ) (live : List Held) where
   unwinds-here-too : (s : State) (hand : InHand w t x turn passed true live Moves s) → move w u s ≡ Some (record { after = frame_popped s; changes = Unwound ∷ [] })
   unwinds-here-too s hand =

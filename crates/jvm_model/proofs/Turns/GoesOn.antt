@@ -7,7 +7,7 @@ use Rattle.jvm_model.specs.declared.event.Mark.{Mark}
 use Rattle.jvm_model.specs.Basis.Data.{Entry, Active, Initializing, Ending, State, Change, Unwound, Turn, Listing, World}
 use Rattle.jvm_model.specs.Running.Applies.{still}
 use Rattle.jvm_model.specs.Running.Moves.{move}
-use Rattle.jvm_model.specs.Codes.Moved.{Moving, state_moved, moved_turn, moved_stack, Agrees, at_homes, IsPlaced}
+use Rattle.jvm_model.specs.Codes.Moved.{Moving, state_moved, moved_turn, moved_stack, IsMovedListing, at_homes, IsPlaced}
 use Rattle.jvm_model.specs.Rewriting.StandsForRun.{listing_named, versions_forgotten, norm_by, IsOfVersions}
 use Rattle.jvm_model.specs.Turns.Rest.{Todo, Attempt, Moves, rest}
 use Rattle.jvm_model.specs.Turns.Told.{Held, helds, mark_now}
@@ -37,7 +37,7 @@ drop-passed n (c ∷ a) b xs e = drop-passed (suc n) a b xs (drop-next n c (a ++
 
 -- ---- what is left of a state elsewhere
 
-rest-moves : (norm : ℕ → ℕ → ℕ) (w : World) (m : Moving) (t u : Listing) → Agrees norm (at_homes norm) t t → Agrees norm m t u → (todo : Todo) (s : State) → IsPlaced norm s
+rest-moves : (norm : ℕ → ℕ → ℕ) (w : World) (m : Moving) (t u : Listing) → IsMovedListing norm (at_homes norm) t t → IsMovedListing norm m t u → (todo : Todo) (s : State) → IsPlaced norm s
     → rest w u todo (state_moved m s) ≡ moved_turn m (rest w t todo s)
 rest-moves norm w m t u own agrees Attempt s placed = step-moves norm w m t u own agrees s placed
 rest-moves norm w m t u own agrees Moves s placed = settled-moves norm w t own m u agrees (still s) placed
@@ -61,7 +61,7 @@ pub record IsGoneOn (w : World) (t : Listing) (v : ℕ → Mark) (told : Bool) (
   pub loaded : NeedsNoLoad w t later p.state
   pub later_is : (p.due ≡ Nothing → ⊥) → later ≡ later_of p.due
 
-module _ (w : World) (t : Listing) (x : Versioned) (own : Agrees x.norm (at_homes x.norm) t t) (current : ℕ → ℕ) (begins : (k : ℕ) → t.current k ≡ x.method_of (current k)) where
+module _ (w : World) (t : Listing) (x : Versioned) (own : IsMovedListing x.norm (at_homes x.norm) t t) (current : ℕ → ℕ) (begins : (k : ℕ) → t.current k ≡ x.method_of (current k)) where
   abbrev pub mid : Listing
   mid = listing_named x.method_of current t
 
@@ -71,10 +71,10 @@ module _ (w : World) (t : Listing) (x : Versioned) (own : Agrees x.norm (at_home
   abbrev pub marks : ℕ → Mark
   marks = mark_now x.mark_of mid
 
-  mid-own : Agrees norm (at_homes norm) mid mid
+  mid-own : IsMovedListing norm (at_homes norm) mid mid
   mid-own = named-own x.norm w t own x.method_of current
 
-  mid-original : Agrees norm (versions_forgotten x.method_of) mid t
+  mid-original : IsMovedListing norm (versions_forgotten x.method_of) mid t
   mid-original = named-original x.norm w t own x.method_of current begins
 
   -- ---- between the original code and versions
@@ -162,7 +162,7 @@ module _ (w : World) (t : Listing) (x : Versioned) (own : Agrees x.norm (at_home
 
 -- ---- over the listing in force
 
-module _ (w : World) (t : Listing) (x : Versioned) (own : Agrees x.norm (at_homes x.norm) t t) (current : ℕ → ℕ) (u : Listing) (is : IsOfVersions x.norm x.method_of current x.homes t u)
+module _ (w : World) (t : Listing) (x : Versioned) (own : IsMovedListing x.norm (at_homes x.norm) t t) (current : ℕ → ℕ) (u : Listing) (is : IsOfVersions x.norm x.method_of current x.homes t u)
     (only : EndsByReturn w) (turn : Turn) (passed : ℕ) (told : Bool) (live : List Held) where
   abbrev of_versions : Listing
   of_versions = listing_named x.method_of current t
@@ -170,7 +170,7 @@ module _ (w : World) (t : Listing) (x : Versioned) (own : Agrees x.norm (at_home
   abbrev placing : ℕ → ℕ → ℕ
   placing = norm_by x.method_of x.norm
 
-  its-own : Agrees placing (at_homes placing) of_versions of_versions
+  its-own : IsMovedListing placing (at_homes placing) of_versions of_versions
   its-own = named-own x.norm w t own x.method_of current
 
   -- the same of the machine's pause, as that of the original code under versions
@@ -213,7 +213,7 @@ module _ (w : World) (t : Listing) (x : Versioned) (own : Agrees x.norm (at_home
       })
 
 -- the same where moves alone are left
-module _ (w : World) (t : Listing) (x : Versioned) (own : Agrees x.norm (at_homes x.norm) t t) (current : ℕ → ℕ) (u : Listing) (is : IsOfVersions x.norm x.method_of current x.homes t u)
+module _ (w : World) (t : Listing) (x : Versioned) (own : IsMovedListing x.norm (at_homes x.norm) t t) (current : ℕ → ℕ) (u : Listing) (is : IsOfVersions x.norm x.method_of current x.homes t u)
     (only : EndsByReturn w) (turn : Turn) (passed : ℕ) (live : List Held) where
   pub moves-go : (s : State) → InHand w t x turn passed false live Moves s → GoesOn w t x current turn passed false live (step_paused w u x.mark_of passed s)
   moves-go s inhand =

@@ -3,8 +3,8 @@ use Rattle.std.proofs.Common.{◌≡◌, ℕ, Bool, true, false, List, [], ◌�
 use Rattle.jvm_model.specs.Basis.Data.{Entry, Active, Initializing, State, Turn, Listing, World}
 use Rattle.jvm_model.specs.Running.Applies.{still}
 use Rattle.jvm_model.specs.Running.Moves.{turn_settled}
-use Rattle.jvm_model.specs.Running.Run.{step, start, with_loaded, loaded_turn, main_loads, starts_with}
-use Rattle.jvm_model.specs.Codes.Moved.{moved_stack, Agrees, at_homes, IsPlaced}
+use Rattle.jvm_model.specs.Running.Run.{step, start, with_classes_loaded, loaded_turn, main_loads, starts_with}
+use Rattle.jvm_model.specs.Codes.Moved.{moved_stack, IsMovedListing, at_homes, IsPlaced}
 use Rattle.jvm_model.specs.Rewriting.StandsForRun.{versions_forgotten, norm_by, StandsFor, IsOfVersions, KeepVersions}
 use Rattle.jvm_model.specs.Turns.Rest.{step_loads, Todo, Attempt, Moves, rest}
 use Rattle.jvm_model.specs.Turns.Told.{Held, helds}
@@ -53,21 +53,21 @@ load-after : (classes : List ℕ) (a : Turn) → (loaded_turn classes a).after �
 load-after [] a = refl
 load-after (c ∷ more) a = refl
 
-loaded-stack : (classes : List ℕ) (s : State) → (with_loaded classes s).stack ≡ s.stack
+loaded-stack : (classes : List ℕ) (s : State) → (with_classes_loaded classes s).stack ≡ s.stack
 loaded-stack [] s = refl
 loaded-stack (c ∷ more) s = refl
 
-module _ (w : World) (t : Listing) (x : Versioned) (own : Agrees x.norm (at_homes x.norm) t t) (current : ℕ → ℕ) (u : Listing) (is : IsOfVersions x.norm x.method_of current x.homes t u)
+module _ (w : World) (t : Listing) (x : Versioned) (own : IsMovedListing x.norm (at_homes x.norm) t t) (current : ℕ → ℕ) (u : Listing) (is : IsOfVersions x.norm x.method_of current x.homes t u)
     (versioned original : State) (stands : StandsFor x.norm x.method_of x.homes versioned original) where
   -- The machine loads what the step loads, which is the step's first change; then the rest of the step is in hand.
-  pub hand-begins : InHand w t x (step w t original) (behind_load (step_loads w u versioned)) false (helds x.mark_of versioned.stack) Attempt (with_loaded (step_loads w u versioned) versioned)
+  pub hand-begins : InHand w t x (step w t original) (behind_load (step_loads w u versioned)) false (helds x.mark_of versioned.stack) Attempt (with_classes_loaded (step_loads w u versioned) versioned)
   hand-begins =
       let classes : List ℕ = step_loads w t original in
       let same : step_loads w u versioned ≡ classes = step_loads-same x.norm w t own x.method_of current x.homes u is versioned original stands in
-      let ready : StandsFor x.norm x.method_of x.homes (with_loaded classes versioned) (with_loaded classes original) = loaded-stands_for x.norm x.method_of x.homes classes versioned original stands in
-      let all : step w t original ≡ loaded_turn classes (step w t (with_loaded classes original)) = step-loads w t original in
-      let there : Turn = step w t (with_loaded classes original) in
-      subst (λ cs. InHand w t x (step w t original) (behind_load cs) false (helds x.mark_of versioned.stack) Attempt (with_loaded cs versioned)) (sym same) (record {
+      let ready : StandsFor x.norm x.method_of x.homes (with_classes_loaded classes versioned) (with_classes_loaded classes original) = loaded-stands_for x.norm x.method_of x.homes classes versioned original stands in
+      let all : step w t original ≡ loaded_turn classes (step w t (with_classes_loaded classes original)) = step-loads w t original in
+      let there : Turn = step w t (with_classes_loaded classes original) in
+      subst (λ cs. InHand w t x (step w t original) (behind_load cs) false (helds x.mark_of versioned.stack) Attempt (with_classes_loaded cs versioned)) (sym same) (record {
         between = ready.between;
         versioned = ready.versioned_is;
         placed = ready.at_places;
@@ -79,10 +79,10 @@ module _ (w : World) (t : Listing) (x : Versioned) (own : Agrees x.norm (at_home
       })
 
   -- and its load is the list of its first change
-  pub begin-loads : (step w t original).changes ≡ (loaded_turn (step_loads w u versioned) (step w t (with_loaded (step_loads w t original) original))).changes
+  pub begin-loads : (step w t original).changes ≡ (loaded_turn (step_loads w u versioned) (step w t (with_classes_loaded (step_loads w t original) original))).changes
   begin-loads =
       ap (λ (a : Turn). a.changes) (step-loads w t original)
-      ∙ ap (λ cs. (loaded_turn cs (step w t (with_loaded (step_loads w t original) original))).changes) (sym (step_loads-same x.norm w t own x.method_of current x.homes u is versioned original stands))
+      ∙ ap (λ cs. (loaded_turn cs (step w t (with_classes_loaded (step_loads w t original) original))).changes) (sym (step_loads-same x.norm w t own x.method_of current x.homes u is versioned original stands))
 
 -- ---- the start
 

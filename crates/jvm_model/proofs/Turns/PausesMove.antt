@@ -9,8 +9,8 @@ use Rattle.jvm_model.specs.Basis.SharedState.{phase_of}
 use Rattle.jvm_model.specs.Instructions.Does.{does}
 use Rattle.jvm_model.specs.Running.Applies.{applies}
 use Rattle.jvm_model.specs.Running.Moves.{move, moves_left}
-use Rattle.jvm_model.specs.Running.Run.{starts, is_ready, goes_on}
-use Rattle.jvm_model.specs.Codes.Moved.{Moving, moved_frame, moved_stack, state_moved, moved_turn, moved_instruction, IsPlace, Agrees, at_homes, IsPlaced}
+use Rattle.jvm_model.specs.Running.Run.{starts, is_ready, is_going_on}
+use Rattle.jvm_model.specs.Codes.Moved.{Moving, moved_frame, moved_stack, state_moved, moved_turn, moved_instruction, IsPlace, IsMovedListing, at_homes, IsPlaced}
 use Rattle.jvm_model.specs.Turns.Told.{Held, frame_held, helds, mark_now}
 use Rattle.jvm_model.specs.Turns.Pauses.{Due, Nothing, Ends, Begins, unless_off, changes_due, Pause, pause_by, pauses, step_paused, passed_by}
 use Rattle.jvm_model.specs.Turns.StepPauses.{instruction_attempted, pause_behind, turn_pause, is_nothing, again_pause, leave_due, line_pause, frame_pause, stack_pause, step_pause}
@@ -22,8 +22,8 @@ use Rattle.jvm_model.proofs.Relocated.StepMoves.{placed-places, placed-state, ne
 abbrev pub moved_pause : Moving → Pause → Pause
 moved_pause m p = record p { state = state_moved m p.state }
 
-module _ (norm : ℕ → ℕ → ℕ) (w : World) (t : Listing) (own : Agrees norm (at_homes norm) t t) (v : ℕ → Mark) where
-  module _ (m : Moving) (u : Listing) (agrees : Agrees norm m t u) (keeps : (version : ℕ) → v (m.version version) ≡ v version) where
+module _ (norm : ℕ → ℕ → ℕ) (w : World) (t : Listing) (own : IsMovedListing norm (at_homes norm) t t) (v : ℕ → Mark) where
+  module _ (m : Moving) (u : Listing) (agrees : IsMovedListing norm m t u) (keeps : (version : ℕ) → v (m.version version) ≡ v version) where
     pub held-moves : (stack : List Entry) → helds v (moved_stack m stack) ≡ helds v stack
     held-moves [] = refl
     held-moves (Active f ∷ below) = ap₂ (λ mark live. record { method = f.method; mark = mark } ∷ live) (keeps f.version) (held-moves below)
@@ -107,7 +107,7 @@ module _ (norm : ℕ → ℕ → ℕ) (w : World) (t : Listing) (own : Agrees no
         let s' : State = record p.state { stack = s.stack } in
         let a : Turn = instruction_attempted w t i s' f in
         let ready : IsReadyAt norm i s' f = record { below = at.below; frame = at.frame; instruction = at.instruction } in
-        chosen-moves (is_nothing p.due && p.passed == n && is_ready (phase_of p.state.shared c) && goes_on p.state.ending p.state.thrown)
+        chosen-moves (is_nothing p.due && p.passed == n && is_ready (phase_of p.state.shared c) && is_going_on p.state.ending p.state.thrown)
         (turn_pause w t v n live a) p _ (moved_pause m p)
         (ap (turn_pause w u v n live) (attempted-moves i s' f at.below) ∙ turn-moves n live a (attempted-placed i s' f ready)) refl
 

@@ -5,8 +5,8 @@ use Rattle.jvm_model.specs.Basis.Data.{Frame, Entry, Active, Initializing, Endin
 use Rattle.jvm_model.specs.Instructions.Does.{does}
 use Rattle.jvm_model.specs.Running.Applies.{still, applies, has_room, live_in, most_live}
 use Rattle.jvm_model.specs.Running.Moves.{move, then_turn, turn_settled}
-use Rattle.jvm_model.specs.Running.Run.{attempt, starts, with_loaded, loaded_turn, steps_by, steps_at, steps_on}
-use Rattle.jvm_model.specs.Turns.Rest.{loads_at, loads_first, loads_on, Todo, Attempt, Moves, rest}
+use Rattle.jvm_model.specs.Running.Run.{attempt, starts, with_classes_loaded, loaded_turn, steps_by, steps_at, steps_on}
+use Rattle.jvm_model.specs.Turns.Rest.{classes_loaded_at, loads_first, loads_on, Todo, Attempt, Moves, rest}
 use Rattle.jvm_model.specs.Turns.StepPauses.{NeedsNoLoad}
 use Rattle.jvm_model.proofs.Running.Attempts.{again-by}
 use Rattle.jvm_model.proofs.Running.Settles.{settled-keeps}
@@ -73,10 +73,10 @@ by-no w t i s f =
     again-by (λ b. NoLoads b.changes) w t i s f (starts (does w i.operation s.shared f.locals f.operands).outcome) a (attempt-no w t i s f)
     (λ quiet on. no-append a.changes (attempt w t i (record a.after { stack = s.stack }) f).changes (attempt-no w t i s f) (attempt-no w t i (record a.after { stack = s.stack }) f))
 
-at-no : (w : World) (t : Listing) (s : State) (f : Frame) (o : Option Instruction) → loads_at w s f o ≡ [] → NoLoads (steps_at w t s f o).changes
+at-no : (w : World) (t : Listing) (s : State) (f : Frame) (o : Option Instruction) → classes_loaded_at w s f o ≡ [] → NoLoads (steps_at w t s f o).changes
 at-no w t s f None e = tt
 at-no w t s f (Some i) e =
-    subst (λ cs. NoLoads (loaded_turn cs (steps_by w t i (with_loaded cs s) f (does w i.operation (with_loaded cs s).shared f.locals f.operands))).changes) (sym e) (by-no w t i s f)
+    subst (λ cs. NoLoads (loaded_turn cs (steps_by w t i (with_classes_loaded cs s) f (does w i.operation (with_classes_loaded cs s).shared f.locals f.operands))).changes) (sym e) (by-no w t i s f)
 
 on-no : (w : World) (t : Listing) (s : State) (ending : Option Ending) (stack : List Entry) → loads_on w t s ending stack ≡ [] → NoLoads (steps_on w t s ending stack).changes
 on-no w t s None (Active f ∷ below) e = at-no w t (record s { stack = below }) f (t.at f.version f.place) e

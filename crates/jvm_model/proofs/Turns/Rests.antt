@@ -6,30 +6,30 @@ use Rattle.jvm_model.specs.Instructions.Does.{does, loads}
 use Rattle.jvm_model.specs.Instructions.SymbolicReference.{newly_loaded}
 use Rattle.jvm_model.specs.Running.Applies.{still}
 use Rattle.jvm_model.specs.Running.Moves.{move, moves_left, then_turn, settles, turn_settled}
-use Rattle.jvm_model.specs.Running.Run.{with_loaded, loaded_turn, steps_by, steps_at, steps_on, step}
-use Rattle.jvm_model.specs.Turns.Rest.{loads_at, loads_on, step_loads, Todo, Moves, rest, IsPart}
+use Rattle.jvm_model.specs.Running.Run.{with_classes_loaded, loaded_turn, steps_by, steps_at, steps_on, step}
+use Rattle.jvm_model.specs.Turns.Rest.{classes_loaded_at, loads_on, step_loads, Todo, Moves, rest, IsPart}
 use Rattle.jvm_model.proofs.Loading.LoadsAgain.{newly-again}
 use Rattle.jvm_model.proofs.Running.LoopOfMoves.{moved-same, moved-end}
 
 -- ---- behind the load
 
-with_loaded-stack : (classes : List ℕ) (s : State) → (with_loaded classes s).stack ≡ s.stack
+with_loaded-stack : (classes : List ℕ) (s : State) → (with_classes_loaded classes s).stack ≡ s.stack
 with_loaded-stack [] s = refl
 with_loaded-stack (c ∷ more) s = refl
 
-with_loaded-ending : (classes : List ℕ) (s : State) → (with_loaded classes s).ending ≡ s.ending
+with_loaded-ending : (classes : List ℕ) (s : State) → (with_classes_loaded classes s).ending ≡ s.ending
 with_loaded-ending [] s = refl
 with_loaded-ending (c ∷ more) s = refl
 
 -- where it was loaded nothing is loaded more
 named-again : (w : World) (classes : List ℕ) (s : State) (o : Operands) (n : Rattle.jvm_model.specs.Basis.Data.SymbolicReference) → newly_loaded w.program s.shared.loaded n o ≡ classes
-    → newly_loaded w.program (with_loaded classes s).shared.loaded n o ≡ []
+    → newly_loaded w.program (with_classes_loaded classes s).shared.loaded n o ≡ []
 named-again w [] s o n e = e
 named-again w (c ∷ more) s o n e =
     ap (λ cs. newly_loaded w.program (s.shared.loaded ++ cs) n o) (sym e) ∙ newly-again w.program s.shared.loaded n o
 
 loads-again : (w : World) (classes : List ℕ) (s : State) (o : Operands) (op : Operation Local) → loads w op s.shared o ≡ classes
-    → loads w op (with_loaded classes s).shared o ≡ []
+    → loads w op (with_classes_loaded classes s).shared o ≡ []
 loads-again w classes s o (Named n) e = named-again w classes s o n e
 loads-again w classes s o (Within i) e = refl
 loads-again w classes s o Athrow e = refl
@@ -44,45 +44,45 @@ cons-empty : (c : ℕ) (more : List ℕ) → [] ≡ c ∷ more → ⊥
 cons-empty c more e = cc
 
 module _ (w : World) (t : Listing) (c : ℕ) (more : List ℕ) where
-  at-loads : (s : State) (f : Frame) (i : Option Instruction) → loads_at w s f i ≡ c ∷ more
-      → steps_at w t s f i ≡ loaded_turn (c ∷ more) (steps_at w t (with_loaded (c ∷ more) s) f i)
+  at-loads : (s : State) (f : Frame) (i : Option Instruction) → classes_loaded_at w s f i ≡ c ∷ more
+      → steps_at w t s f i ≡ loaded_turn (c ∷ more) (steps_at w t (with_classes_loaded (c ∷ more) s) f i)
   at-loads s f None e = absurd (cons-empty c more e)
   at-loads s f (Some i) e =
-      let s' : State = with_loaded (c ∷ more) s in
-      let stepped : State → List ℕ → Turn = λ x cs. loaded_turn cs (steps_by w t i (with_loaded cs x) f (does w i.operation (with_loaded cs x).shared f.locals f.operands)) in
+      let s' : State = with_classes_loaded (c ∷ more) s in
+      let stepped : State → List ℕ → Turn = λ x cs. loaded_turn cs (steps_by w t i (with_classes_loaded cs x) f (does w i.operation (with_classes_loaded cs x).shared f.locals f.operands)) in
       ap (stepped s) e
       ∙ ap (λ cs. loaded_turn (c ∷ more) (stepped s' cs)) (sym (loads-again w (c ∷ more) s f.operands i.operation e))
 
   on-loads : (s : State) (ending : Option Ending) (stack : List Entry) → loads_on w t s ending stack ≡ c ∷ more
-      → steps_on w t s ending stack ≡ loaded_turn (c ∷ more) (steps_on w t (with_loaded (c ∷ more) s) ending stack)
+      → steps_on w t s ending stack ≡ loaded_turn (c ∷ more) (steps_on w t (with_classes_loaded (c ∷ more) s) ending stack)
   on-loads s None (Active f ∷ below) e = at-loads (record s { stack = below }) f (t.at f.version f.place) e
   on-loads s None [] e = absurd (cons-empty c more e)
   on-loads s None (Initializing d part ∷ below) e = absurd (cons-empty c more e)
   on-loads s (Some x) stack e = absurd (cons-empty c more e)
 
 -- A step is its load, and then the step of the state with these classes.
-pub step-loads : (w : World) (t : Listing) (s : State) → step w t s ≡ loaded_turn (step_loads w t s) (step w t (with_loaded (step_loads w t s) s))
+pub step-loads : (w : World) (t : Listing) (s : State) → step w t s ≡ loaded_turn (step_loads w t s) (step w t (with_classes_loaded (step_loads w t s) s))
 step-loads w t s = by (step_loads w t s) refl where
-  by : (classes : List ℕ) → step_loads w t s ≡ classes → step w t s ≡ loaded_turn classes (step w t (with_loaded classes s))
+  by : (classes : List ℕ) → step_loads w t s ≡ classes → step w t s ≡ loaded_turn classes (step w t (with_classes_loaded classes s))
   by [] e = refl
   by (c ∷ more) e = on-loads w t c more s s.ending s.stack e
 
 -- and that loads nothing
-again-at : (w : World) (s : State) (f : Frame) (classes : List ℕ) (i : Option Instruction) → loads_at w s f i ≡ classes → loads_at w (with_loaded classes s) f i ≡ []
+again-at : (w : World) (s : State) (f : Frame) (classes : List ℕ) (i : Option Instruction) → classes_loaded_at w s f i ≡ classes → classes_loaded_at w (with_classes_loaded classes s) f i ≡ []
 again-at w s f classes None e = refl
 again-at w s f classes (Some i) e = loads-again w classes s f.operands i.operation e
 
 again-on : (w : World) (t : Listing) (s : State) (classes : List ℕ) (ending : Option Ending) (stack : List Entry) → loads_on w t s ending stack ≡ classes
-    → loads_on w t (with_loaded classes s) ending stack ≡ []
+    → loads_on w t (with_classes_loaded classes s) ending stack ≡ []
 again-on w t s classes None (Active f ∷ below) e = again-at w s f classes (t.at f.version f.place) e
 again-on w t s classes None [] e = refl
 again-on w t s classes None (Initializing d part ∷ below) e = refl
 again-on w t s classes (Some x) stack e = refl
 
-pub step_loads-again : (w : World) (t : Listing) (s : State) → step_loads w t (with_loaded (step_loads w t s) s) ≡ []
+pub step_loads-again : (w : World) (t : Listing) (s : State) → step_loads w t (with_classes_loaded (step_loads w t s) s) ≡ []
 step_loads-again w t s =
     let classes : List ℕ = step_loads w t s in
-    let s' : State = with_loaded classes s in
+    let s' : State = with_classes_loaded classes s in
     ap (λ stack. loads_on w t s' s'.ending stack) (with_loaded-stack classes s)
     ∙ (ap (λ ending. loads_on w t s' ending s.stack) (with_loaded-ending classes s)
     ∙ again-on w t s classes s.ending s.stack refl)

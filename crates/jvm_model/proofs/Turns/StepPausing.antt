@@ -13,11 +13,11 @@ use Rattle.jvm_model.specs.Basis.Values.{datum_of}
 use Rattle.jvm_model.specs.Instructions.LocalRules.{returns, returns_datum}
 use Rattle.jvm_model.specs.Instructions.Does.{does, loads}
 use Rattle.jvm_model.specs.Running.Applies.{breaks, still, applies, has_room, live_in, most_live}
-use Rattle.jvm_model.specs.Running.Run.{starts, steps_on, steps_by, steps_at, with_loaded, loaded_turn, attempt, is_quiet, is_ready, goes_on, goes_again}
+use Rattle.jvm_model.specs.Running.Run.{starts, steps_on, steps_by, steps_at, with_classes_loaded, loaded_turn, attempt, has_no_changes, is_ready, is_going_on, goes_again}
 use Rattle.jvm_model.specs.Basis.SharedState.{phase_of}
 use Rattle.jvm_model.specs.Running.Moves.{move, then_turn, turn_settled}
 use Rattle.jvm_model.specs.Turns.Told.{Held, frame_held, held_after, all_held, helds, mark_now}
-use Rattle.jvm_model.specs.Turns.Rest.{loads_at, loads_on, step_loads, Attempt, Moves, rest, IsPart}
+use Rattle.jvm_model.specs.Turns.Rest.{classes_loaded_at, loads_on, step_loads, Attempt, Moves, rest, IsPart}
 use Rattle.jvm_model.specs.Turns.Pauses.{later_of, end_due, Due, Nothing, Ends, Begins, unless_off, change_due, Stop, stop_by, stop_in, stop_from, Pause, step_paused, passed_by, stop_of, IsPaused, is_end, Unwinds}
 use Rattle.jvm_model.specs.Turns.StepPauses.{ends_by, is_at_return, frame_pause, stack_pause, step_pause, is_return, leave_due, IsStepPaused, is_nothing, again_pause, pause_behind, turn_pause, instruction_attempted}
 use Rattle.jvm_model.proofs.Events.Helds.{applies-tells, moves-tell}
@@ -56,17 +56,17 @@ passed_by-is : (n : ℕ) (changes : List Change) → passed_by n changes ≡ n +
 passed_by-is n [] = omega arith
 passed_by-is n (c ∷ more) = let h = passed_by-is (suc n) more in omega arith
 
-quiet-count : (n : ℕ) (changes : List Change) → is_quiet changes ≡ (passed_by n changes == n)
+quiet-count : (n : ℕ) (changes : List Change) → has_no_changes changes ≡ (passed_by n changes == n)
 quiet-count n [] = sym (grind (arith))
 quiet-count n (c ∷ more) = sym (let h : passed_by n (c ∷ more) ≡ n + length (c ∷ more) = passed_by-is n (c ∷ more) in ap (λ k. k == n) h ∙ grind (arith))
 
 -- where nothing has changed nothing is due
-quiet-due : (marks : ℕ → Mark) (told : Bool) (n : ℕ) (live : List Held) (changes : List Change) → is_quiet changes ≡ true → (stop_from marks told n live changes).due ≡ Nothing
+quiet-due : (marks : ℕ → Mark) (told : Bool) (n : ℕ) (live : List Held) (changes : List Change) → has_no_changes changes ≡ true → (stop_from marks told n live changes).due ≡ Nothing
 quiet-due marks true n live [] e = refl
 quiet-due marks false n live [] e = refl
 quiet-due marks told n live (c ∷ more) e = absurd (let h : false ≡ true = e in cc)
 
-quiet-empty : (changes : List Change) → is_quiet changes ≡ true → changes ≡ []
+quiet-empty : (changes : List Change) → has_no_changes changes ≡ true → changes ≡ []
 quiet-empty [] e = refl
 quiet-empty (c ∷ more) e = absurd (let h : false ≡ true = e in cc)
 
@@ -192,25 +192,25 @@ module _ (w : World) (t : Listing) (v : ℕ → Mark) where
       )
 
   again-test : (n : ℕ) (live : List Held) (c : ℕ) (x : Turn) (p : Pause) → IsTurnPaused w t v false n live x p → (d : Due) → p.due ≡ d
-      → (is_quiet x.changes && is_ready (phase_of x.after.shared c) && goes_on x.after.ending x.after.thrown)
-      ≡ (is_nothing d && p.passed == n && is_ready (phase_of p.state.shared c) && goes_on p.state.ending p.state.thrown)
+      → (has_no_changes x.changes && is_ready (phase_of x.after.shared c) && is_going_on x.after.ending x.after.thrown)
+      ≡ (is_nothing d && p.passed == n && is_ready (phase_of p.state.shared c) && is_going_on p.state.ending p.state.thrown)
   again-test n live c x p is Nothing due =
       let end = at-end false n live x p is due in
-      let same : is_quiet x.changes ≡ (p.passed == n) = ap is_quiet end.1 ∙ (quiet-count n is.changes ∙ ap (λ k. k == n) (sym is.count)) in
-      ap (λ b. b && is_ready (phase_of x.after.shared c) && goes_on x.after.ending x.after.thrown) same
-      ∙ ap (λ (s : State). p.passed == n && is_ready (phase_of s.shared c) && goes_on s.ending s.thrown) end.0
-  again-test n live c x p is (Ends k) due = ap (λ b. b && is_ready (phase_of x.after.shared c) && goes_on x.after.ending x.after.thrown) (busy is_q refl) where
+      let same : has_no_changes x.changes ≡ (p.passed == n) = ap has_no_changes end.1 ∙ (quiet-count n is.changes ∙ ap (λ k. k == n) (sym is.count)) in
+      ap (λ b. b && is_ready (phase_of x.after.shared c) && is_going_on x.after.ending x.after.thrown) same
+      ∙ ap (λ (s : State). p.passed == n && is_ready (phase_of s.shared c) && is_going_on s.ending s.thrown) end.0
+  again-test n live c x p is (Ends k) due = ap (λ b. b && is_ready (phase_of x.after.shared c) && is_going_on x.after.ending x.after.thrown) (busy is_q refl) where
     is_q : Bool
-    is_q = is_quiet x.changes
+    is_q = has_no_changes x.changes
 
-    busy : (b : Bool) → is_quiet x.changes ≡ b → b ≡ false
+    busy : (b : Bool) → has_no_changes x.changes ≡ b → b ≡ false
     busy false e = refl
     busy true e = absurd (let h : Ends k ≡ Nothing = sym due ∙ (ap (λ (s : Stop). s.due) (sym is.stops) ∙ quiet-due marks false n live x.changes e) in cc)
-  again-test n live c x p is Begins due = ap (λ b. b && is_ready (phase_of x.after.shared c) && goes_on x.after.ending x.after.thrown) (busy is_q refl) where
+  again-test n live c x p is Begins due = ap (λ b. b && is_ready (phase_of x.after.shared c) && is_going_on x.after.ending x.after.thrown) (busy is_q refl) where
     is_q : Bool
-    is_q = is_quiet x.changes
+    is_q = has_no_changes x.changes
 
-    busy : (b : Bool) → is_quiet x.changes ≡ b → b ≡ false
+    busy : (b : Bool) → has_no_changes x.changes ≡ b → b ≡ false
     busy false e = refl
     busy true e = absurd (let h : Begins ≡ Nothing = sym due ∙ (ap (λ (s : Stop). s.due) (sym is.stops) ∙ quiet-due marks false n live x.changes e) in cc)
 
@@ -240,15 +240,15 @@ module _ (w : World) (t : Listing) (v : ℕ → Mark) where
       let q : Pause = turn_pause w t v n live (instruction_attempted w t i s' f) in
       let quiet : Bool = is_nothing p.due && p.passed == n in
       let ready : Bool = is_ready (phase_of p.state.shared c) in
-      let on : Bool = goes_on p.state.ending p.state.thrown in
+      let on : Bool = is_going_on p.state.ending p.state.thrown in
       chosen-paused n live
-      (is_quiet x.changes && is_ready (phase_of x.after.shared c) && goes_on x.after.ending x.after.thrown) (quiet && ready && on)
+      (has_no_changes x.changes && is_ready (phase_of x.after.shared c) && is_going_on x.after.ending x.after.thrown) (quiet && ready && on)
       (again-test n live c x p is p.due refl) x (then_turn x (attempt w t i (record x.after { stack = s.stack }) f)) p q is
       (λ yes.
       let nothing : p.due ≡ Nothing = due-nothing p.due (and_parts (is_nothing p.due) (p.passed == n) (and_parts quiet ready (and_parts (quiet && ready) on yes).0).0).0 in
-      let all : (is_quiet x.changes && is_ready (phase_of x.after.shared c) && goes_on x.after.ending x.after.thrown) ≡ true = again-test n live c x p is p.due refl ∙ yes in
-      let still_so : is_quiet x.changes ≡ true =
-      (and_parts (is_quiet x.changes) (is_ready (phase_of x.after.shared c)) (and_parts (is_quiet x.changes && is_ready (phase_of x.after.shared c)) (goes_on x.after.ending x.after.thrown) all).0).0 in
+      let all : (has_no_changes x.changes && is_ready (phase_of x.after.shared c) && is_going_on x.after.ending x.after.thrown) ≡ true = again-test n live c x p is p.due refl ∙ yes in
+      let still_so : has_no_changes x.changes ≡ true =
+      (and_parts (has_no_changes x.changes) (is_ready (phase_of x.after.shared c)) (and_parts (has_no_changes x.changes && is_ready (phase_of x.after.shared c)) (is_going_on x.after.ending x.after.thrown) all).0).0 in
       second-paused n live i s f x p q (turn-parts x p.state (at-end false n live x p is nothing).0 (quiet-empty x.changes still_so))
       (attempt-paused false n i s' f (may s' refl)))
 
@@ -257,7 +257,7 @@ module _ (w : World) (t : Listing) (v : ℕ → Mark) where
   -- where its classes are loaded a step is its attempts
   at-rest : (s : State) (f : Frame) (i : Instruction) → loads w i.operation s.shared f.operands ≡ [] → steps_at w t s f (Some i) ≡ steps_by w t i s f (does w i.operation s.shared f.locals f.operands)
   at-rest s f i loaded =
-      ap (λ cs. loaded_turn cs (steps_by w t i (with_loaded cs s) f (does w i.operation (with_loaded cs s).shared f.locals f.operands))) loaded
+      ap (λ cs. loaded_turn cs (steps_by w t i (with_classes_loaded cs s) f (does w i.operation (with_classes_loaded cs s).shared f.locals f.operands))) loaded
 
   pub return-ends : (op : Operation Local) (s : Shared) (l : Locals) (o : Operands) → is_return op ≡ true → ends_by (does w op s l o).outcome ≡ true
   return-ends (Within (Return k)) s l o e = returns-end k o where
@@ -352,7 +352,7 @@ module _ (w : World) (t : Listing) (v : ℕ → Mark) where
     -- ---- all of it
 
     frame-paused : (told : Bool) (n : ℕ) (s : State) (f : Frame) (o : Option Instruction) → (told ≡ true → option_map_or (λ (i : Instruction). is_return i.operation) o false ≡ true)
-        → loads_at w s f o ≡ [] → rest w t Attempt (record s { stack = Active f ∷ s.stack }) ≡ steps_at w t s f o
+        → classes_loaded_at w s f o ≡ [] → rest w t Attempt (record s { stack = Active f ∷ s.stack }) ≡ steps_at w t s f o
         → step_loads w t (record s { stack = Active f ∷ s.stack }) ≡ []
         → (option_map_or (λ (i : Instruction). is_return i.operation) o false ≡ true → is_at_return t s.ending (Active f ∷ s.stack) ≡ true)
         → IsStepPaused w t v told n (record s { stack = Active f ∷ s.stack }) (frame_pause w t v told n s f o)

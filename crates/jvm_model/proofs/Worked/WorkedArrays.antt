@@ -21,7 +21,7 @@ use Rattle.base_classes.specs.Natives.{native_methods}
 use Rattle.native_effects.specs.Inputs.KindsViews.{is_among}
 use Rattle.native_ops.specs.Methods.Rows.{rows as native_rows}
 use Rattle.jvm_model.specs.Basis.Data.{Datum, Operands, Frame, Active, Initializing, Constants, Finish, Returned, Unverifiable, State, Quotient, Constant, Store, DivisionOfInts, Local, Operation, Within, Athrow, Monitor, Newarray, Arraylength, LoadElement, StoreElement, Instruction, Catcher, Began, Unwound, Turn, World}
-use Rattle.jvm_model.specs.Running.Applies.{begins_beside, invokes, live_in, new_frame}
+use Rattle.jvm_model.specs.Running.Applies.{begins_beside, invocation_turn, live_in, new_frame}
 use Rattle.jvm_model.specs.Basis.Families.{family_of, rows}
 use Rattle.jvm_model.specs.Codes.Lines.{operation_by}
 use Rattle.jvm_model.specs.Instructions.LocalRules.{arithmetic_exception}
@@ -423,7 +423,7 @@ caller = new_frame (world_by calls) (listing_by calls) 0 argument
 abbrev pub calls_above : ℕ → Turn
 calls_above count =
     let s = after calls 0 in
-    invokes (world_by calls) (listing_by calls) (at 0 3 returns) (record s { stack = replicate count (Active caller) }) caller 0 argument []
+    invocation_turn (world_by calls) (listing_by calls) (at 0 3 returns) (record s { stack = replicate count (Active caller) }) caller 0 argument []
 
 pub call_1024-begins : (calls_above 1022).changes ≡ Began 0 ∷ []
 call_1024-begins = refl

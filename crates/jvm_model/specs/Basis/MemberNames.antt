@@ -10,5 +10,5 @@ abbrev pub reference_to : List ℕ → List ℕ → List ℕ → Reference
 reference_to class name descriptor = record { class = class; member = name_type_of name descriptor }
 
 -- the kinds of the parameters that a method's descriptor tells
-abbrev pub params_by : List ℕ → Option (List Kind)
-params_by descriptor = option_map (λ (shape : Shape). shape.params) (shape_of descriptor)
+abbrev pub descriptor_params : List ℕ → Option (List Kind)
+descriptor_params descriptor = option_map (λ (shape : Shape). shape.params) (shape_of descriptor)

@@ -61,15 +61,15 @@ element_of (unit ∷ []) = option_map Primitive (primitive_code unit)
 element_of (unit ∷ next ∷ rest) =
     if unit == 76 && not (next == 59) then option_map Named (before_semicolon (next ∷ rest)) else None
 
-abbrev pub array_of : ℕ → Element → Meaning
-array_of dimensions element = record { dimensions = dimensions; element = element }
+abbrev pub array_meaning : ℕ → Element → Meaning
+array_meaning dimensions element = record { dimensions = dimensions; element = element }
 
 -- behind so many of at most 255 dimensions
 abbrev pub array_from : ℕ → List ℕ → Option Meaning
 array_from dimensions [] = None
 array_from dimensions (unit ∷ rest) =
     if unit == 91 then array_from (dimensions + 1) rest
-    else if nat_le dimensions 255 then option_map (array_of dimensions) (element_of (unit ∷ rest))
+    else if nat_le dimensions 255 then option_map (array_meaning dimensions) (element_of (unit ∷ rest))
     else None
 
 -- a name that begins as an array's
@@ -79,7 +79,7 @@ is_array_name (unit ∷ rest) = unit == 91
 
 -- one that begins so and is no descriptor is the name of no class
 abbrev pub meaning_of : List ℕ → Meaning
-meaning_of name = if is_array_name name then unwrap_or (array_from 0 name) (array_of 0 (Named name)) else array_of 0 (Named name)
+meaning_of name = if is_array_name name then unwrap_or (array_from 0 name) (array_meaning 0 (Named name)) else array_meaning 0 (Named name)
 
 abbrev pub base_of_element : Program → Element → Option ℕ
 base_of_element p (Primitive code) = Some code

@@ -83,24 +83,24 @@ load_needs p load (n ∷ rest) loaded =
     go_on (load n.name loaded) (λ after. unless (need_fault p n) after (load_needs p load rest))
 
 -- how a name's class stands: there is none, it is loaded, it is being loaded, or it is to be loaded
-pub data Standing : Type 0 where
-  Missing : Standing
-  There : Standing
-  Begun : Standing
-  Fresh : ℕ → Standing
+pub data LoadState : Type 0 where
+  Missing : LoadState
+  There : LoadState
+  Begun : LoadState
+  Fresh : ℕ → LoadState
 
 abbrev pub is_among : ℕ → List ℕ → Bool
 is_among class classes = list_any (λ other. class == other) classes
 
-abbrev pub standing_of : List ℕ → List ℕ → Option ℕ → Standing
-standing_of path loaded None = Missing
-standing_of path loaded (Some class) = if is_among class loaded then There else if is_among class path then Begun else Fresh class
+abbrev pub load_state_of : List ℕ → List ℕ → Option ℕ → LoadState
+load_state_of path loaded None = Missing
+load_state_of path loaded (Some class) = if is_among class loaded then There else if is_among class path then Begun else Fresh class
 
-abbrev pub by_standing : Standing → List ℕ → List ℕ → (ℕ → Loading) → Loading
-by_standing Missing name loaded load = loading_failed loaded (NoClass name)
-by_standing There name loaded load = loading_done loaded
-by_standing Begun name loaded load = loading_failed loaded Circular
-by_standing (Fresh class) name loaded load = load class
+abbrev pub by_load_state : LoadState → List ℕ → List ℕ → (ℕ → Loading) → Loading
+by_load_state Missing name loaded load = loading_failed loaded (NoClass name)
+by_load_state There name loaded load = loading_done loaded
+by_load_state Begun name loaded load = loading_failed loaded Circular
+by_load_state (Fresh class) name loaded load = load class
 
 abbrev pub behind_needs : ℕ → Loading → Loading
 behind_needs class l = go_on l (λ loaded. loading_done (loaded ++ class ∷ []))
@@ -115,7 +115,7 @@ abbrev pub load_named : Program → ℕ → List ℕ → List ℕ → List ℕ �
 load_named p zero path name loaded = loading_failed loaded Circular
 load_named p (suc depth) path name loaded =
     load_element (meaning_of name).element loaded (λ class_name.
-    by_standing (standing_of path loaded (class_named p class_name)) class_name loaded (λ class.
+    by_load_state (load_state_of path loaded (class_named p class_name)) class_name loaded (λ class.
     behind_needs class (load_needs p (load_named p depth (path ++ class ∷ [])) (needs_of p class) loaded)))
 
 -- what resolving a name loads, where these classes are loaded

@@ -88,7 +88,7 @@ HaveBounds norm v (h ∷ more) = IsPlace norm v h.start × IsPlace norm v h.fini
 
 -- The second listing has the lines and handlers of the first by homes, which rise strictly over the places where there
 -- are handlers.
-pub record Agrees (norm : ℕ → ℕ → ℕ) (m : Moving) (t u : Listing) : Type 0 where
+pub record IsMovedListing (norm : ℕ → ℕ → ℕ) (m : Moving) (t u : Listing) : Type 0 where
   pub current : (k : ℕ) → u.current k ≡ m.version (t.current k)
   pub first : (v : ℕ) → u.first (m.version v) ≡ m.home v (t.first v)
   pub lines : (v at : ℕ) → IsPlace norm v at → u.at (m.version v) (m.home v at) ≡ option_map (moved_instruction (m.home v)) (t.at v at)

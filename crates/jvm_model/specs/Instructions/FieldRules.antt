@@ -56,9 +56,9 @@ abbrev pub field_narrowed : Kind → Datum → Datum
 field_narrowed k d = element_kept (element_for k) d
 
 -- the topmost operand as a field of this kind holds it
-abbrev pub held_of : Kind → Operands → Option Datum
-held_of k [] = None
-held_of k (v ∷ below) = option_map (field_narrowed k) (datum_of k v)
+abbrev pub field_held : Kind → Operands → Option Datum
+field_held k [] = None
+field_held k (v ∷ below) = option_map (field_narrowed k) (datum_of k v)
 
 -- ---- static fields
 
@@ -79,7 +79,7 @@ sets_static m (Some d) s l o = done (with_static s (static_field m) d) (GoesOn l
 abbrev pub puts_static : Program → Reference → Shared → Locals → Operands → Done
 puts_static p r s l o =
     unless_refused s (named_field p s.loaded true r) (λ m.
-    class_initialized p m.class s (sets_static m (held_of (kind_by r) o) s l o))
+    class_initialized p m.class s (sets_static m (field_held (kind_by r) o) s l o))
 
 -- ---- where an instance field stands
 

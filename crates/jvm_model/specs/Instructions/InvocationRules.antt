@@ -55,15 +55,15 @@ abbrev pub unsatisfied_link : List ℕ
 unsatisfied_link = codes "java/lang/UnsatisfiedLinkError"
 
 -- the class that declares a method, and the method's name and descriptor
-abbrev pub reference_to : Program → MemberPlace → Option Reference
-reference_to p m =
+abbrev pub method_reference : Program → MemberPlace → Option Reference
+method_reference p m =
     option_and_then (λ class. option_map (λ member. record { class = class; member = member }) (signature_of p m)) (name_at p m.class)
 
 -- a native method: a user's class has none that could be linked (2.11.8)
 abbrev pub invokes_native : World → MemberPlace → List Datum → Shared → Locals → Operands → Done
 invokes_native w m args s l below =
     if nat_lt m.class (user_count w.program) then done s (Raises unsatisfied_link None)
-    else runs_native w (reference_to w.program m) args s l below
+    else runs_native w (method_reference w.program m) args s l below
 
 -- a method that has Code, by its number
 abbrev pub invokes_number : World → MemberPlace → Option ℕ → List Datum → Shared → Locals → Operands → Done

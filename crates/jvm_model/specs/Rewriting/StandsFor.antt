@@ -111,5 +111,5 @@ abbrev pub mark_at : List Mark → ℕ → Mark
 mark_at marks method = unwrap_or (slice_get marks method) Off
 
 -- the versions stay as they were installed, so that the step of a begin makes no difference
-abbrev pub marking_of : List Mark → Marking
-marking_of marks step method = mark_at marks method
+abbrev pub fixed_marking : List Mark → Marking
+fixed_marking marks step method = mark_at marks method

@@ -3,7 +3,7 @@
 -- different versions, and the version that a method begins in may change from step to step.
 use Rattle.std.specs.Prelude.{◌≡◌, ℕ, List, [], ◌∷◌}
 use Rattle.jvm_model.specs.Basis.Data.{Entry, Active, Initializing, State, Listing}
-use Rattle.jvm_model.specs.Codes.Moved.{Moving, state_moved, Agrees, IsPlaced, at_homes}
+use Rattle.jvm_model.specs.Codes.Moved.{Moving, state_moved, IsMovedListing, IsPlaced, at_homes}
 
 -- the original code under versions: the method that each version is of, and the version that a method begins in
 abbrev pub listing_named : (ℕ → ℕ) → (ℕ → ℕ) → Listing → Listing
@@ -32,7 +32,7 @@ pub record StandsFor (norm : ℕ → ℕ → ℕ) (method_of : ℕ → ℕ) (hom
 -- A listing of versions, each laid out by homes from the code of its method.
 pub record IsOfVersions (norm : ℕ → ℕ → ℕ) (method_of current : ℕ → ℕ) (homes : ℕ → ℕ → ℕ) (t u : Listing) : Type 0 where
   pub begins : (k : ℕ) → t.current k ≡ method_of (current k)
-  pub agrees : Agrees (norm_by method_of norm) (at_homes homes) (listing_named method_of current t) u
+  pub agrees : IsMovedListing (norm_by method_of norm) (at_homes homes) (listing_named method_of current t) u
 
 -- the versions of the frames are of the same methods, with the same homes
 abbrev pub KeepVersions : (old new : ℕ → ℕ) → (olds news : ℕ → ℕ → ℕ) → List Entry → Type 0

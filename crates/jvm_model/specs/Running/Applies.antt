@@ -74,8 +74,8 @@ begins_beside w t s f m args below live =
     if nat_lt live most_live then begins w t s f m args below
     else still (throws_at s f (exception_raised w s.shared stack_overflow None))
 
-abbrev pub invokes : World → Listing → Instruction → State → Frame → ℕ → List Datum → Operands → Turn
-invokes w t i s f m args below =
+abbrev pub invocation_turn : World → Listing → Instruction → State → Frame → ℕ → List Datum → Operands → Turn
+invocation_turn w t i s f m args below =
     if has_room w m args then begins_beside w t s f m args below (suc (live_in s.stack)) else still (breaks s f i.own)
 
 -- the caller goes on behind its instruction, with the result on top
@@ -100,7 +100,7 @@ breaks_or_ends false s f own = still (breaks s f own)
 abbrev pub applies : World → Listing → Instruction → Outcome → State → Frame → Turn
 applies w t i (GoesOn l o to) s f = still (goes s f i.own l o (place_of i to))
 applies w t i Subroutine s f = still (enters_subroutine s f i i.next)
-applies w t i (Invokes m args below) s f = invokes w t i s f m args below
+applies w t i (Invokes m args below) s f = invocation_turn w t i s f m args below
 applies w t i (Returns d) s f = record { after = gives_back t s d s.stack; changes = Left ∷ [] }
 applies w t i (Throws r) s f = still (throws_at s f (record { shared = s.shared; reference = r }))
 applies w t i (Raises c message) s f = still (throws_at s f (exception_raised w s.shared c message))

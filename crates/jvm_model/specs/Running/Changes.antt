@@ -13,15 +13,15 @@ without_first [] = []
 without_first (m ∷ ms) = ms
 
 -- the methods after a change, and after several
-abbrev pub after_change : List ℕ → Change → List ℕ
-after_change ms (Loads classes) = ms
-after_change ms (Began m) = m ∷ ms
-after_change ms Left = without_first ms
-after_change ms Unwound = without_first ms
+abbrev pub methods_after_change : List ℕ → Change → List ℕ
+methods_after_change ms (Loads classes) = ms
+methods_after_change ms (Began m) = m ∷ ms
+methods_after_change ms Left = without_first ms
+methods_after_change ms Unwound = without_first ms
 
-abbrev pub after_changes : List ℕ → List Change → List ℕ
-after_changes ms [] = ms
-after_changes ms (c ∷ more) = after_changes (after_change ms c) more
+abbrev pub methods_after_changes : List ℕ → List Change → List ℕ
+methods_after_changes ms [] = ms
+methods_after_changes ms (c ∷ more) = methods_after_changes (methods_after_change ms c) more
 
 -- how many activations begin
 abbrev pub begun_count : List Change → ℕ

@@ -126,13 +126,13 @@ abbrev pub unit : Bool → ℕ
 unit true = 1
 unit false = 0
 
-abbrev pub unless : Bool → ℕ
-unless true = 0
-unless false = 1
+abbrev pub unit_unless : Bool → ℕ
+unit_unless true = 0
+unit_unless false = 1
 
 -- each move makes it less
 abbrev pub moves_left : State → ℕ
-moves_left s = 8 * fresh s.shared.phases + weights s.stack + unit (is_some s.thrown) + 2 * unless s.begun + unless (is_some s.ending)
+moves_left s = 8 * fresh s.shared.phases + weights s.stack + unit (is_some s.thrown) + 2 * unit_unless s.begun + unit_unless (is_some s.ending)
 
 abbrev pub then_turn : Turn → Turn → Turn
 then_turn a b = record { after = b.after; changes = a.changes ++ b.changes }

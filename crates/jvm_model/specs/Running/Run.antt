@@ -30,19 +30,19 @@ abbrev pub is_ready : Option Phase → Bool
 is_ready (Some Ready) = true
 is_ready _ = false
 
-abbrev pub is_quiet : List Change → Bool
-is_quiet [] = true
-is_quiet (c ∷ more) = false
+abbrev pub has_no_changes : List Change → Bool
+has_no_changes [] = true
+has_no_changes (c ∷ more) = false
 
-abbrev pub goes_on : Option Ending → Option ℕ → Bool
-goes_on None None = true
-goes_on _ _ = false
+abbrev pub is_going_on : Option Ending → Option ℕ → Bool
+is_going_on None None = true
+is_going_on _ _ = false
 
 -- where the class was initialized without any activation, the instruction is executed in the same step
 abbrev pub goes_again : World → Listing → Instruction → State → Frame → Option ℕ → Turn → Turn
 goes_again w t i s f None turn = turn
 goes_again w t i s f (Some c) turn =
-    if is_quiet turn.changes && is_ready (phase_of turn.after.shared c) && goes_on turn.after.ending turn.after.thrown
+    if has_no_changes turn.changes && is_ready (phase_of turn.after.shared c) && is_going_on turn.after.ending turn.after.thrown
     then then_turn turn (attempt w t i (record turn.after { stack = s.stack }) f)
     else turn
 
@@ -50,9 +50,9 @@ abbrev pub steps_by : World → Listing → Instruction → State → Frame → 
 steps_by w t i s f done = goes_again w t i s f (starts done.outcome) (tries w t i s f done)
 
 -- the classes that it needs are loaded first
-abbrev pub with_loaded : List ℕ → State → State
-with_loaded [] s = s
-with_loaded (c ∷ more) s = record s { shared = record s.shared { loaded = s.shared.loaded ++ c ∷ more } }
+abbrev pub with_classes_loaded : List ℕ → State → State
+with_classes_loaded [] s = s
+with_classes_loaded (c ∷ more) s = record s { shared = record s.shared { loaded = s.shared.loaded ++ c ∷ more } }
 
 abbrev pub loaded_turn : List ℕ → Turn → Turn
 loaded_turn [] turn = turn
@@ -62,7 +62,7 @@ abbrev pub steps_at : World → Listing → State → Frame → Option Instructi
 steps_at w t s f None = still (breaks s f 0)
 steps_at w t s f (Some i) =
     let classes = loads w i.operation s.shared f.operands in
-    let ready = with_loaded classes s in
+    let ready = with_classes_loaded classes s in
     loaded_turn classes (steps_by w t i ready f (does w i.operation ready.shared f.locals f.operands))
 
 abbrev pub steps_on : World → Listing → State → Option Ending → List Entry → Turn
@@ -112,7 +112,7 @@ starts_unless w None s =
 
 -- the arguments are made and the main class is loaded
 abbrev pub run_opened : World → State
-run_opened w = with_loaded (main_classes w) (arguments_made w (before w))
+run_opened w = with_classes_loaded (main_classes w) (arguments_made w (before w))
 
 -- where there is no room for the arguments, object 1 is thrown: nothing is made or loaded
 abbrev pub heap_exhausted : World → State

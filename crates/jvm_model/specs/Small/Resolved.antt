@@ -50,15 +50,15 @@ resolved_local (BinaryOfInts op) = resolved_binary op
 resolved_local (Return k) = resolved_return k
 resolved_local _ = None
 
-abbrev pub resolved_name : ClassFile → SymbolicReference → Option Resolved
-resolved_name c (Getstatic r) = if is_out r then Some resolved.Out else None
-resolved_name c (Invokevirtual r) = if is_println r then Some resolved.Println else None
-resolved_name c (Invokestatic r) = option_map resolved.Invokestatic (own_method c r)
-resolved_name c _ = None
+abbrev pub resolved_reference : ClassFile → SymbolicReference → Option Resolved
+resolved_reference c (Getstatic r) = if is_out r then Some resolved.Out else None
+resolved_reference c (Invokevirtual r) = if is_println r then Some resolved.Println else None
+resolved_reference c (Invokestatic r) = option_map resolved.Invokestatic (own_method c r)
+resolved_reference c _ = None
 
 abbrev pub resolved_in : ClassFile → Operation Local → Option Resolved
 resolved_in c (Within i) = resolved_local i
-resolved_in c (Named n) = resolved_name c n
+resolved_in c (Named n) = resolved_reference c n
 resolved_in c _ = None
 
 -- what an instruction of the class does, with its names looked up

@@ -109,13 +109,13 @@ is_small_instr c k max_locals shape i =
     is_small_opcode i.op && option_map_or (fits_method k max_locals shape) (resolved_of c i) false
 
 -- ireturn or return
-abbrev pub is_return : Instr → Bool
-is_return i = i.op == 172 || i.op == 177
+abbrev pub is_plain_return : Instr → Bool
+is_plain_return i = i.op == 172 || i.op == 177
 
 -- the last instruction is a return, so that control never passes the end
 abbrev pub ends_in_return : List Instr → Bool
 ends_in_return [] = false
-ends_in_return (i ∷ []) = is_return i
+ends_in_return (i ∷ []) = is_plain_return i
 ends_in_return (i ∷ rest) = ends_in_return rest
 
 pub record IsSmallCode (c : ClassFile) (k : ℕ) (shape : Shape) (code : CodeAttribute) : Type 0 where

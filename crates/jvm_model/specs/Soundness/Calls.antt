@@ -58,12 +58,12 @@ pub record IsTold (w : World) (code : ℕ → List (Operation Local)) (n : ℕ) 
 -- ---- where frames stand
 
 -- the code's end, at which ranges of handlers can end
-abbrev pub is_end : ClassFile → ℕ → ℕ → Bool
-is_end c position at = option_map_or (λ (code : CodeAttribute). length code.code == at) (method_code c position) false
+abbrev pub is_code_end : ClassFile → ℕ → ℕ → Bool
+is_code_end c position at = option_map_or (λ (code : CodeAttribute). length code.code == at) (method_code c position) false
 
 -- the places of a method: the starts of its instructions, and its code's end
 abbrev pub places_of : Program → ℕ → ℕ → Bool
-places_of p method at = unwrap_or (by_number p (λ c position. Some (is_place c position at || is_end c position at)) method) true
+places_of p method at = unwrap_or (by_number p (λ c position. Some (is_place c position at || is_code_end c position at)) method) true
 
 -- the current frame, if it is on top
 abbrev pub StandsAtPlace : Program → List Entry → Type 0

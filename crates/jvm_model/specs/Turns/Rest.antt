@@ -9,12 +9,12 @@ use Rattle.jvm_model.specs.Running.Run.{step}
 
 -- ---- the classes that a step loads first
 
-abbrev pub loads_at : World → State → Frame → Option Instruction → List ℕ
-loads_at w s f None = []
-loads_at w s f (Some i) = loads w i.operation s.shared f.operands
+abbrev pub classes_loaded_at : World → State → Frame → Option Instruction → List ℕ
+classes_loaded_at w s f None = []
+classes_loaded_at w s f (Some i) = loads w i.operation s.shared f.operands
 
 abbrev pub loads_on : World → Listing → State → Option Ending → List Entry → List ℕ
-loads_on w t s None (Active f ∷ below) = loads_at w s f (t.at f.version f.place)
+loads_on w t s None (Active f ∷ below) = classes_loaded_at w s f (t.at f.version f.place)
 loads_on w t s _ _ = []
 
 abbrev pub step_loads : World → Listing → State → List ℕ

@@ -8,7 +8,7 @@ use Rattle.jvm_model.specs.Basis.Data.{Shared, Locals, Operands, Frame, Entry, A
 use Rattle.jvm_model.specs.Basis.SharedState.{phase_of}
 use Rattle.jvm_model.specs.Instructions.Does.{does}
 use Rattle.jvm_model.specs.Running.Applies.{still, breaks, applies}
-use Rattle.jvm_model.specs.Running.Run.{starts, is_ready, goes_on}
+use Rattle.jvm_model.specs.Running.Run.{starts, is_ready, is_going_on}
 use Rattle.jvm_model.specs.Turns.Rest.{step_loads, Todo, Attempt, Moves, rest, IsPart}
 use Rattle.jvm_model.specs.Turns.Told.{Held, frame_held, helds, mark_now}
 use Rattle.jvm_model.specs.Turns.Pauses.{later_of, Due, Nothing, Ends, Begins, changes_due, stop_from, stop_of, passed_by, Pause, step_paused, is_end, Unwinds}
@@ -40,7 +40,7 @@ is_nothing Begins = false
 abbrev pub again_pause : World → Listing → (ℕ → Mark) → ℕ → List Held → Instruction → State → Frame → Option ℕ → Pause → Pause
 again_pause w t v n live i s f None p = p
 again_pause w t v n live i s f (Some c) p =
-    if is_nothing p.due && p.passed == n && is_ready (phase_of p.state.shared c) && goes_on p.state.ending p.state.thrown
+    if is_nothing p.due && p.passed == n && is_ready (phase_of p.state.shared c) && is_going_on p.state.ending p.state.thrown
     then turn_pause w t v n live (instruction_attempted w t i (record p.state { stack = s.stack }) f)
     else p
 

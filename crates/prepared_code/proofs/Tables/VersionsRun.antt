@@ -12,7 +12,7 @@ use Rattle.jvm_model.specs.declared.state.Entry.{Entry}
 use Rattle.jvm_model.specs.declared.state.Entry.TheVariants.{Active, Initializing}
 use Rattle.jvm_model.specs.declared.state.State.{State}
 use Rattle.jvm_model.specs.Basis.Data.{Instruction, World}
-use Rattle.jvm_model.specs.Codes.Moved.{Agrees, moved_stack, at_homes}
+use Rattle.jvm_model.specs.Codes.Moved.{IsMovedListing, moved_stack, at_homes}
 use Rattle.jvm_model.specs.Codes.Originals.{original}
 use Rattle.jvm_model.specs.Running.Run.{step}
 use Rattle.jvm_model.specs.Soundness.Sound.{CanAttempt, HasClass, IsFit}
@@ -68,7 +68,7 @@ module _ (p : Program) (norm : ℕ → ℕ → ℕ) (homes : ℕ → ℕ → ℕ
 
   -- ---- they stand for the run: where original code stays within its places
 
-  pub step-stands : (w : World) → w.program ≡ p → Agrees norm (at_homes norm) (original p) (original p) → (versioned from_original after : State)
+  pub step-stands : (w : World) → w.program ≡ p → IsMovedListing norm (at_homes norm) (original p) (original p) → (versioned from_original after : State)
       → StandsFor norm (method_of v) homes versioned from_original → after ≡ (step w (listing_of v) versioned).after
       → StandsFor norm (method_of v) homes after (step w (original p) from_original).after
   step-stands w same own versioned from_original after stands made =

@@ -8,7 +8,7 @@ ghost use Rattle.base_classes.specs.Natives.{native_methods};
 ghost use Rattle.base_classes.specs.declared.places.TheConstants.{ARRAYCOPY};
 ghost use Rattle.frame_stack.specs.FrameLists.{top_operands};
 ghost use Rattle.jvm_basic.specs.Outcomes.{top_locals};
-ghost use Rattle.jvm_model.specs.Instructions.InvocationRules.{reference_to};
+ghost use Rattle.jvm_model.specs.Instructions.InvocationRules.{method_reference};
 ghost use Rattle.jvm_model.specs.Instructions.NativeRules.{runs_native, runs_number, thrown_by};
 ghost use Rattle.jvm_model.specs.Basis.Values.{as_value};
 ghost use Rattle.native_ops.specs.Methods.Calls.{IsAnswer, is_done};
@@ -261,9 +261,9 @@ impl Runtime {
         count: u16,
     ) -> Result<Outcome, NoMemory>
         requires within { count ≤ length (top_operands frames.now.frames) }
-        ensures answer { let w = self.old.world in let r = reference_to w.program (at_place m) in
+        ensures answer { let w = self.old.world in let r = method_reference w.program (at_place m) in
             Asks result (on_arguments count (runs_native w r) self.old.shared) frames.now }
-        ensures runtime { let w = self.old.world in let r = reference_to w.program (at_place m) in
+        ensures runtime { let w = self.old.world in let r = method_reference w.program (at_place m) in
             Leaves result self.new (on_arguments count (runs_native w r) self.old.shared)
             frames.now self.old }
         ensures world { self.new.world ≡ self.old.world }

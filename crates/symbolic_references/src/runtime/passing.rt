@@ -27,7 +27,7 @@ ghost use Rattle.symbolic_references.specs.Runtimes.{linker_in};
 use crate::invoked::{Call, Invoked, NativeCall};
 use crate::runtime::Runtime;
 use crate::runtime::fields::putting_of;
-use crate::runtime::statics::held_of;
+use crate::runtime::statics::field_held;
 use class_index::held_by;
 use frame_stack::Frames;
 use jvm_model::{MemberName, MethodName, Phase, SymbolicReference};
@@ -142,7 +142,7 @@ impl Runtime {
         if !self.is_usable(place.class) {
             return false;
         }
-        let Some(datum) = held_of(frames, held_by(member.descriptor().units())) else {
+        let Some(datum) = field_held(frames, held_by(member.descriptor().units())) else {
             return false;
         };
         if !pass_by(frames, Outcome::Goes(1, None), next) {

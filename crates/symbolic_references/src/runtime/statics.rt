@@ -6,7 +6,7 @@ ghost use Rattle.std.specs.Option.{option_map};
 ghost use Rattle.frame_stack.specs.FrameLists.{top_operands};
 ghost use Rattle.symbolic_references.specs.Held.{with_static_in};
 ghost use Rattle.jvm_model.specs.Basis.Data.{Raises};
-ghost use Rattle.jvm_model.specs.Instructions.FieldRules.{held_of};
+ghost use Rattle.jvm_model.specs.Instructions.FieldRules.{field_held};
 ghost use Rattle.jvm_model.specs.Instructions.FieldRules.{pushes_static, static_field};
 ghost use Rattle.jvm_model.specs.Instructions.LocalRules.{pushes};
 ghost use Rattle.jvm_model.specs.declared.instruction.SymbolicReference.TheVariants.{Getstatic, Putstatic};
@@ -42,8 +42,8 @@ use member_selection::{AbruptCompletion, DeclaredMember, Found, Outcome, datum_o
 // ---- putstatic
 
 /// The topmost operand as a field of this kind holds it.
-pub fn held_of(frames: &Frames, kind: Kind) -> Option<Datum>
-    ensures { result ≡ held_of kind (top_operands frames.now.frames) }
+pub fn field_held(frames: &Frames, kind: Kind) -> Option<Datum>
+    ensures { result ≡ field_held kind (top_operands frames.now.frames) }
 {
     let value = frames.peek(0)?;
     let datum = datum_of(kind, value)?;
@@ -171,7 +171,7 @@ impl Runtime {
         ensures same_loaded { self.new.shared.loaded ≡ self.old.shared.loaded }
         ensures enough { HasOperands result (top_operands frames.now.frames) }
     {
-        let Some(datum) = held_of(frames, kind) else {
+        let Some(datum) = field_held(frames, kind) else {
             return Outcome::Abrupt(AbruptCompletion::Breaks);
         };
         self.put_static_at(field, datum);

@@ -1,7 +1,7 @@
 use Rattle.std.proofs.Common.{◌≡◌, refl, sym, subst, ap, ◌∙◌}
 use Rattle.std.specs.Prelude.{IfNone, IfOk, is_some}
 use Rattle.std.specs.Option.{IfSome}
-use Rattle.jvm_model.specs.Running.Run.{with_loaded}
+use Rattle.jvm_model.specs.Running.Run.{with_classes_loaded}
 use Rattle.prepared_code.specs.Versions.{Setup}
 use Rattle.instructions.specs.Acts.{attempts_on, awaited_in, awaited_on}
 use Rattle.prepared_code.specs.Initializations.{state_of}
@@ -62,5 +62,5 @@ returns-clause-state c =
 pub returns-clause-loads : goal.returns-clause-loads
 returns-clause-loads c =
     let s = state_of c.args.initializing.now c.args.parts.now in
-    subst (λ (w : Setup). IfOk c.attempt_loaded_there.result (λ o. IfNone o (state_of c.attempt_loaded_there.new.initializing c.attempt_loaded_there.new.parts ≡ with_loaded (loads_in w s) s)))
+    subst (λ (w : Setup). IfOk c.attempt_loaded_there.result (λ o. IfNone o (state_of c.attempt_loaded_there.new.initializing c.attempt_loaded_there.new.parts ≡ with_classes_loaded (loads_in w s) s)))
     (same-setup c.args.parts.now.runtime c.args.parts.now.runtime c.args.originals.now c.prepare.new.self refl c.in_ok-prepare.ensures.versions) c.attempt_loaded_there.ensures.loads

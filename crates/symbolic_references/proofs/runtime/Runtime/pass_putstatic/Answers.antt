@@ -4,7 +4,7 @@ use Rattle.jvm_basic.specs.Outcomes.{top_locals}
 use Rattle.symbolic_references.proofs.Quiet.{set-after}
 use Rattle.std.proofs.lemmas.List.{append-nil}
 use Rattle.jvm_model.specs.Basis.Data.{Done, GoesOn, Next}
-use Rattle.jvm_model.specs.Instructions.FieldRules.{held_of, kind_by, sets_static}
+use Rattle.jvm_model.specs.Instructions.FieldRules.{field_held, kind_by, sets_static}
 use Rattle.jvm_model.specs.Classes.Layouts.{held_by}
 use Rattle.jvm_model.specs.Instructions.SymbolicReference.{unless_refused}
 use Rattle.jvm_model.specs.declared.instruction.SymbolicReference.TheVariants.{Putstatic}
@@ -39,12 +39,12 @@ returns-clause-passed c =
     let left = c.put_static_at.new.self in
     let there = subst (λ x. IsFoundAs x p c.args.kind (Putstatic r)) c.in-Static.is c.requires.found in
     let set : Done = sets_static m (Some c.in-Some.datum) s l o in
-    let given : held_of (kind_by r) o ≡ Some c.in-Some.datum =
-    sym (sym c.in-Some.is ∙ (c.held_of.ensures ∙ ap (λ k. held_of k o) (c.held_by.ensures ∙ (ap held_by c.units.ensures ∙ ap held_by c.descriptor.ensures)))) in
+    let given : field_held (kind_by r) o ≡ Some c.in-Some.datum =
+    sym (sym c.in-Some.is ∙ (c.field_held.ensures ∙ ap (λ k. field_held k o) (c.held_by.ensures ∙ (ap held_by c.units.ensures ∙ ap held_by c.descriptor.ensures)))) in
     let same : set ≡ done_on (puts_static p c.args.kind r s) f =
     when-usable p (phase_of s m.class) m.class s set (sym c.is_usable.ensures ∙ c.if-not-is_usable.false)
     ∙ (ap (λ d. class_initialized p m.class s (sets_static m d s l o)) (sym given)
-    ∙ ap (λ found. unless_refused s found (λ m. class_initialized p m.class s (sets_static m (held_of (kind_by r) o) s l o))) (sym there)) in
+    ∙ ap (λ found. unless_refused s found (λ m. class_initialized p m.class s (sets_static m (field_held (kind_by r) o) s l o))) (sym there)) in
     subst (λ d. IfPassed true d c.args.next f v c.pass_by.new.frames left) same
     (passed-on set f c.pass_by.new.frames c.args.next v left
     (sym c.pass_by.ensures.answer ∙ c.if-not-pass_by.false)
