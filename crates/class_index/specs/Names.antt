@@ -12,11 +12,11 @@ Entries = List (List ℕ × ℕ)
 abbrev pub position_of : List ℕ → Entries → Option ℕ
 position_of name entries = lookup (bytes_eq name) entries
 
-abbrev pub with_position : List ℕ → ℕ → Entries → Entries
-with_position name position entries = entries ++ (name, position) ∷ []
+abbrev pub with_named : List ℕ → ℕ → Entries → Entries
+with_named name position entries = entries ++ (name, position) ∷ []
 
 abbrev pub with_first : List ℕ → ℕ → Entries → Entries
-with_first name position entries = if is_some (position_of name entries) then entries else with_position name position entries
+with_first name position entries = if is_some (position_of name entries) then entries else with_named name position entries
 
 abbrev pub with_name : Option (List ℕ) → ℕ → Entries → Entries
 with_name None position entries = entries

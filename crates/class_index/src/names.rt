@@ -1,7 +1,7 @@
 //! The names of a program's classes.
 
 ghost use Rattle.std.specs.Prelude.{◌≡◌, [], None, OnOk};
-ghost use Rattle.class_index.specs.Names.{position_of, with_first, with_position};
+ghost use Rattle.class_index.specs.Names.{position_of, with_first, with_named};
 
 use indexmap::IndexMap;
 use jf_bytes::NoMemory;
@@ -42,7 +42,7 @@ impl Names {
 
     fn put(&mut self, alloc: Global, units: &[u16], position: u32) -> Result<(), NoMemory>
         requires { position_of units.now self.old ≡ None }
-        ensures { OnOk result (self.new ≡ with_position units.now position self.old) }
+        ensures { OnOk result (self.new ≡ with_named units.now position self.old) }
     {
         let key = Vec::from_slice(alloc, units)?;
         self.positions.insert(key, position)?;

@@ -15,7 +15,7 @@ ghost use Rattle.instructions.specs.Elements.{IsLoaded, IsPassed, IsStored};
 ghost use Rattle.prepared_code.specs.Ready.{CanRun};
 ghost use Rattle.prepared_code.specs.Runs.{LeadsAlone, RunsVersion, IsLineIn, top_version};
 ghost use Rattle.prepared_code.specs.Tables.{version_at};
-ghost use Rattle.prepared_code.specs.Versions.{ArePrepared, IsPrepared, Setup};
+ghost use Rattle.prepared_code.specs.Versions.{ArePrepared, IsPreparedLine, Setup};
 
 use crate::elements::{pass_load, pass_store};
 use const_pool::Kind;
@@ -51,7 +51,7 @@ pub fn version_now<'a>(originals: &'a Originals, frames: &Frames) -> Option<&'a 
 fn line_now<'a>(version: &'a Version, frames: &Frames) -> Option<&'a Line>
     requires { ArePrepared version.now }
     ensures line { IfSome result (λ l. IsLineIn version.now frames.now.frames l.now) }
-    ensures prepared { IfSome result (λ l. IsPrepared l.now) }
+    ensures prepared { IfSome result (λ l. IsPreparedLine l.now) }
 {
     let place = frames.place()?;
     line_in(version, place)
@@ -170,7 +170,7 @@ fn do_line(line: &Line, parts: &mut Parts) -> Effect
 /// on.
 #[inline(always)]
 fn pass_line(line: &Line, parts: &mut Parts) -> bool
-    requires { IsPrepared line.now }
+    requires { IsPreparedLine line.now }
     ensures gone { result ≡ true → IsPassed line.now parts.old parts.new }
     ensures kept { result ≡ false → parts.new ≡ parts.old }
 {

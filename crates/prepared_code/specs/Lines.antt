@@ -21,8 +21,8 @@ abbrev pub method_line : ℕ → ClassFile → ℕ → Option Line
 method_line at c method = option_and_then (λ code. option_and_then (line_of c) (instruction_at code.code at)) (method_code c method)
 
 -- at an offset of the method with this number
-abbrev pub line_at : Program → ℕ → ℕ → Option Line
-line_at p method at = by_number p (method_line at) method
+abbrev pub original_line_at : Program → ℕ → ℕ → Option Line
+original_line_at p method at = by_number p (method_line at) method
 
 -- ---- what holds of the reference of a line, and of the place behind it
 

@@ -38,12 +38,12 @@ abbrev pub IsOwnLine : Line → Type 0
 IsOwnLine line = IsTied line (operation_in line)
 
 -- a version that is held, or none that will ever be
-abbrev pub IsKept : Versions → ℕ → Type 0
-IsKept v version = (is_some (version_at v version) ≡ true) ⊎ (4294967296 ≤ version)
+abbrev pub IsHeldVersion : Versions → ℕ → Type 0
+IsHeldVersion v version = (is_some (version_at v version) ≡ true) ⊎ (4294967296 ≤ version)
 
 -- a frame of a method can be in this version
 abbrev pub RunsIn : Versions → ℕ → ℕ → Type 0
-RunsIn v version method = (method_of v version ≡ method) × IsKept v version
+RunsIn v version method = (method_of v version ≡ method) × IsHeldVersion v version
 
 -- each line is the instruction that it shows, a method begins in a version of its own, and its lines can be attempted
 pub record CanRun (w : Setup) : Type 0 where

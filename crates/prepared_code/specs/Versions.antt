@@ -42,18 +42,18 @@ abbrev pub line_at : Versions → ℕ → ℕ → Option Line
 line_at v version place = option_and_then (line_in place) (version_at v version)
 
 -- a line keeps the family of its instruction, and what it does as it is run
-pub record IsPrepared (l : Line) : Type 0 where
+pub record IsPreparedLine (l : Line) : Type 0 where
   pub family : l.family ≡ family_of l.instr.op
   pub hot : l.hot ≡ hot_in l.operation (family_of l.instr.op) l.instr.arg l.next
 
 -- each line does, and the array's type that it names has the dimensions that it needs
 pub record HasLines (v : Versions) : Type 0 where
-  pub prepared : (version place : ℕ) → IfSome (line_at v version place) IsPrepared
+  pub prepared : (version place : ℕ) → IfSome (line_at v version place) IsPreparedLine
   pub dimensions : (version place : ℕ) → IfSome (line_at v version place) (λ (l : Line). IfNamedBy l.operation l.next (λ n next. HasDimensions n))
 
 -- each line of the version does
 abbrev pub ArePrepared : Version → Type 0
-ArePrepared x = (place : ℕ) → IfSome (line_in place x) IsPrepared
+ArePrepared x = (place : ℕ) → IfSome (line_in place x) IsPreparedLine
 
 -- the same of one version
 pub record HasOwnLines (x : Version) : Type 0 where

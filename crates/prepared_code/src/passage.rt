@@ -3,7 +3,7 @@
 ghost use Rattle.std.specs.Prelude.{◌≡◌};
 ghost use Rattle.std.specs.Option.{option_map};
 ghost use Rattle.prepared_code.specs.Making.{passage_of};
-ghost use Rattle.prepared_code.specs.Versions.{ArePrepared, IsPrepared, is_athrow, is_last_family, line_in, next_in};
+ghost use Rattle.prepared_code.specs.Versions.{ArePrepared, IsPreparedLine, is_athrow, is_last_family, line_in, next_in};
 ghost use Rattle.jvm_model.specs.Basis.Families.{family_of};
 
 use crate::versions::{Version, line_in};
@@ -52,7 +52,7 @@ pub struct Passage {
 
 /// That of a line.
 fn passage_of(line: &Line) -> Passage
-    requires { IsPrepared line.now }
+    requires { IsPreparedLine line.now }
     ensures { result ≡ passage_of line.now }
 {
     Passage {

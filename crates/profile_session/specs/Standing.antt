@@ -50,6 +50,6 @@ pub record InStep (acts : List Act) (w : World) (es : List Event) (k : Kept) (v 
   pub moments : AllByRecursion (λ (a : Act). a.moment ≤ v.clock) acts
 
 -- Both, by whether a step is in hand.
-pub data Stands (acts : List Act) (w : World) (es : List Event) (k : Kept) (v : View) : Type 0 where
-  rests : AtRest acts w es k v → Stands acts w es k v
-  within : is_resting v ≡ false → InStep acts w es k v → Stands acts w es k v
+pub data AtRestOrInStep (acts : List Act) (w : World) (es : List Event) (k : Kept) (v : View) : Type 0 where
+  rests : AtRest acts w es k v → AtRestOrInStep acts w es k v
+  within : is_resting v ≡ false → InStep acts w es k v → AtRestOrInStep acts w es k v

@@ -9,12 +9,12 @@ is_row [] = false
 is_row (first ∷ rest) = not (first == 35)
 
 -- what stands before the colon
-abbrev pub name_of : List ℕ → List ℕ
-name_of line = before_first (λ byte. byte == 58) line
+abbrev pub row_name : List ℕ → List ℕ
+row_name line = before_first (λ byte. byte == 58) line
 
 -- the names on those of the lines that are rows
 abbrev pub names_in : List (List ℕ) → List (List ℕ)
-names_in all = map name_of (filter is_row all)
+names_in all = map row_name (filter is_row all)
 
 -- the names of the rows, in the list's order
 abbrev pub row_names : List ℕ → List (List ℕ)

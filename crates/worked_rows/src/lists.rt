@@ -2,7 +2,7 @@
 
 ghost use Rattle.std.specs.Prelude.{◌≡◌, map, IfOk};
 ghost use Rattle.std.specs.Str.Lines.{lines};
-ghost use Rattle.worked_rows.specs.Lists.{is_row, name_of, names_in, row_names};
+ghost use Rattle.worked_rows.specs.Lists.{is_row, row_name, names_in, row_names};
 
 use std::alloc::{AllocError, Global};
 
@@ -17,8 +17,8 @@ fn is_row(line: &str) -> bool
 }
 
 /// The name on a line of a list: what stands before the colon.
-fn name_of(line: &str) -> &str
-    ensures { result.now ≡ name_of line.now }
+fn row_name(line: &str) -> &str
+    ensures { result.now ≡ row_name line.now }
 {
     match line.split_once(':') {
         Some((name, _)) => name,
@@ -41,7 +41,7 @@ fn names_in<'a>(alloc: Global, lines: &[&'a str]) -> Result<Vec<&'a str>, AllocE
     let mut names = Vec::new(alloc);
     for line in lines {
         if is_row(line) {
-            names.push(name_of(line))?;
+            names.push(row_name(line))?;
         }
     }
     Ok(names)

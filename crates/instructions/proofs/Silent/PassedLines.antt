@@ -26,7 +26,7 @@ use Rattle.instructions.specs.Elements.{IsLoaded, IsPassed, IsStored, is_plain}
 use Rattle.prepared_lines.specs.Lines.{hot_in}
 use Rattle.prepared_code.specs.Ready.{CanRun}
 use Rattle.prepared_code.specs.Runs.{IsPlainLine, LeadsAlone, top_version}
-use Rattle.prepared_code.specs.Versions.{IsPrepared, Setup}
+use Rattle.prepared_code.specs.Versions.{IsPreparedLine, Setup}
 use Rattle.instructions.proofs.Attempts.ElementSteps.{StandsAt, load-alone, load-stays, plain-alone, store-alone, store-stays}
 use Rattle.instructions.proofs.Silent.PlainSteps.{stays-in}
 
@@ -93,7 +93,7 @@ module _ (line : Line) (old new : Parts) where
   }
 
   -- by what it is run as
-  pub passed-as : (h : Hot) (effect : Effect) → line.hot ≡ h → IsPrepared line → effect ≡ Next
+  pub passed-as : (h : Hot) (effect : Effect) → line.hot ≡ h → IsPreparedLine line → effect ≡ Next
       → (is_alone line.hot ≡ true → effect ≡ effect_of (does_hot line.hot) old.frames)
       → (is_alone line.hot ≡ true → new ≡ record old { frames = after (does_hot line.hot) old.frames })
       → ((k : Kind) → line.hot ≡ hot.LoadElement k → effect ≡ Next → IsLoaded line k old new)

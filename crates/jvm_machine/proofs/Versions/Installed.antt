@@ -15,7 +15,7 @@ use Rattle.jvm_model.specs.Turns.Told.{helds}
 use Rattle.interpreter.specs.declared.turns.hands.Hand.{Hand}
 use Rattle.prepared_code.specs.ClassVersions.{class_versions}
 use Rattle.interpreter.specs.Moves.Hands.{HasInHand}
-use Rattle.prepared_code.specs.Ready.{IsKept}
+use Rattle.prepared_code.specs.Ready.{IsHeldVersion}
 use Rattle.prepared_code.specs.Standing.{IsOfProgram, IsPinned, places_of}
 use Rattle.prepared_code.specs.Tables.{Adds, IsAdded, Version, Versions, version_at}
 use Rattle.prepared_code.specs.Versions.{Setup, mark_of}
@@ -55,7 +55,7 @@ module _ (started broken : Bool) (clock : ℕ) (hand : Hand) (s : State) (whole 
     count : length after.current ≡ length w.versions.current
     count = count-added w.world.program (places_of w.world.program) is.homes w.versions is.has.are fs number x of.home after added
 
-    same : (k : ℕ) → IsKept w.versions k → (pins_of k fs == 0) ≡ false → (version_at after k ≡ version_at w.versions k) × (news k ≡ is.homes k)
+    same : (k : ℕ) → IsHeldVersion w.versions k → (pins_of k fs == 0) ≡ false → (version_at after k ≡ version_at w.versions k) × (news k ≡ is.homes k)
     same = same-added w.world.program (places_of w.world.program) is.homes w.versions is.has.are fs number x of.home after added
 
     are : AreKept w.versions s.stack

@@ -19,7 +19,7 @@ use Rattle.jvm_model.specs.Turns.Told.{Held, helds}
 use Rattle.jvm_model.proofs.Turns.HandBegins.{hand-kept}
 use Rattle.interpreter.specs.declared.turns.hands.Hand.{Hand}
 use Rattle.interpreter.specs.Moves.Hands.{HasInHand, todo_of, versioned_in}
-use Rattle.prepared_code.specs.Ready.{IsKept, IsSoundIn, RunsIn}
+use Rattle.prepared_code.specs.Ready.{IsHeldVersion, IsSoundIn, RunsIn}
 use Rattle.prepared_code.specs.Standing.{HasVersions, IsPinned, places_of}
 use Rattle.prepared_code.specs.Tables.{Version, Versions, version_at}
 use Rattle.prepared_code.specs.Versions.{Setup, mark_of, method_of}
@@ -28,7 +28,7 @@ use Rattle.jvm_machine.specs.Machine.{IsSoundOnce, Stands}
 
 -- each frame runs a version that is held, or none that will ever be
 abbrev pub IsKeptEntry : Versions → Entry → Type 0
-IsKeptEntry v (Active f) = IsKept v f.version
+IsKeptEntry v (Active f) = IsHeldVersion v f.version
 IsKeptEntry v (Initializing class part) = Unit {0}
 
 abbrev pub AreKept : Versions → List Entry → Type 0
@@ -68,7 +68,7 @@ module _ (w : Setup) where
 -- ---- another table
 
 module _ (w : Setup) (homes : ℕ → ℕ → ℕ) (has : HasVersions w homes) (fs : List PlacedFrame) (after : Versions) (news : ℕ → ℕ → ℕ) (count : length after.current ≡ length w.versions.current)
-    (same : (k : ℕ) → IsKept w.versions k → (pins_of k fs == 0) ≡ false → (version_at after k ≡ version_at w.versions k) × (news k ≡ homes k)) where
+    (same : (k : ℕ) → IsHeldVersion w.versions k → (pins_of k fs == 0) ≡ false → (version_at after k ≡ version_at w.versions k) × (news k ≡ homes k)) where
   abbrev v : Versions
   v = w.versions
 

@@ -11,7 +11,7 @@ use Rattle.jvm_model.specs.Basis.Data.{Turn}
 use Rattle.jvm_model.specs.Turns.Told.{Held, helds}
 use Rattle.interpreter.specs.declared.turns.hands.Hand.{Hand}
 use Rattle.interpreter.specs.Moves.Hands.{HasInHand}
-use Rattle.prepared_code.specs.Ready.{IsKept, IsSoundIn}
+use Rattle.prepared_code.specs.Ready.{IsHeldVersion, IsSoundIn}
 use Rattle.prepared_code.specs.Standing.{HasVersions, IsPinned, places_of}
 use Rattle.prepared_code.specs.Tables.{Releases, Version, Versions, version_at}
 use Rattle.prepared_code.specs.Versions.{Setup, current_of, mark_of}
@@ -48,7 +48,7 @@ module _ (w : Setup) (homes : ℕ → ℕ → ℕ) (has : HasVersions w homes) (
   count : length after.current ≡ length v.current
   count = ap length released.current
 
-  same : (k : ℕ) → IsKept v k → (pins_of k fs == 0) ≡ false → (version_at after k ≡ version_at v k) × (then_homes k ≡ homes k)
+  same : (k : ℕ) → IsHeldVersion v k → (pins_of k fs == 0) ≡ false → (version_at after k ≡ version_at v k) × (then_homes k ≡ homes k)
   same = same-left w.world.program (places_of w.world.program) homes v has.are fs after released
 
   -- a version in which a method begins stays

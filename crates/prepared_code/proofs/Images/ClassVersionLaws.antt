@@ -20,7 +20,7 @@ use Rattle.prepared_code.specs.Entries.{no_version, original_version, version_of
 use Rattle.jvm_model.specs.Codes.ProgramPlaces.{HasClosedCodes}
 use Rattle.prepared_code.specs.Ready.{IsOwnLine}
 use Rattle.prepared_code.specs.Standing.{AreMethodImages, IsMethodImage, IsOfProgram, places_of}
-use Rattle.prepared_code.specs.Versions.{HasOwnLines, IsPrepared, line_in}
+use Rattle.prepared_code.specs.Versions.{HasOwnLines, IsPreparedLine, line_in}
 use Rattle.prepared_code.proofs.Lines.Dimensions.{Fits}
 use Rattle.prepared_code.proofs.Tables.Made.{original-has-lines}
 use Rattle.prepared_code.proofs.Images.MethodImages.{code-is, method-image}
@@ -87,7 +87,7 @@ original-keeps : (p : Program) (k : ℕ) → HasOwnLines (original_version p k)
 original-keeps p k =
     ⊎_elim
     (λ (lt : k < length p.methods). record {
-      prepared = λ place. subst (λ (o : Option Version). IfSome (option_and_then (line_in place) o) IsPrepared) (there p k lt) ((original-lines p).prepared k place);
+      prepared = λ place. subst (λ (o : Option Version). IfSome (option_and_then (line_in place) o) IsPreparedLine) (there p k lt) ((original-lines p).prepared k place);
       dimensions = λ place. subst (λ (o : Option Version). IfSome (option_and_then (line_in place) o) Fits) (there p k lt) ((original-lines p).dimensions k place);
     })
     (λ (le : length p.methods ≤ k). subst HasOwnLines (sym (nothing le)) (record { prepared = λ place. tt; dimensions = λ place. tt }))

@@ -16,7 +16,7 @@ use Rattle.jvm_model.specs.Codes.Homed.{start_in}
 use Rattle.prepared_lines.specs.Lines.{operation_kept, line_of}
 use Rattle.prepared_code.specs.Ready.{IsOwnLine}
 use Rattle.prepared_code.specs.Rewritten.{homed_line, line_for, own_line, placed_line, rewritten_version}
-use Rattle.prepared_code.specs.Versions.{HasOwnLines, IsPrepared, line_in}
+use Rattle.prepared_code.specs.Versions.{HasOwnLines, IsPreparedLine, line_in}
 use Rattle.prepared_code.proofs.Lines.Dimensions.{Fits, by-family, made-with as fits-with}
 use Rattle.prepared_code.proofs.Lines.LineFamilies.{made-with}
 use Rattle.prepared_code.proofs.Tables.Tabled.{tabled-at, tabled-past}
@@ -53,7 +53,7 @@ module _ (P : Line → Type 0) (image : ClassFile) (each : (i : Instr) → IfSom
 
 pub rewritten-lines : (method : ℕ) (image : ClassFile) (code : CodeAttribute) (homes : Homes) (len : ℕ) → HasOwnLines (rewritten_version method image code homes len)
 rewritten-lines method image code homes len = record {
-  prepared = λ place. lines-each IsPrepared image (λ i. made-with image i (option_map operation_kept (operation_of image i))) (λ own line h. record { family = h.family; hot = h.hot }) method code homes len place;
+  prepared = λ place. lines-each IsPreparedLine image (λ i. made-with image i (option_map operation_kept (operation_of image i))) (λ own line h. record { family = h.family; hot = h.hot }) method code homes len place;
   dimensions = λ place. lines-each Fits image (λ i. fits-with image i (operation_of image i) (by-family image i.op i.arg (family_of i.op))) (λ own line h. h) method code homes len place;
 }
 

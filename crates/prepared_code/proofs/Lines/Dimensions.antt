@@ -34,7 +34,7 @@ use Rattle.prepared_lines.specs.declared.line.Line.{Line}
 use Rattle.prepared_code.specs.Versions as versions
 use Rattle.prepared_code.specs.Versions.{HasLines}
 use Rattle.prepared_code.specs.Tables.{Versions}
-use Rattle.prepared_code.specs.Lines.{IfNamed, IfNamedBy, line_at}
+use Rattle.prepared_code.specs.Lines.{IfNamed, IfNamedBy, original_line_at}
 use Rattle.prepared_lines.specs.Lines.{operation_kept, line_with}
 
 -- ---- operations
@@ -154,7 +154,7 @@ each-then : {A : Type 0} (f : A → Option Line) → ((x : A) → IfSome (f x) F
 each-then f each None = tt
 each-then f each (Some x) = each x
 
-pub fits-at : (p : Program) (method at : ℕ) → IfSome (line_at p method at) Fits
+pub fits-at : (p : Program) (method at : ℕ) → IfSome (original_line_at p method at) Fits
 fits-at p method at =
     each-then _
     (λ place. each-then _

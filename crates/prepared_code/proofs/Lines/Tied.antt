@@ -38,7 +38,7 @@ use Rattle.prepared_lines.specs.declared.line.Line.{Line}
 use Rattle.prepared_code.specs.Ready.{CanRun, HasLocal, IsOwnLine, IsRuleOf, IsTied}
 use Rattle.prepared_code.specs.Versions.{Setup, instruction_by, instruction_in, is_last_family, next_in, operation_as, operation_in, listing_of}
 use Rattle.prepared_code.specs.Versions as versions
-use Rattle.prepared_code.specs.Lines.{line_at}
+use Rattle.prepared_code.specs.Lines.{original_line_at}
 use Rattle.prepared_lines.specs.Lines.{local_kept, operation_kept, line_with, line_of}
 
 -- ---- a line and what it does
@@ -266,7 +266,7 @@ lifted : {A : Type 0} (o : Option A) (f : A → Option Line) (g : A → Option I
 lifted None f g each = tt
 lifted (Some x) f g each = each x
 
-pub tied-at : (p : Program) (method at : ℕ) → Tie (line_at p method at) ((original p).at method at)
+pub tied-at : (p : Program) (method at : ℕ) → Tie (original_line_at p method at) ((original p).at method at)
 tied-at p method at =
     lifted (place_of_method p method) _ _
     (λ place. lifted (class_at p place.class) _ _

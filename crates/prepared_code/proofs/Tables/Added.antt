@@ -10,7 +10,7 @@ use Rattle.member_selection.specs.Objects.{HasDimensions}
 use Rattle.prepared_lines.specs.declared.line.Line.{Line}
 use Rattle.prepared_code.specs.Lines.{IfNamedBy}
 use Rattle.prepared_code.specs.Tables.{Adds, AreAllCurrent, AreOfMethods, IsAdded, Releases, Version, Versions, version_at}
-use Rattle.prepared_code.specs.Versions.{HasLines, HasOwnLines, IsPrepared, line_at, line_in}
+use Rattle.prepared_code.specs.Versions.{HasLines, HasOwnLines, IsPreparedLine, line_at, line_in}
 
 module _ (P : Line → Type 0) where
   abbrev AreLines : Versions → Type 0
@@ -42,7 +42,7 @@ module _ (P : Line → Type 0) where
 abbrev CanHave : Line → Type 0
 CanHave l = IfNamedBy l.operation l.next (λ n next. HasDimensions n)
 
-prepared-of : (xs : List Version) → AllByRecursion HasOwnLines xs → AllByRecursion (λ (x : Version). (place : ℕ) → IfSome (line_in place x) IsPrepared) xs
+prepared-of : (xs : List Version) → AllByRecursion HasOwnLines xs → AllByRecursion (λ (x : Version). (place : ℕ) → IfSome (line_in place x) IsPreparedLine) xs
 prepared-of [] each = tt
 prepared-of (x ∷ xs) each = (each.0.prepared, prepared-of xs each.1)
 
@@ -52,13 +52,13 @@ dimensions-of (x ∷ xs) each = (each.0.dimensions, dimensions-of xs each.1)
 
 pub has-lines-all : (fs : List PlacedFrame) (xs : List Version) (v after : Versions) → Adds fs xs v after → AllByRecursion HasOwnLines xs → HasLines v → HasLines after
 has-lines-all fs xs v after adds own lines = record {
-  prepared = lines-all IsPrepared fs xs v after adds (prepared-of xs own) lines.prepared;
+  prepared = lines-all IsPreparedLine fs xs v after adds (prepared-of xs own) lines.prepared;
   dimensions = lines-all CanHave fs xs v after adds (dimensions-of xs own) lines.dimensions;
 }
 
 pub has-lines-left : (fs : List PlacedFrame) (v after : Versions) → Releases fs v after → HasLines v → HasLines after
 has-lines-left fs v after released lines = record {
-  prepared = lines-left IsPrepared fs v after released lines.prepared;
+  prepared = lines-left IsPreparedLine fs v after released lines.prepared;
   dimensions = lines-left CanHave fs v after released lines.dimensions;
 }
 

@@ -21,7 +21,7 @@ use Rattle.prepared_code.specs.Entries.{no_version, original_slot, original_vers
 use Rattle.prepared_code.specs.Making.{AreBare, HasItsLines, IsBare, IsReplaced, bare_slot, bare_version, bare_versions, has_lines, made_by, with_lines}
 use Rattle.prepared_code.specs.Tables.{Adds, IsAdded, Releases, Version, Versions, version_at}
 use Rattle.jvm_model.specs.Basis.Families.{family_of}
-use Rattle.prepared_code.specs.Versions.{ArePrepared, HasLines, IsPrepared, first_of, line_at, line_in, mark_of}
+use Rattle.prepared_code.specs.Versions.{ArePrepared, HasLines, IsPreparedLine, first_of, line_at, line_in, mark_of}
 use Rattle.prepared_code.proofs.Tables.OriginalsRun.{of-place, original-first}
 
 -- ---- original code has its lines, and no probes
@@ -331,8 +331,8 @@ module _ (p : Program) (v : Versions) where
       → IfSome r (λ l. l.now.family ≡ family_of l.now.instr.op)
   seen-family bare lines k place None found = tt
   seen-family bare lines k place (Some l) found =
-      (subst (λ (o : Option Line). IfSome o IsPrepared) (line-made p v bare k place l.now (sym found)) (lines.prepared k place)).family
+      (subst (λ (o : Option Line). IfSome o IsPreparedLine) (line-made p v bare k place l.now (sym found)) (lines.prepared k place)).family
 
   -- a version of the table has the lines that are seen
   pub are-prepared : HasLines (with_lines p v) → (k : ℕ) (x : Version) → version_at (with_lines p v) k ≡ Some x → ArePrepared x
-  are-prepared lines k x there place = subst (λ (o : Option Version). IfSome (option_and_then (line_in place) o) IsPrepared) there (lines.prepared k place)
+  are-prepared lines k x there place = subst (λ (o : Option Version). IfSome (option_and_then (line_in place) o) IsPreparedLine) there (lines.prepared k place)

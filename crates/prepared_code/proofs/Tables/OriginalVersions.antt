@@ -18,7 +18,7 @@ use Rattle.prepared_code.specs.Entries.{code_line, lines_of, no_version, origina
 use Rattle.prepared_code.specs.Lines.{method_line}
 use Rattle.prepared_code.specs.Lines as originals
 use Rattle.prepared_code.specs.Ready.{IsOwnLine}
-use Rattle.prepared_code.specs.Versions.{HasLines, IsPrepared, line_at, line_in, listing_of}
+use Rattle.prepared_code.specs.Versions.{HasLines, IsPreparedLine, line_at, line_in, listing_of}
 use Rattle.prepared_code.proofs.Lines.Dimensions.{Fits, fits-at}
 use Rattle.prepared_code.proofs.Lines.LineFamilies.{prepared-at}
 use Rattle.prepared_code.proofs.Tables.Tabled.{slotted-at, slotted-past, tabled-place}
@@ -51,12 +51,12 @@ line-place : (p : Program) (place : Option MethodPlace) (k at : ℕ)
 line-place p None k at = refl
 line-place p (Some place) k at = line-class place (class_at p place.class) k at
 
-none-past : (p : Program) (k at : ℕ) → length p.methods ≤ k → originals.line_at p k at ≡ None
+none-past : (p : Program) (k at : ℕ) → length p.methods ≤ k → originals.original_line_at p k at ≡ None
 none-past p k at le =
     ap (option_and_then (λ (x : MethodPlace). option_and_then (λ c. method_line at c x.position) (class_at p x.class))) (slice_get_past p.methods k le)
 
 -- at each place of each version
-pub original-line : (p : Program) (k at : ℕ) → line_at (original_versions p) k at ≡ originals.line_at p k at
+pub original-line : (p : Program) (k at : ℕ) → line_at (original_versions p) k at ≡ originals.original_line_at p k at
 original-line p k at =
     ⊎_elim
     (λ (lt : k < length p.methods). ap (option_and_then (line_in at)) (slotted-at (original_slot p) (length p.methods) k lt) ∙ line-place p (slice_get p.methods k) k at)
@@ -65,13 +65,13 @@ original-line p k at =
 
 pub original-lines : (p : Program) → HasLines (original_versions p)
 original-lines p = record {
-  prepared = λ k at. subst (λ (o : Option Line). IfSome o IsPrepared) (sym (original-line p k at)) (prepared-at p k at);
+  prepared = λ k at. subst (λ (o : Option Line). IfSome o IsPreparedLine) (sym (original-line p k at)) (prepared-at p k at);
   dimensions = λ k at. subst (λ (o : Option Line). IfSome o Fits) (sym (original-line p k at)) (fits-at p k at);
 }
 
 pub original-own : (p : Program) (k at : ℕ) → IfSome (line_at (original_versions p) k at) IsOwnLine
 original-own p k at =
-    subst (λ (o : Option Line). IfSome o IsOwnLine) (sym (original-line p k at)) (own-tie (originals.line_at p k at) ((original p).at k at) (tied-at p k at))
+    subst (λ (o : Option Line). IfSome o IsOwnLine) (sym (original-line p k at)) (own-tie (originals.original_line_at p k at) ((original p).at k at) (tied-at p k at))
 
 -- as a listing they are original code
 pub original-at : (p : Program) (k at : ℕ) → (listing_of (original_versions p)).at k at ≡ (original p).at k at

@@ -20,7 +20,7 @@ use Rattle.jvm_model.specs.Rewriting.StandsForRun.{KeepVersions, StandsFor}
 use Rattle.jvm_model.proofs.Soundness.SoundLines.{can-attempt}
 use Rattle.jvm_model.proofs.Relocated.StandsForRun.{stands_for-kept, step-stands_for}
 use Rattle.prepared_code.specs.Tables.{IsAdded, Releases, Version, Versions, version_at}
-use Rattle.prepared_code.specs.Ready.{CanRun, IsKept, IsOwnLine, RunsIn}
+use Rattle.prepared_code.specs.Ready.{CanRun, IsHeldVersion, IsOwnLine, RunsIn}
 use Rattle.jvm_model.specs.Soundness.SoundListings.{IsSoundEntry}
 use Rattle.prepared_code.specs.Versions.{current_of, instruction_in, line_at, line_in, method_of, listing_of}
 use Rattle.prepared_code.specs.VersionListings.{AreVersions, HasCurrent, IsVersionOf, homes_left, homes_where, homes_with}
@@ -38,7 +38,7 @@ has-number (x ∷ xs) (suc i) n lt = has-number xs i n (omega arith)
 module _ (p : Program) (norm : ℕ → ℕ → ℕ) (homes : ℕ → ℕ → ℕ) (v : Versions) (are : AreVersions p norm homes v) where
   -- ---- they can be run
 
-  kept-current : (k : ℕ) → IsKept v (current_of v k)
+  kept-current : (k : ℕ) → IsHeldVersion v (current_of v k)
   kept-current k =
       ⊎_elim
       (λ (lt : k < length p.methods). inl (ap is_some (are.current k lt).held))
@@ -78,7 +78,7 @@ module _ (p : Program) (norm : ℕ → ℕ → ℕ) (homes : ℕ → ℕ → ℕ
   -- ---- another table, which holds what these frames run
 
   module _ (fs : List PlacedFrame) (after : Versions) (news : ℕ → ℕ → ℕ) (count : length after.current ≡ length v.current)
-      (same : (k : ℕ) → IsKept v k → (pins_of k fs == 0) ≡ false → (version_at after k ≡ version_at v k) × (news k ≡ homes k)) where
+      (same : (k : ℕ) → IsHeldVersion v k → (pins_of k fs == 0) ≡ false → (version_at after k ≡ version_at v k) × (news k ≡ homes k)) where
     same-method : (k : ℕ) → version_at after k ≡ version_at v k → method_of after k ≡ method_of v k
     same-method k is =
         ap (λ (o : Option Version). option_map_or (λ y. y.method) o (max (k - 4294967296) (length after.current))) is
@@ -142,7 +142,7 @@ module _ (p : Program) (norm : ℕ → ℕ → ℕ) (homes : ℕ → ℕ → ℕ
     goes : (k : ℕ) → is_due k ≡ true → version_at after k ≡ None
     goes k e = released.held k ∙ ap (λ b. if b then None else version_at v k) e
 
-    pub same-left : (k : ℕ) → IsKept v k → (pins_of k fs == 0) ≡ false → (version_at after k ≡ version_at v k) × (homes_left after homes k ≡ homes k)
+    pub same-left : (k : ℕ) → IsHeldVersion v k → (pins_of k fs == 0) ≡ false → (version_at after k ≡ version_at v k) × (homes_left after homes k ≡ homes k)
     same-left k is pinned =
         let here : version_at after k ≡ version_at v k = stays k (ap (λ b. is_superseded_in v.slots v.current k && b) pinned ∙ and-false (is_superseded_in v.slots v.current k)) in
         (here, left-same after k here)
@@ -212,7 +212,7 @@ module _ (p : Program) (norm : ℕ → ℕ → ℕ) (homes : ℕ → ℕ → ℕ
     pub count-added : length after.current ≡ length v.current
     count-added = ap length added.current ∙ length-set v.current x.method number
 
-    pub same-added : (k : ℕ) → IsKept v k → (pins_of k fs == 0) ≡ false → (version_at after k ≡ version_at v k) × (news k ≡ homes k)
+    pub same-added : (k : ℕ) → IsHeldVersion v k → (pins_of k fs == 0) ≡ false → (version_at after k ≡ version_at v k) × (news k ≡ homes k)
     same-added k kept pinned =
         let other : k ≡ number → ⊥ = by kept in
         let is : version_at after k ≡ version_at v k = apart k other ∙ ap (λ b. if b then None else version_at v k) (ap (λ b. is_number k former && b) pinned ∙ and-false (is_number k former)) in
@@ -222,7 +222,7 @@ module _ (p : Program) (norm : ℕ → ℕ → ℕ) (homes : ℕ → ℕ → ℕ
         some-apart None is some same = cc
         some-apart (Some y) is some same = held-apart k y is same
 
-        by : IsKept v k → k ≡ number → ⊥
+        by : IsHeldVersion v k → k ≡ number → ⊥
         by (inl held) same = some-apart (version_at v k) refl held same
         by (inr far) same = absurd (omega (arith, far, same, added.small))
 

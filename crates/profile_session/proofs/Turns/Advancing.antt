@@ -28,7 +28,7 @@ use Rattle.profile_session.specs.Images.{AreImageable}
 use Rattle.profile_session.specs.Keeping.{Kept, marks_seen}
 use Rattle.profile_session.proofs.Points.Points.{prefix-same}
 use Rattle.profile_session.specs.Parts.{AreFit, AreLoadable, AreOf, Hears, IsBusy, IsHearable, IsProfiling, IsTellable, Needs, Rests, calls_in, kept_in, profile_in, revealed_in}
-use Rattle.profile_session.specs.Standing.{AtRest, InStep, Stands, rests, within}
+use Rattle.profile_session.specs.Standing.{AtRest, InStep, AtRestOrInStep, rests, within}
 use Rattle.profile_session.specs.Turned.{events_in, is_telling, kept_turned}
 use Rattle.profile_session.proofs.Turns.Hearing.{open-taken}
 use Rattle.profile_session.proofs.Sessions.OpenPaths.{path-entry}
@@ -37,7 +37,7 @@ use Rattle.profile_session.proofs.Turns.Telling.{fold-both, taken-clock}
 use Rattle.profile_session.proofs.Turns.Turning.{AreLoadedNow, Heard, IsBehind, IsToldNow, Went, begun-is, begun-busy, turn-heard, turn-went}
 
 abbrev StandsIn : Parts → List Event → Type 0
-StandsIn x es = Stands x.acts (world x.vm) es (kept_in x) x.vm
+StandsIn x es = AtRestOrInStep x.acts (world x.vm) es (kept_in x) x.vm
 
 pub same-world : (old new : View) → Went old new → world new ≡ world old
 same-world old new went = ap₂ (λ p i. let w : World = record { program = p; input = i } in w) went.program went.input

@@ -25,7 +25,7 @@ use Rattle.jvm_machine.specs.declared.turn.Turn.TheVariants.{Settled, Loaded, Pr
 use Rattle.jvm_machine.specs.Turns.{Tells, TellsLoads, Turns, after_last}
 use Rattle.jvm_machine.specs.View.{View, IsGoingOn, run_state, world, clock_advanced, step_begun, is_resting, loads_next, next_stop, next_event, step_stopped, step_rested, to_come, events_left}
 use Rattle.profile_session.specs.Keeping.{Kept, at_point, kept_end, kept_event, kept_load, marks_seen}
-use Rattle.profile_session.specs.Standing.{AtRest, InStep, Stands, rests, within}
+use Rattle.profile_session.specs.Standing.{AtRest, InStep, AtRestOrInStep, rests, within}
 use Rattle.profile_session.specs.Turned.{events_in, is_telling, kept_turned}
 use Rattle.profile_session.proofs.Sessions.Begun.{AllBegin, called-begin, drop-begin, from-stop}
 use Rattle.profile_session.proofs.Points.Joins.{load-seen}
@@ -46,7 +46,7 @@ module _ (w : World) (is : IsWhole w.program) (acts : List Act) (from : AreFrom 
   abbrev p : Program
   p = w.program
 
-  in-step : (es : List Event) (k : Kept) (v : View) → Stands acts w es k v → IsGoingOn v → loads_next (step_begun v) ≡ [] → InStep acts w es k (step_begun v)
+  in-step : (es : List Event) (k : Kept) (v : View) → AtRestOrInStep acts w es k v → IsGoingOn v → loads_next (step_begun v) ≡ [] → InStep acts w es k (step_begun v)
   in-step es k v (rests r) on no_loads =
       let at = begun-is v r.resting in
       subst (InStep acts w es k) (sym at) (begins w is acts from es k v r on (ap loads_next (sym at) ∙ no_loads))
@@ -137,7 +137,7 @@ module _ (w : World) (is : IsWhole w.program) (acts : List Act) (from : AreFrom 
       (from-stop (λ m. has_class p loaded m ≡ true) (mark_at v.marks) n k.seen.open e opening v.delivered (to_come v)
       (drop-begin (λ m. has_class p loaded m ≡ true) v.passed (turn (world v) n).changes all) v.passed v.live delivered)
 
-  load-heard : (es : List Event) (k : Kept) (old mid : View) (classes : List ℕ) → Stands acts w es k old → TellsLoads old classes mid → Heard old es k (Loaded classes) mid
+  load-heard : (es : List Event) (k : Kept) (old mid : View) (classes : List ℕ) → AtRestOrInStep acts w es k old → TellsLoads old classes mid → Heard old es k (Loaded classes) mid
   load-heard es k old mid classes (within busy s) t = absurd (let h : true ≡ false = sym t.first ∙ busy in cc)
   load-heard es k old mid classes (rests r) t =
       let later : Kept = kept_load p mid.clock k classes in
@@ -155,7 +155,7 @@ module _ (w : World) (is : IsWhole w.program) (acts : List Act) (from : AreFrom 
         );
       }
 
-  tell-heard : (es : List Event) (k : Kept) (old mid : View) (e : Event) → Stands acts w es k old → IsGoingOn old → Tells old e mid → Heard old es k (Probe e) mid
+  tell-heard : (es : List Event) (k : Kept) (old mid : View) (e : Event) → AtRestOrInStep acts w es k old → IsGoingOn old → Tells old e mid → Heard old es k (Probe e) mid
   tell-heard es k old mid e stands on t =
       let s = in-step es k old stands on t.loads in
       let v : View = step_begun old in
@@ -177,7 +177,7 @@ module _ (w : World) (is : IsWhole w.program) (acts : List Act) (from : AreFrom 
             );
       }
 
-  pub turn-heard : (es : List Event) (k : Kept) (old mid : View) (turn : Turn) → Stands acts w es k old → IsGoingOn old → Turns old turn mid → is_telling turn ≡ true
+  pub turn-heard : (es : List Event) (k : Kept) (old mid : View) (turn : Turn) → AtRestOrInStep acts w es k old → IsGoingOn old → Turns old turn mid → is_telling turn ≡ true
       → Heard old es k turn mid
   turn-heard es k old mid Settled stands on t tells =
       record { knows = tt; behind = ends-heard es k (step_begun old) mid (in-step es k old stands on t.loads) t.all t.stepped }
