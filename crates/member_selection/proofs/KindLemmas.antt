@@ -4,37 +4,28 @@ use Rattle.std.proofs.Math.Nat.{mod-add-div', mod-lt}
 use Rattle.std.specs.Prelude.{Some, ◌/◌, ◌%◌, ◌^◌}
 use Rattle.jvm_model.specs.Basis.KindNumbers.{class_of_base, user_count}
 use Rattle.jvm_model.specs.Soundness.Sound.{IsPrimitiveArray}
-use Rattle.jvm_model.specs.Soundness.Sound as sound
 use Rattle.jvm_model.proofs.Soundness.SoundKinds as kinds
 use Rattle.class_linker.specs.Linkers.{IsLoaded, LinkerView}
 use Rattle.member_selection.specs.Objects.{IsUsable}
 
-pub of-sound : (l : LinkerView) (kind : ℕ) → sound.IsUsable l.program l.loaded kind → IsUsable l kind
-of-sound l kind is = record { known = is.known; of_class = is.of_class }
-
-to-sound : (l : LinkerView) (kind : ℕ) → IsUsable l kind → sound.IsUsable l.program l.loaded kind
-to-sound l kind is = record { known = is.known; of_class = is.of_class }
-
 module _ (l : LinkerView) (root : IsLoaded l (user_count l.program)) where
   pub of-class : (dimensions base class : ℕ) → base < 16777216 → class_of_base l.program base ≡ Some class → IsLoaded l class
       → IsUsable l (dimensions * 16777216 + base)
-  of-class dimensions base class small is there =
-      of-sound l (dimensions * 16777216 + base) (kinds.of-class l.program l.loaded root dimensions base class small is there)
+  of-class dimensions base class small is there = kinds.of-class l.program l.loaded root dimensions base class small is there
 
   pub of-primitive : (dimensions base : ℕ) → 1 ≤ dimensions → base < 16 → IsUsable l (dimensions * 16777216 + base)
-  of-primitive dimensions base deep small =
-      of-sound l (dimensions * 16777216 + base) (kinds.of-primitive l.program l.loaded root dimensions base deep small)
+  of-primitive dimensions base deep small = kinds.of-primitive l.program l.loaded root dimensions base deep small
 
   pub primitive : (kind : ℕ) → IsPrimitiveArray kind → IsUsable l kind
-  primitive kind is = of-sound l kind (kinds.primitive l.program l.loaded root kind is)
+  primitive kind is = kinds.primitive l.program l.loaded root kind is
 
   -- an array over a kind
   pub over : (kind : ℕ) → IsUsable l kind → IsUsable l (16777216 + kind)
-  over kind is = of-sound l (16777216 + kind) (kinds.over l.program l.loaded root kind (to-sound l kind is))
+  over kind is = kinds.over l.program l.loaded root kind is
 
   -- what an array of at least two dimensions has as elements
   pub under_usable : (kind : ℕ) → 2 * 16777216 ≤ kind → IsUsable l kind → IsUsable l (kind - 16777216)
-  under_usable kind deep is = of-sound l (kind - 16777216) (kinds.under_usable l.program l.loaded root kind deep (to-sound l kind is))
+  under_usable kind deep is = kinds.under_usable l.program l.loaded root kind deep is
 
 -- an array over one of fewer than 255 dimensions has a number
 pub few_over : (kind dimensions : ℕ) → kind / 16777216 ≡ dimensions → dimensions < 255 → kind + 16777216 < 2 ^ 32

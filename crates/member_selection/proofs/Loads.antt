@@ -11,7 +11,6 @@ use Rattle.jvm_model.specs.Basis.Programs.{class_named}
 use Rattle.member_selection.specs.Objects.{IsUsable}
 use Rattle.jvm_model.proofs.Soundness.SoundKinds.{name-usable}
 use Rattle.jvm_model.proofs.Loading.Among.{among-last}
-use Rattle.member_selection.proofs.KindLemmas.{of-sound}
 
 -- ---- the class of a name
 
@@ -107,4 +106,4 @@ resolves p name loaded none few root =
         × (kind / 16777216 ≡ (meaning_of name).dimensions)
     by (kind, named) =
         let usable = name-usable p name loaded kind few root none named in
-        (kind, named, of-sound (record { program = p; loaded = (load_of p loaded name).loaded }) kind usable.0, usable.1)
+        (kind, named, usable.0, usable.1)

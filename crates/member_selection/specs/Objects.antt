@@ -5,24 +5,22 @@ use Rattle.std.specs.Option.{option_map_or}
 use Rattle.std.specs.List.{AllByRecursion}
 use Rattle.heap_objects.specs.declared.object.Object.{Object}
 use Rattle.heap_objects.specs.Heaps.{HeapView}
-use Rattle.heap_objects.specs.Objects.{kind_of}
 use Rattle.jvm_model.specs.declared.program.Program.{Program}
 use Rattle.jvm_model.specs.Basis.KindNumbers.{user_count}
 use Rattle.jvm_model.specs.Classes.Kinds.{kind_named, meaning_of}
 use Rattle.jvm_model.specs.declared.instruction.SymbolicReference.{SymbolicReference}
 use Rattle.jvm_model.specs.declared.instruction.SymbolicReference.TheVariants as reference
-use Rattle.jvm_model.specs.Basis.Programs.{class_named}
 use Rattle.jvm_model.specs.Basis.SharedState.{class_of_kind}
-use Rattle.class_linker.specs.Linkers.{IsKnown, IsLoaded, LinkerView}
+use Rattle.jvm_model.specs.Soundness.Sound as sound
+use Rattle.class_linker.specs.Linkers.{IsLoaded, LinkerView}
 use Rattle.jvm_model.specs.Instructions.SymbolicReference.{extends, is_below_kind}
 
 -- the class of this kind is loaded, and of an array's the elements' class
-pub record IsUsable (l : LinkerView) (kind : ℕ) : Type 0 where
-  pub known : IsKnown l kind
-  pub of_class : IsLoaded l (class_of_kind l.program kind)
+abbrev pub IsUsable : LinkerView → ℕ → Type 0
+IsUsable l kind = sound.IsUsable l.program l.loaded kind
 
 abbrev pub IsOfLoaded : LinkerView → Object → Type 0
-IsOfLoaded l o = IsUsable l (kind_of o)
+IsOfLoaded l o = sound.IsOfLoaded l.program l.loaded o
 
 -- and java/lang/Object is, which is the class of arrays
 pub record AreLoaded (l : LinkerView) (h : HeapView) : Type 0 where
@@ -37,8 +35,7 @@ pub record IsResolved (l : LinkerView) (name : List ℕ) (kind : ℕ) : Type 0 w
 
 -- the class in which an invokespecial stands is loaded
 abbrev pub HasLoadedCaller : LinkerView → SymbolicReference → Type 0
-HasLoadedCaller l (reference.Invokespecial caller r interface) = (class : ℕ) → class_named l.program caller ≡ Some class → IsLoaded l class
-HasLoadedCaller l _ = Unit {0}
+HasLoadedCaller l n = sound.HasLoadedCaller l.program l.loaded n
 
 -- anewarray and multianewarray name types of so many dimensions as the format of class files asks (4.9.1)
 abbrev pub HasDimensions : SymbolicReference → Type 0

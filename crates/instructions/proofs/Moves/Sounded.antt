@@ -10,13 +10,11 @@ use Rattle.jvm_model.specs.declared.state.Frame.{Frame}
 use Rattle.jvm_model.specs.declared.state.State.{State}
 use Rattle.jvm_model.specs.Basis.Data.{Instruction, Breaks, Done}
 use Rattle.jvm_model.specs.declared.instruction.SymbolicReference.{SymbolicReference}
-use Rattle.jvm_model.specs.declared.instruction.SymbolicReference.TheVariants.{Invokespecial}
 use Rattle.jvm_model.specs.declared.instruction.Local.{Local}
 use Rattle.jvm_model.specs.declared.instruction.Operation.{Operation}
 use Rattle.jvm_model.specs.declared.instruction.Operation.TheVariants.{Within, Named, Athrow, Monitor, Newarray, Arraylength, LoadElement, StoreElement, LdcString}
 use Rattle.jvm_model.specs.Instructions.Does.{loads}
 use Rattle.jvm_model.specs.Running.Run.{main_class}
-use Rattle.jvm_model.specs.Soundness.Sound as sound
 use Rattle.jvm_model.specs.Soundness.Sound.{CanAttempt, IsFit, IsLoaded, IsSoundOutcome}
 use Rattle.jvm_model.proofs.Soundness.SoundAttempts.{sound-does}
 use Rattle.jvm_model.proofs.Soundness.SoundRuns.{loads-again}
@@ -51,10 +49,7 @@ linker_of p loaded = record { program = p; loaded = loaded }
 
 module _ (p : Program) (fit : IsFit p) (loaded : List ℕ) where
   can-name : (n : SymbolicReference) → CanAttempt p loaded (Named n) → HasLoadedCaller (linker_of p loaded) n
-  can-name n can = by n can.0 where
-    by : (m : SymbolicReference) → sound.HasLoadedCaller p loaded m → HasLoadedCaller (linker_of p loaded) m
-    by (Invokespecial caller r interface) has = has
-    by m has = tt
+  can-name n can = can.0
 
   named-by : (line : Line) (op : Operation Local) → IsTied line op → CanAttempt p loaded op
       → IfNamedBy line.operation line.next (λ n next. HasLoadedCaller (linker_of p loaded) n)

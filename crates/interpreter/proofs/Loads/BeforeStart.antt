@@ -1,10 +1,9 @@
 -- Before the start the built-in classes are loaded, those of exceptions among them, and so is the class of each object that is there.
 use Rattle.std.proofs.Common.{◌≡◌, ℕ, zero, suc, Bool, true, false, List, [], ◌∷◌, Option, None, Some, refl, sym, ap, subst, ◌∙◌}
 use Rattle.std.specs.Prelude.{IfSome, map, slice_get, unwrap_or, ◌||◌}
-use Rattle.std.specs.List.{AllByRecursion, list_any}
+use Rattle.std.specs.List.{list_any}
 use Rattle.std.proofs.lemmas.Slice.Eq.{bytes_eq-Decides}
 use Rattle.const_pool.specs.BuiltIn.{built_in_names}
-use Rattle.heap_objects.specs.declared.object.Object.{Object}
 use Rattle.heap_objects.specs.Heaps.{HeapView}
 use Rattle.frame_stack.specs.FrameLists.{PlacedFrame}
 use Rattle.jvm_model.specs.declared.exception.Exception.{Exception}
@@ -17,14 +16,13 @@ use Rattle.jvm_model.specs.Basis.Descriptors.{same_text}
 use Rattle.jvm_model.specs.Basis.SharedState.{kind_for, shared_before, string, throwable}
 use Rattle.jvm_model.specs.Instructions.Exceptions.{exception_name}
 use Rattle.jvm_model.specs.Running.Run.{before}
-use Rattle.jvm_model.specs.Soundness.Sound as sound
 use Rattle.jvm_model.specs.Soundness.Sound.{IsBuiltInName, IsFit}
 use Rattle.jvm_model.proofs.Soundness.SoundKinds.{has-root, kind-usable}
 use Rattle.jvm_model.proofs.Soundness.SoundObjects.{before-sound}
 use Rattle.class_linker.specs.Linkers.{LinkerView}
 use Rattle.symbolic_references.specs.declared.runtime.Beginning.{Beginning}
 use Rattle.symbolic_references.specs.Natives.{HasBuiltIn}
-use Rattle.member_selection.specs.Objects.{AreLoaded, IsOfLoaded, IsUsable}
+use Rattle.member_selection.specs.Objects.{AreLoaded, IsUsable}
 use Rattle.symbolic_references.specs.ProgramFacts.{HasExceptions}
 use Rattle.prepared_code.specs.States.{active}
 
@@ -71,19 +69,12 @@ named-built-in (BuiltIn place) = named-or (slice_get built_in_names place) throw
 
 -- ---- over a linker
 
-of-sound : (l : LinkerView) (kind : ℕ) → sound.IsUsable l.program l.loaded kind → IsUsable l kind
-of-sound l kind is = record { known = is.known; of_class = is.of_class }
-
-objects-loaded : (l : LinkerView) (os : List Object) → AllByRecursion (sound.IsOfLoaded l.program l.loaded) os → AllByRecursion (IsOfLoaded l) os
-objects-loaded l [] each = tt
-objects-loaded l (o ∷ os) each = (record { known = each.0.known; of_class = each.0.of_class }, objects-loaded l os each.1)
-
 module _ (p : Program) (fit : IsFit p) where
   abbrev linker : LinkerView
   linker = record { program = p; loaded = (shared_before p).loaded }
 
   usable : (name : List ℕ) → IsBuiltInName name → IsUsable linker (kind_for p name)
-  usable name known = of-sound linker (kind_for p name) (kind-usable p fit (shared_before p).loaded fit.before name known)
+  usable name known = kind-usable p fit (shared_before p).loaded fit.before name known
 
   linker-is : (l : LinkerView) → l.program ≡ p → l.loaded ≡ (shared_before p).loaded → linker ≡ l
   linker-is l program loaded =
@@ -91,7 +82,7 @@ module _ (p : Program) (fit : IsFit p) where
       ∙ ap (λ (classes : List ℕ). let m : LinkerView = record { program = p; loaded = classes } in m) loaded)
 
   pub built-in-before : (l : LinkerView) → l.program ≡ p → l.loaded ≡ (shared_before p).loaded → HasBuiltIn l
-  built-in-before l program loaded = subst HasBuiltIn (linker-is l program loaded) (record { whole = fit.before.whole; each = fit.before.each })
+  built-in-before l program loaded = subst HasBuiltIn (linker-is l program loaded) fit.before
 
   pub exceptions-before : (l : LinkerView) → l.program ≡ p → l.loaded ≡ (shared_before p).loaded → HasExceptions l
   exceptions-before l program loaded =
@@ -101,7 +92,7 @@ module _ (p : Program) (fit : IsFit p) where
   objects-before l heap program loaded objects =
       subst (λ (h : HeapView). AreLoaded l h) (sym objects)
       (subst (λ (m : LinkerView). AreLoaded m (shared_before p).heap) (linker-is l program loaded) (record {
-        objects = objects-loaded linker (shared_before p).heap.objects (before-sound p fit).objects;
+        objects = (before-sound p fit).objects;
         root = has-root p fit (shared_before p).loaded fit.before;
       }))
 
