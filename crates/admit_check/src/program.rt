@@ -5,7 +5,7 @@ ghost use Rattle.std.specs.Prelude.{◌≡◌, ◌++◌, ◌<◌, ◌^◌, lengt
 ghost use Rattle.std.specs.List.{AllByRecursion};
 ghost use Rattle.const_pool.specs.ClassFile.{IsClassFile};
 ghost use Rattle.const_pool.specs.References.{name_type_of};
-ghost use Rattle.jvm_model.specs.Basis.Methods.{code_of, is_member, method_named, same_text_at};
+ghost use Rattle.jvm_model.specs.Basis.Methods.{code_of, is_member, method_named};
 ghost use Rattle.jvm_model.specs.Basis.Programs.{coded_from, declared_method, has_name, number_from};
 ghost use Rattle.jvm_model.specs.Basis.Programs.{methods_numbered, same_place};
 ghost use Rattle.jvm_model.specs.Small.SmallClass.{is_public_static, main_member, public_static};
@@ -92,39 +92,19 @@ fn class_named(classes: &[ClassFile], name: &Text16) -> Option<usize>
     classes.iter().position(|class| has_name(name, class))
 }
 
-/// Whether an entry is this text.
-fn is_text_at(pool: &Pool, index: u16, text: &Text16) -> bool
-    ensures { result ≡ same_text_at pool.now index text.now }
-{
-    match pool.text(index) {
-        Ok(found) => found.same(text),
-        Err(_) => false,
-    }
-}
-
-/// Whether an entry is a text of these bytes.
-fn is_bytes_at(pool: &Pool, index: u16, bytes: &[u8]) -> bool
-    ensures { result ≡ same_text_at pool.now index bytes.now }
-{
-    match pool.text(index) {
-        Ok(found) => found.is_bytes(bytes),
-        Err(_) => false,
-    }
-}
-
 /// Whether a method has this name and this descriptor.
 fn is_member(pool: &Pool, name: &Text16, descriptor: &Text16, method: &Member) -> bool
     ensures { result ≡ is_member pool.now (name_type_of name.now descriptor.now) method.now }
 {
-    is_text_at(pool, method.name, name) && is_text_at(pool, method.descriptor, descriptor)
+    pool.is_text(method.name, name) && pool.is_text(method.descriptor, descriptor)
 }
 
 /// Whether a method has the name and the descriptor of `main`.
 fn is_main(pool: &Pool, method: &Member) -> bool
     ensures { result ≡ is_member pool.now main_member method.now }
 {
-    is_bytes_at(pool, method.name, b"main")
-        && is_bytes_at(pool, method.descriptor, b"([Ljava/lang/String;)V")
+    pool.is_bytes(method.name, b"main")
+        && pool.is_bytes(method.descriptor, b"([Ljava/lang/String;)V")
 }
 
 /// The position of the first method with this name and this descriptor.

@@ -10,8 +10,8 @@ use Rattle.jf_bytes.proofs.Tests.{equals_itself}
 use Rattle.const_pool.specs.declared.class.ClassFile.{ClassFile}
 use Rattle.const_pool.specs.declared.class.Member.{Member}
 use Rattle.const_pool.specs.declared.pool.Const.{Const}
-use Rattle.const_pool.specs.References.{NameAndType}
-use Rattle.jvm_model.specs.Basis.Methods.{is_member, method_from, method_named, same_text_at}
+use Rattle.const_pool.specs.References.{NameAndType, same_text_at}
+use Rattle.jvm_model.specs.Basis.Methods.{is_member, method_from, method_named}
 use Rattle.jvm_model.specs.Basis.SharedState.{field_named}
 use Rattle.class_index.specs.declared.table.Table.{Table}
 use Rattle.class_index.specs.Buckets.{bucket_at, buckets_of, filled_from, is_at, member_number, member_sought, number_of, table_of, with_position}

@@ -5,9 +5,8 @@ use Rattle.std.specs.Option.{option_map_or}
 use Rattle.std.proofs.lemmas.Slice.Eq.{bytes_eq-Decides}
 use Rattle.std.proofs.lemmas.Bool.{false≢true}
 use Rattle.const_pool.specs.declared.pool.Const.{Const}
-use Rattle.const_pool.specs.References.{named_text}
+use Rattle.const_pool.specs.References.{named_text, same_text_at}
 use Rattle.jvm_model.specs.Basis.Descriptors.{same_text}
-use Rattle.jvm_model.specs.Basis.Methods.{same_text_at}
 
 pub text_is : (pool : List Const) (i : ℕ) (text : List ℕ) → same_text_at pool i text ≡ true → named_text pool i ≡ Some text
 text_is pool i text h = by (named_text pool i) refl h

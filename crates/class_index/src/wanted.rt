@@ -1,7 +1,7 @@
 //! A member that is wanted.
 
 ghost use Rattle.std.specs.Prelude.{◌≡◌};
-ghost use Rattle.jvm_model.specs.Basis.Methods.{is_member, same_text_at};
+ghost use Rattle.jvm_model.specs.Basis.Methods.{is_member};
 ghost use Rattle.class_index.specs.Members.{wanted_view};
 
 use const_pool::{Member, Pool};
@@ -14,20 +14,9 @@ pub struct Wanted<'a> {
     pub descriptor: &'a Text16,
 }
 
-/// Whether an entry is this text.
-fn is_text_at(pool: &Pool, entry: u16, text: &Text16) -> bool
-    ensures { result ≡ same_text_at pool.now entry text.now }
-{
-    match pool.text(entry) {
-        Ok(found) => found.same(text),
-        Err(_) => false,
-    }
-}
-
 /// Whether a member has this name and this descriptor.
 pub fn is_member(pool: &Pool, wanted: &Wanted<'_>, member: &Member) -> bool
     ensures { result ≡ is_member pool.now (wanted_view wanted.now) member.now }
 {
-    is_text_at(pool, member.name, wanted.name)
-        && is_text_at(pool, member.descriptor, wanted.descriptor)
+    pool.is_text(member.name, wanted.name) && pool.is_text(member.descriptor, wanted.descriptor)
 }

@@ -7,10 +7,10 @@ use Rattle.std.proofs.lemmas.Option.{none-some, same_Some}
 use Rattle.const_pool.specs.declared.class.ClassFile.{ClassFile}
 use Rattle.const_pool.specs.declared.class.Member.{Member}
 use Rattle.const_pool.specs.declared.pool.Const.{Const}
-use Rattle.const_pool.specs.References.{NameAndType}
+use Rattle.const_pool.specs.References.{NameAndType, same_text_at}
 use Rattle.jvm_model.specs.declared.program.Program.{Program}
 use Rattle.jvm_model.specs.Classes.Lookup.{MemberPlace, is_subtype, method_at, place_in}
-use Rattle.jvm_model.specs.Basis.Methods.{is_member, method_from, same_text_at}
+use Rattle.jvm_model.specs.Basis.Methods.{is_member, method_from}
 use Rattle.jvm_model.specs.Basis.Programs.{class_at}
 use Rattle.jvm_model.specs.Classes.Selection.{signature_of, stands_below, texts_of}
 use Rattle.class_index.specs.Members.{is_declared_as}

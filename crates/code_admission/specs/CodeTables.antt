@@ -4,6 +4,7 @@ use Rattle.std.specs.Prelude.{ℕ, Bool, true, false, List, Result, Ok, Err, is_
 use Rattle.std.specs.List.{list_all}
 use Rattle.const_pool.specs.declared.class.Raw.{Raw}
 use Rattle.const_pool.specs.declared.pool.Const.{Const}
+use Rattle.const_pool.specs.References.{same_text_at}
 use Rattle.code_model.specs.declared.instr.Instr.{Instr}
 use Rattle.stackmap_shift.specs.declared.error.FrameError.{FrameError}
 use Rattle.stackmap_shift.specs.declared.frames.Frame.{Frame}
@@ -13,7 +14,6 @@ use Rattle.stackmap_shift.specs.declared.frames.VType.{VType}
 use Rattle.stackmap_shift.specs.declared.frames.VType.TheVariants.{Uninit}
 use Rattle.stackmap_shift.specs.DebugTables.{lines_of, variables_of}
 use Rattle.stackmap_shift.specs.Frames.{frames_of}
-use Rattle.inject_events.specs.Tables.{is_named}
 use Rattle.code_model.specs.Groups.{is_start}
 
 -- ---- frames
@@ -43,13 +43,13 @@ fits_frames instrs (Err fault) = false
 -- ---- a table, by its name; other attributes are free
 
 abbrev pub is_frame_name : List Const → ℕ → Bool
-is_frame_name pool name = is_named pool name (codes "StackMapTable")
+is_frame_name pool name = same_text_at pool name (codes "StackMapTable")
 
 abbrev pub fits_table : List Const → List Instr → ℕ → List ℕ → Bool
 fits_table pool instrs name bytes =
-    if is_named pool name (codes "LineNumberTable") then is_ok (lines_of bytes)
-    else if is_named pool name (codes "LocalVariableTable") then is_ok (variables_of bytes)
-    else if is_named pool name (codes "LocalVariableTypeTable") then is_ok (variables_of bytes)
+    if same_text_at pool name (codes "LineNumberTable") then is_ok (lines_of bytes)
+    else if same_text_at pool name (codes "LocalVariableTable") then is_ok (variables_of bytes)
+    else if same_text_at pool name (codes "LocalVariableTypeTable") then is_ok (variables_of bytes)
     else if is_frame_name pool name then fits_frames instrs (frames_of bytes)
     else true
 

@@ -2,7 +2,6 @@
 
 ghost use Rattle.std.specs.Prelude.{◌≡◌, IfOk};
 ghost use Rattle.std.specs.List.{list_all};
-ghost use Rattle.inject_events.specs.Tables.{is_named};
 ghost use Rattle.stackmap_shift.specs.Frames.{frames_of};
 ghost use Rattle.code_admission.specs.CodeTables.{fits_vtype, fits_vtypes, fits_frame_kind};
 ghost use Rattle.code_admission.specs.CodeTables.{fits_frame, fits_frames, is_frame_name};
@@ -73,21 +72,11 @@ fn fits_frames(alloc: Global, body: &Body, bytes: &[u8]) -> Result<bool, NoMemor
     }
 }
 
-/// Whether an entry of the pool is this text.
-fn is_named(pool: &Pool, name: u16, text: &[u8]) -> bool
-    ensures { result ≡ is_named pool.now name text.now }
-{
-    match pool.text(name) {
-        Ok(found) => found.is_bytes(text),
-        Err(_) => false,
-    }
-}
-
 /// Whether an attribute with this name is a StackMapTable.
 pub(crate) fn is_frame_name(pool: &Pool, name: u16) -> bool
     ensures { result ≡ is_frame_name pool.now name }
 {
-    is_named(pool, name, b"StackMapTable")
+    pool.is_bytes(name, b"StackMapTable")
 }
 
 /// Whether an attribute of this name, if it is a table, is one of the body.
@@ -100,11 +89,11 @@ fn fits_table(
 ) -> Result<bool, NoMemory>
     ensures { IfOk result (λ fits. fits ≡ fits_table pool.now body.now name bytes.now) }
 {
-    if is_named(pool, name, b"LineNumberTable") {
+    if pool.is_bytes(name, b"LineNumberTable") {
         is_line_table(alloc, bytes)
-    } else if is_named(pool, name, b"LocalVariableTable") {
+    } else if pool.is_bytes(name, b"LocalVariableTable") {
         is_variable_table(alloc, bytes)
-    } else if is_named(pool, name, b"LocalVariableTypeTable") {
+    } else if pool.is_bytes(name, b"LocalVariableTypeTable") {
         is_variable_table(alloc, bytes)
     } else if is_frame_name(pool, name) {
         fits_frames(alloc, body, bytes)

@@ -3,6 +3,7 @@
 use Rattle.std.specs.Prelude.{◌≡◌, ℕ, Bool, true, false, List, Option, None, Result, Ok, Err, if◌then◌else◌}
 use Rattle.std.specs.Option.{ok_or, option_map_or}
 use Rattle.std.specs.Result.{result_ok}
+use Rattle.std.specs.Str.{bytes_eq}
 use Rattle.const_pool.specs.declared.pool.Const.{Const}
 use Rattle.const_pool.specs.declared.pool.Const.TheVariants.{Utf8, Class, Field, Method, InterfaceMethod, NameType}
 use Rattle.const_pool.specs.declared.pool.PoolError.{PoolError}
@@ -75,6 +76,10 @@ member_walk pool i = entry_walk pool i >>= member_entry pool
 
 abbrev pub named_text : List Const → ℕ → Option (List ℕ)
 named_text pool i = result_ok (text_walk pool i)
+
+-- the entry is this text
+abbrev pub same_text_at : List Const → ℕ → List ℕ → Bool
+same_text_at pool i text = option_map_or (λ found. bytes_eq found text) (named_text pool i) false
 
 abbrev pub named_class : List Const → ℕ → Option (List ℕ)
 named_class pool i = result_ok (class_walk pool i)

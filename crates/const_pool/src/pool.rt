@@ -4,7 +4,7 @@ ghost use Rattle.std.specs.Prelude.{◌≡◌, ◌↔◌, ◌<◌, ◌^◌, leng
 ghost use Rattle.std.specs.Option.{option_copied};
 ghost use Rattle.const_pool.specs.Pool.{entry_at, has_gaps, IsUnusable};
 ghost use Rattle.const_pool.specs.Members.{reference_view};
-ghost use Rattle.const_pool.specs.References.{Walks, name_type_of, entry_walk, text_walk, class_walk, name_type_walk, member_walk, reference_walk};
+ghost use Rattle.const_pool.specs.References.{Walks, name_type_of, entry_walk, text_walk, class_walk, name_type_walk, member_walk, reference_walk, same_text_at};
 
 use jf_bytes::{Seq, Text16};
 use std::marker::Model;
@@ -129,6 +129,26 @@ impl Pool {
         match self.entry(i)? {
             Const::Utf8(text) => Ok(text),
             _ => Err(PoolError::WrongKind),
+        }
+    }
+
+    /// Whether an entry is this text.
+    pub fn is_text(&self, i: u16, text: &Text16) -> bool
+        ensures { result ≡ same_text_at self.now i text.now }
+    {
+        match self.text(i) {
+            Ok(found) => found.same(text),
+            Err(_) => false,
+        }
+    }
+
+    /// Whether an entry is a text of these bytes, one unit each.
+    pub fn is_bytes(&self, i: u16, bytes: &[u8]) -> bool
+        ensures { result ≡ same_text_at self.now i bytes.now }
+    {
+        match self.text(i) {
+            Ok(found) => found.is_bytes(bytes),
+            Err(_) => false,
         }
     }
 

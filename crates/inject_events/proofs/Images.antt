@@ -11,7 +11,7 @@ use Rattle.const_pool.specs.declared.class.CodeAttribute.{CodeAttribute}
 use Rattle.const_pool.specs.declared.class.Raw.{Raw}
 use Rattle.const_pool.specs.declared.pool.Const.{Const}
 use Rattle.const_pool.specs.ClassFile.{class_bytes}
-use Rattle.const_pool.specs.References.{named_text}
+use Rattle.const_pool.specs.References.{named_text, same_text_at}
 use Rattle.const_pool.specs.Tail.{with_tail}
 use Rattle.code_model.specs.declared.instr.Code.{Code}
 use Rattle.code_model.specs.declared.instr.Instr.{Instr}
@@ -38,7 +38,7 @@ use Rattle.inject_events.specs.Answers.{IsReadableBody, HasReadableBody, HaveRea
 use Rattle.inject_events.specs.Settings.{tail_of, setting_of, probes_in}
 use Rattle.inject_events.specs.Probing.{laid_with, first_marked}
 use Rattle.inject_events.specs.Rewriting.{instrs_in, version_of, far_cause, version_cause, cause_of_coded, cause_of_method, image_of_coded, image_of_method, images_from, original_of, image_of_marked, image_of, refused_from, is_full_pool, refused_of_marked, refused_of}
-use Rattle.inject_events.specs.Tables.{is_named, moved_table, moved_raw, is_frame_table, has_frames, added_tables, version_tables}
+use Rattle.inject_events.specs.Tables.{moved_table, moved_raw, is_frame_table, has_frames, added_tables, version_tables}
 use Rattle.inject_events.proofs.InstrsIn.{instrs_in-is}
 use Rattle.inject_events.proofs.Rooms.{IsMadeWhole-none, none_of}
 use Rattle.inject_events.proofs.Refusals.{here-none}
@@ -78,7 +78,7 @@ raw-is c homes end raw =
     let s : Setting = setting_of c in
     let pool : List Const = with_tail c.pool in
     ap (λ (bytes : List ℕ). let r : Raw = record { name = raw.name; bytes = bytes } in r)
-    (table-moved s homes end raw.bytes (is_named pool raw.name lines) (is_named pool raw.name variables) (is_named pool raw.name types) (s.framed && is_named pool raw.name frames))
+    (table-moved s homes end raw.bytes (same_text_at pool raw.name lines) (same_text_at pool raw.name variables) (same_text_at pool raw.name types) (s.framed && same_text_at pool raw.name frames))
 
 raws-are : (c : ClassFile) (homes : Homes) (end : ℕ) (raws : List Raw) → map (moved_raw (setting_of c) homes end) raws ≡ map (image_attribute c homes end) raws
 raws-are c homes end [] = refl

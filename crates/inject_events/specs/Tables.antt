@@ -1,14 +1,11 @@
 -- The tables of a Code in its version, by what the versions of a class have in common: an image has each so (proofs/Images). And tables
 -- without room.
 use Rattle.std.specs.Prelude.{ℕ, Bool, true, false, not, List, [], ◌∷◌, ◌++◌, length, map, Result, Ok, Err, codes, ◌==◌, ◌&&◌, ◌||◌, if◌then◌else◌}
-use Rattle.std.specs.Option.{option_map_or}
 use Rattle.std.specs.List.{list_any}
 use Rattle.const_pool.specs.declared.class.Raw.{Raw}
-use Rattle.const_pool.specs.declared.pool.Const.{Const}
-use Rattle.const_pool.specs.References.{named_text}
+use Rattle.const_pool.specs.References.{same_text_at}
 use Rattle.code_model.specs.declared.laying.Homes.{Homes}
 use Rattle.code_model.specs.Layout.{home_of}
-use Rattle.jvm_model.specs.Basis.Descriptors.{same_text}
 use Rattle.jvm_model.specs.Rewriting.ImageTables.{moved_lines, moved_variables, last_frame, frames_with_last, framed_by, moved_frames_of}
 use Rattle.stackmap_shift.specs.declared.error.FrameError.{FrameError}
 use Rattle.stackmap_shift.specs.declared.frames.Frame.{Frame}
@@ -20,16 +17,13 @@ use Rattle.inject_events.specs.declared.settings.Table.TheVariants as table
 
 -- ---- which table an attribute is
 
-abbrev pub is_named : List Const → ℕ → List ℕ → Bool
-is_named pool name text = option_map_or (λ (found : List ℕ). same_text found text) (named_text pool name) false
-
 -- by its name; in a class without frames a StackMapTable is like any other attribute
 abbrev pub table_of : Setting → ℕ → Table
 table_of s name =
-    if is_named s.tail.pool name (codes "LineNumberTable") then table.Lines
-    else if is_named s.tail.pool name (codes "LocalVariableTable") then table.Variables
-    else if is_named s.tail.pool name (codes "LocalVariableTypeTable") then table.Variables
-    else if s.framed && is_named s.tail.pool name (codes "StackMapTable") then table.Frames
+    if same_text_at s.tail.pool name (codes "LineNumberTable") then table.Lines
+    else if same_text_at s.tail.pool name (codes "LocalVariableTable") then table.Variables
+    else if same_text_at s.tail.pool name (codes "LocalVariableTypeTable") then table.Variables
+    else if s.framed && same_text_at s.tail.pool name (codes "StackMapTable") then table.Frames
     else table.Other
 
 -- ---- frames (4.7.4)

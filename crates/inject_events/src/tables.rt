@@ -3,12 +3,12 @@
 ghost use Rattle.std.specs.Prelude.{◌≡◌, map, IfOk};
 ghost use Rattle.std.specs.List.Sorted.{IsStrictlyIncreasing};
 ghost use Rattle.jvm_model.specs.Rewriting.ImageTables.{moved_lines, moved_variables};
-ghost use Rattle.inject_events.specs.Tables.{is_named, table_of, moved_table, moved_raw, is_frame_table, has_frames, lacks_frames, version_tables, is_full_table, has_full_table, are_frames_full};
+ghost use Rattle.inject_events.specs.Tables.{table_of, moved_table, moved_raw, is_frame_table, has_frames, lacks_frames, version_tables, is_full_table, has_full_table, are_frames_full};
 
 use crate::frame_tables::{added_table, frame_count, moved_frame_table};
 use crate::settings::{Setting, Table};
 use code_model::Homes;
-use const_pool::{Pool, Raw};
+use const_pool::Raw;
 use jf_bytes::{NoMemory, Seq};
 use stackmap_shift::{FrameError, shift_lines, shift_vars};
 use std::alloc::Global;
@@ -16,28 +16,18 @@ use std::alloc::Global;
 /// The greatest number of attributes, and of frames in a table: each is counted by a u2.
 const MOST: usize = 65535;
 
-/// Whether an entry of the pool is this text.
-fn is_named(pool: &Pool, name: u16, text: &[u8]) -> bool
-    ensures { result ≡ is_named pool.now name text.now }
-{
-    match pool.text(name) {
-        Ok(found) => found.is_bytes(text),
-        Err(_) => false,
-    }
-}
-
 /// Which table an attribute with this name is.
 fn table_of(setting: &Setting, name: u16) -> Table
     ensures { result ≡ table_of setting.now name }
 {
     let pool = &setting.tail.pool;
-    if is_named(pool, name, b"LineNumberTable") {
+    if pool.is_bytes(name, b"LineNumberTable") {
         Table::Lines
-    } else if is_named(pool, name, b"LocalVariableTable") {
+    } else if pool.is_bytes(name, b"LocalVariableTable") {
         Table::Variables
-    } else if is_named(pool, name, b"LocalVariableTypeTable") {
+    } else if pool.is_bytes(name, b"LocalVariableTypeTable") {
         Table::Variables
-    } else if setting.framed && is_named(pool, name, b"StackMapTable") {
+    } else if setting.framed && pool.is_bytes(name, b"StackMapTable") {
         Table::Frames
     } else {
         Table::Other

@@ -9,7 +9,7 @@ use const_pool::{ClassFile, Member, Pool};
 use jf_bytes::NoMemory;
 use jvm_model::{MethodPlace, Program};
 use plan_text::{PlanError, RootName, plan_of_root};
-use row_words::{has_name, is_text, number_of};
+use row_words::{has_name, number_of};
 use std::alloc::Global;
 
 /// Whether a method has the name and the descriptor of a root.
@@ -17,7 +17,7 @@ fn is_member(pool: &Pool, method: &Member, root: &RootName) -> bool
     ensures { let wanted = name_type_of root.now.name root.now.descriptor in
         result ≡ is_member pool.now wanted method.now }
 {
-    is_text(pool, method.name, &root.name) && is_text(pool, method.descriptor, &root.descriptor)
+    pool.is_text(method.name, &root.name) && pool.is_text(method.descriptor, &root.descriptor)
 }
 
 /// Whether the method at a position of a class has the name and the descriptor of a root.

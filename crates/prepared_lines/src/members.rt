@@ -6,27 +6,17 @@ ghost use Rattle.std.specs.Option.{option_map};
 ghost use Rattle.const_pool.specs.Members.{reference_view};
 ghost use Rattle.const_pool.specs.References.{named_field, named_method};
 ghost use Rattle.jvm_model.specs.Codes.Lines.{named_interface_method};
-ghost use Rattle.jvm_model.specs.Basis.Methods.{same_text_at, is_member, method_named};
+ghost use Rattle.jvm_model.specs.Basis.Methods.{is_member, method_named};
 ghost use Rattle.jvm_model.specs.Basis.Programs.{initializer_name};
 ghost use Rattle.jvm_model.specs.Instructions.Rules.{is_reference};
 
 use const_pool::{ClassFile, Const, Member, MemberRef, Pool};
 
-/// Whether an entry is the text of these bytes.
-fn are_bytes_at(pool: &Pool, index: u16, bytes: &[u8]) -> bool
-    ensures { result ≡ same_text_at pool.now index bytes.now }
-{
-    match pool.text(index) {
-        Ok(found) => found.is_bytes(bytes),
-        Err(_) => false,
-    }
-}
-
 /// Whether a method is a static initializer (2.9).
 pub fn is_initializer(pool: &Pool, member: &Member) -> bool
     ensures { result ≡ is_member pool.now initializer_name member.now }
 {
-    are_bytes_at(pool, member.name, b"<clinit>") && are_bytes_at(pool, member.descriptor, b"()V")
+    pool.is_bytes(member.name, b"<clinit>") && pool.is_bytes(member.descriptor, b"()V")
 }
 
 /// The position of a class's static initializer, where it has one.

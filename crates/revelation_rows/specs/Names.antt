@@ -4,13 +4,12 @@ use Rattle.std.specs.List.{flat_map}
 use Rattle.std.specs.Option.{option_and_then, option_map_or}
 use Rattle.const_pool.specs.declared.class.ClassFile.{ClassFile}
 use Rattle.const_pool.specs.declared.class.Member.{Member}
-use Rattle.const_pool.specs.References.{named_text}
+use Rattle.const_pool.specs.References.{named_text, same_text_at}
 use Rattle.jf_bytes.specs.Unicode.{utf16_of}
 use Rattle.jvm_model.specs.declared.event.Mark.{Mark}
 use Rattle.jvm_model.specs.declared.event.Mark.TheVariants.{Off, Plain, Root}
 use Rattle.jvm_model.specs.declared.program.Program.{Program}
 use Rattle.jvm_model.specs.declared.program.MethodPlace.{MethodPlace}
-use Rattle.jvm_model.specs.Basis.Methods.{same_text_at}
 use Rattle.jvm_model.specs.Basis.Programs.{class_at, has_name, name_at, place_of_method}
 use Rattle.revelation_rows.specs.declared.names.CalledMethod.{CalledMethod}
 use Rattle.row_words.specs.Names.{in_32_bits}

@@ -11,7 +11,7 @@ ghost use Rattle.revelation_rows.specs.Names.{method_called, method_shown, name_
 use const_pool::ClassFile;
 use jf_bytes::{NoMemory, Text16, from_utf8};
 use jvm_model::{Mark, MethodPlace, Program};
-use row_words::{LookUp, has_name, is_text, number_of, split_at_first};
+use row_words::{LookUp, has_name, number_of, split_at_first};
 use std::alloc::Global;
 
 // ---- found
@@ -37,7 +37,7 @@ fn has_method(file: &ClassFile, position: u16, name: &Text16) -> bool
     ensures { result ≡ has_method name.now file.now position }
 {
     match file.methods.get(position as usize) {
-        Some(method) => is_text(&file.pool, method.name, name),
+        Some(method) => file.pool.is_text(method.name, name),
         None => false,
     }
 }

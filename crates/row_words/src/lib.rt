@@ -7,5 +7,5 @@ mod names;
 mod words;
 
 pub use finding::{LookUp, find_all};
-pub use names::{class_named, classes_in, has_name, is_text, number_of};
+pub use names::{class_named, classes_in, has_name, number_of};
 pub use words::{MOST, lines_of, split_at_first, words_in};

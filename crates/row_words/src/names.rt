@@ -1,13 +1,12 @@
 //! Classes of a program by their names.
 
 ghost use Rattle.std.specs.Prelude.{◌≡◌, IfOk, position};
-ghost use Rattle.jvm_model.specs.Basis.Methods.{same_text_at};
 ghost use Rattle.jvm_model.specs.Basis.Programs.{has_name};
 ghost use Rattle.row_words.specs.Names.{class_called, classes_called, in_32_bits};
 
 use crate::finding::{LookUp, find_all};
 use crate::words::words_in;
-use const_pool::{ClassFile, Pool};
+use const_pool::ClassFile;
 use jf_bytes::{NoMemory, Seq, Text16, from_utf8};
 use jvm_model::Program;
 use std::alloc::Global;
@@ -17,16 +16,6 @@ pub fn number_of(position: Option<usize>) -> Option<u32>
     ensures { result ≡ in_32_bits position }
 {
     u32::try_from(position?).ok()
-}
-
-/// Whether an entry is this text.
-pub fn is_text(pool: &Pool, index: u16, wanted: &Text16) -> bool
-    ensures { result ≡ same_text_at pool.now index wanted.now }
-{
-    match pool.text(index) {
-        Ok(text) => text.same(wanted),
-        Err(_) => false,
-    }
 }
 
 /// Whether a class has this name.

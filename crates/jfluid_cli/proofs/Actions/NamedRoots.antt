@@ -10,13 +10,13 @@ use Rattle.jf_bytes.proofs.Options.{and_then_parts}
 use Rattle.const_pool.specs.declared.class.ClassFile.{ClassFile}
 use Rattle.const_pool.specs.declared.class.Member.{Member}
 use Rattle.const_pool.specs.declared.pool.Const.{Const}
-use Rattle.const_pool.specs.References.{NameAndType, name_type_of, named_text}
+use Rattle.const_pool.specs.References.{NameAndType, name_type_of, named_text, same_text_at}
 use Rattle.plan_text.specs.declared.plan.RootName.{RootName}
 use Rattle.plan_text.specs.Lines.{same_root}
 use Rattle.jvm_model.specs.declared.program.MethodPlace.{MethodPlace}
 use Rattle.jvm_model.specs.declared.program.Program.{Program}
 use Rattle.jvm_model.specs.Basis.Descriptors.{same_text}
-use Rattle.jvm_model.specs.Basis.Methods.{is_member, method_from, method_named, same_text_at}
+use Rattle.jvm_model.specs.Basis.Methods.{is_member, method_from, method_named}
 use Rattle.jvm_model.specs.Basis.Programs.{class_at, class_named, declared_method, has_name, name_of, no_class, number_from, number_of_method, same_place}
 use Rattle.jvm_model.proofs.Soundness.SoundRules.{number-least}
 use Rattle.admit_check.specs.Admission.{root_in}

@@ -1,6 +1,6 @@
 -- The methods of a class, by their numbers (JVM Specification 4.6, 4.7.3).
-use Rattle.std.specs.Prelude.{ℕ, ◌+◌, Bool, false, not, bit_and, ◌==◌, List, [], ◌∷◌, Option, Some, None, slice_get, ◌&&◌, if◌then◌else◌}
-use Rattle.std.specs.Option.{option_and_then, option_map, option_map_or}
+use Rattle.std.specs.Prelude.{ℕ, ◌+◌, Bool, not, bit_and, ◌==◌, List, [], ◌∷◌, Option, Some, None, slice_get, ◌&&◌, if◌then◌else◌}
+use Rattle.std.specs.Option.{option_and_then, option_map}
 use Rattle.const_pool.specs.declared.pool.Const.{Const}
 use Rattle.const_pool.specs.declared.class.ClassFile.{ClassFile}
 use Rattle.const_pool.specs.declared.class.Member.{Member}
@@ -9,8 +9,8 @@ use Rattle.const_pool.specs.declared.class.Attribute.{Attribute}
 use Rattle.const_pool.specs.declared.class.Attribute.TheVariants.{Code}
 use Rattle.const_pool.specs.declared.descriptor.Kind.{Kind}
 use Rattle.const_pool.specs.declared.descriptor.Shape.{Shape}
-use Rattle.const_pool.specs.References.{NameAndType, named_text}
-use Rattle.jvm_model.specs.Basis.Descriptors.{same_text, shape_of}
+use Rattle.const_pool.specs.References.{NameAndType, named_text, same_text_at}
+use Rattle.jvm_model.specs.Basis.Descriptors.{shape_of}
 
 -- ---- access flags (4.1, 4.5, 4.6)
 
@@ -41,10 +41,6 @@ method_shape c method = option_and_then (member_shape c.pool) (slice_get c.metho
 -- the kinds of its parameters
 abbrev pub method_params : ClassFile → ℕ → Option (List Kind)
 method_params c method = option_map (λ shape. shape.params) (method_shape c method)
-
--- the entry is this text
-abbrev pub same_text_at : List Const → ℕ → List ℕ → Bool
-same_text_at pool i text = option_map_or (λ found. same_text found text) (named_text pool i) false
 
 -- a method has this name and this descriptor
 abbrev pub is_member : List Const → NameAndType → Member → Bool

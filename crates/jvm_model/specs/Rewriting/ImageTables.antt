@@ -17,7 +17,7 @@ use Rattle.stackmap_shift.specs.DebugTables.{shifted_lines, shifted_variables}
 use Rattle.stackmap_shift.specs.Frames.{frames_of}
 use Rattle.stackmap_shift.specs.Moves.{moved_frames}
 use Rattle.stackmap_shift.specs.Spelling.{table_bytes}
-use Rattle.jvm_model.specs.Basis.Methods.{same_text_at}
+use Rattle.const_pool.specs.References.{same_text_at}
 
 -- ---- debug tables
 
