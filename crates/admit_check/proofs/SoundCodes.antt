@@ -18,7 +18,7 @@ use Rattle.const_pool.specs.declared.class.Raw.{Raw}
 use Rattle.const_pool.specs.declared.descriptor.Kind.{Kind}
 use Rattle.const_pool.specs.ClassFile.{IsByte, IsClassFile, IsCode, IsMember, IsMethodAttribute, IsRaw}
 use Rattle.const_pool.specs.Pool.{entry_of, is_utf8}
-use Rattle.const_pool.specs.References.{◌>>=◌, named_text, text_entry}
+use Rattle.const_pool.specs.References.{◌>>=◌, named_text, same_text_at, text_entry}
 use Rattle.const_pool.specs.Tail.{tail_entries, with_tail}
 use Rattle.code_model.specs.declared.error.CodeError.{CodeError}
 use Rattle.code_model.specs.declared.instr.Instr.{Instr}
@@ -34,7 +34,7 @@ use Rattle.inject_events.specs.declared.settings.Table.TheVariants as table
 use Rattle.inject_events.specs.Answers.{IsReadableBody, IsReadableClass}
 use Rattle.inject_events.specs.Settings.{setting_of}
 use Rattle.inject_events.specs.SoundTables.{starts_of, HasSoundFrames, IsSoundTable, HasSoundTables}
-use Rattle.inject_events.specs.Tables.{is_named, table_of}
+use Rattle.inject_events.specs.Tables.{table_of}
 use Rattle.inject_events.proofs.InstrsIn.{instrs_in-is}
 use Rattle.inject_events.proofs.Rooms.{neither}
 use Rattle.code_admission.specs.declared.codes.CodeFault.{CodeFault}
@@ -112,7 +112,7 @@ raw-sound pool s instrs raw tailed formed fit =
     subst (λ (found : Option (List ℕ)). IsSoundTable (starts_of instrs)
     (cond (is found (codes "LineNumberTable")) table.Lines (cond (is found (codes "LocalVariableTable")) table.Variables (cond (is found (codes "LocalVariableTypeTable")) table.Variables
     (cond (s.framed && is found (codes "StackMapTable")) table.Frames table.Other)))) raw.bytes) (sym same)
-    (table-by instrs raw.bytes formed.bytes (is_named pool raw.name (codes "LineNumberTable")) (is_named pool raw.name (codes "LocalVariableTable")) (is_named pool raw.name (codes "LocalVariableTypeTable"))
+    (table-by instrs raw.bytes formed.bytes (same_text_at pool raw.name (codes "LineNumberTable")) (same_text_at pool raw.name (codes "LocalVariableTable")) (same_text_at pool raw.name (codes "LocalVariableTypeTable"))
     s.framed (is_frame_name pool raw.name) fit)
 
 -- ---- all tables of a code
