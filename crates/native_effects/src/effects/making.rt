@@ -99,8 +99,9 @@ pub fn make_array(kind: u32, values: &[Datum], heap: &mut Heap) -> Result<Answer
         return Ok(Answer::Throws(OUT_OF_MEMORY_ERROR));
     }
     // A heap has fewer than 2^32 slots, so that what there is room for has fewer values.
+    let _limit = heap.limit();
     let Ok(size) = u32::try_from(values.len()) else {
-        return Err(NoMemory);
+        unreachable!()
     };
     let made = heap.array(kind, Datum::Int(0), size);
     if let Ok(object) = made {
