@@ -112,19 +112,15 @@ fn slots_of_arrays(lengths: &[u32]) -> usize
 }
 
 /// Whether there is room for arrays of these lengths.
-fn has_room_for(heap: &Heap, lengths: &[u32]) -> Result<bool, NoMemory>
-    ensures { IfOk result (λ b. b
-        ≡ nat_le (heap.now.used + slots_of_arrays lengths.now) heap.now.limit) }
+fn has_room_for(heap: &Heap, lengths: &[u32]) -> bool
+    ensures { result ≡ nat_le (heap.now.used + slots_of_arrays lengths.now) heap.now.limit }
 {
     let slots = slots_of_arrays(lengths);
-    if !heap.has_room(slots) {
-        return Ok(false);
+    // A heap has fewer than 2^32 slots, so no more than the greatest number stands for.
+    if slots > heap.limit() as usize {
+        return false;
     }
-    // No heap has room for so many.
-    if slots == usize::MAX {
-        return Err(NoMemory);
-    }
-    Ok(true)
+    heap.has_room(slots)
 }
 
 // ---- the arrays
@@ -212,7 +208,7 @@ impl Runtime {
         ensures same_loaded { self.new.shared.loaded ≡ self.old.shared.loaded }
         ensures enough { HaveOperands result frames.now }
     {
-        if !has_room_for(&self.heap, lengths)? {
+        if !has_room_for(&self.heap, lengths) {
             return Ok(Outcome::Abrupt(AbruptCompletion::Throws(RESERVED)));
         }
         let made = make_all(&mut self.heap, kind, lengths)?;
