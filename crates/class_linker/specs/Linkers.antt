@@ -1,5 +1,5 @@
 -- What a clause sees of the linker, and its answers.
-use Rattle.std.specs.Prelude.{◌≡◌, ℕ, true, List, [], ◌∷◌, ◌++◌, Option, Some, None, codes, drop, length, position, unwrap_or, ◌/◌, ◌%◌}
+use Rattle.std.specs.Prelude.{◌≡◌, ℕ, List, [], ◌∷◌, ◌++◌, Option, Some, None, codes, drop, length, position, unwrap_or, ◌/◌, ◌%◌}
 use Rattle.std.specs.Option.{option_to_list}
 use Rattle.std.specs.Str.{bytes_eq}
 use Rattle.const_pool.specs.BuiltIn.{built_in_names}

@@ -1,7 +1,6 @@
 -- What a scene keeps to, and what is seen of it.
 use Rattle.std.specs.Prelude.{◌≡◌, ℕ, false, List, [], Option, Some, None}
 use Rattle.jvm_model.specs.declared.event.Mark.{Mark}
-use Rattle.jvm_model.specs.declared.program.Program.{Program}
 use Rattle.jvm_model.specs.Basis.KindNumbers.{user_count}
 use Rattle.jvm_model.specs.Classes.Load.{load_of}
 use Rattle.jvm_model.specs.Profiling.Revealed.{Revealed, marks_of, with_loaded}

@@ -1,5 +1,5 @@
 use Rattle.std.specs.Prelude.{IfOk}
-use Rattle.std.proofs.Common.{◌≡◌, subst, sym, ◌∙◌}
+use Rattle.std.proofs.Common.{◌≡◌, subst}
 use Rattle.jvm_model.specs.Profiling.Revealed.{changed_of}
 use Rattle.call_revelation.specs.Reveals.{now_of}
 use Rattle.revelation_rows.proofs.ToldLemmas.{told-begins, told-changed, told-marks, told-selected, told-selects}
