@@ -150,7 +150,6 @@ pub record IsSameRun (made k : Kept) : Type 0 where
   pub program : SameProgram made.session.value k.session.value
   pub classes : k.classes ≡ made.classes
   pub plan : k.plan ≡ made.plan
-  pub input : k.input ≡ made.input
 
 -- A run stopped before its end and its budget, for its output or for want of memory.
 pub record IsStopped (old new : DevicesView) (r : Refusal) : Type 0 where

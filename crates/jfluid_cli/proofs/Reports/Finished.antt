@@ -65,7 +65,7 @@ kept-ends c k p budget o alone a =
     (one-program (answer_for (asked_by d.command) own) k.session.value.program p
     (subst (λ (x : Command). answer_for (asked_by x) own ≡ Ok k.session.value.program) same o.program.admitted)
     (subst (λ (cs : List ClassFile). answer_for (asked_by d.command) cs ≡ Ok p) classes is.admitted))
-    (o.session_input ∙ kept-input (given_of c) k a.input o a.input_is)
+    (kept-input (given_of c) k a.input o a.input_is)
 
 -- something is kept
 held : (o : Option Kept) (P Q : Kept → Type 0) → IsSome o → IfSome o P → IfSome o Q → (k : Kept)

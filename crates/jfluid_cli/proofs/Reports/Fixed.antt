@@ -238,15 +238,16 @@ not-long g p long a =
     absurd (omega arith)
 
 -- what is kept has an input within the limit
-pub kept-input : (g : CallInputs) (k : Kept) (all : List ℕ) → HasOrigin g k → g.left ≡ Some all → k.input ≡ all
+pub kept-input : (g : CallInputs) (k : Kept) (all : List ℕ) → HasOrigin g k → g.left ≡ Some all
+    → k.session.value.input ≡ all
 kept-input g k all o left =
-    subst (λ (x : Option (List ℕ)). IfSome x (λ bytes. k.input ≡ bytes)) left o.input
+    subst (λ (x : Option (List ℕ)). IfSome x (λ bytes. k.session.value.input ≡ bytes)) left o.input
 
 pub kept-short : (g : CallInputs) (k : Kept) → HasOrigin g k → HasLongInput g → ⊥
 kept-short g k o l =
-    let same : k.input ≡ l.input = kept-input g k l.input o l.input_is in
+    let same : k.session.value.input ≡ l.input = kept-input g k l.input o l.input_is in
     let more : most_input < length l.input = l.long in
-    let few : length k.input ≤ most_input = o.short in
+    let few : length k.session.value.input ≤ most_input = o.short in
     absurd (omega (arith, ap length same, more, few))
 
 -- what is kept is a program

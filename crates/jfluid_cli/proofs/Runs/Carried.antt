@@ -247,13 +247,14 @@ outputs-same v w n m same at =
     ∙ (ap (λ (i : List ℕ). output_of (world_on w.program i) n) (sym same.input)
     ∙ ap (output_at w) at)
 
--- what is known of a session that was made
+-- what is known of a session that was made of a program on these bytes
 pub record IsMade (c : Call) (budget : ℕ) (made : Kept) : Type 0 where
   pub program : Program
+  pub bytes : List ℕ
   pub prepared : IsPrepared (given_of c) made.plan budget made.classes program
-  pub runs : RunsProgram program made.input made.session.value
-  pub input : IfSome (given_of c).left (λ all. made.input ≡ all)
-  pub short : length made.input ≤ most_input
+  pub runs : RunsProgram program bytes made.session.value
+  pub input : IfSome (given_of c).left (λ all. bytes ≡ all)
+  pub short : length bytes ≤ most_input
   pub rest : TakesAtMost most_taken c.old.input.left c.new.input.left
   pub ended : IsAtEnd c.new.input.left
 
@@ -280,6 +281,8 @@ made-origin : (c : Call) (budget : ℕ) (made k : Kept)
 made-origin c budget made k is same =
     let program_is : is.program ≡ k.session.value.program =
     sym (same.program.program ∙ is.runs.program_is) in
+    let input_is : is.bytes ≡ k.session.value.input =
+    sym (same.program.input ∙ is.runs.input_is) in
     let command : Command = is.prepared.command in
     record {
       command = command;
@@ -291,9 +294,8 @@ made-origin c budget made k is same =
           (sym same.classes)
           (subst (λ (p : Program). IsProgram (asked_by command) made.classes p) program_is
           is.prepared.loaded.program_is);
-      input = subst (λ (bytes : List ℕ). IfSome c.old.input.left (λ all. bytes ≡ all)) (sym same.input) is.input;
-      short = subst (λ (bytes : List ℕ). length bytes ≤ most_input) (sym same.input) is.short;
-      session_input = same.program.input ∙ (is.runs.input_is ∙ sym same.input);
+      input = subst (λ (bytes : List ℕ). IfSome c.old.input.left (λ all. bytes ≡ all)) input_is is.input;
+      short = subst (λ (bytes : List ℕ). length bytes ≤ most_input) input_is is.short;
     }
 
 made-only : (c : Call) (budget : ℕ) (made k : Kept)

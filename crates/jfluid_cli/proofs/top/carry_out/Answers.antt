@@ -1,12 +1,10 @@
-use Rattle.std.proofs.Common.{◌≡◌, ◌≤◌, List, ℕ, length, refl, sym, subst}
-use Rattle.std.specs.Prelude.{Ok, IfSome}
+use Rattle.std.proofs.Common.{List, ℕ, refl, sym, subst}
+use Rattle.std.specs.Prelude.{Ok}
 use Rattle.plan_text.specs.declared.plan.Plan.{Plan}
-use Rattle.command_line.specs.Input.{most_input}
 use Rattle.command_line.specs.Words.{read_in}
 use Rattle.jvm_model.specs.declared.program.Program.{Program}
 use Rattle.jfluid_cli.specs.Actions.{CanBeTaken}
 use Rattle.jfluid_cli.specs.Causes.{CallInputs}
-use Rattle.jfluid_cli.specs.Runs.{RunsProgram}
 use Rattle.jfluid_cli.specs.Stages.{IsPrepared}
 use Rattle.jfluid_cli.proofs.Runs.Carried.{carried-refused, carried-input, carried-memory, carried-run, of-program, rest-of-input}
 use Rattle.jfluid_cli.proofs.Reports.OnDevices.{carried-from, carried-on, ran-on}
@@ -55,15 +53,13 @@ returns-clause-carried g c =
     c.is_some-summary.ensures
     (record {
       program = l.program;
+      bytes = c.in-Ok-take.bytes;
       prepared = subst (λ (p : Plan). IsPrepared given p l.budget made.classes l.program)
           (sym c.in-Ok-make.ensures.plan)
           (subst (λ (contents : List (List ℕ)). IsPrepared given l.plan l.budget contents l.program) (sym c.in-Ok-make.ensures.classes) (c.in-Ok.ensures.ok given read refl));
-      runs = subst (λ (bytes : List ℕ). RunsProgram l.program bytes made.session.value)
-          (sym c.in-Ok-make.ensures.input) c.in-Ok-make.ensures.runs;
-      input = subst (λ (bytes : List ℕ). IfSome given.left (λ all. bytes ≡ all))
-          (sym c.in-Ok-make.ensures.input) c.in-Ok-take.ensures.all;
-      short = subst (λ (bytes : List ℕ). length bytes ≤ most_input)
-          (sym c.in-Ok-make.ensures.input) c.in-Ok-take.ensures.short;
+      runs = c.in-Ok-make.ensures.runs;
+      input = c.in-Ok-take.ensures.all;
+      short = c.in-Ok-take.ensures.short;
       rest = rest-of-input _ _ c.in-Ok-take.bytes c.in-Ok-take.ensures.short c.in-Ok-take.ensures.taken;
       ended = c.in-Ok-take.ensures.ended refl;
     })
