@@ -6,7 +6,7 @@ use Rattle.std.proofs.lemmas.Option.{none-some}
 use Rattle.std.proofs.lemmas.Bool.{false≢true}
 use Rattle.jvm_model.specs.Classes.Load.{is_among}
 use Rattle.jvm_model.specs.declared.program.Program.{Program}
-use Rattle.class_linker.specs.LoadedClasses.{LoadedClasses, loaded_class_at}
+use Rattle.class_linker.specs.LoadedClasses.{LoadedClassRows, loaded_class_at}
 use Rattle.class_linker.specs.States.{IsState}
 
 none_at : (n class : ℕ) → loaded_class_at (replicate n None) class ≡ None
@@ -14,7 +14,7 @@ none_at zero class = refl
 none_at (suc n) zero = refl
 none_at (suc n) (suc class) = none_at n class
 
-pub begun : (p : Program) (rows : LoadedClasses) (n : ℕ) (loaded : List ℕ) → rows ≡ replicate n None → n ≡ length p.classes → loaded ≡ []
+pub begun : (p : Program) (rows : LoadedClassRows) (n : ℕ) (loaded : List ℕ) → rows ≡ replicate n None → n ≡ length p.classes → loaded ≡ []
     → IsState p (record { rows = rows; loaded = loaded })
 begun p rows n loaded is many nothing = record {
   rows = record {

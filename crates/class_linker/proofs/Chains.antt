@@ -12,10 +12,10 @@ use Rattle.jvm_model.specs.Classes.Load.{is_among}
 use Rattle.jvm_model.specs.Classes.Lookup.{interfaces_of, is_subtype, superclass_of, superclasses_within}
 use Rattle.jvm_model.proofs.Loading.Among.{among-behind}
 use Rattle.class_linker.specs.Passing.{IsChain}
-use Rattle.class_linker.specs.LoadedClasses.{AreLoadedClasses, LoadedClasses, holds_class}
+use Rattle.class_linker.specs.LoadedClasses.{AreLoadedClasses, LoadedClassRows, holds_class}
 use Rattle.class_linker.proofs.Subtypes.{IsIn, above_direct, among_flat, direct_has, itself}
 
-module _ (p : Program) (rows : LoadedClasses) (are : AreLoadedClasses p rows) where
+module _ (p : Program) (rows : LoadedClassRows) (are : AreLoadedClasses p rows) where
   -- a superclass is a direct supertype
   direct : (c s : ℕ) → is_among s (superclass_of p c) ≡ true → is_among s (interfaces_of p c ++ superclass_of p c) ≡ true
   direct c s there = among-behind s (interfaces_of p c) (superclass_of p c) there

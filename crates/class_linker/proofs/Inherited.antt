@@ -7,7 +7,7 @@ use Rattle.std.proofs.lemmas.List.{append-nil}
 use Rattle.std.proofs.lemmas.Bool.{eqb-true}
 use Rattle.const_pool.specs.declared.descriptor.Kind.{Kind}
 use Rattle.jvm_model.specs.Classes.Load.{is_among}
-use Rattle.class_linker.specs.LoadedClasses.{LoadedClasses, holds_all, holds_class}
+use Rattle.class_linker.specs.LoadedClasses.{LoadedClassRows, holds_all, holds_class}
 
 pub layout_one : (f : ℕ → List Kind) (o : Option ℕ) (above : ℕ) → o ≡ Some above → length (flat_map f (option_to_list o)) ≡ length (f above)
 layout_one f o above is = ap (λ o. length (flat_map f (option_to_list o))) is ∙ ap length (append-nil (f above))
@@ -22,5 +22,5 @@ among_all test (first ∷ xs) x all is = by (x == first) refl (test first) refl 
     by false same true is_first all is rest = rest all is
     by b same false is_first all is rest = absurd (let no : false ≡ true → ⊥ = λ e. cc in no all)
 
-pub superclass_has : (rows : LoadedClasses) (classes : List ℕ) (class : ℕ) → holds_all rows classes ≡ true → is_among class classes ≡ true → holds_class rows class ≡ true
+pub superclass_has : (rows : LoadedClassRows) (classes : List ℕ) (class : ℕ) → holds_all rows classes ≡ true → is_among class classes ≡ true → holds_class rows class ≡ true
 superclass_has rows classes class all is = among_all (holds_class rows) classes class all is

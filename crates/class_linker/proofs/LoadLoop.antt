@@ -6,7 +6,7 @@ use Rattle.std.proofs.Math.Seq.{drop-cons}
 use Rattle.jvm_model.specs.Classes.Load.{Incompatible, Loading, behind_needs, loading_done, loading_failed, is_among, is_met, load_named, load_needs, needs_of}
 use Rattle.jvm_model.specs.Classes.Lookup.{interfaces_of, superclass_of}
 use Rattle.jvm_model.specs.declared.program.Program.{Program}
-use Rattle.class_linker.specs.LoadedClasses.{LoadedClasses, holds_all, holds_class}
+use Rattle.class_linker.specs.LoadedClasses.{LoadedClassRows, holds_all, holds_class}
 use Rattle.class_linker.specs.declared.loading.Fault as code
 use Rattle.class_linker.specs.declared.loading.Need.{Need}
 use Rattle.class_linker.specs.declared.loading.Standing.{Standing}
@@ -58,12 +58,12 @@ module _ (p : Program) (depth : ℕ) (path : List ℕ) (class : ℕ) (before now
       ap (λ (l : Loading). is_among class l.loaded) (sym (all_done past))
       ∙ not_loaded p class (depth - 1) (path ++ class ∷ []) (needs_of p class) before (among-last class path) own.not_loaded
 
-  pub interfaces_have : length items ≤ i → (rows : LoadedClasses) → HaveLoadedClasses rows now → holds_all rows (interfaces_of p class) ≡ true
+  pub interfaces_have : length items ≤ i → (rows : LoadedClassRows) → HaveLoadedClasses rows now → holds_all rows (interfaces_of p class) ≡ true
   interfaces_have past rows have =
       all_have (λ c. is_among c now) (holds_class rows) have (interfaces_of p class)
       (interfaces_pass p (λ c. is_among c now) class (needs_done p (depth - 1) (path ++ class ∷ []) now (needs_of p class) before (all_done past)))
 
-  pub superclass_has : length items ≤ i → (rows : LoadedClasses) → HaveLoadedClasses rows now → holds_all rows (superclass_of p class) ≡ true
+  pub superclass_has : length items ≤ i → (rows : LoadedClassRows) → HaveLoadedClasses rows now → holds_all rows (superclass_of p class) ≡ true
   superclass_has past rows have =
       all_have (λ c. is_among c now) (holds_class rows) have (superclass_of p class)
       (superclass_passes p (λ c. is_among c now) class (needs_done p (depth - 1) (path ++ class ∷ []) now (needs_of p class) before (all_done past)))

@@ -13,12 +13,12 @@ use Rattle.jvm_model.specs.Basis.Programs.{class_at}
 use Rattle.class_linker.specs.declared.loaded_classes.LoadedClass.{LoadedClass}
 use Rattle.class_index.specs.Orders.{IsSearchedAs, with_class, with_classes}
 use Rattle.jvm_model.specs.Classes.Load.{is_among}
-use Rattle.class_linker.specs.LoadedClasses.{AreKept, AreLoadedClasses, IsClosed, IsLoadedClass, LoadedClasses, holds_all, holds_class, layout_in, loaded_class_at, held_count, loaded_class_made, superclasses_in, superinterfaces_in, superinterfaces_made, supertypes_in, supertypes_made, with_interfaces, with_supertypes}
+use Rattle.class_linker.specs.LoadedClasses.{AreKept, AreLoadedClasses, IsClosed, IsLoadedClass, LoadedClassRows, holds_all, holds_class, layout_in, loaded_class_at, held_count, loaded_class_made, superclasses_in, superinterfaces_in, superinterfaces_made, supertypes_in, supertypes_made, with_interfaces, with_supertypes}
 use Rattle.class_index.proofs.OrderLemmas.{both, equal_as, more, same, then_as}
 
 -- ---- what is added is what stands behind
 
-pub supertypes_more : (rows : LoadedClasses) (xs ys : List ℕ) → IsSearchedAs (with_supertypes rows xs ys) (xs ++ flat_map (supertypes_in rows) ys)
+pub supertypes_more : (rows : LoadedClassRows) (xs ys : List ℕ) → IsSearchedAs (with_supertypes rows xs ys) (xs ++ flat_map (supertypes_in rows) ys)
 supertypes_more rows xs [] = equal_as xs (xs ++ []) (sym (append-nil xs))
 supertypes_more rows xs (y ∷ ys) =
     let own = supertypes_in rows y in
@@ -29,7 +29,7 @@ supertypes_more rows xs (y ∷ ys) =
     (both (with_classes xs own) (xs ++ own) left left (more xs own) (same left))
     (equal_as ((xs ++ own) ++ left) (xs ++ (own ++ left)) (append_assoc xs own left)))
 
-pub interfaces_more : (rows : LoadedClasses) (xs ys : List ℕ)
+pub interfaces_more : (rows : LoadedClassRows) (xs ys : List ℕ)
     → IsSearchedAs (with_interfaces rows xs ys) (xs ++ flat_map (λ i. i ∷ superinterfaces_in rows i) ys)
 interfaces_more rows xs [] = equal_as xs (xs ++ []) (sym (append-nil xs))
 interfaces_more rows xs (y ∷ ys) =
@@ -62,7 +62,7 @@ pub has_one : (o : Option LoadedClass) → is_some o ≡ true → (r : LoadedCla
 has_one None h = absurd (false≢true h)
 has_one (Some r) h = (r, refl)
 
-module _ (p : Program) (rows : LoadedClasses) (are : AreLoadedClasses p rows) (n : ℕ) (most : held_count rows ≤ n) where
+module _ (p : Program) (rows : LoadedClassRows) (are : AreLoadedClasses p rows) (n : ℕ) (most : held_count rows ≤ n) where
   row_of : (c : ℕ) → holds_class rows c ≡ true → (r : LoadedClass) × (loaded_class_at rows c ≡ Some r) × IsLoadedClass p n c r
   row_of c h =
       let w = has_one (loaded_class_at rows c) h in
@@ -142,22 +142,22 @@ module _ (p : Program) (rows : LoadedClasses) (are : AreLoadedClasses p rows) (n
 
 -- ---- a row more
 
-loaded_class_at-set_same : (rows : LoadedClasses) (class : ℕ) (r : LoadedClass) → class < length rows → loaded_class_at (slice_set rows class (Some r)) class ≡ Some r
+loaded_class_at-set_same : (rows : LoadedClassRows) (class : ℕ) (r : LoadedClass) → class < length rows → loaded_class_at (slice_set rows class (Some r)) class ≡ Some r
 loaded_class_at-set_same [] class r within = absurd (omega arith)
 loaded_class_at-set_same (x ∷ rows) zero r within = refl
 loaded_class_at-set_same (x ∷ rows) (suc class) r within = loaded_class_at-set_same rows class r (omega arith)
 
-loaded_class_at-set_other : (rows : LoadedClasses) (class c : ℕ) (o : Option LoadedClass) → c ≢ class → loaded_class_at (slice_set rows class o) c ≡ loaded_class_at rows c
+loaded_class_at-set_other : (rows : LoadedClassRows) (class c : ℕ) (o : Option LoadedClass) → c ≢ class → loaded_class_at (slice_set rows class o) c ≡ loaded_class_at rows c
 loaded_class_at-set_other [] class c o other = refl
 loaded_class_at-set_other (x ∷ rows) zero zero o other = absurd (other refl)
 loaded_class_at-set_other (x ∷ rows) zero (suc c) o other = refl
 loaded_class_at-set_other (x ∷ rows) (suc class) zero o other = refl
 loaded_class_at-set_other (x ∷ rows) (suc class) (suc c) o other = loaded_class_at-set_other rows class c o (λ e. other (ap suc e))
 
-count-cons : (o : Option LoadedClass) (rows : LoadedClasses) → held_count (o ∷ rows) ≡ (if is_some o then 1 else 0) + held_count rows
+count-cons : (o : Option LoadedClass) (rows : LoadedClassRows) → held_count (o ∷ rows) ≡ (if is_some o then 1 else 0) + held_count rows
 count-cons o rows = sum_by-cons (λ (r : Option LoadedClass). if is_some r then 1 else 0) o rows
 
-held_count-set : (rows : LoadedClasses) (class : ℕ) (r : LoadedClass) → loaded_class_at rows class ≡ None → class < length rows
+held_count-set : (rows : LoadedClassRows) (class : ℕ) (r : LoadedClass) → loaded_class_at rows class ≡ None → class < length rows
     → held_count (slice_set rows class (Some r)) ≡ held_count rows + 1
 held_count-set [] class r none within = absurd (omega arith)
 held_count-set (None ∷ rows) zero r none within = omega (arith, count-cons (Some r) rows, count-cons None rows)
@@ -187,7 +187,7 @@ all_with_classes f xs [] h k = h
 all_with_classes f xs (y ∷ ys) h k =
     all_with_classes f (with_class xs y) ys (all_with_class f xs y h (and_parts (f y) (list_all f ys) k).0) (and_parts (f y) (list_all f ys) k).1
 
-all_with_supertypes : (f : ℕ → Bool) (rows : LoadedClasses) → ((d : ℕ) → holds_class rows d ≡ true → list_all f (supertypes_in rows d) ≡ true)
+all_with_supertypes : (f : ℕ → Bool) (rows : LoadedClassRows) → ((d : ℕ) → holds_class rows d ≡ true → list_all f (supertypes_in rows d) ≡ true)
     → (xs ys : List ℕ) → list_all f xs ≡ true → holds_all rows ys ≡ true → list_all f (with_supertypes rows xs ys) ≡ true
 all_with_supertypes f rows g xs [] h k = h
 all_with_supertypes f rows g xs (y ∷ ys) h k =
@@ -195,20 +195,20 @@ all_with_supertypes f rows g xs (y ∷ ys) h k =
     (all_with_classes f xs (supertypes_in rows y) h (g y (and_parts (holds_class rows y) (holds_all rows ys) k).0))
     (and_parts (holds_class rows y) (holds_all rows ys) k).1
 
-all_flat : (f : ℕ → Bool) (rows : LoadedClasses) (g : ℕ → List ℕ) → ((d : ℕ) → holds_class rows d ≡ true → list_all f (g d) ≡ true)
+all_flat : (f : ℕ → Bool) (rows : LoadedClassRows) (g : ℕ → List ℕ) → ((d : ℕ) → holds_class rows d ≡ true → list_all f (g d) ≡ true)
     → (xs : List ℕ) → holds_all rows xs ≡ true → list_all f (flat_map g xs) ≡ true
 all_flat f rows g h [] k = refl
 all_flat f rows g h (x ∷ xs) k =
     all_append f (g x) (flat_map g xs) (h x (and_parts (holds_class rows x) (holds_all rows xs) k).0)
     (all_flat f rows g h xs (and_parts (holds_class rows x) (holds_all rows xs) k).1)
 
-all_kept : (before after : LoadedClasses) → AreKept before after → (xs : List ℕ) → holds_all before xs ≡ true → holds_all after xs ≡ true
+all_kept : (before after : LoadedClassRows) → AreKept before after → (xs : List ℕ) → holds_all before xs ≡ true → holds_all after xs ≡ true
 all_kept before after kept [] h = refl
 all_kept before after kept (x ∷ xs) h =
     ap₂ (λ a b. a && b) (kept x (and_parts (holds_class before x) (holds_all before xs) h).0)
     (all_kept before after kept xs (and_parts (holds_class before x) (holds_all before xs) h).1)
 
-module _ (p : Program) (rows : LoadedClasses) (are : AreLoadedClasses p rows) (after : LoadedClasses) (kept : AreKept rows after) where
+module _ (p : Program) (rows : LoadedClassRows) (are : AreLoadedClasses p rows) (after : LoadedClassRows) (kept : AreKept rows after) where
   pub superclasses_have : (d : ℕ) → holds_class rows d ≡ true → holds_all after (superclasses_in rows d) ≡ true
   superclasses_have d has =
       let w = has_one (loaded_class_at rows d) has in
@@ -235,7 +235,7 @@ module _ (p : Program) (rows : LoadedClasses) (are : AreLoadedClasses p rows) (a
     supertypes = all_kept rows after kept r.supertypes is.supertypes;
   }
 
-module _ (p : Program) (rows : LoadedClasses) (class : ℕ) (are : AreLoadedClasses p rows) (without : holds_class rows class ≡ false) (within : class < length rows)
+module _ (p : Program) (rows : LoadedClassRows) (class : ℕ) (are : AreLoadedClasses p rows) (without : holds_class rows class ≡ false) (within : class < length rows)
     (interfaces : holds_all rows (interfaces_of p class) ≡ true) (above : holds_all rows (superclass_of p class) ≡ true) where
   none : loaded_class_at rows class ≡ None
   none = by (loaded_class_at rows class) without
@@ -244,7 +244,7 @@ module _ (p : Program) (rows : LoadedClasses) (class : ℕ) (are : AreLoadedClas
       by None h = refl
       by (Some r) h = absurd (false≢true (sym h))
 
-  abbrev after : LoadedClasses
+  abbrev after : LoadedClassRows
   after = slice_set rows class (Some (loaded_class_made p rows class))
 
   own_loaded_class : (bound : ℕ) → held_count rows + 1 ≤ bound → IsLoadedClass p bound class (loaded_class_made p rows class)
@@ -332,11 +332,11 @@ module _ (p : Program) (rows : LoadedClasses) (class : ℕ) (are : AreLoadedClas
 
   -- the same, where the row and the rows are told by what they are
 
-  pub put_loaded_classes : (r : LoadedClass) (new : LoadedClasses) → r ≡ loaded_class_made p rows class → new ≡ slice_set rows class (Some r) → AreLoadedClasses p new
+  pub put_loaded_classes : (r : LoadedClass) (new : LoadedClassRows) → r ≡ loaded_class_made p rows class → new ≡ slice_set rows class (Some r) → AreLoadedClasses p new
   put_loaded_classes r new made set = subst (AreLoadedClasses p) (sym (set ∙ ap (λ s. slice_set rows class (Some s)) made)) added
 
-  pub put_kept : (r : LoadedClass) (new : LoadedClasses) → r ≡ loaded_class_made p rows class → new ≡ slice_set rows class (Some r) → AreKept rows new
+  pub put_kept : (r : LoadedClass) (new : LoadedClassRows) → r ≡ loaded_class_made p rows class → new ≡ slice_set rows class (Some r) → AreKept rows new
   put_kept r new made set = subst (AreKept rows) (sym (set ∙ ap (λ s. slice_set rows class (Some s)) made)) added-kept
 
-  pub put_there : (r : LoadedClass) (new : LoadedClasses) → r ≡ loaded_class_made p rows class → new ≡ slice_set rows class (Some r) → holds_class new class ≡ true
+  pub put_there : (r : LoadedClass) (new : LoadedClassRows) → r ≡ loaded_class_made p rows class → new ≡ slice_set rows class (Some r) → holds_class new class ≡ true
   put_there r new made set = ap (λ rs. holds_class rs class) (set ∙ ap (λ s. slice_set rows class (Some s)) made) ∙ added-there

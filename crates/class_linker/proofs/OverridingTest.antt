@@ -13,7 +13,7 @@ use Rattle.jvm_model.specs.Classes.Load.{is_among}
 use Rattle.jvm_model.specs.Classes.Lookup.{MemberPlace, is_subtype, method_at, place_in, supertypes}
 use Rattle.jvm_model.specs.Classes.Selection.{Overrides, directly, through, is_open, is_private, is_reached, overrides, package_at, passed_at, passes_on, same_package, signature_of, stands_below}
 use Rattle.class_index.specs.Members.{is_declared_as}
-use Rattle.class_linker.specs.LoadedClasses.{AreLoadedClasses, LoadedClasses, holds_class}
+use Rattle.class_linker.specs.LoadedClasses.{AreLoadedClasses, LoadedClassRows, holds_class}
 use Rattle.class_linker.proofs.OverridingLaws.{IsBelow, below, declared, joined, same_signature}
 use Rattle.class_linker.proofs.Subtypes.{above_has, apart, goes_on}
 
@@ -158,7 +158,7 @@ module _ (p : Program) where
           through m1 m2 i.m3 (stands m1 m2 b) (directly m1 i.m3 (stands m1 i.m3 i.lower) (reached m1.class i.m3 i.own (inl i.free)))
           (directly i.m3 m2 (stands i.m3 m2 i.upper) i.reaches)
 
-  module _ (rows : LoadedClasses) (are : AreLoadedClasses p rows) where
+  module _ (rows : LoadedClassRows) (are : AreLoadedClasses p rows) where
     below_both : (m1 m3 m2 : MemberPlace) → holds_class rows m1.class ≡ true → IsBelow p m1 m3 → IsBelow p m3 m2 → IsBelow p m1 m2
     below_both m1 m3 m2 has lower upper = record {
       other = apart p rows are m1.class m3.class m2.class has lower.sub lower.other upper.sub upper.other;

@@ -9,7 +9,7 @@ use Rattle.jvm_model.specs.Classes.Lookup.{MemberPlace, is_subtype, method_at, s
 use Rattle.class_index.specs.Members.{is_declared_as}
 use Rattle.jvm_model.specs.Classes.Selection.{is_reached, overrides, passed_at, stands_below}
 use Rattle.class_linker.specs.Passing.{IsBetween, IsUnpassed}
-use Rattle.class_linker.specs.LoadedClasses.{AreLoadedClasses, LoadedClasses, holds_class}
+use Rattle.class_linker.specs.LoadedClasses.{AreLoadedClasses, LoadedClassRows, holds_class}
 use Rattle.class_linker.proofs.OverridingLaws.{IsBelow, below, same_signature}
 use Rattle.class_linker.proofs.OverridingTest.{IsPassed, if_passed, passed_if, stands}
 use Rattle.class_linker.proofs.Subtypes.{apart, goes_on}
@@ -55,7 +55,7 @@ module _ (p : Program) where
       → IsUnpassed p m own.class
   unpassed own m stands_so none i = false≢true (sym none ∙ if_passed p own m (passed own m (below p own m stands_so) i))
 
-  pub unpassed_above : (rows : LoadedClasses) → AreLoadedClasses p rows → (m : MemberPlace) (class above : ℕ) → holds_class rows class ≡ true → is_subtype p class above ≡ true
+  pub unpassed_above : (rows : LoadedClassRows) → AreLoadedClasses p rows → (m : MemberPlace) (class above : ℕ) → holds_class rows class ≡ true → is_subtype p class above ≡ true
       → IsUnpassed p m class → IsUnpassed p m above
   unpassed_above rows are m class above has sub none i = none (record {
     third = i.third;

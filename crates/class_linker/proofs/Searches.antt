@@ -9,7 +9,7 @@ use Rattle.jvm_model.specs.declared.program.Program.{Program}
 use Rattle.jvm_model.specs.Classes.Load.{is_among}
 use Rattle.jvm_model.specs.Classes.Lookup.{MemberPlace, first_in, place_in}
 use Rattle.class_linker.specs.Passing.{AreUnpassed, IsChain, IsUnpassed}
-use Rattle.class_linker.specs.LoadedClasses.{AreLoadedClasses, LoadedClasses, holds_all, holds_class}
+use Rattle.class_linker.specs.LoadedClasses.{AreLoadedClasses, LoadedClassRows, holds_all, holds_class}
 use Rattle.class_linker.proofs.PassedOn.{unpassed_above}
 
 -- those that are left
@@ -21,7 +21,7 @@ pub passed_over : (at : ℕ → Option ℕ) (cs : List ℕ) (c : ℕ) (rest : Li
 passed_over at cs c rest e none =
     sym (ap (first_in at) e ∙ ap (λ o. option_map_or (λ position. Some (place_in c position)) o (first_in at rest)) none)
 
-pub first_has : (rows : LoadedClasses) (cs : List ℕ) (c : ℕ) (rest : List ℕ) → cs ≡ c ∷ rest → holds_all rows cs ≡ true
+pub first_has : (rows : LoadedClassRows) (cs : List ℕ) (c : ℕ) (rest : List ℕ) → cs ≡ c ∷ rest → holds_all rows cs ≡ true
     → (holds_class rows c ≡ true) × (holds_all rows rest ≡ true)
 first_has rows cs c rest e have = and_parts (holds_class rows c) (holds_all rows rest) (sym (ap (holds_all rows) e) ∙ have)
 
@@ -31,6 +31,6 @@ first p m cs c rest e all = all c (ap (is_among c) e ∙ ap (λ b. b || is_among
 pub chain_behind : (p : Program) (cs : List ℕ) (c : ℕ) (rest : List ℕ) → cs ≡ c ∷ rest → IsChain p cs → IsChain p rest
 chain_behind p cs c rest e chain = (subst (IsChain p) e chain).1
 
-pub behind : (p : Program) (rows : LoadedClasses) → AreLoadedClasses p rows → (m : MemberPlace) (cs : List ℕ) (c : ℕ) (rest : List ℕ) → cs ≡ c ∷ rest → IsChain p cs
+pub behind : (p : Program) (rows : LoadedClassRows) → AreLoadedClasses p rows → (m : MemberPlace) (cs : List ℕ) (c : ℕ) (rest : List ℕ) → cs ≡ c ∷ rest → IsChain p cs
     → holds_class rows c ≡ true → IsUnpassed p m c → AreUnpassed p m rest
 behind p rows are m cs c rest e chain has none d there = unpassed_above p rows are m c d has ((subst (IsChain p) e chain).0 d there) none

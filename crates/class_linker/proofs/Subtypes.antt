@@ -9,7 +9,7 @@ use Rattle.jvm_model.specs.declared.program.Program.{Program}
 use Rattle.jvm_model.specs.Classes.Load.{is_among}
 use Rattle.jvm_model.specs.Classes.Lookup.{interfaces_of, is_subtype, superclass_of, supertypes, supertypes_within}
 use Rattle.jvm_model.proofs.Loading.Among.{among-append, among-front}
-use Rattle.class_linker.specs.LoadedClasses.{AreLoadedClasses, LoadedClasses, holds_all, holds_class, supertypes_in}
+use Rattle.class_linker.specs.LoadedClasses.{AreLoadedClasses, LoadedClassRows, holds_all, holds_class, supertypes_in}
 use Rattle.class_linker.proofs.Walked.{bound, searched_among, supertypes_rows, supertypes_walked}
 
 -- ---- lists of lists
@@ -55,7 +55,7 @@ flat_length f (e ∷ ds) d there = by (d == e) refl there (flat_length f ds d)
     by true same k rest = subst (λ c. length (f d) ≤ length (f c ++ flat_map f ds)) (eqb-true d e same) (omega (arith, length-append (f d) (flat_map f ds)))
     by false other k rest = omega (arith, length-append (f e) (flat_map f ds), rest k)
 
-all_at : (rows : LoadedClasses) (xs : List ℕ) (d : ℕ) → holds_all rows xs ≡ true → is_among d xs ≡ true → holds_class rows d ≡ true
+all_at : (rows : LoadedClassRows) (xs : List ℕ) (d : ℕ) → holds_all rows xs ≡ true → is_among d xs ≡ true → holds_class rows d ≡ true
 all_at rows [] d all there = absurd (false≢true there)
 all_at rows (x ∷ xs) d all there = by (d == x) refl there (λ k. all_at rows xs d (second all) k)
   where
@@ -76,7 +76,7 @@ all_at rows (x ∷ xs) d all there = by (d == x) refl there (λ k. all_at rows x
 
 -- ---- above a class that has a row
 
-module _ (p : Program) (rows : LoadedClasses) (are : AreLoadedClasses p rows) where
+module _ (p : Program) (rows : LoadedClassRows) (are : AreLoadedClasses p rows) where
   abbrev directs : ℕ → List ℕ
   directs c = interfaces_of p c ++ superclass_of p c
 
@@ -100,7 +100,7 @@ module _ (p : Program) (rows : LoadedClasses) (are : AreLoadedClasses p rows) wh
       (searched_among x (supertypes_in rows c) (supertypes p c) (supertypes_walked p rows are c has) ∙ sub)
 
   -- a direct supertype is above
-  rows_nonempty : (rs : LoadedClasses) (c : ℕ) → holds_class rs c ≡ true → 0 < length rs
+  rows_nonempty : (rs : LoadedClassRows) (c : ℕ) → holds_class rs c ≡ true → 0 < length rs
   rows_nonempty [] c has = absurd (false≢true has)
   rows_nonempty (r ∷ rs) c has = omega arith
 

@@ -10,10 +10,10 @@ use Rattle.jvm_model.specs.Classes.Load.{is_among}
 use Rattle.jvm_model.specs.Classes.Lookup.{first_in, is_subtype, place_in, superclasses, superinterfaces, supertypes}
 use Rattle.class_index.specs.Orders.{IsSearchedAs}
 use Rattle.class_index.proofs.OrderLemmas.{first_in_both}
-use Rattle.class_linker.specs.LoadedClasses.{AreKept, AreLoadedClasses, LoadedClasses, holds_all, holds_class, layout_in, held_count, superclasses_in, superinterfaces_in, supertypes_in}
+use Rattle.class_linker.specs.LoadedClasses.{AreKept, AreLoadedClasses, LoadedClassRows, holds_all, holds_class, layout_in, held_count, superclasses_in, superinterfaces_in, supertypes_in}
 use Rattle.class_linker.proofs.LoadedClassLemmas.{layout_is, superclasses_are, superclasses_have, superinterfaces_are, supertypes_are, supertypes_have}
 
-module _ (p : Program) (rows : LoadedClasses) (are : AreLoadedClasses p rows) where
+module _ (p : Program) (rows : LoadedClassRows) (are : AreLoadedClasses p rows) where
   pub bound : held_count rows ≤ length p.classes
   bound = subst (λ n. held_count rows ≤ n) are.places (count_by-le-length is_some rows)
 
@@ -57,7 +57,7 @@ searched_any test xs ys same = any_is test xs ∙ (ap is_some (same (λ k. if te
 pub searched_among : (c : ℕ) (xs ys : List ℕ) → IsSearchedAs xs ys → is_among c xs ≡ is_among c ys
 searched_among c xs ys same = searched_any (λ other. c == other) xs ys same
 
-pub subtype_walked : (p : Program) (rows : LoadedClasses) → AreLoadedClasses p rows → (lower upper : ℕ) → holds_class rows lower ≡ true
+pub subtype_walked : (p : Program) (rows : LoadedClassRows) → AreLoadedClasses p rows → (lower upper : ℕ) → holds_class rows lower ≡ true
     → is_among upper (supertypes_in rows lower) ≡ is_subtype p lower upper
 subtype_walked p rows are lower upper has =
     searched_among upper (supertypes_in rows lower) (supertypes p lower) (supertypes_walked p rows are lower has)

@@ -15,7 +15,7 @@ use Rattle.class_linker.specs.declared.loading.Need.{Need}
 use Rattle.class_linker.specs.declared.loading.Begun.{Begun}
 use Rattle.class_linker.specs.declared.loading.Begun.TheVariants as begun
 use Rattle.class_linker.specs.declared.loading.State.{State}
-use Rattle.class_linker.specs.LoadedClasses.{AreKept, AreLoadedClasses, LoadedClasses, holds_class}
+use Rattle.class_linker.specs.LoadedClasses.{AreKept, AreLoadedClasses, LoadedClassRows, holds_class}
 
 -- ---- what the code has, as the definitions have it
 
@@ -39,7 +39,7 @@ needs_in c = needs_at c false c.super_class ++ flat_map (needs_at c true) c.inte
 
 -- ---- the state
 
-abbrev pub HaveLoadedClasses : LoadedClasses → List ℕ → Type 0
+abbrev pub HaveLoadedClasses : LoadedClassRows → List ℕ → Type 0
 HaveLoadedClasses rows loaded = (class : ℕ) → load.is_among class loaded ≡ true → holds_class rows class ≡ true
 
 -- each loaded class has a row

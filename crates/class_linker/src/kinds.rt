@@ -7,10 +7,9 @@ ghost use Rattle.jvm_model.specs.Classes.Kinds.{base_of_element, is_above_arrays
 ghost use Rattle.jvm_model.specs.Classes.Kinds.{is_subbase, is_subkind};
 ghost use Rattle.class_linker.specs.Linkers.{parts_of};
 ghost use Rattle.class_index.specs.Meanings.{element_view};
-ghost use Rattle.class_linker.specs.LoadedClasses.{AreLoadedClasses, holds_class};
+ghost use Rattle.class_linker.specs.LoadedClasses.{holds_class};
 
-use crate::loaded_classes::LoadedClass;
-use crate::walks::is_subtype;
+use crate::loaded_classes::LoadedClasses;
 use base_classes::FIRST_ARRAY;
 use class_index::{Element, Index, meaning_of};
 
@@ -54,39 +53,39 @@ fn is_above_arrays(base: u32) -> bool
     base == 16 || base == 17 || base == 18
 }
 
-/// Whether elements of one kind are of another.
-fn is_subbase(index: &Index, rows: &[Option<LoadedClass>], lower: u32, upper: u32) -> bool
-    requires rows { AreLoadedClasses index.now rows.now }
-    requires has { (class : ℕ) → class_of_base index.now lower ≡ Some class
-        → holds_class rows.now class ≡ true }
-    requires lower { lower < 16777216 }
-    requires upper { upper < 16777216 }
-    ensures { result ≡ is_subbase index.now lower upper }
-{
-    match index.class_of_base(lower) {
-        Some(a) => match index.class_of_base(upper) {
-            Some(b) => is_subtype(index, rows, a, b),
-            None => false,
-        },
-        None => match index.class_of_base(upper) {
-            Some(_) => false,
-            None => lower == upper,
-        },
+impl LoadedClasses<'_> {
+    /// Whether elements of one kind are of another.
+    fn is_subbase(self, lower: u32, upper: u32) -> bool
+        requires has { (class : ℕ) → class_of_base self.index.now lower ≡ Some class
+            → holds_class self.rows.now class ≡ true }
+        requires lower { lower < 16777216 }
+        requires upper { upper < 16777216 }
+        ensures { result ≡ is_subbase self.entry.index.now lower upper }
+    {
+        match self.index.class_of_base(lower) {
+            Some(a) => match self.index.class_of_base(upper) {
+                Some(b) => self.is_subtype(a, b),
+                None => false,
+            },
+            None => match self.index.class_of_base(upper) {
+                Some(_) => false,
+                None => lower == upper,
+            },
+        }
     }
-}
 
-/// Whether what has one kind also has another.
-pub fn is_subkind(index: &Index, rows: &[Option<LoadedClass>], lower: u32, upper: u32) -> bool
-    requires rows { AreLoadedClasses index.now rows.now }
-    requires has { (class : ℕ) → class_of_base index.now (parts_of lower).base ≡ Some class
-        → holds_class rows.now class ≡ true }
-    ensures { result ≡ is_subkind index.now (parts_of lower) (parts_of upper) }
-{
-    let deep = lower / FIRST_ARRAY;
-    let flat = upper / FIRST_ARRAY;
-    if deep == flat {
-        is_subbase(index, rows, lower % FIRST_ARRAY, upper % FIRST_ARRAY)
-    } else {
-        flat < deep && is_above_arrays(upper % FIRST_ARRAY)
+    /// Whether what has one kind also has another.
+    pub fn is_subkind(self, lower: u32, upper: u32) -> bool
+        requires { (class : ℕ) → class_of_base self.index.now (parts_of lower).base ≡ Some class
+            → holds_class self.rows.now class ≡ true }
+        ensures { result ≡ is_subkind self.entry.index.now (parts_of lower) (parts_of upper) }
+    {
+        let deep = lower / FIRST_ARRAY;
+        let flat = upper / FIRST_ARRAY;
+        if deep == flat {
+            self.is_subbase(lower % FIRST_ARRAY, upper % FIRST_ARRAY)
+        } else {
+            flat < deep && is_above_arrays(upper % FIRST_ARRAY)
+        }
     }
 }

@@ -14,19 +14,15 @@ ghost use Rattle.class_index.specs.Indices.{IsLinkable};
 ghost use Rattle.class_index.specs.Members.{place_view};
 ghost use Rattle.class_linker.specs.Linkers.{IsAnswer, IsKnown, IsLoaded, linker_of, load_answer};
 ghost use Rattle.class_linker.specs.Linkers.{loaded_by, parts_of, resolved_of};
+ghost use Rattle.class_linker.specs.States.{HaveLoadedClasses};
 ghost use Rattle.jvm_model.specs.Classes.SuperCalls.{invoked_special};
 
 use crate::answers::{Loaded, Resolved};
 use crate::declared_method::DeclaredMethod;
-use crate::kinds::is_subkind;
-use crate::loaded_classes::LoadedClass;
+use crate::loaded_classes::{LoadedClass, LoadedClasses};
 use crate::loading::State;
-use crate::overriding::{is_abstract, is_static, overrides};
-use crate::resolving::{resolved_field, resolved_method};
-use crate::selecting::method_selected;
-use crate::super_calls::invoked_special;
+use crate::overriding::{is_abstract, is_static};
 use crate::telling::answer;
-use crate::walks::{each_supertype, is_subtype, is_superclass, layout_of, slots_above};
 use class_index::{Index, Order, Wanted};
 use const_pool::Kind;
 use jf_bytes::{NoMemory, Seq, Text16};
@@ -139,17 +135,23 @@ impl Linker {
         }
     }
 
+    /// The program's loaded classes, with their rows.
+    fn classes(&self) -> LoadedClasses<'_>
+        ensures program { result.index.now ≡ self.now.program }
+        ensures loaded { HaveLoadedClasses result.rows.now self.now.loaded }
+    {
+        LoadedClasses {
+            index: self.index.as_ref(),
+            rows: self.state.rows.as_slice(),
+        }
+    }
+
     /// Whether what has one kind also has another (4.10.1). What the first kind is of has to be loaded.
     pub fn subtype(&self, lower: u32, upper: u32) -> bool
         requires { IsKnown self.now lower }
         ensures { result ≡ is_subkind self.now.program (parts_of lower) (parts_of upper) }
     {
-        is_subkind(
-            self.index.as_ref(),
-            self.state.rows.as_slice(),
-            lower,
-            upper,
-        )
+        self.classes().is_subkind(lower, upper)
     }
 
     /// Whether a class is the other one, or inherits from it.
@@ -157,12 +159,7 @@ impl Linker {
         requires { IsLoaded self.now lower }
         ensures { result ≡ is_among upper (superclasses self.now.program lower) }
     {
-        is_superclass(
-            self.index.as_ref(),
-            self.state.rows.as_slice(),
-            lower,
-            upper,
-        )
+        self.classes().is_superclass(lower, upper)
     }
 
     /// Whether a class is the other one, or inherits from it, or implements it.
@@ -170,12 +167,7 @@ impl Linker {
         requires { IsLoaded self.now lower }
         ensures { result ≡ is_subtype self.now.program lower upper }
     {
-        is_subtype(
-            self.index.as_ref(),
-            self.state.rows.as_slice(),
-            lower,
-            upper,
-        )
+        self.classes().is_subtype(lower, upper)
     }
 
     /// The class and all that it inherits from or implements, each once.
@@ -184,7 +176,7 @@ impl Linker {
         ensures { (upper : ℕ) →
             is_among upper result.now ≡ is_subtype self.now.program class upper }
     {
-        each_supertype(self.index.as_ref(), self.state.rows.as_slice(), class)
+        self.classes().each_supertype(class)
     }
 
     /// The field that a reference stands for (5.4.3.2).
@@ -194,12 +186,7 @@ impl Linker {
             (resolved_field self.now.program class (name_type_of name.now descriptor.now)) }
     {
         let wanted = Wanted { name, descriptor };
-        resolved_field(
-            self.index.as_ref(),
-            self.state.rows.as_slice(),
-            class,
-            &wanted,
-        )
+        self.classes().resolved_field(class, &wanted)
     }
 
     /// The method that a reference stands for (5.4.3.3), or an interface method's (5.4.3.4).
@@ -216,8 +203,7 @@ impl Linker {
             (name_type_of name.now descriptor.now)) }
     {
         let wanted = Wanted { name, descriptor };
-        let rows = self.state.rows.as_slice();
-        resolved_method(self.index.as_ref(), rows, class, interface, &wanted)
+        self.classes().resolved_method(class, interface, &wanted)
     }
 
     /// The method that an object of the receiver's class has for a method of a class: by class and position. With `interface` it is
@@ -235,9 +221,8 @@ impl Linker {
         ensures { option_map place_view result
             ≡ method_selected self.now.program receiver interface (place_in class position) }
     {
-        let rows = self.state.rows.as_slice();
         let m = DeclaredMethod { class, position };
-        let found = method_selected(self.index.as_ref(), rows, receiver, interface, m)?;
+        let found = self.classes().method_selected(receiver, interface, m)?;
         Some((found.class, found.position))
     }
 
@@ -250,13 +235,8 @@ impl Linker {
         ensures { option_map place_view result
             ≡ invoked_special self.now.program caller (place_in class position) }
     {
-        let rows = self.state.rows.as_slice();
-        let found = invoked_special(
-            self.index.as_ref(),
-            rows,
-            caller,
-            DeclaredMethod { class, position },
-        )?;
+        let m = DeclaredMethod { class, position };
+        let found = self.classes().invoked_special(caller, m)?;
         Some((found.class, found.position))
     }
 
@@ -287,7 +267,7 @@ impl Linker {
             class: above,
             position: above_position,
         };
-        overrides(self.index.as_ref(), self.state.rows.as_slice(), m1, m2)
+        self.classes().overrides(m1, m2)
     }
 
     /// How many slots of its objects the fields of a class's superclasses take, where a loaded class is the class or inherits from it.
@@ -297,12 +277,7 @@ impl Linker {
         ensures { result ≡ length
             (flat_map (layout self.now.program) (superclass_of self.now.program class)) }
     {
-        slots_above(
-            self.index.as_ref(),
-            self.state.rows.as_slice(),
-            lower,
-            class,
-        )
+        self.classes().slots_above(lower, class)
     }
 
     /// The kinds of the instance fields of the class's objects, those of its superclass first.
@@ -310,6 +285,6 @@ impl Linker {
         requires { IsLoaded self.now class }
         ensures { result.now ≡ layout self.now.program class }
     {
-        layout_of(self.index.as_ref(), self.state.rows.as_slice(), class)
+        self.classes().layout_of(class)
     }
 }

@@ -6,11 +6,12 @@ ghost use Rattle.jvm_model.specs.Classes.Layouts.{own_kinds};
 ghost use Rattle.jvm_model.specs.Classes.Load.{is_among};
 ghost use Rattle.jvm_model.specs.Classes.Lookup.{superclass_of};
 ghost use Rattle.class_index.specs.Orders.{with_classes};
-ghost use Rattle.class_linker.specs.LoadedClasses.{holds_class, layout_in, layout_made, loaded_class_at, loaded_class_made};
-ghost use Rattle.class_linker.specs.LoadedClasses.{superclasses_made, superinterfaces_made};
-ghost use Rattle.class_linker.specs.LoadedClasses.{supertypes_in, superclasses_in, superinterfaces_in};
-ghost use Rattle.class_linker.specs.LoadedClasses.{supertypes_made, with_interface, with_interfaces};
-ghost use Rattle.class_linker.specs.LoadedClasses.{with_supertypes};
+ghost use Rattle.class_linker.specs.LoadedClasses.{AreLoadedClasses, holds_class, layout_in};
+ghost use Rattle.class_linker.specs.LoadedClasses.{layout_made, loaded_class_at, loaded_class_made};
+ghost use Rattle.class_linker.specs.LoadedClasses.{superclasses_in, superclasses_made};
+ghost use Rattle.class_linker.specs.LoadedClasses.{superinterfaces_in, superinterfaces_made};
+ghost use Rattle.class_linker.specs.LoadedClasses.{supertypes_in, supertypes_made};
+ghost use Rattle.class_linker.specs.LoadedClasses.{with_interface, with_interfaces, with_supertypes};
 
 use base_classes::STATIC;
 use class_index::{Index, Order, field_kind};
@@ -26,6 +27,14 @@ pub struct LoadedClass {
     pub superinterfaces: Order,
     pub supertypes: Order,
     pub layout: Seq<Kind>,
+}
+
+/// The loaded classes of a program: its index, and what is kept of each, by its position.
+#[derive(Clone, Copy)]
+pub struct LoadedClasses<'a> {
+    pub index: &'a Index,
+    pub rows: &'a [Option<LoadedClass>],
+    ghost of_program: { AreLoadedClasses index.now rows.now },
 }
 
 /// The row of a class, where it was loaded.
@@ -95,22 +104,6 @@ pub fn has_supertype(rows: &[Option<LoadedClass>], lower: u32, upper: u32) -> bo
 
 // ---- a row from the rows of what the class names
 
-fn superclasses_made(
-    alloc: Global,
-    index: &Index,
-    rows: &[Option<LoadedClass>],
-    class: u32,
-) -> Result<Seq<u32>, NoMemory>
-    ensures { IfOk result (λ classes. classes ≡ superclasses_made index.now rows.now class) }
-{
-    let mut classes = Seq::new(alloc);
-    classes.push(class)?;
-    if let Some(above) = index.super_of(class) {
-        classes.extend_from_slice(superclasses_in(rows, above))?;
-    }
-    Ok(classes)
-}
-
 /// Adds an interface and its superinterfaces.
 fn add_interface(
     order: &mut Order,
@@ -137,39 +130,6 @@ fn add_interfaces(
     Ok(())
 }
 
-/// Adds the superinterfaces of a class's superclass.
-fn add_inherited(
-    order: &mut Order,
-    index: &Index,
-    rows: &[Option<LoadedClass>],
-    class: u32,
-) -> Result<(), NoMemory>
-    ensures { OnOk result (order.new ≡ with_classes order.old
-        (flat_map (superinterfaces_in rows.now) (superclass_of index.now class))) }
-{
-    match index.super_of(class) {
-        Some(above) => order.add_all(superinterfaces_in(rows, above)),
-        None => Ok(()),
-    }
-}
-
-fn superinterfaces_made(
-    alloc: Global,
-    index: &Index,
-    rows: &[Option<LoadedClass>],
-    class: u32,
-) -> Result<Order, NoMemory>
-    ensures { IfOk result (λ order. order ≡ superinterfaces_made index.now rows.now class) }
-{
-    let mut order = Order::new(alloc);
-    let direct = index.interfaces_of(alloc, class)?;
-    add_interfaces(&mut order, rows, direct.as_slice())?;
-    if !index.is_interface(class) {
-        add_inherited(&mut order, index, rows, class)?;
-    }
-    Ok(order)
-}
-
 /// Adds classes, each with its supertypes.
 fn add_supertypes(
     order: &mut Order,
@@ -184,40 +144,6 @@ fn add_supertypes(
     Ok(())
 }
 
-/// Adds the superclass with its supertypes.
-fn add_superclass(
-    order: &mut Order,
-    index: &Index,
-    rows: &[Option<LoadedClass>],
-    class: u32,
-) -> Result<(), NoMemory>
-    ensures { OnOk result (order.new
-        ≡ with_supertypes rows.now order.old (superclass_of index.now class)) }
-{
-    match index.super_of(class) {
-        Some(above) => order.add_all(supertypes_in(rows, above)),
-        None => Ok(()),
-    }
-}
-
-fn supertypes_made(
-    alloc: Global,
-    index: &Index,
-    rows: &[Option<LoadedClass>],
-    class: u32,
-) -> Result<Order, NoMemory>
-    ensures { IfOk result (λ order. order ≡ supertypes_made index.now rows.now class) }
-{
-    let mut order = Order::new(alloc);
-    order.add(class)?;
-    let direct = index.interfaces_of(alloc, class)?;
-    add_supertypes(&mut order, rows, direct.as_slice())?;
-    add_superclass(&mut order, index, rows, class)?;
-    Ok(order)
-}
-
-// ---- instance fields
-
 /// Adds the kinds of a class's own instance fields.
 fn add_own(kinds: &mut Seq<Kind>, file: &ClassFile) -> Result<(), NoMemory>
     ensures { OnOk result (kinds.new ≡ kinds.old ++ own_kinds file.now) }
@@ -230,37 +156,91 @@ fn add_own(kinds: &mut Seq<Kind>, file: &ClassFile) -> Result<(), NoMemory>
     Ok(())
 }
 
-fn layout_made(
-    alloc: Global,
-    index: &Index,
-    rows: &[Option<LoadedClass>],
-    class: u32,
-) -> Result<Seq<Kind>, NoMemory>
-    ensures { IfOk result (λ kinds. kinds ≡ layout_made index.now rows.now class) }
-{
-    let mut kinds = Seq::new(alloc);
-    if let Some(above) = index.super_of(class) {
-        kinds.extend_from_slice(layout_in(rows, above))?;
+impl LoadedClasses<'_> {
+    fn superclasses_made(self, alloc: Global, class: u32) -> Result<Seq<u32>, NoMemory>
+        ensures { IfOk result (λ classes. classes
+            ≡ superclasses_made self.entry.index.now self.entry.rows.now class) }
+    {
+        let mut classes = Seq::new(alloc);
+        classes.push(class)?;
+        if let Some(above) = self.index.super_of(class) {
+            classes.extend_from_slice(superclasses_in(self.rows, above))?;
+        }
+        Ok(classes)
     }
-    if let Some(file) = index.file(class) {
-        add_own(&mut kinds, file)?;
-    }
-    Ok(kinds)
-}
 
-/// The row of a class.
-pub fn loaded_class_made(
-    alloc: Global,
-    index: &Index,
-    rows: &[Option<LoadedClass>],
-    class: u32,
-) -> Result<LoadedClass, NoMemory>
-    ensures { IfOk result (λ row. row ≡ loaded_class_made index.now rows.now class) }
-{
-    Ok(LoadedClass {
-        superclasses: superclasses_made(alloc, index, rows, class)?,
-        superinterfaces: superinterfaces_made(alloc, index, rows, class)?,
-        supertypes: supertypes_made(alloc, index, rows, class)?,
-        layout: layout_made(alloc, index, rows, class)?,
-    })
+    /// Adds the superinterfaces of a class's superclass.
+    fn add_inherited(self, order: &mut Order, class: u32) -> Result<(), NoMemory>
+        ensures { OnOk result (order.new ≡ with_classes order.old
+            (flat_map (superinterfaces_in self.entry.rows.now)
+            (superclass_of self.entry.index.now class))) }
+    {
+        match self.index.super_of(class) {
+            Some(above) => order.add_all(superinterfaces_in(self.rows, above)),
+            None => Ok(()),
+        }
+    }
+
+    fn superinterfaces_made(self, alloc: Global, class: u32) -> Result<Order, NoMemory>
+        ensures { IfOk result (λ order. order
+            ≡ superinterfaces_made self.entry.index.now self.entry.rows.now class) }
+    {
+        let mut order = Order::new(alloc);
+        let direct = self.index.interfaces_of(alloc, class)?;
+        add_interfaces(&mut order, self.rows, direct.as_slice())?;
+        if !self.index.is_interface(class) {
+            self.add_inherited(&mut order, class)?;
+        }
+        Ok(order)
+    }
+
+    /// Adds the superclass with its supertypes.
+    fn add_superclass(self, order: &mut Order, class: u32) -> Result<(), NoMemory>
+        ensures { OnOk result (order.new ≡ with_supertypes self.entry.rows.now order.old
+            (superclass_of self.entry.index.now class)) }
+    {
+        match self.index.super_of(class) {
+            Some(above) => order.add_all(supertypes_in(self.rows, above)),
+            None => Ok(()),
+        }
+    }
+
+    fn supertypes_made(self, alloc: Global, class: u32) -> Result<Order, NoMemory>
+        ensures { IfOk result (λ order. order
+            ≡ supertypes_made self.entry.index.now self.entry.rows.now class) }
+    {
+        let mut order = Order::new(alloc);
+        order.add(class)?;
+        let direct = self.index.interfaces_of(alloc, class)?;
+        add_supertypes(&mut order, self.rows, direct.as_slice())?;
+        self.add_superclass(&mut order, class)?;
+        Ok(order)
+    }
+
+    fn layout_made(self, alloc: Global, class: u32) -> Result<Seq<Kind>, NoMemory>
+        ensures { IfOk result (λ kinds. kinds
+            ≡ layout_made self.entry.index.now self.entry.rows.now class) }
+    {
+        let mut kinds = Seq::new(alloc);
+        if let Some(above) = self.index.super_of(class) {
+            kinds.extend_from_slice(layout_in(self.rows, above))?;
+        }
+        if let Some(file) = self.index.file(class) {
+            add_own(&mut kinds, file)?;
+        }
+        Ok(kinds)
+    }
+
+    /// The row of a class.
+    pub fn loaded_class_made(self, alloc: Global, class: u32) -> Result<LoadedClass, NoMemory>
+        ensures { IfOk result (λ row. row
+            ≡ loaded_class_made self.entry.index.now self.entry.rows.now class) }
+    {
+        Ok(LoadedClass {
+            superclasses: self.superclasses_made(alloc, class)?,
+            superinterfaces: self.superinterfaces_made(alloc, class)?,
+            supertypes: self.supertypes_made(alloc, class)?,
+            layout: self.layout_made(alloc, class)?,
+        })
+    }
 }

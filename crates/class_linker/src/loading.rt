@@ -11,7 +11,7 @@ ghost use Rattle.class_linker.specs.States.{HasNeeds, as_standing, class_loading
 ghost use Rattle.class_linker.specs.States.{named_loading, need_view, path_behind};
 ghost use Rattle.class_linker.specs.States.{needs_at, needs_in, standing_loading};
 
-use crate::loaded_classes::{LoadedClass, holds_class, loaded_class_made};
+use crate::loaded_classes::{LoadedClass, LoadedClasses, holds_class};
 use class_index::{Element, Index, Order, is_array_name, meaning_of};
 use const_pool::ClassFile;
 use jf_bytes::{NoMemory, Seq, Text16};
@@ -157,7 +157,11 @@ fn prepare(
     ensures there { OnOk result (holds_class rows.new class ≡ true) }
 {
     if !holds_class(rows.as_slice(), class) {
-        let row = loaded_class_made(alloc, index, rows.as_slice(), class)?;
+        let classes = LoadedClasses {
+            index,
+            rows: rows.as_slice(),
+        };
+        let row = classes.loaded_class_made(alloc, class)?;
         put_loaded_class(index, rows, class, row);
     }
     Ok(())

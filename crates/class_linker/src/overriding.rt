@@ -10,11 +10,10 @@ ghost use Rattle.jvm_model.specs.Classes.Selection.{is_reached, is_static, overr
 ghost use Rattle.jvm_model.specs.Classes.Selection.{passes_on, same_package, signature_of, stands_below};
 ghost use Rattle.class_index.specs.Members.{is_declared_as, wanted_view};
 ghost use Rattle.class_linker.specs.DeclaredMethods.{at_place};
-ghost use Rattle.class_linker.specs.LoadedClasses.{AreLoadedClasses, holds_all, holds_class};
+ghost use Rattle.class_linker.specs.LoadedClasses.{holds_all, holds_class};
 
 use crate::declared_method::DeclaredMethod;
-use crate::loaded_classes::LoadedClass;
-use crate::walks::{is_subtype, supertypes_of};
+use crate::loaded_classes::LoadedClasses;
 use base_classes::{ABSTRACT, PRIVATE, PROTECTED, PUBLIC, STATIC};
 use class_index::{Index, Wanted, in_same_package, method_at};
 use jvm_model::has_flag;
@@ -110,22 +109,6 @@ fn is_declared_as(index: &Index, m1: DeclaredMethod, m2: DeclaredMethod) -> bool
     }
 }
 
-/// Whether the class of the first method is a proper subtype of the second one's, with the same name and descriptor.
-pub fn stands_below(
-    index: &Index,
-    rows: &[Option<LoadedClass>],
-    m1: DeclaredMethod,
-    m2: DeclaredMethod,
-) -> bool
-    requires rows { AreLoadedClasses index.now rows.now }
-    requires has { holds_class rows.now m1.class ≡ true }
-    ensures { result ≡ stands_below index.now (at_place m1) (at_place m2) }
-{
-    m1.class != m2.class
-        && is_subtype(index, rows, m1.class, m2.class)
-        && is_declared_as(index, m1, m2)
-}
-
 /// Whether the method can be overridden from the class itself.
 pub fn is_reached(index: &Index, class: u32, m: DeclaredMethod) -> bool
     ensures { result ≡ is_reached index.now class (at_place m) }
@@ -133,110 +116,87 @@ pub fn is_reached(index: &Index, class: u32, m: DeclaredMethod) -> bool
     !is_private(index, m) && (is_open(index, m) || same_package(index, class, m.class))
 }
 
-/// Whether the third method, between the two, makes the first one override the second.
-fn passes_on(
-    index: &Index,
-    rows: &[Option<LoadedClass>],
-    m1: DeclaredMethod,
-    m2: DeclaredMethod,
-    m3: DeclaredMethod,
-) -> bool
-    requires rows { AreLoadedClasses index.now rows.now }
-    requires first { holds_class rows.now m1.class ≡ true }
-    requires third { holds_class rows.now m3.class ≡ true }
-    ensures { result ≡ passes_on index.now (at_place m1) (at_place m2) (at_place m3) }
-{
-    stands_below(index, rows, m1, m3)
-        && stands_below(index, rows, m3, m2)
-        && !is_private(index, m3)
-        && is_open(index, m3)
-        && is_reached(index, m3.class, m2)
-}
-
-/// Whether such a method is declared in the class.
-fn passed_at(
-    index: &Index,
-    rows: &[Option<LoadedClass>],
-    m1: DeclaredMethod,
-    m2: DeclaredMethod,
-    class: u32,
-) -> bool
-    requires rows { AreLoadedClasses index.now rows.now }
-    requires first { holds_class rows.now m1.class ≡ true }
-    requires has { holds_class rows.now class ≡ true }
-    ensures { result ≡ passed_at index.now (at_place m1) (at_place m2) class }
-{
-    match signature_of(index, m2) {
-        Some(wanted) => match method_at(index, &wanted, class) {
-            Some(position) => passes_on(index, rows, m1, m2, DeclaredMethod { class, position }),
-            None => false,
-        },
-        None => false,
+impl LoadedClasses<'_> {
+    /// Whether the class of the first method is a proper subtype of the second one's, with the same name and
+    /// descriptor.
+    pub fn stands_below(self, m1: DeclaredMethod, m2: DeclaredMethod) -> bool
+        requires { holds_class self.rows.now m1.class ≡ true }
+        ensures { result ≡ stands_below self.entry.index.now (at_place m1) (at_place m2) }
+    {
+        m1.class != m2.class
+            && self.is_subtype(m1.class, m2.class)
+            && is_declared_as(self.index, m1, m2)
     }
-}
 
-/// Whether such a method is declared in one of the classes.
-fn passed_among(
-    index: &Index,
-    rows: &[Option<LoadedClass>],
-    m1: DeclaredMethod,
-    m2: DeclaredMethod,
-    classes: &[u32],
-) -> bool
-    requires rows { AreLoadedClasses index.now rows.now }
-    requires first { holds_class rows.now m1.class ≡ true }
-    requires have { holds_all rows.now classes.now ≡ true }
-    ensures { result ≡ list_any (passed_at index.now (at_place m1) (at_place m2)) classes.now }
-{
-    for class in classes {
-        if passed_at(index, rows, m1, m2, *class) {
-            return true;
+    /// Whether the third method, between the two, makes the first one override the second.
+    fn passes_on(self, m1: DeclaredMethod, m2: DeclaredMethod, m3: DeclaredMethod) -> bool
+        requires first { holds_class self.rows.now m1.class ≡ true }
+        requires third { holds_class self.rows.now m3.class ≡ true }
+        ensures { result
+            ≡ passes_on self.entry.index.now (at_place m1) (at_place m2) (at_place m3) }
+    {
+        self.stands_below(m1, m3)
+            && self.stands_below(m3, m2)
+            && !is_private(self.index, m3)
+            && is_open(self.index, m3)
+            && is_reached(self.index, m3.class, m2)
+    }
+
+    /// Whether such a method is declared in the class.
+    fn passed_at(self, m1: DeclaredMethod, m2: DeclaredMethod, class: u32) -> bool
+        requires first { holds_class self.rows.now m1.class ≡ true }
+        requires has { holds_class self.rows.now class ≡ true }
+        ensures { result ≡ passed_at self.entry.index.now (at_place m1) (at_place m2) class }
+    {
+        match signature_of(self.index, m2) {
+            Some(wanted) => match method_at(self.index, &wanted, class) {
+                Some(position) => self.passes_on(m1, m2, DeclaredMethod { class, position }),
+                None => false,
+            },
+            None => false,
         }
     }
-    false
-}
 
-/// Whether such a method is declared above the first one.
-pub fn is_passed(
-    index: &Index,
-    rows: &[Option<LoadedClass>],
-    m1: DeclaredMethod,
-    m2: DeclaredMethod,
-) -> bool
-    requires rows { AreLoadedClasses index.now rows.now }
-    requires first { holds_class rows.now m1.class ≡ true }
-    ensures { result ≡ list_any (passed_at index.now (at_place m1) (at_place m2))
-        (supertypes index.now m1.class) }
-{
-    passed_among(index, rows, m1, m2, supertypes_of(index, rows, m1.class))
-}
+    /// Whether such a method is declared in one of the classes.
+    fn passed_among(self, m1: DeclaredMethod, m2: DeclaredMethod, classes: &[u32]) -> bool
+        requires first { holds_class self.rows.now m1.class ≡ true }
+        requires have { holds_all self.rows.now classes.now ≡ true }
+        ensures { result
+            ≡ list_any (passed_at self.entry.index.now (at_place m1) (at_place m2)) classes.now }
+    {
+        for class in classes {
+            if self.passed_at(m1, m2, *class) {
+                return true;
+            }
+        }
+        false
+    }
 
-/// Whether the first method stands below the second, which its class reaches or another method passes on.
-fn passes_test(
-    index: &Index,
-    rows: &[Option<LoadedClass>],
-    m1: DeclaredMethod,
-    m2: DeclaredMethod,
-) -> bool
-    requires rows { AreLoadedClasses index.now rows.now }
-    requires first { holds_class rows.now m1.class ≡ true }
-    ensures { result ≡ overrides index.now (at_place m1) (at_place m2) }
-{
-    stands_below(index, rows, m1, m2)
-        && (is_reached(index, m1.class, m2) || is_passed(index, rows, m1, m2))
-}
+    /// Whether such a method is declared above the first one.
+    pub fn is_passed(self, m1: DeclaredMethod, m2: DeclaredMethod) -> bool
+        requires { holds_class self.rows.now m1.class ≡ true }
+        ensures { result ≡ list_any (passed_at self.entry.index.now (at_place m1) (at_place m2))
+            (supertypes self.entry.index.now m1.class) }
+    {
+        self.passed_among(m1, m2, self.supertypes_of(m1.class))
+    }
 
-/// Whether the first method overrides the second.
-pub fn overrides(
-    index: &Index,
-    rows: &[Option<LoadedClass>],
-    m1: DeclaredMethod,
-    m2: DeclaredMethod,
-) -> bool
-    requires rows { AreLoadedClasses index.now rows.now }
-    requires first { holds_class rows.now m1.class ≡ true }
-    ensures test { result ≡ overrides index.now (at_place m1) (at_place m2) }
-    ensures relation { IsTrue result ↔ Overrides index.now (at_place m1) (at_place m2) }
-{
-    passes_test(index, rows, m1, m2)
+    /// Whether the first method stands below the second, which its class reaches or another method passes on.
+    fn passes_test(self, m1: DeclaredMethod, m2: DeclaredMethod) -> bool
+        requires { holds_class self.rows.now m1.class ≡ true }
+        ensures { result ≡ overrides self.entry.index.now (at_place m1) (at_place m2) }
+    {
+        self.stands_below(m1, m2)
+            && (is_reached(self.index, m1.class, m2) || self.is_passed(m1, m2))
+    }
+
+    /// Whether the first method overrides the second.
+    pub fn overrides(self, m1: DeclaredMethod, m2: DeclaredMethod) -> bool
+        requires { holds_class self.rows.now m1.class ≡ true }
+        ensures test { result ≡ overrides self.entry.index.now (at_place m1) (at_place m2) }
+        ensures relation { IsTrue result
+            ↔ Overrides self.entry.index.now (at_place m1) (at_place m2) }
+    {
+        self.passes_test(m1, m2)
+    }
 }

@@ -11,11 +11,10 @@ ghost use Rattle.class_index.specs.Members.{place_view};
 ghost use Rattle.class_linker.specs.Linkers.{class_order, error_number, inherited_order};
 ghost use Rattle.class_linker.specs.Linkers.{interface_order, method_in, resolved_of};
 ghost use Rattle.class_index.specs.Members.{wanted_view};
-ghost use Rattle.class_linker.specs.LoadedClasses.{AreLoadedClasses, holds_class};
+ghost use Rattle.class_linker.specs.LoadedClasses.{holds_class};
 
 use crate::answers::Resolved;
-use crate::loaded_classes::LoadedClass;
-use crate::walks::{superclasses_of, superinterfaces_of, supertypes_of};
+use crate::loaded_classes::LoadedClasses;
 use base_classes::{INCOMPATIBLE_CLASS_CHANGE_ERROR, NO_SUCH_FIELD_ERROR, NO_SUCH_METHOD_ERROR};
 use class_index::{Index, Wanted, first_field, first_method, method_at};
 
@@ -52,35 +51,27 @@ pub fn incompatible_change() -> u16
 
 // ---- fields
 
-/// The field of a class, or the first one above it.
-fn sought_field(
-    index: &Index,
-    rows: &[Option<LoadedClass>],
-    class: u32,
-    wanted: &Wanted<'_>,
-) -> Option<(u32, u16)>
-    requires rows { AreLoadedClasses index.now rows.now }
-    requires has { holds_class rows.now class ≡ true }
-    ensures { option_map place_view result
-        ≡ first_in (field_at index.now (wanted_view wanted.now)) (supertypes index.now class) }
-{
-    first_field(index, wanted, supertypes_of(index, rows, class))
-}
+impl LoadedClasses<'_> {
+    /// The field of a class, or the first one above it.
+    fn sought_field(self, class: u32, wanted: &Wanted<'_>) -> Option<(u32, u16)>
+        requires { holds_class self.rows.now class ≡ true }
+        ensures { option_map place_view result
+            ≡ first_in (field_at self.entry.index.now (wanted_view wanted.now))
+            (supertypes self.entry.index.now class) }
+    {
+        first_field(self.index, wanted, self.supertypes_of(class))
+    }
 
-/// What a field reference of a class stands for.
-pub fn resolved_field(
-    index: &Index,
-    rows: &[Option<LoadedClass>],
-    class: u32,
-    wanted: &Wanted<'_>,
-) -> Resolved
-    requires rows { AreLoadedClasses index.now rows.now }
-    requires has { holds_class rows.now class ≡ true }
-    ensures { result ≡ resolved_of (resolved_field index.now class (wanted_view wanted.now)) }
-{
-    match sought_field(index, rows, class, wanted) {
-        Some((declaring, position)) => Resolved::Found(declaring, position),
-        None => Resolved::Throws(no_such_field()),
+    /// What a field reference of a class stands for.
+    pub fn resolved_field(self, class: u32, wanted: &Wanted<'_>) -> Resolved
+        requires { holds_class self.rows.now class ≡ true }
+        ensures { result
+            ≡ resolved_of (resolved_field self.entry.index.now class (wanted_view wanted.now)) }
+    {
+        match self.sought_field(class, wanted) {
+            Some((declaring, position)) => Resolved::Found(declaring, position),
+            None => Resolved::Throws(no_such_field()),
+        }
     }
 }
 
@@ -97,128 +88,93 @@ fn object_method(index: &Index, wanted: &Wanted<'_>) -> Option<(u32, u16)>
     Some((class, position))
 }
 
-/// The method of a class or its superclasses.
-fn superclass_method(
-    index: &Index,
-    rows: &[Option<LoadedClass>],
-    class: u32,
-    wanted: &Wanted<'_>,
-) -> Option<(u32, u16)>
-    requires rows { AreLoadedClasses index.now rows.now }
-    requires has { holds_class rows.now class ≡ true }
-    ensures { option_map place_view result
-        ≡ method_in index.now (wanted_view wanted.now) (superclasses index.now class) }
-{
-    first_method(index, wanted, superclasses_of(index, rows, class))
-}
-
-/// The method of a class's superinterfaces.
-fn superinterface_method(
-    index: &Index,
-    rows: &[Option<LoadedClass>],
-    class: u32,
-    wanted: &Wanted<'_>,
-) -> Option<(u32, u16)>
-    requires rows { AreLoadedClasses index.now rows.now }
-    requires has { holds_class rows.now class ≡ true }
-    ensures { option_map place_view result
-        ≡ method_in index.now (wanted_view wanted.now) (superinterfaces index.now class) }
-{
-    first_method(index, wanted, superinterfaces_of(index, rows, class))
-}
-
-/// The method of an interface's superinterfaces, or of java/lang/Object.
-#[tactic(auto, using(crate::proofs::Walked::first_of_both))]
-fn inherited_method(
-    index: &Index,
-    rows: &[Option<LoadedClass>],
-    class: u32,
-    wanted: &Wanted<'_>,
-) -> Option<(u32, u16)>
-    requires rows { AreLoadedClasses index.now rows.now }
-    requires has { holds_class rows.now class ≡ true }
-    ensures { option_map place_view result
-        ≡ method_in index.now (wanted_view wanted.now) (inherited_order index.now class) }
-{
-    match superinterface_method(index, rows, class, wanted) {
-        Some(found) => Some(found),
-        None => object_method(index, wanted),
+impl LoadedClasses<'_> {
+    /// The method of a class or its superclasses.
+    fn superclass_method(self, class: u32, wanted: &Wanted<'_>) -> Option<(u32, u16)>
+        requires { holds_class self.rows.now class ≡ true }
+        ensures { option_map place_view result
+            ≡ method_in self.entry.index.now (wanted_view wanted.now)
+            (superclasses self.entry.index.now class) }
+    {
+        first_method(self.index, wanted, self.superclasses_of(class))
     }
-}
 
-/// The method of an interface, of its superinterfaces, or of java/lang/Object.
-fn sought_above_interface(
-    index: &Index,
-    rows: &[Option<LoadedClass>],
-    class: u32,
-    wanted: &Wanted<'_>,
-) -> Option<(u32, u16)>
-    requires rows { AreLoadedClasses index.now rows.now }
-    requires has { holds_class rows.now class ≡ true }
-    ensures { option_map place_view result
-        ≡ method_in index.now (wanted_view wanted.now) (interface_order index.now class) }
-{
-    match method_at(index, wanted, class) {
-        Some(position) => Some((class, position)),
-        None => inherited_method(index, rows, class, wanted),
+    /// The method of a class's superinterfaces.
+    fn superinterface_method(self, class: u32, wanted: &Wanted<'_>) -> Option<(u32, u16)>
+        requires { holds_class self.rows.now class ≡ true }
+        ensures { option_map place_view result
+            ≡ method_in self.entry.index.now (wanted_view wanted.now)
+            (superinterfaces self.entry.index.now class) }
+    {
+        first_method(self.index, wanted, self.superinterfaces_of(class))
     }
-}
 
-/// The method of a class, of its superclasses, or of its superinterfaces.
-#[tactic(auto, using(crate::proofs::Walked::first_of_both))]
-fn sought_above_class(
-    index: &Index,
-    rows: &[Option<LoadedClass>],
-    class: u32,
-    wanted: &Wanted<'_>,
-) -> Option<(u32, u16)>
-    requires rows { AreLoadedClasses index.now rows.now }
-    requires has { holds_class rows.now class ≡ true }
-    ensures { option_map place_view result
-        ≡ method_in index.now (wanted_view wanted.now) (class_order index.now class) }
-{
-    match superclass_method(index, rows, class, wanted) {
-        Some(found) => Some(found),
-        None => superinterface_method(index, rows, class, wanted),
+    /// The method of an interface's superinterfaces, or of java/lang/Object.
+    #[tactic(auto, using(crate::proofs::Walked::first_of_both))]
+    fn inherited_method(self, class: u32, wanted: &Wanted<'_>) -> Option<(u32, u16)>
+        requires { holds_class self.rows.now class ≡ true }
+        ensures { option_map place_view result
+            ≡ method_in self.entry.index.now (wanted_view wanted.now)
+            (inherited_order self.entry.index.now class) }
+    {
+        match self.superinterface_method(class, wanted) {
+            Some(found) => Some(found),
+            None => object_method(self.index, wanted),
+        }
     }
-}
 
-fn sought_method(
-    index: &Index,
-    rows: &[Option<LoadedClass>],
-    class: u32,
-    wanted: &Wanted<'_>,
-) -> Option<(u32, u16)>
-    requires rows { AreLoadedClasses index.now rows.now }
-    requires has { holds_class rows.now class ≡ true }
-    ensures { option_map place_view result
-        ≡ method_in index.now (wanted_view wanted.now) (method_order index.now class) }
-{
-    if index.is_interface(class) {
-        sought_above_interface(index, rows, class, wanted)
-    } else {
-        sought_above_class(index, rows, class, wanted)
+    /// The method of an interface, of its superinterfaces, or of java/lang/Object.
+    fn sought_above_interface(self, class: u32, wanted: &Wanted<'_>) -> Option<(u32, u16)>
+        requires { holds_class self.rows.now class ≡ true }
+        ensures { option_map place_view result
+            ≡ method_in self.entry.index.now (wanted_view wanted.now)
+            (interface_order self.entry.index.now class) }
+    {
+        match method_at(self.index, wanted, class) {
+            Some(position) => Some((class, position)),
+            None => self.inherited_method(class, wanted),
+        }
     }
-}
 
-/// What a method reference of a class stands for.
-pub fn resolved_method(
-    index: &Index,
-    rows: &[Option<LoadedClass>],
-    class: u32,
-    interface: bool,
-    wanted: &Wanted<'_>,
-) -> Resolved
-    requires rows { AreLoadedClasses index.now rows.now }
-    requires has { holds_class rows.now class ≡ true }
-    ensures { result
-        ≡ resolved_of (resolved_method index.now class interface (wanted_view wanted.now)) }
-{
-    if index.is_interface(class) != interface {
-        return Resolved::Throws(incompatible_change());
+    /// The method of a class, of its superclasses, or of its superinterfaces.
+    #[tactic(auto, using(crate::proofs::Walked::first_of_both))]
+    fn sought_above_class(self, class: u32, wanted: &Wanted<'_>) -> Option<(u32, u16)>
+        requires { holds_class self.rows.now class ≡ true }
+        ensures { option_map place_view result
+            ≡ method_in self.entry.index.now (wanted_view wanted.now)
+            (class_order self.entry.index.now class) }
+    {
+        match self.superclass_method(class, wanted) {
+            Some(found) => Some(found),
+            None => self.superinterface_method(class, wanted),
+        }
     }
-    match sought_method(index, rows, class, wanted) {
-        Some((declaring, position)) => Resolved::Found(declaring, position),
-        None => Resolved::Throws(no_such_method()),
+
+    fn sought_method(self, class: u32, wanted: &Wanted<'_>) -> Option<(u32, u16)>
+        requires { holds_class self.rows.now class ≡ true }
+        ensures { option_map place_view result
+            ≡ method_in self.entry.index.now (wanted_view wanted.now)
+            (method_order self.entry.index.now class) }
+    {
+        if self.index.is_interface(class) {
+            self.sought_above_interface(class, wanted)
+        } else {
+            self.sought_above_class(class, wanted)
+        }
+    }
+
+    /// What a method reference of a class stands for.
+    pub fn resolved_method(self, class: u32, interface: bool, wanted: &Wanted<'_>) -> Resolved
+        requires { holds_class self.rows.now class ≡ true }
+        ensures { result ≡ resolved_of
+            (resolved_method self.entry.index.now class interface (wanted_view wanted.now)) }
+    {
+        if self.index.is_interface(class) != interface {
+            return Resolved::Throws(incompatible_change());
+        }
+        match self.sought_method(class, wanted) {
+            Some((declaring, position)) => Resolved::Found(declaring, position),
+            None => Resolved::Throws(no_such_method()),
+        }
     }
 }
